@@ -1,0 +1,52 @@
+//! Byte addresses and the aligned words that hold the bytes.
+ghost use Rattle.std.specs.Prelude.{◌≡◌, ℕ, ◌+◌, ◌/◌, ◌^◌, ◌<◌, ◌≤◌};
+ghost use Rattle.guest_words.specs.Words.{word_count, IsLeastRange};
+
+use std::marker::Model;
+
+/// A byte address of the guest.
+pub type Addr = u32;
+
+/// The number of an aligned 32-bit word of guest memory, below 2^30: its first byte stands at four times the number.
+#[derive(Clone, Copy, Debug, PartialEq, Eq, PartialOrd, Ord)]
+pub struct Word(u32);
+
+impl Model for Word {
+    ghost Value = { ℕ };
+
+    ghost view = { λ w. w.0 };
+
+    ghost invariant = { λ w. w.0 < 2 ^ 30 };
+
+    ghost inverse = { λ n. record { 0 = n } };
+}
+
+impl Word {
+    /// The word that holds the byte at an address.
+    pub fn of(at: Addr) -> Word
+        ensures { result ≡ at / 4 }
+    {
+        Word(at / 4)
+    }
+
+    /// The number of the word.
+    pub fn number(self) -> u32
+        ensures same { result ≡ self }
+        ensures range { result < 2 ^ 30 }
+    {
+        self.0
+    }
+}
+
+/// The words that hold the bytes: the first of them, and how many there are.
+pub fn words_over(first: Addr, bytes: u32) -> (Word, u32)
+    requires some { 1 ≤ bytes }
+    requires end { first + bytes ≤ 2 ^ 32 }
+    ensures first { result.0 ≡ first / 4 }
+    ensures count { result.1 ≡ word_count first bytes }
+    ensures least { IsLeastRange first bytes result.0 result.1 }
+    ensures range { result.0 + result.1 ≤ 2 ^ 30 }
+{
+    let last = first + (bytes - 1);
+    (Word::of(first), last / 4 - first / 4 + 1)
+}

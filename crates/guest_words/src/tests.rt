@@ -1,0 +1,41 @@
+use crate::{FaultKind, Tid, Word, le16, le32, put_le32, words_over};
+
+#[test]
+fn ranges_of_words(rt: HostRuntime) {
+    for (first, bytes, word, count) in [
+        (0u32, 1u32, 0u32, 1u32),
+        (3, 1, 0, 1),
+        (1030, 4, 257, 2),
+        (4, 8, 1, 2),
+        (0xFFFF_FFFF, 1, 0x3FFF_FFFF, 1),
+    ] {
+        assert!(rt; bytes >= 1);
+        assert!(rt; first as u64 + bytes as u64 <= 1 << 32);
+        let (found, found_count) = words_over(first, bytes);
+        assert_eq!(rt; found.number(), word);
+        assert_eq!(rt; found_count, count);
+    }
+    assert_eq!(rt; Word::of(7).number(), 1);
+}
+
+#[test]
+fn threads_and_faults_have_numbers(rt: HostRuntime) {
+    for (number, is_thread) in [(0u32, false), (1, true), (4194303, true), (4194304, false)] {
+        assert_eq!(rt;
+            Tid::new(number).map(|tid| tid.number()),
+            if is_thread { Some(number) } else { None }
+        );
+    }
+    assert_eq!(rt; Tid::FIRST.number(), 1);
+    assert_eq!(rt; FaultKind::Illegal as u8, 1);
+    assert_eq!(rt; FaultKind::Break as u8, 7);
+}
+
+#[test]
+fn fields_have_their_lowest_byte_first(rt: HostRuntime) {
+    let mut bytes = [1u8, 2, 3, 4, 5];
+    assert_eq!(rt; le16(&bytes, 1), 0x0302);
+    assert_eq!(rt; le32(&bytes, 1), 0x0504_0302);
+    put_le32(&mut bytes, 0, 0x0A0B_0C0D);
+    assert_eq!(rt; bytes.as_slice(), [0x0D, 0x0C, 0x0B, 0x0A, 5].as_slice());
+}

@@ -1,0 +1,44 @@
+//! Thread numbers.
+ghost use Rattle.std.specs.Prelude.{◌≡◌, ℕ, ◌≤◌};
+ghost use Rattle.std.specs.Option.{SomeIff};
+
+use std::marker::Model;
+
+/// The number of a thread: 1 to 4194303, the range of Linux's thread numbers.
+#[derive(Clone, Copy, Debug, PartialEq, Eq, PartialOrd, Ord)]
+pub struct Tid(u32);
+
+impl Model for Tid {
+    ghost Value = { ℕ };
+
+    ghost view = { λ t. t.0 };
+
+    ghost invariant = { λ t. (1 ≤ t.0) × (t.0 ≤ 4194303) };
+
+    ghost inverse = { λ n. record { 0 = n } };
+}
+
+impl Tid {
+    /// The first thread of a process.
+    pub const FIRST: Tid = Tid(1);
+
+    /// The thread of this number; None where the number is out of range.
+    pub fn new(n: u32) -> Option<Tid>
+        ensures { SomeIff result ((1 ≤ n) × (n ≤ 4194303)) n }
+    {
+        if 1 <= n && n <= 4194303 {
+            Some(Tid(n))
+        } else {
+            None
+        }
+    }
+
+    /// The number of the thread.
+    pub fn number(self) -> u32
+        ensures same { result ≡ self }
+        ensures least { 1 ≤ result }
+        ensures greatest { result ≤ 4194303 }
+    {
+        self.0
+    }
+}
