@@ -1,0 +1,4 @@
+pub mod Encoding
+pub mod Fields
+pub mod Formats
+pub mod Table

@@ -1,0 +1,96 @@
+-- The profile of a thread that runs and ends without a call or an access.
+use Rattle.std.proofs.Common.{◌≡◌, ℕ, zero, suc, ◌+◌, ◌-◌, cond, eqb, List, [], ◌∷◌, ◌++◌, length, take, map, replicate, reverse, None, add-one, refl, ap, ◌∙◌, arith}
+use Rattle.std.proofs.lemmas.Bool.{eq-eqb}
+use Rattle.std.proofs.lemmas.List.{append-nil, length-append, length-replicate, replicate_more, reverse-append, take_at}
+use Rattle.trace_model.specs.declared.event_kinds.Event.TheVariants.{Step, Start, End}
+use Rattle.trace_model.specs.declared.activations.Activation.{Activation}
+use Rattle.trace_model.specs.Activations.{backs, open_calls}
+use Rattle.trace_model.specs.Sizes.{since, size, cost}
+use Rattle.trace_model.specs.Profile.{done, done_of, steps}
+use Rattle.trace_model.specs.Depth.{pending}
+use Rattle.trace_model.specs.Laws.{plain_trace, IsOneActivation}
+
+abbrev root_of : ℕ → Activation
+root_of entry = record { at = 0; entry = entry; back = None }
+
+pub plain_calls : (t entry n : ℕ) → open_calls (plain_trace t entry n) t ≡ root_of entry ∷ []
+plain_calls t entry zero = ap (λ b. cond b (root_of entry ∷ []) [] ++ []) (eq-eqb t t refl)
+plain_calls t entry (suc n) = plain_calls t entry n
+
+pub plain_pending : (t entry n : ℕ) → pending (plain_trace t entry n) ≡ 1
+plain_pending t entry zero = refl
+plain_pending t entry (suc n) = omega (arith, plain_pending t entry n)
+
+pub plain_done : (t entry n : ℕ) → done (plain_trace t entry n) ≡ []
+plain_done t entry zero = refl
+plain_done t entry (suc n) = append-nil (done (plain_trace t entry n)) ∙ plain_done t entry n
+
+pub plain_steps : (t entry n : ℕ) → steps (plain_trace t entry n) ≡ n
+plain_steps t entry zero = refl
+plain_steps t entry (suc n) = omega (arith, plain_steps t entry n)
+
+plain_size : (t n : ℕ) → size (replicate n (Step t)) t ≡ 0
+plain_size t zero = refl
+plain_size t (suc n) = omega (arith, plain_size t n)
+
+plain_cost : (t n : ℕ) → cost (replicate n (Step t)) t ≡ n
+plain_cost t zero = refl
+plain_cost t (suc n) = omega (arith, plain_cost t n, ap {B = ℕ} (λ b. cond b 1 0) (eq-eqb t t refl))
+
+-- what lies inside the one activation are the steps
+plain_inside : (t entry n : ℕ) → since (plain_trace t entry n) 0 ≡ replicate n (Step t)
+plain_inside t entry n =
+    let run = replicate n (Step t) in
+    let long : length (plain_trace t entry n) - 1 ≡ n = omega (arith, length-append run (Start t entry ∷ []), length-replicate n (Step t)) in
+    ap (λ m. take m (plain_trace t entry n)) long ∙ take_at run (Start t entry ∷ []) n (length-replicate n (Step t))
+
+plain_done_of : (t entry n : ℕ) → done_of (plain_trace t entry n) t (root_of entry) ≡ record { tid = t; entry = entry; size = 0; cost = n }
+plain_done_of t entry n =
+    let inside = plain_inside t entry n in
+    let size_is = ap (λ es. size es t) inside ∙ plain_size t n in
+    let cost_is = ap (λ es. cost es t) inside ∙ plain_cost t n in
+    λ i. record { tid = t; entry = entry; size = size_is i; cost = cost_is i }
+
+-- the end of a thread with one open activation ends that one
+ending_one : (calls : List Activation) (a : Activation) (t : ℕ) → calls ≡ a ∷ [] → take (cond (eqb t t) (length (backs calls)) 0) calls ≡ a ∷ []
+ending_one calls a t one =
+    ap (λ b. take (cond b (length (backs calls)) 0) calls) (eq-eqb t t refl) ∙ ap (λ cs. take (length (backs cs)) cs) one
+
+pub exit_pending : (t entry n : ℕ) → pending (End t ∷ plain_trace t entry n) ≡ 0
+exit_pending t entry n =
+    let past = plain_trace t entry n in
+    let one = ap length (ending_one (open_calls past t) (root_of entry) t (plain_calls t entry n)) in
+    ap (λ m. (pending past - m) + 0) one ∙ ap (λ p. (p - 1) + 0) (plain_pending t entry n)
+
+pub exit_done : (t entry n : ℕ) → done (End t ∷ plain_trace t entry n) ≡ record { tid = t; entry = entry; size = 0; cost = n } ∷ []
+exit_done t entry n =
+    let past = plain_trace t entry n in
+    let one = ending_one (open_calls past t) (root_of entry) t (plain_calls t entry n) in
+    ap (λ ds. done past ++ ds) (ap (map (done_of past t)) one ∙ ap (λ d. d ∷ []) (plain_done_of t entry n))
+    ∙ ap (λ ds. ds ++ record { tid = t; entry = entry; size = 0; cost = n } ∷ []) (plain_done t entry n)
+
+-- the same trace in order of time
+pub reverse-plain : (t entry n : ℕ) → reverse (Start t entry ∷ replicate n (Step t)) ≡ plain_trace t entry n
+reverse-plain t entry n =
+    reverse-append (Start t entry ∷ []) (replicate n (Step t))
+    ∙ ap (λ run. run ++ Start t entry ∷ []) (reverse-same n)
+  where
+    reverse-same : (n : ℕ) → reverse (replicate n (Step t)) ≡ replicate n (Step t)
+    reverse-same zero = refl
+    reverse-same (suc n) =
+        reverse-append (Step t ∷ []) (replicate n (Step t)) ∙ ap (λ run. run ++ Step t ∷ []) (reverse-same n)
+        ∙ replicate_more n (Step t) ∙ ap (λ m. replicate m (Step t)) (add-one n)
+
+pub reverse-exit : (t entry n : ℕ) → reverse (Start t entry ∷ replicate n (Step t) ++ End t ∷ []) ≡ End t ∷ plain_trace t entry n
+reverse-exit t entry n =
+    reverse-append (Start t entry ∷ replicate n (Step t)) (End t ∷ []) ∙ ap (λ past. End t ∷ past) (reverse-plain t entry n)
+
+pub one_activation : (t entry n : ℕ) → IsOneActivation t entry n
+one_activation t entry n = record {
+  one_open = plain_pending t entry n;
+  none_done = plain_done t entry n;
+  run = plain_steps t entry n;
+  none_open = exit_pending t entry n;
+  one_done = exit_done t entry n;
+  all_run = plain_steps t entry n;
+}

@@ -1,0 +1,86 @@
+-- What the definitions by recursion say of a whole trace.
+use Rattle.std.specs.Prelude.{◌≡◌, ◌≢◌, ◌↔◌, ℕ, ◌+◌, ◌*◌, ◌<◌, ◌≤◌, true, List, [], ◌∷◌, ◌++◌, length, drop, replicate, All, IfSome, sum_by}
+use Rattle.std.specs.List.{range_with_len}
+use Rattle.trace_model.specs.declared.event_kinds.Event.{Event}
+use Rattle.trace_model.specs.declared.event_kinds.Event.TheVariants.{Step, Read, Write, Fill, Start, End}
+use Rattle.trace_model.specs.Events.{thread_of}
+use Rattle.trace_model.specs.Activations.{open_calls}
+use Rattle.trace_model.specs.Sizes.{known}
+use Rattle.trace_model.specs.Profile.{done, steps}
+use Rattle.trace_model.specs.Depth.{count_begun, pending, cut}
+
+-- the word is one of the `count` words from `first` on
+abbrev pub IsInRange : ℕ → ℕ → ℕ → Type 0
+IsInRange first count l = (first ≤ l) × (l < first + count)
+
+-- the event is a Read or Write of the word by thread t
+abbrev pub IsAccess : Event → ℕ → ℕ → Type 0
+IsAccess (Read tid first count) t l = (tid ≡ t) × IsInRange first count l
+IsAccess (Write tid first count) t l = (tid ≡ t) × IsInRange first count l
+IsAccess _ t l = ⊥
+
+-- the event is a Write of the word by another thread, or a Fill of it
+abbrev pub IsForeignWrite : Event → ℕ → ℕ → Type 0
+IsForeignWrite (Write tid first count) t l = (tid ≢ t) × IsInRange first count l
+IsForeignWrite (Fill first count) t l = IsInRange first count l
+IsForeignWrite _ t l = ⊥
+
+-- going back over the events, the first that is an access by thread t or a foreign write exists, and is an access by t
+pub record IsLatestByItself (inside : List Event) (t l : ℕ) : Type 0 where
+  pub later : List Event
+  pub latest : Event
+  pub earlier : List Event
+  pub parts : inside ≡ later ++ latest ∷ earlier
+  pub own : IsAccess latest t l
+  pub passed : All (λ e. (¬ IsAccess e t l) × (¬ IsForeignWrite e t l)) later
+
+abbrev pub KnownIsByTheLatestTouch : Type 0
+KnownIsByTheLatestTouch = (inside : List Event) (t l : ℕ) → (known inside t l ≡ true) ↔ IsLatestByItself inside t l
+
+-- each event of a thread is of one below n
+abbrev pub AreThreadsBelow : ℕ → List Event → Type 0
+AreThreadsBelow n past = All (λ e. IfSome (thread_of e) (λ t. t < n)) past
+
+-- the open activations of all threads are those of each thread together
+abbrev pub PendingIsOfAllThreads : Type 0
+PendingIsOfAllThreads =
+    (past : List Event) (n : ℕ) → AreThreadsBelow n past → pending past ≡ sum_by (λ t. length (open_calls past t)) (range_with_len 0 n)
+
+-- how many activations began
+abbrev pub begun_count : List Event → ℕ
+begun_count [] = 0
+begun_count (e ∷ past) = begun_count past + count_begun e
+
+-- each activation that began is done or pending, and none is both
+abbrev pub EachBegunIsDoneOrPending : Type 0
+EachBegunIsDoneOrPending = (past : List Event) → length (done past) + pending past ≡ begun_count past
+
+-- at each prefix of the trace, in time, three stamps for each open activation and three more are at most the greatest stamp
+abbrev pub EachPrefixIsWithin : List Event → ℕ → Type 0
+EachPrefixIsWithin past most = (k : ℕ) → 3 * (pending (drop k past) + 1) ≤ most
+
+-- The part is a prefix of the trace, in time, each of its prefixes is within, and it is the longest such. With the newest
+-- event first, a prefix in time is what stays when the newest events are dropped.
+pub record IsLongestWithin (past : List Event) (most : ℕ) (part : List Event) : Type 0 where
+  pub prefix : (k : ℕ) × (part ≡ drop k past)
+  pub within : EachPrefixIsWithin part most
+  pub longest : (k : ℕ) → EachPrefixIsWithin (drop k past) most → length (drop k past) ≤ length part
+
+abbrev pub CutIsTheLongestPrefix : Type 0
+CutIsTheLongestPrefix = (past : List Event) (most : ℕ) → 3 ≤ most → IsLongestWithin past most (cut past most)
+
+-- the trace of a thread that runs so many instructions without a call or an access
+abbrev pub plain_trace : ℕ → ℕ → ℕ → List Event
+plain_trace t entry count = replicate count (Step t) ++ Start t entry ∷ []
+
+-- it has one open activation, which becomes the one done, with size 0, where the thread ends
+pub record IsOneActivation (t entry count : ℕ) : Type 0 where
+  pub one_open : pending (plain_trace t entry count) ≡ 1
+  pub none_done : done (plain_trace t entry count) ≡ []
+  pub run : steps (plain_trace t entry count) ≡ count
+  pub none_open : pending (End t ∷ plain_trace t entry count) ≡ 0
+  pub one_done : done (End t ∷ plain_trace t entry count) ≡ record { tid = t; entry = entry; size = 0; cost = count } ∷ []
+  pub all_run : steps (End t ∷ plain_trace t entry count) ≡ count
+
+abbrev pub ExitIsOneActivation : Type 0
+ExitIsOneActivation = (t entry count : ℕ) → IsOneActivation t entry count

@@ -1,0 +1,9 @@
+pub mod Events
+pub mod Activations
+pub mod Sizes
+pub mod Profile
+pub mod WellFormed
+pub mod Depth
+pub mod EventList
+pub mod Laws
+pub mod WorkedTraces

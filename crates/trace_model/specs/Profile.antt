@@ -1,0 +1,34 @@
+-- The profile of a run: each activation that ended, with its size and its cost.
+use Rattle.std.specs.Prelude.{ℕ, ◌+◌, List, [], ◌∷◌, ◌++◌, map, Option, Some, None}
+use Rattle.trace_model.specs.declared.event_kinds.Event.{Event}
+use Rattle.trace_model.specs.declared.event_kinds.Event.TheVariants.{Step}
+use Rattle.trace_model.specs.declared.slow_profile.Done.{Done}
+use Rattle.trace_model.specs.declared.activations.Activation.{Activation}
+use Rattle.trace_model.specs.Events.{thread_of}
+use Rattle.trace_model.specs.Activations.{ending_calls}
+use Rattle.trace_model.specs.Sizes.{since, size, cost}
+
+-- what the profile has of an activation of thread t that ends after the past
+abbrev pub done_of : List Event → ℕ → Activation → Done
+done_of past t a =
+    let inside = since past a.at in
+    record { tid = t; entry = a.entry; size = size inside t; cost = cost inside t }
+
+abbrev pub ended_of : List Event → Event → Option ℕ → List Done
+ended_of past e None = []
+ended_of past e (Some t) = map (done_of past t) (ending_calls e past t)
+
+-- what it has of the activations that the event ends after the past, the innermost first
+abbrev pub ended : Event → List Event → List Done
+ended e past = ended_of past e (thread_of e)
+
+-- each ended activation, in order of ending
+abbrev pub done : List Event → List Done
+done [] = []
+done (e ∷ past) = done past ++ ended e past
+
+-- the instructions of all threads
+abbrev pub steps : List Event → ℕ
+steps [] = 0
+steps (Step _ ∷ past) = steps past + 1
+steps (_ ∷ past) = steps past

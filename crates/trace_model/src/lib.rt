@@ -1,0 +1,23 @@
+//! The trace of a run, and what its profile is by definition: which activations ended, and the size and the cost of
+//! each, by a slow program that looks back. The size is the read memory size of Coppa, Demetrescu and Finocchi
+//! ("Input-Sensitive Profiling", PLDI 2012) with the induced first reads of Coppa, Demetrescu, Finocchi and Marotta
+//! (CGO 2014), over aligned words. Contracts see a trace as a past, the list of its events with the newest first.
+#![tactic(auto)]
+
+mod activations;
+mod event_kinds;
+mod event_list;
+mod laws;
+mod sizes;
+mod slow_profile;
+
+pub use event_kinds::Event;
+pub use event_list::Events;
+pub use laws::{
+    an_exit_is_one_activation, cut_is_the_longest_prefix, each_begun_is_done_or_pending,
+    known_is_by_the_latest_touch, pending_is_of_all_threads, worked_traces_are_as_written,
+};
+pub use slow_profile::{Done, slow_done};
+
+#[cfg(test)]
+mod tests;
