@@ -1,0 +1,14 @@
+pub mod Answers
+pub mod Command
+pub mod Ending
+pub mod Guest
+pub mod Image
+pub mod Machine
+pub mod Outcome
+pub mod Outside
+pub mod Points
+pub mod Product
+pub mod Profile
+pub mod Report
+pub mod Run
+pub mod Texts

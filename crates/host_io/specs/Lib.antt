@@ -1,0 +1,6 @@
+pub mod After
+pub mod Faults
+pub mod Files
+pub mod Memory
+pub mod Real
+pub mod Sink

@@ -1,0 +1,121 @@
+// The files of the system.
+ghost use Rattle.std.specs.Prelude.{◌≡◌, ◌≢◌, ◌<◌, ◌≤◌, length, vec_len, IfOk, IfSome};
+ghost use Rattle.host_io.specs.Files.{LoadEnds, StoreEnds, NoCountFalls};
+ghost use Rattle.host_io.specs.After.{after_load, after_store};
+
+use crate::{Files, LoadError, StoreError};
+use std::alloc::Global;
+use std::io::{ErrorKind, Read, Write};
+use std::{fs, io, rt};
+
+/// The files of the system. They tell neither contents nor failed paths.
+#[derive(Drop)]
+pub struct RealFiles<'a, R> {
+    system: &'a R,
+    faults: u64,
+    oversized: u64,
+}
+
+impl<'a, R> RealFiles<'a, R> {
+    ghost use Rattle.host_io.specs.Real.{real_state};
+
+    pub fn new(rt: &'a R) -> RealFiles<'a, R>
+        ensures { real_state result ≡ record { contents = None; failed_paths = None; faults = 0; oversized = 0 } }
+    {
+        RealFiles {
+            system: rt,
+            faults: 0,
+            oversized: 0,
+        }
+    }
+}
+
+// Want of memory, in the program or in the system, is no failure.
+fn load_error(error: io::Error) -> LoadError
+    ensures { result ≢ LoadError.TooLarge }
+{
+    match error.kind() {
+        ErrorKind::OutOfMemory => LoadError::Memory,
+        _ => LoadError::Failed,
+    }
+}
+
+// All bytes that the reader gives to its end, of which no more than `most + 1` are read. An interrupted read is tried
+// again, as std does.
+pub(crate) fn read_whole<R: Read>(
+    alloc: Global,
+    reader: R,
+    most: usize,
+) -> Result<Vec<u8>, LoadError>
+where
+    R: Drop,
+    ensures limit { IfOk result (λ bytes. vec_len bytes ≤ most) }
+    ensures whole { IfOk result (λ bytes. IfSome (R.remaining reader) (λ known. bytes.items ≡ known)) }
+    ensures longer { result ≡ Err LoadError.TooLarge → IfSome (R.remaining reader) (λ known. most < length known) }
+{
+    let limit = (most as u64).saturating_add(1);
+    let mut bytes = Vec::new(alloc);
+    match reader.take(limit).read_to_end(&mut bytes) {
+        Err(error) => Err(load_error(error)),
+        Ok(_) if bytes.len() > most => Err(LoadError::TooLarge),
+        Ok(_) => Ok(bytes),
+    }
+}
+
+// The bytes of the file at a path.
+fn load_file<R: rt::Files>(
+    system: &R,
+    alloc: Global,
+    path: &str,
+    most: usize,
+) -> Result<Vec<u8>, LoadError>
+    ensures { IfOk result (λ bytes. vec_len bytes ≤ most) }
+{
+    let file = fs::open(system, path).map_err(load_error)?;
+    read_whole(alloc, file, most)
+}
+
+// Writes a file anew. Want of memory at its opening left the file as it was; after that a part may be written.
+fn store_file<R: rt::Files>(system: &R, path: &str, bytes: &[u8]) -> Result<(), StoreError> {
+    match fs::create(system, path) {
+        Err(error) if error.kind() == ErrorKind::OutOfMemory => Err(StoreError::Memory),
+        Err(_) => Err(StoreError::Failed),
+        Ok(mut file) => match file.write_all(bytes) {
+            Ok(()) => Ok(()),
+            Err(_) => Err(StoreError::Failed),
+        },
+    }
+}
+
+impl<R: rt::Files> Files for RealFiles<'_, R> {
+    ghost use Rattle.host_io.specs.Real.{real_state};
+
+    ghost state = { real_state };
+
+    fn load(&mut self, alloc: Global, path: &str, most: usize) -> Result<Vec<u8>, LoadError>
+        ensures unchanged { (real_state self.new).contents ≡ (real_state self.old).contents }
+        ensures counts { NoCountFalls (real_state self.old) (real_state self.new) }
+        ensures ends { LoadEnds path.now most (real_state self.old) (real_state self.new) result }
+        ensures state { real_state self.new ≡ after_load path.now result (real_state self.old) }
+    {
+        let result = load_file(self.system, alloc, path, most);
+        match &result {
+            Err(LoadError::Failed) => self.faults = self.faults.saturating_add(1),
+            Err(LoadError::TooLarge) => self.oversized = self.oversized.saturating_add(1),
+            _ => {}
+        }
+        result
+    }
+
+    fn store(&mut self, path: &str, bytes: &[u8]) -> Result<(), StoreError>
+        ensures counts { NoCountFalls (real_state self.old) (real_state self.new) }
+        ensures ends { StoreEnds path.now bytes.now (real_state self.old) (real_state self.new) result }
+        ensures state { real_state self.new ≡ after_store path.now bytes.now result (real_state self.old) }
+    {
+        let result = store_file(self.system, path, bytes);
+        if result == Err(StoreError::Failed) {
+            self.faults = self.faults.saturating_add(1);
+        }
+        result
+    }
+}
