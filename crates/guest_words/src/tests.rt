@@ -1,4 +1,4 @@
-use crate::{FaultKind, Tid, Word, le16, le32, put_le32, words_over};
+use crate::{FaultKind, ReadyList, Tid, Word, le16, le32, put_le32, words_over};
 
 #[test]
 fn ranges_of_words(rt: HostRuntime) {
@@ -38,4 +38,20 @@ fn fields_have_their_lowest_byte_first(rt: HostRuntime) {
     assert_eq!(rt; le32(&bytes, 1), 0x0504_0302);
     put_le32(&mut bytes, 0, 0x0A0B_0C0D);
     assert_eq!(rt; bytes.as_slice(), [0x0D, 0x0C, 0x0B, 0x0A, 5].as_slice());
+}
+
+#[test]
+fn a_list_of_threads_keeps_their_order(rt: HostRuntime) {
+    let mut ready = ReadyList::new();
+    assert_eq!(rt; ready.len(), 0);
+    ready.push(Tid::FIRST, false);
+    ready.push(Tid::new(5).unwrap(), true);
+    let copy = ready;
+    ready.push(Tid::new(4194303).unwrap(), false);
+    assert_eq!(rt; copy.len(), 2);
+    assert_eq!(rt; ready.len(), 3);
+    for (place, number, can) in [(0usize, 1u32, false), (1, 5, true), (2, 4194303, false)] {
+        assert!(rt; place < ready.len());
+        assert_eq!(rt; ready.at(place), (Tid::new(number).unwrap(), can));
+    }
 }

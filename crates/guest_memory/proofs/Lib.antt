@@ -1,0 +1,9 @@
+pub mod Accesses
+pub mod CallerLemmas
+pub mod Counts
+pub mod Directories
+pub mod HeldWords
+pub mod PageChanges
+pub mod Pigeons
+pub mod ReadBytes
+pub mod WrittenBytes

@@ -1,0 +1,32 @@
+use Rattle.std.proofs.Common.{◌≡◌, ◌∙◌, ◌<◌, sym, ap, arith, ℕ, Ok, Err, true, false, ◌+◌, ◌≤◌, ◌%◌, ◌/◌, length, List}
+use Rattle.guest_memory.specs.Memory.{byte_count, allows, denial, number_from}
+use Rattle.guest_memory.specs.Pages.{page_of}
+use Rattle.guest_memory.specs.declared.size.Size.{Size}
+use Rattle.guest_memory.specs.declared.size.Size.TheVariants.{One, Two, Four}
+use Rattle.guest_memory.proofs.Accesses.{loads_within, loads_refused}
+use Rattle.guest_memory.proofs.directory.Directory.loaded.Goals as goal
+
+some_bytes : (size : Size) → 0 < byte_count size
+some_bytes One = omega arith
+some_bytes Two = omega arith
+some_bytes Four = omega arith
+
+pub returns-then-is_allowed : goal.returns-then-is_allowed
+returns-then-is_allowed c =
+    let bytes : c.page-page.result.1.now ≡ (page_of c.args.self.now (c.args.at / 4096)).1 = c.page-page.ensures.bytes in
+    let rights : c.page-page.result.0 ≡ (page_of c.args.self.now (c.args.at / 4096)).0 = c.page-page.ensures.rights in
+    let long : length c.page-page.result.1.now ≡ length (page_of c.args.self.now (c.args.at / 4096)).1 = ap length bytes in
+    let fits : c.args.at % 4096 + byte_count c.args.size ≤ length (page_of c.args.self.now (c.args.at / 4096)).1 = omega (arith, c.if-start-bytes.true, c.bytes.ensures) in
+    let allowed : allows c.args.need (page_of c.args.self.now (c.args.at / 4096)).0 ≡ true = ap (allows c.args.need) (sym rights) ∙ (sym c.is_allowed.ensures ∙ c.if-is_allowed.true) in
+    let number : c.number_from.result ≡ number_from (page_of c.args.self.now (c.args.at / 4096)).1 (c.args.at % 4096) (byte_count c.args.size) = c.number_from.ensures ∙ ap (λ (b : List ℕ). number_from b (c.args.at % 4096) (byte_count c.args.size)) bytes in
+    ap Ok number ∙ sym (loads_within c.args.self.now c.args.need c.args.at (byte_count c.args.size) (omega arith) (some_bytes c.args.size) fits c.page-page.ensures.size allowed)
+
+pub returns-else-is_allowed : goal.returns-else-is_allowed
+returns-else-is_allowed c =
+    let bytes : c.page-page.result.1.now ≡ (page_of c.args.self.now (c.args.at / 4096)).1 = c.page-page.ensures.bytes in
+    let rights : c.page-page.result.0 ≡ (page_of c.args.self.now (c.args.at / 4096)).0 = c.page-page.ensures.rights in
+    let long : length c.page-page.result.1.now ≡ length (page_of c.args.self.now (c.args.at / 4096)).1 = ap length bytes in
+    let fits : c.args.at % 4096 + byte_count c.args.size ≤ length (page_of c.args.self.now (c.args.at / 4096)).1 = omega (arith, c.if-start-bytes.true, c.bytes.ensures) in
+    let denied : allows c.args.need (page_of c.args.self.now (c.args.at / 4096)).0 ≡ false = ap (allows c.args.need) (sym rights) ∙ (sym c.is_allowed.ensures ∙ c.if-is_allowed.false) in
+    let refusal : c.denial.result ≡ denial c.args.need = c.denial.ensures in
+    ap Err refusal ∙ sym (loads_refused c.args.self.now c.args.need c.args.at (byte_count c.args.size) (omega arith) (some_bytes c.args.size) fits denied)

@@ -1,0 +1,7 @@
+pub mod Guest
+pub mod Holders
+pub mod Memory
+pub mod Pages
+pub mod Reserved
+pub mod ReservedBy
+pub mod State

@@ -1,0 +1,158 @@
+// Bytes by address: what may be done with them, and reads and writes of ranges.
+ghost use Rattle.std.specs.Prelude.{◌≡◌, ◌<◌, ◌≤◌, ◌+◌, ◌*◌, ◌^◌, ◌%◌, length, OnOk, OnErr, IfNone};
+ghost use Rattle.guest_memory.specs.Memory.{AreMapped, byte_refusal, first_refusal, number_at, number_from, byte_count, bytes_at, with_bytes, loaded, unless_refused};
+ghost use Rattle.guest_memory.specs.declared.refusal.Need.TheVariants as need;
+ghost use Rattle.guest_memory.specs.State.{memory_in};
+
+use crate::Size;
+use crate::directory::{Directory, PAGE_SIZE, overwrite};
+use crate::refusal::{MemError, Need};
+
+impl Directory {
+    /// A byte: 0 where it is not mapped.
+    pub fn byte(&self, at: u64) -> u8
+        ensures { result ≡ (memory_in self.now).byte at }
+    {
+        let page = self.page(at >> 12);
+        page.1.get(at as usize % PAGE_SIZE).copied().unwrap_or(0)
+    }
+
+    /// Why the byte at an address is refused, if it is.
+    pub fn byte_refusal(&self, need: Need, at: u64) -> Option<MemError>
+        ensures value { result ≡ byte_refusal (memory_in self.now) need at }
+        ensures range { IfNone result (at < 2 ^ 32) }
+    {
+        let page = self.page(at >> 12);
+        if page.1.is_empty() {
+            Some(MemError::Unmapped)
+        } else if need.is_allowed(page.0) {
+            None
+        } else {
+            Some(need.denial())
+        }
+    }
+
+    /// Why the first of these bytes that is refused is refused, if one is.
+    pub fn first_refusal(&self, need: Need, at: u64, count: u64) -> Option<MemError>
+        ensures { result ≡ first_refusal (memory_in self.now) need at count }
+    {
+        let mut next = at;
+        let mut left = count;
+        'pages: while left > 0 {
+            let refusal = self.byte_refusal(need, next);
+            if refusal.is_some() {
+                return refusal;
+            }
+            let here = left.min(4096 - next % 4096);
+            next += here;
+            left -= here;
+        }
+        None
+    }
+
+    /// The number that so many bytes give, the lowest byte first.
+    fn number(&self, at: u64, size: Size) -> u32
+        requires { at < 2 ^ 32 }
+        ensures { result ≡ number_at (memory_in self.now) at (byte_count size) }
+    {
+        let first = u32::from(self.byte(at));
+        match size {
+            Size::One => first,
+            Size::Two => first + 256 * u32::from(self.byte(at + 1)),
+            Size::Four => {
+                let second = u32::from(self.byte(at + 1));
+                let third = u32::from(self.byte(at + 2));
+                let fourth = u32::from(self.byte(at + 3));
+                first + 256 * (second + 256 * (third + 256 * fourth))
+            }
+        }
+    }
+
+    /// What a load of so many bytes answers.
+    pub fn loaded(&self, need: Need, at: u64, size: Size) -> Result<u32, MemError>
+        requires { at < 2 ^ 32 }
+        ensures { result ≡ loaded (memory_in self.now) need at (byte_count size) }
+    {
+        let page = self.page(at >> 12);
+        let start = at as usize % PAGE_SIZE;
+        if start + size.bytes() <= page.1.len() {
+            if need.is_allowed(page.0) {
+                Ok(number_from(page.1, start, size))
+            } else {
+                Err(need.denial())
+            }
+        } else {
+            match self.first_refusal(need, at, size.bytes() as u64) {
+                Some(refusal) => Err(refusal),
+                None => Ok(self.number(at, size)),
+            }
+        }
+    }
+
+    /// Writes bytes that lie within one page, where they can be written.
+    pub fn store_within(&mut self, at: u64, bytes: &[u8]) -> Result<(), MemError>
+        requires some { 0 < length bytes.now }
+        requires within { at % 4096 + length bytes.now ≤ 4096 }
+        ensures result { result ≡ unless_refused (first_refusal (memory_in self.old) need.Write at (length bytes.now)) tt }
+        ensures ok { OnOk result (memory_in self.new ≡ with_bytes (memory_in self.old) at bytes.now) }
+        ensures err { OnErr result (memory_in self.new ≡ memory_in self.old) }
+    {
+        match self.byte_refusal(Need::Write, at) {
+            Some(refusal) => Err(refusal),
+            None => {
+                self.write(at, bytes);
+                Ok(())
+            }
+        }
+    }
+
+    /// Reads bytes, each of which is mapped.
+    pub fn read_all(&self, at: u64, into: &mut [u8])
+        requires range { at < 2 ^ 32 }
+        requires mapped { AreMapped (memory_in self.now) at (length into.old) }
+        ensures { into.new ≡ bytes_at (memory_in self.now) at (length into.old) }
+    {
+        let mut done = 0;
+        'pages: while done < into.len() {
+            let next = at + done as u64;
+            let start = next as usize % PAGE_SIZE;
+            let here = (into.len() - done).min(PAGE_SIZE - start);
+            let page = self.page(next >> 12);
+            overwrite(into, done, &page.1[start..start + here]);
+            done += here;
+        }
+    }
+
+    /// Writes bytes, each of which is mapped.
+    pub fn write_all(&mut self, at: u64, bytes: &[u8])
+        requires range { at < 2 ^ 32 }
+        requires mapped { AreMapped (memory_in self.old) at (length bytes.now) }
+        ensures { memory_in self.new ≡ with_bytes (memory_in self.old) at bytes.now }
+    {
+        let mut done = 0;
+        'pages: while done < bytes.len() {
+            let next = at + done as u64;
+            let here = (bytes.len() - done).min(PAGE_SIZE - next as usize % PAGE_SIZE);
+            self.write(next, &bytes[done..done + here]);
+            done += here;
+        }
+    }
+}
+
+// The number that so many bytes of a slice give, the lowest byte first.
+fn number_from(bytes: &[u8], start: usize, size: Size) -> u32
+    requires { start + byte_count size ≤ length bytes.now }
+    ensures { result ≡ number_from bytes.now start (byte_count size) }
+{
+    let first = u32::from(bytes[start]);
+    match size {
+        Size::One => first,
+        Size::Two => first + 256 * u32::from(bytes[start + 1]),
+        Size::Four => {
+            let second = u32::from(bytes[start + 1]);
+            let third = u32::from(bytes[start + 2]);
+            let fourth = u32::from(bytes[start + 3]);
+            first + 256 * (second + 256 * (third + 256 * fourth))
+        }
+    }
+}

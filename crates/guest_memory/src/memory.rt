@@ -1,0 +1,232 @@
+// The memory of a guest: calls on pages and on bytes.
+#![tactic(auto, unfolding(crate::specs::Guest::memory_of))]
+
+ghost use Rattle.std.specs.Prelude.{◌≡◌, ◌<◌, ◌≤◌, ◌+◌, ◌%◌, ℕ, length, take, IfOk, IfSome, IfNone, OnOk, OnErr, IsTrue, ◌↔◌, true, None};
+ghost use Rattle.std.specs.Int.{to_le_bytes, w32};
+ghost use Rattle.std.specs.Option.{is_none};
+ghost use Rattle.guest_memory.specs.Memory.{IsFreeRange, AreFree, AreMapped, ArePagesMapped, MapEnds, no_memory, with_pages, with_rights, byte_count, bytes_at, first_refusal, loaded, mapped_pages, unless_refused, with_bytes};
+ghost use Rattle.guest_memory.specs.State.{memory_in};
+ghost use Rattle.guest_memory.specs.declared.refusal.Need.TheVariants as need;
+
+use crate::Size;
+use crate::directory::{Directory, PAGE_SIZE};
+use crate::page_ranges::zero_pages;
+use crate::refusal::{MemError, Need};
+use guest_words::{Addr, Rights};
+use std::alloc::{AllocError, Global};
+
+// How many pages can be mapped.
+const MOST_PAGES: u32 = 16384;
+
+// The pages in which a free range is searched.
+const FIRST_OF_SEARCH: u32 = 0x40000;
+
+const END_OF_SEARCH: u32 = 0x7F000;
+
+/// The memory of a guest: 2^20 pages of 4096 bytes, of which at most 16384 are mapped. A page is given by its number,
+/// a byte by its address. A byte at or past 2^32 is not mapped.
+#[derive(Drop)]
+pub struct GuestMemory {
+    alloc: Global,
+    directory: Directory,
+    mapped: u32,
+    ghost counted: { mapped ≡ mapped_pages (memory_in directory) },
+    ghost few: { mapped ≤ 16384 },
+}
+
+impl GuestMemory {
+    ghost use Rattle.guest_memory.specs.Guest.{memory_of};
+
+    /// Nothing is mapped.
+    pub fn new(alloc: Global) -> Result<GuestMemory, AllocError>
+        ensures { IfOk result (λ m. memory_of m ≡ no_memory) }
+    {
+        Ok(GuestMemory {
+            alloc,
+            directory: Directory::new(alloc)?,
+            mapped: 0,
+        })
+    }
+
+    /// Maps free pages, which hold zeros. It is refused where more than 16384 pages would be mapped.
+    pub fn map(&mut self, page: u32, count: u32, rights: Rights) -> Result<(), MemError>
+        requires range { page + count ≤ 1048576 }
+        requires free { AreFree (memory_of self.old) page count }
+        ensures { MapEnds (memory_of self.old) page count rights (memory_of self.new) result }
+    {
+        if self.mapped + count > MOST_PAGES {
+            return Err(MemError::NoRoom);
+        }
+        let fresh = zero_pages(self.alloc, count)?;
+        self.directory.reserve(self.alloc, page, count)?;
+        self.directory.put_all(page, rights, fresh);
+        self.mapped += count;
+        Ok(())
+    }
+
+    /// Unmaps those pages that are mapped.
+    pub fn unmap(&mut self, page: u32, count: u32)
+        requires { page + count ≤ 1048576 }
+        ensures { memory_of self.new ≡ with_pages (memory_of self.old) page count None }
+    {
+        let taken = self.directory.take_all(self.alloc, page, count);
+        self.mapped -= taken;
+    }
+
+    /// Sets the rights of mapped pages.
+    pub fn protect(&mut self, page: u32, count: u32, rights: Rights)
+        requires range { page + count ≤ 1048576 }
+        requires mapped { ArePagesMapped (memory_of self.old) page count }
+        ensures { memory_of self.new ≡ with_rights (memory_of self.old) page count rights }
+    {
+        self.directory.set_all_rights(page, count, rights);
+    }
+
+    /// Whether no page of the range is mapped.
+    pub fn is_free(&self, page: u32, count: u32) -> bool
+        requires { page + count ≤ 1048576 }
+        ensures { IsTrue result ↔ AreFree (memory_of self.now) page count }
+    {
+        for k in 0..count {
+            if self.directory.is_page_mapped(page + k) {
+                return false;
+            }
+        }
+        true
+    }
+
+    /// Whether each page of the range is mapped.
+    pub fn is_mapped(&self, page: u32, count: u32) -> bool
+        requires { page + count ≤ 1048576 }
+        ensures { IsTrue result ↔ ArePagesMapped (memory_of self.now) page count }
+    {
+        for k in 0..count {
+            if !self.directory.is_page_mapped(page + k) {
+                return false;
+            }
+        }
+        true
+    }
+
+    /// The lowest free range of so many pages, from the address 0x40000000 up to 0x7F000000.
+    pub fn find_free(&self, count: u32) -> Option<u32>
+        ensures found { IfSome result (λ page. IsFreeRange (memory_of self.now) count page) }
+        ensures lowest { IfSome result (λ page. (q : ℕ) → q < page → ¬ IsFreeRange (memory_of self.now) count q) }
+        ensures none { IfNone result ((q : ℕ) → ¬ IsFreeRange (memory_of self.now) count q) }
+    {
+        if count > END_OF_SEARCH - FIRST_OF_SEARCH {
+            return None;
+        }
+        let mut start = FIRST_OF_SEARCH;
+        let mut next = FIRST_OF_SEARCH;
+        'pages: while start + count <= END_OF_SEARCH {
+            if next == start + count {
+                return Some(start);
+            }
+            if self.directory.is_page_mapped(next) {
+                start = next + 1;
+            }
+            next += 1;
+        }
+        None
+    }
+
+    /// How many pages are mapped.
+    pub fn mapped(&self) -> u32
+        ensures value { result ≡ mapped_pages (memory_of self.now) }
+        ensures limit { result ≤ 16384 }
+    {
+        self.mapped
+    }
+
+    /// The number that so many readable bytes give, the lowest byte first.
+    pub fn load(&self, at: Addr, size: Size) -> Result<u32, MemError>
+        ensures { result ≡ loaded (memory_of self.now) need.Read at (byte_count size) }
+    {
+        self.directory.loaded(Need::Read, u64::from(at), size)
+    }
+
+    /// The word of an instruction, where each of its bytes can be run.
+    pub fn fetch(&self, at: Addr) -> Result<u32, MemError>
+        requires { at % 4 ≡ 0 }
+        ensures { result ≡ loaded (memory_of self.now) need.Execute at 4 }
+    {
+        self.directory
+            .loaded(Need::Execute, u64::from(at), Size::Four)
+    }
+
+    /// Whether each of so many bytes can be read.
+    pub fn can_read(&self, at: Addr, bytes: u64) -> bool
+        ensures { result ≡ is_none (first_refusal (memory_of self.now) need.Read at bytes) }
+    {
+        self.directory
+            .first_refusal(Need::Read, u64::from(at), bytes)
+            .is_none()
+    }
+
+    /// Whether each of so many bytes can be written.
+    pub fn can_write(&self, at: Addr, bytes: u64) -> bool
+        ensures { result ≡ is_none (first_refusal (memory_of self.now) need.Write at bytes) }
+    {
+        self.directory
+            .first_refusal(Need::Write, u64::from(at), bytes)
+            .is_none()
+    }
+
+    /// Writes the lowest bytes of a value, the lowest first, where each of them can be written.
+    pub fn store(&mut self, at: Addr, size: Size, value: u32) -> Result<(), MemError>
+        ensures result { result ≡ unless_refused (first_refusal (memory_of self.old) need.Write at (byte_count size)) tt }
+        ensures ok { OnOk result (memory_of self.new ≡ with_bytes (memory_of self.old) at (take (byte_count size) (to_le_bytes w32 value))) }
+        ensures err { OnErr result (memory_of self.new ≡ memory_of self.old) }
+    {
+        let bytes = value.to_le_bytes();
+        let low = &bytes[..size.bytes()];
+        if at as usize % PAGE_SIZE + low.len() <= PAGE_SIZE {
+            self.directory.store_within(u64::from(at), low)
+        } else {
+            self.copy_in(at, low)
+        }
+    }
+
+    /// Writes bytes, where each of them can be written.
+    pub fn copy_in(&mut self, at: Addr, bytes: &[u8]) -> Result<(), MemError>
+        ensures result { result ≡ unless_refused (first_refusal (memory_of self.old) need.Write at (length bytes.now)) tt }
+        ensures ok { OnOk result (memory_of self.new ≡ with_bytes (memory_of self.old) at bytes.now) }
+        ensures err { OnErr result (memory_of self.new ≡ memory_of self.old) }
+    {
+        let first = u64::from(at);
+        let count = bytes.len() as u64;
+        match self.directory.first_refusal(Need::Write, first, count) {
+            Some(refusal) => Err(refusal),
+            None => {
+                self.directory.write_all(first, bytes);
+                Ok(())
+            }
+        }
+    }
+
+    /// Reads bytes, where each of them can be read.
+    pub fn copy_out(&self, at: Addr, into: &mut [u8]) -> Result<(), MemError>
+        ensures result { result ≡ unless_refused (first_refusal (memory_of self.now) need.Read at (length into.old)) tt }
+        ensures ok { OnOk result (into.new ≡ bytes_at (memory_of self.now) at (length into.old)) }
+        ensures err { OnErr result (into.new ≡ into.old) }
+    {
+        let from = u64::from(at);
+        let count = into.len() as u64;
+        match self.directory.first_refusal(Need::Read, from, count) {
+            Some(refusal) => Err(refusal),
+            None => {
+                self.directory.read_all(from, into);
+                Ok(())
+            }
+        }
+    }
+
+    /// Writes bytes, whatever the rights are.
+    pub fn first_contents(&mut self, at: Addr, bytes: &[u8])
+        requires { AreMapped (memory_of self.old) at (length bytes.now) }
+        ensures { memory_of self.new ≡ with_bytes (memory_of self.old) at bytes.now }
+    {
+        self.directory.write_all(u64::from(at), bytes);
+    }
+}
