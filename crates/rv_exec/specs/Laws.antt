@@ -1,0 +1,27 @@
+-- What holds of every instruction, state and thread.
+use Rattle.std.specs.Prelude.{◌≡◌, ◌↔◌, ℕ, true, is_some}
+use Rattle.rv_isa.specs.declared.instruction.Instr.{Instr}
+use Rattle.rv_isa.specs.declared.instruction.Instr.TheVariants.{Ecall}
+use Rattle.rv_exec.specs.declared.outcome.Outcome.{Outcome}
+use Rattle.rv_exec.specs.declared.outcome.Outcome.TheVariants.{Went, KernelCall, Fault}
+use Rattle.rv_exec.specs.Effects.{Core, effect}
+
+-- where the instruction did not go on, all is as it was
+abbrev pub KeepsUnlessWent : Outcome → Core → Core → Type 0
+KeepsUnlessWent (Went access) old new = Unit {0}
+KeepsUnlessWent KernelCall old new = new ≡ old
+KeepsUnlessWent (Fault kind) old new = new ≡ old
+
+-- faults and calls of the kernel change nothing
+abbrev pub RefusalsChangeNothing : Type 0
+RefusalsChangeNothing = (tid : ℕ) (i : Instr) (c : Core) → KeepsUnlessWent (effect tid i c).0 c (effect tid i c).1
+
+-- the kernel is called by ECALL alone
+abbrev pub OnlyEcallCalls : Type 0
+OnlyEcallCalls = (tid : ℕ) (i : Instr) (c : Core) → ((effect tid i c).0 ≡ KernelCall) ↔ (i ≡ Ecall)
+
+-- what another thread has reserved afterwards, it had reserved before
+abbrev pub OthersGainNothing : Type 0
+OthersGainNothing =
+    (tid : ℕ) (i : Instr) (c : Core) (other : ℕ) → ¬ (other ≡ tid) → is_some ((effect tid i c).1.held other) ≡ true
+    → (effect tid i c).1.held other ≡ c.held other

@@ -1,0 +1,5 @@
+pub mod Accesses
+pub mod Effects
+pub mod Laws
+pub mod Operations
+pub mod Registers

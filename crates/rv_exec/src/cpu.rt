@@ -1,0 +1,105 @@
+//! The registers of a thread.
+use crate::outcome::Outcome;
+use guest_words::{Addr, FaultKind};
+use rv_isa::Reg;
+use std::marker::Model;
+
+/// The program counter, and the registers x0 to x31, of which x0 is always 0.
+#[derive(Clone, Copy, PartialEq, Eq, Debug)]
+pub struct Cpu {
+    pub pc: Addr,
+    pub regs: [u32; 32],
+}
+
+impl Model for Cpu {
+    ghost use Rattle.std.specs.Prelude.{◌≡◌, slice_index};
+    ghost use Rattle.rv_exec.specs.Registers.{Registers};
+
+    ghost Value = { Registers };
+
+    ghost view = { λ c. record { pc = c.pc; regs = c.regs } };
+
+    ghost invariant = { λ c. slice_index c.regs 0 ≡ 0 };
+
+    ghost inverse = { λ v. record { pc = v.pc; regs = v.regs } };
+}
+
+impl Cpu {
+    ghost use Rattle.std.specs.Prelude.{◌≡◌, replicate};
+    ghost use Rattle.rv_exec.specs.Effects.{advanced, computed, jumped, linked, put, value, written};
+
+    /// All registers hold 0.
+    pub fn new(pc: Addr) -> Cpu
+        ensures registers { result ≡ record { pc = pc; regs = replicate 32 0 } }
+    {
+        Cpu { pc, regs: [0; 32] }
+    }
+
+    /// What a register holds.
+    pub fn value(&self, r: Reg) -> u32
+        ensures value { result ≡ value self.now r }
+        ensures zero { r ≡ 0 → result ≡ 0 }
+    {
+        self.regs[usize::from(r.number())]
+    }
+
+    /// Writes to a register. A write to x0 is lost.
+    pub fn write(&mut self, rd: Reg, n: u32)
+        ensures registers { self.new ≡ record self.old { regs = written self.old rd n } }
+    {
+        let rd = usize::from(rd.number());
+        if rd != 0 {
+            self.regs[rd] = n;
+        }
+    }
+
+    /// Goes on behind the instruction at the pc.
+    pub fn advance(&mut self)
+        ensures registers { self.new ≡ advanced self.old }
+    {
+        self.pc = self.pc.wrapping_add(4);
+    }
+
+    /// Writes to a register, and goes on behind the instruction.
+    pub(crate) fn put(&mut self, rd: Reg, n: u32)
+        ensures { self.new ≡ put rd n self.old }
+    {
+        self.write(rd, n);
+        self.advance();
+    }
+
+    /// Writes what an instruction computed.
+    pub(crate) fn compute(&mut self, rd: Reg, n: u32) -> Outcome
+        ensures { (result, self.new) ≡ computed rd n self.old }
+    {
+        self.put(rd, n);
+        Outcome::WENT
+    }
+
+    /// Goes to a target, where that is a multiple of 4.
+    pub(crate) fn jump(&mut self, target: Addr) -> Outcome
+        ensures { (result, self.new) ≡ jumped target self.old.regs self.old }
+    {
+        if target % 4 != 0 {
+            return Outcome::Fault {
+                kind: FaultKind::JumpAlign,
+            };
+        }
+        self.pc = target;
+        Outcome::WENT
+    }
+
+    /// Goes to a target, where that is a multiple of 4, and leaves the way back in a register.
+    pub(crate) fn jump_and_link(&mut self, rd: Reg, target: Addr) -> Outcome
+        ensures { (result, self.new) ≡ linked rd target self.old }
+    {
+        if target % 4 != 0 {
+            return Outcome::Fault {
+                kind: FaultKind::JumpAlign,
+            };
+        }
+        self.write(rd, self.pc.wrapping_add(4));
+        self.pc = target;
+        Outcome::WENT
+    }
+}

@@ -1,0 +1,22 @@
+//! What one instruction of RV32IMA and FENCE.I does to registers, memory and reservations, by the RISC-V Instruction Set
+//! Manual, Volume I: Unprivileged Architecture.
+//!
+//! The registers of a thread are seen as one value, the program counter and the list of x0 to x31.
+#![tactic(auto)]
+
+mod atomics;
+mod bytes;
+mod cpu;
+mod instruction;
+mod laws;
+mod loads_and_stores;
+mod operations;
+mod outcome;
+
+pub use cpu::Cpu;
+pub use instruction::execute;
+pub use laws::every_instruction;
+pub use outcome::{Access, Outcome};
+
+#[cfg(test)]
+mod tests;
