@@ -1,0 +1,127 @@
+-- What holds of each point and of each routine of a list of activations.
+use Rattle.std.proofs.Common.{◌≡◌, ℕ, zero, suc, ◌+◌, ◌*◌, ◌<◌, ◌≤◌, ◌^◌, List, [], ◌∷◌, length, get_or, map, min, max, sum, nat_eq, refl, sym, ap, ◌∙◌, subst, arith}
+use Rattle.std.specs.List.{All, fold, sum_by, filter}
+use Rattle.std.proofs.lemmas.Bool.Decides.{nat_tests}
+use Rattle.std.proofs.lemmas.List.{length-map}
+use Rattle.std.proofs.lemmas.List.Sums.{sum_by-cons, sum_by-le, sum-map, length-filter, count_by-le-length}
+use Rattle.std.proofs.lemmas.List.Elements.{All-nil, All-cons, All-head, All-tail, All-weaker, All-map, All-filter}
+use Rattle.trace_model.specs.declared.slow_profile.Done.{Done}
+use Rattle.cost_points.specs.declared.point.Point.{Point}
+use Rattle.cost_points.specs.Keys.{insert_rising, rising, IsRising, grouped}
+use Rattle.cost_points.specs.Points.{Routine, least_of, greatest_of, point_of, routine_of, points}
+use Rattle.cost_points.specs.Place.{HasRoom, IsAt}
+use Rattle.cost_points.specs.Valid.{IsPoint, IsRoutine, IsProfile}
+use Rattle.cost_points.proofs.Grouped.{having, having_some, grouped_is}
+use Rattle.cost_points.proofs.Tallies.{sized, sizes_rise, points_rise}
+
+-- what holds of all that is made of members of which there is one
+module _ {A B : Type 0} (key : A → ℕ) (make : ℕ → List A → B) (P : B → Type 0) (all : List A) (each : (k : ℕ) → 1 ≤ length (having key k all) → P (make k (having key k all))) where
+  pub All-grouped : All P (grouped key make all)
+  All-grouped = subst (All P) (sym (grouped_is key make all))
+      (All-map P (λ k. make k (having key k all)) (rising (map key all))
+      (All-weaker (λ k. 1 ≤ length (having key k all)) (λ k. P (make k (having key k all))) each (rising (map key all)) (having_some key all)))
+
+  pub some-grouped : 1 ≤ length all → 1 ≤ length (grouped key make all)
+  some-grouped some = subst (λ n. 1 ≤ n) (ap length (sym (grouped_is key make all)))
+      (subst (λ n. 1 ≤ n) (sym (length-map (rising (map key all)) (λ k. make k (having key k all)))) (some_keys all some))
+    where
+      some_insert : (x : ℕ) (ks : List ℕ) → 1 ≤ length (insert_rising x ks)
+      some_insert x [] = omega arith
+      some_insert x (k ∷ ks) = grind (arith, nat_tests)
+
+      some_keys : (xs : List A) → 1 ≤ length xs → 1 ≤ length (rising (map key xs))
+      some_keys [] h = absurd (omega arith)
+      some_keys (x ∷ xs) h = some_insert (key x) (rising (map key xs))
+
+fold_min : (a : ℕ) (xs : List ℕ) → fold min a xs ≤ a
+fold_min a [] = omega arith
+fold_min a (x ∷ xs) = omega (arith, fold_min (min a x) xs)
+
+fold_max : (a : ℕ) (xs : List ℕ) → a ≤ fold max a xs
+fold_max a [] = omega arith
+fold_max a (x ∷ xs) = omega (arith, fold_max (max a x) xs)
+
+fold_min-all : (a : ℕ) (xs : List ℕ) → All (λ x. fold min a xs ≤ x) xs
+fold_min-all a [] = All-nil (λ x. a ≤ x)
+fold_min-all a (x ∷ xs) = All-cons (λ y. fold min (min a x) xs ≤ y) x xs (omega (arith, fold_min (min a x) xs)) (fold_min-all (min a x) xs)
+
+fold_max-all : (a : ℕ) (xs : List ℕ) → All (λ x. x ≤ fold max a xs) xs
+fold_max-all a [] = All-nil (λ x. x ≤ a)
+fold_max-all a (x ∷ xs) = All-cons (λ y. y ≤ fold max (max a x) xs) x xs (omega (arith, fold_max (max a x) xs)) (fold_max-all (max a x) xs)
+
+least-all : (xs : List ℕ) → All (λ x. least_of xs ≤ x) xs
+least-all [] = All-nil (λ x. 0 ≤ x)
+least-all (x ∷ xs) = All-cons (λ y. fold min x xs ≤ y) x xs (fold_min x xs) (fold_min-all x xs)
+
+greatest-all : (xs : List ℕ) → All (λ x. x ≤ greatest_of xs) xs
+greatest-all [] = All-nil (λ x. x ≤ 0)
+greatest-all (x ∷ xs) = All-cons (λ y. y ≤ fold max x xs) x xs (fold_max x xs) (fold_max-all x xs)
+
+least-greatest : (xs : List ℕ) → least_of xs ≤ greatest_of xs
+least-greatest [] = omega arith
+least-greatest (x ∷ xs) = omega (arith, fold_min x xs, fold_max x xs)
+
+low_sum : (m : ℕ) (xs : List ℕ) → All (λ x. m ≤ x) xs → length xs * m ≤ sum xs
+low_sum m [] all = grind arith
+low_sum m (x ∷ xs) all =
+    let here : m ≤ x = All-head (λ y. m ≤ y) x xs all in
+    let rest : length xs * m ≤ sum xs = low_sum m xs (All-tail (λ y. m ≤ y) x xs all) in
+    let whole : sum (x ∷ xs) ≡ x + sum xs = sum_by-cons (λ y. y) x xs in
+    let times : suc (length xs) * m ≡ m + length xs * m = grind arith in
+    omega (arith, here, rest, whole, times)
+
+abbrev costs_of : List Done → List ℕ
+costs_of members = map (λ d. d.cost) members
+
+pub IsPoint-of : (size : ℕ) (members : List Done) → 1 ≤ length members → IsPoint (point_of size members)
+IsPoint-of size members some = record {
+  some = omega (arith, length-map members (λ (d : Done). d.cost));
+  ordered = least-greatest (costs_of members);
+  low = low_sum (least_of (costs_of members)) (costs_of members) (least-all (costs_of members));
+  high = sum_by-le (λ x. x) (greatest_of (costs_of members)) (costs_of members) (greatest-all (costs_of members));
+}
+
+pub IsRoutine-of : (entry : ℕ) (members : List Done) → 1 ≤ length members → IsRoutine (routine_of entry members)
+IsRoutine-of entry members some = record {
+  some = some-grouped (λ (d : Done). d.size) point_of IsPoint members (λ k h. IsPoint-of k _ h) some;
+  sizes = sizes_rise members;
+  each = All-grouped (λ (d : Done). d.size) point_of IsPoint members (λ k h. IsPoint-of k _ h);
+}
+
+-- the routines of any list are in order, and each is one of the kind
+pub IsProfile-points : (all : List Done) → IsProfile (points all)
+IsProfile-points all = record {
+  entries = points_rise all;
+  each = All-grouped (λ (d : Done). d.entry) routine_of IsRoutine all (λ k h. IsRoutine-of k _ h);
+}
+
+HasRoom-of : (size : ℕ) (members : List Done) → length members < 2 ^ 63 → All (λ d. d.cost < 2 ^ 64) members → HasRoom (point_of size members)
+HasRoom-of size members few costs =
+    let bound : sum_by (λ (d : Done). d.cost) members ≤ length members * 18446744073709551615 =
+    sum_by-le (λ (d : Done). d.cost) 18446744073709551615 members (All-weaker (λ d. d.cost < 2 ^ 64) (λ d. d.cost ≤ 18446744073709551615) (λ d h. omega arith) members costs) in
+    record { calls = omega (arith, length-map members (λ (d : Done). d.cost)); sum = omega (arith, bound, sum-map (λ (d : Done). d.cost) members) }
+
+having-few : {A : Type 0} (key : A → ℕ) (k : ℕ) (all : List A) → length (having key k all) ≤ length all
+having-few key k all = omega (arith, length-filter (λ a. nat_eq (key a) k) all, count_by-le-length (λ a. nat_eq (key a) k) all)
+
+-- a routine of few activations has room in each of its points
+pub HasRoom-routine : (entry : ℕ) (members : List Done) → length members < 2 ^ 63 → All (λ d. d.cost < 2 ^ 64) members → All HasRoom (routine_of entry members).points
+HasRoom-routine entry members few costs =
+    All-grouped (λ (d : Done). d.size) point_of HasRoom members (λ k h. HasRoom-of k (having (λ (d : Done). d.size) k members)
+    (omega (arith, having-few (λ (d : Done). d.size) k members)) (All-filter (λ (d : Done). nat_eq d.size k) (λ d. d.cost < 2 ^ 64) members costs))
+
+-- and so has each routine of few activations
+pub HasRoom-points : (all : List Done) → length all < 2 ^ 63 → All (λ d. d.cost < 2 ^ 64) all → All (λ r. All HasRoom r.points) (points all)
+HasRoom-points all few costs =
+    All-grouped (λ (d : Done). d.entry) routine_of (λ r. All HasRoom r.points) all (λ k h. HasRoom-routine k (having (λ (d : Done). d.entry) k all)
+    (omega (arith, having-few (λ (d : Done). d.entry) k all)) (All-filter (λ (d : Done). nat_eq d.entry k) (λ d. d.cost < 2 ^ 64) all costs))
+
+pub sizes_rise-points : (all : List Done) → All (λ r. IsRising (map (λ p. p.size) r.points)) (points all)
+sizes_rise-points all = All-grouped (λ (d : Done). d.entry) routine_of (λ r. IsRising (map (λ p. p.size) r.points)) all (λ k h. sizes_rise (having (λ (d : Done). d.entry) k all))
+
+-- what holds of each routine holds of the one that was read
+pub at_routine : (P : Routine → Type 0) (all : List Done) (items : List Routine) (x i : ℕ) (r : Routine) → items ≡ points all → IsAt (map (λ r. r.entry) items) x i → r ≡ get_or items i r → All P (points all) → P r
+at_routine P all items x i r is place read each =
+    let inside : i < length items = omega (arith, place.in_range, length-map items (λ (r : Routine). r.entry)) in
+    let all_items : All P items = subst (All P) (sym is) each in
+    subst P (sym read) (all_items i r inside)

@@ -1,0 +1,5 @@
+pub mod Keys
+pub mod Points
+pub mod Place
+pub mod Tally
+pub mod Valid

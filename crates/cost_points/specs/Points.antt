@@ -1,0 +1,35 @@
+-- The cost points of ended activations: by routine, and within a routine by the size of their input.
+use Rattle.std.specs.Prelude.{ℕ, List, [], ◌∷◌, length, map, sum, min, max}
+use Rattle.std.specs.List.{fold}
+use Rattle.trace_model.specs.declared.slow_profile.Done.{Done}
+use Rattle.cost_points.specs.declared.point.Point.{Point}
+use Rattle.cost_points.specs.Keys.{grouped}
+
+-- the least number of a list that is not empty
+abbrev pub least_of : List ℕ → ℕ
+least_of [] = 0
+least_of (x ∷ xs) = fold min x xs
+
+-- the greatest number of a list that is not empty
+abbrev pub greatest_of : List ℕ → ℕ
+greatest_of [] = 0
+greatest_of (x ∷ xs) = fold max x xs
+
+-- the point of a size: how many activations have it, and the least, the greatest and the sum of their costs
+abbrev pub point_of : ℕ → List Done → Point
+point_of size members =
+    let costs = map (λ d. d.cost) members in
+    record { size = size; calls = length costs; least = least_of costs; most = greatest_of costs; sum = sum costs }
+
+-- A routine: its entry, and its points.
+pub record Routine : Type 0 where
+  pub entry : ℕ
+  pub points : List Point
+
+-- the routine at an entry: its activations' points, sizes rising
+abbrev pub routine_of : ℕ → List Done → Routine
+routine_of entry members = record { entry = entry; points = grouped (λ d. d.size) point_of members }
+
+-- the routines of ended activations, entries rising
+abbrev pub points : List Done → List Routine
+points all = grouped (λ d. d.entry) routine_of all

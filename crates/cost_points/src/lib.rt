@@ -1,0 +1,15 @@
+//! The cost points of a profile: for each routine and each size of its input, how many ended activations had that size,
+//! and the least, the greatest and the sum of their costs, as the cost plots of Coppa, Demetrescu and Finocchi
+//! ("Input-Sensitive Profiling", PLDI 2012) take them. Contracts see a table as the points of the activations that were
+//! added to it.
+#![tactic(auto)]
+
+mod point;
+mod routine;
+mod table;
+
+pub use point::Point;
+pub use table::Table;
+
+#[cfg(test)]
+mod tests;

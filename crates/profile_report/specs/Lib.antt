@@ -1,0 +1,4 @@
+pub mod Names
+pub mod Reported
+pub mod LineForms
+pub mod ReportText

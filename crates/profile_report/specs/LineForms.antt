@@ -1,0 +1,69 @@
+-- The lines of a report, one definition a form, without the byte that ends a line.
+use Rattle.std.specs.Prelude.{ℕ, ◌/◌, ◌%◌, List, [], ◌∷◌, ◌++◌, codes, slice_index, Option, Some, None}
+use Rattle.std.specs.Fmt.{decimal}
+use Rattle.guest_words.specs.declared.endings.Finish.{Finish}
+use Rattle.guest_words.specs.declared.endings.Finish.TheVariants.{Exit, Fault, Budget, Deadlock, Deep, Schedule}
+use Rattle.guest_words.specs.declared.endings.FaultKind.{FaultKind}
+use Rattle.guest_words.specs.declared.endings.FaultKind.TheVariants.{Illegal, Fetch, Load, Store, JumpAlign, AtomicAlign, Break}
+use Rattle.cost_points.specs.declared.point.Point.{Point}
+
+-- the line with the newline byte that ends it
+abbrev pub ended : List ℕ → List ℕ
+ended line = line ++ 10 ∷ []
+
+-- a digit in base 16, in lower case
+abbrev pub hex_glyph : ℕ → ℕ
+hex_glyph digit = slice_index (codes "0123456789abcdef") digit
+
+-- an address, in eight digits of base 16
+unfoldable pub hex_address : ℕ → List ℕ
+hex_address at =
+    hex_glyph (at / 0x1000_0000 % 16)
+    ∷ hex_glyph (at / 0x100_0000 % 16)
+    ∷ hex_glyph (at / 0x10_0000 % 16)
+    ∷ hex_glyph (at / 0x1_0000 % 16)
+    ∷ hex_glyph (at / 0x1000 % 16)
+    ∷ hex_glyph (at / 0x100 % 16)
+    ∷ hex_glyph (at / 0x10 % 16)
+    ∷ hex_glyph (at % 16)
+    ∷ []
+
+-- the number of a fault's kind
+abbrev pub kind_number : FaultKind → ℕ
+kind_number Illegal = 1
+kind_number Fetch = 2
+kind_number Load = 3
+kind_number Store = 4
+kind_number JumpAlign = 5
+kind_number AtomicAlign = 6
+kind_number Break = 7
+
+-- a number after its label
+abbrev pub labelled : List ℕ → ℕ → List ℕ
+labelled label number = label ++ decimal number
+
+-- a fault: its kind's number, the thread and the address
+abbrev pub fault_line : FaultKind → ℕ → ℕ → List ℕ
+fault_line kind tid at = labelled (codes "end fault ") (kind_number kind) ++ labelled (codes " ") tid ++ codes " " ++ hex_address at
+
+-- how the run ended
+abbrev pub end_line : Finish → List ℕ
+end_line (Exit status) = labelled (codes "end exit ") status
+end_line (Fault kind tid at) = fault_line kind tid at
+end_line Budget = codes "end budget"
+end_line Deadlock = codes "end deadlock"
+end_line Deep = codes "end deep"
+end_line (Schedule line) = labelled (codes "end schedule ") line
+
+-- a name, or a dash where there is none
+abbrev pub name_word : Option (List ℕ) → List ℕ
+name_word None = codes "-"
+name_word (Some name) = name
+
+-- a routine: its entry and its name
+abbrev pub routine_line : ℕ → Option (List ℕ) → List ℕ
+routine_line entry name = codes "routine " ++ hex_address entry ++ codes " " ++ name_word name
+
+-- a point: its size, how many calls had it, and the least, the greatest and the sum of their costs
+abbrev pub point_line : Point → List ℕ
+point_line p = decimal p.size ++ labelled (codes " ") p.calls ++ labelled (codes " ") p.least ++ labelled (codes " ") p.most ++ labelled (codes " ") p.sum

@@ -1,0 +1,15 @@
+//! The report of a profiled run: how the run ended, how long it was, and the cost points of each routine, as a text of
+//! lines. Contracts see a report as plain data, and the text as a definition over it: a form a line.
+#![tactic(auto)]
+
+mod line_text;
+mod name;
+mod report;
+mod writer;
+
+pub use name::{Name, NameError};
+pub use report::{Report, Routine};
+pub use writer::write_report;
+
+#[cfg(test)]
+mod tests;

@@ -1,0 +1,138 @@
+//! The lines of a report, one function a form.
+ghost use Rattle.std.specs.Prelude.{◌≡◌, ◌++◌, ◌<◌, OnOk};
+ghost use Rattle.std.specs.Fmt.{decimal};
+ghost use Rattle.profile_report.specs.LineForms.{end_line, ended, fault_line, hex_address, hex_glyph, kind_number, labelled, name_word, point_line, routine_line};
+
+use crate::Name;
+use cost_points::Point;
+use guest_words::{Addr, FaultKind, Finish, Tid};
+use itoa::Buffer;
+use std::alloc::AllocError;
+
+/// Appends a number in decimal.
+fn push_number(text: &mut Vec<u8>, number: u128) -> Result<(), AllocError>
+    ensures { OnOk result (text.new.items ≡ text.old.items ++ decimal number) }
+{
+    let mut buffer = Buffer::new();
+    text.extend_from_slice(buffer.format(number).as_bytes())
+}
+
+/// Appends a number after its label.
+fn push_labelled(text: &mut Vec<u8>, label: &[u8], number: u64) -> Result<(), AllocError>
+    ensures { OnOk result (text.new.items ≡ text.old.items ++ labelled label.now number) }
+{
+    text.extend_from_slice(label)?;
+    push_number(text, u128::from(number))
+}
+
+/// The glyph of a digit in base 16.
+fn hex_glyph(digit: u32) -> u8
+    requires { digit < 16 }
+    ensures { result ≡ hex_glyph digit }
+{
+    let digits = b"0123456789abcdef";
+    digits[digit as usize]
+}
+
+#[tactic(auto, unfolding(crate::specs::LineForms::hex_address))]
+/// Appends an address in eight digits of base 16.
+fn push_address(text: &mut Vec<u8>, at: Addr) -> Result<(), AllocError>
+    ensures { OnOk result (text.new.items ≡ text.old.items ++ hex_address at) }
+{
+    let glyphs = [
+        hex_glyph(at / 0x1000_0000 % 16),
+        hex_glyph(at / 0x100_0000 % 16),
+        hex_glyph(at / 0x10_0000 % 16),
+        hex_glyph(at / 0x1_0000 % 16),
+        hex_glyph(at / 0x1000 % 16),
+        hex_glyph(at / 0x100 % 16),
+        hex_glyph(at / 0x10 % 16),
+        hex_glyph(at % 16),
+    ];
+    text.extend_from_slice(&glyphs)
+}
+
+/// The number of a fault's kind.
+fn kind_number(kind: FaultKind) -> u64
+    ensures { result ≡ kind_number kind }
+{
+    kind as u64
+}
+
+/// Appends a fault's kind, thread and address.
+fn push_fault(text: &mut Vec<u8>, kind: FaultKind, tid: Tid, at: Addr) -> Result<(), AllocError>
+    ensures { OnOk result (text.new.items ≡ text.old.items ++ fault_line kind tid at) }
+{
+    push_labelled(text, b"end fault ", kind_number(kind))?;
+    push_labelled(text, b" ", u64::from(tid.number()))?;
+    text.extend_from_slice(b" ")?;
+    push_address(text, at)
+}
+
+/// Appends how the run ended.
+fn push_end(text: &mut Vec<u8>, finish: Finish) -> Result<(), AllocError>
+    ensures { OnOk result (text.new.items ≡ text.old.items ++ end_line finish) }
+{
+    match finish {
+        Finish::Exit { status } => push_labelled(text, b"end exit ", u64::from(status)),
+        Finish::Fault { kind, tid, at } => push_fault(text, kind, tid, at),
+        Finish::Budget => text.extend_from_slice(b"end budget"),
+        Finish::Deadlock => text.extend_from_slice(b"end deadlock"),
+        Finish::Deep => text.extend_from_slice(b"end deep"),
+        Finish::Schedule { line } => push_labelled(text, b"end schedule ", line),
+    }
+}
+
+/// Appends the line on how the run ended.
+pub fn push_end_line(text: &mut Vec<u8>, finish: Finish) -> Result<(), AllocError>
+    ensures { OnOk result (text.new.items ≡ text.old.items ++ ended (end_line finish)) }
+{
+    push_end(text, finish)?;
+    text.extend_from_slice(b"\n")
+}
+
+/// Appends the line of a number after its label.
+pub fn push_number_line(text: &mut Vec<u8>, label: &[u8], number: u64) -> Result<(), AllocError>
+    ensures { OnOk result (text.new.items ≡ text.old.items ++ ended (labelled label.now number)) }
+{
+    push_labelled(text, label, number)?;
+    text.extend_from_slice(b"\n")
+}
+
+/// Appends a routine's name, or a dash where it has none.
+fn push_name(text: &mut Vec<u8>, name: &Option<Name>) -> Result<(), AllocError>
+    ensures { OnOk result (text.new.items ≡ text.old.items ++ name_word name.now) }
+{
+    match name {
+        Some(name) => text.extend_from_slice(name.bytes()),
+        None => text.extend_from_slice(b"-"),
+    }
+}
+
+/// Appends the line of a routine.
+pub fn push_routine_line(
+    text: &mut Vec<u8>,
+    entry: Addr,
+    name: &Option<Name>,
+) -> Result<(), AllocError>
+    ensures { OnOk result (text.new.items ≡ text.old.items ++ ended (routine_line entry name.now)) }
+{
+    text.extend_from_slice(b"routine ")?;
+    push_address(text, entry)?;
+    text.extend_from_slice(b" ")?;
+    push_name(text, name)?;
+    text.extend_from_slice(b"\n")
+}
+
+/// Appends the line of a point.
+pub fn push_point_line(text: &mut Vec<u8>, point: Point) -> Result<(), AllocError>
+    ensures { OnOk result (text.new.items ≡ text.old.items ++ ended (point_line point)) }
+{
+    push_number(text, u128::from(point.size))?;
+    push_labelled(text, b" ", point.calls)?;
+    push_labelled(text, b" ", point.least)?;
+    push_labelled(text, b" ", point.most)?;
+    text.extend_from_slice(b" ")?;
+    push_number(text, point.sum)?;
+    text.extend_from_slice(b"\n")
+}

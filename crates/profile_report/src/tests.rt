@@ -1,0 +1,113 @@
+use super::*;
+use cost_points::Point;
+use guest_words::{Addr, FaultKind, Finish, Tid};
+use std::alloc::Global;
+use std::test::Fail;
+
+fn routine(alloc: Global, entry: Addr, name: &[u8], point: Point) -> Result<Routine, Fail> {
+    Ok(Routine {
+        entry,
+        name: if name.len() == 1 && name[0] == b'-' {
+            None
+        } else {
+            Some(Name::new(alloc, name)?)
+        },
+        points: vec![in alloc; point]?,
+    })
+}
+
+fn point(size: u64, calls: u64, least: u64, most: u64, sum: u128) -> Point {
+    Point {
+        size,
+        calls,
+        least,
+        most,
+        sum,
+    }
+}
+
+// A repeated read, without names and with them.
+#[test]
+fn a_report_is_its_lines(rt: HostRuntime) -> Result<(), Fail> {
+    let alloc = rt.alloc();
+    let plain = Report {
+        finish: Finish::Exit { status: 0 },
+        steps: 7,
+        pending: 0,
+        routines: vec![in alloc;
+            routine(alloc, 0x10054, b"-", point(1, 1, 7, 7, 7))?,
+            routine(alloc, 0x10064, b"f", point(1, 1, 3, 3, 3))?,
+        ]?,
+    };
+    assert_eq!(rt;
+        write_report(alloc, &plain)?.as_slice(),
+        b"aprof 1
+end exit 0
+steps 7
+open 0
+routine 00010054 -
+1 1 7 7 7
+routine 00010064 f
+1 1 3 3 3
+done 2
+"
+            .as_slice()
+    );
+    Ok(())
+}
+
+fn without_routines(alloc: Global, finish: Finish, steps: u64, pending: u64) -> Report {
+    Report {
+        finish,
+        steps,
+        pending,
+        routines: Vec::new(alloc),
+    }
+}
+
+#[test]
+fn each_end_has_its_line(rt: HostRuntime) -> Result<(), Fail> {
+    let alloc = rt.alloc();
+    let fault = Finish::Fault {
+        kind: FaultKind::Illegal,
+        tid: Tid::FIRST,
+        at: 0x10054,
+    };
+    let rows = [
+        (
+            without_routines(alloc, fault, 0, 1),
+            "aprof 1\nend fault 1 1 00010054\nsteps 0\nopen 1\ndone 0\n",
+        ),
+        (
+            without_routines(alloc, Finish::Budget, 5, 1),
+            "aprof 1\nend budget\nsteps 5\nopen 1\ndone 0\n",
+        ),
+        (
+            without_routines(alloc, Finish::Deadlock, 11, 2),
+            "aprof 1\nend deadlock\nsteps 11\nopen 2\ndone 0\n",
+        ),
+        (
+            without_routines(alloc, Finish::Deep, 417, 84),
+            "aprof 1\nend deep\nsteps 417\nopen 84\ndone 0\n",
+        ),
+        (
+            without_routines(alloc, Finish::Schedule { line: 3 }, 7, 1),
+            "aprof 1\nend schedule 3\nsteps 7\nopen 1\ndone 0\n",
+        ),
+    ];
+    for (report, text) in &rows {
+        assert_eq!(rt; write_report(alloc, report)?.as_slice(), text.as_bytes());
+    }
+    Ok(())
+}
+
+#[test]
+fn a_name_is_visible_bytes_and_no_dash(rt: HostRuntime) -> Result<(), Fail> {
+    let alloc = rt.alloc();
+    let start = Name::new(alloc, b"_start")?;
+    assert_eq!(rt; start.copy(alloc)?.bytes(), b"_start".as_slice());
+    for bad in [b"-".as_slice(), b"", b"a b"] {
+        assert!(rt; matches!(Name::new(alloc, bad), Err(NameError::Bad)));
+    }
+    Ok(())
+}
