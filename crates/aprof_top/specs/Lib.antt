@@ -6,9 +6,7 @@ pub mod Image
 pub mod Machine
 pub mod Outcome
 pub mod Outside
-pub mod Points
 pub mod Product
-pub mod Profile
 pub mod Report
 pub mod Run
 pub mod Texts

@@ -5,7 +5,8 @@ use Rattle.guest_words.specs.declared.endings.Finish.TheVariants.{Exit}
 use Rattle.aprof_top.specs.Command.{RunOptions, options_of}
 use Rattle.aprof_top.specs.Image.{file_limit, is_plain_image}
 use Rattle.aprof_top.specs.Run.{Run, run_of}
-use Rattle.aprof_top.specs.Report.{exit_report}
+use Rattle.profile_report.specs.ReportText.{report_text}
+use Rattle.aprof_top.specs.Report.{report_of}
 use Rattle.aprof_top.specs.Texts.{bad_command_text, not_built_text}
 
 -- What the written product answers.
@@ -43,7 +44,7 @@ pub record Product : Type 0 where
 
 -- what a run leaves by how it ended: one that exited has a report, and no other is built
 abbrev pub product_by : Option Finish → Run → Option Product
-product_by (Some (Exit status)) run = Some (record { out = run.out; err = run.err; report = exit_report status run.trace })
+product_by (Some (Exit status)) run = Some (record { out = run.out; err = run.err; report = report_text (report_of (Exit status) run.trace) })
 product_by _ run = None
 
 -- the product of an image, where it and each step of its run is built

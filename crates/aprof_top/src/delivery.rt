@@ -46,7 +46,7 @@ pub(crate) fn deliver<F: Files, O: Sink, E: Sink>(
         Err(PutError::Failed) => return Ending::CannotPut,
         Err(PutError::Memory) => return Ending::OutOfMemory,
     }
-    match files.store(path, product.report.as_bytes()) {
+    match files.store(path, product.report.as_slice()) {
         Ok(()) => Ending::Done,
         Err(StoreError::Failed) => Ending::CannotWrite,
         Err(StoreError::Memory) => Ending::OutOfMemory,

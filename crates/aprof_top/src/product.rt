@@ -18,7 +18,7 @@ const ARGUMENT_LIMIT: usize = 65536;
 pub(crate) struct Product {
     pub(crate) out: Vec<u8>,
     pub(crate) err: Vec<u8>,
-    pub(crate) report: String,
+    pub(crate) report: Vec<u8>,
 }
 
 /// Runs an image; None where it, or a step of its run, is not built.

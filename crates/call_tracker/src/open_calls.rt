@@ -1,6 +1,7 @@
 //! The open calls of a thread.
 ghost use Rattle.std.specs.Prelude.{◌≡◌, ◌+◌, ◌-◌, ◌≤◌, ◌++◌, ◌∷◌, [], length, take, reverse, IsOk, IfOk, OnOk, OnErr};
-ghost use Rattle.call_tracker.specs.Calls.{backs, count_returned};
+ghost use Rattle.call_tracker.specs.Calls.{backs};
+ghost use Rattle.trace_model.specs.Activations.{count_returned};
 
 use guest_words::Addr;
 use std::alloc::{AllocError, Global};

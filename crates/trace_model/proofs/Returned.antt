@@ -19,7 +19,7 @@ map-reverse (a ∷ calls) =
 back_at : (bs : List (Option ℕ)) (target k : ℕ) → k < length bs → is_back target (get_or (reverse bs) k None) ≡ is_back target (get_or bs (length bs - 1 - k) None)
 back_at bs target k h = ap (is_back target) (get_or-reverse bs k None h)
 
-returned_at : (bs : List (Option ℕ)) (target i : ℕ) → i < length bs → is_back target (get_or bs i None) ≡ true →
+pub returned_at : (bs : List (Option ℕ)) (target i : ℕ) → i < length bs → is_back target (get_or bs i None) ≡ true →
     ((j : ℕ) → i + 1 ≤ j → j < length bs → is_back target (get_or bs j None) ≡ false) →
     count_returned target (reverse bs) ≡ length bs - i
 returned_at bs target i h found none =
@@ -33,7 +33,7 @@ returned_at bs target i h found none =
     ∙ ap (λ b. cond b (n + 1) 0) (lt-ltb n (length (reverse bs)) (omega (arith, length-reverse bs)))
     ∙ omega arith
 
-returned_none : (bs : List (Option ℕ)) (target : ℕ) →
+pub returned_none : (bs : List (Option ℕ)) (target : ℕ) →
     ((j : ℕ) → j < length bs → is_back target (get_or bs j None) ≡ false) → count_returned target (reverse bs) ≡ 0
 returned_none bs target none =
     let first : position_or_len (is_back target) (reverse bs) ≡ length bs =

@@ -1,6 +1,7 @@
 use Rattle.std.proofs.Common.{◌-◌, sym, ap, ◌∙◌, arith}
-use Rattle.call_tracker.specs.Calls.{is_back}
-use Rattle.call_tracker.proofs.Returned.{count_returned_at, count_returned_none, get_or-backs, passed_more, is_back-option_eq}
+use Rattle.trace_model.specs.Activations.{is_back}
+use Rattle.trace_model.proofs.Returned.{is_back-option_eq}
+use Rattle.call_tracker.proofs.Returned.{count_returned_at, count_returned_none, get_or-backs, passed_more}
 use Rattle.call_tracker.proofs.open_calls.count_returned.Goals as goal
 
 pub returns-then-eq-clause-count : goal.returns-then-eq-clause-count

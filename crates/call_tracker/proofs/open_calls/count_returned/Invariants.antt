@@ -1,5 +1,6 @@
 use Rattle.std.proofs.Common.{◌≡◌, ℕ, ◌<◌, ◌≤◌, false, length, get_or, None}
-use Rattle.call_tracker.specs.Calls.{backs, is_back}
+use Rattle.trace_model.specs.Activations.{is_back}
+use Rattle.call_tracker.specs.Calls.{backs}
 use Rattle.call_tracker.proofs.open_calls.count_returned.Given as goal
 
 -- none of those passed so far has the return address

@@ -1,0 +1,6 @@
+use Rattle.std.proofs.Common.{◌≡◌, take}
+use Rattle.cost_points.specs.Tally.{tally_of}
+use Rattle.aprof_top.proofs.report.table_of.Given as goal
+
+abbrev pub invariant-loop-ended : goal.invariant-loop-ended
+invariant-loop-ended l = l.table ≡ tally_of (take l.ended-index l.done)
