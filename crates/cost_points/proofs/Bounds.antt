@@ -1,18 +1,17 @@
 -- What holds of each point and of each routine of a list of activations.
-use Rattle.std.proofs.Common.{◌≡◌, ℕ, zero, suc, ◌+◌, ◌*◌, ◌<◌, ◌≤◌, ◌^◌, List, [], ◌∷◌, length, get_or, map, min, max, sum, nat_eq, refl, sym, ap, ◌∙◌, subst, arith}
-use Rattle.std.specs.List.{All, fold, sum_by, filter}
+use Rattle.std.proofs.Common.{◌≡◌, ℕ, suc, ◌+◌, ◌*◌, ◌<◌, ◌≤◌, ◌^◌, List, [], ◌∷◌, length, get_or, map, min, max, sum, nat_eq, sym, ap, subst, arith}
+use Rattle.std.specs.List.{All, fold, sum_by}
 use Rattle.std.proofs.lemmas.Bool.Decides.{nat_tests}
 use Rattle.std.proofs.lemmas.List.{length-map}
 use Rattle.std.proofs.lemmas.List.Sums.{sum_by-cons, sum_by-le, sum-map, length-filter, count_by-le-length}
 use Rattle.std.proofs.lemmas.List.Elements.{All-nil, All-cons, All-head, All-tail, All-weaker, All-map, All-filter}
 use Rattle.trace_model.specs.declared.slow_profile.Done.{Done}
-use Rattle.cost_points.specs.declared.point.Point.{Point}
 use Rattle.cost_points.specs.Keys.{insert_rising, rising, IsRising, grouped}
 use Rattle.cost_points.specs.Points.{Routine, least_of, greatest_of, point_of, routine_of, points}
 use Rattle.cost_points.specs.Place.{HasRoom, IsAt}
 use Rattle.cost_points.specs.Valid.{IsPoint, IsRoutine, IsProfile}
 use Rattle.cost_points.proofs.Grouped.{having, having_some, grouped_is}
-use Rattle.cost_points.proofs.Tallies.{sized, sizes_rise, points_rise}
+use Rattle.cost_points.proofs.Tallies.{sizes_rise, points_rise}
 
 -- what holds of all that is made of members of which there is one
 module _ {A B : Type 0} (key : A → ℕ) (make : ℕ → List A → B) (P : B → Type 0) (all : List A) (each : (k : ℕ) → 1 ≤ length (having key k all) → P (make k (having key k all))) where

@@ -1,6 +1,5 @@
 -- What a binary search by a key finds among rising keys.
-use Rattle.std.proofs.Common.{◌≡◌, ℕ, ◌<◌, ◌≤◌, List, length, get_or, map, Result, Ok, Err, sym, ap, ◌∙◌, subst, arith}
-use Rattle.std.specs.Result.{MatchResult}
+use Rattle.std.proofs.Common.{◌≡◌, ℕ, ◌<◌, ◌≤◌, List, length, get_or, map, Result, Ok, Err, sym, ap, ◌∙◌, arith}
 use Rattle.std.specs.List.Sorted.{IsSearchInRange, IsBinarySearchResult, IsNonDecreasingBy}
 use Rattle.std.specs.Ordering.{nat_cmp, ordering_index}
 use Rattle.std.proofs.lemmas.Cmp.{ranked}
@@ -8,7 +7,7 @@ use Rattle.std.proofs.lemmas.List.{get_or-map, length-map}
 use Rattle.std.proofs.lemmas.List.Sorted.{IsNonDecreasingBy-from_default}
 use Rattle.std.proofs.lemmas.Bool.Decides.{nat_tests}
 use Rattle.cost_points.specs.Keys.{IsRising}
-use Rattle.cost_points.specs.Place.{IsAt, IsGap, FindsPlace}
+use Rattle.cost_points.specs.Place.{FindsPlace}
 
 module _ {X : Type 0} (label : X → ℕ) (d : X) (xs : List X) (up : IsRising (map label xs)) (x : ℕ) where
   labelled : (i : ℕ) → i < length xs → get_or (map label xs) i 0 ≡ label (get_or xs i d)

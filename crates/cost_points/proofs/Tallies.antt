@@ -1,9 +1,8 @@
 -- One more activation among the points of a routine, and among the routines.
-use Rattle.std.proofs.Common.{◌≡◌, ℕ, zero, suc, ◌+◌, ◌<◌, ◌≤◌, ◌^◌, List, [], ◌∷◌, ◌++◌, length, get_or, set, map, min, max, sum, refl, sym, ap, ◌∙◌, subst, arith, zero-add, Result, Ok, Err, OnOk}
-use Rattle.std.specs.List.{All, insert, fold, sum_by, filter}
-use Rattle.std.proofs.lemmas.List.{map-append, length-append, length-map, get_or_read}
+use Rattle.std.proofs.Common.{◌≡◌, ℕ, ◌+◌, ◌≤◌, List, [], ◌∷◌, ◌++◌, length, get_or, set, map, min, max, sum, refl, sym, ap, ◌∙◌, subst, arith, Result, Ok, Err, OnOk}
+use Rattle.std.specs.List.{insert}
+use Rattle.std.proofs.lemmas.List.{map-append, length-append, length-map}
 use Rattle.std.proofs.lemmas.List.Sums.{fold_push, sum_by_push}
-use Rattle.std.proofs.lemmas.List.Elements.{All-get_or}
 use Rattle.trace_model.specs.declared.slow_profile.Done.{Done}
 use Rattle.cost_points.specs.declared.point.Point.{Point}
 use Rattle.cost_points.specs.Keys.{rising, IsRising, grouped}

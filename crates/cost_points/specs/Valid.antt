@@ -1,5 +1,5 @@
 -- What holds of the points of any list of activations.
-use Rattle.std.specs.Prelude.{ℕ, ◌*◌, ◌<◌, ◌≤◌, List, length, map}
+use Rattle.std.specs.Prelude.{◌*◌, ◌≤◌, List, length, map}
 use Rattle.std.specs.List.{All}
 use Rattle.cost_points.specs.declared.point.Point.{Point}
 use Rattle.cost_points.specs.Keys.{IsRising}

@@ -1,8 +1,7 @@
-use Rattle.std.proofs.Common.{◌≡◌, List, map, sym, ap, ◌∙◌, subst}
+use Rattle.std.proofs.Common.{List, map, sym, ◌∙◌, subst}
 use Rattle.std.specs.List.{All}
-use Rattle.trace_model.specs.declared.slow_profile.Done.{Done}
 use Rattle.cost_points.specs.Keys.{IsRising}
-use Rattle.cost_points.specs.Points.{Routine, routine_of}
+use Rattle.cost_points.specs.Points.{Routine}
 use Rattle.cost_points.specs.Place.{IsAt, IsGap, HasRoom}
 use Rattle.cost_points.proofs.Tallies.{points_rise, points_at, points_gap, through_ok}
 use Rattle.cost_points.proofs.Bounds.{at_routine, sizes_rise-points, HasRoom-points}

@@ -1,4 +1,4 @@
-use Rattle.std.proofs.Common.{sym, ap, ◌∙◌, rules, subst}
+use Rattle.std.proofs.Common.{ap, ◌∙◌, subst}
 use Rattle.std.proofs.Common.{map}
 use Rattle.cost_points.specs.Place.{IsAt, IsGap}
 use Rattle.cost_points.proofs.Tallies.{routine_same, sized_at, sized_gap}
