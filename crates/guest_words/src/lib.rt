@@ -1,10 +1,11 @@
 //! The words that every crate speaks: addresses and memory words of a 32-bit guest, thread numbers, the faults of the
-//! RISC-V unprivileged specification, how a run ends, little-endian fields, and short lists of threads.
+//! RISC-V unprivileged specification, how a run ends, names of routines, little-endian fields, and short lists of threads.
 #![tactic(auto)]
 
 mod addresses;
 mod endings;
 mod fields;
+mod name;
 mod ready;
 mod rights;
 mod threads;
@@ -12,6 +13,7 @@ mod threads;
 pub use addresses::{Addr, Word, words_over};
 pub use endings::{FaultKind, Finish};
 pub use fields::{le16, le32, put_le32};
+pub use name::{Name, NameError};
 pub use ready::ReadyList;
 pub use rights::Rights;
 pub use threads::Tid;

@@ -1,4 +1,5 @@
-use crate::{FaultKind, ReadyList, Tid, Word, le16, le32, put_le32, words_over};
+use crate::{FaultKind, Name, NameError, ReadyList, Tid, Word, le16, le32, put_le32, words_over};
+use std::test::Fail;
 
 #[test]
 fn ranges_of_words(rt: HostRuntime) {
@@ -54,4 +55,15 @@ fn a_list_of_threads_keeps_their_order(rt: HostRuntime) {
         assert!(rt; place < ready.len());
         assert_eq!(rt; ready.at(place), (Tid::new(number).unwrap(), can));
     }
+}
+
+#[test]
+fn a_name_is_visible_bytes_and_no_dash(rt: HostRuntime) -> Result<(), Fail> {
+    let alloc = rt.alloc();
+    let start = Name::new(alloc, b"_start")?;
+    assert_eq!(rt; start.copy(alloc)?.bytes(), b"_start".as_slice());
+    for bad in [b"-".as_slice(), b"", b"a b"] {
+        assert!(rt; matches!(Name::new(alloc, bad), Err(NameError::Bad)));
+    }
+    Ok(())
 }

@@ -1,4 +1,3 @@
-pub mod Names
 pub mod Reported
 pub mod LineForms
 pub mod ReportText

@@ -3,11 +3,9 @@
 #![tactic(auto)]
 
 mod line_text;
-mod name;
 mod report;
 mod writer;
 
-pub use name::{Name, NameError};
 pub use report::{Report, Routine};
 pub use writer::write_report;
 

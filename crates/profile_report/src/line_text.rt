@@ -3,9 +3,8 @@ ghost use Rattle.std.specs.Prelude.{◌≡◌, ◌++◌, ◌<◌, OnOk};
 ghost use Rattle.std.specs.Fmt.{decimal};
 ghost use Rattle.profile_report.specs.LineForms.{end_line, ended, fault_line, hex_address, hex_glyph, kind_number, labelled, name_word, point_line, routine_line};
 
-use crate::Name;
 use cost_points::Point;
-use guest_words::{Addr, FaultKind, Finish, Tid};
+use guest_words::{Addr, FaultKind, Finish, Name, Tid};
 use itoa::Buffer;
 use std::alloc::AllocError;
 

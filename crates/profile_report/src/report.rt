@@ -1,7 +1,6 @@
 //! Reports.
-use crate::Name;
 use cost_points::Point;
-use guest_words::{Addr, Finish};
+use guest_words::{Addr, Finish, Name};
 use std::marker::Model;
 
 /// A routine: its entry, its name where it has one, and its points.

@@ -1,6 +1,6 @@
 use super::*;
 use cost_points::Point;
-use guest_words::{Addr, FaultKind, Finish, Tid};
+use guest_words::{Addr, FaultKind, Finish, Name, Tid};
 use std::alloc::Global;
 use std::test::Fail;
 
@@ -97,17 +97,6 @@ fn each_end_has_its_line(rt: HostRuntime) -> Result<(), Fail> {
     ];
     for (report, text) in &rows {
         assert_eq!(rt; write_report(alloc, report)?.as_slice(), text.as_bytes());
-    }
-    Ok(())
-}
-
-#[test]
-fn a_name_is_visible_bytes_and_no_dash(rt: HostRuntime) -> Result<(), Fail> {
-    let alloc = rt.alloc();
-    let start = Name::new(alloc, b"_start")?;
-    assert_eq!(rt; start.copy(alloc)?.bytes(), b"_start".as_slice());
-    for bad in [b"-".as_slice(), b"", b"a b"] {
-        assert!(rt; matches!(Name::new(alloc, bad), Err(NameError::Bad)));
     }
     Ok(())
 }

@@ -1,6 +1,6 @@
 //! Names of routines.
 ghost use Rattle.std.specs.Prelude.{◌≡◌, ◌↔◌, true, false, IfOk, IfErr};
-ghost use Rattle.profile_report.specs.Names.{is_dash, is_name, is_visible};
+ghost use Rattle.guest_words.specs.Names.{is_dash, is_name, is_visible};
 ghost use Rattle.std.specs.List.{list_all};
 
 use std::alloc::{AllocError, Global};
@@ -15,7 +15,7 @@ pub struct Name {
 
 impl Model for Name {
     ghost use Rattle.std.specs.Prelude.{◌≡◌, ℕ, List, true};
-    ghost use Rattle.profile_report.specs.Names.{is_name};
+    ghost use Rattle.guest_words.specs.Names.{is_name};
 
     ghost Value = { List ℕ };
 
@@ -37,7 +37,7 @@ pub enum NameError {
 
 impl From<AllocError> for NameError {
     ghost use Rattle.std.specs.Prelude.{◌≡◌};
-    ghost use Rattle.profile_report.specs.declared.name.NameError.TheVariants.{Memory};
+    ghost use Rattle.guest_words.specs.declared.name.NameError.TheVariants.{Memory};
 
     ghost from_gives = { λ _ e. e ≡ Memory };
 
