@@ -1,6 +1,6 @@
 //! The table of waiting threads.
 ghost use Rattle.std.specs.Prelude.{◌≡◌, ◌≢◌, ◌<◌, ◌≤◌, [], false, length, IfOk};
-ghost use Rattle.futex_table.specs.Once.{waits};
+ghost use Rattle.futex_table.specs.Once.{waits, IsOnce};
 ghost use Rattle.futex_table.specs.Waiting.{after_wait, woken, after_wake, shifted, after_requeue, after_forget, all_bits};
 
 use crate::parted::{add_moved, leave_out, part};
@@ -57,6 +57,7 @@ impl FutexTable {
     pub fn len(&self) -> usize
         ensures len { result ≡ length self.now }
         ensures bound { result ≤ 32 }
+        ensures once { IsOnce self.now }
     {
         self.waiting.len()
     }
@@ -122,5 +123,12 @@ impl FutexTable {
         leave_out(self.waiting.as_slice(), tid, &mut self.kept);
         mem::swap(&mut self.waiting, &mut self.kept);
         self.kept.clear();
+    }
+
+    /// No thread waits any more.
+    pub fn clear(&mut self)
+        ensures empty { self.new ≡ [] }
+    {
+        self.waiting.clear();
     }
 }

@@ -27,5 +27,6 @@ fn the_first_in_is_the_first_out(rt: HostRuntime) -> Result<(), Fail> {
         table.forget(tid);
     }
     assert_eq!(rt; table.len(), 0);
+    table.clear();
     Ok(())
 }

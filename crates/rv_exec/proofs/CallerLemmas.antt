@@ -1,7 +1,9 @@
 -- What holds of every effect.
-use Rattle.std.proofs.Common.{◌≡◌, ◌+◌, ◌<◌, ◌∷◌, length, suc, ◌∙◌, Bool, true, false, Option, Some, None, ap, cond, sym, refl, ℕ, arith, inl, inr}
+use Rattle.std.proofs.Common.{◌≡◌, ◌+◌, ◌<◌, ◌^◌, ◌&&◌, ◌∷◌, length, suc, ◌∙◌, Bool, true, false, Option, Some, None, ap, cond, sym, refl, ℕ, arith, inl, inr}
 use Rattle.std.specs.Prelude.{◌==◌, ◌%◌, ◌/◌, nat_eq, is_some}
 use Rattle.std.proofs.lemmas.Bool.{cases_eq, ne_eqb}
+use Rattle.std.proofs.lemmas.Bool.Decides.{nat_tests}
+use Rattle.guest_memory.specs.declared.size.Size.TheVariants.{Four}
 use Rattle.guest_words.specs.declared.endings.FaultKind.{FaultKind}
 use Rattle.guest_words.specs.declared.endings.FaultKind.TheVariants as fault
 use Rattle.guest_words.specs.Words.{word_count}
@@ -16,9 +18,9 @@ use Rattle.rv_exec.specs.declared.outcome.Access.{Access}
 use Rattle.rv_exec.specs.declared.outcome.Outcome.{Outcome}
 use Rattle.rv_exec.specs.declared.outcome.Outcome.TheVariants.{Went, KernelCall, Fault}
 use Rattle.rv_exec.specs.Registers.{Registers}
-use Rattle.rv_exec.specs.Accesses.{can_read}
-use Rattle.rv_exec.specs.Effects.{Core, atomic_at, branched, checked, effect, modified, on_registers, store_where, with_registers, with_stored}
-use Rattle.rv_exec.specs.Laws.{KeepsUnlessWent, OnlyEcallCalls, OthersGainNothing, RefusalsChangeNothing}
+use Rattle.rv_exec.specs.Accesses.{can_read, can_write}
+use Rattle.rv_exec.specs.Effects.{Core, advanced, atomic_at, branched, checked, effect, modified, on_registers, store_where, with_registers, with_stored}
+use Rattle.rv_exec.specs.Laws.{KeepsAlignment, KeepsRights, KeepsUnlessWent, OnlyEcallCalls, OthersGainNothing, RefusalsChangeNothing}
 
 -- What holds of the effect of an instruction other than ECALL: where it did not go on all is as it was, what another
 -- thread has reserved afterwards it had reserved before, and it is no call of the kernel.
@@ -26,33 +28,44 @@ pub record IsLawful (tid : ℕ) (c : Core) (e : Outcome × Core) : Type 0 where
   pub kept : KeepsUnlessWent e.0 c e.1
   pub others : (other : ℕ) → (other ≡ tid → ⊥) → is_some (e.1.held other) ≡ true → e.1.held other ≡ c.held other
   pub no_call : e.0 ≡ KernelCall → ⊥
+  pub rights : e.1.memory.rights ≡ c.memory.rights
+  pub aligned : c.registers.pc % 4 ≡ 0 → e.1.registers.pc % 4 ≡ 0
+
+-- the place behind an instruction, and the target of a jump
+next_aligned : (pc : ℕ) → pc % 4 ≡ 0 → ((pc + 4) % 2 ^ 32) % 4 ≡ 0
+next_aligned pc even = omega arith
+
+target_aligned : (target : ℕ) → nat_eq (target % 4) 0 ≡ true → target % 4 ≡ 0
+target_aligned target is = grind (arith, nat_tests)
 
 fault_lawful : (tid : ℕ) (kind : FaultKind) (c : Core) → IsLawful tid c (Fault kind, c)
-fault_lawful tid kind c = record { kept = refl; others = λ other differs some. refl; no_call = λ e. cc }
+fault_lawful tid kind c = record { kept = refl; others = λ other differs some. refl; no_call = λ e. cc; rights = refl; aligned = λ even. even }
 
 -- an instruction that goes on and leaves the reservations
-went_lawful : (tid : ℕ) (c : Core) (access : Access) (new : Core) → new.held ≡ c.held → IsLawful tid c (Went access, new)
-went_lawful tid c access new same = record {
+went_lawful : (tid : ℕ) (c : Core) (access : Access) (new : Core) → new.held ≡ c.held → new.memory.rights ≡ c.memory.rights → (c.registers.pc % 4 ≡ 0 → new.registers.pc % 4 ≡ 0) → IsLawful tid c (Went access, new)
+went_lawful tid c access new same rights aligned = record {
   kept = tt;
   others = λ other differs some. ap (λ (h : Reserved). h other) same;
   no_call = λ e. cc;
+  rights = rights;
+  aligned = aligned;
 }
 
 -- an instruction that goes on and takes reservations away
-dropped_lawful : (tid : ℕ) (c : Core) (access : Access) (new : Core) → ((other : ℕ) → (other ≡ tid → ⊥) → is_some (new.held other) ≡ true → new.held other ≡ c.held other) → IsLawful tid c (Went access, new)
-dropped_lawful tid c access new others = record { kept = tt; others = others; no_call = λ e. cc }
+dropped_lawful : (tid : ℕ) (c : Core) (access : Access) (new : Core) → ((other : ℕ) → (other ≡ tid → ⊥) → is_some (new.held other) ≡ true → new.held other ≡ c.held other) → new.memory.rights ≡ c.memory.rights → (c.registers.pc % 4 ≡ 0 → new.registers.pc % 4 ≡ 0) → IsLawful tid c (Went access, new)
+dropped_lawful tid c access new others rights aligned = record { kept = tt; others = others; no_call = λ e. cc; rights = rights; aligned = aligned }
 
 checked_lawful : (tid : ℕ) (b : Bool) (kind : FaultKind) (c : Core) (rest : Unit {0} → Outcome × Core) → IsLawful tid c (rest tt) → IsLawful tid c (checked b kind c rest)
 checked_lawful tid true kind c rest own = own
 checked_lawful tid false kind c rest own = fault_lawful tid kind c
 
-registers_lawful : (tid : ℕ) (b : Bool) (kind : FaultKind) (c : Core) (access : Access) (r : Registers) → IsLawful tid c (on_registers c (checked b kind c.registers (λ _. (Went access, r))))
-registers_lawful tid true kind c access r = went_lawful tid c access (with_registers r c) refl
-registers_lawful tid false kind c access r = fault_lawful tid kind c
+registers_lawful : (tid : ℕ) (b : Bool) (kind : FaultKind) (c : Core) (access : Access) (r : Registers) → (b ≡ true → c.registers.pc % 4 ≡ 0 → r.pc % 4 ≡ 0) → IsLawful tid c (on_registers c (checked b kind c.registers (λ _. (Went access, r))))
+registers_lawful tid true kind c access r aligned = went_lawful tid c access (with_registers r c) refl refl (aligned refl)
+registers_lawful tid false kind c access r aligned = fault_lawful tid kind c
 
 branched_lawful : (tid : ℕ) (b : Bool) (target : ℕ) (c : Core) → IsLawful tid c (on_registers c (branched b target c.registers))
-branched_lawful tid true target c = registers_lawful tid (nat_eq (target % 4) 0) _ c _ _
-branched_lawful tid false target c = went_lawful tid c _ _ refl
+branched_lawful tid true target c = registers_lawful tid (nat_eq (target % 4) 0) _ c _ _ (λ is even. target_aligned target is)
+branched_lawful tid false target c = went_lawful tid c _ _ refl refl (next_aligned c.registers.pc)
 
 -- a reservation that is still there
 left_of : (b : Bool) (o : Option ℕ) → is_some (cond b None o) ≡ true → cond b None o ≡ o
@@ -63,24 +76,27 @@ left_twice : (b d : Bool) (o : Option ℕ) → is_some (cond d None (cond b None
 left_twice b true o some = absurd (cc)
 left_twice b false o some = left_of b o some
 
-stored_lawful : (tid : ℕ) (c : Core) (access : Access) (size : Size) (at n : ℕ) (r : Registers) → IsLawful tid c (Went access, with_stored tid size at n (with_registers r c))
-stored_lawful tid c access size at n r =
-    dropped_lawful tid c access _ (λ other differs some. left_of (is_dropped c.held (Some tid) (at / 4) (word_count at (byte_count size)) other) (c.held other) some)
+stored_lawful : (tid : ℕ) (c : Core) (access : Access) (size : Size) (at n : ℕ) (r : Registers) → (c.registers.pc % 4 ≡ 0 → r.pc % 4 ≡ 0) → IsLawful tid c (Went access, with_stored tid size at n (with_registers r c))
+stored_lawful tid c access size at n r aligned =
+    dropped_lawful tid c access _ (λ other differs some. left_of (is_dropped c.held (Some tid) (at / 4) (word_count at (byte_count size)) other) (c.held other) some) refl aligned
 
-reserved_lawful : (tid rd at : ℕ) (c : Core) (access : Access) (new : Core) → new.held ≡ with_word c.held tid (at / 4) → IsLawful tid c (Went access, new)
-reserved_lawful tid rd at c access new is =
-    dropped_lawful tid c access new (λ other differs some. ap (λ (h : Reserved). h other) is ∙ ap (λ (b : Bool). cond b (Some (at / 4)) (c.held other)) (ne_eqb other tid differs))
+stored_behind : (tid : ℕ) (c : Core) (access : Access) (size : Size) (at n : ℕ) → IsLawful tid c (Went access, with_stored tid size at n (with_registers (advanced c.registers) c))
+stored_behind tid c access size at n = stored_lawful tid c access size at n (advanced c.registers) (next_aligned c.registers.pc)
+
+reserved_lawful : (tid rd at : ℕ) (c : Core) (access : Access) (new : Core) → new.held ≡ with_word c.held tid (at / 4) → new.memory.rights ≡ c.memory.rights → (c.registers.pc % 4 ≡ 0 → new.registers.pc % 4 ≡ 0) → IsLawful tid c (Went access, new)
+reserved_lawful tid rd at c access new is rights aligned =
+    dropped_lawful tid c access new (λ other differs some. ap (λ (h : Reserved). h other) is ∙ ap (λ (b : Bool). cond b (Some (at / 4)) (c.held other)) (ne_eqb other tid differs)) rights aligned
 
 conditional_lawful : (b : Bool) (tid rd at n : ℕ) (c : Core) → IsLawful tid c (store_where b tid rd at n (record c { held = without_thread c.held tid }))
 conditional_lawful true tid rd at n c =
-    dropped_lawful tid c _ _ (λ other differs some. left_twice (other == tid) (is_dropped (without_thread c.held tid) (Some tid) (at / 4) (word_count at 4) other) (c.held other) some)
-conditional_lawful false tid rd at n c = dropped_lawful tid c _ _ (λ other differs some. left_of (other == tid) (c.held other) some)
+    dropped_lawful tid c _ _ (λ other differs some. left_twice (other == tid) (is_dropped (without_thread c.held tid) (Some tid) (at / 4) (word_count at 4) other) (c.held other) some) refl (next_aligned c.registers.pc)
+conditional_lawful false tid rd at n c = dropped_lawful tid c _ _ (λ other differs some. left_of (other == tid) (c.held other) some) refl (next_aligned c.registers.pc)
 
 modified_lawful : (tid : ℕ) (op : AtomicOp) (rd at n : ℕ) (c : Core) → IsLawful tid c (modified tid op rd at n c)
-modified_lawful tid op rd at n c = search (checked_lawful, stored_lawful)
+modified_lawful tid op rd at n c = checked_lawful tid (can_read c.memory at 4 && can_write c.memory at 4) fault.Store c _ (stored_lawful tid c _ Four at _ _ (next_aligned c.registers.pc))
 
 atomic_at_lawful : (tid : ℕ) (op : AtomicOp) (rd at n : ℕ) (c : Core) → IsLawful tid c (atomic_at tid op rd at n c)
-atomic_at_lawful tid Lr rd at n c = checked_lawful tid (can_read c.memory at 4) fault.Load c _ (reserved_lawful tid rd at c _ _ refl)
+atomic_at_lawful tid Lr rd at n c = checked_lawful tid (can_read c.memory at 4) fault.Load c _ (reserved_lawful tid rd at c _ _ refl refl (next_aligned c.registers.pc))
 atomic_at_lawful tid Sc rd at n c = search (checked_lawful, conditional_lawful)
 atomic_at_lawful tid Swap rd at n c = modified_lawful tid Swap rd at n c
 atomic_at_lawful tid Add rd at n c = modified_lawful tid Add rd at n c
@@ -94,18 +110,18 @@ atomic_at_lawful tid Maxu rd at n c = modified_lawful tid Maxu rd at n c
 
 -- each instruction but ECALL
 pub effect_lawful : (tid : ℕ) (i : Instr) (c : Core) → (i ≡ Ecall → ⊥) → IsLawful tid c (effect tid i c)
-effect_lawful tid (Lui rd imm) c other = search went_lawful
-effect_lawful tid (Auipc rd imm) c other = search went_lawful
-effect_lawful tid (Jal rd offset) c other = search registers_lawful
-effect_lawful tid (Jalr rd base offset) c other = search registers_lawful
+effect_lawful tid (Lui rd imm) c other = went_lawful tid c _ _ refl refl (next_aligned c.registers.pc)
+effect_lawful tid (Auipc rd imm) c other = went_lawful tid c _ _ refl refl (next_aligned c.registers.pc)
+effect_lawful tid (Jal rd offset) c other = registers_lawful tid _ _ c _ _ (λ is even. target_aligned _ is)
+effect_lawful tid (Jalr rd base offset) c other = registers_lawful tid _ _ c _ _ (λ is even. target_aligned _ is)
 effect_lawful tid (Branch test left right offset) c other = search branched_lawful
-effect_lawful tid (Load kind rd base offset) c other = search registers_lawful
-effect_lawful tid (Store kind from base offset) c other = search (checked_lawful, stored_lawful)
-effect_lawful tid (Immediate op rd left imm) c other = search went_lawful
-effect_lawful tid (Register op rd left right) c other = search went_lawful
+effect_lawful tid (Load kind rd base offset) c other = registers_lawful tid _ _ c _ _ (λ _. next_aligned c.registers.pc)
+effect_lawful tid (Store kind from base offset) c other = search (checked_lawful, stored_behind)
+effect_lawful tid (Immediate op rd left imm) c other = went_lawful tid c _ _ refl refl (next_aligned c.registers.pc)
+effect_lawful tid (Register op rd left right) c other = went_lawful tid c _ _ refl refl (next_aligned c.registers.pc)
 effect_lawful tid (Atomic op rd base from order) c other = search (checked_lawful, atomic_at_lawful)
-effect_lawful tid Fence c other = search went_lawful
-effect_lawful tid FenceI c other = search went_lawful
+effect_lawful tid Fence c other = went_lawful tid c _ _ refl refl (next_aligned c.registers.pc)
+effect_lawful tid FenceI c other = went_lawful tid c _ _ refl refl (next_aligned c.registers.pc)
 effect_lawful tid Ecall c other = absurd (other refl)
 effect_lawful tid Ebreak c other = fault_lawful tid fault.Break c
 
@@ -120,6 +136,15 @@ effect_calls tid i c = (λ e. absurd ((effect_lawful tid i c (λ is. cc)).no_cal
 pub effect_others : OthersGainNothing
 effect_others tid Ecall c other differs some = refl
 effect_others tid i c other differs some = (effect_lawful tid i c (λ e. cc)).others other differs some
+
+-- an instruction leaves the rights of all pages, and the pc a multiple of 4
+pub effect_rights : KeepsRights
+effect_rights tid Ecall c = refl
+effect_rights tid i c = (effect_lawful tid i c (λ e. cc)).rights
+
+pub effect_aligned : KeepsAlignment
+effect_aligned tid Ecall c even = even
+effect_aligned tid i c even = (effect_lawful tid i c (λ e. cc)).aligned even
 
 held_before : (tid : ℕ) (i : Instr) (old new : Core) (answer : Outcome) (other : ℕ) → (answer, new) ≡ effect tid i old → (other ≡ tid → ⊥) → is_some (new.held other) ≡ true → is_some (old.held other) ≡ true
 held_before tid i old new answer other does differs some =

@@ -1,5 +1,5 @@
 -- What holds of every instruction, state and thread.
-use Rattle.std.specs.Prelude.{◌≡◌, ◌↔◌, ℕ, true, is_some}
+use Rattle.std.specs.Prelude.{◌≡◌, ◌↔◌, ℕ, ◌%◌, true, is_some}
 use Rattle.rv_isa.specs.declared.instruction.Instr.{Instr}
 use Rattle.rv_isa.specs.declared.instruction.Instr.TheVariants.{Ecall}
 use Rattle.rv_exec.specs.declared.outcome.Outcome.{Outcome}
@@ -25,3 +25,11 @@ abbrev pub OthersGainNothing : Type 0
 OthersGainNothing =
     (tid : ℕ) (i : Instr) (c : Core) (other : ℕ) → ¬ (other ≡ tid) → is_some ((effect tid i c).1.held other) ≡ true
     → (effect tid i c).1.held other ≡ c.held other
+
+-- the rights of all pages are as they were
+abbrev pub KeepsRights : Type 0
+KeepsRights = (tid : ℕ) (i : Instr) (c : Core) → (effect tid i c).1.memory.rights ≡ c.memory.rights
+
+-- the pc stays a multiple of 4
+abbrev pub KeepsAlignment : Type 0
+KeepsAlignment = (tid : ℕ) (i : Instr) (c : Core) → c.registers.pc % 4 ≡ 0 → (effect tid i c).1.registers.pc % 4 ≡ 0

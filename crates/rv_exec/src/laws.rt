@@ -1,10 +1,12 @@
 //! What holds of every instruction.
-ghost use Rattle.rv_exec.specs.Laws.{RefusalsChangeNothing, OnlyEcallCalls, OthersGainNothing};
+ghost use Rattle.rv_exec.specs.Laws.{RefusalsChangeNothing, OnlyEcallCalls, OthersGainNothing, KeepsRights, KeepsAlignment};
 
-/// A fault or a call of the kernel changes nothing, only ECALL calls the kernel, and an instruction gives no other thread
-/// a reservation.
+/// A fault or a call of the kernel changes nothing, only ECALL calls the kernel, an instruction gives no other thread a
+/// reservation, the rights of pages stay as they are, and the pc stays a multiple of 4.
 pub fn every_instruction()
     ensures kept { RefusalsChangeNothing }
     ensures calls { OnlyEcallCalls }
     ensures others { OthersGainNothing }
+    ensures rights { KeepsRights }
+    ensures aligned { KeepsAlignment }
 {}

@@ -1,5 +1,5 @@
 //! A list of events with room made ahead, so that adding one takes no memory.
-ghost use Rattle.std.specs.Prelude.{◌≡◌, ◌≤◌, ◌+◌, ◌++◌, ◌∷◌, [], length, OnOk, IfOk};
+ghost use Rattle.std.specs.Prelude.{◌≡◌, ◌≤◌, ◌+◌, ◌++◌, ◌∷◌, [], length, take, OnOk, IfOk};
 
 use crate::Event;
 use std::alloc::{AllocError, Global};
@@ -63,6 +63,14 @@ impl Events {
         ensures room { length self.old.list + self.old.room ≤ self.new.room }
     {
         self.items.clear();
+    }
+
+    /// Keeps the first `n` events. The room of the others is free again.
+    pub fn truncate(&mut self, n: usize)
+        ensures list { self.new.list ≡ take n self.old.list }
+        ensures room { self.old.room ≤ self.new.room }
+    {
+        self.items.truncate(n);
     }
 
     /// The events.

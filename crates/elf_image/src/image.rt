@@ -1,0 +1,116 @@
+//! An executable that can be run, and its segments.
+ghost use Rattle.std.specs.Prelude.{◌≡◌, ◌<◌, ◌==◌, None, length, map, option_map, slice_get, MatchOption};
+ghost use Rattle.std.specs.List.{find};
+ghost use Rattle.elf_image.specs.Fields.{IsRising};
+ghost use Rattle.elf_image.specs.Image.{IsSound, page_count, name_of};
+
+use guest_words::{Addr, Name, Rights};
+use std::marker::Model;
+
+/// A load segment: `size` bytes of memory from `place` on. The first of them are `bytes`, its part of the file, and the
+/// others are 0.
+#[derive(Drop)]
+pub struct Segment {
+    pub place: Addr,
+    pub size: u32,
+    pub rights: Rights,
+    pub bytes: Vec<u8>,
+}
+
+impl Model for Segment {
+    ghost use Rattle.elf_image.specs.Image as spec;
+
+    ghost Value = { spec.Segment };
+
+    ghost view = { λ s. record { place = s.place; size = s.size; rights = s.rights; bytes = s.bytes.items } };
+}
+
+/// An executable that can be run.
+#[derive(Drop)]
+pub struct Image {
+    entry: Addr,
+    header_place: Addr,
+    header_count: u32,
+    segments: Vec<Segment>,
+    pages: u32,
+    // By rising address, each address once.
+    names: Vec<(Addr, Name)>,
+}
+
+impl Model for Image {
+    ghost use Rattle.elf_image.specs.Image.{Executable};
+    ghost use Rattle.elf_image.specs.Fields.{IsFilled};
+
+    ghost Value = { Executable };
+
+    ghost view = { λ i. record {
+      entry = i.entry;
+      header_place = i.header_place;
+      header_count = i.header_count;
+      segments = i.segments.items;
+      names = i.names.items;
+    } };
+
+    ghost invariant = { λ i. IsFilled (record {
+      entry = i.entry;
+      header_place = i.header_place;
+      header_count = i.header_count;
+      segments = i.segments.items;
+      names = i.names.items;
+    }) i.pages };
+}
+
+/// Where the address stands among rising ones.
+fn search(names: &[(Addr, Name)], at: Addr) -> Option<usize>
+    requires { IsRising (map (λ n. n.0) names.now) }
+    ensures { MatchOption result (find (λ n. n.0 == at) names.now ≡ None)
+        (λ place. (place < length names.now) × (find (λ n. n.0 == at) names.now ≡ slice_get names.now place)) }
+{
+    names.binary_search_by_key(&at, |named| named.0).ok()
+}
+
+impl Image {
+    /// The address where the executable begins to run.
+    pub fn entry(&self) -> Addr
+        ensures { result ≡ self.now.entry }
+    {
+        self.entry
+    }
+
+    /// The address of the program headers, or 0 where no segment holds them all.
+    pub fn header_place(&self) -> Addr
+        ensures { result ≡ self.now.header_place }
+    {
+        self.header_place
+    }
+
+    /// How many program headers there are.
+    pub fn header_count(&self) -> u32
+        ensures { result ≡ self.now.header_count }
+    {
+        self.header_count
+    }
+
+    /// The load segments in the order of their headers, those without memory left out.
+    pub fn segments(&self) -> &[Segment]
+        ensures same { result.now ≡ self.now.segments }
+        ensures sound { IsSound self.now }
+    {
+        &self.segments
+    }
+
+    /// How many pages of 4096 bytes the segments touch.
+    pub fn page_count(&self) -> u32
+        ensures { result ≡ page_count self.now.segments }
+    {
+        self.pages
+    }
+
+    /// The name of the routine at an address, if it has one.
+    pub fn name_of(&self, at: Addr) -> Option<&Name>
+        ensures { option_map (λ n. n.now) result ≡ name_of self.now at }
+    {
+        let place = search(&self.names, at)?;
+        Some(&self.names[place].1)
+    }
+}

@@ -1,0 +1,8 @@
+//! stub
+#![tactic(auto)]
+
+mod error;
+mod image;
+
+pub use error::ElfError;
+pub use image::{Image, Segment};

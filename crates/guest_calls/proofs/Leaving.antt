@@ -1,0 +1,148 @@
+-- Threads that leave, and those that are woken.
+use Rattle.std.proofs.Common.{◌≡◌, ℕ, zero, suc, ◌<◌, ◌≤◌, ◌+◌, Bool, true, false, cond, List, [], ◌∷◌, ◌++◌, length, map, filter, get_or, drop, Option, Some, None, arith, refl, ap, ap₂, sym, subst, ◌∙◌, inl, inr}
+use Rattle.std.specs.Prelude.{not, ◌&&◌, ◌||◌, ◌==◌}
+use Rattle.std.specs.List.{list_any, find}
+use Rattle.std.specs.Option.{option_map_or}
+use Rattle.std.proofs.lemmas.Bool.{cases_eq, ne_eqb}
+use Rattle.std.proofs.lemmas.Bool.Decides.{nat_tests}
+use Rattle.std.proofs.lemmas.List.{length-map}
+use Rattle.futex_table.specs.declared.waiter.Waiter.{Waiter}
+use Rattle.futex_table.specs.Once.{waits}
+use Rattle.futex_table.specs.Waiting.{woken, after_wake, after_requeue}
+use Rattle.futex_table.proofs.Parts.{waits-filter}
+use Rattle.guest_calls.specs.declared.thread.Thread.{Thread}
+use Rattle.guest_calls.specs.Invariant.{IsState, RisesTo}
+use Rattle.guest_calls.specs.Kernel.{KernelState, is_thread, lives, can_run, other_threads}
+use Rattle.futex_table.specs.Waiting.{all_bits}
+use Rattle.guest_calls.specs.Futex.{wakes}
+use Rattle.guest_calls.specs.Kernel.{has_others}
+use Rattle.guest_calls.specs.Results.{Call, returns, writable, fills_word, when, ◌▷◌}
+use Rattle.guest_calls.specs.Threads.{with_clear_tid, clear_tid, told_end}
+use Rattle.guest_calls.proofs.Rising.{rises_filter}
+
+or_false : (a b : Bool) → (a || b) ≡ false → (a ≡ false) × (b ≡ false)
+or_false true b h = absurd (cc)
+or_false false b h = (refl, h)
+
+and_true : (a b : Bool) → (a && b) ≡ true → (a ≡ true) × (b ≡ true)
+and_true true b h = (refl, h)
+and_true false b h = absurd (cc)
+
+not_true : (b : Bool) → not b ≡ true → b ≡ false
+not_true true h = absurd (cc)
+not_true false h = refl
+
+gone_head : (b : Bool) (q : ℕ) (t : Thread) (rest : List Thread) → (b ≡ false → is_thread q t ≡ false) → list_any (is_thread q) (cond b (t ∷ rest) rest) ≡ false → (is_thread q t ≡ false) × (list_any (is_thread q) rest ≡ false)
+gone_head true q t rest apart gone = or_false (is_thread q t) (list_any (is_thread q) rest) gone
+gone_head false q t rest apart gone = (apart refl, gone)
+
+apart_of : (b : Bool) (n tid q : ℕ) → (n == tid) ≡ b → not b ≡ false → (q ≡ tid → ⊥) → (n == q) ≡ false
+apart_of true n tid q is kept differs = let here : n ≡ tid = grind (arith, nat_tests, is) in ne_eqb n q (λ same. differs (sym same ∙ here))
+apart_of false n tid q is kept differs = absurd (cc)
+
+-- who does not live after another has left did not live before
+still_gone : (ts : List Thread) (tid q : ℕ) → (q ≡ tid → ⊥) → list_any (is_thread q) (filter (λ t. not (is_thread tid t)) ts) ≡ false → list_any (is_thread q) ts ≡ false
+still_gone [] tid q differs gone = refl
+still_gone (t ∷ ts) tid q differs gone =
+    let parts = gone_head (not (is_thread tid t)) q t (filter (λ u. not (is_thread tid u)) ts) (λ kept. apart_of (is_thread tid t) t.tid tid q refl kept differs) gone in
+    ap₂ (λ (a b : Bool). a || b) parts.0 (still_gone ts tid q differs parts.1)
+
+few_cond : (b : Bool) (t : Thread) (rest : List Thread) (n : ℕ) → length rest ≤ n → length (cond b (t ∷ rest) rest) ≤ n + 1
+few_cond true t rest n h = omega (arith, h)
+few_cond false t rest n h = omega (arith, h)
+
+few_left : (test : Thread → Bool) (ts : List Thread) → length (filter test ts) ≤ length ts
+few_left test [] = omega arith
+few_left test (t ∷ ts) = let h = few_cond (test t) t (filter test ts) (length ts) (few_left test ts) in omega (arith, h)
+
+does_not_wait : (k : KernelState) (tid : ℕ) → can_run k tid ≡ true → waits k.waiting tid ≡ false
+does_not_wait k tid can = not_true (waits k.waiting tid) (and_true (lives k tid) (not (waits k.waiting tid)) can).1
+
+-- who can run still can where others are woken
+pub woken_can_run : (k new : KernelState) (at most bits tid : ℕ) → new ≡ record k { waiting = after_wake k.waiting at most bits } → can_run k tid ≡ true → can_run new tid ≡ true
+woken_can_run k new at most bits tid is can =
+    let parts = and_true (lives k tid) (not (waits k.waiting tid)) can in
+    let after = waits-filter (λ w. not (waits (woken k.waiting at most bits) w.tid)) k.waiting tid (does_not_wait k tid can) in
+    ap (λ (s : KernelState). can_run s tid) is ∙ ap₂ (λ (a b : Bool). a && not b) parts.0 after
+
+left_state : (k : KernelState) (tid : ℕ) → IsState k → can_run k tid ≡ true → IsState (record k { threads = other_threads k tid })
+left_state k tid is can = record {
+  rising = rises_filter (λ t. not (is_thread tid t)) 0 k.threads k.last_tid is.rising;
+  few = let h = few_left (λ t. not (is_thread tid t)) k.threads in omega (arith, h, is.few);
+  waiting_live = λ q gone. elim (cases_eq q tid) [
+    | inl same ↦ subst (λ (n : ℕ). waits k.waiting n ≡ false) (sym same) (does_not_wait k tid can)
+    | inr differs ↦ is.waiting_live q (still_gone k.threads tid q differs gone)
+  ];
+  stdin_within = is.stdin_within;
+  files_within = is.files_within;
+}
+
+woken_state : (k : KernelState) (at most bits : ℕ) → IsState k → IsState (record k { waiting = after_wake k.waiting at most bits })
+woken_state k at most bits is = record {
+  rising = is.rising;
+  few = is.few;
+  waiting_live = λ q gone. waits-filter (λ w. not (waits (woken k.waiting at most bits) w.tid)) k.waiting q (is.waiting_live q gone);
+  stdin_within = is.stdin_within;
+  files_within = is.files_within;
+}
+
+find_step : (tid : ℕ) (ts : List Thread) (i : ℕ) (d : Thread) → i < length ts → find (is_thread tid) (drop i ts) ≡ cond (is_thread tid (get_or ts i d)) (Some (get_or ts i d)) (find (is_thread tid) (drop (i + 1) ts))
+find_step tid [] i d inside = absurd (omega arith)
+find_step tid (t ∷ ts) zero d inside = refl
+find_step tid (t ∷ ts) (suc i) d inside = let e : suc i + 1 ≡ suc (i + 1) = omega arith in rw e (find_step tid ts i d (omega arith))
+
+-- where a zero is written, by a search that has come to a place
+pub clear_tid_found : (tid : ℕ) (ts : List Thread) (i : ℕ) (t : Thread) → i < length ts → t ≡ get_or ts i t → t.tid ≡ tid → option_map_or (λ t. t.clear_tid) (find (is_thread tid) (drop i ts)) 0 ≡ t.clear_tid
+clear_tid_found tid ts i t inside is same =
+    let here : is_thread tid (get_or ts i t) ≡ true = let e : (get_or ts i t).tid ≡ tid = ap (λ (u : Thread). u.tid) (sym is) ∙ same in grind (arith, nat_tests, e) in
+    ap (λ (o : Option Thread). option_map_or (λ u. u.clear_tid) o 0) (find_step tid ts i t inside ∙ ap (λ (b : Bool). cond b (Some (get_or ts i t)) (find (is_thread tid) (drop (i + 1) ts))) here)
+    ∙ ap (λ (u : Thread). u.clear_tid) (sym is)
+
+pub clear_tid_passed : (tid : ℕ) (ts : List Thread) (i : ℕ) (t : Thread) → i < length ts → t ≡ get_or ts i t → (t.tid ≡ tid → ⊥) → find (is_thread tid) (drop i ts) ≡ find (is_thread tid) (drop (i + 1) ts)
+clear_tid_passed tid ts i t inside is differs =
+    let apart : (get_or ts i t).tid ≡ tid → ⊥ = λ e. differs (ap (λ (u : Thread). u.tid) is ∙ e) in
+    find_step tid ts i t inside ∙ ap (λ (b : Bool). cond b (Some (get_or ts i t)) (find (is_thread tid) (drop (i + 1) ts))) (ne_eqb (get_or ts i t).tid tid apart)
+
+pub woken_is_state : (k new : KernelState) (at most bits : ℕ) → IsState k → new ≡ record k { waiting = after_wake k.waiting at most bits } → IsState new
+woken_is_state k new at most bits is after = subst IsState (sym after) (woken_state k at most bits is)
+
+pub left_is_state : (k new : KernelState) (tid : ℕ) → IsState k → can_run k tid ≡ true → new ≡ record k { threads = other_threads k tid } → IsState new
+left_is_state k new tid is can after = subst IsState (sym after) (left_state k tid is can)
+
+cleared_tid : (b : Bool) (t u : Thread) → u.tid ≡ t.tid → (cond b u t).tid ≡ t.tid
+cleared_tid true t u same = same
+cleared_tid false t u same = refl
+
+tid_kept : (tid at : ℕ) (t : Thread) → (with_clear_tid tid at t).tid ≡ t.tid
+tid_kept tid at t = cleared_tid (is_thread tid t) t (record t { clear_tid = at }) refl
+
+cleared_rises : (tid at low : ℕ) (ts : List Thread) (last : ℕ) → RisesTo low ts last → RisesTo low (map (with_clear_tid tid at) ts) last
+cleared_rises tid at low [] last h = h
+cleared_rises tid at low (t ∷ ts) last h = (
+  subst (λ (n : ℕ). low < n) (sym (tid_kept tid at t)) h.0,
+  subst (λ (n : ℕ). RisesTo n (map (with_clear_tid tid at) ts) last) (sym (tid_kept tid at t)) (cleared_rises tid at t.tid ts last h.1),
+)
+
+cleared_lives : (tid at q : ℕ) (ts : List Thread) → list_any (is_thread q) (map (with_clear_tid tid at) ts) ≡ list_any (is_thread q) ts
+cleared_lives tid at q [] = refl
+cleared_lives tid at q (t ∷ ts) = ap₂ (λ (n : ℕ) (b : Bool). (n == q) || b) (tid_kept tid at t) (cleared_lives tid at q ts)
+
+cleared_state : (k : KernelState) (tid at : ℕ) → IsState k → IsState (record k { threads = map (with_clear_tid tid at) k.threads })
+cleared_state k tid at is = record {
+  rising = cleared_rises tid at 0 k.threads k.last_tid is.rising;
+  few = simp length-map is.few;
+  waiting_live = λ q gone. is.waiting_live q (sym (cleared_lives tid at q k.threads) ∙ gone);
+  stdin_within = is.stdin_within;
+  files_within = is.files_within;
+}
+
+pub cleared_is_state : (k new : KernelState) (tid at : ℕ) → IsState k → new ≡ record k { threads = map (with_clear_tid tid at) k.threads } → IsState new
+cleared_is_state k new tid at is after = subst IsState (sym after) (cleared_state k tid at is)
+
+-- where an end is told, it is told so
+pub told_where_cleared : (c : Call) (at : ℕ) → at ≡ clear_tid c → has_others c.kernel c.tid ≡ true → (at ≡ 0 → ⊥) → writable c at 4 ≡ true → told_end c ≡ (returns c 0 ▷ fills_word at 0 ▷ wakes at 1 all_bits)
+told_where_cleared c at is others some reach =
+    let set : (at == 0) ≡ false = ne_eqb at 0 some in
+    let cleared : (has_others c.kernel c.tid && (not (at == 0) && writable c at 4)) ≡ true = ap₂ (λ (a b : Bool). a && b) others (ap₂ (λ (a b : Bool). not a && b) set reach) in
+    ap (λ (n : ℕ). when (has_others c.kernel c.tid && (not (n == 0) && writable c n 4)) (λ r. r ▷ fills_word n 0 ▷ wakes n 1 all_bits) (returns c 0)) (sym is)
+    ∙ ap (λ (b : Bool). when b (λ r. r ▷ fills_word at 0 ▷ wakes at 1 all_bits) (returns c 0)) cleared

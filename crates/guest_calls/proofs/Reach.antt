@@ -1,0 +1,79 @@
+-- Bytes in reach, and the events of their copies.
+use Rattle.std.proofs.Common.{◌≡◌, ℕ, zero, suc, ◌<◌, ◌≤◌, ◌+◌, ◌-◌, ◌/◌, ◌%◌, ◌^◌, Bool, true, false, cond, List, [], ◌∷◌, ◌++◌, length, Option, Some, None, arith, refl, ap, ap₂, sym, subst, ◌∙◌, inl, inr}
+use Rattle.std.specs.Prelude.{◌==◌, ◌&&◌, nat_lt, nat_le, is_none}
+use Rattle.std.specs.Option.{option_map_or, option_or}
+use Rattle.std.proofs.lemmas.Bool.{cases_lt}
+use Rattle.std.proofs.lemmas.Bool.Decides.{nat_tests}
+use Rattle.guest_words.specs.declared.rights.Rights.{Rights}
+use Rattle.guest_words.specs.Words.{word_count}
+use Rattle.guest_memory.specs.declared.refusal.MemError.{MemError}
+use Rattle.guest_memory.specs.declared.refusal.Need.{Need}
+use Rattle.guest_memory.specs.declared.refusal.Need.TheVariants as need
+use Rattle.guest_memory.specs.Memory.{Memory, page_refusal, page_rights, byte_refusal, first_refusal, with_bytes, is_among}
+use Rattle.guest_memory.specs.Reserved.{Reserved, after_write, is_dropped}
+use Rattle.guest_memory.proofs.Accesses.{refusal_each}
+use Rattle.rv_exec.specs.Accesses.{can_read, can_write}
+use Rattle.trace_model.specs.declared.event_kinds.Event.{Event}
+use Rattle.trace_model.specs.declared.event_kinds.Event.TheVariants.{Read, Fill}
+use Rattle.guest_calls.specs.Results.{fill_event, read_event, words_touched}
+
+none_of : {T : Type 0} (o : Option T) → is_none o ≡ true → o ≡ None
+none_of None h = refl
+none_of (Some x) h = absurd (cc)
+
+refused_outside : (need : Need) (inside : Bool) (r : Option Rights) → page_refusal need (cond inside r None) ≡ None → inside ≡ true
+refused_outside need true r h = refl
+refused_outside need false r h = absurd (cc)
+
+-- a byte that is not refused lies below 2 ^ 32
+pub below_end : (m : Memory) (need : Need) (at : ℕ) → byte_refusal m need at ≡ None → at < 2 ^ 32
+below_end m need at none =
+    let inside : nat_lt (at / 4096) 1048576 ≡ true = refused_outside need (nat_lt (at / 4096) 1048576) (m.rights (at / 4096)) none in
+    grind (arith, nat_tests, inside)
+
+-- bytes that are not refused end at 2 ^ 32 or below
+pub reach_end : (m : Memory) (need : Need) (at n : ℕ) → first_refusal m need at n ≡ None → 1 ≤ n → at + n ≤ 2 ^ 32
+reach_end m need at n none some =
+    let last : byte_refusal m need (at + (n - 1)) ≡ None = refusal_each m need at n none (n - 1) (omega arith) in
+    let low : at + (n - 1) < 2 ^ 32 = below_end m need (at + (n - 1)) last in
+    omega (arith, low, some)
+
+pub writable_end : (m : Memory) (at n : ℕ) → can_write m at n ≡ true → 1 ≤ n → at + n ≤ 2 ^ 32
+writable_end m at n reach some = reach_end m need.Write at n (none_of (first_refusal m need.Write at n) reach) some
+
+pub readable_end : (m : Memory) (at n : ℕ) → can_read m at n ≡ true → 1 ≤ n → at + n ≤ 2 ^ 32
+readable_end m at n reach some = reach_end m need.Read at n (none_of (first_refusal m need.Read at n) reach) some
+
+-- some bytes give one event
+pub filled_some : (at n : ℕ) → 1 ≤ n → (fill_event at n ≡ Fill (at / 4) (word_count at n) ∷ []) × (words_touched at n ≡ word_count at n)
+filled_some at zero some = absurd (omega arith)
+filled_some at (suc n) some = (refl, refl)
+
+pub filled_none : (at n : ℕ) → n ≡ 0 → (fill_event at n ≡ []) × (words_touched at n ≡ 0)
+filled_none at n none = (rw none refl, rw none refl)
+
+pub read_some : (tid at n : ℕ) → 1 ≤ n → read_event tid at n ≡ Read tid (at / 4) (word_count at n) ∷ []
+read_some tid at zero some = absurd (omega arith)
+read_some tid at (suc n) some = refl
+
+none_among : (first q : ℕ) → is_among first 0 q ≡ false
+none_among first q = elim (cases_lt q first) [
+  | inl low ↦ grind (arith, nat_tests)
+  | inr from ↦ let past : first + 0 ≤ q = omega arith in grind (arith, nat_tests, past)
+]
+
+not_dropped : (first : ℕ) (o : Option ℕ) → cond (option_map_or (is_among first 0) o false) None o ≡ o
+not_dropped first None = refl
+not_dropped first (Some w) = ap (λ (b : Bool). cond b None (Some w)) (none_among first w)
+
+-- a write of no word drops nothing
+pub untouched : (held : Reserved) (first : ℕ) → after_write held None first 0 ≡ held
+untouched held first = λ i q. (not_dropped first (held q)) i
+
+-- writes change no right
+pub refusal_kept : (m : Memory) (need : Need) (to : ℕ) (bytes : List ℕ) (at n : ℕ) → first_refusal (with_bytes m to bytes) need at n ≡ first_refusal m need at n
+refusal_kept m need to bytes at zero = refl
+refusal_kept m need to bytes at (suc n) = ap (λ (o : Option MemError). option_or (byte_refusal m need at) o) (refusal_kept m need to bytes (at + 1) n)
+
+pub writable_kept : (m : Memory) (to : ℕ) (bytes : List ℕ) (at n : ℕ) → can_write (with_bytes m to bytes) at n ≡ can_write m at n
+writable_kept m to bytes at n = ap (λ (o : Option MemError). is_none o) (refusal_kept m need.Write to bytes at n)

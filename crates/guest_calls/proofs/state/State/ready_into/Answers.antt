@@ -1,0 +1,17 @@
+use Rattle.std.proofs.Common.{◌≡◌, ◌<◌, ℕ, ◌≤◌, length, Bool, List, get_or, map, take, subst, sym, ap, refl, arith, ◌∙◌}
+use Rattle.std.specs.Prelude.{not}
+use Rattle.futex_table.specs.Once.{waits}
+use Rattle.guest_words.specs.Ready.{IsAboveLast}
+use Rattle.guest_calls.specs.declared.thread.Thread.{Thread}
+use Rattle.guest_calls.specs.Invariant.{RisesTo}
+use Rattle.guest_calls.proofs.Rising.{above_those_before}
+use Rattle.guest_calls.proofs.state.State.ready_into.Goals as goal
+
+pub push-requires-clause-above : goal.push-requires-clause-above
+push-requires-clause-above c =
+    let f : Thread → ℕ × Bool = λ t. (t.tid, not (waits c.args.self.now.waiting t.tid)) in
+    let all : c.deref-t-items.result.now ≡ c.args.self.now.threads = grind (arith, c.self.view_is, c.deref-t-items.ensures.value) in
+    let rising : RisesTo 0 c.deref-t-items.result.now c.self.inside.last_tid = subst (λ (ts : List Thread). RisesTo 0 ts c.self.inside.last_tid) (sym c.deref-t-items.ensures.value) c.self.invariant.state.rising in
+    let above = above_those_before 0 c.deref-t-items.result.now c.self.inside.last_tid c.loop-t.t-index c.t-item.result f (λ u. refl) rising c.loop-t-test.true in
+    let here = subst (λ (t : Thread). IsAboveLast t.tid (map f (take c.loop-t.t-index c.deref-t-items.result.now))) (sym c.t-item.is) above in
+    subst (λ (xs : List (ℕ × Bool)). IsAboveLast c.t-item.result.tid xs) (sym c.loop-t.invariant) (subst (λ (ts : List Thread). IsAboveLast c.t-item.result.tid (map f (take c.loop-t.t-index ts))) all here)

@@ -1,0 +1,14 @@
+use Rattle.std.proofs.Common.{ap, List, sym, ◌∙◌, arith}
+use Rattle.guest_calls.specs.declared.thread.Thread.{Thread}
+use Rattle.guest_calls.specs.Kernel.{KernelState}
+use Rattle.guest_calls.specs.State.{state_in}
+use Rattle.guest_calls.proofs.Leaving.{left_is_state}
+use Rattle.guest_calls.proofs.state.State.remove.Goals as goal
+
+pub invariant_of-self : goal.invariant_of-self
+invariant_of-self c =
+    let k = state_in c.self.inside in
+    record {
+      room = let h = c.leave_out.ensures.room in let r = c.self.invariant.room in grind (arith, h, r);
+      state = left_is_state k _ c.args.tid c.self.invariant.state (search (c.requires, c.self.view_is)) (ap (λ (ts : List Thread). record k { threads = ts }) c.leave_out.ensures.left);
+    }

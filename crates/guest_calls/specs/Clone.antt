@@ -1,0 +1,74 @@
+-- A new thread: clone(2).
+use Rattle.std.specs.Prelude.{ℕ, ◌+◌, ◌%◌, ◌^◌, Bool, not, ◌&&◌, ◌==◌, nat_le, bit_and, List, [], ◌∷◌, ◌++◌, length, slice_set, if◌then◌else◌}
+use Rattle.rv_exec.specs.Registers.{Registers}
+use Rattle.guest_calls.specs.declared.answer.Answer.TheVariants.{Born}
+use Rattle.guest_calls.specs.Errors.{eagain, efault, enosys}
+use Rattle.guest_calls.specs.Kernel.{KernelState}
+use Rattle.guest_calls.specs.Results.{Call, CallResult, arg, returns, unless, ◌⇒◌, ◌or◌, ◌▷◌, when, answers, changes, fills_word, writable, has}
+
+-- CLONE_VM 0x100, CLONE_SIGHAND 0x800 and CLONE_THREAD 0x10000: a thread of the same process, and no other child
+abbrev pub needed_flags : ℕ
+needed_flags = 0x10900
+
+-- CLONE_SETTLS
+abbrev pub sets_tls : ℕ
+sets_tls = 0x80000
+
+-- CLONE_PARENT_SETTID
+abbrev pub sets_parent : ℕ
+sets_parent = 0x100000
+
+-- CLONE_CHILD_CLEARTID
+abbrev pub clears_child : ℕ
+clears_child = 0x200000
+
+-- CLONE_CHILD_SETTID
+abbrev pub sets_child : ℕ
+sets_child = 0x1000000
+
+-- These, CLONE_FS 0x200, CLONE_FILES 0x400, CLONE_SYSVSEM 0x40000 and CLONE_DETACHED 0x400000; and the low eight bits,
+-- the signal at the child's end, which are not looked at.
+abbrev pub known_flags : ℕ
+known_flags = needed_flags + sets_tls + sets_parent + clears_child + sets_child + 0x200 + 0x400 + 0x40000 + 0x400000 + 0xFF
+
+abbrev pub thread_limit : ℕ
+thread_limit = 32
+
+-- the greatest thread number
+abbrev pub tid_limit : ℕ
+tid_limit = 4194303
+
+-- the caller's registers behind the call, with 0 in a0, the stack in x2 where it is not 0, and with a tls in x4
+abbrev pub child_registers : Registers → ℕ → ℕ → ℕ → Registers
+child_registers r flags stack tls =
+    let regs = slice_set r.regs 10 0 in
+    let regs = if stack == 0 then regs else slice_set regs 2 stack in
+    let regs = if has flags sets_tls then slice_set regs 4 tls else regs in
+    record { pc = (r.pc + 4) % 2 ^ 32; regs = regs }
+
+abbrev pub with_thread : ℕ → ℕ → KernelState → KernelState
+with_thread tid clear_tid k =
+    record k { threads = k.threads ++ record { tid = tid; clear_tid = clear_tid } ∷ []; last_tid = tid }
+
+abbrev pub clone_tests : Call → List (Bool × ℕ)
+clone_tests c =
+    let flags = arg c 0 in
+    not (bit_and flags needed_flags == needed_flags) ⇒ enosys
+    or not (bit_and flags known_flags == flags) ⇒ enosys
+    or nat_le thread_limit (length c.kernel.threads) ⇒ eagain
+    or c.kernel.last_tid == tid_limit ⇒ eagain
+    or has flags sets_parent && not (writable c (arg c 2) 4) ⇒ efault
+    or has flags sets_child && not (writable c (arg c 4) 4) ⇒ efault
+
+abbrev pub clone : Call → CallResult
+clone c =
+    let flags = arg c 0 in
+    let parent = arg c 2 in
+    let child = arg c 4 in
+    let tid = c.kernel.last_tid + 1 in
+    unless c (clone_tests c)
+    λ _. returns c tid
+    ▷ when (has flags sets_parent) (fills_word parent tid)
+    ▷ when (has flags sets_child) (fills_word child tid)
+    ▷ changes (with_thread tid (if has flags clears_child then child else 0))
+    ▷ answers (Born tid (child_registers c.registers flags (arg c 1) (arg c 3)))

@@ -1,0 +1,160 @@
+-- The calls on files: openat(2), close(2), _llseek(2), read(2), write(2).
+use Rattle.std.specs.Prelude.{ℕ, ℤ, ◌+◌, ◌-◌, ◌*◌, ◌^◌, pos, ◌+ℤ◌, int_lt, unsigned_abs, Bool, true, false, not, ◌||◌, ◌==◌, nat_lt, min, List, [], length, take, drop, slice_index_or, is_none, unwrap_or, Option, Some, None, if◌then◌else◌}
+use Rattle.std.specs.List.{position}
+use Rattle.std.specs.Option.{option_map_or}
+use Rattle.std.specs.Int.{w64, cast_signed, to_le_bytes}
+use Rattle.guest_memory.specs.Memory.{Memory, bytes_at}
+use Rattle.rv_exec.specs.Accesses.{can_read}
+use Rattle.guest_calls.specs.declared.descriptor.Descriptor.{Descriptor}
+use Rattle.guest_calls.specs.declared.descriptor.Descriptor.TheVariants.{Closed, StandardInput, Output, InputFile}
+use Rattle.guest_calls.specs.Errors.{enoent, ebadf, eacces, efault, einval, emfile, espipe, enametoolong}
+use Rattle.guest_calls.specs.Inputs.{Input, is_named}
+use Rattle.guest_calls.specs.Kernel.{KernelState, descriptor, with_descriptor}
+use Rattle.guest_calls.specs.Search.{first_passing}
+use Rattle.guest_calls.specs.Results.{Call, CallResult, arg, returns, unless, ◌⇒◌, ◌or◌, ◌▷◌, changes, sets, reads, fills, puts, readable, writable, has}
+
+-- ---- descriptors
+abbrev pub is_closed : Descriptor → Bool
+is_closed Closed = true
+is_closed _ = false
+
+abbrev pub is_input_file : Descriptor → Bool
+is_input_file (InputFile _ _) = true
+is_input_file _ = false
+
+-- standard input or an input file
+abbrev pub is_source : Descriptor → Bool
+is_source StandardInput = true
+is_source (InputFile _ _) = true
+is_source _ = false
+
+-- the channel of output, 1 or 2
+abbrev pub channel : Descriptor → Option ℕ
+channel (Output n) = Some n
+channel _ = None
+
+-- the bytes of an input, by its place
+abbrev pub input_bytes : KernelState → ℕ → List ℕ
+input_bytes k input = (slice_index_or k.inputs input (record { name = []; bytes = [] })).bytes
+
+-- the bytes from the position on, of which there is none past the end
+abbrev pub bytes_left : KernelState → Descriptor → List ℕ
+bytes_left k StandardInput = drop k.stdin_position k.stdin
+bytes_left k (InputFile input position) = drop position (input_bytes k input)
+bytes_left k _ = []
+
+-- the position of the number moves by so many bytes
+abbrev pub advanced : Descriptor → ℕ → ℕ → KernelState → KernelState
+advanced StandardInput fd n k = record k { stdin_position = k.stdin_position + n }
+advanced (InputFile input position) fd n k = with_descriptor k fd (InputFile input (position + n))
+advanced _ fd n k = k
+
+-- ---- openat
+-- a path with its zero byte is no longer than this
+abbrev pub path_limit : ℕ
+path_limit = 4096
+
+-- O_ACCMODE 3, O_CREAT 0x40 and O_TRUNC 0x200: none of these bits may be set
+abbrev pub writing_flags : ℕ
+writing_flags = 0x243
+
+-- a path ends at a byte that can't be read or is zero
+abbrev pub ends_path : Memory → ℕ → Bool
+ends_path m at = not (can_read m at 1) || m.byte at == 0
+
+-- the first of them from the path on, among as many bytes as a path can have
+abbrev pub path_end : Memory → ℕ → Option ℕ
+path_end m path = first_passing (ends_path m) path path_limit
+
+-- the path's bytes, up to where it ends
+abbrev pub path_name : Memory → ℕ → List ℕ
+path_name m path = bytes_at m path (unwrap_or (path_end m path) path - path)
+
+-- the place of the input with the path's name, if there is one
+abbrev pub input_place : Call → ℕ → Option ℕ
+input_place c path = position (is_named (path_name c.memory path)) c.kernel.inputs
+
+-- the least number that is free, if one is
+abbrev pub least_free : KernelState → Option ℕ
+least_free k = position is_closed k.descriptors
+
+abbrev pub openat_tests : Call → List (Bool × ℕ)
+openat_tests c =
+    let path = arg c 1 in
+    option_map_or (λ at. not (can_read c.memory at 1)) (path_end c.memory path) false ⇒ efault
+    or is_none (path_end c.memory path) ⇒ enametoolong
+    or is_none (input_place c path) ⇒ enoent
+    or has (arg c 2) writing_flags ⇒ eacces
+    or is_none (least_free c.kernel) ⇒ emfile
+
+-- the path is read with its zero byte
+abbrev pub openat : Call → CallResult
+openat c =
+    let path = arg c 1 in
+    let fd = unwrap_or (least_free c.kernel) 0 in
+    unless c (openat_tests c)
+    λ _. returns c fd
+    ▷ reads c.tid path (unwrap_or (path_end c.memory path) path - path + 1)
+    ▷ sets fd (InputFile (unwrap_or (input_place c path) 0) 0)
+
+-- ---- close
+abbrev pub close : Call → CallResult
+close c = unless c (is_closed (descriptor c.kernel (arg c 0)) ⇒ ebadf) λ _. returns c 0 ▷ sets (arg c 0) Closed
+
+-- ---- _llseek
+-- what an offset is counted from: the start 0, the position 1 or the end 2
+abbrev pub origin : KernelState → Descriptor → ℕ → ℕ
+origin k (InputFile input position) whence =
+    if whence == 1 then position else (if whence == 2 then length (input_bytes k input) else 0)
+origin k _ whence = 0
+
+abbrev pub with_position : Descriptor → ℕ → Descriptor
+with_position (InputFile input _) position = InputFile input position
+with_position d position = d
+
+-- the new position; the offset is signed, in two words of which the higher comes first
+abbrev pub target : KernelState → Descriptor → ℕ → ℕ → ℕ → ℤ
+target k file high low whence = pos (origin k file whence) +ℤ cast_signed w64 (high * 2 ^ 32 + low)
+
+-- it is below 0, or no signed 64-bit number
+abbrev pub is_out_of_range : ℤ → Bool
+is_out_of_range position = int_lt position (pos 0) || int_lt (pos (2 ^ 63 - 1)) position
+
+abbrev pub llseek_tests : Call → List (Bool × ℕ)
+llseek_tests c =
+    let file = descriptor c.kernel (arg c 0) in
+    is_closed file ⇒ ebadf
+    or not (is_input_file file) ⇒ espipe
+    or nat_lt 2 (arg c 4) ⇒ einval
+    or is_out_of_range (target c.kernel file (arg c 1) (arg c 2) (arg c 4)) ⇒ einval
+    or not (writable c (arg c 3) 8) ⇒ efault
+
+abbrev pub llseek : Call → CallResult
+llseek c =
+    let file = descriptor c.kernel (arg c 0) in
+    let position = unsigned_abs (target c.kernel file (arg c 1) (arg c 2) (arg c 4)) in
+    unless c (llseek_tests c)
+    λ _. returns c 0 ▷ sets (arg c 0) (with_position file position) ▷ fills (arg c 3) (to_le_bytes w64 position)
+
+-- ---- read and write
+-- the most bytes that one call writes
+abbrev pub write_limit : ℕ
+write_limit = 65536
+
+abbrev pub read : Call → CallResult
+read c =
+    let file = descriptor c.kernel (arg c 0) in
+    let bytes = take (arg c 2) (bytes_left c.kernel file) in
+    unless c (
+    not (is_source file) ⇒ ebadf
+    or not (writable c (arg c 1) (length bytes)) ⇒ efault
+    ) λ _. returns c (length bytes) ▷ fills (arg c 1) bytes ▷ changes (advanced file (arg c 0) (length bytes))
+
+abbrev pub write : Call → CallResult
+write c =
+    let out = channel (descriptor c.kernel (arg c 0)) in
+    let n = min (arg c 2) write_limit in
+    unless c (
+    is_none out ⇒ ebadf
+    or not (readable c (arg c 1) n) ⇒ efault
+    ) λ _. returns c n ▷ reads c.tid (arg c 1) n ▷ puts (unwrap_or out 0) (bytes_at c.memory (arg c 1) n)

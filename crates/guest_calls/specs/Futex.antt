@@ -1,0 +1,110 @@
+-- Waiting at a word and waking: futex(2), with 64-bit times.
+use Rattle.std.specs.Prelude.{ℕ, ◌+◌, ◌-◌, ◌%◌, ◌^◌, Bool, true, false, not, ◌&&◌, ◌==◌, bit_and, List, [], ◌∷◌, length, Option}
+use Rattle.std.specs.Option.{option_map, option_map_or}
+use Rattle.std.specs.List.{find}
+use Rattle.futex_table.specs.Waiting.{all_bits, after_wait, woken, after_wake, shifted, after_requeue}
+use Rattle.guest_calls.specs.declared.answer.Answer.TheVariants.{Back, Block}
+use Rattle.guest_calls.specs.declared.operation.Operation.{Operation}
+use Rattle.guest_calls.specs.declared.operation.Operation.TheVariants.{Wait, Wake, Requeue, CmpRequeue, WaitBitset, WakeBitset}
+use Rattle.guest_calls.specs.Errors.{eagain, efault, einval, enosys}
+use Rattle.guest_calls.specs.Results.{Call, CallResult, arg, returns, unless, ◌⇒◌, ◌or◌, ◌▷◌, either, answers, changes, reads, readable, word, has}
+
+abbrev pub operations : List (ℕ × Operation)
+operations = (0, Wait) ∷ (1, Wake) ∷ (3, Requeue) ∷ (4, CmpRequeue) ∷ (9, WaitBitset) ∷ (10, WakeBitset) ∷ []
+
+abbrev pub operation_numbered : ℕ → Option Operation
+operation_numbered n = option_map (λ row. row.1) (find (λ row. row.0 == n) operations)
+
+-- FUTEX_PRIVATE_FLAG 128 and FUTEX_CLOCK_REALTIME 256 are no part of the operation's number
+abbrev pub operation : Call → Option Operation
+operation c = operation_numbered (bit_and (arg c 1) (2 ^ 32 - 1 - 128 - 256))
+
+abbrev pub is_wait : Operation → Bool
+is_wait Wait = true
+is_wait WaitBitset = true
+is_wait _ = false
+
+abbrev pub is_requeue : Operation → Bool
+is_requeue Requeue = true
+is_requeue CmpRequeue = true
+is_requeue _ = false
+
+abbrev pub has_bitset : Operation → Bool
+has_bitset WaitBitset = true
+has_bitset WakeBitset = true
+has_bitset _ = false
+
+-- the waits and CMP_REQUEUE look at the word
+abbrev pub reads_word : Operation → Bool
+reads_word Wait = true
+reads_word WaitBitset = true
+reads_word CmpRequeue = true
+reads_word _ = false
+
+-- ---- the arguments
+abbrev pub futex_at : Call → ℕ
+futex_at c = arg c 0
+
+-- how many to wake, or what the word has to be
+abbrev pub futex_value : Call → ℕ
+futex_value c = arg c 2
+
+-- how many to move, or the address of a wait's time limit
+abbrev pub futex_limit : Call → ℕ
+futex_limit c = arg c 3
+
+abbrev pub futex_to : Call → ℕ
+futex_to c = arg c 4
+
+-- the bits to meet, or what the word has to be for CMP_REQUEUE
+abbrev pub futex_value3 : Call → ℕ
+futex_value3 c = arg c 5
+
+-- ---- the effects
+-- the word is read; where it is not the value, the answer is EAGAIN, and the read stays
+abbrev pub compares : Call → ℕ → (CallResult → CallResult) → CallResult → CallResult
+compares c value effect r =
+    r ▷ reads c.tid (futex_at c) 4 ▷ either (word c (futex_at c) == value) effect (answers (Back eagain))
+
+-- the thread begins to wait, with these bits
+abbrev pub waits_for : Call → ℕ → CallResult → CallResult
+waits_for c bits r =
+    r ▷ changes (λ k. record k { waiting = after_wait k.waiting (futex_at c) c.tid bits }) ▷ answers Block
+
+-- the first `most` that wait at the address and meet the bits are woken
+abbrev pub wakes : ℕ → ℕ → ℕ → CallResult → CallResult
+wakes at most bits r = r ▷ changes (λ k. record k { waiting = after_wake k.waiting at most bits })
+
+-- the first are woken, and the next are moved to the other address
+abbrev pub requeues : Call → CallResult → CallResult
+requeues c r =
+    r ▷ changes (λ k. record k { waiting = after_requeue k.waiting (futex_at c) (futex_value c) (futex_limit c) (futex_to c) })
+
+abbrev pub count_woken : Call → ℕ → ℕ
+count_woken c bits = length (woken c.kernel.waiting (futex_at c) (futex_value c) bits)
+
+abbrev pub count_shifted : Call → ℕ
+count_shifted c = length (shifted c.kernel.waiting (futex_at c) (futex_value c) (futex_limit c))
+
+abbrev pub performed : Operation → Call → CallResult
+performed Wait c = returns c 0 ▷ compares c (futex_value c) (waits_for c all_bits)
+performed WaitBitset c = returns c 0 ▷ compares c (futex_value c) (waits_for c (futex_value3 c))
+performed Wake c = returns c (count_woken c all_bits) ▷ wakes (futex_at c) (futex_value c) all_bits
+performed WakeBitset c = returns c (count_woken c (futex_value3 c)) ▷ wakes (futex_at c) (futex_value c) (futex_value3 c)
+performed Requeue c = returns c (count_woken c all_bits) ▷ requeues c
+performed CmpRequeue c = returns c (count_woken c all_bits + count_shifted c) ▷ compares c (futex_value3 c) (requeues c)
+
+abbrev pub futex_tests : Operation → Call → List (Bool × ℕ)
+futex_tests o c =
+    has (arg c 1) 256 && not (is_wait o) ⇒ enosys
+    or not (futex_at c % 4 == 0) ⇒ einval
+    or is_requeue o && not (futex_to c % 4 == 0) ⇒ einval
+    or has_bitset o && futex_value3 c == 0 ⇒ einval
+    or is_wait o && not (futex_limit c == 0) ⇒ enosys
+    or reads_word o && not (readable c (futex_at c) 4) ⇒ efault
+
+abbrev pub futex_by : Call → Operation → CallResult
+futex_by c o = unless c (futex_tests o c) λ _. performed o c
+
+abbrev pub futex : Call → CallResult
+futex c = option_map_or (futex_by c) (operation c) (returns c enosys)

@@ -1,0 +1,31 @@
+-- What holds of the kernel's state between calls.
+use Rattle.std.specs.Prelude.{◌≡◌, ℕ, ◌<◌, ◌≤◌, ◌^◌, false, List, [], ◌∷◌, length}
+use Rattle.futex_table.specs.Once.{waits}
+use Rattle.guest_calls.specs.declared.descriptor.Descriptor.{Descriptor}
+use Rattle.guest_calls.specs.declared.descriptor.Descriptor.TheVariants.{StandardInput, InputFile}
+use Rattle.guest_calls.specs.declared.thread.Thread.{Thread}
+use Rattle.guest_calls.specs.Kernel.{KernelState, lives, descriptor}
+
+-- the numbers of the threads rise, from above one number up to another at most
+abbrev pub RisesTo : ℕ → List Thread → ℕ → Type 0
+RisesTo low [] last = low ≤ last
+RisesTo low (t ∷ threads) last = (low < t.tid) × RisesTo t.tid threads last
+
+-- the position in an input file can be a signed 64-bit number
+abbrev pub IsWithinFile : Descriptor → Type 0
+IsWithinFile (InputFile input position) = position < 2 ^ 63
+IsWithinFile _ = Unit {0}
+
+-- where the next byte of a descriptor is read
+abbrev pub position_of : KernelState → Descriptor → ℕ
+position_of k StandardInput = k.stdin_position
+position_of k (InputFile input position) = position
+position_of k _ = 0
+
+pub record IsState (k : KernelState) : Type 0 where
+  pub rising : RisesTo 0 k.threads k.last_tid
+  pub few : length k.threads ≤ 32
+  -- who does not live does not wait
+  pub waiting_live : (tid : ℕ) → lives k tid ≡ false → waits k.waiting tid ≡ false
+  pub stdin_within : k.stdin_position < 2 ^ 63
+  pub files_within : (fd : ℕ) → IsWithinFile (descriptor k fd)

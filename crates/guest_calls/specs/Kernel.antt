@@ -1,0 +1,79 @@
+-- What the kernel keeps of a guest.
+use Rattle.std.specs.Prelude.{ℕ, Bool, not, ◌&&◌, ◌==◌, List, [], ◌∷◌, ◌++◌, map, filter, replicate, slice_set, slice_index_or, Option, Some, None}
+use Rattle.std.specs.List.{list_any}
+use Rattle.futex_table.specs.declared.waiter.Waiter.{Waiter}
+use Rattle.futex_table.specs.Once.{waits}
+use Rattle.guest_calls.specs.declared.descriptor.Descriptor.{Descriptor}
+use Rattle.guest_calls.specs.declared.descriptor.Descriptor.TheVariants.{Closed, StandardInput, Output}
+use Rattle.guest_calls.specs.declared.thread.Thread.{Thread}
+use Rattle.guest_calls.specs.Inputs.{Input}
+
+pub record KernelState : Type 0 where
+  -- the live ones, by rising number
+  pub threads : List Thread
+  -- those of them that wait at a futex, in order of waiting
+  pub waiting : List Waiter
+  -- what the numbers 0 to 31 stand for
+  pub descriptors : List Descriptor
+  pub stdin : List ℕ
+  pub stdin_position : ℕ
+  pub inputs : List Input
+  -- where the break was at the start, and where it is
+  pub first_break : ℕ
+  pub program_break : ℕ
+  -- the last thread number given
+  pub last_tid : ℕ
+
+-- the kernel at a guest's start: thread 1 lives, and the descriptors 0, 1 and 2 are open
+abbrev pub started : List Input → List ℕ → ℕ → KernelState
+started inputs stdin first_break = record {
+  threads = record { tid = 1; clear_tid = 0 } ∷ [];
+  waiting = [];
+  descriptors = StandardInput ∷ Output 1 ∷ Output 2 ∷ [] ++ replicate 29 Closed;
+  stdin = stdin;
+  stdin_position = 0;
+  inputs = inputs;
+  first_break = first_break;
+  program_break = first_break;
+  last_tid = 1;
+}
+
+-- what a number stands for; a number above 31 is closed
+abbrev pub descriptor : KernelState → ℕ → Descriptor
+descriptor k fd = slice_index_or k.descriptors fd Closed
+
+abbrev pub with_descriptor : KernelState → ℕ → Descriptor → KernelState
+with_descriptor k fd d = record k { descriptors = slice_set k.descriptors fd d }
+
+-- ---- threads
+abbrev pub is_thread : ℕ → Thread → Bool
+is_thread tid t = t.tid == tid
+
+abbrev pub lives : KernelState → ℕ → Bool
+lives k tid = list_any (is_thread tid) k.threads
+
+-- a thread can run where it lives and does not wait
+abbrev pub can_run : KernelState → ℕ → Bool
+can_run k tid = lives k tid && not (waits k.waiting tid)
+
+abbrev pub other_threads : KernelState → ℕ → List Thread
+other_threads k tid = filter (λ t. not (is_thread tid t)) k.threads
+
+-- whether another thread lives
+abbrev pub has_others : KernelState → ℕ → Bool
+has_others k tid = list_any (λ t. not (is_thread tid t)) k.threads
+
+-- the live threads by rising number, each with whether it can run
+abbrev pub ready : KernelState → List (ℕ × Bool)
+ready k = map (λ t. (t.tid, not (waits k.waiting t.tid))) k.threads
+
+-- ---- the kernel between calls
+-- bytes that go out, with their channel; of no byte there is nothing
+abbrev pub output : ℕ → List ℕ → Option (ℕ × List ℕ)
+output channel [] = None
+output channel (byte ∷ bytes) = Some (channel, byte ∷ bytes)
+
+-- the state, and what the last call wrote to a channel
+pub record Kept : Type 0 where
+  pub state : KernelState
+  pub out : Option (ℕ × List ℕ)

@@ -1,0 +1,15 @@
+pub mod Clone
+pub mod Errors
+pub mod Files
+pub mod Futex
+pub mod Inputs
+pub mod Invariant
+pub mod Kernel
+pub mod Outcome
+pub mod Pages
+pub mod Results
+pub mod Search
+pub mod State
+pub mod Table
+pub mod Threads
+pub mod Vectors

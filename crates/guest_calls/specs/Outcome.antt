@@ -1,0 +1,47 @@
+-- What the code of a call gives, over the types of the code.
+use Rattle.std.specs.Prelude.{◌≡◌, ◌++◌}
+use Rattle.trace_model.specs.EventList.{EventList}
+use Rattle.guest_memory.specs.declared.memory.GuestMemory.{GuestMemory}
+use Rattle.guest_memory.specs.declared.reservations.Reservations.{Reservations}
+use Rattle.guest_memory.specs.Guest.{memory_of}
+use Rattle.guest_memory.specs.ReservedBy.{reserved_by}
+use Rattle.guest_calls.specs.declared.answer.Answer.{Answer}
+use Rattle.guest_calls.specs.declared.caller.Caller.{Caller}
+use Rattle.guest_calls.specs.Kernel.{KernelState, Kept}
+use Rattle.guest_calls.specs.Results.{Call, CallResult}
+
+-- the call that the caller's registers hold
+abbrev pub asked : Caller → KernelState → GuestMemory → Reservations → Call
+asked caller kernel memory held = record {
+  tid = caller.tid;
+  registers = caller.cpu;
+  kernel = kernel;
+  memory = memory_of memory;
+  held = reserved_by held;
+}
+
+-- the answer, the state, the memory and the reservations are those of the result, and its events are added
+pub record Does (r : CallResult) (answer : Answer) (state : KernelState) (memory : GuestMemory) (held : Reservations) (before after : EventList) : Type 0 where
+  pub answered : answer ≡ r.answer
+  pub state_is : state ≡ r.kernel
+  pub memory_is : memory_of memory ≡ r.guest.memory
+  pub held_is : reserved_by held ≡ r.guest.held
+  pub events : after.list ≡ before.list ++ r.guest.events
+
+-- the same of a call that leaves the guest as it is, whatever the guest is
+abbrev pub DoesQuietly : (Call → CallResult) → Caller → KernelState → Answer → KernelState → Type 0
+DoesQuietly what caller old answer new =
+    (memory : GuestMemory) (held : Reservations) (events : EventList)
+    → Does (what (asked caller old memory held)) answer new memory held events events
+
+-- the same with what goes out
+pub record Gives (r : CallResult) (answer : Answer) (kept : Kept) (memory : GuestMemory) (held : Reservations) (before after : EventList) : Type 0 where
+  pub does : Does r answer kept.state memory held before after
+  pub out : kept.out ≡ r.out
+
+-- nothing changed
+pub record IsAsBefore (kept kept_new : Kept) (memory memory_new : GuestMemory) (held held_new : Reservations) (before after : EventList) : Type 0 where
+  pub kept_same : kept_new ≡ kept
+  pub memory_same : memory_of memory_new ≡ memory_of memory
+  pub held_same : reserved_by held_new ≡ reserved_by held
+  pub events_same : after.list ≡ before.list

@@ -1,0 +1,110 @@
+-- The calls on the guest's pages: brk(2), mmap(2), munmap(2), mprotect(2).
+use Rattle.std.specs.Prelude.{ℕ, zero, suc, ◌+◌, ◌-◌, ◌*◌, ◌/◌, ◌%◌, ◌^◌, Bool, true, not, ◌&&◌, ◌||◌, ◌==◌, nat_le, nat_lt, is_some, is_none, unwrap_or, Option, Some, None}
+use Rattle.guest_words.specs.declared.rights.Rights.{Rights}
+use Rattle.guest_memory.specs.Memory.{Memory, AreFree, mapped_pages, with_pages, with_rights}
+use Rattle.guest_calls.specs.Errors.{enomem, einval, enosys}
+use Rattle.guest_calls.specs.Search.{first_passing}
+use Rattle.guest_calls.specs.Results.{Call, CallResult, arg, returns, unless, ◌⇒◌, ◌or◌, ◌▷◌, changes, has}
+
+-- how many pages the bytes fill, the last one perhaps in part
+abbrev pub pages : ℕ → ℕ
+pages n = (n + 4095) / 4096
+
+-- PROT_READ 1, PROT_WRITE 2, PROT_EXEC 4; what can be written can be read
+abbrev pub rights_of : ℕ → Rights
+rights_of prot = record { read = has prot 1 || has prot 2; write = has prot 2; exec = has prot 4 }
+
+-- the memory changes, without an event
+abbrev pub remaps : (Memory → Memory) → CallResult → CallResult
+remaps change r = record r { guest = record r.guest { memory = change r.guest.memory } }
+
+abbrev pub maps : ℕ → ℕ → Rights → CallResult → CallResult
+maps page count rights = remaps (λ m. with_pages m page count (Some rights))
+
+abbrev pub unmaps : ℕ → ℕ → CallResult → CallResult
+unmaps page count = remaps (λ m. with_pages m page count None)
+
+-- no more pages than this can be mapped
+abbrev pub page_limit : ℕ
+page_limit = 16384
+
+-- ---- brk
+-- the break cannot pass this
+abbrev pub break_limit : ℕ
+break_limit = 0x40000000
+
+-- no page from the break, rounded up to a page, up to the limit is mapped
+abbrev pub IsBreakFree : Memory → ℕ → Type 0
+IsBreakFree m program_break = AreFree m (pages program_break) (pages break_limit - pages program_break)
+
+abbrev pub brk : Call → CallResult
+brk c =
+    let at = arg c 0 in
+    let old = c.kernel.program_break in
+    let growth = pages at - pages old in
+    unless c (
+    nat_lt at c.kernel.first_break ⇒ old
+    or nat_lt break_limit at ⇒ old
+    or nat_lt page_limit (mapped_pages c.memory + growth) ⇒ old
+    )
+    λ _. returns c at
+    ▷ changes (λ k. record k { program_break = at })
+    ▷ maps (pages old) growth (rights_of 3)
+    ▷ unmaps (pages at) (pages old - pages at)
+
+-- ---- munmap
+abbrev pub munmap : Call → CallResult
+munmap c =
+    let at = arg c 0 in
+    let n = arg c 1 in
+    unless c (
+    not (at % 4096 == 0) ⇒ einval
+    or n == 0 ⇒ einval
+    or nat_lt (2 ^ 20) (at / 4096 + pages n) ⇒ einval
+    ) λ _. returns c 0 ▷ unmaps (at / 4096) (pages n)
+
+-- ---- mmap2
+-- each of so many pages is mapped
+abbrev pub are_mapped : Memory → ℕ → ℕ → Bool
+are_mapped m page zero = true
+are_mapped m page (suc n) = is_some (m.rights page) && are_mapped m (page + 1) n
+
+-- none of so many pages is mapped
+abbrev pub are_free : Memory → ℕ → ℕ → Bool
+are_free m page zero = true
+are_free m page (suc n) = is_none (m.rights page) && are_free m (page + 1) n
+
+-- so many pages from this one on are free and end at or below 0x7F000000
+abbrev pub is_place : Memory → ℕ → ℕ → Bool
+is_place m count page = nat_le (page + count) 0x7F000 && are_free m page count
+
+-- the lowest place for so many pages from 0x40000000 on
+abbrev pub lowest_place : Memory → ℕ → Option ℕ
+lowest_place m count = first_passing (is_place m count) 0x40000 0x3F000
+
+-- MAP_PRIVATE 2 among the four bits of the type, MAP_ANONYMOUS 0x20, MAP_FIXED 0x10 and MAP_FIXED_NOREPLACE 0x100000
+abbrev pub mmap2 : Call → CallResult
+mmap2 c =
+    let count = pages (arg c 1) in
+    let flags = arg c 3 in
+    let place = lowest_place c.memory count in
+    unless c (
+    not (flags % 2 ^ 4 == 2) ⇒ enosys
+    or not (has flags 0x20) ⇒ enosys
+    or has flags 0x100010 ⇒ enosys
+    or arg c 1 == 0 ⇒ einval
+    or is_none place ⇒ enomem
+    or nat_lt page_limit (mapped_pages c.memory + count) ⇒ enomem
+    ) λ _. returns c (unwrap_or place 0 * 4096) ▷ maps (unwrap_or place 0) count (rights_of (arg c 2))
+
+-- ---- mprotect
+abbrev pub mprotect : Call → CallResult
+mprotect c =
+    let at = arg c 0 in
+    let n = arg c 1 in
+    unless c (
+    not (at % 4096 == 0) ⇒ einval
+    or n == 0 ⇒ 0
+    or nat_lt (2 ^ 32) (at + n) ⇒ enomem
+    or not (are_mapped c.memory (at / 4096) (pages n)) ⇒ enomem
+    ) λ _. returns c 0 ▷ remaps (λ m. with_rights m (at / 4096) (pages n) (rights_of (arg c 2)))

@@ -1,0 +1,154 @@
+-- What a call is made with and what it results in, and the words in which the calls are written.
+use Rattle.std.specs.Prelude.{ℕ, zero, suc, ◌+◌, ◌/◌, Bool, true, false, not, ◌==◌, bit_and, List, [], ◌∷◌, ◌++◌, length, slice_index, Option, Some, None, if◌then◌else◌}
+use Rattle.std.specs.Int.{w32, to_le_bytes}
+use Rattle.guest_words.specs.Words.{word_count}
+use Rattle.trace_model.specs.declared.event_kinds.Event.{Event}
+use Rattle.trace_model.specs.declared.event_kinds.Event.TheVariants.{Read, Fill}
+use Rattle.guest_memory.specs.Memory.{Memory, with_bytes, number_at}
+use Rattle.guest_memory.specs.Reserved.{Reserved, after_write}
+use Rattle.rv_exec.specs.Accesses.{can_read, can_write}
+use Rattle.rv_exec.specs.Registers.{Registers}
+use Rattle.guest_calls.specs.declared.answer.Answer.{Answer}
+use Rattle.guest_calls.specs.declared.answer.Answer.TheVariants.{Back}
+use Rattle.guest_calls.specs.declared.descriptor.Descriptor.{Descriptor}
+use Rattle.guest_calls.specs.Kernel.{KernelState, with_descriptor, output}
+
+-- ---- a call and its result
+-- the calling thread and its registers, and all that a call can look at
+pub record Call : Type 0 where
+  pub tid : ℕ
+  pub registers : Registers
+  pub kernel : KernelState
+  pub memory : Memory
+  pub held : Reserved
+
+-- the number of the call, in a7, and its arguments, in a0 to a5
+abbrev pub number : Call → ℕ
+number c = slice_index c.registers.regs 17
+
+abbrev pub arg : Call → ℕ → ℕ
+arg c i = slice_index c.registers.regs (10 + i)
+
+-- what a call leaves of the guest: its memory, the reservations, and the copies from and to it, in order
+pub record Guest : Type 0 where
+  pub memory : Memory
+  pub held : Reserved
+  pub events : List Event
+
+pub record CallResult : Type 0 where
+  pub answer : Answer
+  pub kernel : KernelState
+  pub guest : Guest
+  -- bytes that go out, with their channel 1 or 2
+  pub out : Option (ℕ × List ℕ)
+
+-- nothing changes, and this is answered
+abbrev pub returns : Call → ℕ → CallResult
+returns c value = record {
+  answer = Back value;
+  kernel = c.kernel;
+  guest = record { memory = c.memory; held = c.held; events = [] };
+  out = None;
+}
+
+-- ---- tests before an effect
+-- the answer where the test holds
+infix 7 ◌⇒◌
+abbrev pub ◌⇒◌ : Bool → ℕ → List (Bool × ℕ)
+test ⇒ value = (test, value) ∷ []
+
+-- one test after another
+infixr 6 ◌or◌
+abbrev pub ◌or◌ : List (Bool × ℕ) → List (Bool × ℕ) → List (Bool × ℕ)
+first or others = first ++ others
+
+-- the answer of the first test that holds
+abbrev pub first_answer : List (Bool × ℕ) → Option ℕ
+first_answer [] = None
+first_answer (t ∷ ts) = if t.0 then Some t.1 else first_answer ts
+
+abbrev pub answered_or : Option ℕ → Call → (Unit {0} → CallResult) → CallResult
+answered_or (Some value) c effect = returns c value
+answered_or None c effect = effect tt
+
+-- The first test that holds gives the answer, and nothing changes. Where none holds, the effect takes place.
+abbrev pub unless : Call → List (Bool × ℕ) → (Unit {0} → CallResult) → CallResult
+unless c tests effect = answered_or (first_answer tests) c effect
+
+-- ---- effects, one after another
+infixl 3 ◌▷◌
+abbrev pub ◌▷◌ : CallResult → (CallResult → CallResult) → CallResult
+r ▷ effect = effect r
+
+-- the first effect where the test holds, else the second
+abbrev pub either : Bool → (CallResult → CallResult) → (CallResult → CallResult) → CallResult → CallResult
+either true first second = first
+either false first second = second
+
+abbrev pub when : Bool → (CallResult → CallResult) → CallResult → CallResult
+when true effect = effect
+when false effect = λ r. r
+
+abbrev pub answers : Answer → CallResult → CallResult
+answers answer r = record r { answer = answer }
+
+-- the kernel's own state changes
+abbrev pub changes : (KernelState → KernelState) → CallResult → CallResult
+changes change r = record r { kernel = change r.kernel }
+
+-- a number stands for something else
+abbrev pub sets : ℕ → Descriptor → CallResult → CallResult
+sets fd d = changes (λ k. with_descriptor k fd d)
+
+-- the event of a copy from the guest; of no byte there is none
+abbrev pub read_event : ℕ → ℕ → ℕ → List Event
+read_event tid at zero = []
+read_event tid at (suc n) = Read tid (at / 4) (word_count at (suc n)) ∷ []
+
+-- the event of a copy to the guest
+abbrev pub fill_event : ℕ → ℕ → List Event
+fill_event at zero = []
+fill_event at (suc n) = Fill (at / 4) (word_count at (suc n)) ∷ []
+
+-- how many words the bytes overlap
+abbrev pub words_touched : ℕ → ℕ → ℕ
+words_touched at zero = 0
+words_touched at (suc n) = word_count at (suc n)
+
+-- the kernel reads so many bytes for the thread
+abbrev pub reads : ℕ → ℕ → ℕ → CallResult → CallResult
+reads tid at n r = record r { guest = record r.guest { events = r.guest.events ++ read_event tid at n } }
+
+-- the kernel writes the bytes, which drops all reservations on their words
+abbrev pub fills : ℕ → List ℕ → CallResult → CallResult
+fills at bytes r = record r {
+  guest = record {
+    memory = with_bytes r.guest.memory at bytes;
+    held = after_write r.guest.held None (at / 4) (words_touched at (length bytes));
+    events = r.guest.events ++ fill_event at (length bytes);
+  };
+}
+
+-- it writes the number as a word
+abbrev pub fills_word : ℕ → ℕ → CallResult → CallResult
+fills_word at n = fills at (to_le_bytes w32 n)
+
+-- bytes go out on the channel
+abbrev pub puts : ℕ → List ℕ → CallResult → CallResult
+puts channel bytes r = record r { out = output channel bytes }
+
+-- ---- what the tests look at
+-- each of so many bytes is mapped and can be read
+abbrev pub readable : Call → ℕ → ℕ → Bool
+readable c at n = can_read c.memory at n
+
+abbrev pub writable : Call → ℕ → ℕ → Bool
+writable c at n = can_write c.memory at n
+
+-- the word at an address
+abbrev pub word : Call → ℕ → ℕ
+word c at = number_at c.memory at 4
+
+-- any of these bits is set
+abbrev pub has : ℕ → ℕ → Bool
+has flags bits = not (bit_and flags bits == 0)

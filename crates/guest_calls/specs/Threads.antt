@@ -1,0 +1,73 @@
+-- The calls on threads and the process: exit(2), exit_group(2), set_tid_address(2), sched_yield(2), rt_sigprocmask(2).
+use Rattle.std.specs.Prelude.{ℕ, ◌%◌, ◌^◌, Bool, not, ◌&&◌, ◌==◌, List, [], map, replicate, if◌then◌else◌}
+use Rattle.std.specs.List.{find}
+use Rattle.std.specs.Option.{option_map_or}
+use Rattle.guest_memory.specs.Reserved.{without_thread, nothing_reserved}
+use Rattle.futex_table.specs.Waiting.{all_bits}
+use Rattle.guest_calls.specs.declared.answer.Answer.TheVariants.{Yield, ThreadEnd, ProcessEnd}
+use Rattle.guest_calls.specs.declared.thread.Thread.{Thread}
+use Rattle.guest_calls.specs.Errors.{efault}
+use Rattle.guest_calls.specs.Futex.{wakes}
+use Rattle.guest_calls.specs.Kernel.{KernelState, is_thread, has_others, other_threads}
+use Rattle.guest_calls.specs.Results.{Call, CallResult, arg, returns, unless, ◌⇒◌, ◌▷◌, when, answers, changes, fills, fills_word, writable}
+
+-- ---- ends
+-- the exit status
+abbrev pub status : Call → ℕ
+status c = arg c 0 % 2 ^ 8
+
+-- where a zero is written when a thread ends, or 0
+abbrev pub clear_tid_of : KernelState → ℕ → ℕ
+clear_tid_of k tid = option_map_or (λ t. t.clear_tid) (find (is_thread tid) k.threads) 0
+
+abbrev pub clear_tid : Call → ℕ
+clear_tid c = clear_tid_of c.kernel c.tid
+
+-- another thread lives that may wait for this one's end, and the address is set and can be written
+abbrev pub is_cleared : Call → Bool
+is_cleared c = has_others c.kernel c.tid && (not (clear_tid c == 0) && writable c (clear_tid c) 4)
+
+-- the thread lives no more, and its reservation goes
+abbrev pub leaves : ℕ → CallResult → CallResult
+leaves tid r = record r {
+  kernel = record r.kernel { threads = other_threads r.kernel tid };
+  guest = record r.guest { held = without_thread r.guest.held tid };
+}
+
+-- its end is told to those who wait for it
+abbrev pub told_end : Call → CallResult
+told_end c = returns c 0 ▷ when (is_cleared c) (λ r. r ▷ fills_word (clear_tid c) 0 ▷ wakes (clear_tid c) 1 all_bits)
+
+abbrev pub exit : Call → CallResult
+exit c =
+    told_end c
+    ▷ leaves c.tid
+    ▷ answers (if has_others c.kernel c.tid then ThreadEnd else ProcessEnd (status c))
+
+-- no thread lives any more, and all reservations go
+abbrev pub ends_all : CallResult → CallResult
+ends_all r = record r {
+  kernel = record r.kernel { threads = []; waiting = [] };
+  guest = record r.guest { held = nothing_reserved };
+}
+
+abbrev pub exit_group : Call → CallResult
+exit_group c = returns c 0 ▷ ends_all ▷ answers (ProcessEnd (status c))
+
+-- ---- small calls
+abbrev pub with_clear_tid : ℕ → ℕ → Thread → Thread
+with_clear_tid tid at t = if is_thread tid t then record t { clear_tid = at } else t
+
+abbrev pub set_tid_address : Call → CallResult
+set_tid_address c =
+    returns c c.tid ▷ changes (λ k. record k { threads = map (with_clear_tid c.tid (arg c 0)) k.threads })
+
+abbrev pub sched_yield : Call → CallResult
+sched_yield c = returns c 0 ▷ answers Yield
+
+-- no signal is ever blocked: the old set is empty
+abbrev pub rt_sigprocmask : Call → CallResult
+rt_sigprocmask c =
+    let old = arg c 2 in
+    unless c (not (old == 0) && not (writable c old 8) ⇒ efault)
+    λ _. returns c 0 ▷ when (not (old == 0)) (fills old (replicate 8 0))

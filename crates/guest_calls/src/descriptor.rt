@@ -1,0 +1,65 @@
+//! File descriptors.
+
+/// What a descriptor's number stands for.
+#[derive(Clone, Copy, Debug, PartialEq, Eq)]
+pub enum Descriptor {
+    /// Nothing: the number is free.
+    Closed,
+    StandardInput,
+    /// Standard output, 1, or standard error, 2.
+    Output { channel: u32 },
+    /// The input at a place of the list, and the position in it.
+    InputFile { input: usize, position: u64 },
+}
+
+impl Descriptor {
+    ghost use Rattle.std.specs.Prelude.{◌≡◌, ◌<◌, ◌^◌};
+    ghost use Rattle.guest_calls.specs.Files.{is_closed, is_input_file, is_source, channel, with_position};
+    ghost use Rattle.guest_calls.specs.Invariant.{IsWithinFile};
+
+    /// Whether the number is free.
+    pub(crate) fn is_closed(self) -> bool
+        ensures { result ≡ is_closed self }
+    {
+        matches!(self, Descriptor::Closed)
+    }
+
+    /// Whether it is a file with a position.
+    pub(crate) fn is_input_file(self) -> bool
+        ensures { result ≡ is_input_file self }
+    {
+        matches!(self, Descriptor::InputFile { .. })
+    }
+
+    /// Whether it can be read.
+    pub(crate) fn is_source(self) -> bool
+        ensures { result ≡ is_source self }
+    {
+        matches!(
+            self,
+            Descriptor::StandardInput | Descriptor::InputFile { .. }
+        )
+    }
+
+    /// The channel of output.
+    pub(crate) fn channel(self) -> Option<u32>
+        ensures { result ≡ channel self }
+    {
+        match self {
+            Descriptor::Output { channel } => Some(channel),
+            _ => None,
+        }
+    }
+
+    /// A file at another position.
+    pub(crate) fn with_position(self, position: u64) -> Descriptor
+        requires { position < 2 ^ 63 }
+        ensures value { result ≡ with_position self position }
+        ensures within { IsWithinFile self → IsWithinFile result }
+    {
+        match self {
+            Descriptor::InputFile { input, .. } => Descriptor::InputFile { input, position },
+            other => other,
+        }
+    }
+}

@@ -1,0 +1,216 @@
+//! The calls on one file: openat(2), close(2), _llseek(2) and read(2).
+ghost use Rattle.std.specs.Prelude.{◌≡◌, ◌<◌, ◌≤◌, ◌+◌, ◌*◌, ◌^◌, ◌-◌, ◌||◌, drop, take, pos, ◌+ℤ◌, unsigned_abs, length, true, false, IfSome, IfNone};
+ghost use Rattle.std.specs.List.{position};
+ghost use Rattle.std.specs.Int.{w64, cast_signed};
+ghost use Rattle.guest_calls.specs.Files.{is_closed, bytes_left, is_out_of_range, least_free, origin};
+ghost use Rattle.guest_calls.specs.Files as specs;
+ghost use Rattle.guest_calls.specs.Invariant.{IsWithinFile, position_of};
+ghost use Rattle.guest_calls.specs.Kernel.{descriptor, with_descriptor};
+ghost use Rattle.guest_calls.specs.Outcome.{asked, Does, DoesQuietly};
+
+use crate::Answer;
+use crate::caller::Caller;
+use crate::copies::fill;
+use crate::descriptor::Descriptor;
+use crate::errors::{EBADF, EFAULT, EINVAL, ESPIPE};
+use crate::state::State;
+use guest_memory::{GuestMemory, Reservations};
+use trace_model::Events;
+
+impl State {
+    /// What a number stands for.
+    pub(crate) fn descriptor(&self, fd: u32) -> Descriptor
+        ensures value { result ≡ descriptor self.now fd }
+        ensures in_range { is_closed result ≡ false → fd < 32 }
+        ensures within { IsWithinFile result }
+    {
+        let _ = &self.last_tid;
+        match self.descriptors.get(fd as usize) {
+            Some(d) => *d,
+            None => Descriptor::Closed,
+        }
+    }
+
+    /// Makes a number stand for something else.
+    pub(crate) fn set_descriptor(&mut self, fd: u32, d: Descriptor)
+        requires in_range { fd < 32 }
+        requires within { IsWithinFile d }
+        ensures { self.new ≡ with_descriptor self.old fd d }
+    {
+        self.descriptors[fd as usize] = d;
+    }
+
+    /// The bytes from the position on.
+    pub(crate) fn bytes_left(&self, d: Descriptor) -> &[u8]
+        requires { IsWithinFile d }
+        ensures value { result.now ≡ bytes_left self.now d }
+        ensures within { position_of self.now d + length result.now < 2 ^ 63 }
+    {
+        match d {
+            Descriptor::StandardInput => bytes_from(&self.stdin, self.stdin_position),
+            Descriptor::InputFile { input, position } => {
+                bytes_from(self.inputs.bytes_at(input), position)
+            }
+            _ => &[],
+        }
+    }
+
+    /// Moves the position of a number by so many bytes.
+    pub(crate) fn advance(&mut self, d: Descriptor, fd: u32, count: usize)
+        requires in_range { fd < 32 }
+        requires within { position_of self.old d + count < 2 ^ 63 }
+        ensures { self.new ≡ specs.advanced d fd count self.old }
+    {
+        match d {
+            Descriptor::StandardInput => self.stdin_position += count as u64,
+            Descriptor::InputFile { input, position } => {
+                let position = position + count as u64;
+                self.set_descriptor(fd, Descriptor::InputFile { input, position });
+            }
+            _ => {}
+        }
+    }
+
+    /// close(2)
+    pub(crate) fn close(&mut self, caller: &Caller) -> Answer
+        ensures { DoesQuietly specs.close caller.now self.old result self.new }
+    {
+        let fd = caller.argument(0);
+        if self.descriptor(fd).is_closed() {
+            return Answer::Back { value: EBADF };
+        }
+        self.set_descriptor(fd, Descriptor::Closed);
+        Answer::Back { value: 0 }
+    }
+
+    /// read(2)
+    pub(crate) fn read(
+        &mut self,
+        memory: &mut GuestMemory,
+        held: &mut Reservations,
+        events: &mut Events,
+        caller: &Caller,
+    ) -> Answer
+        requires room { 1 ≤ events.old.room }
+        ensures { Does (specs.read (asked caller.now self.old memory.old held.old)) result self.new memory.new held.new events.old events.new }
+    {
+        let (fd, at) = (caller.argument(0), caller.argument(1));
+        let file = self.descriptor(fd);
+        if !file.is_source() {
+            return Answer::Back { value: EBADF };
+        }
+        let bytes = first_bytes(self.bytes_left(file), caller.argument(2));
+        let count = bytes.len();
+        if !memory.can_write(at, count as u64) {
+            return Answer::Back { value: EFAULT };
+        }
+        fill(memory, held, events, at, bytes);
+        self.advance(file, fd, count);
+        Answer::Back {
+            value: count as u32,
+        }
+    }
+
+    /// What an offset is counted from, by `whence`: the start, the position or the end.
+    fn origin(&self, file: Descriptor, whence: u32) -> u64
+        requires { IsWithinFile file }
+        ensures value { result ≡ origin self.now file whence }
+        ensures within { result < 2 ^ 63 }
+    {
+        match (file, whence) {
+            (Descriptor::InputFile { position, .. }, 1) => position,
+            (Descriptor::InputFile { input, .. }, 2) => self.inputs.bytes_at(input).len() as u64,
+            _ => 0,
+        }
+    }
+
+    /// The new position in a file; None where it is out of range.
+    fn target(&self, file: Descriptor, offset: i64, whence: u32) -> Option<u64>
+        requires within { IsWithinFile file }
+        ensures some { IfSome result (λ position. position ≡ unsigned_abs (pos (origin self.now file whence) +ℤ offset)) }
+        ensures in_range { IfSome result (λ _. is_out_of_range (pos (origin self.now file whence) +ℤ offset) ≡ false) }
+        ensures within { IfSome result (λ position. position < 2 ^ 63) }
+        ensures none { IfNone result (is_out_of_range (pos (origin self.now file whence) +ℤ offset) ≡ true) }
+    {
+        moved(self.origin(file, whence), offset)
+    }
+
+    /// _llseek(2)
+    pub(crate) fn llseek(
+        &mut self,
+        memory: &mut GuestMemory,
+        held: &mut Reservations,
+        events: &mut Events,
+        caller: &Caller,
+    ) -> Answer
+        requires room { 1 ≤ events.old.room }
+        ensures { Does (specs.llseek (asked caller.now self.old memory.old held.old)) result self.new memory.new held.new events.old events.new }
+    {
+        let (fd, result_at, whence) = (caller.argument(0), caller.argument(3), caller.argument(4));
+        let file = self.descriptor(fd);
+        if file.is_closed() {
+            return Answer::Back { value: EBADF };
+        }
+        if !file.is_input_file() {
+            return Answer::Back { value: ESPIPE };
+        }
+        if whence > 2 {
+            return Answer::Back { value: EINVAL };
+        }
+        let offset = offset_of(caller.argument(1), caller.argument(2));
+        let Some(position) = self.target(file, offset, whence) else {
+            return Answer::Back { value: EINVAL };
+        };
+        if !memory.can_write(result_at, 8) {
+            return Answer::Back { value: EFAULT };
+        }
+        self.set_descriptor(fd, file.with_position(position));
+        fill(memory, held, events, result_at, &position.to_le_bytes());
+        Answer::Back { value: 0 }
+    }
+}
+
+/// The signed number of two words.
+fn offset_of(high: u32, low: u32) -> i64
+    ensures { result ≡ cast_signed w64 (high * 2 ^ 32 + low) }
+{
+    (u64::from(high) * 0x1_0000_0000 + u64::from(low)).cast_signed()
+}
+
+/// A place and an offset from it. None where that is below 0 or no signed number.
+fn moved(origin: u64, offset: i64) -> Option<u64>
+    requires { origin < 2 ^ 63 }
+    ensures some { IfSome result (λ position. position ≡ unsigned_abs (pos origin +ℤ offset)) }
+    ensures in_range { IfSome result (λ _. is_out_of_range (pos origin +ℤ offset) ≡ false) }
+    ensures within { IfSome result (λ position. position < 2 ^ 63) }
+    ensures none { IfNone result (is_out_of_range (pos origin +ℤ offset) ≡ true) }
+{
+    let target = origin.cast_signed().checked_add(offset)?;
+    u64::try_from(target).ok()
+}
+
+/// The bytes from the position on, of which there is none past the end.
+fn bytes_from(bytes: &[u8], position: u64) -> &[u8]
+    requires { position < 2 ^ 63 }
+    ensures value { result.now ≡ drop position bytes.now }
+    ensures within { position + length result.now < 2 ^ 63 }
+{
+    if position < bytes.len() as u64 {
+        &bytes[position as usize..]
+    } else {
+        &[]
+    }
+}
+
+/// So many bytes, or all where there are fewer.
+pub(crate) fn first_bytes(bytes: &[u8], most: u32) -> &[u8]
+    ensures value { result.now ≡ take most bytes.now }
+    ensures few { length result.now ≤ most }
+    ensures fewer { length result.now ≤ length bytes.now }
+{
+    if bytes.len() <= most as usize {
+        bytes
+    } else {
+        &bytes[..most as usize]
+    }
+}

@@ -1,0 +1,93 @@
+//! The kernel of a guest.
+ghost use Rattle.std.specs.Prelude.{◌≡◌, [], true, None, IfOk, OnErr, ◌≤◌, OnOk};
+ghost use Rattle.guest_calls.specs.Invariant.{IsState};
+ghost use Rattle.std.specs.Option.{option_map};
+ghost use Rattle.guest_memory.specs.Guest.{memory_of};
+ghost use Rattle.guest_calls.specs.Kernel.{started, can_run, ready};
+ghost use Rattle.guest_calls.specs.Pages.{IsBreakFree};
+ghost use Rattle.guest_calls.specs.Outcome.{asked, Gives, IsAsBefore};
+ghost use Rattle.guest_calls.specs.Table.{call};
+
+use crate::outgoing::Outgoing;
+use crate::state::State;
+use crate::{Answer, Inputs};
+use guest_memory::{GuestMemory, Reservations};
+use guest_words::{Addr, ReadyList, Tid};
+use rv_exec::Cpu;
+use std::alloc::{AllocError, Global};
+use std::marker::Model;
+use trace_model::Events;
+
+/// What the kernel keeps of a guest, and the bytes that the last call wrote.
+#[derive(Drop)]
+pub struct Kernel {
+    state: State,
+    outgoing: Outgoing,
+}
+
+impl Model for Kernel {
+    ghost use Rattle.guest_calls.specs.Kernel.{Kept};
+
+    ghost Value = { Kept };
+
+    ghost view = { λ k. record { state = k.state; out = k.outgoing } };
+}
+
+impl Kernel {
+    /// Thread 1 lives, the descriptors 0, 1 and 2 are open, and the break is the first one. The room for what a call
+    /// writes is taken here.
+    pub fn new(
+        alloc: Global,
+        inputs: Inputs,
+        stdin: Vec<u8>,
+        first_break: Addr,
+    ) -> Result<Kernel, AllocError>
+        ensures state { IfOk result (λ kernel. IsState kernel.state) }
+        ensures started { IfOk result (λ kernel. kernel ≡ record { state = started inputs stdin.items first_break; out = None }) }
+    {
+        let state = State::new(alloc, inputs, stdin, first_break)?;
+        state.holds();
+        Ok(Kernel {
+            state,
+            outgoing: Outgoing::new(alloc)?,
+        })
+    }
+
+    /// Carries out the call that the thread's registers hold: the number in a7, the arguments in a0 to a5. The copies from
+    /// and to the guest are added to the events, in order; that a thread is born or ends is not. All memory is taken before
+    /// anything changes.
+    pub fn call(
+        &mut self,
+        memory: &mut GuestMemory,
+        held: &mut Reservations,
+        tid: Tid,
+        cpu: &Cpu,
+        events: &mut Events,
+    ) -> Result<Answer, AllocError>
+        requires can_run { can_run self.old.state tid ≡ true }
+        requires break_free { IsBreakFree (memory_of memory.old) self.old.state.program_break }
+        ensures call { IfOk result (λ answer. Gives (call (asked (record { tid = tid; cpu = cpu.now }) self.old.state memory.old held.old)) answer self.new memory.new held.new events.old events.new) }
+        ensures refused { OnErr result (IsAsBefore self.old self.new memory.old memory.new held.old held.new events.old events.new) }
+        ensures break_free { IsBreakFree (memory_of memory.new) self.new.state.program_break }
+        ensures room { OnOk result (events.old.room ≤ events.new.room) }
+        ensures state { IsState self.new.state }
+    {
+        self.state.holds();
+        Err(AllocError)
+    }
+
+    /// The channel, 1 or 2, and the bytes of the last call, where it was a write of at least one byte.
+    pub fn outgoing(&self) -> Option<(u32, &[u8])>
+        ensures out { option_map (λ out. (out.0, out.1.now)) result ≡ self.now.out }
+    {
+        self.outgoing.bytes()
+    }
+
+    /// Lists the live threads, rising, each with whether it can run.
+    pub fn ready_into(&self, into: &mut ReadyList)
+        requires { into.old ≡ [] }
+        ensures ready { into.new ≡ ready self.now.state }
+    {
+        self.state.ready_into(into);
+    }
+}

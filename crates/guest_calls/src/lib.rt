@@ -1,0 +1,27 @@
+//! The calls of the kernel: those of Linux on riscv32 that a static, threaded program makes, each modelled on its manual
+//! page. Any other number answers that there is no such call.
+//!
+//! The kernel is seen as one state and the bytes that the last call wrote. The table of the calls stands in
+//! specs/Table.antt.
+#![tactic(auto)]
+
+mod answer;
+mod caller;
+mod copies;
+mod descriptor;
+mod errors;
+mod files;
+mod inputs;
+mod kernel;
+mod operation;
+mod outgoing;
+mod pages;
+mod paths;
+mod state;
+mod thread;
+mod threads;
+mod vectors;
+
+pub use answer::Answer;
+pub use inputs::Inputs;
+pub use kernel::Kernel;

@@ -1,0 +1,77 @@
+//! The bytes that a call writes.
+ghost use Rattle.std.specs.Prelude.{◌≡◌, ◌≤◌, true, None, IfOk};
+ghost use Rattle.guest_memory.specs.Guest.{memory_of};
+ghost use Rattle.guest_memory.specs.Memory.{bytes_at};
+ghost use Rattle.guest_calls.specs.Kernel.{output};
+ghost use Rattle.rv_exec.specs.Accesses.{can_read};
+ghost use Rattle.std.specs.Option.{option_map};
+
+use crate::copies::copy_to;
+use guest_memory::GuestMemory;
+use guest_words::Addr;
+use std::alloc::{AllocError, Global};
+use std::marker::Model;
+
+/// The most bytes that one call writes.
+pub const WRITE_LIMIT: usize = 65536;
+
+/// The bytes of the last write and their channel. The room for them is taken as it is made.
+#[derive(Drop)]
+pub(crate) struct Outgoing {
+    channel: u32,
+    count: usize,
+    buffer: Vec<u8>,
+}
+
+impl Model for Outgoing {
+    ghost use Rattle.std.specs.Prelude.{◌≡◌, ◌≤◌, ℕ, List, Option, take, length};
+    ghost use Rattle.guest_calls.specs.Kernel.{output};
+
+    ghost Value = { Option (ℕ × List ℕ) };
+
+    ghost view = { λ o. output o.channel (take o.count o.buffer.items) };
+
+    ghost invariant = { λ o. (length o.buffer.items ≡ 65536) × (o.count ≤ 65536) };
+}
+
+impl Outgoing {
+    /// Nothing goes out.
+    pub fn new(alloc: Global) -> Result<Outgoing, AllocError>
+        ensures { IfOk result (λ out. out ≡ None) }
+    {
+        Ok(Outgoing {
+            channel: 1,
+            count: 0,
+            buffer: vec![in alloc; 0u8; WRITE_LIMIT]?,
+        })
+    }
+
+    /// Nothing goes out.
+    pub fn clear(&mut self)
+        ensures { self.new ≡ None }
+    {
+        self.count = 0;
+    }
+
+    /// The channel and the bytes; None where there is no byte.
+    pub fn bytes(&self) -> Option<(u32, &[u8])>
+        ensures { option_map (λ out. (out.0, out.1.now)) result ≡ self.now }
+    {
+        if self.count == 0 {
+            None
+        } else {
+            Some((self.channel, &self.buffer[..self.count]))
+        }
+    }
+
+    /// Bytes of the guest's memory go out, each of which can be read.
+    pub fn put(&mut self, channel: u32, memory: &GuestMemory, at: Addr, count: u32)
+        requires few { count ≤ 65536 }
+        requires reach { can_read (memory_of memory.now) at count ≡ true }
+        ensures { self.new ≡ output channel (bytes_at (memory_of memory.now) at count) }
+    {
+        self.channel = channel;
+        self.count = count as usize;
+        copy_to(memory, at, &mut self.buffer, self.count);
+    }
+}

@@ -1,0 +1,189 @@
+//! The calls on pages: brk(2), munmap(2), mmap2(2) and mprotect(2).
+ghost use Rattle.std.specs.Prelude.{◌≡◌, ℕ, ◌≤◌, ◌<◌, ◌+◌, ◌^◌, true, IfOk, IfSome, OnOk, OnErr, Some};
+ghost use Rattle.guest_memory.specs.declared.reservations.Reservations.{Reservations};
+ghost use Rattle.guest_memory.specs.Guest.{memory_of};
+ghost use Rattle.guest_memory.specs.Memory.{AreFree, ArePagesMapped, mapped_pages, with_pages};
+ghost use Rattle.trace_model.specs.EventList.{EventList};
+ghost use Rattle.guest_calls.specs.Kernel.{KernelState};
+ghost use Rattle.guest_calls.specs.Outcome.{asked, Does};
+ghost use Rattle.guest_calls.specs.Pages.{pages, rights_of, lowest_place, are_mapped, IsBreakFree};
+ghost use Rattle.guest_calls.specs.Pages as specs;
+
+use crate::Answer;
+use crate::caller::Caller;
+use crate::errors::{EINVAL, ENOMEM, ENOSYS};
+use crate::state::State;
+use guest_memory::GuestMemory;
+use guest_words::Rights;
+use std::alloc::AllocError;
+
+const PAGE_SIZE: u32 = 4096;
+
+/// The break cannot pass this.
+const BREAK_LIMIT: u32 = 0x4000_0000;
+
+/// How many pages can be mapped.
+const PAGE_LIMIT: u32 = 16384;
+
+const PROT_READ: u32 = 1;
+
+const PROT_WRITE: u32 = 2;
+
+const PROT_EXEC: u32 = 4;
+
+/// How many pages the bytes fill, the last one perhaps in part.
+fn pages(bytes: u32) -> u32
+    ensures value { result ≡ pages bytes }
+    ensures most { result ≤ 2 ^ 20 }
+{
+    bytes.div_ceil(PAGE_SIZE)
+}
+
+/// What can be done with pages of this protection.
+fn rights_of(prot: u32) -> Rights
+    ensures { result ≡ rights_of prot }
+{
+    Rights {
+        read: prot & PROT_READ != 0 || prot & PROT_WRITE != 0,
+        write: prot & PROT_WRITE != 0,
+        exec: prot & PROT_EXEC != 0,
+    }
+}
+
+/// Maps free pages, where the limit allows it.
+fn map(memory: &mut GuestMemory, page: u32, count: u32, rights: Rights) -> Result<(), AllocError>
+    requires range { page + count ≤ 1048576 }
+    requires free { AreFree (memory_of memory.old) page count }
+    requires room { mapped_pages (memory_of memory.old) + count ≤ 16384 }
+    ensures ok { OnOk result (memory_of memory.new ≡ with_pages (memory_of memory.old) page count (Some rights)) }
+    ensures err { OnErr result (memory_of memory.new ≡ memory_of memory.old) }
+{
+    match memory.map(page, count, rights) {
+        Ok(()) => Ok(()),
+        Err(_) => Err(AllocError),
+    }
+}
+
+/// munmap(2)
+pub(crate) fn munmap(memory: &mut GuestMemory, caller: &Caller) -> Answer
+    ensures { (state : KernelState) (held : Reservations) (events : EventList) → Does (specs.munmap (asked caller.now state memory.old held)) result state memory.new held events events }
+{
+    let (at, count) = (caller.argument(0), pages(caller.argument(1)));
+    if at % PAGE_SIZE != 0 {
+        return Answer::Back { value: EINVAL };
+    }
+    if caller.argument(1) == 0 {
+        return Answer::Back { value: EINVAL };
+    }
+    if at / PAGE_SIZE + count > 1 << 20 {
+        return Answer::Back { value: EINVAL };
+    }
+    memory.unmap(at / PAGE_SIZE, count);
+    Answer::Back { value: 0 }
+}
+
+/// Whether each page of the range is mapped.
+fn are_mapped(memory: &GuestMemory, page: u32, count: u32) -> bool
+    requires { page + count ≤ 1048576 }
+    ensures value { result ≡ are_mapped (memory_of memory.now) page count }
+    ensures each { result ≡ true → ArePagesMapped (memory_of memory.now) page count }
+{
+    memory.is_mapped(page, count)
+}
+
+/// mprotect(2)
+pub(crate) fn mprotect(memory: &mut GuestMemory, caller: &Caller) -> Answer
+    ensures { (state : KernelState) (held : Reservations) (events : EventList) → Does (specs.mprotect (asked caller.now state memory.old held)) result state memory.new held events events }
+{
+    let (at, bytes) = (caller.argument(0), caller.argument(1));
+    if at % PAGE_SIZE != 0 {
+        return Answer::Back { value: EINVAL };
+    }
+    if bytes == 0 {
+        return Answer::Back { value: 0 };
+    }
+    if u64::from(at) + u64::from(bytes) > 1 << 32 {
+        return Answer::Back { value: ENOMEM };
+    }
+    let (page, count) = (at / PAGE_SIZE, pages(bytes));
+    if !are_mapped(memory, page, count) {
+        return Answer::Back { value: ENOMEM };
+    }
+    memory.protect(page, count, rights_of(caller.argument(2)));
+    Answer::Back { value: 0 }
+}
+
+/// The lowest place for so many pages from 0x40000000 on.
+fn lowest_place(memory: &GuestMemory, count: u32) -> Option<u32>
+    requires { 1 ≤ count }
+    ensures value { result ≡ lowest_place (memory_of memory.now) count }
+    ensures free { IfSome result (λ page. AreFree (memory_of memory.now) page count) }
+    ensures end { IfSome result (λ page. page + count ≤ 0x7F000) }
+    ensures start { IfSome result (λ page. 0x40000 ≤ page) }
+{
+    memory.find_free(count)
+}
+
+/// mmap2(2)
+pub(crate) fn mmap2(memory: &mut GuestMemory, caller: &Caller) -> Result<Answer, AllocError>
+    ensures does { (state : KernelState) (held : Reservations) (events : EventList) → IfOk result (λ answer. Does (specs.mmap2 (asked caller.now state memory.old held)) answer state memory.new held events events) }
+    ensures refused { OnErr result (memory_of memory.new ≡ memory_of memory.old) }
+    ensures high { (page : ℕ) → page < 0x40000 → (memory_of memory.new).rights page ≡ (memory_of memory.old).rights page }
+{
+    let (bytes, flags) = (caller.argument(1), caller.argument(3));
+    if flags % 16 != 2 {
+        return Ok(Answer::Back { value: ENOSYS });
+    }
+    if flags & 0x20 == 0 {
+        return Ok(Answer::Back { value: ENOSYS });
+    }
+    if flags & 0x10_0010 != 0 {
+        return Ok(Answer::Back { value: ENOSYS });
+    }
+    if bytes == 0 {
+        return Ok(Answer::Back { value: EINVAL });
+    }
+    let count = pages(bytes);
+    let Some(page) = lowest_place(memory, count) else {
+        return Ok(Answer::Back { value: ENOMEM });
+    };
+    if memory.mapped() + count > PAGE_LIMIT {
+        return Ok(Answer::Back { value: ENOMEM });
+    }
+    map(memory, page, count, rights_of(caller.argument(2)))?;
+    Ok(Answer::Back {
+        value: page * PAGE_SIZE,
+    })
+}
+
+impl State {
+    /// brk(2)
+    pub(crate) fn brk(
+        &mut self,
+        memory: &mut GuestMemory,
+        caller: &Caller,
+    ) -> Result<Answer, AllocError>
+        requires break_free { IsBreakFree (memory_of memory.old) self.old.program_break }
+        ensures does { (held : Reservations) (events : EventList) → IfOk result (λ answer. Does (specs.brk (asked caller.now self.old memory.old held)) answer self.new memory.new held events events) }
+        ensures memory_refused { OnErr result (memory_of memory.new ≡ memory_of memory.old) }
+        ensures state_refused { OnErr result (self.new ≡ self.old) }
+        ensures break_free { IsBreakFree (memory_of memory.new) self.new.program_break }
+    {
+        let (at, old) = (caller.argument(0), self.program_break);
+        if at < self.first_break {
+            return Ok(Answer::Back { value: old });
+        }
+        if at > BREAK_LIMIT {
+            return Ok(Answer::Back { value: old });
+        }
+        let (old_end, end) = (pages(old), pages(at));
+        let growth = end.saturating_sub(old_end);
+        if memory.mapped() + growth > PAGE_LIMIT {
+            return Ok(Answer::Back { value: old });
+        }
+        map(memory, old_end, growth, rights_of(PROT_READ | PROT_WRITE))?;
+        memory.unmap(end, old_end.saturating_sub(end));
+        self.program_break = at;
+        Ok(Answer::Back { value: at })
+    }
+}

@@ -1,0 +1,94 @@
+//! What the kernel keeps of a guest.
+ghost use Rattle.std.specs.Prelude.{◌≡◌, ◌<◌, [], false, IfOk};
+ghost use Rattle.guest_calls.specs.Kernel.{started, descriptor, with_descriptor, ready};
+ghost use Rattle.guest_calls.specs.Files.{is_closed};
+ghost use Rattle.guest_calls.specs.Invariant.{IsState};
+
+use crate::Inputs;
+use crate::descriptor::Descriptor;
+use crate::thread::Thread;
+use futex_table::FutexTable;
+use guest_words::{Addr, ReadyList, Tid};
+use std::alloc::{AllocError, Global};
+use std::marker::Model;
+
+/// The numbers of descriptors are 0 to 31.
+const DESCRIPTORS: usize = 32;
+
+/// How many threads can live.
+pub(crate) const THREADS: usize = 32;
+
+/// What the kernel keeps of a guest.
+#[derive(Drop)]
+pub(crate) struct State {
+    pub(crate) threads: Vec<Thread>,
+    pub(crate) waiting: FutexTable,
+    pub(crate) descriptors: [Descriptor; DESCRIPTORS],
+    pub(crate) stdin: Vec<u8>,
+    pub(crate) stdin_position: u64,
+    pub(crate) inputs: Inputs,
+    pub(crate) first_break: Addr,
+    pub(crate) program_break: Addr,
+    pub(crate) last_tid: Tid,
+}
+
+impl Model for State {
+    ghost use Rattle.guest_calls.specs.Kernel.{KernelState};
+    ghost use Rattle.guest_calls.specs.State.{IsKept, state_in};
+
+    ghost Value = { KernelState };
+
+    ghost view = { state_in };
+
+    ghost invariant = { IsKept };
+}
+
+impl State {
+    /// Thread 1 lives, and the descriptors 0, 1 and 2 are open.
+    pub fn new(
+        alloc: Global,
+        inputs: Inputs,
+        stdin: Vec<u8>,
+        first_break: Addr,
+    ) -> Result<State, AllocError>
+        ensures { IfOk result (λ state. state ≡ started inputs stdin.items first_break) }
+    {
+        let mut threads = Vec::with_capacity(alloc, THREADS)?;
+        threads.push(Thread {
+            tid: Tid::FIRST,
+            clear_tid: 0,
+        })?;
+        let mut descriptors = [Descriptor::Closed; DESCRIPTORS];
+        descriptors[0] = Descriptor::StandardInput;
+        descriptors[1] = Descriptor::Output { channel: 1 };
+        descriptors[2] = Descriptor::Output { channel: 2 };
+        Ok(State {
+            threads,
+            waiting: FutexTable::new(alloc)?,
+            descriptors,
+            stdin,
+            stdin_position: 0,
+            inputs,
+            first_break,
+            program_break: first_break,
+            last_tid: Tid::FIRST,
+        })
+    }
+
+    /// The live threads, rising, each with whether it can run.
+    pub fn ready_into(&self, into: &mut ReadyList)
+        requires { into.old ≡ [] }
+        ensures { into.new ≡ ready self.now }
+    {
+        for t in &self.threads {
+            into.push(t.tid, !self.waiting.waits(t.tid));
+        }
+    }
+
+    /// What holds of every state.
+    pub fn holds(&self)
+        ensures { IsState self.now }
+    {
+        let _ = &self.threads;
+    }
+}

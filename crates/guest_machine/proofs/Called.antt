@@ -1,0 +1,95 @@
+-- What a call of the kernel leaves of a machine.
+use Rattle.std.proofs.Common.{◌≡◌, ℕ, ◌+◌, ◌<◌, ◌≤◌, ◌%◌, ◌^◌, List, [], ◌∷◌, ◌++◌, length, map, Bool, true, false, not, ap, ap₂, append_assoc, sym, refl, ◌∙◌, subst, arith, None, cond}
+use Rattle.std.specs.Prelude.{◌==◌, filter}
+use Rattle.std.proofs.lemmas.List.{length-map, length-append, map-append}
+use Rattle.trace_model.specs.declared.event_kinds.Event.{Event}
+use Rattle.trace_model.specs.declared.event_kinds.Event.TheVariants.{Step}
+use Rattle.guest_memory.specs.Guest.{memory_of}
+use Rattle.guest_memory.specs.ReservedBy.{reserved_by}
+use Rattle.rv_exec.specs.Registers.{Registers}
+use Rattle.guest_calls.specs.declared.answer.Answer.{Answer}
+use Rattle.guest_calls.specs.declared.answer.Answer.TheVariants.{Back, Yield, Block, ThreadEnd, ProcessEnd, Born}
+use Rattle.guest_memory.specs.Memory.{Memory}
+use Rattle.guest_memory.specs.Reserved.{Reserved}
+use Rattle.guest_calls.specs.Kernel.{KernelState}
+use Rattle.guest_calls.specs.Invariant.{IsState}
+use Rattle.guest_calls.specs.Pages.{IsBreakFree}
+use Rattle.guest_calls.specs.Results.{Call, CallResult}
+use Rattle.guest_calls.specs.Table.{call}
+use Rattle.guest_machine.specs.declared.hart.Hart.{Hart}
+use Rattle.guest_machine.specs.declared.stepped.Stepped.{Stepped}
+use Rattle.guest_machine.specs.Kept.{Parts, Steps, machine_of}
+use Rattle.guest_machine.specs.Machine.{MachineState, registers_of, with_registers, without_hart}
+use Rattle.guest_machine.specs.Sound.{AreAligned, IsSound}
+use Rattle.guest_machine.specs.Step.{after_call, call_of, harts_after, life_events, resumed, stepped_by}
+use Rattle.guest_machine.proofs.Calls.{BeginsAligned, IsLawful, call_lawful, tids_after}
+use Rattle.guest_machine.proofs.Registers.{aligned-append, aligned-with_registers, aligned-without, pc_aligned, tids-with_registers}
+
+-- the threads that are left
+without_tids : (harts : List Hart) (tid : ℕ) → map (λ h. h.tid) (without_hart harts tid) ≡ filter (λ n. not (n == tid)) (map (λ h. h.tid) harts)
+without_tids [] tid = refl
+without_tids (h ∷ harts) tid = by_kept (not (h.tid == tid)) refl (without_tids harts tid)
+  where
+    by_kept : (b : Bool) → not (h.tid == tid) ≡ b → map (λ g. g.tid) (without_hart harts tid) ≡ filter (λ n. not (n == tid)) (map (λ g. g.tid) harts) → map (λ g. g.tid) (without_hart (h ∷ harts) tid) ≡ filter (λ n. not (n == tid)) (map (λ g. g.tid) (h ∷ harts))
+    by_kept true e rest = rw e (ap (λ ns. h.tid ∷ ns) rest)
+    by_kept false e rest = rw e rest
+
+after_tids : (answer : Answer) (harts : List Hart) (tid : ℕ) (r : Registers) → map (λ h. h.tid) (harts_after answer harts tid r) ≡ tids_after answer tid (map (λ h. h.tid) harts)
+after_tids (Back value) harts tid r = tids-with_registers harts tid (resumed r value)
+after_tids Yield harts tid r = tids-with_registers harts tid (resumed r 0)
+after_tids Block harts tid r = tids-with_registers harts tid (resumed r 0)
+after_tids ThreadEnd harts tid r = without_tids harts tid
+after_tids (ProcessEnd status) harts tid r = refl
+after_tids (Born child registers) harts tid r =
+    map-append (λ h. h.tid) (with_registers harts tid (resumed r child)) (record { tid = child; cpu = registers } ∷ [])
+    ∙ ap (λ ns. ns ++ child ∷ []) (tids-with_registers harts tid (resumed r child))
+
+behind : (pc : ℕ) → pc % 4 ≡ 0 → ((pc + 4) % 2 ^ 32) % 4 ≡ 0
+behind pc even = omega arith
+
+after_aligned : (answer : Answer) (harts : List Hart) (tid : ℕ) → AreAligned harts → BeginsAligned answer → AreAligned (harts_after answer harts tid (registers_of harts tid))
+after_aligned (Back value) harts tid all begins = aligned-with_registers harts tid _ all (behind _ (pc_aligned harts tid all))
+after_aligned Yield harts tid all begins = aligned-with_registers harts tid _ all (behind _ (pc_aligned harts tid all))
+after_aligned Block harts tid all begins = aligned-with_registers harts tid _ all (behind _ (pc_aligned harts tid all))
+after_aligned ThreadEnd harts tid all begins = aligned-without harts tid all
+after_aligned (ProcessEnd status) harts tid all begins = tt
+after_aligned (Born child registers) harts tid all begins =
+    aligned-append _ _ (aligned-with_registers harts tid _ all (behind _ (pc_aligned harts tid all))) begins
+
+-- a machine is sound after a call
+pub sound-called : (m : MachineState) (tid : ℕ) → IsSound m → IsState (call (call_of m tid)).kernel → IsBreakFree (call (call_of m tid)).guest.memory (call (call_of m tid)).kernel.program_break → IsSound (after_call m tid (call (call_of m tid))).machine
+sound-called m tid sound state free =
+    let r = call (call_of m tid) in
+    let lawful = call_lawful (call_of m tid) in
+    record {
+      same_threads = after_tids r.answer m.harts tid (registers_of m.harts tid) ∙ ap (tids_after r.answer tid) sound.same_threads ∙ sym lawful.threads;
+      aligned = after_aligned r.answer m.harts tid sound.aligned (lawful.begins (pc_aligned m.harts tid sound.aligned));
+      state = state;
+      holders = lawful.holders sound.holders;
+      break_free = free;
+    }
+
+-- a thread more, where there is one, has its place
+pub born_room : (m : MachineState) (tid : ℕ) (child : ℕ) (registers : Registers) → IsSound m → IsState (call (call_of m tid)).kernel → (call (call_of m tid)).answer ≡ Born child registers → length m.harts < 32
+born_room m tid child registers sound state is =
+    let r = call (call_of m tid) in
+    let lawful = call_lawful (call_of m tid) in
+    let grown : map (λ t. t.tid) r.kernel.threads ≡ map (λ t. t.tid) m.kernel.threads ++ child ∷ [] = lawful.threads ∙ ap (λ a. tids_after a tid (map (λ t. t.tid) m.kernel.threads)) is in
+    let after : length r.kernel.threads ≡ length m.kernel.threads + 1 = sym (length-map r.kernel.threads (λ t. t.tid)) ∙ ap length grown ∙ length-append (map (λ t. t.tid) m.kernel.threads) (child ∷ []) ∙ ap (λ n. n + 1) (length-map m.kernel.threads (λ t. t.tid)) in
+    let count : length m.harts ≡ length m.kernel.threads = sym (length-map m.harts (λ h. h.tid)) ∙ ap length sound.same_threads ∙ length-map m.kernel.threads (λ t. t.tid) in
+    omega (arith, after, count, state.few)
+
+-- a machine, part by part
+four : {hs gs : List Hart} {k l : KernelState} {m n : Memory} {h g : Reserved} → hs ≡ gs → k ≡ l → m ≡ n → h ≡ g → ◌≡◌ {A = MachineState} (record { harts = hs; kernel = k; memory = m; held = h }) (record { harts = gs; kernel = l; memory = n; held = g })
+four harts kernel memory held = λ i. record { harts = harts i; kernel = kernel i; memory = memory i; held = held i }
+
+-- what the code of a call gives is what a call does
+pub Steps-called : (p p2 : Parts) (tid : ℕ) (r : CallResult) (answer : Answer) (outcome : Stepped) (old pushed called new : List Event) → answer ≡ r.answer → p2.kernel.state ≡ r.kernel → p2.kernel.out ≡ r.out → memory_of p2.memory ≡ r.guest.memory → reserved_by p2.held ≡ r.guest.held → p2.harts ≡ harts_after answer p.harts tid (registers_of p.harts tid) → p2.called ≡ true → outcome ≡ stepped_by answer → pushed ≡ old ++ Step tid ∷ [] → called ≡ pushed ++ r.guest.events → new ≡ called ++ life_events answer p.harts tid → Steps (after_call (machine_of p) tid r) outcome p2 old new
+unfolding machine_of
+Steps-called p p2 tid r answer outcome old pushed called new answered state out memory held harts loud stepped one two three = record {
+  went = stepped ∙ ap stepped_by answered;
+  machine = four (harts ∙ ap (λ a. harts_after a p.harts tid (registers_of p.harts tid)) answered) state memory held;
+  out = ap (λ b. cond b p2.kernel.out None) loud ∙ out;
+  events = three ∙ ap₂ (λ front (back : List Event). front ++ back) (two ∙ ap (λ s. s ++ r.guest.events) one ∙ append_assoc old (Step tid ∷ []) r.guest.events) (ap (λ a. life_events a p.harts tid) answered)
+      ∙ append_assoc old (Step tid ∷ r.guest.events) (life_events r.answer p.harts tid);
+}

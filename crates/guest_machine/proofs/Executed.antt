@@ -1,0 +1,121 @@
+-- What an instruction leaves of a machine.
+use Rattle.std.proofs.Common.{◌≡◌, ℕ, ◌+◌, ◌≤◌, ◌%◌, ◌^◌, List, [], ◌∷◌, ◌++◌, length, map, Bool, true, false, ap, ap₂, append_assoc, sym, refl, ◌∙◌, subst, arith, inl, inr, Ok, cond}
+use Rattle.std.specs.Prelude.{is_some, nat_eq, Option, None}
+use Rattle.std.proofs.lemmas.Bool.{cases_eq}
+use Rattle.std.proofs.lemmas.List.{append-nil}
+use Rattle.trace_model.specs.declared.event_kinds.Event.{Event}
+use Rattle.trace_model.specs.declared.event_kinds.Event.TheVariants.{Step}
+use Rattle.guest_memory.specs.Memory.{Memory}
+use Rattle.guest_words.specs.declared.endings.FaultKind.{FaultKind}
+use Rattle.rv_isa.specs.declared.instruction.Instr.{Instr}
+use Rattle.rv_isa.specs.declared.instruction.Instr.TheVariants.{Lui, Auipc, Jal, Jalr, Branch, Load, Store, Immediate, Register, Atomic, Fence, FenceI, Ecall, Ebreak}
+use Rattle.rv_exec.specs.Registers.{Registers}
+use Rattle.rv_exec.specs.Effects.{Core, checked, effect, on_registers}
+use Rattle.rv_exec.specs.declared.outcome.Access.{Access}
+use Rattle.rv_exec.specs.declared.outcome.Access.TheVariants as access
+use Rattle.rv_exec.specs.declared.outcome.Outcome.{Outcome}
+use Rattle.rv_exec.specs.declared.outcome.Outcome.TheVariants.{Went, KernelCall, Fault}
+use Rattle.rv_exec.specs.Laws.{KeepsUnlessWent}
+use Rattle.rv_exec.proofs.CallerLemmas.{effect_aligned, effect_calls, effect_kept, effect_others, effect_rights}
+use Rattle.guest_calls.specs.Pages.{IsBreakFree}
+use Rattle.guest_calls.specs.Kernel.{lives}
+use Rattle.call_tracker.specs.Links.{kind_of}
+use Rattle.call_tracker.specs.declared.jumps.JumpKind.{JumpKind}
+use Rattle.call_tracker.specs.declared.jumps.JumpKind.TheVariants as jump
+use Rattle.guest_machine.specs.Machine.{MachineState, can_run, registers_of, with_registers}
+use Rattle.guest_machine.specs.Sound.{IsSound, HoldersLive}
+use Rattle.guest_machine.specs.Kept.{Parts, Steps, machine_of}
+use Rattle.guest_machine.specs.declared.stepped.Stepped.TheVariants as stepped
+use Rattle.guest_machine.specs.Step.{StepResult, pc_of, access_events, after_effect, core_of, executed, faulted, jump_events, went, with_core}
+use Rattle.guest_machine.proofs.Registers.{aligned-with_registers, pc_aligned, tids-with_registers}
+use Rattle.guest_machine.specs.declared.hart.Hart.{Hart}
+use Rattle.guest_machine.specs.Places.{IsPlace}
+use Rattle.guest_machine.proofs.Places.{same_harts}
+use Rattle.guest_machine.proofs.Holders.{can_run-lives}
+
+-- the step, by what became of the instruction
+pub executed-went : (m : MachineState) (tid : ℕ) (i : Instr) (accessed : Access) (c : Core) → (Went accessed, c) ≡ effect tid i (core_of m tid) → executed m tid (Ok i) ≡ went m tid i accessed c
+executed-went m tid i accessed c e = ap (after_effect m tid i) (sym e)
+
+pub executed-fault : (m : MachineState) (tid : ℕ) (i : Instr) (kind : FaultKind) (c : Core) → (Fault kind, c) ≡ effect tid i (core_of m tid) → executed m tid (Ok i) ≡ faulted m tid kind
+executed-fault m tid i kind c e = ap (after_effect m tid i) (sym e)
+
+-- it is no call of the kernel
+pub executed-no_call : (m : MachineState) (tid : ℕ) (i : Instr) (c : Core) → (KernelCall, c) ≡ effect tid i (core_of m tid) → (i ≡ Ecall → ⊥) → ⊥
+executed-no_call m tid i c e other = other ((effect_calls tid i (core_of m tid)).0 (ap (λ p. p.0) (sym e)))
+
+-- a fault leaves all as it was
+pub fault-core : (m : MachineState) (tid : ℕ) (i : Instr) (kind : FaultKind) (c : Core) → (Fault kind, c) ≡ effect tid i (core_of m tid) → c ≡ core_of m tid
+fault-core m tid i kind c e = subst (λ (p : Outcome × Core). KeepsUnlessWent p.0 (core_of m tid) p.1) (sym e) (effect_kept tid i (core_of m tid))
+
+holders_by : (m : MachineState) (tid : ℕ) (i : Instr) (answer : Outcome) (c : Core) → (answer, c) ≡ effect tid i (core_of m tid) → HoldersLive m.held m.kernel → lives m.kernel tid ≡ true → HoldersLive c.held m.kernel
+holders_by m tid i answer c e holders live q some = elim (cases_eq q tid) [
+  | inl same ↦ ap (lives m.kernel) same ∙ live
+  | inr differs ↦
+      let is : (effect tid i (core_of m tid)).1.held q ≡ c.held q = ap (λ p. p.1.held q) (sym e) in
+      let had : is_some ((effect tid i (core_of m tid)).1.held q) ≡ true = ap (λ o. is_some o) is ∙ some in
+      holders q (ap (λ o. is_some o) (sym (effect_others tid i (core_of m tid) q differs had)) ∙ had)
+]
+
+-- the machine is sound afterwards
+pub sound-core : (m : MachineState) (tid : ℕ) (i : Instr) (answer : Outcome) (c : Core) → (answer, c) ≡ effect tid i (core_of m tid) → IsSound m → can_run m tid ≡ true → IsSound (with_core m tid c)
+sound-core m tid i answer c e sound can = record {
+  same_threads = tids-with_registers m.harts tid c.registers ∙ sound.same_threads;
+  aligned = aligned-with_registers m.harts tid c.registers sound.aligned (subst (λ (core : Core). core.registers.pc % 4 ≡ 0) (ap (λ p. p.1) (sym e)) (effect_aligned tid i (core_of m tid) (pc_aligned m.harts tid sound.aligned)));
+  state = sound.state;
+  holders = holders_by m tid i answer c e sound.holders (can_run-lives m tid can);
+  break_free = λ q low high. ap (λ (rights : _). rights q) (ap (λ p. p.1.memory.rights) e ∙ effect_rights tid i (core_of m tid)) ∙ sound.break_free q low high;
+}
+
+-- an instruction that jumps accesses no memory, and each other has at most two accesses
+few_by : (b : Bool) (kind : FaultKind) (target : ℕ) (regs : List ℕ) (c : Core) (tid : ℕ) (accessed : Access) (new : Core) → (Went accessed, new) ≡ on_registers c (checked (nat_eq (target % 4) 0) kind c.registers (λ _. (Went access.Nothing, record { pc = target; regs = regs }))) → nat_eq (target % 4) 0 ≡ b → access_events tid accessed ≡ []
+few_by true kind target regs c tid accessed new e is =
+    let goes : ◌≡◌ {A = Outcome} (Went accessed) (Went access.Nothing) = ap (λ p. p.0) e ∙ ap (λ b. (on_registers c (checked b kind c.registers (λ _. (Went access.Nothing, record { pc = target; regs = regs })))).0) is in
+    let same : accessed ≡ access.Nothing = cc in ap (access_events tid) same
+few_by false kind target regs c tid accessed new e is =
+    let faults : ◌≡◌ {A = Outcome} (Went accessed) (Fault kind) = ap (λ p. p.0) e ∙ ap (λ b. (on_registers c (checked b kind c.registers (λ _. (Went access.Nothing, record { pc = target; regs = regs })))).0) is in
+    absurd (cc)
+
+two_accesses : (tid : ℕ) (accessed : Access) → length (access_events tid accessed) ≤ 2
+two_accesses tid access.Nothing = omega arith
+two_accesses tid (access.Read first count) = omega arith
+two_accesses tid (access.Write first count) = omega arith
+two_accesses tid (access.Both word) = omega arith
+
+two_jumps : (kind : JumpKind) (tid target back : ℕ) → length (jump_events kind tid target back) ≤ 2
+two_jumps jump.Nothing tid target back = omega arith
+two_jumps jump.Push tid target back = omega arith
+two_jumps jump.Pop tid target back = omega arith
+two_jumps jump.PopPush tid target back = omega arith
+
+pub few_events : (m : MachineState) (tid : ℕ) (i : Instr) (accessed : Access) (c : Core) (target back : ℕ) → (Went accessed, c) ≡ effect tid i (core_of m tid) → length (access_events tid accessed) + length (jump_events (kind_of i) tid target back) ≤ 2
+few_events m tid (Jal rd offset) accessed c target back e =
+    let none : access_events tid accessed ≡ [] = few_by _ _ _ _ (core_of m tid) tid accessed c e refl in
+    let jumps = two_jumps (kind_of (Jal rd offset)) tid target back in
+    rw none (omega (arith, jumps))
+few_events m tid (Jalr rd base offset) accessed c target back e =
+    let none : access_events tid accessed ≡ [] = few_by _ _ _ _ (core_of m tid) tid accessed c e refl in
+    let jumps = two_jumps (kind_of (Jalr rd base offset)) tid target back in
+    rw none (omega (arith, jumps))
+few_events m tid i accessed c target back e = let two = two_accesses tid accessed in omega (arith, two)
+
+-- the code of a step gives what the step is
+pub Steps-went : (p p2 : Parts) (tid : ℕ) (i : Instr) (accessed : Access) (c : Core) (old new : List Event) → (Went accessed, c) ≡ effect tid i (core_of (machine_of p) tid) → machine_of p2 ≡ with_core (machine_of p) tid c → p2.called ≡ false → new ≡ old ++ (went (machine_of p) tid i accessed c).events → Steps (executed (machine_of p) tid (Ok i)) stepped.Went p2 old new
+Steps-went p p2 tid i accessed c old new e machine quiet events =
+    subst (λ (r : StepResult). Steps r stepped.Went p2 old new) (sym (executed-went (machine_of p) tid i accessed c e)) (record { went = refl; machine = machine; out = ap (λ called. cond called p2.kernel.out None) quiet; events = events })
+
+pub Steps-faulted : (p p2 : Parts) (tid : ℕ) (kind : FaultKind) (at : ℕ) (r : StepResult) (old : List Event) → r ≡ faulted (machine_of p) tid kind → at ≡ pc_of (machine_of p) tid → machine_of p2 ≡ machine_of p → p2.called ≡ false → Steps r (stepped.Faulted kind at) p2 old old
+Steps-faulted p p2 tid kind at r old is place machine quiet =
+    subst (λ (s : StepResult). Steps s (stepped.Faulted kind at) p2 old old) (sym is) (record { went = ap (stepped.Faulted kind) place; machine = machine; out = ap (λ called. cond called p2.kernel.out None) quiet; events = sym (append-nil old) })
+
+-- the events of an instruction, one after another
+pub went-events : (old step accesses all : List Event) (tid : ℕ) (kind : JumpKind) (accessed : Access) (i : Instr) (target pc target2 pc2 : ℕ) → step ≡ old ++ Step tid ∷ [] → accesses ≡ step ++ access_events tid accessed → all ≡ accesses ++ jump_events kind tid target ((pc + 4) % 2 ^ 32) → kind ≡ kind_of i → target ≡ target2 → pc ≡ pc2 → all ≡ old ++ (Step tid ∷ (access_events tid accessed ++ jump_events (kind_of i) tid target2 ((pc2 + 4) % 2 ^ 32)))
+went-events old step accesses all tid kind accessed i target pc target2 pc2 one two three kinds targets pcs =
+    three ∙ ap₂ (λ front (back : List Event). front ++ back) (two ∙ ap (λ s. s ++ access_events tid accessed) one ∙ append_assoc old (Step tid ∷ []) (access_events tid accessed)) (ap₂ (λ k t. jump_events k tid t ((pc + 4) % 2 ^ 32)) kinds targets ∙ ap (λ n. jump_events (kind_of i) tid target2 ((n + 4) % 2 ^ 32)) pcs)
+    ∙ append_assoc old (Step tid ∷ access_events tid accessed) (jump_events (kind_of i) tid target2 ((pc2 + 4) % 2 ^ 32))
+
+-- registers, memory and reservations as they were leave the machine as it was
+pub unchanged : (m : MachineState) (tid place : ℕ) (c : Core) (harts : List Hart) → IsPlace m.harts tid place → harts ≡ with_registers m.harts tid c.registers → c ≡ core_of m tid → record m { harts = harts; memory = c.memory; held = c.held } ≡ m
+unchanged m tid place c harts is changed same =
+    ap (λ hs. record m { harts = hs; memory = c.memory; held = c.held }) (changed ∙ ap (λ (d : Core). with_registers m.harts tid d.registers) same ∙ same_harts m.harts tid place is)
+    ∙ ap (λ (d : Core). record m { memory = d.memory; held = d.held }) same

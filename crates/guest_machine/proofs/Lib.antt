@@ -1,0 +1,6 @@
+pub mod Places
+pub mod Registers
+pub mod Holders
+pub mod Executed
+pub mod Calls
+pub mod Called

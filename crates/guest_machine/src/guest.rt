@@ -1,0 +1,177 @@
+//! One step of a thread.
+ghost use Rattle.std.specs.Prelude.{◌≡◌, ◌≢◌, ◌≤◌, ◌%◌, true, false, Ok, OnOk, OnErr, IfOk, IsOk};
+ghost use Rattle.std.specs.Vec.{vec_capacity};
+ghost use Rattle.guest_memory.specs.Guest.{memory_of};
+ghost use Rattle.guest_calls.specs.Table.{call};
+ghost use Rattle.guest_machine.specs.Kept.{IsAsBefore, Steps, machine_of};
+ghost use Rattle.guest_machine.specs.Machine.{can_run};
+ghost use Rattle.guest_machine.specs.Parts.{parts_of};
+ghost use Rattle.guest_machine.specs.Places.{IsPlace};
+ghost use Rattle.guest_machine.specs.Sound.{IsSound};
+ghost use Rattle.guest_machine.specs.Step.{after_call, call_of, executed, instruction_at, next_instruction, step};
+
+use crate::Stepped;
+use crate::answers::apply;
+use crate::hart::{Hart, place_of, run_at};
+use crate::step_events::{add_access, add_jump};
+use call_tracker::kind;
+use guest_calls::Kernel;
+use guest_memory::{GuestMemory, Reservations};
+use guest_words::{Addr, FaultKind, Tid};
+use rv_exec::Outcome;
+use rv_isa::{Instr, decode};
+use std::alloc::AllocError;
+use trace_model::{Event, Events};
+
+/// An instruction has at most so many events: its step, and then at most two accesses, or a return and a call.
+const EVENTS_OF_AN_INSTRUCTION: usize = 4;
+
+/// A call has its step, and starts or ends at most so many threads, beside the copies that the kernel makes.
+const EVENTS_OF_A_CALL: usize = 33;
+
+/// The parts of a machine.
+#[derive(Drop)]
+pub(crate) struct Guest {
+    pub(crate) harts: Vec<Hart>,
+    pub(crate) kernel: Kernel,
+    pub(crate) memory: GuestMemory,
+    pub(crate) held: Reservations,
+    /// Where thread 1 began.
+    pub(crate) entry: Addr,
+    /// Whether the last step was a call of the kernel.
+    pub(crate) called: bool,
+}
+
+// Makes room for the events of an instruction, where there is none.
+fn make_room(events: &mut Events) -> Result<(), AllocError>
+    ensures room { OnOk result (4 ≤ events.new.room) }
+    ensures list { events.new.list ≡ events.old.list }
+    ensures no_memory { 4 ≤ events.old.room → IsOk result }
+{
+    if events.room() >= EVENTS_OF_AN_INSTRUCTION {
+        return Ok(());
+    }
+    events.reserve(EVENTS_OF_AN_INSTRUCTION)
+}
+
+#[tactic(auto, unfolding(crate::specs::Kept::machine_of, crate::specs::Step::step))]
+impl Guest {
+    ghost use Rattle.rv_isa.specs.declared.instruction.Instr.TheVariants.{Ecall};
+
+    // The instruction at an address, or why it can't run.
+    fn instruction_at(&self, at: Addr) -> Result<Instr, FaultKind>
+        requires { at % 4 ≡ 0 }
+        ensures { result ≡ instruction_at (memory_of self.now.memory) at }
+    {
+        match self.memory.fetch(at) {
+            Ok(word) => decode(word).ok_or(FaultKind::Illegal),
+            Err(_) => Err(FaultKind::Fetch),
+        }
+    }
+
+    // Carries out an instruction, which is no call of the kernel.
+    fn carry_out(
+        &mut self,
+        place: usize,
+        tid: Tid,
+        instruction: &Instr,
+        events: &mut Events,
+    ) -> Stepped
+        requires sound { IsSound (machine_of (parts_of self.old)) }
+        requires place { IsPlace self.old.harts.items tid place }
+        requires can_run { can_run (machine_of (parts_of self.old)) tid ≡ true }
+        requires no_call { instruction.now ≢ Ecall }
+        requires room { 4 ≤ events.old.room }
+        ensures step { Steps (executed (machine_of (parts_of self.old)) tid (Ok instruction.now)) result (parts_of self.new) events.old.list events.new.list }
+        ensures sound { IsSound (machine_of (parts_of self.new)) }
+        ensures spare { vec_capacity self.new.harts ≡ vec_capacity self.old.harts }
+        ensures entry { self.new.entry ≡ self.old.entry }
+    {
+        let pc = self.harts[place].cpu.pc;
+        let jump = kind(*instruction);
+        let outcome = run_at(
+            &mut self.harts,
+            place,
+            &mut self.memory,
+            &mut self.held,
+            tid,
+            *instruction,
+        );
+        self.called = false;
+        match outcome {
+            Outcome::Went { access } => {
+                let target = self.harts[place].cpu.pc;
+                events.push(Event::Step { tid });
+                add_access(events, tid, access);
+                add_jump(events, tid, jump, target, pc.wrapping_add(4));
+                Stepped::Went
+            }
+            Outcome::Fault { kind } => Stepped::Faulted { kind, at: pc },
+            Outcome::KernelCall => unreachable!(),
+        }
+    }
+
+    // Calls the kernel, and lets the threads start, wait or end as it answers.
+    fn call_kernel(
+        &mut self,
+        place: usize,
+        tid: Tid,
+        events: &mut Events,
+    ) -> Result<Stepped, AllocError>
+        requires sound { IsSound (machine_of (parts_of self.old)) }
+        requires place { IsPlace self.old.harts.items tid place }
+        requires can_run { can_run (machine_of (parts_of self.old)) tid ≡ true }
+        requires spare { 32 ≤ vec_capacity self.old.harts }
+        ensures step { IfOk result (λ stepped. Steps (after_call (machine_of (parts_of self.old)) tid (call (call_of (machine_of (parts_of self.old)) tid))) stepped (parts_of self.new) events.old.list events.new.list) }
+        ensures refused { OnErr result (IsAsBefore (parts_of self.old) (parts_of self.new) events.old.list events.new.list) }
+        ensures sound { IsSound (machine_of (parts_of self.new)) }
+        ensures spare { 32 ≤ vec_capacity self.new.harts }
+        ensures entry { self.new.entry ≡ self.old.entry }
+    {
+        let before = events.list().len();
+        events.reserve(EVENTS_OF_A_CALL)?;
+        events.push(Event::Step { tid });
+        let cpu = self.harts[place].cpu;
+        match self
+            .kernel
+            .call(&mut self.memory, &mut self.held, tid, &cpu, events)
+        {
+            Ok(answer) => {
+                self.called = true;
+                Ok(apply(&mut self.harts, place, tid, answer, events))
+            }
+            Err(refused) => {
+                events.truncate(before);
+                Err(refused)
+            }
+        }
+    }
+
+    /// Runs one step of a thread that can run, and adds its events. An instruction other than ECALL takes no memory where
+    /// there is room for four events.
+    pub(crate) fn step(&mut self, tid: Tid, events: &mut Events) -> Result<Stepped, AllocError>
+        requires sound { IsSound (machine_of (parts_of self.old)) }
+        requires can_run { can_run (machine_of (parts_of self.old)) tid ≡ true }
+        requires spare { 32 ≤ vec_capacity self.old.harts }
+        ensures step { IfOk result (λ stepped. Steps (step (machine_of (parts_of self.old)) tid) stepped (parts_of self.new) events.old.list events.new.list) }
+        ensures refused { OnErr result (IsAsBefore (parts_of self.old) (parts_of self.new) events.old.list events.new.list) }
+        ensures no_memory { 4 ≤ events.old.room → next_instruction (machine_of (parts_of self.old)) tid ≢ Ok Ecall → IsOk result }
+        ensures sound { IsSound (machine_of (parts_of self.new)) }
+        ensures spare { 32 ≤ vec_capacity self.new.harts }
+        ensures entry { self.new.entry ≡ self.old.entry }
+    {
+        let place = place_of(&self.harts, tid);
+        let pc = self.harts[place].cpu.pc;
+        match self.instruction_at(pc) {
+            Err(kind) => {
+                self.called = false;
+                Ok(Stepped::Faulted { kind, at: pc })
+            }
+            Ok(Instr::Ecall) => self.call_kernel(place, tid, events),
+            Ok(instruction) => {
+                make_room(events)?;
+                Ok(self.carry_out(place, tid, &instruction, events))
+            }
+        }
+    }
+}

@@ -1,0 +1,18 @@
+//! The machine that runs a guest: the live threads with their registers, the kernel, memory and reservations, and one step
+//! of one thread. Instructions are those of the RISC-V unprivileged specification, calls those of Linux on riscv32, and
+//! the start is that of the ELF gABI and the System V ABI.
+//!
+//! Contracts see a machine as one state (specs/Machine.antt), `step` as one definition (specs/Step.antt), and a new machine
+//! as the start state (specs/Start.antt).
+#![tactic(auto)]
+
+mod answers;
+mod guest;
+mod hart;
+mod machine;
+mod step_events;
+mod stepped;
+
+pub use hart::Hart;
+pub use machine::Machine;
+pub use stepped::Stepped;
