@@ -4,3 +4,5 @@ pub mod Holders
 pub mod Executed
 pub mod Calls
 pub mod Called
+pub mod ImagePages
+pub mod Stacks

@@ -5,3 +5,4 @@ pub mod Kept
 pub mod Sound
 pub mod Places
 pub mod Parts
+pub mod Setup

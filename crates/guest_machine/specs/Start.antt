@@ -69,6 +69,10 @@ random_bytes = range_with_len 0 16
 abbrev pub strings : List (List ℕ) → List ℕ
 strings arguments = flat_map (λ s. s ++ 0 ∷ []) arguments
 
+-- they have no more bytes than this
+abbrev pub strings_limit : ℕ
+strings_limit = 65536
+
 -- where they stand: one after another, up to the random bytes
 abbrev pub strings_place : List (List ℕ) → ℕ
 strings_place arguments = random_place - length (strings arguments)

@@ -9,10 +9,14 @@
 mod answers;
 mod guest;
 mod hart;
+mod image_pages;
 mod machine;
+mod setup;
+mod stack;
 mod step_events;
 mod stepped;
 
 pub use hart::Hart;
 pub use machine::Machine;
+pub use setup::SetupError;
 pub use stepped::Stepped;
