@@ -1,17 +1,17 @@
 -- The rights of pages, by the segments that touch them.
 use Rattle.std.proofs.Common.{◌≡◌, ℕ, zero, suc, ◌+◌, ◌-◌, ◌<◌, ◌≤◌, ◌/◌, List, [], ◌∷◌, ◌++◌, length, take, Bool, true, false, ◌&&◌, ◌||◌, ap, ap₂, sym, refl, ◌∙◌, subst, arith, Option, Some, None, cond, inl, inr, fold, get_or}
-use Rattle.std.specs.Prelude.{nat_le, nat_lt, slice_set, slice_index_or, is_some, if◌then◌else◌}
+use Rattle.std.specs.Prelude.{◌*◌, max, nat_le, nat_lt, slice_set, slice_index_or, is_some, if◌then◌else◌}
 use Rattle.std.specs.List.{All, count_by, list_any, range_with_len}
 use Rattle.std.proofs.lemmas.Bool.{cases_eq, cases_lt}
 use Rattle.std.proofs.lemmas.Bool.Decides.{nat_tests}
 use Rattle.guest_words.specs.declared.rights.Rights.{Rights}
-use Rattle.guest_memory.specs.Memory.{Memory, count_mapped, mapped_pages, with_bytes, with_pages}
+use Rattle.guest_memory.specs.Memory.{Memory, count_mapped, is_among, mapped_pages, with_bytes, with_pages}
 use Rattle.guest_memory.proofs.Counts.{count_of_change, one}
 use Rattle.guest_memory.proofs.PageChanges.{among_other}
 use Rattle.std.proofs.lemmas.List.Sums.{sum_by-cons}
-use Rattle.elf_image.specs.Image.{IsPlaced, Segment, is_touched, page_count, touches}
+use Rattle.elf_image.specs.Image.{Executable, IsPlaced, Segment, is_touched, page_count, touches}
 use Rattle.guest_machine.specs.Setup.{AreRights, mapped_below, pages_of}
-use Rattle.guest_machine.specs.Start.{joined, rights_or_none, segment_rights, with_segment}
+use Rattle.guest_machine.specs.Start.{first_break, image_memory, joined, rights_or_none, segment_rights, stack_page, stack_pages, stack_rights, start_memory, with_segment}
 
 -- a segment was added to the pages below one
 abbrev pub filled : Segment → ℕ → Option Rights → ℕ → Option Rights
@@ -163,3 +163,42 @@ room_left segments table m page rights are is low here few full =
 pub written_rights : (segments : List Segment) (m : Memory) → (fold (λ m s. with_bytes m s.place s.bytes) m segments).rights ≡ m.rights
 written_rights [] m = refl
 written_rights (s ∷ segments) m = written_rights segments (with_bytes m s.place s.bytes)
+
+-- the memory of an image has the rights and the pages of its segments
+pub image_rights : (segments : List Segment) → (image_memory segments).rights ≡ segment_rights segments
+image_rights segments = written_rights segments (pages_of segments)
+
+pub image-counted : (segments : List Segment) → mapped_pages (image_memory segments) ≡ page_count segments
+unfolding page_count
+image-counted segments = count_is (image_memory segments).rights (is_touched segments) 0 1048576 (λ page. ap (λ r. is_some (r page)) (image_rights segments) ∙ rights-touched segments page)
+
+-- no segment touches a page behind the greatest end
+behind_by : (s : Segment) (page : ℕ) → IsPlaced s → s.place + s.size ≤ page * 4096 → touches s page ≡ false
+behind_by s page placed behind =
+    let some : 1 ≤ s.size = placed.some in
+    let beyond : (s.place + s.size - 1) / 4096 < page = omega (arith, behind, some) in
+    grind (arith, nat_tests, beyond)
+
+end_grows : (segments : List Segment) (end : ℕ) → end ≤ fold (λ end s. max end (s.place + s.size)) end segments
+end_grows [] end = omega arith
+end_grows (s ∷ segments) end =
+    let rest = end_grows segments (max end (s.place + s.size)) in
+    let here : end ≤ max end (s.place + s.size) = grind (arith, nat_tests) in
+    omega (arith, rest, here)
+
+behind_all : (segments : List Segment) (end page : ℕ) → All IsPlaced segments → fold (λ end s. max end (s.place + s.size)) end segments ≤ page * 4096 → is_touched segments page ≡ false
+behind_all [] end page placed behind = refl
+behind_all (s ∷ segments) end page placed behind =
+    let rest = end_grows segments (max end (s.place + s.size)) in
+    let here : s.place + s.size ≤ max end (s.place + s.size) = grind (arith, nat_tests) in
+    rw (behind_by s page (placed 0 s (omega arith)) (omega (arith, rest, here, behind))) (behind_all segments (max end (s.place + s.size)) page (λ i d within. placed (suc i) d (omega (arith, within))) behind)
+
+-- the pages from the first break up to the stack are free
+pub start_free : (image : Executable) (arguments : List (List ℕ)) (page : ℕ) → All IsPlaced image.segments → first_break image.segments ≤ page * 4096 → page < 0x7F800 → (start_memory image arguments).rights page ≡ None
+start_free image arguments page placed behind low =
+    ap (λ b. cond b (Some stack_rights) ((image_memory image.segments).rights page)) among
+    ∙ ap (λ r. r page) (image_rights image.segments)
+    ∙ none_of _ (rights-touched image.segments page ∙ behind_all image.segments 0 page placed (omega (arith, behind)))
+  where
+    among : is_among stack_page stack_pages page ≡ false
+    among = grind (arith, nat_tests, low)

@@ -1,6 +1,7 @@
 -- The strings and words of a stack.
-use Rattle.std.proofs.Common.{◌≡◌, ℕ, ◌+◌, ◌<◌, ◌≤◌, List, [], ◌∷◌, ◌++◌, length, map, take, ap, append_assoc, sym, refl, ◌∙◌, arith, Option, Some, None, cond, Bool, true, false, string_bytes, String, Global}
-use Rattle.std.specs.Prelude.{nat_le, slice_index_or}
+use Rattle.std.proofs.Common.{◌≡◌, ℕ, suc, ◌+◌, ◌<◌, ◌≤◌, List, [], ◌∷◌, ◌++◌, length, map, take, ap, append_assoc, sym, refl, ◌∙◌, arith, Option, Some, None, cond, Bool, true, false, string_bytes, String, Global}
+use Rattle.std.specs.Prelude.{◌*◌, ◌/◌, is_some, nat_le, slice_index_or}
+use Rattle.std.specs.Int.{w32, to_le_bytes}
 use Rattle.std.proofs.lemmas.List.{length-append, length-map, take-map}
 use Rattle.std.proofs.Math.ListN.{get_or-map}
 use Rattle.std.proofs.lemmas.List.Folds.{length-flat_map-take}
@@ -9,7 +10,9 @@ use Rattle.std.proofs.lemmas.Grind.{flat_map-append}
 use Rattle.std.proofs.lemmas.List.Concat.{flat_map-cons}
 use Rattle.std.proofs.lemmas.Bool.Decides.{nat_tests}
 use Rattle.guest_machine.specs.Setup.{limited_length}
-use Rattle.guest_machine.specs.Start.{strings}
+use Rattle.guest_memory.specs.Memory.{Memory, is_among, with_pages}
+use Rattle.elf_image.specs.Image.{Executable}
+use Rattle.guest_machine.specs.Start.{auxiliary_vector, random_bytes, stack_page, stack_pages, stack_pointer, stack_rights, stack_words, string_places, strings, strings_place}
 
 -- the strings up to one are no longer than all
 within_texts : (texts : List (List ℕ)) (i : ℕ) (d : List ℕ) → i < length texts → length (strings (take i texts)) + length (slice_index_or texts i d) + 1 ≤ length (strings texts)
@@ -37,3 +40,54 @@ too_long arguments long = by_test (nat_le (length (strings arguments)) 65536) re
 pub words_joined : (f : ℕ → List ℕ) (n : ℕ) (ps rest z a b c : List ℕ) → z ≡ [] → a ≡ z ++ f n → b ≡ a ++ flat_map f ps → c ≡ b ++ flat_map f rest → c ≡ flat_map f (n ∷ (ps ++ rest))
 words_joined f n ps rest z a b c none one two three =
     three ∙ ap (λ s. s ++ flat_map f rest) (two ∙ ap (λ s. s ++ flat_map f ps) (one ∙ ap (λ s. s ++ f n) none)) ∙ append_assoc (f n) (flat_map f ps) (flat_map f rest) ∙ ap (λ s. f n ++ s) (sym (flat_map-append f ps rest)) ∙ sym (flat_map-cons f n (ps ++ rest))
+
+-- each string has at least its zero byte
+pub fewer_strings : (texts : List (List ℕ)) → length texts ≤ length (strings texts)
+fewer_strings [] = omega arith
+fewer_strings (s ∷ texts) =
+    let split : length (strings (s ∷ texts)) ≡ length (s ++ 0 ∷ []) + length (strings texts) =
+        ap length (flat_map-cons (λ (s : List ℕ). s ++ 0 ∷ []) s texts) ∙ length-append (s ++ 0 ∷ []) (strings texts) in
+    let one : length (s ++ 0 ∷ []) ≡ length s + 1 = length-append s (0 ∷ []) in
+    omega (arith, fewer_strings texts, split, one)
+
+places_counted : (at : ℕ) (texts : List (List ℕ)) → length (string_places at texts) ≡ length texts
+places_counted at [] = refl
+places_counted at (s ∷ texts) = ap suc (places_counted (at + length s + 1) texts)
+
+-- a word has four bytes
+bytes_counted : (words : List ℕ) → length (flat_map (λ n. to_le_bytes w32 n) words) ≡ 4 * length words
+bytes_counted [] = refl
+bytes_counted (w ∷ words) =
+    let split : length (flat_map (λ n. to_le_bytes w32 n) (w ∷ words)) ≡ 4 + length (flat_map (λ n. to_le_bytes w32 n) words) =
+        ap length (flat_map-cons (λ n. to_le_bytes w32 n) w words) ∙ length-append (to_le_bytes w32 w) (flat_map (λ n. to_le_bytes w32 n) words) in
+    omega (arith, bytes_counted words, split)
+
+pub words_counted : (image : Executable) (texts : List (List ℕ)) → length (flat_map (λ n. to_le_bytes w32 n) (stack_words image texts)) ≡ 4 * (length texts + 17)
+words_counted image texts =
+    let places = string_places (strings_place texts) texts in
+    let all = bytes_counted (stack_words image texts) in
+    let split : length (places ++ 0 ∷ 0 ∷ auxiliary_vector image) ≡ length places + 16 = length-append places (0 ∷ 0 ∷ auxiliary_vector image) in
+    omega (arith, all, split, places_counted (strings_place texts) texts)
+
+pub bytes_after_strings : (texts : List (List ℕ)) → length (strings texts ++ random_bytes) ≡ length (strings texts) + 16
+bytes_after_strings texts = length-append (strings texts) random_bytes
+
+-- the stack is mapped
+pub stack_mapped : (m : Memory) (q : ℕ) → 0x7F800000 ≤ q → q < 0x80000000 → is_some ((with_pages m stack_page stack_pages (Some stack_rights)).rights (q / 4096)) ≡ true
+stack_mapped m q low high = ap (λ b. is_some (cond b (Some stack_rights) (m.rights (q / 4096)))) among
+  where
+    from : 0x7F800 ≤ q / 4096
+    from = omega (arith, low)
+
+    to : q / 4096 < 0x7F800 + 2048
+    to = omega (arith, high)
+
+    among : is_among stack_page stack_pages (q / 4096) ≡ true
+    among = grind (arith, nat_tests, from, to)
+
+-- the words stand in the stack, and the strings and sixteen bytes behind them
+pub words_within : (image : Executable) (texts : List (List ℕ)) → length (strings texts) ≤ 65536 → (0x7F800000 ≤ stack_pointer texts) × (stack_pointer texts + length (flat_map (λ n. to_le_bytes w32 n) (stack_words image texts)) < 0x80000000)
+words_within image texts limit =
+    let few = fewer_strings texts in
+    let count = words_counted image texts in
+    (omega (arith, few, limit), omega (arith, few, limit, count))

@@ -1,9 +1,12 @@
 -- What the parts of the setup hand to one another.
-use Rattle.std.specs.Prelude.{◌≡◌, ℕ, ◌<◌, nat_lt, nat_le, if◌then◌else◌, List, length, slice_index_or, Option, Some, None}
+use Rattle.std.specs.Prelude.{◌≡◌, ℕ, ◌<◌, ◌+◌, nat_lt, nat_le, if◌then◌else◌, List, length, slice_index_or, Option, Some, None}
 use Rattle.guest_words.specs.declared.rights.Rights.{Rights}
 use Rattle.guest_memory.specs.Memory.{Memory}
-use Rattle.elf_image.specs.Image.{Segment}
-use Rattle.guest_machine.specs.Start.{segment_rights, strings, strings_limit}
+use Rattle.elf_image.specs.Image.{Executable, Segment, page_count}
+use Rattle.guest_calls.specs.Pages.{page_limit}
+use Rattle.guest_machine.specs.declared.setup.SetupError.{SetupError}
+use Rattle.guest_machine.specs.declared.setup.SetupError.TheVariants.{ArgsTooLong, Pages}
+use Rattle.guest_machine.specs.Start.{segment_rights, stack_pages, strings, strings_limit}
 
 -- a table has the rights of each page below 0x40000, by the segments
 pub record AreRights (segments : List Segment) (table : List (Option Rights)) : Type 0 where
@@ -21,3 +24,10 @@ pages_of segments = record { rights = segment_rights segments; byte = λ _. 0 }
 -- how many bytes the argument strings have with their zero bytes, where they are no more than the limit
 abbrev pub limited_length : List (List ℕ) → Option ℕ
 limited_length arguments = let n = length (strings arguments) in if nat_le n strings_limit then Some n else None
+
+-- why a guest can't begin: its argument strings are too long, or there is no room for the stack beside the image
+abbrev pub setup_refusal : Executable → List (List ℕ) → Option SetupError
+setup_refusal image arguments =
+    if nat_lt strings_limit (length (strings arguments)) then Some ArgsTooLong
+    else if nat_lt page_limit (page_count image.segments + stack_pages) then Some Pages
+    else None

@@ -13,6 +13,7 @@ mod image_pages;
 mod machine;
 mod setup;
 mod stack;
+mod start_memory;
 mod step_events;
 mod stepped;
 

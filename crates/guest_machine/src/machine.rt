@@ -1,10 +1,15 @@
 //! The machine, and one step of a thread.
 ghost use Rattle.std.specs.Prelude.{◌≡◌, ◌≢◌, ◌≤◌, true, Ok, OnErr, IfOk, IsOk};
 
-use crate::Stepped;
 use crate::guest::Guest;
+use crate::setup::first_guest;
+use crate::stack::strings_length;
+use crate::start_memory::STACK_PAGES;
+use crate::{SetupError, Stepped};
+use elf_image::Image;
+use guest_calls::Inputs;
 use guest_words::{Addr, Tid};
-use std::alloc::AllocError;
+use std::alloc::{AllocError, Global};
 use std::marker::Model;
 use trace_model::Events;
 
@@ -28,12 +33,42 @@ impl Model for Machine {
     ghost invariant = { λ m. (32 ≤ vec_capacity m.guest.harts) × IsSound (machine_of (parts_of m.guest)) };
 }
 
+/// The most pages of the image, so that the stack has room.
+const IMAGE_LIMIT: u32 = 16384 - STACK_PAGES;
+
 impl Machine {
+    ghost use Rattle.std.specs.Prelude.{None, map, string_bytes, IfSome, IfNone, IfErr, Err};
+    ghost use Rattle.guest_machine.specs.declared.setup.SetupError.TheVariants.{Memory};
+    ghost use Rattle.guest_machine.specs.Setup.{setup_refusal};
+    ghost use Rattle.guest_machine.specs.Start.{start};
     ghost use Rattle.std.specs.Option.{option_map};
     ghost use Rattle.rv_isa.specs.declared.instruction.Instr.TheVariants.{Ecall};
     ghost use Rattle.guest_machine.specs.Kept.{machine_of, out_of, IsAsBefore, Steps};
     ghost use Rattle.guest_machine.specs.Machine.{can_run};
     ghost use Rattle.guest_machine.specs.Step.{next_instruction, step};
+
+    /// A machine that begins: the image's segments, the argument strings, the first of which is the program's name, the
+    /// input files, and what is on standard input.
+    pub fn new(
+        alloc: Global,
+        image: &Image,
+        arguments: &[String],
+        inputs: Inputs,
+        stdin: Vec<u8>,
+    ) -> Result<Machine, SetupError>
+        ensures refused { IfSome (setup_refusal image.now (map string_bytes arguments.now)) (λ refusal. result ≡ Err refusal) }
+        ensures no_memory { IfNone (setup_refusal image.now (map string_bytes arguments.now)) (IfErr result (λ e. e ≡ Memory)) }
+        ensures start { IfOk result (λ machine. machine_of machine ≡ start image.now (map string_bytes arguments.now) inputs stdin.items) }
+        ensures out { IfOk result (λ machine. out_of machine ≡ None) }
+        ensures entry { IfOk result (λ machine. machine.entry ≡ image.now.entry) }
+    {
+        let text_bytes = strings_length(arguments).ok_or(SetupError::ArgsTooLong)?;
+        if image.page_count() > IMAGE_LIMIT {
+            return Err(SetupError::Pages);
+        }
+        let guest = first_guest(alloc, image, arguments, inputs, stdin, text_bytes)?;
+        Ok(Machine { guest })
+    }
 
     /// The channel, 1 or 2, and the bytes that the last step wrote, where it was a write of at least one byte.
     pub fn outgoing(&self) -> Option<(u32, &[u8])>

@@ -1,8 +1,28 @@
 //! The start of a guest.
-ghost use Rattle.std.specs.Prelude.{◌≡◌, ◌≤◌, ◌<◌, ◌+◌, length, map, fold, max, string_bytes, IfOk, IfErr, OnOk};
+ghost use Rattle.std.specs.Prelude.{◌≡◌, ◌≤◌, ◌+◌, ◌-◌, ◌*◌, ◌/◌, false, length, map, slice_set, replicate, string_bytes, IfOk};
+ghost use Rattle.std.specs.Vec.{vec_capacity};
+ghost use Rattle.elf_image.specs.Image.{page_count};
+ghost use Rattle.guest_machine.specs.Kept.{machine_of};
+ghost use Rattle.guest_machine.specs.Parts.{parts_of};
+ghost use Rattle.guest_machine.specs.Sound.{IsSound};
+ghost use Rattle.guest_machine.specs.Start.{start, strings};
 
-use std::alloc::AllocError;
+use crate::guest::Guest;
+use crate::hart::Hart;
+use crate::image_pages::greatest_end;
+use crate::stack::RANDOM_PLACE;
+use crate::start_memory::start_memory;
+use elf_image::Image;
+use guest_calls::{Inputs, Kernel};
+use guest_memory::Reservations;
+use guest_words::{Addr, Tid};
+use rv_exec::Cpu;
+use rv_isa::Reg;
+use std::alloc::{AllocError, Global};
 use thiserror::Error;
+
+/// The most threads that live at one time.
+const THREADS: usize = 32;
 
 /// Why a guest can't begin.
 #[derive(Clone, Copy, Debug, PartialEq, Eq, Error)]
@@ -27,4 +47,60 @@ impl From<AllocError> for SetupError {
     fn from(_error: AllocError) -> SetupError {
         SetupError::Memory
     }
+}
+
+// The words stand below the strings, at a multiple of 16.
+fn stack_pointer(first: Addr, count: usize) -> Addr
+    requires place { 0x70000000 ≤ first }
+    requires few { count ≤ 65536 }
+    ensures { result ≡ (first - 4 * (count + 17)) / 16 * 16 }
+{
+    (first - 4 * (count as u32 + 17)) / 16 * 16
+}
+
+// Thread 1 at the entry, with the stack pointer in x2.
+fn first_hart(entry: Addr, pointer: Addr) -> Hart
+    ensures { result ≡ record { tid = 1; cpu = record { pc = entry; regs = slice_set (replicate 32 0) 2 pointer } } }
+{
+    let mut cpu = Cpu::new(entry);
+    cpu.write(Reg::new(2).unwrap(), pointer);
+    Hart {
+        tid: Tid::FIRST,
+        cpu,
+    }
+}
+
+/// A guest that begins, where the argument strings have `text_bytes` bytes with their zero bytes.
+pub(crate) fn first_guest(
+    alloc: Global,
+    image: &Image,
+    arguments: &[String],
+    inputs: Inputs,
+    stdin: Vec<u8>,
+    text_bytes: u32,
+) -> Result<Guest, AllocError>
+    requires texts { text_bytes ≡ length (strings (map string_bytes arguments.now)) }
+    requires limit { text_bytes ≤ 65536 }
+    requires few { page_count image.now.segments + 2048 ≤ 16384 }
+    ensures start { IfOk result (λ guest. machine_of (parts_of guest) ≡ start image.now (map string_bytes arguments.now) inputs stdin.items) }
+    ensures sound { IfOk result (λ guest. IsSound (machine_of (parts_of guest))) }
+    ensures spare { IfOk result (λ guest. 32 ≤ vec_capacity guest.harts) }
+    ensures entry { IfOk result (λ guest. guest.entry ≡ image.now.entry) }
+    ensures called { IfOk result (λ guest. guest.called ≡ false) }
+{
+    let first = RANDOM_PLACE - text_bytes;
+    let pointer = stack_pointer(first, arguments.len());
+    let first_break = greatest_end(image.segments()).div_ceil(4096) * 4096;
+    let memory = start_memory(alloc, image, arguments, first, pointer)?;
+    let kernel = Kernel::new(alloc, inputs, stdin, first_break)?;
+    let mut harts = Vec::with_capacity(alloc, THREADS)?;
+    harts.push(first_hart(image.entry(), pointer))?;
+    Ok(Guest {
+        harts,
+        kernel,
+        memory,
+        held: Reservations::new(),
+        entry: image.entry(),
+        called: false,
+    })
 }

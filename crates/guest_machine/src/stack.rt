@@ -2,7 +2,7 @@
 ghost use Rattle.std.specs.Prelude.{◌≡◌, ◌≤◌, ◌<◌, ◌+◌, ◌*◌, ◌^◌, ◌++◌, length, map, flat_map, string_bytes, IfOk, OnOk};
 ghost use Rattle.std.specs.Int.{w32, to_le_bytes};
 ghost use Rattle.guest_machine.specs.Setup.{limited_length};
-ghost use Rattle.guest_machine.specs.Start.{string_places, strings, stack_words, stack_pointer, strings_place, random_bytes};
+ghost use Rattle.guest_machine.specs.Start.{string_places, strings, stack_words, strings_place, random_bytes};
 
 use elf_image::Image;
 use guest_words::Addr;
@@ -12,7 +12,7 @@ use std::alloc::{AllocError, Global};
 const STRINGS_LIMIT: usize = 65536;
 
 /// Where the sixteen bytes stand that stand for random ones.
-const RANDOM_PLACE: u32 = 0x7FFF_FFF0;
+pub(crate) const RANDOM_PLACE: u32 = 0x7FFF_FFF0;
 
 /// How many bytes the argument strings have with their zero bytes; None where they are more than the limit.
 pub(crate) fn strings_length(arguments: &[String]) -> Option<u32>
