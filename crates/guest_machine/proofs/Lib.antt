@@ -6,3 +6,4 @@ pub mod Calls
 pub mod Called
 pub mod ImagePages
 pub mod Stacks
+pub mod Starts

@@ -1,0 +1,51 @@
+-- The state at the start.
+use Rattle.std.proofs.Common.{◌≡◌, ℕ, ◌+◌, ◌-◌, ◌*◌, ◌/◌, ◌%◌, ◌<◌, ◌≤◌, List, [], ◌∷◌, length, map, ap, sym, refl, ◌∙◌, subst, arith, true, false, Option, Some, None}
+use Rattle.std.specs.Prelude.{is_some, replicate, slice_set}
+use Rattle.std.specs.Int.{div_ceil}
+use Rattle.std.proofs.lemmas.Grind.{div_ceil_times}
+use Rattle.elf_image.specs.Image as elf
+use Rattle.elf_image.specs.Image.{Executable}
+use Rattle.guest_memory.specs.Guest.{memory_of}
+use Rattle.guest_memory.specs.ReservedBy.{reserved_by}
+use Rattle.guest_memory.specs.Reserved.{nothing_reserved}
+use Rattle.guest_calls.specs.Inputs.{Input}
+use Rattle.guest_calls.specs.Invariant.{IsState}
+use Rattle.guest_calls.specs.Kernel.{KernelState, started}
+use Rattle.guest_calls.specs.Pages.{IsBreakFree}
+use Rattle.guest_machine.specs.declared.hart.Hart.{Hart}
+use Rattle.guest_machine.specs.Kept.{Parts, machine_of}
+use Rattle.guest_machine.specs.Sound.{IsSound}
+use Rattle.guest_machine.specs.Start.{first_break, greatest_end, stack_pointer, start, start_memory}
+use Rattle.guest_machine.proofs.ImagePages.{start_free}
+
+-- the registers of thread 1
+abbrev pub first_hart : ℕ → ℕ → Hart
+first_hart entry pointer = record { tid = 1; cpu = record { pc = entry; regs = slice_set (replicate 32 0) 2 pointer } }
+
+pub only_hart : (h : Hart) (e entry p pointer : ℕ) → h ≡ first_hart e p → e ≡ entry → p ≡ pointer → h ∷ [] ≡ first_hart entry pointer ∷ []
+only_hart h e entry p pointer is from with_pointer = ap (λ h. h ∷ []) (is ∙ ap (λ e. first_hart e p) from ∙ ap (first_hart entry) with_pointer)
+
+pub start_is : (image : Executable) (texts : List (List ℕ)) (inputs : List Input) (stdin : List ℕ) (p : Parts) → p.harts ≡ first_hart image.entry (stack_pointer texts) ∷ [] → p.kernel.state ≡ started inputs stdin (first_break image.segments) → memory_of p.memory ≡ start_memory image texts → reserved_by p.held ≡ nothing_reserved → machine_of p ≡ start image texts inputs stdin
+unfolding start machine_of
+start_is image texts inputs stdin p harts kernel memory held = λ i. record { harts = harts i; kernel = kernel i; memory = memory i; held = held i }
+
+break_is_free : (image : Executable) (texts : List (List ℕ)) → elf.IsSound image → IsBreakFree (start_memory image texts) (first_break image.segments)
+break_is_free image texts sound page from to =
+    start_free image texts page sound.placed (omega (arith, from)) (omega (arith, to))
+
+pub start_sound : (image : Executable) (texts : List (List ℕ)) (inputs : List Input) (stdin : List ℕ) → elf.IsSound image → IsState (started inputs stdin (first_break image.segments)) → IsSound (start image texts inputs stdin)
+unfolding start
+start_sound image texts inputs stdin sound state = record {
+  same_threads = refl;
+  aligned = (sound.aligned, tt);
+  state = state;
+  holders = λ tid holds. absurd (cc);
+  break_free = break_is_free image texts sound;
+}
+
+-- the greatest end, rounded up to a page
+pub break_is : (segments : List elf.Segment) (end page : ℕ) → end ≡ greatest_end segments → page ≡ div_ceil end 4096 → page * 4096 ≡ first_break segments
+break_is segments end page last is =
+    let bounds = div_ceil_times end 4096 (omega arith) in
+    let rounded : page * 4096 ≡ (end + 4095) / 4096 * 4096 = omega (arith, is, bounds.0, bounds.1) in
+    rounded ∙ ap (λ e. (e + 4095) / 4096 * 4096) last
