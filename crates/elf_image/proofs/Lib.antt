@@ -1,1 +1,12 @@
+pub mod Executables
+pub mod FirstSymbols
+pub mod FirstTests
+pub mod Layouts
+pub mod NameLists
+pub mod NameTexts
+pub mod PageCounts
+pub mod Pairs
 pub mod Searched
+pub mod Sound
+pub mod Tables
+pub mod Values

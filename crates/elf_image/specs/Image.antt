@@ -1,5 +1,5 @@
 -- What is known of an executable that can be run: its segments in memory, where it begins, and the names of its routines.
-use Rattle.std.specs.Prelude.{◌≡◌, ℕ, ◌+◌, ◌-◌, ◌/◌, ◌%◌, ◌^◌, ◌<◌, ◌≤◌, Bool, true, false, ◌&&◌, ◌==◌, nat_le, nat_lt, List, length, map, Option, option_map, All, AllPairs}
+use Rattle.std.specs.Prelude.{◌≡◌, ℕ, ◌+◌, ◌-◌, ◌/◌, ◌%◌, ◌^◌, ◌<◌, ◌≤◌, Bool, true, false, ◌&&◌, ◌==◌, nat_le, nat_lt, List, length, Option, option_map, All, AllPairs}
 use Rattle.std.specs.List.{count_by, find, list_any, range_with_len}
 use Rattle.guest_words.specs.declared.rights.Rights.{Rights}
 
@@ -30,7 +30,8 @@ holds s at = nat_le s.place at && nat_lt at (s.place + s.size)
 abbrev pub share_byte : Segment → Segment → Bool
 share_byte s t = nat_lt s.place (t.place + t.size) && nat_lt t.place (s.place + s.size)
 
--- whether the segment, which is not empty, touches the page of this number: 4096 bytes each, from that of its first byte to that of its last
+-- whether a segment that is not empty touches the page of this number: the pages, of 4096 bytes each, are those from its
+-- first byte's to its last byte's
 abbrev pub touches : Segment → ℕ → Bool
 touches s page = nat_le (s.place / 4096) page && nat_le page ((s.place + s.size - 1) / 4096)
 
@@ -46,9 +47,13 @@ page_count segments = count_by (is_touched segments) (range_with_len 0 1048576)
 abbrev pub is_code : List Segment → ℕ → Bool
 is_code segments at = list_any (λ s. holds s at && s.rights.exec) segments
 
+-- the name beside an address, in a list of addresses with their names
+abbrev pub name_beside : List (ℕ × List ℕ) → ℕ → Option (List ℕ)
+name_beside names at = option_map (λ n. n.1) (find (λ n. n.0 == at) names)
+
 -- the name of an address, where it has one
 abbrev pub name_of : Executable → ℕ → Option (List ℕ)
-name_of e at = option_map (λ n. n.1) (find (λ n. n.0 == at) e.names)
+name_of e at = name_beside e.names at
 
 -- A segment is not empty, lies in the guest's part of memory, and its bytes are not too many.
 pub record IsPlaced (s : Segment) : Type 0 where

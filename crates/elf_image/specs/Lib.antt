@@ -1,3 +1,10 @@
 pub mod Fields
+pub mod FirstSymbols
+pub mod Headers
 pub mod Image
+pub mod Layout
 pub mod Numbers
+pub mod Reading
+pub mod Segments
+pub mod Symbols
+pub mod Tests

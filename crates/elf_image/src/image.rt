@@ -1,9 +1,10 @@
 //! An executable that can be run, and its segments.
-ghost use Rattle.std.specs.Prelude.{◌≡◌, ◌<◌, ◌==◌, None, length, map, option_map, slice_get, MatchOption};
+ghost use Rattle.std.specs.Prelude.{◌≡◌, ◌<◌, ◌==◌, None, length, map, option_map, AllPairs, slice_get, MatchOption};
 ghost use Rattle.std.specs.List.{find};
-ghost use Rattle.elf_image.specs.Fields.{IsRising};
-ghost use Rattle.elf_image.specs.Image.{IsSound, page_count, name_of};
+ghost use Rattle.elf_image.specs.Fields.{IsFilled};
+ghost use Rattle.elf_image.specs.Image.{IsSound, name_beside, name_of, page_count};
 
+use crate::symbols::Symbol;
 use guest_words::{Addr, Name, Rights};
 use std::marker::Model;
 
@@ -33,11 +34,12 @@ pub struct Image {
     header_count: u32,
     segments: Vec<Segment>,
     pages: u32,
-    // By rising address, each address once.
-    names: Vec<(Addr, Name)>,
+    // By rising value, the symbol that names each.
+    symbols: Vec<Symbol>,
 }
 
 impl Model for Image {
+    ghost use Rattle.std.specs.Prelude.{map};
     ghost use Rattle.elf_image.specs.Image.{Executable};
     ghost use Rattle.elf_image.specs.Fields.{IsFilled};
 
@@ -48,7 +50,7 @@ impl Model for Image {
       header_place = i.header_place;
       header_count = i.header_count;
       segments = i.segments.items;
-      names = i.names.items;
+      names = map (λ s. (s.value, s.name)) i.symbols.items;
     } };
 
     ghost invariant = { λ i. IsFilled (record {
@@ -56,20 +58,67 @@ impl Model for Image {
       header_place = i.header_place;
       header_count = i.header_count;
       segments = i.segments.items;
-      names = i.names.items;
-    }) i.pages };
+      names = map (λ s. (s.value, s.name)) i.symbols.items;
+    }) i.pages i.symbols.items };
 }
 
-/// Where the address stands among rising ones.
-fn search(names: &[(Addr, Name)], at: Addr) -> Option<usize>
-    requires { IsRising (map (λ n. n.0) names.now) }
-    ensures { MatchOption result (find (λ n. n.0 == at) names.now ≡ None)
-        (λ place. (place < length names.now) × (find (λ n. n.0 == at) names.now ≡ slice_get names.now place)) }
+/// Where the symbol of this value is, among symbols by rising value.
+fn search(symbols: &[Symbol], value: Addr) -> Option<usize>
+    requires { AllPairs (λ s t. s.value < t.value) symbols.now }
+    ensures { MatchOption result (find (λ s. s.value == value) symbols.now ≡ None)
+        (λ place. (place < length symbols.now) × (find (λ s. s.value == value) symbols.now ≡ slice_get symbols.now place)) }
 {
-    names.binary_search_by_key(&at, |named| named.0).ok()
+    symbols
+        .binary_search_by_key(&value, |symbol| symbol.value)
+        .ok()
+}
+
+/// The name of the symbol of this value, among symbols by rising value.
+fn look_up(symbols: &[Symbol], value: Addr) -> Option<&Name>
+    requires { AllPairs (λ s t. s.value < t.value) symbols.now }
+    ensures { option_map (λ n. n.now) result ≡ name_beside (map (λ s. (s.value, s.name)) symbols.now) value }
+{
+    match search(symbols, value) {
+        None => None,
+        Some(place) => Some(&symbols[place].name),
+    }
 }
 
 impl Image {
+    /// An image of these parts.
+    pub(crate) fn new(
+        entry: Addr,
+        header_place: Addr,
+        header_count: u32,
+        segments: Vec<Segment>,
+        pages: u32,
+        symbols: Vec<Symbol>,
+    ) -> Image
+        requires { IsFilled (record {
+          entry = entry;
+          header_place = header_place;
+          header_count = header_count;
+          segments = segments.items;
+          names = map (λ s. (s.value, s.name)) symbols.items;
+        }) pages symbols.items }
+        ensures { result ≡ record {
+          entry = entry;
+          header_place = header_place;
+          header_count = header_count;
+          segments = segments.items;
+          names = map (λ s. (s.value, s.name)) symbols.items;
+        } }
+    {
+        Image {
+            entry,
+            header_place,
+            header_count,
+            segments,
+            pages,
+            symbols,
+        }
+    }
+
     /// The address where the executable begins to run.
     pub fn entry(&self) -> Addr
         ensures { result ≡ self.now.entry }
@@ -110,7 +159,6 @@ impl Image {
     pub fn name_of(&self, at: Addr) -> Option<&Name>
         ensures { option_map (λ n. n.now) result ≡ name_of self.now at }
     {
-        let place = search(&self.names, at)?;
-        Some(&self.names[place].1)
+        look_up(&self.symbols, at)
     }
 }

@@ -20,11 +20,11 @@ use Rattle.guest_calls.specs.Results.{Call, returns, writable, fills_word, when,
 use Rattle.guest_calls.specs.Threads.{with_clear_tid, clear_tid, told_end}
 use Rattle.guest_calls.proofs.Rising.{rises_filter}
 
-or_false : (a b : Bool) → (a || b) ≡ false → (a ≡ false) × (b ≡ false)
+pub or_false : (a b : Bool) → (a || b) ≡ false → (a ≡ false) × (b ≡ false)
 or_false true b h = absurd (cc)
 or_false false b h = (refl, h)
 
-and_true : (a b : Bool) → (a && b) ≡ true → (a ≡ true) × (b ≡ true)
+pub and_true : (a b : Bool) → (a && b) ≡ true → (a ≡ true) × (b ≡ true)
 and_true true b h = (refl, h)
 and_true false b h = absurd (cc)
 
@@ -41,7 +41,7 @@ apart_of true n tid q is kept differs = let here : n ≡ tid = grind (arith, nat
 apart_of false n tid q is kept differs = absurd (cc)
 
 -- who does not live after another has left did not live before
-still_gone : (ts : List Thread) (tid q : ℕ) → (q ≡ tid → ⊥) → list_any (is_thread q) (filter (λ t. not (is_thread tid t)) ts) ≡ false → list_any (is_thread q) ts ≡ false
+pub still_gone : (ts : List Thread) (tid q : ℕ) → (q ≡ tid → ⊥) → list_any (is_thread q) (filter (λ t. not (is_thread tid t)) ts) ≡ false → list_any (is_thread q) ts ≡ false
 still_gone [] tid q differs gone = refl
 still_gone (t ∷ ts) tid q differs gone =
     let parts = gone_head (not (is_thread tid t)) q t (filter (λ u. not (is_thread tid u)) ts) (λ kept. apart_of (is_thread tid t) t.tid tid q refl kept differs) gone in
@@ -51,11 +51,11 @@ few_cond : (b : Bool) (t : Thread) (rest : List Thread) (n : ℕ) → length res
 few_cond true t rest n h = omega (arith, h)
 few_cond false t rest n h = omega (arith, h)
 
-few_left : (test : Thread → Bool) (ts : List Thread) → length (filter test ts) ≤ length ts
+pub few_left : (test : Thread → Bool) (ts : List Thread) → length (filter test ts) ≤ length ts
 few_left test [] = omega arith
 few_left test (t ∷ ts) = let h = few_cond (test t) t (filter test ts) (length ts) (few_left test ts) in omega (arith, h)
 
-does_not_wait : (k : KernelState) (tid : ℕ) → can_run k tid ≡ true → waits k.waiting tid ≡ false
+pub does_not_wait : (k : KernelState) (tid : ℕ) → can_run k tid ≡ true → waits k.waiting tid ≡ false
 does_not_wait k tid can = not_true (waits k.waiting tid) (and_true (lives k tid) (not (waits k.waiting tid)) can).1
 
 -- who can run still can where others are woken

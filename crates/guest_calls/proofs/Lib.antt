@@ -1,6 +1,16 @@
+pub mod AllCalls
+pub mod Births
+pub mod Breaks
+pub mod Carrying
 pub mod Leaving
+pub mod PartLists
 pub mod PathEnds
 pub mod Places
+pub mod Queues
 pub mod Reach
+pub mod Refusals
 pub mod Rising
+pub mod Rows
+pub mod Settled
 pub mod Started
+pub mod Weights

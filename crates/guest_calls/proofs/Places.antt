@@ -33,7 +33,7 @@ each_of P page count first rest q low high = elim (cases_eq q page) [
   | inr differs ↦ rest q (grind (arith, low, differs)) (omega (arith, high))
 ]
 
-mapped_each : (m : Memory) (page count : ℕ) → are_mapped m page count ≡ true → ArePagesMapped m page count
+pub mapped_each : (m : Memory) (page count : ℕ) → are_mapped m page count ≡ true → ArePagesMapped m page count
 mapped_each m page zero h = λ q low high. absurd (omega (arith, low, high))
 mapped_each m page (suc count) h =
     let parts = and_true (is_some (m.rights page)) (are_mapped m (page + 1) count) h in

@@ -11,7 +11,7 @@ use Rattle.guest_memory.specs.declared.refusal.Need.{Need}
 use Rattle.guest_memory.specs.declared.refusal.Need.TheVariants as need
 use Rattle.guest_memory.specs.Memory.{Memory, page_refusal, page_rights, byte_refusal, first_refusal, with_bytes, is_among}
 use Rattle.guest_memory.specs.Reserved.{Reserved, after_write, is_dropped}
-use Rattle.guest_memory.proofs.Accesses.{refusal_each}
+use Rattle.guest_memory.proofs.Accesses.{refusal_each, refusal_skip}
 use Rattle.rv_exec.specs.Accesses.{can_read, can_write}
 use Rattle.trace_model.specs.declared.event_kinds.Event.{Event}
 use Rattle.trace_model.specs.declared.event_kinds.Event.TheVariants.{Read, Fill}
@@ -77,3 +77,16 @@ refusal_kept m need to bytes at (suc n) = ap (λ (o : Option MemError). option_o
 
 pub writable_kept : (m : Memory) (to : ℕ) (bytes : List ℕ) (at n : ℕ) → can_write (with_bytes m to bytes) at n ≡ can_write m at n
 writable_kept m to bytes at n = ap (λ (o : Option MemError). is_none o) (refusal_kept m need.Write to bytes at n)
+
+-- bytes among those that are not refused
+refusal_within : (m : Memory) (need : Need) (at n k count : ℕ) → first_refusal m need at n ≡ None → k + count ≤ n → first_refusal m need (at + k) count ≡ None
+refusal_within m need at n k count none fits =
+    let each : (j : ℕ) → j < count → byte_refusal m need ((at + k) + j) ≡ None = λ j lt.
+      let e : at + (k + j) ≡ (at + k) + j = omega arith in
+      subst (λ (a : ℕ). byte_refusal m need a ≡ None) e (refusal_each m need at n none (k + j) (omega (arith, lt, fits)))
+    in
+    let e : count ≡ count + 0 = omega arith in
+    ap (λ (j : ℕ). first_refusal m need (at + k) j) e ∙ refusal_skip m need (at + k) count 0 each
+
+pub reads_within : (m : Memory) (at n k count : ℕ) → can_read m at n ≡ true → k + count ≤ n → can_read m (at + k) count ≡ true
+reads_within m at n k count reach fits = ap (λ (o : Option MemError). is_none o) (refusal_within m need.Read at n k count (none_of (first_refusal m need.Read at n) reach) fits)

@@ -1,10 +1,12 @@
 -- A new thread: clone(2).
-use Rattle.std.specs.Prelude.{ℕ, ◌+◌, ◌%◌, ◌^◌, Bool, not, ◌&&◌, ◌==◌, nat_le, bit_and, List, [], ◌∷◌, ◌++◌, length, slice_set, if◌then◌else◌}
+use Rattle.std.specs.Prelude.{ℕ, ◌+◌, ◌%◌, ◌^◌, Bool, not, ◌&&◌, ◌||◌, ◌==◌, nat_le, bit_and, List, [], ◌∷◌, ◌++◌, length, slice_set, if◌then◌else◌}
+use Rattle.guest_memory.specs.Memory.{Memory}
+use Rattle.rv_exec.specs.Accesses.{can_write}
 use Rattle.rv_exec.specs.Registers.{Registers}
 use Rattle.guest_calls.specs.declared.answer.Answer.TheVariants.{Born}
 use Rattle.guest_calls.specs.Errors.{eagain, efault, enosys}
 use Rattle.guest_calls.specs.Kernel.{KernelState}
-use Rattle.guest_calls.specs.Results.{Call, CallResult, arg, returns, unless, ◌⇒◌, ◌or◌, ◌▷◌, when, answers, changes, fills_word, writable, has}
+use Rattle.guest_calls.specs.Results.{Call, CallResult, arg, returns, unless, ◌⇒◌, ◌or◌, ◌▷◌, answers, changes, fills_word_where, has}
 
 -- CLONE_VM 0x100, CLONE_SIGHAND 0x800 and CLONE_THREAD 0x10000: a thread of the same process, and no other child
 abbrev pub needed_flags : ℕ
@@ -50,15 +52,28 @@ abbrev pub with_thread : ℕ → ℕ → KernelState → KernelState
 with_thread tid clear_tid k =
     record k { threads = k.threads ++ record { tid = tid; clear_tid = clear_tid } ∷ []; last_tid = tid }
 
+-- a thread of the same process is asked for, and nothing unknown
+abbrev pub are_flags_taken : ℕ → Bool
+are_flags_taken flags = bit_and flags needed_flags == needed_flags && bit_and flags known_flags == flags
+
+-- as many threads live as can, or the last number was given
+abbrev pub is_full : KernelState → Bool
+is_full k = nat_le thread_limit (length k.threads) || k.last_tid == tid_limit
+
+-- a word is asked for at an address where it can't be written
+abbrev pub is_denied : Memory → Bool → ℕ → Bool
+is_denied m asked at = asked && not (can_write m at 4)
+
 abbrev pub clone_tests : Call → List (Bool × ℕ)
 clone_tests c =
-    let flags = arg c 0 in
-    not (bit_and flags needed_flags == needed_flags) ⇒ enosys
-    or not (bit_and flags known_flags == flags) ⇒ enosys
-    or nat_le thread_limit (length c.kernel.threads) ⇒ eagain
-    or c.kernel.last_tid == tid_limit ⇒ eagain
-    or has flags sets_parent && not (writable c (arg c 2) 4) ⇒ efault
-    or has flags sets_child && not (writable c (arg c 4) 4) ⇒ efault
+    not (are_flags_taken (arg c 0)) ⇒ enosys
+    or is_full c.kernel ⇒ eagain
+    or is_denied c.memory (has (arg c 0) sets_parent) (arg c 2) ⇒ efault
+    or is_denied c.memory (has (arg c 0) sets_child) (arg c 4) ⇒ efault
+
+-- where a zero is written when the new thread ends, or 0
+abbrev pub child_clear_tid : ℕ → ℕ → ℕ
+child_clear_tid flags child = if has flags clears_child then child else 0
 
 abbrev pub clone : Call → CallResult
 clone c =
@@ -68,7 +83,7 @@ clone c =
     let tid = c.kernel.last_tid + 1 in
     unless c (clone_tests c)
     λ _. returns c tid
-    ▷ when (has flags sets_parent) (fills_word parent tid)
-    ▷ when (has flags sets_child) (fills_word child tid)
-    ▷ changes (with_thread tid (if has flags clears_child then child else 0))
+    ▷ fills_word_where (has flags sets_parent) parent tid
+    ▷ fills_word_where (has flags sets_child) child tid
+    ▷ changes (with_thread tid (child_clear_tid flags child))
     ▷ answers (Born tid (child_registers c.registers flags (arg c 1) (arg c 3)))

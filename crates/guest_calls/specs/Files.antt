@@ -88,14 +88,16 @@ openat_tests c =
     or is_none (least_free c.kernel) ⇒ emfile
 
 -- the path is read with its zero byte
-abbrev pub openat : Call → CallResult
-openat c =
+abbrev pub openat_effect : Call → CallResult
+openat_effect c =
     let path = arg c 1 in
     let fd = unwrap_or (least_free c.kernel) 0 in
-    unless c (openat_tests c)
-    λ _. returns c fd
+    returns c fd
     ▷ reads c.tid path (unwrap_or (path_end c.memory path) path - path + 1)
     ▷ sets fd (InputFile (unwrap_or (input_place c path) 0) 0)
+
+abbrev pub openat : Call → CallResult
+openat c = unless c (openat_tests c) λ _. openat_effect c
 
 -- ---- close
 abbrev pub close : Call → CallResult

@@ -5,11 +5,13 @@ pub mod Futex
 pub mod Inputs
 pub mod Invariant
 pub mod Kernel
+pub mod Laws
 pub mod Outcome
 pub mod Pages
 pub mod Results
 pub mod Search
 pub mod State
 pub mod Table
+pub mod Tables
 pub mod Threads
 pub mod Vectors

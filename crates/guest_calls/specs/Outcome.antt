@@ -8,7 +8,7 @@ use Rattle.guest_memory.specs.ReservedBy.{reserved_by}
 use Rattle.guest_calls.specs.declared.answer.Answer.{Answer}
 use Rattle.guest_calls.specs.declared.caller.Caller.{Caller}
 use Rattle.guest_calls.specs.Kernel.{KernelState, Kept}
-use Rattle.guest_calls.specs.Results.{Call, CallResult}
+use Rattle.guest_calls.specs.Results.{Call, CallResult, Guest}
 
 -- the call that the caller's registers hold
 abbrev pub asked : Caller → KernelState → GuestMemory → Reservations → Call
@@ -19,6 +19,10 @@ asked caller kernel memory held = record {
   memory = memory_of memory;
   held = reserved_by held;
 }
+
+-- the guest, with all events so far
+abbrev pub guest_of : GuestMemory → Reservations → EventList → Guest
+guest_of memory held events = record { memory = memory_of memory; held = reserved_by held; events = events.list }
 
 -- the answer, the state, the memory and the reservations are those of the result, and its events are added
 pub record Does (r : CallResult) (answer : Answer) (state : KernelState) (memory : GuestMemory) (held : Reservations) (before after : EventList) : Type 0 where
@@ -40,8 +44,13 @@ pub record Gives (r : CallResult) (answer : Answer) (kept : Kept) (memory : Gues
   pub out : kept.out ≡ r.out
 
 -- nothing changed
-pub record IsAsBefore (kept kept_new : Kept) (memory memory_new : GuestMemory) (held held_new : Reservations) (before after : EventList) : Type 0 where
-  pub kept_same : kept_new ≡ kept
+pub record IsUntouched (state state_new : KernelState) (memory memory_new : GuestMemory) (held held_new : Reservations) (before after : EventList) : Type 0 where
+  pub state_same : state_new ≡ state
   pub memory_same : memory_of memory_new ≡ memory_of memory
   pub held_same : reserved_by held_new ≡ reserved_by held
   pub events_same : after.list ≡ before.list
+
+-- nothing changed, and what went out is still there
+pub record IsAsBefore (kept kept_new : Kept) (memory memory_new : GuestMemory) (held held_new : Reservations) (before after : EventList) : Type 0 where
+  pub untouched : IsUntouched kept.state kept_new.state memory memory_new held held_new before after
+  pub out_same : kept_new.out ≡ kept.out

@@ -1,5 +1,5 @@
 -- The calls on the guest's pages: brk(2), mmap(2), munmap(2), mprotect(2).
-use Rattle.std.specs.Prelude.{ℕ, zero, suc, ◌+◌, ◌-◌, ◌*◌, ◌/◌, ◌%◌, ◌^◌, Bool, true, not, ◌&&◌, ◌||◌, ◌==◌, nat_le, nat_lt, is_some, is_none, unwrap_or, Option, Some, None}
+use Rattle.std.specs.Prelude.{ℕ, zero, suc, ◌+◌, ◌-◌, ◌*◌, ◌/◌, ◌%◌, ◌^◌, Bool, true, not, ◌&&◌, ◌||◌, ◌==◌, nat_le, nat_lt, is_some, is_none, unwrap_or, List, Option, Some, None}
 use Rattle.guest_words.specs.declared.rights.Rights.{Rights}
 use Rattle.guest_memory.specs.Memory.{Memory, AreFree, mapped_pages, with_pages, with_rights}
 use Rattle.guest_calls.specs.Errors.{enomem, einval, enosys}
@@ -37,31 +37,35 @@ break_limit = 0x40000000
 abbrev pub IsBreakFree : Memory → ℕ → Type 0
 IsBreakFree m program_break = AreFree m (pages program_break) (pages break_limit - pages program_break)
 
-abbrev pub brk : Call → CallResult
-brk c =
+abbrev pub brk_tests : Call → List (Bool × ℕ)
+brk_tests c =
+    let old = c.kernel.program_break in
+    nat_lt (arg c 0) c.kernel.first_break ⇒ old
+    or nat_lt break_limit (arg c 0) ⇒ old
+    or nat_lt page_limit (mapped_pages c.memory + (pages (arg c 0) - pages old)) ⇒ old
+
+-- the pages between the old and the new end are mapped, or unmapped
+abbrev pub brk_effect : Call → CallResult
+brk_effect c =
     let at = arg c 0 in
     let old = c.kernel.program_break in
-    let growth = pages at - pages old in
-    unless c (
-    nat_lt at c.kernel.first_break ⇒ old
-    or nat_lt break_limit at ⇒ old
-    or nat_lt page_limit (mapped_pages c.memory + growth) ⇒ old
-    )
-    λ _. returns c at
+    returns c at
     ▷ changes (λ k. record k { program_break = at })
-    ▷ maps (pages old) growth (rights_of 3)
+    ▷ maps (pages old) (pages at - pages old) (rights_of 3)
     ▷ unmaps (pages at) (pages old - pages at)
 
+abbrev pub brk : Call → CallResult
+brk c = unless c (brk_tests c) λ _. brk_effect c
+
 -- ---- munmap
+abbrev pub munmap_tests : Call → List (Bool × ℕ)
+munmap_tests c =
+    not (arg c 0 % 4096 == 0) ⇒ einval
+    or arg c 1 == 0 ⇒ einval
+    or nat_lt (2 ^ 20) (arg c 0 / 4096 + pages (arg c 1)) ⇒ einval
+
 abbrev pub munmap : Call → CallResult
-munmap c =
-    let at = arg c 0 in
-    let n = arg c 1 in
-    unless c (
-    not (at % 4096 == 0) ⇒ einval
-    or n == 0 ⇒ einval
-    or nat_lt (2 ^ 20) (at / 4096 + pages n) ⇒ einval
-    ) λ _. returns c 0 ▷ unmaps (at / 4096) (pages n)
+munmap c = unless c (munmap_tests c) λ _. returns c 0 ▷ unmaps (arg c 0 / 4096) (pages (arg c 1))
 
 -- ---- mmap2
 -- each of so many pages is mapped
@@ -83,28 +87,31 @@ abbrev pub lowest_place : Memory → ℕ → Option ℕ
 lowest_place m count = first_passing (is_place m count) 0x40000 0x3F000
 
 -- MAP_PRIVATE 2 among the four bits of the type, MAP_ANONYMOUS 0x20, MAP_FIXED 0x10 and MAP_FIXED_NOREPLACE 0x100000
+abbrev pub mmap2_tests : Call → List (Bool × ℕ)
+mmap2_tests c =
+    let count = pages (arg c 1) in
+    not (arg c 3 % 2 ^ 4 == 2) ⇒ enosys
+    or not (has (arg c 3) 0x20) ⇒ enosys
+    or has (arg c 3) 0x100010 ⇒ enosys
+    or arg c 1 == 0 ⇒ einval
+    or is_none (lowest_place c.memory count) ⇒ enomem
+    or nat_lt page_limit (mapped_pages c.memory + count) ⇒ enomem
+
 abbrev pub mmap2 : Call → CallResult
 mmap2 c =
     let count = pages (arg c 1) in
-    let flags = arg c 3 in
-    let place = lowest_place c.memory count in
-    unless c (
-    not (flags % 2 ^ 4 == 2) ⇒ enosys
-    or not (has flags 0x20) ⇒ enosys
-    or has flags 0x100010 ⇒ enosys
-    or arg c 1 == 0 ⇒ einval
-    or is_none place ⇒ enomem
-    or nat_lt page_limit (mapped_pages c.memory + count) ⇒ enomem
-    ) λ _. returns c (unwrap_or place 0 * 4096) ▷ maps (unwrap_or place 0) count (rights_of (arg c 2))
+    let page = unwrap_or (lowest_place c.memory count) 0 in
+    unless c (mmap2_tests c) λ _. returns c (page * 4096) ▷ maps page count (rights_of (arg c 2))
 
 -- ---- mprotect
+abbrev pub mprotect_tests : Call → List (Bool × ℕ)
+mprotect_tests c =
+    not (arg c 0 % 4096 == 0) ⇒ einval
+    or arg c 1 == 0 ⇒ 0
+    or nat_lt (2 ^ 32) (arg c 0 + arg c 1) ⇒ enomem
+    or not (are_mapped c.memory (arg c 0 / 4096) (pages (arg c 1))) ⇒ enomem
+
 abbrev pub mprotect : Call → CallResult
 mprotect c =
-    let at = arg c 0 in
-    let n = arg c 1 in
-    unless c (
-    not (at % 4096 == 0) ⇒ einval
-    or n == 0 ⇒ 0
-    or nat_lt (2 ^ 32) (at + n) ⇒ enomem
-    or not (are_mapped c.memory (at / 4096) (pages n)) ⇒ enomem
-    ) λ _. returns c 0 ▷ remaps (λ m. with_rights m (at / 4096) (pages n) (rights_of (arg c 2)))
+    unless c (mprotect_tests c)
+    λ _. returns c 0 ▷ remaps (λ m. with_rights m (arg c 0 / 4096) (pages (arg c 1)) (rights_of (arg c 2)))

@@ -119,19 +119,29 @@ words_touched at (suc n) = word_count at (suc n)
 abbrev pub reads : ℕ → ℕ → ℕ → CallResult → CallResult
 reads tid at n r = record r { guest = record r.guest { events = r.guest.events ++ read_event tid at n } }
 
--- the kernel writes the bytes, which drops all reservations on their words
-abbrev pub fills : ℕ → List ℕ → CallResult → CallResult
-fills at bytes r = record r {
-  guest = record {
-    memory = with_bytes r.guest.memory at bytes;
-    held = after_write r.guest.held None (at / 4) (words_touched at (length bytes));
-    events = r.guest.events ++ fill_event at (length bytes);
-  };
+-- the guest after the kernel has written the bytes, which drops all reservations on their words
+abbrev pub filled : ℕ → List ℕ → Guest → Guest
+filled at bytes g = record {
+  memory = with_bytes g.memory at bytes;
+  held = after_write g.held None (at / 4) (words_touched at (length bytes));
+  events = g.events ++ fill_event at (length bytes);
 }
+
+-- the kernel writes the bytes
+abbrev pub fills : ℕ → List ℕ → CallResult → CallResult
+fills at bytes r = record r { guest = filled at bytes r.guest }
 
 -- it writes the number as a word
 abbrev pub fills_word : ℕ → ℕ → CallResult → CallResult
 fills_word at n = fills at (to_le_bytes w32 n)
+
+-- the guest after the kernel has written the number as a word, where that is asked for
+abbrev pub filled_where : Bool → ℕ → ℕ → Guest → Guest
+filled_where true at n g = filled at (to_le_bytes w32 n) g
+filled_where false at n g = g
+
+abbrev pub fills_word_where : Bool → ℕ → ℕ → CallResult → CallResult
+fills_word_where asked at n r = record r { guest = filled_where asked at n r.guest }
 
 -- bytes go out on the channel
 abbrev pub puts : ℕ → List ℕ → CallResult → CallResult

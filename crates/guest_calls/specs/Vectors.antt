@@ -1,12 +1,14 @@
 -- The calls on files in parts: readv(2) and writev(2).
-use Rattle.std.specs.Prelude.{ℕ, zero, suc, ◌+◌, ◌-◌, ◌*◌, ◌^◌, Bool, not, nat_lt, nat_le, min, List, [], ◌∷◌, length, take, drop, sum_by, flat_map, is_none, unwrap_or}
+use Rattle.std.specs.Prelude.{ℕ, zero, suc, ◌+◌, ◌-◌, ◌*◌, ◌^◌, Bool, not, nat_lt, nat_le, min, List, [], ◌∷◌, ◌++◌, length, take, drop, sum_by, flat_map, is_none, unwrap_or}
 use Rattle.std.specs.List.{list_all}
 use Rattle.guest_memory.specs.Memory.{Memory, bytes_at, number_at}
+use Rattle.rv_exec.specs.Accesses.{can_read, can_write}
+use Rattle.trace_model.specs.declared.event_kinds.Event.{Event}
 use Rattle.guest_calls.specs.declared.vectors.Part.{Part}
 use Rattle.guest_calls.specs.Errors.{ebadf, efault, einval}
 use Rattle.guest_calls.specs.Kernel.{descriptor}
 use Rattle.guest_calls.specs.Files.{is_source, channel, bytes_left, advanced, write_limit}
-use Rattle.guest_calls.specs.Results.{Call, CallResult, arg, returns, unless, ◌⇒◌, ◌or◌, ◌▷◌, changes, reads, fills, puts, readable, writable}
+use Rattle.guest_calls.specs.Results.{Call, CallResult, arg, returns, unless, ◌⇒◌, ◌or◌, ◌▷◌, Guest, changes, reads, read_event, filled, puts}
 
 -- a part is an address and a length, a word each
 abbrev pub part_at : Memory → ℕ → Part
@@ -16,10 +18,6 @@ part_at m at = record { at = number_at m at 4; size = number_at m (at + 4) 4 }
 abbrev pub parts_at : Memory → ℕ → ℕ → List Part
 parts_at m at zero = []
 parts_at m at (suc n) = part_at m at ∷ parts_at m (at + 8) n
-
--- the parts of a call, as they stand before it copies any byte
-abbrev pub parts : Call → List Part
-parts c = parts_at c.memory (arg c 1) (arg c 2)
 
 abbrev pub total : List Part → ℕ
 total ps = sum_by (λ p. p.size) ps
@@ -32,14 +30,20 @@ carried n (p ∷ ps) = record { at = p.at; size = min n p.size } ∷ carried (n 
 abbrev pub all_in_reach : (ℕ → ℕ → Bool) → List Part → Bool
 all_in_reach reach ps = list_all (λ p. reach p.at p.size) ps
 
--- the bytes are copied to the parts, one part after another
+-- the guest after the bytes are copied to the parts, one part after another
+abbrev pub filled_parts : List Part → List ℕ → Guest → Guest
+filled_parts [] bytes g = g
+filled_parts (p ∷ ps) bytes g = filled_parts ps (drop p.size bytes) (filled p.at (take p.size bytes) g)
+
 abbrev pub fills_parts : List Part → List ℕ → CallResult → CallResult
-fills_parts [] bytes r = r
-fills_parts (p ∷ ps) bytes r = fills_parts ps (drop p.size bytes) (fills p.at (take p.size bytes) r)
+fills_parts ps bytes r = record r { guest = filled_parts ps bytes r.guest }
+
+-- a read of each part that has a byte
+abbrev pub read_events : ℕ → List Part → List Event
+read_events tid ps = flat_map (λ p. read_event tid p.at p.size) ps
 
 abbrev pub reads_parts : ℕ → List Part → CallResult → CallResult
-reads_parts tid [] r = r
-reads_parts tid (p ∷ ps) r = reads_parts tid ps (reads tid p.at p.size r)
+reads_parts tid ps r = record r { guest = record r.guest { events = r.guest.events ++ read_events tid ps } }
 
 -- the bytes of the parts, one part after another
 abbrev pub bytes_of : Memory → List Part → List ℕ
@@ -49,38 +53,59 @@ abbrev pub part_limit : ℕ
 part_limit = 1024
 
 -- what is tested before the parts' own bytes: the table of parts, of eight bytes each, and the sum of the lengths
-abbrev pub table_tests : Call → List (Bool × ℕ)
-table_tests c =
-    nat_lt part_limit (arg c 2) ⇒ einval
-    or not (readable c (arg c 1) (8 * arg c 2)) ⇒ efault
-    or nat_le (2 ^ 31) (total (parts c)) ⇒ einval
+abbrev pub table_tests : Memory → ℕ → ℕ → List (Bool × ℕ)
+table_tests m at n =
+    nat_lt part_limit n ⇒ einval
+    or not (can_read m at (8 * n)) ⇒ efault
+    or nat_le (2 ^ 31) (total (parts_at m at n)) ⇒ einval
+
+-- the parts of a call, as they stand before it copies any byte
+abbrev pub parts : Call → List Part
+parts c = parts_at c.memory (arg c 1) (arg c 2)
+
+-- the bytes that readv carries, and where to
+abbrev pub readv_bytes : Call → List ℕ
+readv_bytes c = take (total (parts c)) (bytes_left c.kernel (descriptor c.kernel (arg c 0)))
+
+abbrev pub readv_parts : Call → List Part
+readv_parts c = carried (length (readv_bytes c)) (parts c)
+
+abbrev pub readv_tests : Call → List (Bool × ℕ)
+readv_tests c =
+    not (is_source (descriptor c.kernel (arg c 0))) ⇒ ebadf
+    or table_tests c.memory (arg c 1) (arg c 2)
+    or not (all_in_reach (can_write c.memory) (readv_parts c)) ⇒ efault
+
+abbrev pub readv_effect : Call → CallResult
+readv_effect c =
+    let n = length (readv_bytes c) in
+    returns c n
+    ▷ reads c.tid (arg c 1) (8 * arg c 2)
+    ▷ fills_parts (readv_parts c) (readv_bytes c)
+    ▷ changes (advanced (descriptor c.kernel (arg c 0)) (arg c 0) n)
 
 abbrev pub readv : Call → CallResult
-readv c =
-    let file = descriptor c.kernel (arg c 0) in
-    let bytes = take (total (parts c)) (bytes_left c.kernel file) in
-    let into = carried (length bytes) (parts c) in
-    unless c (
-    not (is_source file) ⇒ ebadf
-    or table_tests c
-    or not (all_in_reach (writable c) into) ⇒ efault
-    )
-    λ _. returns c (length bytes)
+readv c = unless c (readv_tests c) λ _. readv_effect c
+
+-- how many bytes writev carries, and where from
+abbrev pub writev_count : Call → ℕ
+writev_count c = min (total (parts c)) write_limit
+
+abbrev pub writev_parts : Call → List Part
+writev_parts c = carried (writev_count c) (parts c)
+
+abbrev pub writev_tests : Call → List (Bool × ℕ)
+writev_tests c =
+    is_none (channel (descriptor c.kernel (arg c 0))) ⇒ ebadf
+    or table_tests c.memory (arg c 1) (arg c 2)
+    or not (all_in_reach (can_read c.memory) (writev_parts c)) ⇒ efault
+
+abbrev pub writev_effect : Call → CallResult
+writev_effect c =
+    returns c (writev_count c)
     ▷ reads c.tid (arg c 1) (8 * arg c 2)
-    ▷ fills_parts into bytes
-    ▷ changes (advanced file (arg c 0) (length bytes))
+    ▷ reads_parts c.tid (writev_parts c)
+    ▷ puts (unwrap_or (channel (descriptor c.kernel (arg c 0))) 0) (bytes_of c.memory (writev_parts c))
 
 abbrev pub writev : Call → CallResult
-writev c =
-    let out = channel (descriptor c.kernel (arg c 0)) in
-    let n = min (total (parts c)) write_limit in
-    let from = carried n (parts c) in
-    unless c (
-    is_none out ⇒ ebadf
-    or table_tests c
-    or not (all_in_reach (readable c) from) ⇒ efault
-    )
-    λ _. returns c n
-    ▷ reads c.tid (arg c 1) (8 * arg c 2)
-    ▷ reads_parts c.tid from
-    ▷ puts (unwrap_or out 0) (bytes_of c.memory from)
+writev c = unless c (writev_tests c) λ _. writev_effect c

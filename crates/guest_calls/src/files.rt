@@ -92,7 +92,8 @@ impl State {
         caller: &Caller,
     ) -> Answer
         requires room { 1 ≤ events.old.room }
-        ensures { Does (specs.read (asked caller.now self.old memory.old held.old)) result self.new memory.new held.new events.old events.new }
+        ensures does { Does (specs.read (asked caller.now self.old memory.old held.old)) result self.new memory.new held.new events.old events.new }
+        ensures room { events.old.room ≤ events.new.room + 1 }
     {
         let (fd, at) = (caller.argument(0), caller.argument(1));
         let file = self.descriptor(fd);
@@ -144,7 +145,8 @@ impl State {
         caller: &Caller,
     ) -> Answer
         requires room { 1 ≤ events.old.room }
-        ensures { Does (specs.llseek (asked caller.now self.old memory.old held.old)) result self.new memory.new held.new events.old events.new }
+        ensures does { Does (specs.llseek (asked caller.now self.old memory.old held.old)) result self.new memory.new held.new events.old events.new }
+        ensures room { events.old.room ≤ events.new.room + 1 }
     {
         let (fd, result_at, whence) = (caller.argument(0), caller.argument(3), caller.argument(4));
         let file = self.descriptor(fd);

@@ -1,15 +1,17 @@
 //! The kernel of a guest.
-ghost use Rattle.std.specs.Prelude.{◌≡◌, [], true, None, IfOk, OnErr, ◌≤◌, OnOk};
-ghost use Rattle.guest_calls.specs.Invariant.{IsState};
+ghost use Rattle.std.specs.Prelude.{◌≡◌, ◌≤◌, ◌+◌, [], true, None, IfOk, OnErr};
 ghost use Rattle.std.specs.Option.{option_map};
 ghost use Rattle.guest_memory.specs.Guest.{memory_of};
+ghost use Rattle.guest_calls.specs.Invariant.{IsState};
 ghost use Rattle.guest_calls.specs.Kernel.{started, can_run, ready};
 ghost use Rattle.guest_calls.specs.Pages.{IsBreakFree};
 ghost use Rattle.guest_calls.specs.Outcome.{asked, Gives, IsAsBefore};
 ghost use Rattle.guest_calls.specs.Table.{call};
 
+use crate::caller::Caller;
 use crate::outgoing::Outgoing;
 use crate::state::State;
+use crate::table::{EVENTS_OF_A_CALL, WRITE, WRITEV};
 use crate::{Answer, Inputs};
 use guest_memory::{GuestMemory, Reservations};
 use guest_words::{Addr, ReadyList, Tid};
@@ -21,8 +23,8 @@ use trace_model::Events;
 /// What the kernel keeps of a guest, and the bytes that the last call wrote.
 #[derive(Drop)]
 pub struct Kernel {
-    state: State,
-    outgoing: Outgoing,
+    pub(crate) state: State,
+    pub(crate) outgoing: Outgoing,
 }
 
 impl Model for Kernel {
@@ -53,9 +55,38 @@ impl Kernel {
         })
     }
 
+    // The call, by its number.
+    fn carry_out(
+        &mut self,
+        memory: &mut GuestMemory,
+        held: &mut Reservations,
+        tid: Tid,
+        cpu: &Cpu,
+        events: &mut Events,
+    ) -> Result<Answer, AllocError>
+        requires can_run { can_run self.old.state tid ≡ true }
+        requires break_free { IsBreakFree (memory_of memory.old) self.old.state.program_break }
+        ensures call { IfOk result (λ answer. Gives (call (asked (record { tid = tid; cpu = cpu.now }) self.old.state memory.old held.old)) answer self.new memory.new held.new events.old events.new) }
+        ensures refused { OnErr result (IsAsBefore self.old self.new memory.old memory.new held.old held.new events.old events.new) }
+        ensures break_free { IsBreakFree (memory_of memory.new) self.new.state.program_break }
+        ensures room { events.old.room ≤ events.new.room + 1025 }
+    {
+        events.reserve(EVENTS_OF_A_CALL)?;
+        let caller = Caller { tid, cpu: *cpu };
+        match caller.number() {
+            WRITE => Ok(self.write(memory, events, &caller)),
+            WRITEV => self.writev(memory, events, &caller),
+            _ => {
+                let answer = self.state.call(memory, held, events, &caller)?;
+                self.outgoing.clear();
+                Ok(answer)
+            }
+        }
+    }
+
     /// Carries out the call that the thread's registers hold: the number in a7, the arguments in a0 to a5. The copies from
-    /// and to the guest are added to the events, in order; that a thread is born or ends is not. All memory is taken before
-    /// anything changes.
+    /// and to the guest are added to the events, in order, at most 1025 of them; that a thread is born or ends is not. All
+    /// memory is taken before anything changes.
     pub fn call(
         &mut self,
         memory: &mut GuestMemory,
@@ -69,11 +100,12 @@ impl Kernel {
         ensures call { IfOk result (λ answer. Gives (call (asked (record { tid = tid; cpu = cpu.now }) self.old.state memory.old held.old)) answer self.new memory.new held.new events.old events.new) }
         ensures refused { OnErr result (IsAsBefore self.old self.new memory.old memory.new held.old held.new events.old events.new) }
         ensures break_free { IsBreakFree (memory_of memory.new) self.new.state.program_break }
-        ensures room { OnOk result (events.old.room ≤ events.new.room) }
         ensures state { IsState self.new.state }
+        ensures room { events.old.room ≤ events.new.room + 1025 }
     {
+        let answer = self.carry_out(memory, held, tid, cpu, events);
         self.state.holds();
-        Err(AllocError)
+        answer
     }
 
     /// The channel, 1 or 2, and the bytes of the last call, where it was a write of at least one byte.

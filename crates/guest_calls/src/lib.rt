@@ -7,21 +7,30 @@
 
 mod answer;
 mod caller;
+mod clone;
 mod copies;
 mod descriptor;
 mod errors;
 mod files;
+mod futex;
 mod inputs;
 mod kernel;
+mod laws;
 mod operation;
 mod outgoing;
 mod pages;
 mod paths;
 mod state;
+mod table;
 mod thread;
 mod threads;
 mod vectors;
+mod writes;
 
 pub use answer::Answer;
 pub use inputs::Inputs;
 pub use kernel::Kernel;
+pub use laws::{every_call_is_light, every_call_keeps_the_break_free};
+
+#[cfg(test)]
+mod tests;

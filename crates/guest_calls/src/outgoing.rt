@@ -4,16 +4,18 @@ ghost use Rattle.guest_memory.specs.Guest.{memory_of};
 ghost use Rattle.guest_memory.specs.Memory.{bytes_at};
 ghost use Rattle.guest_calls.specs.Kernel.{output};
 ghost use Rattle.rv_exec.specs.Accesses.{can_read};
+ghost use Rattle.guest_calls.specs.Vectors.{all_in_reach, bytes_of, total};
 ghost use Rattle.std.specs.Option.{option_map};
 
 use crate::copies::copy_to;
+use crate::vectors::{Part, copy_parts};
 use guest_memory::GuestMemory;
 use guest_words::Addr;
 use std::alloc::{AllocError, Global};
 use std::marker::Model;
 
 /// The most bytes that one call writes.
-pub const WRITE_LIMIT: usize = 65536;
+pub const WRITE_LIMIT: u32 = 65536;
 
 /// The bytes of the last write and their channel. The room for them is taken as it is made.
 #[derive(Drop)]
@@ -42,7 +44,7 @@ impl Outgoing {
         Ok(Outgoing {
             channel: 1,
             count: 0,
-            buffer: vec![in alloc; 0u8; WRITE_LIMIT]?,
+            buffer: vec![in alloc; 0u8; WRITE_LIMIT as usize]?,
         })
     }
 
@@ -73,5 +75,15 @@ impl Outgoing {
         self.channel = channel;
         self.count = count as usize;
         copy_to(memory, at, &mut self.buffer, self.count);
+    }
+
+    /// The bytes of the parts go out, each of which can be read.
+    pub fn put_parts(&mut self, channel: u32, memory: &GuestMemory, parts: &[Part])
+        requires few { total parts.now ≤ 65536 }
+        requires reach { all_in_reach (can_read (memory_of memory.now)) parts.now ≡ true }
+        ensures { self.new ≡ output channel (bytes_of (memory_of memory.now) parts.now) }
+    {
+        self.channel = channel;
+        self.count = copy_parts(memory, parts, &mut self.buffer);
     }
 }

@@ -1,8 +1,7 @@
 //! What the kernel keeps of a guest.
-ghost use Rattle.std.specs.Prelude.{◌≡◌, ◌<◌, [], false, IfOk};
-ghost use Rattle.guest_calls.specs.Kernel.{started, descriptor, with_descriptor, ready};
-ghost use Rattle.guest_calls.specs.Files.{is_closed};
+ghost use Rattle.std.specs.Prelude.{◌≡◌, [], IfOk};
 ghost use Rattle.guest_calls.specs.Invariant.{IsState};
+ghost use Rattle.guest_calls.specs.Kernel.{can_run, ready, started};
 
 use crate::Inputs;
 use crate::descriptor::Descriptor;
@@ -21,6 +20,7 @@ pub(crate) const THREADS: usize = 32;
 /// What the kernel keeps of a guest.
 #[derive(Drop)]
 pub(crate) struct State {
+    pub(crate) alloc: Global,
     pub(crate) threads: Vec<Thread>,
     pub(crate) waiting: FutexTable,
     pub(crate) descriptors: [Descriptor; DESCRIPTORS],
@@ -63,6 +63,7 @@ impl State {
         descriptors[1] = Descriptor::Output { channel: 1 };
         descriptors[2] = Descriptor::Output { channel: 2 };
         Ok(State {
+            alloc,
             threads,
             waiting: FutexTable::new(alloc)?,
             descriptors,
@@ -75,6 +76,13 @@ impl State {
         })
     }
 
+    /// What holds between calls.
+    pub fn holds(&self)
+        ensures { IsState self.now }
+    {
+        let _ = &self.threads;
+    }
+
     /// The live threads, rising, each with whether it can run.
     pub fn ready_into(&self, into: &mut ReadyList)
         requires { into.old ≡ [] }
@@ -85,10 +93,11 @@ impl State {
         }
     }
 
-    /// What holds of every state.
-    pub fn holds(&self)
-        ensures { IsState self.now }
+    /// Whether the thread lives and does not wait.
+    #[cfg(test)]
+    pub fn can_run(&self, tid: Tid) -> bool
+        ensures { result ≡ can_run self.now tid }
     {
-        let _ = &self.threads;
+        self.threads.iter().any(|t| t.tid == tid) && !self.waiting.waits(tid)
     }
 }

@@ -1,5 +1,5 @@
 //! The calls on threads and the process: exit(2), exit_group(2), set_tid_address(2) and rt_sigprocmask(2).
-ghost use Rattle.std.specs.Prelude.{◌≡◌, ◌≤◌, ℕ, length, true, not, map, filter};
+ghost use Rattle.std.specs.Prelude.{◌≡◌, ◌≤◌, ℕ, ◌+◌, length, true, not, map, filter};
 ghost use Rattle.std.specs.Vec.{vec_capacity};
 ghost use Rattle.futex_table.specs.Waiting.{woken, after_wake};
 ghost use Rattle.guest_memory.specs.declared.memory.GuestMemory.{GuestMemory};
@@ -58,7 +58,8 @@ impl State {
     ) -> Answer
         requires can_run { can_run self.old caller.now.tid ≡ true }
         requires room { 1 ≤ events.old.room }
-        ensures { Does (specs.exit (asked caller.now self.old memory.old held.old)) result self.new memory.new held.new events.old events.new }
+        ensures does { Does (specs.exit (asked caller.now self.old memory.old held.old)) result self.new memory.new held.new events.old events.new }
+        ensures room { events.old.room ≤ events.new.room + 1 }
     {
         let tid = caller.tid;
         let goes_on = self.has_others(tid);
@@ -87,6 +88,7 @@ impl State {
         requires room { 1 ≤ events.old.room }
         ensures told { Does (specs.told_end (asked caller.now self.old memory.old held.old)) (Back 0) self.new memory.new held.new events.old events.new }
         ensures can_run { can_run self.new caller.now.tid ≡ true }
+        ensures room { events.old.room ≤ events.new.room + 1 }
     {
         if !self.has_others(caller.tid) {
             return;
@@ -170,7 +172,8 @@ pub(crate) fn rt_sigprocmask(
     caller: &Caller,
 ) -> Answer
     requires room { 1 ≤ events.old.room }
-    ensures { (state : KernelState) → Does (specs.rt_sigprocmask (asked caller.now state memory.old held.old)) result state memory.new held.new events.old events.new }
+    ensures does { (state : KernelState) → Does (specs.rt_sigprocmask (asked caller.now state memory.old held.old)) result state memory.new held.new events.old events.new }
+    ensures room { events.old.room ≤ events.new.room + 1 }
 {
     let old = caller.argument(2);
     if old != 0 {

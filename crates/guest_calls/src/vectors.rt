@@ -1,9 +1,266 @@
-//! The calls on files in parts.
-use guest_words::Addr;
+//! The calls on files in parts: readv(2) and writev(2).
+ghost use Rattle.std.specs.Prelude.{◌≡◌, ◌≤◌, ◌<◌, ◌+◌, ◌*◌, ◌^◌, ◌++◌, take, length, vec_len, true, None, IfOk, IfErr, OnErr};
+ghost use Rattle.guest_memory.specs.declared.reservations.Reservations.{Reservations};
+ghost use Rattle.guest_memory.specs.Guest.{memory_of};
+ghost use Rattle.guest_memory.specs.Memory.{number_at};
+ghost use Rattle.rv_exec.specs.Accesses.{can_read, can_write};
+ghost use Rattle.guest_calls.specs.Outcome.{asked, guest_of, Does, IsUntouched};
+ghost use Rattle.guest_calls.specs.Results.{first_answer};
+ghost use Rattle.guest_calls.specs.Tables.{IsRefusal};
+ghost use Rattle.guest_calls.specs.Vectors.{part_at, parts_at, table_tests, total, carried, all_in_reach, filled_parts, read_events, bytes_of};
+ghost use Rattle.guest_calls.specs.Vectors as specs;
 
-/// A part of the bytes of readv(2) and writev(2).
+use crate::Answer;
+use crate::caller::Caller;
+use crate::copies::{copy_to, fill, note_read};
+use crate::errors::{EBADF, EFAULT, EINVAL};
+use crate::files::first_bytes;
+use crate::state::State;
+use guest_memory::{GuestMemory, Reservations, Size};
+use guest_words::{Addr, Tid};
+use std::alloc::{AllocError, Global};
+use trace_model::Events;
+
+/// The most parts of one call.
+const PART_LIMIT: u32 = 1024;
+
+/// The most bytes that the parts of one call have.
+const SUM_LIMIT: u64 = 0x7FFF_FFFF;
+
+/// A part of the bytes that one call carries.
 #[derive(Clone, Copy, Debug, PartialEq, Eq)]
 pub struct Part {
     pub at: Addr,
     pub size: u32,
+}
+
+/// The word at an address, each byte of which can be read.
+pub(crate) fn word_at(memory: &GuestMemory, at: Addr) -> u32
+    requires { can_read (memory_of memory.now) at 4 ≡ true }
+    ensures { result ≡ number_at (memory_of memory.now) at 4 }
+{
+    memory.load(at, Size::Four).unwrap_or(0)
+}
+
+/// The part at an address: an address and a length.
+#[tactic(auto, using(crate::proofs::Reach::reads_within))]
+fn part_at(memory: &GuestMemory, at: Addr) -> Part
+    requires reach { can_read (memory_of memory.now) at 8 ≡ true }
+    requires end { at + 8 ≤ 2 ^ 32 }
+    ensures { result ≡ part_at (memory_of memory.now) at }
+{
+    Part {
+        at: word_at(memory, at),
+        size: word_at(memory, at + 4),
+    }
+}
+
+/// So many parts, from an address on.
+#[tactic(auto, using(crate::proofs::PartLists::parts_snoc, crate::proofs::Reach::readable_end))]
+pub(crate) fn parts_at(
+    alloc: Global,
+    memory: &GuestMemory,
+    at: Addr,
+    count: u32,
+) -> Result<Vec<Part>, AllocError>
+    requires few { count ≤ 1024 }
+    requires reach { can_read (memory_of memory.now) at (8 * count) ≡ true }
+    ensures parts { IfOk result (λ parts. parts.items ≡ parts_at (memory_of memory.now) at count) }
+    ensures count { IfOk result (λ parts. vec_len parts ≡ count) }
+{
+    let mut parts = Vec::new(alloc);
+    for i in 0..count {
+        parts.push(part_at(memory, at + 8 * i))?;
+    }
+    Ok(parts)
+}
+
+/// The sum of the lengths.
+pub(crate) fn total(parts: &[Part]) -> u64
+    requires { length parts.now ≤ 1024 }
+    ensures { result ≡ total parts.now }
+{
+    let mut sum = 0;
+    for p in parts {
+        sum += u64::from(p.size);
+    }
+    sum
+}
+
+/// Cuts the parts to their first bytes.
+fn cut_all(parts: &mut [Part], most: usize)
+    ensures { parts.new ≡ carried most parts.old }
+{
+    let mut left = most;
+    for p in parts.iter_mut() {
+        let size = left.min(p.size as usize);
+        p.size = size as u32;
+        left -= size;
+    }
+}
+
+/// The parts, cut to their first bytes.
+pub(crate) fn cut(parts: Vec<Part>, most: usize) -> Vec<Part>
+    ensures cut { result.items ≡ carried most parts.items }
+    ensures few { total result.items ≤ most }
+    ensures count { vec_len result ≡ vec_len parts }
+{
+    let mut parts = parts;
+    cut_all(&mut parts, most);
+    parts
+}
+
+/// Whether each byte of the parts can be read.
+pub(crate) fn can_read_parts(memory: &GuestMemory, parts: &[Part]) -> bool
+    ensures { result ≡ all_in_reach (can_read (memory_of memory.now)) parts.now }
+{
+    parts
+        .iter()
+        .all(|p| memory.can_read(p.at, u64::from(p.size)))
+}
+
+/// Whether each byte of the parts can be written.
+pub(crate) fn can_write_parts(memory: &GuestMemory, parts: &[Part]) -> bool
+    ensures { result ≡ all_in_reach (can_write (memory_of memory.now)) parts.now }
+{
+    parts
+        .iter()
+        .all(|p| memory.can_write(p.at, u64::from(p.size)))
+}
+
+/// Why a table of parts is refused.
+#[derive(Debug, Drop)]
+pub(crate) enum TableError {
+    /// A test refused it, with this answer.
+    Refused { errno: u32 },
+    Memory,
+}
+
+impl From<AllocError> for TableError {
+    ghost use Rattle.guest_calls.specs.declared.vectors.TableError.TheVariants.{Memory};
+
+    ghost from_gives = { λ _ e. e ≡ Memory };
+
+    fn from(_: AllocError) -> Self {
+        TableError::Memory
+    }
+}
+
+/// The table of parts at an address.
+pub(crate) fn read_table(
+    alloc: Global,
+    memory: &GuestMemory,
+    at: Addr,
+    count: u32,
+) -> Result<Vec<Part>, TableError>
+    ensures ok { IfOk result (λ parts. parts.items ≡ parts_at (memory_of memory.now) at count) }
+    ensures few { IfOk result (λ parts. vec_len parts ≤ 1024) }
+    ensures reach { IfOk result (λ _. can_read (memory_of memory.now) at (8 * count) ≡ true) }
+    ensures short { IfOk result (λ parts. total parts.items < 2 ^ 31) }
+    ensures passed { IfOk result (λ _. first_answer (table_tests (memory_of memory.now) at count) ≡ None) }
+    ensures refused { IfErr result (IsRefusal (first_answer (table_tests (memory_of memory.now) at count))) }
+{
+    if count > PART_LIMIT {
+        return Err(TableError::Refused { errno: EINVAL });
+    }
+    if !memory.can_read(at, 8 * u64::from(count)) {
+        return Err(TableError::Refused { errno: EFAULT });
+    }
+    let parts = parts_at(alloc, memory, at, count)?;
+    if total(&parts) > SUM_LIMIT {
+        return Err(TableError::Refused { errno: EINVAL });
+    }
+    Ok(parts)
+}
+
+/// Copies the bytes to the parts, one part after another.
+fn fill_parts(
+    memory: &mut GuestMemory,
+    held: &mut Reservations,
+    events: &mut Events,
+    parts: &[Part],
+    bytes: &[u8],
+)
+    requires reach { all_in_reach (can_write (memory_of memory.old)) parts.now ≡ true }
+    requires all { total parts.now ≤ length bytes.now }
+    requires room { length parts.now ≤ events.old.room }
+    ensures filled { guest_of memory.new held.new events.new ≡ filled_parts parts.now bytes.now (guest_of memory.old held.old events.old) }
+    ensures room { events.old.room ≤ events.new.room + length parts.now }
+{
+    let mut rest = bytes;
+    for p in parts {
+        let (bytes, later) = rest.split_at(p.size as usize);
+        fill(memory, held, events, p.at, bytes);
+        rest = later;
+    }
+}
+
+/// The kernel has read the parts for the thread.
+pub(crate) fn note_parts(memory: &GuestMemory, events: &mut Events, tid: Tid, parts: &[Part])
+    requires reach { all_in_reach (can_read (memory_of memory.now)) parts.now ≡ true }
+    requires room { length parts.now ≤ events.old.room }
+    ensures events { events.new.list ≡ events.old.list ++ read_events tid parts.now }
+    ensures room { events.old.room ≤ events.new.room + length parts.now }
+{
+    for p in parts {
+        note_read(memory, events, tid, p.at, p.size);
+    }
+}
+
+/// Copies the parts' bytes to the front of others, and says how many there are.
+pub(crate) fn copy_parts(memory: &GuestMemory, parts: &[Part], front: &mut [u8]) -> usize
+    requires reach { all_in_reach (can_read (memory_of memory.now)) parts.now ≡ true }
+    requires room { total parts.now ≤ length front.old }
+    ensures count { result ≡ total parts.now }
+    ensures bytes { take result front.new ≡ bytes_of (memory_of memory.now) parts.now }
+{
+    let mut count = 0;
+    for p in parts {
+        copy_to(memory, p.at, &mut front[count..], p.size as usize);
+        count += p.size as usize;
+    }
+    count
+}
+
+impl State {
+    /// readv(2)
+    pub(crate) fn readv(
+        &mut self,
+        memory: &mut GuestMemory,
+        held: &mut Reservations,
+        events: &mut Events,
+        caller: &Caller,
+    ) -> Result<Answer, AllocError>
+        requires room { 1025 ≤ events.old.room }
+        ensures does { IfOk result (λ answer. Does (specs.readv (asked caller.now self.old memory.old held.old)) answer self.new memory.new held.new events.old events.new) }
+        ensures refused { OnErr result (IsUntouched self.old self.new memory.old memory.new held.old held.new events.old events.new) }
+        ensures room { events.old.room ≤ events.new.room + 1025 }
+    {
+        let (fd, at, count) = (
+            caller.argument(0),
+            caller.argument(1),
+            caller.argument(2),
+        );
+        let file = self.descriptor(fd);
+        if !file.is_source() {
+            return Ok(Answer::Back { value: EBADF });
+        }
+        let parts = match read_table(self.alloc, memory, at, count) {
+            Ok(parts) => parts,
+            Err(TableError::Refused { errno }) => return Ok(Answer::Back { value: errno }),
+            Err(TableError::Memory) => return Err(AllocError),
+        };
+        let bytes = first_bytes(self.bytes_left(file), total(&parts) as u32);
+        let carried = bytes.len();
+        let into = cut(parts, carried);
+        if !can_write_parts(memory, &into) {
+            return Ok(Answer::Back { value: EFAULT });
+        }
+        note_read(memory, events, caller.tid, at, 8 * count);
+        fill_parts(memory, held, events, &into, bytes);
+        self.advance(file, fd, carried);
+        Ok(Answer::Back {
+            value: carried as u32,
+        })
+    }
 }

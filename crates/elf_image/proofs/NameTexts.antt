@@ -1,0 +1,73 @@
+-- The name at an offset of a string table, by the place of the first zero byte within the longest name.
+use Rattle.std.proofs.Common.{◌≡◌, ℕ, ◌+◌, ◌-◌, ◌<◌, ◌≤◌, min, Bool, true, false, not, ◌&&◌, leb, List, length, get_or, take, drop, Some, None, if◌then◌else◌, refl, sym, ap, ◌∙◌, inl, inr, arith}
+use Rattle.std.specs.List.{before_first, list_all, list_any, position, position_or_len}
+use Rattle.std.proofs.lemmas.Bool.{and_left, and_right, cases_lt, lt-leb, lt-ltb}
+use Rattle.std.proofs.lemmas.List.{drop_all, get_or-take, get_or_default, length-drop, length-take, take-take}
+use Rattle.std.proofs.lemmas.List.Folds.{length-prefix_len, list_any_at, list_any_none}
+use Rattle.std.proofs.lemmas.List.Quantifiers.{position-Some}
+use Rattle.std.proofs.lemmas.List.Sums.{fails_before_first, passes_at_first, position_or_len_is}
+use Rattle.guest_words.specs.Names.{is_dash, is_name, is_visible}
+use Rattle.elf_image.specs.Symbols.{is_zero, name_in}
+
+-- bytes that are too many are no name
+too_long : (bytes : List ℕ) → 1024 < length bytes → is_name bytes ≡ false
+too_long bytes long = and_left (not (is_dash bytes) && leb 1 (length bytes) && leb (length bytes) 1024) (list_all is_visible bytes)
+    (and_right (not (is_dash bytes) && leb 1 (length bytes)) _ (lt-leb _ _ long))
+
+-- nothing passes before the place of the first
+none_passes : {X : Type 0} (p : X → Bool) (xs : List X) → position p xs ≡ None → length xs ≤ position_or_len p xs
+none_passes p xs none = elim (cases_lt (position_or_len p xs) (length xs)) as (λ _. length xs ≤ position_or_len p xs) [
+  | inl inside ↦ cc (none, lt-ltb (position_or_len p xs) (length xs) inside)
+  | inr past ↦ past
+]
+
+stays_none : {X : Type 0} (test : Bool) (x : X) → test ≡ false → (if test then Some x else None) ≡ None
+stays_none true x h = cc
+stays_none false x h = refl
+
+module _ (strings : List ℕ) (offset n : ℕ) (inside : offset < length strings) (window : n ≡ min (length strings) (offset + 1024 + 1) - offset) where
+  some_left : n ≤ length (drop offset strings)
+  some_left = omega (arith, length-drop offset strings)
+
+  within : length (take n (drop offset strings)) ≡ n
+  within = omega (arith, length-take n (drop offset strings), some_left)
+
+  -- a zero byte within the longest name ends it
+  pub ends_within : (len : ℕ) → position is_zero (take n (drop offset strings)) ≡ Some len
+      → (if is_name (take len (take n (drop offset strings))) then Some (take len (take n (drop offset strings))) else None) ≡ name_in strings offset
+  unfolding name_in
+  ends_within len found =
+      let at = position-Some is_zero (take n (drop offset strings)) len 0 found in
+      let short : len < n = omega (arith, at.0, within) in
+      let here : is_zero (get_or (drop offset strings) len 0) ≡ true = ap is_zero (sym (get_or-take n (drop offset strings) len 0 short)) ∙ at.1 in
+      let place : position_or_len is_zero (drop offset strings) ≡ len = position_or_len_is is_zero (drop offset strings) len 0 (omega (arith, some_left, short))
+      (λ k below. ap is_zero (sym (get_or-take n (drop offset strings) k 0 (omega arith))) ∙ at.2 k below) (λ _. here) in
+      let name : take len (take n (drop offset strings)) ≡ before_first is_zero (drop offset strings) =
+      take-take len n (drop offset strings) (omega (arith, short)) ∙ ap (λ k. take k (drop offset strings)) (sym place) in
+      let ended : list_any is_zero (drop offset strings) ≡ true = list_any_at is_zero (drop offset strings) len 0 (omega (arith, some_left, short)) here in
+      rw (ended, name) refl
+
+  -- no zero byte there is no name
+  pub ends_nowhere : position is_zero (take n (drop offset strings)) ≡ None → name_in strings offset ≡ None
+  unfolding name_in
+  ends_nowhere none =
+      let past : n ≤ position_or_len is_zero (take n (drop offset strings)) = omega (arith, none_passes is_zero (take n (drop offset strings)) none, within) in
+      let full : (k : ℕ) → k < n → is_zero (get_or (drop offset strings) k 0) ≡ false =
+      λ k below. ap is_zero (sym (get_or-take n (drop offset strings) k 0 below)) ∙ fails_before_first is_zero (take n (drop offset strings)) k 0 (omega (arith, past)) in
+      let name = before_first is_zero (drop offset strings) in
+      elim (cases_lt n (length (drop offset strings))) as (λ _. (if list_any is_zero (drop offset strings) && is_name name then Some name else None) ≡ None) [
+        | inl cut ↦
+            let far : n ≤ position_or_len is_zero (drop offset strings) = elim (cases_lt (position_or_len is_zero (drop offset strings)) n) as (λ _. n ≤ position_or_len is_zero (drop offset strings)) [
+              | inl near ↦ cc (full _ near, passes_at_first is_zero (drop offset strings) 0 (omega (arith, near, some_left)))
+              | inr past ↦ past
+            ] in
+            let long : length name ≡ position_or_len is_zero (drop offset strings) = length-prefix_len (λ b. not (is_zero b)) (drop offset strings) in
+            stays_none _ name (and_right (list_any is_zero (drop offset strings)) (is_name name) (too_long name (omega (arith, long, far, cut, length-drop offset strings))))
+        | inr whole ↦ stays_none _ name (and_left (list_any is_zero (drop offset strings)) (is_name name) (list_any_none is_zero (drop offset strings)
+            (λ k d low. ap is_zero (get_or_default (drop offset strings) k d 0 low) ∙ full k (omega (arith, low, whole)))))
+      ]
+
+-- nothing begins past the end
+pub begins_nowhere : (strings : List ℕ) (offset : ℕ) → length strings ≤ offset → name_in strings offset ≡ None
+unfolding name_in
+begins_nowhere strings offset past = rw (drop_all offset strings past) refl

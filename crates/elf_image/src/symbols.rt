@@ -1,0 +1,225 @@
+//! The symbols of a file that name routines.
+ghost use Rattle.std.specs.Prelude.{◌≡◌, ◌<◌, ◌≤◌, ◌+◌, ◌++◌, [], true, Some, None, length, if◌then◌else◌, IfOk, OnOk};
+ghost use Rattle.guest_words.specs.Names.{is_name};
+ghost use Rattle.elf_image.specs.Symbols.{has_sections, is_in_file, is_readable, is_zero, name_in, rank_of, section_bytes, symbol_at, symbol_table, symbols, symbols_in};
+ghost use Rattle.elf_image.specs.Headers.{file_header, section_header};
+ghost use Rattle.std.specs.List.{cons_option, position};
+
+use crate::headers::{FileHeader, SectionHeader, half_at, word_at};
+use guest_words::{Addr, Name, NameError};
+use std::alloc::{AllocError, Global};
+
+/// The type of symbols of routines (STT_FUNC).
+const FUNCTION: u8 = 2;
+
+/// The section index of an undefined symbol (SHN_UNDEF).
+const UNDEFINED: u16 = 0;
+
+/// The type of a symbol table (SHT_SYMTAB) and of a string table (SHT_STRTAB).
+const SYMBOL_TABLE: u32 = 2;
+
+const STRING_TABLE: u32 = 3;
+
+/// The sizes of a section header (Elf32_Shdr) and of a symbol (Elf32_Sym).
+const SECTION_SIZE: usize = 40;
+
+const SYMBOL_SIZE: usize = 16;
+
+/// The greatest length of a name.
+const LONGEST: usize = 1024;
+
+/// A symbol that counts: its value, the rank of its binding (the lowest goes first), and its name.
+#[derive(Drop)]
+pub(crate) struct Symbol {
+    pub(crate) value: Addr,
+    pub(crate) rank: u8,
+    pub(crate) name: Name,
+}
+
+/// The place of the first zero byte.
+fn first_zero(bytes: &[u8]) -> Option<usize>
+    ensures { result ≡ position is_zero bytes.now }
+{
+    bytes.iter().position(|b| *b == 0)
+}
+
+/// The name of these bytes, if they are one.
+fn name_of(alloc: Global, bytes: &[u8]) -> Result<Option<Name>, AllocError>
+    ensures { IfOk result (λ name. name ≡ (if is_name bytes.now then Some bytes.now else None)) }
+{
+    match Name::new(alloc, bytes) {
+        Ok(name) => Ok(Some(name)),
+        Err(NameError::Bad) => Ok(None),
+        Err(NameError::Memory) => Err(AllocError),
+    }
+}
+
+/// The name that begins at an offset of a string table and ends before the next zero byte. No byte is read past the end
+/// of the longest name.
+fn name_in(alloc: Global, strings: &[u8], offset: usize) -> Result<Option<Name>, AllocError>
+    ensures { IfOk result (λ name. name ≡ name_in strings.now offset) }
+{
+    if offset >= strings.len() {
+        return Ok(None);
+    }
+    let end = strings.len().min(offset + LONGEST + 1);
+    let window = &strings[offset..end];
+    match first_zero(window) {
+        None => Ok(None),
+        Some(len) => name_of(alloc, &window[..len]),
+    }
+}
+
+/// Which of several symbols goes first, by the binding: the lowest.
+fn rank_of(binding: u8) -> u8
+    ensures { result ≡ rank_of binding }
+{
+    match binding {
+        1 => 0,
+        2 => 1,
+        0 => 2,
+        _ => 3,
+    }
+}
+
+/// The symbol (Elf32_Sym) at a place, where it counts.
+#[tactic(auto, unfolding(crate::specs::Symbols::symbol_at))]
+fn symbol_at(
+    alloc: Global,
+    file: &[u8],
+    strings: &[u8],
+    at: usize,
+) -> Result<Option<Symbol>, AllocError>
+    requires { at + 16 ≤ length file.now }
+    ensures { IfOk result (λ symbol. symbol ≡ symbol_at file.now strings.now at) }
+{
+    let info = file[at + 12];
+    if info % 16 != FUNCTION || half_at(file, at + 14) == UNDEFINED {
+        return Ok(None);
+    }
+    let value = word_at(file, at + 4);
+    match name_in(alloc, strings, word_at(file, at) as usize)? {
+        None => Ok(None),
+        Some(name) => Ok(Some(Symbol {
+            value,
+            rank: rank_of(info / 16),
+            name,
+        })),
+    }
+}
+
+/// One more symbol, if there is one.
+fn keep(symbols: &mut Vec<Symbol>, symbol: Option<Symbol>) -> Result<(), AllocError>
+    ensures { OnOk result (symbols.new.items ≡ symbols.old.items ++ cons_option symbol []) }
+{
+    if let Some(symbol) = symbol {
+        symbols.push(symbol)?;
+    }
+    Ok(())
+}
+
+/// The symbols of a table that count.
+#[tactic(auto, unfolding(crate::specs::Symbols::symbols_in))]
+fn symbols_in(
+    alloc: Global,
+    file: &[u8],
+    table: &SectionHeader,
+    strings: &[u8],
+) -> Result<Vec<Symbol>, AllocError>
+    requires table { table.now.sh_offset + table.now.sh_size ≤ length file.now }
+    requires strings { strings.now ≡ section_bytes file.now (section_header file.now table.now.sh_link) }
+    ensures { IfOk result (λ v. v.items ≡ symbols_in file.now table.now) }
+{
+    let first = table.sh_offset as usize;
+    let mut symbols = Vec::new(alloc);
+    for i in 0..table.sh_size as usize / SYMBOL_SIZE {
+        let symbol = symbol_at(alloc, file, strings, first + SYMBOL_SIZE * i)?;
+        keep(&mut symbols, symbol)?;
+    }
+    Ok(symbols)
+}
+
+/// The bytes of a section.
+fn section_bytes<'a>(file: &'a [u8], section: &SectionHeader) -> &'a [u8]
+    requires { section.now.sh_offset + section.now.sh_size ≤ length file.now }
+    ensures { result.now ≡ section_bytes file.now section.now }
+{
+    let begin = section.sh_offset as usize;
+    &file[begin..begin + section.sh_size as usize]
+}
+
+/// The section header with this index.
+fn section_header(file: &[u8], header: &FileHeader, i: u32) -> SectionHeader
+    requires header { header.now ≡ file_header file.now }
+    requires sections { has_sections file.now ≡ true }
+    requires index { i < header.now.e_shnum }
+    ensures { result ≡ section_header file.now i }
+{
+    SectionHeader::at(file, header.e_shoff as usize + SECTION_SIZE * i as usize)
+}
+
+/// Whether section headers are of their size, and all in the file.
+fn has_sections(file: &[u8], header: &FileHeader) -> bool
+    requires { header.now ≡ file_header file.now }
+    ensures { result ≡ has_sections file.now }
+{
+    let end = header.e_shoff as usize + SECTION_SIZE * header.e_shnum as usize;
+    header.e_shentsize as usize == SECTION_SIZE && end <= file.len()
+}
+
+/// The first symbol table.
+fn symbol_table(file: &[u8], header: &FileHeader) -> Option<SectionHeader>
+    requires { header.now ≡ file_header file.now }
+    ensures { result ≡ symbol_table file.now }
+{
+    if !has_sections(file, header) {
+        return None;
+    }
+    for i in 0..header.e_shnum as u32 {
+        let section = section_header(file, header, i);
+        if section.sh_type == SYMBOL_TABLE {
+            return Some(section);
+        }
+    }
+    None
+}
+
+/// Whether a section is all in the file.
+fn is_in_file(file: &[u8], section: &SectionHeader) -> bool
+    ensures { result ≡ is_in_file file.now section.now }
+{
+    section.sh_offset as usize + section.sh_size as usize <= file.len()
+}
+
+/// Whether a symbol table can be read.
+fn is_readable(file: &[u8], header: &FileHeader, table: &SectionHeader) -> bool
+    requires header { header.now ≡ file_header file.now }
+    requires sections { has_sections file.now ≡ true }
+    ensures { result ≡ is_readable file.now table.now }
+{
+    if table.sh_entsize as usize != SYMBOL_SIZE || table.sh_link >= header.e_shnum as u32 {
+        return false;
+    }
+    let strings = section_header(file, header, table.sh_link);
+    strings.sh_type == STRING_TABLE && is_in_file(file, table) && is_in_file(file, &strings)
+}
+
+/// The symbols of a file that count: none where its first symbol table can't be read.
+#[tactic(auto, unfolding(crate::specs::Symbols::symbols))]
+pub(crate) fn symbols(
+    alloc: Global,
+    file: &[u8],
+    header: &FileHeader,
+) -> Result<Vec<Symbol>, AllocError>
+    requires { header.now ≡ file_header file.now }
+    ensures { IfOk result (λ v. v.items ≡ symbols file.now) }
+{
+    let Some(table) = symbol_table(file, header) else {
+        return Ok(Vec::new(alloc));
+    };
+    if !is_readable(file, header, &table) {
+        return Ok(Vec::new(alloc));
+    }
+    let strings = section_header(file, header, table.sh_link);
+    symbols_in(alloc, file, &table, section_bytes(file, &strings))
+}

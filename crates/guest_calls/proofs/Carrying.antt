@@ -1,0 +1,89 @@
+-- Calls that carry parts.
+use Rattle.std.proofs.Common.{◌≡◌, ℕ, ◌+◌, ◌*◌, Bool, true, false, cond, List, [], ◌∷◌, ◌++◌, length, Option, Some, None, refl, ap, ap₂, sym, subst, ◌∙◌}
+use Rattle.std.specs.Prelude.{not, is_none, unwrap_or}
+use Rattle.guest_memory.specs.declared.memory.GuestMemory.{GuestMemory}
+use Rattle.guest_memory.specs.declared.reservations.Reservations.{Reservations}
+use Rattle.guest_memory.specs.Guest.{memory_of}
+use Rattle.guest_memory.specs.ReservedBy.{reserved_by}
+use Rattle.rv_exec.specs.Accesses.{can_read, can_write}
+use Rattle.trace_model.specs.EventList.{EventList}
+use Rattle.trace_model.specs.declared.event_kinds.Event.{Event}
+use Rattle.guest_calls.specs.declared.answer.Answer.TheVariants.{Back}
+use Rattle.guest_calls.specs.declared.caller.Caller.{Caller}
+use Rattle.guest_calls.specs.declared.descriptor.Descriptor.{Descriptor}
+use Rattle.guest_calls.specs.declared.vectors.Part.{Part}
+use Rattle.guest_calls.specs.Errors.{ebadf, efault}
+use Rattle.guest_calls.specs.Files.{is_source, advanced}
+use Rattle.guest_calls.specs.Kernel.{KernelState}
+use Rattle.guest_calls.specs.Outcome.{asked, guest_of, Does}
+use Rattle.guest_calls.specs.Results.{Call, CallResult, Guest, arg, answered_or, first_answer, returns, unless, ◌⇒◌, ◌or◌, ◌▷◌, changes, reads, read_event}
+use Rattle.guest_calls.specs.Vectors.{all_in_reach, fills_parts, filled_parts, table_tests}
+use Rattle.guest_calls.proofs.PartLists.{behind, filled_behind}
+
+through_cond : (b : Bool) (e : ℕ) (o p : Option ℕ) → cond b (Some e) o ≡ None → (o ≡ None → o ≡ None) → (b ≡ false) × (o ≡ None)
+through_cond true e o p h same = absurd (cc)
+through_cond false e o p h same = (refl, h)
+
+-- tests that all fail leave the answer to the next ones
+pub first_answer_none : (xs ys : List (Bool × ℕ)) → first_answer xs ≡ None → first_answer (xs ++ ys) ≡ first_answer ys
+first_answer_none [] ys none = refl
+first_answer_none (x ∷ xs) ys none =
+    let parts = through_cond x.0 x.1 (first_answer xs) None none (λ h. h) in
+    ap (λ (b : Bool). cond b (Some x.1) (first_answer (xs ++ ys))) parts.0 ∙ first_answer_none xs ys parts.1
+
+some_cond : (b : Bool) (e answer : ℕ) (o p : Option ℕ) → cond b (Some e) o ≡ Some answer → (o ≡ Some answer → p ≡ Some answer) → cond b (Some e) p ≡ Some answer
+some_cond true e answer o p h next = h
+some_cond false e answer o p h next = next h
+
+-- a test that holds gives the answer, whatever tests follow
+pub first_answer_some : (xs ys : List (Bool × ℕ)) (answer : ℕ) → first_answer xs ≡ Some answer → first_answer (xs ++ ys) ≡ Some answer
+first_answer_some [] ys answer h = absurd (cc)
+first_answer_some (x ∷ xs) ys answer h = some_cond x.0 x.1 answer (first_answer xs) (first_answer (xs ++ ys)) h (first_answer_some xs ys answer)
+
+-- readv(2), of the descriptor, the bytes and the cut parts
+abbrev pub readv_of : Call → Descriptor → List ℕ → List Part → CallResult
+readv_of c file bytes into =
+    unless c (
+    not (is_source file) ⇒ ebadf
+    or table_tests c.memory (arg c 1) (arg c 2)
+    or not (all_in_reach (can_write c.memory) into) ⇒ efault
+    )
+    λ _. returns c (length bytes)
+    ▷ reads c.tid (arg c 1) (8 * arg c 2)
+    ▷ fills_parts into bytes
+    ▷ changes (advanced file (arg c 0) (length bytes))
+
+-- where all tests pass, it carries the bytes
+readv_carries : (c : Call) (file : Descriptor) (bytes : List ℕ) (into : List Part) → is_source file ≡ true → first_answer (table_tests c.memory (arg c 1) (arg c 2)) ≡ None → all_in_reach (can_write c.memory) into ≡ true
+    → readv_of c file bytes into ≡ (returns c (length bytes) ▷ reads c.tid (arg c 1) (8 * arg c 2) ▷ fills_parts into bytes ▷ changes (advanced file (arg c 0) (length bytes)))
+readv_carries c file bytes into source passed reach =
+    let last : List (Bool × ℕ) = (not (all_in_reach (can_write c.memory) into), efault) ∷ [] in
+    let tests : cond (not (is_source file)) (Some ebadf) (first_answer (table_tests c.memory (arg c 1) (arg c 2) ++ last)) ≡ None =
+      ap (λ (b : Bool). cond (not b) (Some ebadf) (first_answer (table_tests c.memory (arg c 1) (arg c 2) ++ last))) source
+      ∙ first_answer_none (table_tests c.memory (arg c 1) (arg c 2)) last passed
+      ∙ ap (λ (b : Bool). cond (not b) (Some efault) (let none : Option ℕ = None in none)) reach
+    in
+    ap (λ (o : Option ℕ). answered_or o c (λ _. returns c (length bytes) ▷ reads c.tid (arg c 1) (8 * arg c 2) ▷ fills_parts into bytes ▷ changes (advanced file (arg c 0) (length bytes)))) tests
+
+pub readv_does : (caller : Caller) (state new : KernelState) (memory memory' : GuestMemory) (held held' : Reservations) (before middle after : EventList) (file : Descriptor) (bytes : List ℕ) (into : List Part)
+    → is_source file ≡ true
+    → first_answer (table_tests (memory_of memory) (arg (asked caller state memory held) 1) (arg (asked caller state memory held) 2)) ≡ None
+    → all_in_reach (can_write (memory_of memory)) into ≡ true
+    → middle.list ≡ before.list ++ read_event caller.tid (arg (asked caller state memory held) 1) (8 * arg (asked caller state memory held) 2)
+    → guest_of memory' held' after ≡ filled_parts into bytes (guest_of memory held middle)
+    → new ≡ advanced file (arg (asked caller state memory held) 0) (length bytes) state
+    → Does (readv_of (asked caller state memory held) file bytes into) (Back (length bytes)) new memory' held' before after
+readv_does caller state new memory memory' held held' before middle after file bytes into source passed reach noted filled moved =
+    let c = asked caller state memory held in
+    let e = read_event caller.tid (arg c 1) (8 * arg c 2) in
+    let is : guest_of memory' held' after ≡ behind before.list (filled_parts into bytes (record { memory = memory_of memory; held = reserved_by held; events = e })) =
+      filled ∙ ap (λ (es : List Event). filled_parts into bytes (record { memory = memory_of memory; held = reserved_by held; events = es })) noted
+      ∙ filled_behind into bytes (memory_of memory) (reserved_by held) before.list e
+    in
+    subst (λ (r : CallResult). Does r (Back (length bytes)) new memory' held' before after) (sym (readv_carries c file bytes into source passed reach)) (record {
+      answered = refl;
+      state_is = moved;
+      memory_is = ap (λ (g : Guest). g.memory) is;
+      held_is = ap (λ (g : Guest). g.held) is;
+      events = ap (λ (g : Guest). g.events) is;
+    })

@@ -1,0 +1,202 @@
+-- How much the events of a call weigh.
+use Rattle.std.proofs.Common.{◌≡◌, ℕ, zero, suc, ◌<◌, ◌≤◌, ◌+◌, ◌-◌, ◌*◌, ◌/◌, Bool, true, false, cond, List, [], ◌∷◌, ◌++◌, length, take, drop, Option, Some, None, arith, refl, ap, sym, subst, ◌∙◌}
+use Rattle.std.specs.Prelude.{not, ◌==◌, nat_lt, is_none, min, unwrap_or, replicate}
+use Rattle.std.specs.Option.{option_map_or}
+use Rattle.std.proofs.lemmas.Bool.Decides.{nat_tests}
+use Rattle.std.proofs.lemmas.List.Sums.{sum_by-cons}
+use Rattle.futex_table.specs.Waiting.{all_bits}
+use Rattle.guest_memory.specs.Memory.{Memory}
+use Rattle.guest_words.specs.Words.{word_count}
+use Rattle.trace_model.specs.declared.event_kinds.Event.{Event}
+use Rattle.trace_model.specs.WellFormed.{weight, weight_of}
+use Rattle.guest_calls.specs.declared.answer.Answer.{Answer}
+use Rattle.guest_calls.specs.declared.answer.Answer.TheVariants.{Back}
+use Rattle.guest_calls.specs.declared.operation.Operation.{Operation}
+use Rattle.guest_calls.specs.declared.operation.Operation.TheVariants.{Wait, Wake, Requeue, CmpRequeue, WaitBitset, WakeBitset}
+use Rattle.guest_calls.specs.declared.vectors.Part.{Part}
+use Rattle.guest_calls.specs.Clone.{clone}
+use Rattle.guest_calls.specs.Errors.{eagain, ebadf, efault, enosys}
+use Rattle.guest_calls.specs.Files.{channel, close, ends_path, is_source, llseek, openat, openat_effect, openat_tests, path_end, read, write}
+use Rattle.guest_calls.specs.Futex.{count_shifted, count_woken, futex, futex_at, futex_by, futex_tests, futex_value, futex_value3, operation, performed, requeues, waits_for, wakes}
+use Rattle.guest_calls.specs.Kernel.{descriptor}
+use Rattle.rv_exec.specs.Accesses.{can_read, can_write}
+use Rattle.guest_calls.specs.Laws.{EveryCallIsLight}
+use Rattle.guest_calls.specs.Pages.{brk, mmap2, mprotect, munmap}
+use Rattle.guest_calls.specs.Results.{Call, CallResult, Guest, answers, arg, changes, either, fill_event, filled, filled_where, fills, fills_word, fills_word_where, first_answer, read_event, reads, returns, unless, when, word, ◌▷◌}
+use Rattle.guest_calls.specs.Search.{first_passing}
+use Rattle.guest_calls.specs.Table.{call, gettid, table}
+use Rattle.guest_calls.specs.Threads.{clear_tid, exit, exit_group, is_cleared, rt_sigprocmask, sched_yield, set_tid_address, told_end}
+use Rattle.guest_calls.specs.Vectors.{all_in_reach, carried, filled_parts, parts, parts_at, read_events, readv, readv_bytes, readv_effect, readv_parts, readv_tests, table_tests, total, writev, writev_count, writev_effect, writev_parts, writev_tests}
+use Rattle.guest_calls.proofs.AllCalls.{of_every_call, of_unless}
+use Rattle.guest_calls.proofs.PartLists.{length_carried, total_carried}
+
+abbrev pub IsLightResult : Call → CallResult → Type 0
+IsLightResult c r = weight r.guest.events ≤ 65536
+
+weight_append : (xs ys : List Event) → weight (xs ++ ys) ≡ weight xs + weight ys
+weight_append [] ys = omega arith
+weight_append (e ∷ xs) ys = let h = weight_append xs ys in omega (arith, h)
+
+-- a read weighs one for itself and at most two words more than its bytes fill
+read_weight : (tid at n : ℕ) → weight (read_event tid at n) ≤ n / 4 + 3
+read_weight tid at zero = omega arith
+read_weight tid at (suc n) = omega arith
+
+fill_weight : (at n : ℕ) → weight (fill_event at n) ≤ 1
+fill_weight at zero = omega arith
+fill_weight at (suc n) = omega arith
+
+parts_weight : (tid : ℕ) (ps : List Part) → 4 * weight (read_events tid ps) ≤ total ps + 12 * length ps
+parts_weight tid [] = omega arith
+parts_weight tid (p ∷ ps) =
+    let sum = sum_by-cons (λ (q : Part). q.size) p ps in
+    let both = weight_append (read_event tid p.at p.size) (read_events tid ps) in
+    let one = read_weight tid p.at p.size in
+    let rest = parts_weight tid ps in
+    omega (arith, sum, both, one, rest)
+
+filled_weight : (ps : List Part) (bytes : List ℕ) (g : Guest) → weight (filled_parts ps bytes g).events ≤ weight g.events + length ps
+filled_weight [] bytes g = omega arith
+filled_weight (p ∷ ps) bytes g =
+    let rest = filled_weight ps (drop p.size bytes) (filled p.at (take p.size bytes) g) in
+    let both = weight_append g.events (fill_event p.at (length (take p.size bytes))) in
+    let one = fill_weight p.at (length (take p.size bytes)) in
+    omega (arith, rest, both, one)
+
+length_parts : (m : Memory) (at n : ℕ) → length (parts_at m at n) ≡ n
+length_parts m at zero = refl
+length_parts m at (suc n) = ap (λ (k : ℕ). suc k) (length_parts m (at + 8) n)
+
+light : (c : Call) (tests : List (Bool × ℕ)) (effect : Unit {0} → CallResult) → (first_answer tests ≡ None → weight (effect tt).guest.events ≤ 65536) → IsLightResult c (unless c tests effect)
+light c tests effect done = of_unless IsLightResult c tests effect (λ value. omega arith) done
+
+none_light : weight [] ≤ 65536
+none_light = omega arith
+
+one_read : (tid at n : ℕ) → n ≤ 65536 → weight (read_event tid at n) ≤ 65536
+one_read tid at n few = let h = read_weight tid at n in omega (arith, h, few)
+
+one_fill : (at n : ℕ) → weight (fill_event at n) ≤ 65536
+one_fill at n = let h = fill_weight at n in omega (arith, h)
+
+some_below : (b : Bool) (from s end : ℕ) (rest : Option ℕ) → cond b (Some from) rest ≡ Some s → from < end → (rest ≡ Some s → s < end) → s < end
+some_below true from s end rest h low later = let e : from ≡ s = grind (arith, h) in omega (arith, e, low)
+some_below false from s end rest h low later = later h
+
+found_below : (test : ℕ → Bool) (from n s : ℕ) → first_passing test from n ≡ Some s → s < from + n
+unfolding first_passing
+found_below test from zero s h = absurd (cc)
+found_below test from (suc n) s h = some_below (test from) from s (from + suc n) (first_passing test (from + 1) n) h (omega arith) (λ later. let next = found_below test (from + 1) n s later in omega (arith, next))
+
+path_short : (o : Option ℕ) (m : Memory) (path : ℕ) → o ≡ path_end m path → unwrap_or o path - path + 1 ≤ 65536
+path_short None m path is = omega arith
+path_short (Some stop) m path is = let h = found_below (ends_path m) path 4096 stop (sym is) in omega (arith, h)
+
+failed : (b : Bool) (e : ℕ) (o : Option ℕ) → cond b (Some e) o ≡ None → (b ≡ false) × (o ≡ None)
+failed true e o h = absurd (cc)
+failed false e o h = (refl, h)
+
+few_of : (n : ℕ) → nat_lt 1024 n ≡ false → n ≤ 1024
+few_of n h = grind (arith, nat_tests, h)
+
+openat_light : (c : Call) → IsLightResult c (openat c)
+openat_light c = light c (openat_tests c) (λ x. openat_effect c) (λ passed. one_read c.tid (arg c 1) (unwrap_or (path_end c.memory (arg c 1)) (arg c 1) - arg c 1 + 1) (path_short (path_end c.memory (arg c 1)) c.memory (arg c 1) refl))
+
+close_light : (c : Call) → IsLightResult c (close c)
+close_light c = search (light, none_light)
+
+llseek_light : (c : Call) → IsLightResult c (llseek c)
+llseek_light c = search (light, one_fill)
+
+read_light : (c : Call) → IsLightResult c (read c)
+read_light c = search (light, one_fill)
+
+min_few : (n : ℕ) → min n 65536 ≤ 65536
+min_few n = omega arith
+
+write_light : (c : Call) → IsLightResult c (write c)
+write_light c = search (light, one_read, min_few)
+
+when_light : (b : Bool) (effect : CallResult → CallResult) (r : CallResult) → weight r.guest.events ≤ 65536 → weight (effect r).guest.events ≤ 65536 → weight (when b effect r).guest.events ≤ 65536
+when_light true effect r plain done = done
+when_light false effect r plain done = plain
+
+exit_light : (c : Call) → IsLightResult c (exit c)
+exit_light c = when_light (is_cleared c) (λ r. r ▷ fills_word (clear_tid c) 0 ▷ wakes (clear_tid c) 1 all_bits) (returns c 0) none_light (one_fill (clear_tid c) 4)
+
+sigprocmask_light : (c : Call) → IsLightResult c (rt_sigprocmask c)
+sigprocmask_light c = search (light, when_light, none_light, one_fill)
+
+brk_light : (c : Call) → IsLightResult c (brk c)
+brk_light c = search (light, none_light)
+
+munmap_light : (c : Call) → IsLightResult c (munmap c)
+munmap_light c = search (light, none_light)
+
+mmap2_light : (c : Call) → IsLightResult c (mmap2 c)
+mmap2_light c = search (light, none_light)
+
+mprotect_light : (c : Call) → IsLightResult c (mprotect c)
+mprotect_light c = search (light, none_light)
+
+where_weight : (asked : Bool) (at n : ℕ) (g : Guest) → weight (filled_where asked at n g).events ≤ weight g.events + 1
+where_weight true at n g = let both = weight_append g.events (fill_event at 4) in let one = fill_weight at 4 in omega (arith, both, one)
+where_weight false at n g = omega arith
+
+born_light : (a b : Bool) (to at n : ℕ) (g : Guest) → weight g.events ≡ 0 → weight (filled_where b at n (filled_where a to n g)).events ≤ 65536
+born_light a b to at n g none = let one = where_weight a to n g in let two = where_weight b at n (filled_where a to n g) in omega (arith, one, two, none)
+
+clone_light : (c : Call) → IsLightResult c (clone c)
+clone_light c = search (light, born_light)
+
+either_light : (b : Bool) (one other : CallResult → CallResult) (r : CallResult) → weight (one r).guest.events ≤ 65536 → weight (other r).guest.events ≤ 65536 → weight (either b one other r).guest.events ≤ 65536
+either_light true one other r here there = here
+either_light false one other r here there = there
+
+performed_light : (o : Operation) (c : Call) → weight (performed o c).guest.events ≤ 65536
+performed_light Wait c = let h = one_read c.tid (futex_at c) 4 (omega arith) in either_light (word c (futex_at c) == futex_value c) (waits_for c all_bits) (answers (Back eagain)) (returns c 0 ▷ reads c.tid (futex_at c) 4) h h
+performed_light WaitBitset c = let h = one_read c.tid (futex_at c) 4 (omega arith) in either_light (word c (futex_at c) == futex_value c) (waits_for c (futex_value3 c)) (answers (Back eagain)) (returns c 0 ▷ reads c.tid (futex_at c) 4) h h
+performed_light Wake c = none_light
+performed_light WakeBitset c = none_light
+performed_light Requeue c = none_light
+performed_light CmpRequeue c = let h = one_read c.tid (futex_at c) 4 (omega arith) in either_light (word c (futex_at c) == futex_value3 c) (requeues c) (answers (Back eagain)) (returns c (count_woken c all_bits + count_shifted c) ▷ reads c.tid (futex_at c) 4) h h
+
+operation_light : (o : Option Operation) (c : Call) → weight (option_map_or (futex_by c) o (returns c enosys)).guest.events ≤ 65536
+operation_light None c = none_light
+operation_light (Some o) c = light c (futex_tests o c) (λ x. performed o c) (λ passed. performed_light o c)
+
+-- ---- the calls in parts
+readv_events : (tid at n : ℕ) (ps : List Part) (bytes : List ℕ) (m : Guest) → n ≤ 1024 → length ps ≡ n → m.events ≡ read_event tid at (8 * n) → weight (filled_parts ps bytes m).events ≤ 65536
+readv_events tid at n ps bytes m few long is =
+    let a = filled_weight ps bytes m in
+    let b = read_weight tid at (8 * n) in
+    let e : weight m.events ≡ weight (read_event tid at (8 * n)) = ap weight is in
+    omega (arith, a, b, e, few, long)
+
+writev_events : (tid at n k : ℕ) (ps : List Part) → n ≤ 1024 → length ps ≡ n → total ps ≤ k → k ≤ 65536 → weight (read_event tid at (8 * n) ++ read_events tid ps) ≤ 65536
+writev_events tid at n k ps few long sum most =
+    let both = weight_append (read_event tid at (8 * n)) (read_events tid ps) in
+    let a = parts_weight tid ps in
+    let b = read_weight tid at (8 * n) in
+    omega (arith, both, a, b, few, long, sum, most)
+
+few_parts : (first : Bool) (e : ℕ) (c : Call) (rest : List (Bool × ℕ)) → first_answer ((first, e) ∷ (table_tests c.memory (arg c 1) (arg c 2) ++ rest)) ≡ None → arg c 2 ≤ 1024
+few_parts first e c rest passed = let tests = (failed first _ _ passed).1 in few_of (arg c 2) (failed (nat_lt 1024 (arg c 2)) _ _ tests).0
+
+readv_light : (c : Call) → IsLightResult c (readv c)
+readv_light c = light c (readv_tests c) (λ x. readv_effect c) (λ passed.
+    readv_events c.tid (arg c 1) (arg c 2) (readv_parts c) (readv_bytes c) (returns c (length (readv_bytes c)) ▷ reads c.tid (arg c 1) (8 * arg c 2)).guest
+    (few_parts (not (is_source (descriptor c.kernel (arg c 0)))) ebadf c ((not (all_in_reach (can_write c.memory) (readv_parts c)), efault) ∷ []) passed)
+    (length_carried (length (readv_bytes c)) (parts c) ∙ length_parts c.memory (arg c 1) (arg c 2)) refl)
+
+writev_light : (c : Call) → IsLightResult c (writev c)
+writev_light c = light c (writev_tests c) (λ x. writev_effect c) (λ passed.
+    writev_events c.tid (arg c 1) (arg c 2) (writev_count c) (writev_parts c)
+    (few_parts (is_none (channel (descriptor c.kernel (arg c 0)))) ebadf c ((not (all_in_reach (can_read c.memory) (writev_parts c)), efault) ∷ []) passed)
+    (length_carried (writev_count c) (parts c) ∙ length_parts c.memory (arg c 1) (arg c 2)) (total_carried (writev_count c) (parts c)) (min_few (total (parts c))))
+
+pub every_call_light : EveryCallIsLight
+unfolding table
+every_call_light = of_every_call IsLightResult
+    ((λ k. none_light), (openat_light, (close_light, (llseek_light, (read_light, (write_light, (readv_light, (writev_light, (exit_light, ((λ k. none_light), ((λ k. none_light), ((λ k. none_light), ((λ k. none_light), ((λ k. none_light), (sigprocmask_light, ((λ k. none_light), ((λ k. none_light), (brk_light, (munmap_light, (clone_light, (mmap2_light, (mprotect_light, ((λ k. none_light), ((λ k. operation_light (operation k) k), tt))))))))))))))))))))))))
+    (λ k. none_light)

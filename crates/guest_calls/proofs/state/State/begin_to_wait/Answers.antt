@@ -1,0 +1,15 @@
+use Rattle.std.proofs.Common.{◌≡◌, true, ap, List, ◌∙◌, arith}
+use Rattle.futex_table.specs.declared.waiter.Waiter.{Waiter}
+use Rattle.guest_calls.specs.Kernel.{KernelState, can_run}
+use Rattle.guest_calls.specs.State.{state_in}
+use Rattle.guest_calls.proofs.Queues.{fewer_wait, waited_is_state}
+use Rattle.guest_calls.proofs.state.State.begin_to_wait.Goals as goal
+
+pub prove-unreachable-requires : goal.prove-unreachable-requires
+prove-unreachable-requires c =
+    let can : can_run (state_in c.self.inside) c.args.tid ≡ true = ap (λ (s : KernelState). can_run s c.args.tid) c.self.view_is ∙ c.requires.can_run in
+    let fewer = fewer_wait (state_in c.self.inside) c.args.tid c.self.invariant.state c.len-waiting.ensures.once can in
+    let test = c.if-prove.true in
+    let len = c.len-waiting.ensures.len in
+    let all = c.len.ensures in
+    omega (arith, fewer, test, len, all)

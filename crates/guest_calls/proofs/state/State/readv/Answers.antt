@@ -1,0 +1,33 @@
+use Rattle.std.proofs.Common.{rules, ◌≡◌, ℕ, ◌*◌, ◌≤◌, true, None, List, length, take, ap, ap₂, sym, subst, ◌∙◌, arith}
+use Rattle.guest_memory.specs.Guest.{memory_of}
+use Rattle.rv_exec.specs.Accesses.{can_write}
+use Rattle.guest_calls.specs.declared.answer.Answer.TheVariants.{Back}
+use Rattle.guest_calls.specs.declared.descriptor.Descriptor.{Descriptor}
+use Rattle.guest_calls.specs.declared.vectors.Part.{Part}
+use Rattle.guest_calls.specs.Files.{bytes_left}
+use Rattle.guest_calls.specs.Kernel.{descriptor}
+use Rattle.guest_calls.specs.Outcome.{asked, guest_of, Does}
+use Rattle.guest_calls.specs.Results.{Call, CallResult, arg}
+use Rattle.guest_calls.specs.Vectors.{all_in_reach, carried, filled_parts, parts, readv, total}
+use Rattle.guest_calls.proofs.Carrying.{readv_does, readv_of}
+use Rattle.guest_calls.proofs.state.State.readv.Goals as goal
+
+pub returns-clause-does : goal.returns-clause-does
+returns-clause-does c =
+    let made : Call = asked c.args.caller.now c.args.self.now c.args.memory.now c.args.held.now in
+    let file : Descriptor = c.descriptor-file.result in
+    let bytes : List ℕ = c.first_bytes-bytes.result.now in
+    let into : List Part = c.cut-into.result.items in
+    let is_file : file ≡ descriptor c.args.self.now (arg made 0) = search rules in
+    let is_bytes : bytes ≡ take (total (parts made)) (bytes_left c.args.self.now (descriptor c.args.self.now (arg made 0))) = search rules in
+    let is_into : into ≡ carried (length bytes) (parts made) = search rules in
+    let here : Descriptor = descriptor c.args.self.now (arg made 0) in
+    let is : readv_of made file bytes into ≡ readv made =
+      ap (λ (d : Descriptor). readv_of made d bytes into) is_file
+      ∙ ap (λ (ps : List Part). readv_of made here bytes ps) is_into
+      ∙ ap (λ (bs : List ℕ). readv_of made here bs (carried (length bs) (parts made))) is_bytes
+    in
+    let filled : guest_of c.fill_parts.new.memory c.fill_parts.new.held c.fill_parts.new.events ≡ filled_parts into bytes (guest_of c.args.memory.now c.args.held.now c.note_read.new.events) = search rules in
+    subst (λ (r : CallResult). Does r (Back (length bytes)) c.advance.new.self c.fill_parts.new.memory c.fill_parts.new.held c.args.events.now c.fill_parts.new.events) is
+    (readv_does c.args.caller.now c.args.self.now c.advance.new.self c.args.memory.now c.fill_parts.new.memory c.args.held.now c.fill_parts.new.held c.args.events.now c.note_read.new.events c.fill_parts.new.events file bytes into
+      (search rules) (search rules) (search rules) (search rules) filled (search rules))

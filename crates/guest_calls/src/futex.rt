@@ -1,0 +1,204 @@
+//! Waiting at a word and waking: futex(2).
+ghost use Rattle.std.specs.Prelude.{◌≡◌, ◌≢◌, ◌≤◌, ◌==◌, ◌++◌, ◌+◌, length, slice_index, true, IfNone};
+ghost use Rattle.futex_table.specs.Waiting.{after_wait, after_requeue, all_bits, shifted, woken};
+ghost use Rattle.guest_memory.specs.declared.reservations.Reservations.{Reservations};
+ghost use Rattle.guest_memory.specs.Guest.{memory_of};
+ghost use Rattle.guest_memory.specs.Memory.{number_at};
+ghost use Rattle.guest_memory.specs.declared.memory.GuestMemory.{GuestMemory};
+ghost use Rattle.trace_model.specs.EventList.{EventList};
+ghost use Rattle.guest_calls.specs.declared.operation.Operation.TheVariants.{Requeue, CmpRequeue};
+ghost use Rattle.rv_exec.specs.Accesses.{can_read};
+ghost use Rattle.guest_calls.specs.Futex.{compares, count_woken, futex_at, futex_tests, futex_value, has_bitset, performed, reads_word, waits_for, wakes};
+ghost use Rattle.guest_calls.specs.Futex as specs;
+ghost use Rattle.guest_calls.specs.Kernel.{KernelState, can_run};
+ghost use Rattle.guest_calls.specs.Outcome.{asked, Does};
+ghost use Rattle.guest_calls.specs.Results.{first_answer, read_event, returns, ◌▷◌};
+
+use crate::Answer;
+use crate::caller::Caller;
+use crate::copies::note_read;
+use crate::errors::{EAGAIN, EFAULT, EINVAL, ENOSYS};
+use crate::operation::Operation;
+use crate::state::State;
+use crate::vectors::word_at;
+use guest_memory::GuestMemory;
+use guest_words::{Addr, Tid};
+use trace_model::Events;
+
+/// FUTEX_CLOCK_REALTIME
+const REALTIME: u32 = 256;
+
+/// The bits of an operation's number: all but FUTEX_PRIVATE_FLAG and FUTEX_CLOCK_REALTIME.
+const NUMBER_BITS: u32 = u32::MAX - 128 - REALTIME;
+
+/// The bits of a wait or a wake that names none.
+const ALL_BITS: u32 = u32::MAX;
+
+/// The answer of the first test that holds.
+fn refusal(memory: &GuestMemory, caller: &Caller, operation: Operation) -> Option<u32>
+    ensures value { (state : KernelState) (held : Reservations) → result ≡ first_answer (futex_tests operation (asked caller.now state memory.now held)) }
+    ensures reach { IfNone result (reads_word operation ≡ true → can_read (memory_of memory.now) (slice_index caller.now.cpu.regs 10) 4 ≡ true) }
+    ensures bits { IfNone result (has_bitset operation ≡ true → slice_index caller.now.cpu.regs 15 ≢ 0) }
+{
+    let at = caller.argument(0);
+    if caller.argument(1) & REALTIME != 0 && !operation.is_wait() {
+        return Some(ENOSYS);
+    }
+    if at % 4 != 0 {
+        return Some(EINVAL);
+    }
+    if operation.is_requeue() && caller.argument(4) % 4 != 0 {
+        return Some(EINVAL);
+    }
+    if operation.has_bitset() && caller.argument(5) == 0 {
+        return Some(EINVAL);
+    }
+    if operation.is_wait() && caller.argument(3) != 0 {
+        return Some(ENOSYS);
+    }
+    if operation.reads_word() && !memory.can_read(at, 4) {
+        return Some(EFAULT);
+    }
+    None
+}
+
+/// Whether the word is the value. It is read, and the read is an event.
+fn compare(
+    memory: &GuestMemory,
+    events: &mut Events,
+    caller: &Caller,
+    value: u32,
+) -> bool
+    requires reach { can_read (memory_of memory.now) (slice_index caller.now.cpu.regs 10) 4 ≡ true }
+    requires room { 1 ≤ events.old.room }
+    ensures same { result ≡ (number_at (memory_of memory.now) (slice_index caller.now.cpu.regs 10) 4 == value) }
+    ensures events { events.new.list ≡ events.old.list ++ read_event caller.now.tid (slice_index caller.now.cpu.regs 10) 4 }
+    ensures room { events.old.room ≤ events.new.room + 1 }
+{
+    let at = caller.argument(0);
+    note_read(memory, events, caller.tid, at, 4);
+    word_at(memory, at) == value
+}
+
+impl State {
+    /// The thread begins to wait.
+    fn begin_to_wait(&mut self, at: Addr, tid: Tid, bits: u32)
+        requires can_run { can_run self.old tid ≡ true }
+        requires bits { bits ≢ 0 }
+        ensures { self.new ≡ record self.old { waiting = after_wait self.old.waiting at tid bits } }
+    {
+        let waiting = self.waiting.len();
+        prove!(waiting < self.threads.len());
+        self.waiting.wait(at, tid, bits);
+    }
+
+    /// Wakes the first that wait at the address, and moves the next to another. Answers how many of each.
+    fn requeue(&mut self, at: Addr, most: u32, shift: u32, to: Addr) -> (u32, u32)
+        ensures woken { result.0 ≡ length (woken self.old.waiting at most all_bits) }
+        ensures moved { result.1 ≡ length (shifted self.old.waiting at most shift) }
+        ensures few { (result.0 ≤ 32) × (result.1 ≤ 32) }
+        ensures after { self.new ≡ record self.old { waiting = after_requeue self.old.waiting at most shift to } }
+    {
+        let _ = self.waiting.len();
+        self.waiting.requeue(at, most, shift, to)
+    }
+
+    /// FUTEX_WAIT and FUTEX_WAIT_BITSET: the thread waits where the word is the value.
+    fn wait_where(
+        &mut self,
+        memory: &GuestMemory,
+        events: &mut Events,
+        caller: &Caller,
+        bits: u32,
+    ) -> Answer
+        requires can_run { can_run self.old caller.now.tid ≡ true }
+        requires reach { can_read (memory_of memory.now) (slice_index caller.now.cpu.regs 10) 4 ≡ true }
+        requires bits { bits ≢ 0 }
+        requires room { 1 ≤ events.old.room }
+        ensures does { (held : Reservations) → let c = asked caller.now self.old memory.now held in Does (returns c 0 ▷ compares c (futex_value c) (waits_for c bits)) result self.new memory.now held events.old events.new }
+        ensures room { events.old.room ≤ events.new.room + 1 }
+    {
+        if !compare(memory, events, caller, caller.argument(2)) {
+            return Answer::Back { value: EAGAIN };
+        }
+        self.begin_to_wait(caller.argument(0), caller.tid, bits);
+        Answer::Block
+    }
+
+    /// FUTEX_WAKE and FUTEX_WAKE_BITSET
+    fn wake_some(&mut self, caller: &Caller, bits: u32) -> Answer
+        ensures { (memory : GuestMemory) (held : Reservations) (events : EventList) → let c = asked caller.now self.old memory held in Does (returns c (count_woken c bits) ▷ wakes (futex_at c) (futex_value c) bits) result self.new memory held events events }
+    {
+        let count = self.wake(caller.argument(0), caller.argument(2), bits);
+        Answer::Back { value: count }
+    }
+
+    /// FUTEX_REQUEUE
+    fn requeue_some(&mut self, caller: &Caller) -> Answer
+        ensures { (memory : GuestMemory) (held : Reservations) (events : EventList) → let c = asked caller.now self.old memory held in Does (performed Requeue c) result self.new memory held events events }
+    {
+        let (at, most, shift, to) = (
+            caller.argument(0),
+            caller.argument(2),
+            caller.argument(3),
+            caller.argument(4),
+        );
+        let (woken, _) = self.requeue(at, most, shift, to);
+        Answer::Back { value: woken }
+    }
+
+    /// FUTEX_CMP_REQUEUE
+    fn requeue_where(
+        &mut self,
+        memory: &GuestMemory,
+        events: &mut Events,
+        caller: &Caller,
+    ) -> Answer
+        requires reach { can_read (memory_of memory.now) (slice_index caller.now.cpu.regs 10) 4 ≡ true }
+        requires room { 1 ≤ events.old.room }
+        ensures does { (held : Reservations) → let c = asked caller.now self.old memory.now held in Does (performed CmpRequeue c) result self.new memory.now held events.old events.new }
+        ensures room { events.old.room ≤ events.new.room + 1 }
+    {
+        if !compare(memory, events, caller, caller.argument(5)) {
+            return Answer::Back { value: EAGAIN };
+        }
+        let (at, most, shift, to) = (
+            caller.argument(0),
+            caller.argument(2),
+            caller.argument(3),
+            caller.argument(4),
+        );
+        let (woken, moved) = self.requeue(at, most, shift, to);
+        Answer::Back {
+            value: woken + moved,
+        }
+    }
+
+    /// futex(2)
+    pub(crate) fn futex(
+        &mut self,
+        memory: &GuestMemory,
+        events: &mut Events,
+        caller: &Caller,
+    ) -> Answer
+        requires can_run { can_run self.old caller.now.tid ≡ true }
+        requires room { 1 ≤ events.old.room }
+        ensures does { (held : Reservations) → Does (specs.futex (asked caller.now self.old memory.now held)) result self.new memory.now held events.old events.new }
+        ensures room { events.old.room ≤ events.new.room + 1 }
+    {
+        let Some(operation) = Operation::numbered(caller.argument(1) & NUMBER_BITS) else {
+            return Answer::Back { value: ENOSYS };
+        };
+        if let Some(errno) = refusal(memory, caller, operation) {
+            return Answer::Back { value: errno };
+        }
+        match operation {
+            Operation::Wait => self.wait_where(memory, events, caller, ALL_BITS),
+            Operation::WaitBitset => self.wait_where(memory, events, caller, caller.argument(5)),
+            Operation::Wake => self.wake_some(caller, ALL_BITS),
+            Operation::WakeBitset => self.wake_some(caller, caller.argument(5)),
+            Operation::Requeue => self.requeue_some(caller),
+            Operation::CmpRequeue => self.requeue_where(memory, events, caller),
+        }
+    }
+}

@@ -1,0 +1,77 @@
+//! The calls by their numbers on riscv32.
+ghost use Rattle.std.specs.Prelude.{◌≡◌, ◌≢◌, ◌≤◌, ◌+◌, true, IfOk, OnErr, slice_index};
+ghost use Rattle.guest_memory.specs.Guest.{memory_of};
+ghost use Rattle.guest_calls.specs.Kernel.{can_run};
+ghost use Rattle.guest_calls.specs.Outcome.{asked, Does, IsUntouched};
+ghost use Rattle.guest_calls.specs.Pages.{IsBreakFree};
+ghost use Rattle.guest_calls.specs.Table.{call, constant_answer};
+
+use crate::Answer;
+use crate::caller::Caller;
+use crate::errors::{ENOSYS, ENOTTY};
+use crate::pages::{mmap2, mprotect, munmap};
+use crate::state::State;
+use crate::threads::rt_sigprocmask;
+use guest_memory::{GuestMemory, Reservations};
+use std::alloc::AllocError;
+use trace_model::Events;
+
+/// The most events that a call adds: the read of a table of parts, and one for each part.
+pub(crate) const EVENTS_OF_A_CALL: usize = 1025;
+
+pub(crate) const WRITE: u32 = 64;
+
+pub(crate) const WRITEV: u32 = 66;
+
+/// What a call answers that does nothing: ioctl, set_robust_list, rt_sigaction, getpid, madvise, and each unknown one.
+fn constant_answer(number: u32) -> u32
+    ensures { result ≡ constant_answer number }
+{
+    match number {
+        29 => ENOTTY,
+        99 | 134 | 233 => 0,
+        172 => 1,
+        _ => ENOSYS,
+    }
+}
+
+impl State {
+    /// Carries out a call that writes to no channel.
+    pub(crate) fn call(
+        &mut self,
+        memory: &mut GuestMemory,
+        held: &mut Reservations,
+        events: &mut Events,
+        caller: &Caller,
+    ) -> Result<Answer, AllocError>
+        requires can_run { can_run self.old caller.now.tid ≡ true }
+        requires break_free { IsBreakFree (memory_of memory.old) self.old.program_break }
+        requires room { 1025 ≤ events.old.room }
+        requires no_write { slice_index caller.now.cpu.regs 17 ≢ 64 }
+        requires no_writev { slice_index caller.now.cpu.regs 17 ≢ 66 }
+        ensures does { IfOk result (λ answer. Does (call (asked caller.now self.old memory.old held.old)) answer self.new memory.new held.new events.old events.new) }
+        ensures refused { OnErr result (IsUntouched self.old self.new memory.old memory.new held.old held.new events.old events.new) }
+        ensures room { events.old.room ≤ events.new.room + 1025 }
+    {
+        match caller.number() {
+            56 => Ok(self.openat(memory, events, caller)),
+            57 => Ok(self.close(caller)),
+            62 => Ok(self.llseek(memory, held, events, caller)),
+            63 => Ok(self.read(memory, held, events, caller)),
+            65 => self.readv(memory, held, events, caller),
+            93 => Ok(self.exit(memory, held, events, caller)),
+            94 => Ok(self.exit_group(held, caller)),
+            96 => Ok(self.set_tid_address(caller)),
+            124 => Ok(Answer::Yield),
+            135 => Ok(rt_sigprocmask(memory, held, events, caller)),
+            178 => Ok(Answer::Back { value: caller.tid.number() }),
+            214 => self.brk(memory, caller),
+            215 => Ok(munmap(memory, caller)),
+            220 => Ok(self.clone_thread(memory, held, events, caller)),
+            222 => mmap2(memory, caller),
+            226 => Ok(mprotect(memory, caller)),
+            422 => Ok(self.futex(memory, events, caller)),
+            number => Ok(Answer::Back { value: constant_answer(number) }),
+        }
+    }
+}
