@@ -33,7 +33,7 @@ returns-in-WaitBitset-clause-does c = λ held.
     let is : operation made ≡ Some c.in-Some.operation = ap (λ (n : ℕ). operation_numbered (bit_and n 4294966911)) (sym c.argument.ensures) ∙ sym c.numbered.ensures ∙ c.in-Some.is in
     let passed : first_answer (futex_tests c.in-Some.operation made) ≡ None = sym (c.refusal.ensures.value c.args.self.now held) ∙ c.in_default-refusal.is in
     let same = futex_performed made c.in-Some.operation is passed ∙ ap (λ (o : Operation). performed o made) c.in-WaitBitset.is in
-    subst (λ (r : CallResult). Does r c.wait_where-in-WaitBitset.result c.wait_where-in-WaitBitset.new.self c.args.memory.now held c.args.events.now c.wait_where-in-WaitBitset.new.events) (sym same) (subst (λ (bits : ℕ). Does (returns made 0 ▷ compares made (futex_value made) (waits_for made bits)) c.wait_where-in-WaitBitset.result c.wait_where-in-WaitBitset.new.self c.args.memory.now held c.args.events.now c.wait_where-in-WaitBitset.new.events) c.argument-in-WaitBitset.ensures (c.wait_where-in-WaitBitset.ensures held))
+    subst (λ (r : CallResult). Does r c.wait_where-in-WaitBitset.result c.wait_where-in-WaitBitset.new.self c.args.memory.now held c.args.events.now c.wait_where-in-WaitBitset.new.events) (sym same) (subst (λ (bits : ℕ). Does (returns made 0 ▷ compares made (futex_value made) (waits_for made bits)) c.wait_where-in-WaitBitset.result c.wait_where-in-WaitBitset.new.self c.args.memory.now held c.args.events.now c.wait_where-in-WaitBitset.new.events) c.argument-in-WaitBitset.ensures (c.wait_where-in-WaitBitset.ensures.does held))
 
 pub returns-in-Wake-clause-does : goal.returns-in-Wake-clause-does
 returns-in-Wake-clause-does c = λ held.
