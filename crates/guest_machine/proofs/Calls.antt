@@ -21,7 +21,7 @@ use Rattle.guest_calls.specs.declared.vectors.Part.{Part}
 use Rattle.guest_calls.specs.Kernel.{KernelState, has_others, is_thread, lives, with_descriptor}
 use Rattle.futex_table.specs.Waiting.{all_bits}
 use Rattle.guest_calls.specs.Errors.{eagain, enosys, enotty}
-use Rattle.guest_calls.specs.Results.{Call, CallResult, Guest, answered_or, answers, arg, changes, either, fills, first_answer, puts, reads, returns, fills_word, number, sets, unless, when, word}
+use Rattle.guest_calls.specs.Results.{Call, CallResult, Guest, answered_or, answers, arg, changes, either, fills, first_answer, puts, reads, returns, fills_word, fills_word_where, number, sets, unless, when, word}
 use Rattle.guest_calls.specs.Files.{advanced, close, llseek, openat, read, write}
 use Rattle.guest_calls.specs.Vectors.{fills_parts, reads_parts, readv, writev}
 use Rattle.guest_calls.specs.Pages.{brk, mmap2, mprotect, munmap, remaps}
@@ -111,6 +111,10 @@ quiet_guest c r g quiet held = record { stays = quiet.stays; threads = quiet.thr
 quiet_fills : (c : Call) (r : CallResult) (at : ℕ) (bytes : List ℕ) → IsQuiet c r → IsQuiet c (fills at bytes r)
 quiet_fills c r at bytes quiet = quiet_guest c r (fills at bytes r).guest quiet (λ q some. left _ (r.guest.held q) some)
 
+quiet_fills_where : (c : Call) (r : CallResult) (asked : Bool) (at n : ℕ) → IsQuiet c r → IsQuiet c (fills_word_where asked at n r)
+quiet_fills_where c r true at n quiet = quiet_fills c r at (to_le_bytes w32 n) quiet
+quiet_fills_where c r false at n quiet = quiet
+
 quiet_changes : (c : Call) (r : CallResult) (f : KernelState → KernelState) → map (λ t. t.tid) (f r.kernel).threads ≡ map (λ t. t.tid) r.kernel.threads → IsQuiet c r → IsQuiet c (changes f r)
 quiet_changes c r f same quiet = record { stays = quiet.stays; threads = same ∙ quiet.threads; held = quiet.held }
 
@@ -160,8 +164,7 @@ quiet_fills_parts c [] bytes r quiet = quiet
 quiet_fills_parts c (p ∷ ps) bytes r quiet = quiet_fills_parts c ps (drop p.size bytes) (fills p.at (take p.size bytes) r) (quiet_fills c r p.at (take p.size bytes) quiet)
 
 quiet_reads_parts : (c : Call) (tid : ℕ) (ps : List Part) (r : CallResult) → IsQuiet c r → IsQuiet c (reads_parts tid ps r)
-quiet_reads_parts c tid [] r quiet = quiet
-quiet_reads_parts c tid (p ∷ ps) r quiet = quiet_reads_parts c tid ps (reads tid p.at p.size r) (quiet_reads c r tid p.at p.size quiet)
+quiet_reads_parts c tid ps r quiet = record { stays = quiet.stays; threads = quiet.threads; held = quiet.held }
 
 lawful_openat : (c : Call) → IsLawful c (openat c)
 lawful_openat c = search (quiet_unless, quiet_sets, quiet_reads, quiet_returns) depth 9
@@ -302,7 +305,7 @@ lawful_born c r tid clear_tid flags stack tls quiet = record {
 }
 
 lawful_clone : (c : Call) → IsLawful c (clone c)
-lawful_clone c = search (lawful_unless, lawful_born, quiet_when, quiet_fills, quiet_returns) depth 12
+lawful_clone c = search (lawful_unless, lawful_born, quiet_fills_where, quiet_returns) depth 12
 
 -- ---- futex
 quiet_waits_for : (c : Call) (r : CallResult) (bits : ℕ) → IsQuiet c r → IsQuiet c (waits_for c bits r)

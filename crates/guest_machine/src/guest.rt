@@ -26,8 +26,8 @@ use trace_model::{Event, Events};
 /// An instruction has at most so many events: its step, and then at most two accesses, or a return and a call.
 const EVENTS_OF_AN_INSTRUCTION: usize = 4;
 
-/// A call has its step, and starts or ends at most so many threads, beside the copies that the kernel makes.
-const EVENTS_OF_A_CALL: usize = 33;
+/// A call has its step, at most 1025 copies that the kernel makes, and ends at most 32 threads.
+const EVENTS_OF_A_CALL: usize = 1 + 1025 + 32;
 
 /// The parts of a machine.
 #[derive(Drop)]
