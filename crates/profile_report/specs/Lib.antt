@@ -1,3 +1,4 @@
 pub mod Reported
 pub mod LineForms
 pub mod ReportText
+pub mod Separators

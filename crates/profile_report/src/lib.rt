@@ -4,6 +4,7 @@
 
 mod line_text;
 mod report;
+mod words;
 mod writer;
 
 pub use report::{Report, Routine};

@@ -33,12 +33,12 @@ fn hex_glyph(digit: u32) -> u8
     digits[digit as usize]
 }
 
+/// The eight digits of an address in base 16.
 #[tactic(auto, unfolding(crate::specs::LineForms::hex_address))]
-/// Appends an address in eight digits of base 16.
-fn push_address(text: &mut Vec<u8>, at: Addr) -> Result<(), AllocError>
-    ensures { OnOk result (text.new.items ≡ text.old.items ++ hex_address at) }
+pub fn hex_address(at: Addr) -> [u8; 8]
+    ensures { result ≡ hex_address at }
 {
-    let glyphs = [
+    [
         hex_glyph(at / 0x1000_0000 % 16),
         hex_glyph(at / 0x100_0000 % 16),
         hex_glyph(at / 0x10_0000 % 16),
@@ -47,8 +47,14 @@ fn push_address(text: &mut Vec<u8>, at: Addr) -> Result<(), AllocError>
         hex_glyph(at / 0x100 % 16),
         hex_glyph(at / 0x10 % 16),
         hex_glyph(at % 16),
-    ];
-    text.extend_from_slice(&glyphs)
+    ]
+}
+
+/// Appends an address in eight digits of base 16.
+fn push_address(text: &mut Vec<u8>, at: Addr) -> Result<(), AllocError>
+    ensures { OnOk result (text.new.items ≡ text.old.items ++ hex_address at) }
+{
+    text.extend_from_slice(&hex_address(at))
 }
 
 /// The number of a fault's kind.
