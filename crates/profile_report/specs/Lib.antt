@@ -2,3 +2,4 @@ pub mod Reported
 pub mod LineForms
 pub mod ReportText
 pub mod Separators
+pub mod Grammar

@@ -2,7 +2,9 @@
 //! lines. Contracts see a report as plain data, and the text as a definition over it: a form a line.
 #![tactic(auto)]
 
+mod line;
 mod line_text;
+mod place;
 mod report;
 mod words;
 mod writer;
