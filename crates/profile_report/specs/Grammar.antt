@@ -1,16 +1,12 @@
 -- The grammar of a report's lines: the text of each, which may come next, and where it leads.
-use Rattle.std.specs.Prelude.{◌≡◌, ℕ, ◌+◌, ◌-◌, ◌<◌, ◌≤◌, ◌^◌, Bool, true, false, ◌&&◌, ◌==◌, nat_lt, nat_le, List, [], ◌∷◌, ◌++◌, codes, length, slice_get, Option, Some, None, IfSome, is_some}
+use Rattle.std.specs.Prelude.{ℕ, ◌+◌, ◌-◌, ◌<◌, ◌^◌, Bool, true, false, ◌&&◌, ◌==◌, nat_lt, List, [], ◌∷◌, ◌++◌, codes, length, slice_get, Option, Some, None, is_some}
 use Rattle.std.specs.Option.{option_map}
-use Rattle.guest_words.specs.Names.{is_name}
-use Rattle.guest_words.specs.declared.endings.Finish.{Finish}
-use Rattle.guest_words.specs.declared.endings.Finish.TheVariants.{Exit, Fault, Budget, Deadlock, Deep, Schedule}
-use Rattle.cost_points.specs.declared.point.Point.{Point}
-use Rattle.cost_points.specs.Valid.{IsPoint}
 use Rattle.profile_report.specs.declared.line.Line.{Line}
 use Rattle.profile_report.specs.declared.line.Line.TheVariants.{First, End, Steps, Open, OfRoutine, OfPoint, Done}
 use Rattle.profile_report.specs.declared.place.Place.{Place}
 use Rattle.profile_report.specs.declared.place.Place.TheVariants.{AtVersion, AtEnd, AtSteps, AtOpen, AtRoutines, Over}
 use Rattle.profile_report.specs.Reported.{ReportedRoutine, Reported}
+use Rattle.profile_report.specs.Fits.{FitsEnd, FitsName, FitsPoint}
 use Rattle.profile_report.specs.LineForms.{labelled, end_line, routine_line}
 use Rattle.profile_report.specs.ReportText.{Version}
 
@@ -23,6 +19,21 @@ line_text v (Open pending) = labelled (codes "open ") pending
 line_text v (OfRoutine entry name) = routine_line entry name
 line_text v (OfPoint p) = v.point_line p
 line_text v (Done routines) = labelled (codes "done ") routines
+
+-- the numbers of a line are in their widths, a name is a name, and a point is one of activations
+abbrev pub FitsLine : Line → Type 0
+FitsLine First = Unit {0}
+FitsLine (End finish) = FitsEnd finish
+FitsLine (Steps steps) = steps < 2 ^ 64
+FitsLine (Open pending) = pending < 2 ^ 64
+FitsLine (OfRoutine entry name) = (entry < 2 ^ 32) × FitsName name
+FitsLine (OfPoint p) = FitsPoint p
+FitsLine (Done routines) = routines < 2 ^ 64
+
+-- a line that has no name
+abbrev pub IsPlain : Line → Type 0
+IsPlain (OfRoutine entry name) = ⊥
+IsPlain line = Unit {0}
 
 -- the routines that are whole, and the one that began last
 abbrev pub closed : Reported → Option ReportedRoutine → Reported

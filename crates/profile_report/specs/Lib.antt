@@ -2,4 +2,5 @@ pub mod Reported
 pub mod LineForms
 pub mod ReportText
 pub mod Separators
+pub mod Fits
 pub mod Grammar

@@ -3,6 +3,7 @@
 #![tactic(auto)]
 
 mod line;
+mod line_reader;
 mod line_text;
 mod place;
 mod report;

@@ -20,3 +20,12 @@ pub enum Line {
     /// The report is over: how many routines it has.
     Done(u64),
 }
+
+/// Why bytes are not read as a line.
+#[derive(Clone, Copy, Debug, PartialEq, Eq)]
+pub enum LineError {
+    /// They have none of the forms.
+    NoForm,
+    /// Want of memory.
+    Memory,
+}

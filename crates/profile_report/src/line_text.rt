@@ -1,7 +1,7 @@
 //! The lines of a report, one function a form.
-ghost use Rattle.std.specs.Prelude.{◌≡◌, ◌++◌, ◌<◌, OnOk};
+ghost use Rattle.std.specs.Prelude.{◌≡◌, ◌++◌, ◌<◌, codes, OnOk};
 ghost use Rattle.std.specs.Fmt.{decimal};
-ghost use Rattle.profile_report.specs.LineForms.{end_line, ended, fault_line, hex_address, hex_glyph, kind_number, labelled, name_word, point_line, routine_line};
+ghost use Rattle.profile_report.specs.LineForms.{end_line, ended, fault_words, hex_address, hex_glyph, kind_number, labelled, name_word, point_line, routine_line};
 
 use cost_points::Point;
 use guest_words::{Addr, FaultKind, Finish, Name, Tid};
@@ -66,7 +66,7 @@ fn kind_number(kind: FaultKind) -> u64
 
 /// Appends a fault's kind, thread and address.
 fn push_fault(text: &mut Vec<u8>, kind: FaultKind, tid: Tid, at: Addr) -> Result<(), AllocError>
-    ensures { OnOk result (text.new.items ≡ text.old.items ++ fault_line kind tid at) }
+    ensures { OnOk result (text.new.items ≡ text.old.items ++ (codes "end fault " ++ fault_words kind tid at)) }
 {
     push_labelled(text, b"end fault ", kind_number(kind))?;
     push_labelled(text, b" ", u64::from(tid.number()))?;
