@@ -189,6 +189,30 @@ fn routine_of(alloc: Global, words: &[u8]) -> Result<Line, LineError>
     }
 }
 
+/// The number of instructions that is written so.
+fn steps_of(word: &[u8]) -> Option<Line>
+    ensures found { IfSome result (λ l. FitsLine l × (codes "steps " ++ word.now ≡ line_text version_1 l)) }
+    ensures only { (n : ℕ) → n < 2 ^ 64 → word.now ≡ decimal n → result ≡ Some (Line.Steps n) }
+{
+    Some(Line::Steps(number(word)?))
+}
+
+/// The number of open activations that is written so.
+fn pending_of(word: &[u8]) -> Option<Line>
+    ensures found { IfSome result (λ l. FitsLine l × (codes "open " ++ word.now ≡ line_text version_1 l)) }
+    ensures only { (n : ℕ) → n < 2 ^ 64 → word.now ≡ decimal n → result ≡ Some (Line.Open n) }
+{
+    Some(Line::Open(number(word)?))
+}
+
+/// The number of routines that is written so.
+fn count_of(word: &[u8]) -> Option<Line>
+    ensures found { IfSome result (λ l. FitsLine l × (codes "done " ++ word.now ≡ line_text version_1 l)) }
+    ensures only { (n : ℕ) → n < 2 ^ 64 → word.now ≡ decimal n → result ≡ Some (Line.Done n) }
+{
+    Some(Line::Done(number(word)?))
+}
+
 /// A line that has no name.
 fn plain_line(line: &[u8]) -> Option<Line>
     ensures found { IfSome result (λ l. FitsLine l × (line.now ≡ line_text version_1 l)) }
@@ -198,18 +222,18 @@ fn plain_line(line: &[u8]) -> Option<Line>
         return Some(Line::First);
     }
     if let Some(word) = behind(b"steps ", line) {
-        return number(word).map(Line::Steps);
+        return steps_of(word);
     }
     if let Some(word) = behind(b"open ", line) {
-        return number(word).map(Line::Open);
+        return pending_of(word);
     }
     if let Some(word) = behind(b"done ", line) {
-        return number(word).map(Line::Done);
+        return count_of(word);
     }
     if let Some(finish) = end_of(line) {
         return Some(Line::End(finish));
     }
-    point_of(line).map(Line::OfPoint)
+    Some(Line::OfPoint(point_of(line)?))
 }
 
 /// What a line says.
