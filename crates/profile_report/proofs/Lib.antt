@@ -1,3 +1,5 @@
 pub mod Cuts
 pub mod Found
 pub mod Letters
+pub mod Newlines
+pub mod Behind

@@ -4,3 +4,5 @@ pub mod ReportText
 pub mod Separators
 pub mod Fits
 pub mod Grammar
+pub mod Reading
+pub mod Valid

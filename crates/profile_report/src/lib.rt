@@ -6,10 +6,12 @@ mod line;
 mod line_reader;
 mod line_text;
 mod place;
+mod reader;
 mod report;
 mod words;
 mod writer;
 
+pub use reader::{ReportError, read_report};
 pub use report::{Report, Routine};
 pub use writer::write_report;
 
