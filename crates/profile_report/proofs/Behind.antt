@@ -1,15 +1,19 @@
 -- What holds behind the lines that a reading has taken.
-use Rattle.std.proofs.Common.{◌≡◌, ℕ, ◌+◌, ◌≤◌, ◌&&◌, Bool, true, false, cond, List, [], ◌∷◌, ◌++◌, length, Option, Some, None, refl, sym, ap, ◌∙◌, subst, arith}
+use Rattle.std.proofs.Common.{◌≡◌, ℕ, ◌+◌, ◌≤◌, ◌&&◌, Bool, true, false, cond, List, [], ◌∷◌, ◌++◌, length, Option, Some, None, inl, refl, sym, ap, ◌∙◌, subst, arith}
 use Rattle.std.specs.List.{AllByRecursion}
 use Rattle.std.proofs.lemmas.Bool.{and_from, and_parts, cond-true}
 use Rattle.std.proofs.lemmas.List.{append_assoc, append-nil, length-append, length_push}
 use Rattle.std.proofs.lemmas.List.Concat.{flat_map-append}
 use Rattle.profile_report.specs.declared.line.Line.{Line}
+use Rattle.profile_report.specs.declared.line.Line.TheVariants.{First}
 use Rattle.profile_report.specs.declared.place.Place.{Place}
 use Rattle.profile_report.specs.declared.place.Place.TheVariants.{AtVersion, Over}
 use Rattle.profile_report.specs.Grammar.{FitsLine, line_text, may_stand, rises, next}
 use Rattle.profile_report.specs.LineForms.{ended}
-use Rattle.profile_report.specs.Reading.{led, lines_text, Leads}
+use Rattle.profile_report.specs.Reading.{led, lines_text, is_over, IsRefused, Leads, RefusesLine, RefusesRest}
+use Rattle.profile_report.specs.Reported.{Reported}
+use Rattle.profile_report.specs.declared.reader.ReportError.{ReportError}
+use Rattle.profile_report.specs.declared.reader.ReportError.TheVariants as errors
 use Rattle.profile_report.specs.ReportText.{version_1}
 use Rattle.profile_report.specs.Separators.{lacks}
 use Rattle.profile_report.proofs.Cuts.{cut_once, lacks_not}
@@ -37,7 +41,10 @@ fit_push : (xs : List Line) (y : Line) → AllByRecursion FitsLine xs → FitsLi
 fit_push [] y h fits = (fits, tt)
 fit_push (x ∷ xs) y h fits = (h.0, fit_push xs y h.1 fits)
 
-chosen : (b : Bool) (o : Option Place) (q : Place) → cond b o None ≡ Some q → (b ≡ true) × (o ≡ Some q)
+apart : false ≡ true → ⊥
+apart e = cc
+
+pub chosen : (b : Bool) (o : Option Place) (q : Place) → cond b o None ≡ Some q → (b ≡ true) × (o ≡ Some q)
 chosen true o q h = (refl, h)
 chosen false o q h = absurd (nothing None q refl h)
 
@@ -112,3 +119,37 @@ behind_next text number place rest bytes after b all end fit whole lead lack is 
     let onward = sym (led_append AtVersion place b.lines m.0 b.lead) ∙ ap (led AtVersion) (sym m.1) ∙ lead in
     let may = led_first place end found.0 found.1 (ap (led place) (sym found.2) ∙ onward) in
     (found.0, found.3, found.4, may.0, may.1)
+
+-- the refusal of a line, and of a rest that has none
+pub refused_line : (text : List ℕ) (number : ℕ) (place : Place) (rest bytes after : List ℕ) (e : ReportError) (b : Behind text number place rest) → lacks 10 bytes ≡ true → rest ≡ bytes ++ 10 ∷ after
+    → RefusesLine version_1 number place bytes e → IsRefused version_1 text e
+refused_line text number place rest bytes after e b lack is why =
+    (length b.lines, place, rest, record { lines = b.lines; fit = b.fit; many = refl; whole = b.whole; lead = b.lead },
+    inl (bytes, after, lack, is, subst (λ n. RefusesLine version_1 n place bytes e) (sym b.many) why))
+
+-- Only want of memory refuses a line that may stand where it stands.
+pub allowed : (number : ℕ) (place : Place) (bytes : List ℕ) (e : ReportError) (l : Line) → FitsLine l → bytes ≡ line_text version_1 l → may_stand place l ≡ true → rises place l ≡ true
+    → RefusesLine version_1 number place bytes e → e ≡ errors.Memory
+allowed number place bytes errors.Version l fits text may rise why = absurd (why.1 (text ∙ ap (line_text version_1) (first l (subst (λ p. may_stand p l ≡ true) why.0 may))))
+  where
+    first : (k : Line) → may_stand AtVersion k ≡ true → k ≡ First
+    first First h = refl
+    first k h = absurd (apart h)
+allowed number place bytes (errors.Line n) l fits text may rise why = absurd (apart (sym (why.2 l fits text) ∙ may))
+allowed number place bytes (errors.Order n) l fits text may rise why =
+    let one : l ≡ why.1.0 = why.1.1.alone l fits text in
+    absurd (apart (sym why.1.3 ∙ ap (rises place) (sym one) ∙ rise))
+allowed number place bytes errors.Short l fits text may rise why = absurd why
+allowed number place bytes errors.Memory l fits text may rise why = refl
+
+-- Only want of memory refuses a report that is over.
+pub allowed_rest : (number : ℕ) (place : Place) (rest : List ℕ) (e : ReportError) (r : Reported) → place ≡ Over r → rest ≡ [] → RefusesRest number place rest e → e ≡ errors.Memory
+allowed_rest number place rest errors.Version r over none why = absurd why
+allowed_rest number place rest (errors.Line n) r over none why = absurd (why.2 none)
+allowed_rest number place rest (errors.Order n) r over none why = absurd why
+allowed_rest number place rest errors.Short r over none why = absurd (apart (sym why ∙ ap is_over over))
+allowed_rest number place rest errors.Memory r over none why = refl
+
+-- a report that is over is one
+pub over_one : (q r : Reported) → Over q ≡ Over r → q ≡ r
+over_one q r e = cc

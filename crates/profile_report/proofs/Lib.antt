@@ -3,3 +3,6 @@ pub mod Found
 pub mod Letters
 pub mod Newlines
 pub mod Behind
+pub mod Rising
+pub mod Written
+pub mod Read

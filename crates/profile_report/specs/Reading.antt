@@ -28,13 +28,19 @@ pub record Reaches (v : Version) (text : List ℕ) (count : ℕ) (place : Place)
   pub whole : text ≡ lines_text v lines ++ rest
   pub lead : led AtVersion lines ≡ Some place
 
+-- the bytes of a line say this, and nothing else
+pub record Says (v : Version) (bytes : List ℕ) (line : Line) : Type 0 where
+  pub fits : FitsLine line
+  pub text : bytes ≡ line_text v line
+  pub alone : (other : Line) → FitsLine other → bytes ≡ line_text v other → other ≡ line
+
 -- the bytes of a line say what may not stand at the place, or nothing
 abbrev pub IsMisplaced : Version → Place → List ℕ → Type 0
 IsMisplaced v place bytes = (line : Line) → FitsLine line → bytes ≡ line_text v line → may_stand place line ≡ false
 
 -- the bytes of a line say what may stand at the place, and only break the order
 abbrev pub IsUnordered : Version → Place → List ℕ → Type 0
-IsUnordered v place bytes = (line : Line) × FitsLine line × (bytes ≡ line_text v line) × (may_stand place line ≡ true) × (rises place line ≡ false)
+IsUnordered v place bytes = (line : Line) × Says v bytes line × (may_stand place line ≡ true) × (rises place line ≡ false)
 
 -- why a whole line of this number is refused at the place
 abbrev pub RefusesLine : Version → ℕ → Place → List ℕ → ReportError → Type 0
@@ -65,12 +71,6 @@ abbrev pub IsRefused : Version → List ℕ → ReportError → Type 0
 IsRefused v text error =
     (count : ℕ) × (place : Place) × (rest : List ℕ) × Reaches v text count place rest
     × (HasRefusedLine v (count + 1) place rest error ⊎ ((lacks 10 rest ≡ true) × RefusesRest (count + 1) place rest error))
-
--- the bytes of a line say this, and nothing else
-pub record Says (v : Version) (bytes : List ℕ) (line : Line) : Type 0 where
-  pub fits : FitsLine line
-  pub text : bytes ≡ line_text v line
-  pub alone : (other : Line) → FitsLine other → bytes ≡ line_text v other → other ≡ line
 
 -- the line leads from a place to the next
 abbrev pub Leads : Version → Place → List ℕ → Place → Type 0
