@@ -5,10 +5,11 @@ use Rattle.std.proofs.lemmas.Result.{IfErr-weaker, IfOk-weaker, MatchResult-from
 use Rattle.profile_report.specs.declared.place.Place.TheVariants.{Over}
 use Rattle.profile_report.specs.declared.reader.ReportError.TheVariants as errors
 use Rattle.profile_report.specs.Reading.{IsRefused}
-use Rattle.profile_report.specs.ReportText.{version_1}
+use Rattle.profile_report.specs.ReportText.{report_text, version_1}
+use Rattle.profile_report.specs.Valid.{IsValid}
 use Rattle.profile_report.proofs.Behind.{allowed, allowed_rest, behind_all, behind_more, behind_next, over_one, refused_line}
 use Rattle.profile_report.proofs.Written.{lines_of, lines_of-fit, lines_of-lead, lines_of-text}
-use Rattle.profile_report.proofs.Read.{impossible}
+use Rattle.profile_report.proofs.Read.{read_found}
 use Rattle.profile_report.proofs.reader.read_report.Goals as goal
 
 pub loop-line-preserved : goal.loop-line-preserved
@@ -40,4 +41,4 @@ returns-clause-only c r valid is =
     (IfErr-weaker c.finish.result _ (λ e. e ≡ errors.Memory) (λ e h. allowed_rest _ _ _ e r all.0 all.1 h) c.finish.ensures.err)
 
 pub returns-clause-found : goal.returns-clause-found
-returns-clause-found c = let h = impossible in ?
+returns-clause-found c = IfOk-weaker c.finish.result _ (λ r. IsValid r × (c.args.text.now ≡ report_text r)) (λ r h. read_found _ _ _ _ c.loop-line.invariant.behind r h.0 h.1) c.finish.ensures.ok
