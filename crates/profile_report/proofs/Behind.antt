@@ -123,9 +123,13 @@ behind_next text number place rest bytes after b all end fit whole lead lack is 
 -- the refusal of a line, and of a rest that has none
 pub refused_line : (text : List ℕ) (number : ℕ) (place : Place) (rest bytes after : List ℕ) (e : ReportError) (b : Behind text number place rest) → lacks 10 bytes ≡ true → rest ≡ bytes ++ 10 ∷ after
     → RefusesLine version_1 number place bytes e → IsRefused version_1 text e
-refused_line text number place rest bytes after e b lack is why =
-    (length b.lines, place, rest, record { lines = b.lines; fit = b.fit; many = refl; whole = b.whole; lead = b.lead },
-    inl (bytes, after, lack, is, subst (λ n. RefusesLine version_1 n place bytes e) (sym b.many) why))
+refused_line text number place rest bytes after e b lack is why = (
+  length b.lines,
+  place,
+  rest,
+  record { lines = b.lines; fit = b.fit; many = refl; whole = b.whole; lead = b.lead },
+  inl (bytes, after, lack, is, subst (λ n. RefusesLine version_1 n place bytes e) (sym b.many) why),
+)
 
 -- Only want of memory refuses a line that may stand where it stands.
 pub allowed : (number : ℕ) (place : Place) (bytes : List ℕ) (e : ReportError) (l : Line) → FitsLine l → bytes ≡ line_text version_1 l → may_stand place l ≡ true → rises place l ≡ true

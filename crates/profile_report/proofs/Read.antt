@@ -118,44 +118,52 @@ onward AtVersion First h fits may rise = (tt, refl)
 onward AtEnd (End f) h fits may rise = (fits, refl)
 onward (AtSteps f) (Steps n) h fits may rise = ((h, fits), refl)
 onward (AtOpen f n) (Open m) h fits may rise = (record { finish = h.0; steps = h.1; pending = fits; entries = none_rise; routines = tt; last = refl }, append-nil (head_text (record { finish = f; steps = n; pending = m; routines = [] })))
-onward (AtRoutines q None) (OfRoutine entry name) h fits may rise =
-    (record {
-      finish = h.finish;
-      steps = h.steps;
-      pending = h.pending;
-      entries = entries_more q None (record { entry = entry; name = name; points = [] }) h rise;
-      routines = all_valid q None h may;
-      last = (fits.0, fits.1, none_rise, tt);
-    }, routine_more (head_text q) q.routines entry name)
-onward (AtRoutines q (Some r)) (OfRoutine entry name) h fits may rise =
-    (record {
-      finish = h.finish;
-      steps = h.steps;
-      pending = h.pending;
-      entries = entries_more q (Some r) (record { entry = entry; name = name; points = [] }) h rise;
-      routines = all_valid q (Some r) h may;
-      last = (fits.0, fits.1, none_rise, tt);
-    }, routine_more (head_text q) (q.routines ++ r ∷ []) entry name)
+onward (AtRoutines q None) (OfRoutine entry name) h fits may rise = (
+  record {
+    finish = h.finish;
+    steps = h.steps;
+    pending = h.pending;
+    entries = entries_more q None (record { entry = entry; name = name; points = [] }) h rise;
+    routines = all_valid q None h may;
+    last = (fits.0, fits.1, none_rise, tt);
+  },
+  routine_more (head_text q) q.routines entry name,
+)
+onward (AtRoutines q (Some r)) (OfRoutine entry name) h fits may rise = (
+  record {
+    finish = h.finish;
+    steps = h.steps;
+    pending = h.pending;
+    entries = entries_more q (Some r) (record { entry = entry; name = name; points = [] }) h rise;
+    routines = all_valid q (Some r) h may;
+    last = (fits.0, fits.1, none_rise, tt);
+  },
+  routine_more (head_text q) (q.routines ++ r ∷ []) entry name,
+)
 onward (AtRoutines q (Some r)) (OfPoint p) h fits may rise =
     let entry = λ (k : ReportedRoutine). k.entry in
     let size = λ (k : Point). k.size in
-    let more : ReportedRoutine = record r { points = r.points ++ p ∷ [] } in
-    (record {
-      finish = h.finish;
-      steps = h.steps;
-      pending = h.pending;
-      entries = subst IsRising (map_push entry q.routines r ∙ sym (map_push entry q.routines more)) h.entries;
-      routines = h.routines;
-      last = (h.last.0, h.last.1, subst IsRising (sym (map_push size r.points p)) (rising_more (map size r.points) p.size h.last.2 (above_last r.points p.size rise)), points_push r.points p h.last.3 fits);
-    }, point_more (head_text q) q.routines r p)
+    let more : ReportedRoutine = record r { points = r.points ++ p ∷ [] } in (
+      record {
+        finish = h.finish;
+        steps = h.steps;
+        pending = h.pending;
+        entries = subst IsRising (map_push entry q.routines r ∙ sym (map_push entry q.routines more)) h.entries;
+        routines = h.routines;
+        last = (h.last.0, h.last.1, subst IsRising (sym (map_push size r.points p)) (rising_more (map size r.points) p.size h.last.2 (above_last r.points p.size rise)), points_push r.points p h.last.3 fits);
+      },
+      point_more (head_text q) q.routines r p,
+    )
 onward (AtRoutines q None) (Done n) h fits may rise =
-    let parts = and_parts true (eqb n (length q.routines)) may in
-    (record { finish = h.finish; steps = h.steps; pending = h.pending; entries = h.entries; routines = all_valid q None h refl },
-    ap (λ k. head_text q ++ flat_map (routine_text version_1) q.routines ++ text (Done k)) (sym (eqb-true n (length q.routines) parts.1)))
+    let parts = and_parts true (eqb n (length q.routines)) may in (
+      record { finish = h.finish; steps = h.steps; pending = h.pending; entries = h.entries; routines = all_valid q None h refl },
+      ap (λ k. head_text q ++ flat_map (routine_text version_1) q.routines ++ text (Done k)) (sym (eqb-true n (length q.routines) parts.1)),
+    )
 onward (AtRoutines q (Some r)) (Done n) h fits may rise =
-    let parts = and_parts (ltb 0 (length r.points)) (eqb n (length q.routines + 1)) may in
-    (record { finish = h.finish; steps = h.steps; pending = h.pending; entries = h.entries; routines = all_valid q (Some r) h parts.0 },
-    ap (λ k. head_text q ++ flat_map (routine_text version_1) (q.routines ++ r ∷ []) ++ text (Done k)) (length_push q.routines r ∙ sym (eqb-true n (length q.routines + 1) parts.1)))
+    let parts = and_parts (ltb 0 (length r.points)) (eqb n (length q.routines + 1)) may in (
+      record { finish = h.finish; steps = h.steps; pending = h.pending; entries = h.entries; routines = all_valid q (Some r) h parts.0 },
+      ap (λ k. head_text q ++ flat_map (routine_text version_1) (q.routines ++ r ∷ []) ++ text (Done k)) (length_push q.routines r ∙ sym (eqb-true n (length q.routines + 1) parts.1)),
+    )
 onward p l h fits may rise = absurd (impossible may)
 
 -- Lines that lead to the end of a report are its text, and the report is valid.

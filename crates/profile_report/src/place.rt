@@ -105,7 +105,10 @@ pub fn rises(place: &Place, line: &Line) -> bool
         (Place::AtRoutines(_, begun), Line::OfRoutine(entry, _)) => {
             is_above(last_entry(begun), u64::from(*entry))
         }
-        (Place::AtRoutines(_, begun), Line::OfPoint(point)) => is_above(last_size(begun), point.size),
+        (Place::AtRoutines(_, begun), Line::OfPoint(point)) => is_above(
+            last_size(begun),
+            point.size,
+        ),
         _ => true,
     }
 }
@@ -171,7 +174,9 @@ pub fn next(alloc: Global, place: Place, line: Line) -> Result<Place, AllocError
             Some(routine) => Ok(Place::AtRoutines(report, Some(with_point(routine, point)?))),
             None => Ok(Place::AtRoutines(report, None)),
         },
-        (Place::AtRoutines(report, begun), Line::Done(_)) => Ok(Place::Over(closed(report, begun)?)),
+        (Place::AtRoutines(report, begun), Line::Done(_)) => Ok(Place::Over(closed(
+            report, begun,
+        )?)),
         (place, _) => Ok(place),
     }
 }

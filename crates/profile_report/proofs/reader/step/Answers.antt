@@ -16,8 +16,16 @@ returns-then-not-may_stand-clause-err c = c.misplaced-then-not-may_stand.ensures
     ap (may_stand c.args.place) (sym one) ∙ sym c.may_stand.ensures ∙ c.if-not-may_stand.true)
 
 pub returns-then-not-rises-clause-err : goal.returns-then-not-rises-clause-err
-returns-then-not-rises-clause-err c = (refl, (c.in-Ok.line, record {
-  fits = c.in-Ok.ensures.found.0;
-  text = c.in-Ok.ensures.found.1;
-  alone = λ other fits is. sym (MatchResult-at_ok (λ x. x ≡ other) (λ e. e ≡ Memory) _ c.in-Ok.is (c.read_line.ensures.only other fits is));
-}, sym c.may_stand.ensures ∙ c.if-not-may_stand.false, sym c.rises.ensures ∙ c.if-not-rises.true))
+returns-then-not-rises-clause-err c = (
+  refl,
+  (
+    c.in-Ok.line,
+    record {
+      fits = c.in-Ok.ensures.found.0;
+      text = c.in-Ok.ensures.found.1;
+      alone = λ other fits is. sym (MatchResult-at_ok (λ x. x ≡ other) (λ e. e ≡ Memory) _ c.in-Ok.is (c.read_line.ensures.only other fits is));
+    },
+    sym c.may_stand.ensures ∙ c.if-not-may_stand.false,
+    sym c.rises.ensures ∙ c.if-not-rises.true,
+  ),
+)
