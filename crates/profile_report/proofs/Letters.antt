@@ -1,5 +1,5 @@
 -- The first byte of a line tells its form.
-use Rattle.std.proofs.Common.{◌≡◌, ℕ, ◌+◌, ◌<◌, ◌≤◌, ◌^◌, Bool, eqb, leb, cond, codes, Some, List, [], ◌∷◌, ◌++◌, length, get_or, Option, Result, refl, sym, ap, ◌∙◌, subst, arith}
+use Rattle.std.proofs.Common.{◌≡◌, ℕ, ◌<◌, ◌≤◌, ◌^◌, eqb, leb, cond, codes, Some, List, [], ◌∷◌, ◌++◌, length, get_or, Option, Result, refl, sym, ap, ◌∙◌, subst, arith}
 use Rattle.std.specs.Bool.{MatchBool}
 use Rattle.std.specs.Result.{MatchResult}
 use Rattle.std.specs.Fmt.{decimal}

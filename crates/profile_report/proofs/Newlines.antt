@@ -1,11 +1,11 @@
 -- No line has the byte that ends it.
-use Rattle.std.proofs.Common.{◌≡◌, ℕ, ◌≤◌, ◌<◌, ◌^◌, true, false, codes, not, eqb, leb, List, [], ◌∷◌, ◌++◌, Option, Some, None, refl, sym, ap, ◌∙◌, subst, arith}
+use Rattle.std.proofs.Common.{◌≡◌, ℕ, ◌<◌, ◌^◌, true, codes, not, eqb, List, [], ◌∷◌, ◌++◌, Option, Some, None, refl, ◌∙◌, arith}
 use Rattle.std.specs.Fmt.{decimal}
 use Rattle.std.specs.List.{list_all}
 use Rattle.std.proofs.lemmas.Bool.{and_from, and_parts}
 use Rattle.std.proofs.lemmas.Bool.Decides.{nat_tests}
 use Rattle.std.proofs.lemmas.List.Folds.{list_all-append}
-use Rattle.guest_words.specs.Names.{is_name, is_visible}
+use Rattle.guest_words.specs.Names.{is_visible}
 use Rattle.guest_words.specs.declared.endings.Finish.TheVariants.{Exit, Fault, Budget, Deadlock, Deep, Schedule}
 use Rattle.guest_words.specs.declared.endings.FaultKind.TheVariants.{Illegal, Fetch, Load, Store, JumpAlign, AtomicAlign, Break}
 use Rattle.guest_words.specs.declared.endings.FaultKind.{FaultKind}
@@ -14,7 +14,7 @@ use Rattle.profile_report.specs.declared.line.Line.{Line}
 use Rattle.profile_report.specs.declared.line.Line.TheVariants.{First, End, Steps, Open, OfRoutine, OfPoint, Done}
 use Rattle.profile_report.specs.Fits.{FitsName, FitsPoint}
 use Rattle.profile_report.specs.Grammar.{FitsLine, line_text}
-use Rattle.profile_report.specs.LineForms.{fault_words, hex_address, kind_number, labelled, name_word, point_line}
+use Rattle.profile_report.specs.LineForms.{hex_address, kind_number, labelled, name_word, point_line}
 use Rattle.profile_report.specs.ReportText.{version_1}
 use Rattle.profile_report.specs.Separators.{lacks}
 use Rattle.profile_report.proofs.Cuts.{lacks_address, lacks_decimal}

@@ -1,8 +1,8 @@
 -- What lines that lead to the end of a report say.
-use Rattle.std.proofs.Common.{◌≡◌, ℕ, ◌+◌, ◌-◌, ◌<◌, ◌≤◌, ◌^◌, ◌&&◌, Bool, true, false, eqb, ltb, List, [], ◌∷◌, ◌++◌, length, map, get_or, Option, Some, None, refl, sym, ap, ◌∙◌, subst, arith}
+use Rattle.std.proofs.Common.{◌≡◌, ℕ, ◌+◌, ◌-◌, ◌<◌, ◌^◌, ◌&&◌, true, false, eqb, ltb, List, [], ◌∷◌, ◌++◌, length, map, get_or, Option, Some, None, refl, sym, ap, ◌∙◌, subst, arith}
 use Rattle.std.specs.List.{AllByRecursion, flat_map}
-use Rattle.std.proofs.lemmas.Bool.{and_parts, cond-true, eqb-true, ltb-true}
-use Rattle.std.proofs.lemmas.List.{append_assoc, append-nil, length_push, length-map, map_push, get_or_push}
+use Rattle.std.proofs.lemmas.Bool.{and_parts, eqb-true, ltb-true}
+use Rattle.std.proofs.lemmas.List.{append_assoc, append-nil, length_push, map_push, get_or_push}
 use Rattle.std.proofs.lemmas.List.Concat.{flat_map-append}
 use Rattle.cost_points.specs.declared.point.Point.{Point}
 use Rattle.cost_points.specs.Keys.{IsRising}
@@ -11,7 +11,7 @@ use Rattle.profile_report.specs.declared.line.Line.TheVariants.{First, End, Step
 use Rattle.profile_report.specs.declared.place.Place.{Place}
 use Rattle.profile_report.specs.declared.place.Place.TheVariants.{AtVersion, AtEnd, AtSteps, AtOpen, AtRoutines, Over}
 use Rattle.profile_report.specs.Fits.{FitsEnd, FitsName, FitsPoint}
-use Rattle.profile_report.specs.Grammar.{FitsLine, line_text, closed, count_of, has_points, is_above, last_entry, last_size, may_stand, rises, next}
+use Rattle.profile_report.specs.Grammar.{FitsLine, line_text, closed, has_points, is_above, last_entry, may_stand, rises, next}
 use Rattle.profile_report.specs.LineForms.{ended, point_line, routine_line}
 use Rattle.profile_report.specs.Reading.{led, lines_text}
 use Rattle.profile_report.specs.Reported.{Reported, ReportedRoutine}

@@ -1,18 +1,16 @@
 -- The lines of a valid report.
-use Rattle.std.proofs.Common.{◌≡◌, ℕ, zero, suc, ◌+◌, ◌-◌, ◌<◌, ◌≤◌, ◌^◌, ◌&&◌, Bool, true, false, cond, eqb, List, [], ◌∷◌, ◌++◌, length, map, get_or, Option, Some, None, refl, sym, ap, ◌∙◌, subst, arith}
-use Rattle.std.specs.Prelude.{slice_get}
+use Rattle.std.proofs.Common.{◌≡◌, ℕ, zero, suc, ◌+◌, ◌<◌, ◌≤◌, ◌^◌, true, List, [], ◌∷◌, ◌++◌, length, map, get_or, Option, Some, None, refl, sym, ap, ◌∙◌, subst, arith}
 use Rattle.std.specs.Option.{option_map}
 use Rattle.std.specs.List.{AllByRecursion, flat_map}
 use Rattle.std.proofs.lemmas.Bool.{and_from, cond-true, eq-eqb, lt-ltb}
-use Rattle.std.proofs.lemmas.List.{append_assoc, append-nil, length_push, length-append, length-map}
+use Rattle.std.proofs.lemmas.List.{append_assoc, append-nil, length_push, length-map}
 use Rattle.std.proofs.lemmas.List.Concat.{flat_map-append}
 use Rattle.cost_points.specs.declared.point.Point.{Point}
 use Rattle.profile_report.specs.declared.line.Line.{Line}
 use Rattle.profile_report.specs.declared.line.Line.TheVariants.{First, End, Steps, Open, OfRoutine, OfPoint, Done}
-use Rattle.profile_report.specs.declared.place.Place.{Place}
 use Rattle.profile_report.specs.declared.place.Place.TheVariants.{AtVersion, AtRoutines, Over}
 use Rattle.profile_report.specs.Fits.{FitsPoint}
-use Rattle.profile_report.specs.Grammar.{FitsLine, line_text, closed, count_of, has_points, is_above, last_entry, last_size, may_stand, rises, next}
+use Rattle.profile_report.specs.Grammar.{FitsLine, line_text, closed, count_of, has_points, last_entry, last_size}
 use Rattle.profile_report.specs.LineForms.{ended, point_line, routine_line}
 use Rattle.profile_report.specs.Reading.{led, lines_text}
 use Rattle.profile_report.specs.Reported.{Reported, ReportedRoutine}

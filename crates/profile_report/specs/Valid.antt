@@ -1,5 +1,5 @@
 -- The reports that have a text.
-use Rattle.std.specs.Prelude.{ℕ, ◌<◌, ◌≤◌, ◌^◌, length, map}
+use Rattle.std.specs.Prelude.{◌<◌, ◌≤◌, ◌^◌, length, map}
 use Rattle.std.specs.List.{AllByRecursion}
 use Rattle.cost_points.specs.Keys.{IsRising}
 use Rattle.profile_report.specs.Fits.{FitsEnd, FitsName, FitsPoint}

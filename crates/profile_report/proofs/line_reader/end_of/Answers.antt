@@ -1,7 +1,4 @@
-use Rattle.std.proofs.Common.{◌≡◌, ◌++◌, Option, None, List, ℕ, subst}
 use Rattle.std.specs.Fmt.{decimal}
-use Rattle.std.specs.Option.{IsSomeAnd}
-use denote.Ref.{Bor}
 use Rattle.guest_words.specs.declared.endings.Finish.TheVariants.{Exit, Fault, Budget, Deadlock, Deep, Schedule}
 use Rattle.profile_report.specs.LineForms.{fault_words}
 use Rattle.profile_report.proofs.Found.{nothing_behind}

@@ -1,4 +1,4 @@
-use Rattle.std.proofs.Common.{◌≡◌, ◌++◌, List, ◌∙◌, sym, arith}
+use Rattle.std.proofs.Common.{◌∙◌, sym, arith}
 use Rattle.profile_report.proofs.Cuts.{cut_once, lacks_decimal}
 use Rattle.profile_report.proofs.Found.{nothing, same}
 use Rattle.profile_report.proofs.line_reader.first_number.Goals as goal

@@ -1,9 +1,7 @@
-use Rattle.std.proofs.Common.{◌≡◌, ◌++◌, ◌∷◌, ℕ, List, Option, ◌∙◌, refl, sym, subst, ap, ap₂}
+use Rattle.std.proofs.Common.{◌≡◌, ◌∙◌, refl, sym, subst, ap₂}
 use Rattle.std.specs.Result.{MatchResult}
 use Rattle.std.proofs.lemmas.Result.{MatchResult-at_ok, MatchResult-at_err, err_from_is_err_and}
-use Rattle.profile_report.specs.declared.line.Line.{Line}
 use Rattle.profile_report.specs.declared.line.Line.TheVariants.{OfRoutine}
-use Rattle.profile_report.specs.declared.line.LineError.{LineError}
 use Rattle.profile_report.specs.declared.line.LineError.TheVariants.{Memory}
 use Rattle.profile_report.proofs.Cuts.{cut_once, lacks_address}
 use Rattle.profile_report.proofs.Found.{nothing, same}

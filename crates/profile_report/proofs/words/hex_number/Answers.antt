@@ -1,10 +1,6 @@
-use Rattle.std.proofs.Common.{ℕ, ◌≡◌, ◌+◌, ◌*◌, ◌/◌, ◌%◌, ◌<◌, ◌^◌, List, get_or, ap, ◌∙◌, sym, arith}
+use Rattle.std.proofs.Common.{ℕ, ◌≡◌, ◌+◌, ◌*◌, ◌/◌, ◌%◌, ◌<◌, ◌^◌, List, get_or, ap, arith}
 use Rattle.profile_report.specs.LineForms.{hex_address}
 use Rattle.profile_report.proofs.words.hex_number.Goals as goal
-
--- a number in two parts
-parts : (n k : ℕ) → n / (16 * k) ≡ n / k / 16 → n / k ≡ n / (16 * k) * 16 + n / k % 16
-parts n k h = omega (arith, h)
 
 -- a number of 32 bits by its eight digits in base 16
 by_digits : (n : ℕ) → n < 2 ^ 32 →
