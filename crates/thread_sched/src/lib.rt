@@ -1,0 +1,13 @@
+//! Turns: which thread of the guest runs next and how long, by a schedule or in rotation, and the recording of the turns
+//! that were made. Contracts see a schedule and a recording as lists of entries, and a scheduler as what it knows.
+#![tactic(auto)]
+
+mod entry;
+mod schedule;
+mod words;
+
+pub use entry::Entry;
+pub use schedule::{Schedule, ScheduleError};
+
+#[cfg(test)]
+mod tests;
