@@ -1,3 +1,4 @@
 pub mod Separators
 pub mod ScheduleText
 
+pub mod TurnRule

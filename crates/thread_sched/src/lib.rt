@@ -3,11 +3,15 @@
 #![tactic(auto)]
 
 mod entry;
+mod recording;
 mod schedule;
+mod turns;
 mod words;
 
 pub use entry::Entry;
+pub use recording::Recording;
 pub use schedule::{Schedule, ScheduleError};
+pub use turns::{Sched, Turn};
 
 #[cfg(test)]
 mod tests;

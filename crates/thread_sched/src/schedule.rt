@@ -14,7 +14,7 @@ use thiserror::Error;
 /// Turns in order.
 #[derive(Drop)]
 pub struct Schedule {
-    entries: Vec<Entry>,
+    pub(crate) entries: Vec<Entry>,
 }
 
 impl Model for Schedule {

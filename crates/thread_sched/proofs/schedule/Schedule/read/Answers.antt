@@ -1,6 +1,7 @@
-use Rattle.std.proofs.Common.{◌≡◌, [], ◌∷◌, ◌++◌, ap, ◌∙◌, sym, subst, arith}
+use Rattle.std.proofs.Common.{◌≡◌, [], ◌∷◌, ◌++◌, length, ap, ◌∙◌, sym, subst, arith}
 use Rattle.std.specs.Result.{MatchResult}
-use Rattle.std.proofs.lemmas.List.{append-nil}
+use Rattle.std.proofs.lemmas.Bool.{eqb-false, eqb-true}
+use Rattle.std.proofs.lemmas.List.{append-nil, nil_from_length}
 use Rattle.std.proofs.lemmas.Result.{err_from_is_err_and}
 use Rattle.thread_sched.specs.declared.schedule.ScheduleError.TheVariants.{Memory}
 use Rattle.thread_sched.proofs.Read.{allowed, behind_more, last_entry, left_fit, line_entry, none_left}
@@ -22,12 +23,21 @@ returns-in_err-push_line-clause-only c s fit is =
 pub returns-then-is_empty-clause-only : goal.returns-then-is_empty-clause-only
 returns-then-is_empty-clause-only c s fit is =
     let more = c.loop-line.invariant.follow s fit is in
-    ?
+    let empty = nil_from_length _ (eqb-true _ _ (sym c.is_empty.ensures ∙ c.if-is_empty.true)) in
+    let none = none_left _ more.0 (left_fit _ _ _ c.loop-line.invariant s fit is) empty more.2 in
+    sym (more.1 ∙ ap (λ es. c.loop-line.entries.items ++ es) none ∙ append-nil c.loop-line.entries.items)
 
 pub returns-in_err-push_line-2-clause-only : goal.returns-in_err-push_line-2-clause-only
 returns-in_err-push_line-2-clause-only c s fit is =
     let more = c.loop-line.invariant.follow s fit is in
-    ?
+    let given = err_from_is_err_and c.from_residual-in_err-push_line-2.result c.from_residual-in_err-push_line-2.ensures.1 in
+    let last = last_entry _ more.0 (left_fit _ _ _ c.loop-line.invariant s fit is) c.in_default.ensures.none (λ e. eqb-false _ _ (sym c.is_empty.ensures ∙ c.if-is_empty.false) (ap length e)) more.2 in
+    subst (λ q. MatchResult q (λ x. x ≡ s) (λ e. e ≡ Memory)) (sym given.1) (given.2 ∙ allowed _ _ _ last.0 last.2 last.3 c.in_err-push_line-2.ensures.err)
 
 pub returns-clause-only : goal.returns-clause-only
-returns-clause-only c s fit is = ?
+returns-clause-only c s fit is =
+    let more = c.loop-line.invariant.follow s fit is in
+    let pushed = c.in_ok-push_line-2.ensures.ok in
+    let last = last_entry _ more.0 (left_fit _ _ _ c.loop-line.invariant s fit is) c.in_default.ensures.none (λ e. eqb-false _ _ (sym c.is_empty.ensures ∙ c.if-is_empty.false) (ap length e)) more.2 in
+    let one = pushed.1.alone last.0 last.2 last.3 in
+    pushed.2 ∙ sym (more.1 ∙ ap (λ es. c.loop-line.entries.items ++ es) (last.1 ∙ ap (λ e. e ∷ []) one))
