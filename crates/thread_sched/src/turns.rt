@@ -58,7 +58,7 @@ fn least_above(last: u32, live: &ReadyList) -> Option<Tid>
     let mut best = None;
     for i in 0..live.len() {
         let (tid, can) = live.at(i);
-        best = with_taken(best, tid, can && last < tid.number());
+        best = with_taken(best, tid, can & (last < tid.number()));
     }
     best
 }
@@ -70,9 +70,7 @@ fn is_able(tid: Tid, live: &ReadyList) -> bool
     let mut found = false;
     for i in 0..live.len() {
         let (other, can) = live.at(i);
-        if can && other.number() == tid.number() {
-            found = true;
-        }
+        found = found | (can & (other.number() == tid.number()));
     }
     found
 }
