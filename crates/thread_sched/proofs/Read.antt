@@ -1,16 +1,16 @@
 -- What holds behind the lines that a reading has taken.
-use Rattle.std.proofs.Common.{◌≡◌, ◌≢◌, ℕ, ◌+◌, ◌<◌, ◌^◌, true, List, [], ◌∷◌, ◌++◌, length, codes, not, eqb, inl, inr, refl, sym, ap, ◌∙◌, subst, arith}
+use Rattle.std.proofs.Common.{◌≡◌, ℕ, true, List, [], ◌∷◌, ◌++◌, length, codes, not, eqb, inl, inr, refl, sym, ap, ap₂, ◌∙◌, subst, arith}
 use Rattle.std.specs.Fmt.{decimal}
 use Rattle.std.specs.List.{AllByRecursion}
 use Rattle.std.proofs.lemmas.Bool.{and_from}
-use Rattle.std.proofs.lemmas.Fmt.{decimal_nonempty}
+use Rattle.std.proofs.lemmas.Fmt.{decimal_injective, decimal_nonempty}
 use Rattle.std.proofs.lemmas.List.{append_assoc, append-nil, length-append}
 use Rattle.std.proofs.lemmas.List.Concat.{flat_map-append}
 use Rattle.std.proofs.lemmas.List.Folds.{list_all-append}
 use Rattle.thread_sched.specs.declared.entry.Entry.{Entry}
 use Rattle.thread_sched.specs.declared.schedule.ScheduleError.{ScheduleError}
 use Rattle.thread_sched.specs.declared.schedule.ScheduleError.TheVariants.{BadLine, Memory}
-use Rattle.thread_sched.specs.ScheduleText.{IsEntry, IsNoEntry, IsRefused, IsText, RefusesLine, Says, entry_text, schedule_text}
+use Rattle.thread_sched.specs.ScheduleText.{IsEntry, IsText, RefusesLine, Says, entry_text, schedule_text}
 use Rattle.thread_sched.specs.Separators.{lacks}
 use Rattle.thread_sched.proofs.Cuts.{cut_once, lacks_decimal, lacks_not}
 
@@ -109,3 +109,21 @@ behind_more text entries rest bytes after e new b lack is says grown = subst (λ
       let one : o.0 ≡ e = says.alone o.0 o.3 o.4 in
       (o.1, m.1 ∙ ap (λ es. entries ++ es) (o.2 ∙ ap (λ k. k ∷ o.1) one) ∙ sym (append_assoc entries (e ∷ []) o.1), o.5);
 })
+
+-- an entry by its text
+entry_same : (e o : Entry) → IsEntry e → IsEntry o → entry_text e ≡ entry_text o → o ≡ e
+entry_same e o he ho is =
+    let words = cut_once 32 (decimal e.tid) (decimal o.tid) (decimal e.most) (decimal o.most)
+    (lacks_decimal 32 e.tid (λ r. omega arith) (omega (arith, he.last))) (lacks_decimal 32 o.tid (λ r. omega arith) (omega (arith, ho.last)))
+    (sym (append_assoc (decimal e.tid) (codes " ") (decimal e.most)) ∙ is ∙ append_assoc (decimal o.tid) (codes " ") (decimal o.most)) in
+    let tid : o.tid ≡ e.tid = decimal_injective o.tid e.tid (omega (arith, ho.last)) (omega (arith, he.last)) (sym words.0) in
+    let most : o.most ≡ e.most = decimal_injective o.most e.most (omega (arith, ho.most)) (omega (arith, he.most)) (sym words.1) in
+    ap₂ (λ t m. record { tid = t; most = m }) tid most
+
+-- the text of entries is that of no others
+pub read_back : (es other : List Entry) → AllByRecursion IsEntry es → AllByRecursion IsEntry other → IsText (schedule_text es) other → other ≡ es
+read_back [] other fit fits is = none_left [] other fits refl is
+read_back (e ∷ es) other fit fits is =
+    let found = line_entry (schedule_text (e ∷ es)) (entry_text e) (schedule_text es) other fits (entry_lacks e fit.0) (text_first e es) is in
+    let rest : found.1 ≡ es = read_back es found.1 fit.1 (subst (AllByRecursion IsEntry) found.2 fits).1 found.5 in
+    found.2 ∙ ap₂ (λ k ks. k ∷ ks) (entry_same e found.0 fit.0 found.3 found.4) rest

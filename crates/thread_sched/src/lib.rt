@@ -9,7 +9,7 @@ mod turns;
 mod words;
 
 pub use entry::Entry;
-pub use recording::Recording;
+pub use recording::{Recording, a_recording_is_read_as_its_turns};
 pub use schedule::{Schedule, ScheduleError};
 pub use turns::{Sched, Turn};
 

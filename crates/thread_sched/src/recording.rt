@@ -1,7 +1,8 @@
 //! Recordings of turns.
-ghost use Rattle.std.specs.Prelude.{◌≡◌, ◌≤◌, ◌++◌, ◌∷◌, [], IfOk, OnErr, OnOk};
-ghost use Rattle.std.specs.List.{AllByRecursion, flat_map};
-ghost use Rattle.thread_sched.specs.ScheduleText.{IsEntry, IsText, entry_text, schedule_text};
+ghost use Rattle.std.specs.Prelude.{◌≡◌, ◌≤◌, List, [], ◌∷◌, ◌++◌, IfOk, OnErr, OnOk};
+ghost use Rattle.std.specs.List.{AllByRecursion};
+ghost use Rattle.thread_sched.specs.ScheduleText.{IsEntry, IsText, schedule_text};
+ghost use Rattle.thread_sched.specs.declared.entry.Entry.{Entry};
 
 use crate::Entry;
 use crate::entry::push_entry;
@@ -62,3 +63,9 @@ impl Recording {
         Ok(text)
     }
 }
+
+/// The text of turns is that of no other turns.
+pub fn a_recording_is_read_as_its_turns()
+    ensures same { (turns other : List Entry) → AllByRecursion IsEntry turns → AllByRecursion IsEntry other → IsText (schedule_text turns) other → other ≡ turns }
+    ensures read { (turns : List Entry) → IsText (schedule_text turns) turns }
+{}
