@@ -77,7 +77,7 @@ next_line (l ∷ ls) bytes after fit lack is =
     (l, ls, refl, fit.0, cut.0, cut.1)
 
 -- lines whose text has no whole line
-no_line : (more : List Line) → lacks 10 (lines_text version_1 more) ≡ true → more ≡ []
+pub no_line : (more : List Line) → lacks 10 (lines_text version_1 more) ≡ true → more ≡ []
 no_line [] h = refl
 no_line (l ∷ ls) h = absurd (lacks_not 10 (line_text version_1 l) (lines_text version_1 ls) (subst (λ t. lacks 10 t ≡ true) (lines_first l ls) h))
 

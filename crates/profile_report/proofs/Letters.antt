@@ -22,7 +22,7 @@ use Rattle.profile_report.proofs.Found.{same}
 use Rattle.profile_report.specs.ReportText.{version_1}
 
 -- the letter that a form begins with, or 0 for a digit
-abbrev letter : Line → ℕ
+abbrev pub letter : Line → ℕ
 letter First = 97
 letter (End finish) = 101
 letter (Steps n) = 115
@@ -89,6 +89,10 @@ begins (Open n) fits = refl
 begins (OfRoutine entry name) fits = refl
 begins (OfPoint p) fits = cond-true (leb (get_or (point_line p) 0 0) 57) 0 _ (le-leb _ _ (point_first p fits.size))
 begins (Done n) fits = refl
+
+-- a line with the text of another has its form
+pub alike : (l k : Line) → FitsLine l → FitsLine k → line_text version_1 l ≡ line_text version_1 k → Form (letter l) k
+alike l k fl fk is = subst (λ b. Form b k) (sym (begins k fk) ∙ ap (λ xs. letter_of (get_or xs 0 0)) (sym is) ∙ begins l fl) (form k)
 
 -- the line whose text begins with the byte
 pub begun_by : (l : Line) (byte : ℕ) (rest : List ℕ) → FitsLine l → line_text version_1 l ≡ byte ∷ rest → Form (letter_of byte) l

@@ -6,3 +6,5 @@ pub mod Behind
 pub mod Rising
 pub mod Written
 pub mod Read
+pub mod Digits
+pub mod OneText

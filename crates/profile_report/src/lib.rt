@@ -11,7 +11,7 @@ mod report;
 mod words;
 mod writer;
 
-pub use reader::{ReportError, read_report};
+pub use reader::{ReportError, a_text_is_of_one_report, read_report};
 pub use report::{Report, Routine};
 pub use writer::write_report;
 
