@@ -22,7 +22,8 @@ use std::alloc::Global;
 /// What stands behind a label.
 fn behind<'a>(label: &[u8], line: &'a [u8]) -> Option<&'a [u8]>
     ensures found { IfSome result (λ rest. line.now ≡ label.now ++ rest.now) }
-    ensures only { (rest : List ℕ) → line.now ≡ label.now ++ rest → IsSomeAnd result (λ r. r.now ≡ rest) }
+    ensures only { (rest : List ℕ) → line.now ≡ label.now ++ rest
+        → IsSomeAnd result (λ r. r.now ≡ rest) }
 {
     line.strip_prefix(label)
 }
@@ -30,7 +31,8 @@ fn behind<'a>(label: &[u8], line: &'a [u8]) -> Option<&'a [u8]>
 /// The number before the first space, and what stands behind that.
 fn first_number(words: &[u8]) -> Option<(u64, &[u8])>
     ensures found { IfSome result (λ x. words.now ≡ decimal x.0 ++ 32 ∷ x.1.now) }
-    ensures only { (n : ℕ) (rest : List ℕ) → n < 2 ^ 64 → words.now ≡ decimal n ++ 32 ∷ rest → IsSomeAnd result (λ x. (x.0 ≡ n) × (x.1.now ≡ rest)) }
+    ensures only { (n : ℕ) (rest : List ℕ) → n < 2 ^ 64 → words.now ≡ decimal n ++ 32 ∷ rest
+        → IsSomeAnd result (λ x. (x.0 ≡ n) × (x.1.now ≡ rest)) }
 {
     let (word, rest) = cut(words, b' ')?;
     Some((number(word)?, rest))
@@ -73,8 +75,10 @@ fn thread_of(number: u64) -> Option<Tid>
 
 /// The words of a fault.
 fn fault_of(words: &[u8]) -> Option<Finish>
-    ensures found { IfSome result (λ f. FitsEnd f × (codes "end fault " ++ words.now ≡ end_line f)) }
-    ensures only { (kind : FaultKind) (tid at : ℕ) → FitsEnd (Finish.Fault kind tid at) → words.now ≡ fault_words kind tid at → result ≡ Some (Finish.Fault kind tid at) }
+    ensures found { IfSome result (λ f. FitsEnd f × (codes "end fault " ++ words.now
+        ≡ end_line f)) }
+    ensures only { (kind : FaultKind) (tid at : ℕ) → FitsEnd (Finish.Fault kind tid at)
+        → words.now ≡ fault_words kind tid at → result ≡ Some (Finish.Fault kind tid at) }
 {
     let (kind, rest) = first_number(words)?;
     let (tid, rest) = first_number(rest)?;
@@ -88,7 +92,8 @@ fn fault_of(words: &[u8]) -> Option<Finish>
 /// The status in 8 bits that is written so.
 fn status_of(word: &[u8]) -> Option<Finish>
     ensures found { IfSome result (λ f. FitsEnd f × (codes "end exit " ++ word.now ≡ end_line f)) }
-    ensures only { (status : ℕ) → status < 2 ^ 8 → word.now ≡ decimal status → result ≡ Some (Finish.Exit status) }
+    ensures only { (status : ℕ) → status < 2 ^ 8 → word.now ≡ decimal status
+        → result ≡ Some (Finish.Exit status) }
 {
     let status = u8::try_from(number(word)?).ok()?;
     Some(Finish::Exit { status })
@@ -96,8 +101,10 @@ fn status_of(word: &[u8]) -> Option<Finish>
 
 /// The line of a schedule that is written so, counted from 1.
 fn schedule_of(word: &[u8]) -> Option<Finish>
-    ensures found { IfSome result (λ f. FitsEnd f × (codes "end schedule " ++ word.now ≡ end_line f)) }
-    ensures only { (line : ℕ) → 1 ≤ line → line < 2 ^ 64 → word.now ≡ decimal line → result ≡ Some (Finish.Schedule line) }
+    ensures found { IfSome result (λ f. FitsEnd f × (codes "end schedule " ++ word.now
+        ≡ end_line f)) }
+    ensures only { (line : ℕ) → 1 ≤ line → line < 2 ^ 64 → word.now ≡ decimal line
+        → result ≡ Some (Finish.Schedule line) }
 {
     match number(word) {
         Some(line) if 1 <= line => Some(Finish::Schedule { line }),
@@ -163,7 +170,8 @@ fn point_of(line: &[u8]) -> Option<Point>
 /// A name, or the dash that stands for none.
 fn name_of(alloc: Global, word: &[u8]) -> Result<Option<Name>, LineError>
     ensures found { IfOk result (λ name. FitsName name × (word.now ≡ name_word name)) }
-    ensures only { (name : Option (List ℕ)) → FitsName name → word.now ≡ name_word name → MatchResult result (λ x. x ≡ name) (λ e. e ≡ LineError.Memory) }
+    ensures only { (name : Option (List ℕ)) → FitsName name → word.now ≡ name_word name
+        → MatchResult result (λ x. x ≡ name) (λ e. e ≡ LineError.Memory) }
 {
     if word == b"-".as_slice() {
         return Ok(None);
@@ -177,8 +185,11 @@ fn name_of(alloc: Global, word: &[u8]) -> Result<Option<Name>, LineError>
 
 /// A routine's entry and its name.
 fn routine_of(alloc: Global, words: &[u8]) -> Result<Line, LineError>
-    ensures found { IfOk result (λ l. FitsLine l × (codes "routine " ++ words.now ≡ line_text version_1 l)) }
-    ensures only { (entry : ℕ) (name : Option (List ℕ)) → FitsLine (Line.OfRoutine entry name) → words.now ≡ hex_address entry ++ 32 ∷ name_word name → MatchResult result (λ l. l ≡ Line.OfRoutine entry name) (λ e. e ≡ LineError.Memory) }
+    ensures found { IfOk result (λ l. FitsLine l × (codes "routine " ++ words.now
+        ≡ line_text version_1 l)) }
+    ensures only { (entry : ℕ) (name : Option (List ℕ)) → FitsLine (Line.OfRoutine entry name)
+        → words.now ≡ hex_address entry ++ 32 ∷ name_word name
+        → MatchResult result (λ l. l ≡ Line.OfRoutine entry name) (λ e. e ≡ LineError.Memory) }
 {
     let Some((entry, name)) = cut(words, b' ') else {
         return Err(LineError::NoForm);
@@ -191,7 +202,8 @@ fn routine_of(alloc: Global, words: &[u8]) -> Result<Line, LineError>
 
 /// The number of instructions that is written so.
 fn steps_of(word: &[u8]) -> Option<Line>
-    ensures found { IfSome result (λ l. FitsLine l × (codes "steps " ++ word.now ≡ line_text version_1 l)) }
+    ensures found { IfSome result (λ l. FitsLine l × (codes "steps " ++ word.now
+        ≡ line_text version_1 l)) }
     ensures only { (n : ℕ) → n < 2 ^ 64 → word.now ≡ decimal n → result ≡ Some (Line.Steps n) }
 {
     Some(Line::Steps(number(word)?))
@@ -199,7 +211,8 @@ fn steps_of(word: &[u8]) -> Option<Line>
 
 /// The number of open activations that is written so.
 fn pending_of(word: &[u8]) -> Option<Line>
-    ensures found { IfSome result (λ l. FitsLine l × (codes "open " ++ word.now ≡ line_text version_1 l)) }
+    ensures found { IfSome result (λ l. FitsLine l × (codes "open " ++ word.now
+        ≡ line_text version_1 l)) }
     ensures only { (n : ℕ) → n < 2 ^ 64 → word.now ≡ decimal n → result ≡ Some (Line.Open n) }
 {
     Some(Line::Open(number(word)?))
@@ -207,7 +220,8 @@ fn pending_of(word: &[u8]) -> Option<Line>
 
 /// The number of routines that is written so.
 fn count_of(word: &[u8]) -> Option<Line>
-    ensures found { IfSome result (λ l. FitsLine l × (codes "done " ++ word.now ≡ line_text version_1 l)) }
+    ensures found { IfSome result (λ l. FitsLine l × (codes "done " ++ word.now
+        ≡ line_text version_1 l)) }
     ensures only { (n : ℕ) → n < 2 ^ 64 → word.now ≡ decimal n → result ≡ Some (Line.Done n) }
 {
     Some(Line::Done(number(word)?))
@@ -216,7 +230,8 @@ fn count_of(word: &[u8]) -> Option<Line>
 /// A line that has no name.
 fn plain_line(line: &[u8]) -> Option<Line>
     ensures found { IfSome result (λ l. FitsLine l × (line.now ≡ line_text version_1 l)) }
-    ensures only { (l : Line) → IsPlain l → FitsLine l → line.now ≡ line_text version_1 l → result ≡ Some l }
+    ensures only { (l : Line) → IsPlain l → FitsLine l → line.now ≡ line_text version_1 l
+        → result ≡ Some l }
 {
     if line == b"aprof 1".as_slice() {
         return Some(Line::First);
@@ -239,7 +254,8 @@ fn plain_line(line: &[u8]) -> Option<Line>
 /// What a line says.
 pub fn read_line(alloc: Global, line: &[u8]) -> Result<Line, LineError>
     ensures found { IfOk result (λ l. FitsLine l × (line.now ≡ line_text version_1 l)) }
-    ensures only { (l : Line) → FitsLine l → line.now ≡ line_text version_1 l → MatchResult result (λ x. x ≡ l) (λ e. e ≡ LineError.Memory) }
+    ensures only { (l : Line) → FitsLine l → line.now ≡ line_text version_1 l
+        → MatchResult result (λ x. x ≡ l) (λ e. e ≡ LineError.Memory) }
 {
     if let Some(words) = behind(b"routine ", line) {
         return routine_of(alloc, words);

@@ -47,7 +47,8 @@ impl From<AllocError> for ReportError {
 
 /// The refusal of a line that may not stand at a place.
 fn misplaced(place: &Place, number: u64) -> ReportError
-    ensures { (bytes : List ℕ) → IsMisplaced version_1 place.now bytes → RefusesLine version_1 number place.now bytes result }
+    ensures { (bytes : List ℕ) → IsMisplaced version_1 place.now bytes
+        → RefusesLine version_1 number place.now bytes result }
 {
     match place {
         Place::AtVersion => ReportError::Version,
@@ -94,7 +95,8 @@ fn finish(place: Place, rest: &[u8], number: u64) -> Result<Report, ReportError>
 /// The report whose text this is: line by line, and the first line that fails gives the refusal.
 pub fn read_report(alloc: Global, text: &[u8]) -> Result<Report, ReportError>
     ensures found { IfOk result (λ r. IsValid r × (text.now ≡ report_text r)) }
-    ensures only { (r : Reported) → IsValid r → text.now ≡ report_text r → MatchResult result (λ x. x ≡ r) (λ e. e ≡ ReportError.Memory) }
+    ensures only { (r : Reported) → IsValid r → text.now ≡ report_text r
+        → MatchResult result (λ x. x ≡ r) (λ e. e ≡ ReportError.Memory) }
     ensures refused { IfErr result (λ e. IsRefused version_1 text.now e) }
 {
     let mut place = Place::AtVersion;

@@ -11,7 +11,8 @@ use std::str;
 
 /// What stands before the first such byte, and what stands after it.
 pub fn cut(bytes: &[u8], byte: u8) -> Option<(&[u8], &[u8])>
-    ensures parts { IfSome result (λ x. (lacks byte x.0.now ≡ true) × (bytes.now ≡ x.0.now ++ byte ∷ x.1.now)) }
+    ensures parts { IfSome result (λ x. (lacks byte x.0.now ≡ true) × (bytes.now
+        ≡ x.0.now ++ byte ∷ x.1.now)) }
     ensures none { IfNone result (lacks byte bytes.now ≡ true) }
 {
     for place in 0..bytes.len() {

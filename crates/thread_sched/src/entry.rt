@@ -38,7 +38,8 @@ fn steps_of(word: &[u8]) -> Option<u64>
 /// The number before the first space, and what stands behind that.
 fn first_number(line: &[u8]) -> Option<(u64, &[u8])>
     ensures found { IfSome result (λ x. line.now ≡ decimal x.0 ++ 32 ∷ x.1.now) }
-    ensures only { (n : ℕ) (rest : List ℕ) → n < 2 ^ 64 → line.now ≡ decimal n ++ 32 ∷ rest → IsSomeAnd result (λ x. (x.0 ≡ n) × (x.1.now ≡ rest)) }
+    ensures only { (n : ℕ) (rest : List ℕ) → n < 2 ^ 64 → line.now ≡ decimal n ++ 32 ∷ rest
+        → IsSomeAnd result (λ x. (x.0 ≡ n) × (x.1.now ≡ rest)) }
 {
     let (word, rest) = cut(line, b' ')?;
     Some((number(word)?, rest))

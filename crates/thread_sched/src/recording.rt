@@ -43,7 +43,8 @@ impl Recording {
     pub fn add(&mut self, tid: Tid, began: u64) -> Result<(), AllocError>
         requires some { 1 ≤ began }
         requires most { began ≤ 1000000000000 }
-        ensures ok { OnOk result (self.new ≡ self.old ++ (record { tid = tid; most = began }) ∷ []) }
+        ensures ok { OnOk result (self.new
+            ≡ self.old ++ (record { tid = tid; most = began }) ∷ []) }
         ensures err { OnErr result (self.new ≡ self.old) }
     {
         self.turns.push(Entry { tid, most: began })?;
@@ -66,6 +67,7 @@ impl Recording {
 
 /// The text of turns is that of no other turns.
 pub fn a_recording_is_read_as_its_turns()
-    ensures same { (turns other : List Entry) → AllByRecursion IsEntry turns → AllByRecursion IsEntry other → IsText (schedule_text turns) other → other ≡ turns }
+    ensures same { (turns other : List Entry) → AllByRecursion IsEntry turns
+        → AllByRecursion IsEntry other → IsText (schedule_text turns) other → other ≡ turns }
     ensures read { (turns : List Entry) → IsText (schedule_text turns) turns }
 {}

@@ -61,7 +61,8 @@ impl<T: Drop> From<AllocFailed<T>> for ScheduleError {
 
 /// Adds the entry of one more line, without the byte that ends it.
 fn push_line(entries: &mut Vec<Entry>, line: &[u8]) -> Result<(), ScheduleError>
-    ensures ok { OnOk result ((e : Entry) × Says line.now e × (entries.new.items ≡ entries.old.items ++ e ∷ [])) }
+    ensures ok { OnOk result ((e : Entry) × Says line.now e × (entries.new.items
+        ≡ entries.old.items ++ e ∷ [])) }
     ensures err { IfErr result (λ e. RefusesLine (length entries.old.items + 1) line.now e) }
 {
     let Some(entry) = entry_of(line) else {
@@ -86,7 +87,8 @@ impl Schedule {
     /// The schedule whose text this is; the last line may lack the byte that ends it.
     pub fn read(alloc: Global, text: &[u8]) -> Result<Schedule, ScheduleError>
         ensures found { IfOk result (λ s. AllByRecursion IsEntry s × IsText text.now s) }
-        ensures only { (s : List Entry) → AllByRecursion IsEntry s → IsText text.now s → MatchResult result (λ x. x ≡ s) (λ e. e ≡ ScheduleError.Memory) }
+        ensures only { (s : List Entry) → AllByRecursion IsEntry s → IsText text.now s
+            → MatchResult result (λ x. x ≡ s) (λ e. e ≡ ScheduleError.Memory) }
         ensures refused { IfErr result (λ e. IsRefused text.now e) }
     {
         let mut entries = Vec::new(alloc);
