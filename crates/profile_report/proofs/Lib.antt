@@ -1,0 +1,10 @@
+pub mod Cuts
+pub mod Found
+pub mod Letters
+pub mod Newlines
+pub mod Behind
+pub mod Rising
+pub mod Written
+pub mod Read
+pub mod Digits
+pub mod OneText

@@ -1,3 +1,8 @@
 pub mod Reported
 pub mod LineForms
 pub mod ReportText
+pub mod Separators
+pub mod Fits
+pub mod Grammar
+pub mod Reading
+pub mod Valid

@@ -43,13 +43,13 @@ abbrev pub labelled : List ℕ → ℕ → List ℕ
 labelled label number = label ++ decimal number
 
 -- a fault: its kind's number, the thread and the address
-abbrev pub fault_line : FaultKind → ℕ → ℕ → List ℕ
-fault_line kind tid at = labelled (codes "end fault ") (kind_number kind) ++ labelled (codes " ") tid ++ codes " " ++ hex_address at
+abbrev pub fault_words : FaultKind → ℕ → ℕ → List ℕ
+fault_words kind tid at = decimal (kind_number kind) ++ labelled (codes " ") tid ++ codes " " ++ hex_address at
 
 -- how the run ended
 abbrev pub end_line : Finish → List ℕ
 end_line (Exit status) = labelled (codes "end exit ") status
-end_line (Fault kind tid at) = fault_line kind tid at
+end_line (Fault kind tid at) = codes "end fault " ++ fault_words kind tid at
 end_line Budget = codes "end budget"
 end_line Deadlock = codes "end deadlock"
 end_line Deep = codes "end deep"

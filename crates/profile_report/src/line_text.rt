@@ -1,7 +1,7 @@
 //! The lines of a report, one function a form.
-ghost use Rattle.std.specs.Prelude.{◌≡◌, ◌++◌, ◌<◌, OnOk};
+ghost use Rattle.std.specs.Prelude.{◌≡◌, ◌++◌, ◌<◌, codes, OnOk};
 ghost use Rattle.std.specs.Fmt.{decimal};
-ghost use Rattle.profile_report.specs.LineForms.{end_line, ended, fault_line, hex_address, hex_glyph, kind_number, labelled, name_word, point_line, routine_line};
+ghost use Rattle.profile_report.specs.LineForms.{end_line, ended, fault_words, hex_address, hex_glyph, kind_number, labelled, name_word, point_line, routine_line};
 
 use cost_points::Point;
 use guest_words::{Addr, FaultKind, Finish, Name, Tid};
@@ -33,12 +33,12 @@ fn hex_glyph(digit: u32) -> u8
     digits[digit as usize]
 }
 
+/// The eight digits of an address in base 16.
 #[tactic(auto, unfolding(crate::specs::LineForms::hex_address))]
-/// Appends an address in eight digits of base 16.
-fn push_address(text: &mut Vec<u8>, at: Addr) -> Result<(), AllocError>
-    ensures { OnOk result (text.new.items ≡ text.old.items ++ hex_address at) }
+pub fn hex_address(at: Addr) -> [u8; 8]
+    ensures { result ≡ hex_address at }
 {
-    let glyphs = [
+    [
         hex_glyph(at / 0x1000_0000 % 16),
         hex_glyph(at / 0x100_0000 % 16),
         hex_glyph(at / 0x10_0000 % 16),
@@ -47,8 +47,14 @@ fn push_address(text: &mut Vec<u8>, at: Addr) -> Result<(), AllocError>
         hex_glyph(at / 0x100 % 16),
         hex_glyph(at / 0x10 % 16),
         hex_glyph(at % 16),
-    ];
-    text.extend_from_slice(&glyphs)
+    ]
+}
+
+/// Appends an address in eight digits of base 16.
+fn push_address(text: &mut Vec<u8>, at: Addr) -> Result<(), AllocError>
+    ensures { OnOk result (text.new.items ≡ text.old.items ++ hex_address at) }
+{
+    text.extend_from_slice(&hex_address(at))
 }
 
 /// The number of a fault's kind.
@@ -60,7 +66,7 @@ fn kind_number(kind: FaultKind) -> u64
 
 /// Appends a fault's kind, thread and address.
 fn push_fault(text: &mut Vec<u8>, kind: FaultKind, tid: Tid, at: Addr) -> Result<(), AllocError>
-    ensures { OnOk result (text.new.items ≡ text.old.items ++ fault_line kind tid at) }
+    ensures { OnOk result (text.new.items ≡ text.old.items ++ (codes "end fault " ++ fault_words kind tid at)) }
 {
     push_labelled(text, b"end fault ", kind_number(kind))?;
     push_labelled(text, b" ", u64::from(tid.number()))?;

@@ -100,3 +100,61 @@ fn each_end_has_its_line(rt: HostRuntime) -> Result<(), Fail> {
     }
     Ok(())
 }
+
+const REPEATED_READ: &str = "aprof 1
+end exit 0
+steps 7
+open 0
+routine 00010054 -
+1 1 7 7 7
+routine 00010064 f
+1 1 3 3 3
+done 2
+";
+
+#[test]
+fn a_report_is_read_as_what_it_was_written_from(rt: HostRuntime) -> Result<(), Fail> {
+    let alloc = rt.alloc();
+    let report = read_report(alloc, REPEATED_READ.as_bytes())?;
+    assert_eq!(rt; report.routines.len(), 2);
+    assert_eq!(rt; report.routines[1].entry, 0x10064);
+    assert_eq!(rt;
+        write_report(alloc, &report)?.as_slice(),
+        REPEATED_READ.as_bytes()
+    );
+    Ok(())
+}
+
+#[test]
+fn the_first_line_that_fails_gives_the_refusal(rt: HostRuntime) -> Result<(), Fail> {
+    let alloc = rt.alloc();
+    let rows = [
+        ("", ReportError::Short),
+        ("aprof 3\n", ReportError::Version),
+        ("aprof 1\nend exit 256\n", ReportError::Line { line: 2 }),
+        (
+            "aprof 1\nend deep\nsteps 07\n",
+            ReportError::Line { line: 3 },
+        ),
+        (
+            "aprof 1\nend deep\nsteps 7\nopen 0\ndone 0",
+            ReportError::Short,
+        ),
+        (
+            "aprof 1\nend deep\nsteps 7\nopen 0\ndone 0\n-",
+            ReportError::Line { line: 6 },
+        ),
+        (
+            "aprof 1\nend deep\nsteps 7\nopen 0\nroutine 00010054 -\n1 1 7 7 7\nroutine 00010054 -\n",
+            ReportError::Order { line: 7 },
+        ),
+        (
+            "aprof 1\nend deep\nsteps 7\nopen 0\nroutine 00010054 -\n1 1 4 3 3\n",
+            ReportError::Line { line: 6 },
+        ),
+    ];
+    for (text, refusal) in &rows {
+        assert_eq!(rt; read_report(alloc, text.as_bytes()).err(), Some(*refusal));
+    }
+    Ok(())
+}

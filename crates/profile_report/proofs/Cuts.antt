@@ -1,0 +1,59 @@
+-- Lists cut at a byte that doesn't occur before.
+use Rattle.std.proofs.Common.{◌≡◌, ◌≢◌, ℕ, suc, ◌<◌, ◌^◌, ◌/◌, ◌%◌, eqb, true, false, List, [], ◌∷◌, ◌++◌, length, get_or, refl, arith}
+use Rattle.std.specs.Int.{IsInRange}
+use Rattle.std.specs.Fmt.{decimal}
+use Rattle.std.specs.Str.Parse.{AllDigits}
+use Rattle.std.proofs.lemmas.Bool.{agree_below, agree_below_at, and_from, not_from_false}
+use Rattle.std.proofs.lemmas.Bool.Decides.{nat_tests}
+use Rattle.std.proofs.lemmas.Fmt.{decimal_is_IsNumeral_wide}
+use Rattle.std.proofs.lemmas.Str.Parse.{not_in_digits, numerals_by_value, tells_digits}
+use Rattle.profile_report.specs.LineForms.{hex_address, hex_glyph}
+use Rattle.profile_report.specs.Separators.{lacks}
+
+-- a byte that isn't the separator
+lacks_head : (c x : ℕ) (xs : List ℕ) → lacks c (x ∷ xs) ≡ true → (x ≡ c → ⊥) × (lacks c xs ≡ true)
+lacks_head c x xs h = grind (arith, nat_tests)
+
+-- the separator occurs
+pub lacks_not : (c : ℕ) (xs ys : List ℕ) → lacks c (xs ++ c ∷ ys) ≡ true → ⊥
+lacks_not c [] ys h = (lacks_head c c ys h).0 refl
+lacks_not c (x ∷ xs) ys h = lacks_not c xs ys (lacks_head c x (xs ++ c ∷ ys) h).1
+
+-- there is one way to cut a list at the first separator
+pub cut_once : (c : ℕ) (a w b r : List ℕ) → lacks c a ≡ true → lacks c w ≡ true → a ++ c ∷ b ≡ w ++ c ∷ r → (a ≡ w) × (b ≡ r)
+cut_once c [] [] b r la lw e = (refl, cc)
+cut_once c [] (y ∷ ys) b r la lw e = absurd ((lacks_head c y ys lw).0 (cc))
+cut_once c (x ∷ xs) [] b r la lw e = absurd ((lacks_head c x xs la).0 (cc))
+cut_once c (x ∷ xs) (y ∷ ys) b r la lw e =
+    let rest : (xs ≡ ys) × (b ≡ r) = cut_once c xs ys b r (lacks_head c x xs la).1 (lacks_head c y ys lw).1 (cc) in
+    let front : xs ≡ ys = rest.0 in
+    let head : x ≡ y = cc in
+    (cc, rest.1)
+
+-- a byte that stands at no place doesn't occur
+pub lacks_at : (c : ℕ) (xs : List ℕ) → ((i : ℕ) → i < length xs → get_or xs i 0 ≢ c) → lacks c xs ≡ true
+lacks_at c [] h = refl
+lacks_at c (x ∷ xs) h =
+    let rest : lacks c xs ≡ true = lacks_at c xs (λ i l. h (suc i) (omega arith)) in
+    let other : x ≢ c = h 0 (omega arith) in
+    grind (arith, nat_tests)
+
+-- digits have no byte that is no digit
+pub lacks_decimal : (c n : ℕ) → (IsInRange 48 57 c → ⊥) → n < 2 ^ 128 → lacks c (decimal n) ≡ true
+lacks_decimal c n other fits =
+    let digits = (decimal_is_IsNumeral_wide n (omega arith)).0.1 in
+    lacks_at c (decimal n) (not_in_digits (numerals_by_value (AllDigits 10) tells_digits) (decimal n) c digits other)
+
+-- the digits of an address have no byte that is no such digit
+pub lacks_address : (c at : ℕ) → agree_below (λ d. eqb (hex_glyph d) c) (λ d. false) 16 ≡ true → lacks c (hex_address at) ≡ true
+unfolding hex_address
+lacks_address c at other =
+    let glyph = λ (d : ℕ). λ (below : d < 16). not_from_false _ (agree_below_at (λ d. eqb (hex_glyph d) c) (λ d. false) 16 d other below) in
+    and_from _ _ (glyph (at / 0x1000_0000 % 16) (omega arith))
+    (and_from _ _ (glyph (at / 0x100_0000 % 16) (omega arith))
+    (and_from _ _ (glyph (at / 0x10_0000 % 16) (omega arith))
+    (and_from _ _ (glyph (at / 0x1_0000 % 16) (omega arith))
+    (and_from _ _ (glyph (at / 0x1000 % 16) (omega arith))
+    (and_from _ _ (glyph (at / 0x100 % 16) (omega arith))
+    (and_from _ _ (glyph (at / 0x10 % 16) (omega arith))
+    (and_from _ _ (glyph (at % 16) (omega arith)) refl)))))))

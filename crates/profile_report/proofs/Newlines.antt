@@ -1,0 +1,74 @@
+-- No line has the byte that ends it.
+use Rattle.std.proofs.Common.{◌≡◌, ℕ, ◌<◌, ◌^◌, true, codes, not, eqb, List, [], ◌∷◌, ◌++◌, Option, Some, None, refl, ◌∙◌, arith}
+use Rattle.std.specs.Fmt.{decimal}
+use Rattle.std.specs.List.{list_all}
+use Rattle.std.proofs.lemmas.Bool.{and_from, and_parts}
+use Rattle.std.proofs.lemmas.Bool.Decides.{nat_tests}
+use Rattle.std.proofs.lemmas.List.Folds.{list_all-append}
+use Rattle.guest_words.specs.Names.{is_visible}
+use Rattle.guest_words.specs.declared.endings.Finish.TheVariants.{Exit, Fault, Budget, Deadlock, Deep, Schedule}
+use Rattle.guest_words.specs.declared.endings.FaultKind.TheVariants.{Illegal, Fetch, Load, Store, JumpAlign, AtomicAlign, Break}
+use Rattle.guest_words.specs.declared.endings.FaultKind.{FaultKind}
+use Rattle.cost_points.specs.declared.point.Point.{Point}
+use Rattle.profile_report.specs.declared.line.Line.{Line}
+use Rattle.profile_report.specs.declared.line.Line.TheVariants.{First, End, Steps, Open, OfRoutine, OfPoint, Done}
+use Rattle.profile_report.specs.Fits.{FitsName, FitsPoint}
+use Rattle.profile_report.specs.Grammar.{FitsLine, line_text}
+use Rattle.profile_report.specs.LineForms.{hex_address, kind_number, labelled, name_word, point_line}
+use Rattle.profile_report.specs.ReportText.{version_1}
+use Rattle.profile_report.specs.Separators.{lacks}
+use Rattle.profile_report.proofs.Cuts.{lacks_address, lacks_decimal}
+
+-- two parts without the byte
+both : (a b : List ℕ) → lacks 10 a ≡ true → lacks 10 b ≡ true → lacks 10 (a ++ b) ≡ true
+both a b ha hb = list_all-append (λ x. not (eqb x 10)) a b ∙ and_from _ _ ha hb
+
+number : (n : ℕ) → n < 2 ^ 128 → lacks 10 (decimal n) ≡ true
+number n fits = lacks_decimal 10 n (λ r. omega arith) fits
+
+visible : (xs : List ℕ) → list_all is_visible xs ≡ true → lacks 10 xs ≡ true
+visible [] h = refl
+visible (x ∷ xs) h =
+    let parts = and_parts (is_visible x) (list_all is_visible xs) h in
+    let rest : lacks 10 xs ≡ true = visible xs parts.1 in
+    let here : is_visible x ≡ true = parts.0 in
+    grind (arith, nat_tests)
+
+name : (n : Option (List ℕ)) → FitsName n → lacks 10 (name_word n) ≡ true
+name None fits = refl
+name (Some bytes) fits = visible bytes (and_parts _ _ fits).1
+
+kind : (k : FaultKind) → kind_number k < 2 ^ 128
+kind Illegal = omega arith
+kind Fetch = omega arith
+kind Load = omega arith
+kind Store = omega arith
+kind JumpAlign = omega arith
+kind AtomicAlign = omega arith
+kind Break = omega arith
+
+point : (p : Point) → FitsPoint p → lacks 10 (point_line p) ≡ true
+point p fits =
+    let calls = labelled (codes " ") p.calls in
+    let least = labelled (codes " ") p.least in
+    let most = labelled (codes " ") p.most in
+    let sum = labelled (codes " ") p.sum in
+    both (decimal p.size ++ calls ++ least ++ most) sum
+    (both (decimal p.size ++ calls ++ least) most
+    (both (decimal p.size ++ calls) least
+    (both (decimal p.size) calls (number p.size (omega (arith, fits.size))) (number p.calls (omega (arith, fits.calls))))
+    (number p.least (omega (arith, fits.least)))) (number p.most (omega (arith, fits.most)))) (number p.sum fits.sum)
+
+pub line_lacks : (l : Line) → FitsLine l → lacks 10 (line_text version_1 l) ≡ true
+line_lacks First fits = refl
+line_lacks (End (Exit s)) fits = number s (omega arith)
+line_lacks (End (Fault k t a)) fits = both (decimal (kind_number k) ++ labelled (codes " ") t ++ codes " ") (hex_address a) (both (decimal (kind_number k) ++ labelled (codes " ") t) (codes " ") (both (decimal (kind_number k)) (labelled (codes " ") t) (number (kind_number k) (kind k)) (number t (omega arith))) refl) (lacks_address 10 a refl)
+line_lacks (End Budget) fits = refl
+line_lacks (End Deadlock) fits = refl
+line_lacks (End Deep) fits = refl
+line_lacks (End (Schedule s)) fits = number s (omega arith)
+line_lacks (Steps n) fits = number n (omega arith)
+line_lacks (Open n) fits = number n (omega arith)
+line_lacks (OfRoutine entry n) fits = both (codes "routine " ++ hex_address entry ++ codes " ") (name_word n) (both (codes "routine " ++ hex_address entry) (codes " ") (lacks_address 10 entry refl) refl) (name n fits.1)
+line_lacks (OfPoint p) fits = point p fits
+line_lacks (Done n) fits = number n (omega arith)

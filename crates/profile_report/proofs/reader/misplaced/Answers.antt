@@ -1,0 +1,10 @@
+use Rattle.std.proofs.Common.{◌≡◌, true, false, ◌∙◌, sym, ap}
+use Rattle.profile_report.specs.declared.line.Line.TheVariants.{First}
+use Rattle.profile_report.specs.Grammar.{may_stand}
+use Rattle.profile_report.proofs.reader.misplaced.Goals as goal
+
+apart : true ≡ false → ⊥
+apart e = cc
+
+pub returns-in-AtVersion : goal.returns-in-AtVersion
+returns-in-AtVersion c bytes misplaced = (c.in-AtVersion.is, λ e. apart (sym (ap (λ p. may_stand p First) c.in-AtVersion.is) ∙ misplaced First tt e))

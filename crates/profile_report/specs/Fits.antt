@@ -1,0 +1,27 @@
+-- What can stand in a report: numbers in their widths, names of routines, and points of activations.
+use Rattle.std.specs.Prelude.{◌≡◌, ℕ, ◌<◌, ◌≤◌, ◌^◌, true, List, Option, IfSome}
+use Rattle.guest_words.specs.Names.{is_name}
+use Rattle.guest_words.specs.declared.endings.Finish.{Finish}
+use Rattle.guest_words.specs.declared.endings.Finish.TheVariants.{Exit, Fault, Schedule}
+use Rattle.cost_points.specs.declared.point.Point.{Point}
+use Rattle.cost_points.specs.Valid.{IsPoint}
+
+-- how a run ended: a status in 8 bits, a thread's number, an address, or a line counted from 1
+abbrev pub FitsEnd : Finish → Type 0
+FitsEnd (Exit status) = status < 2 ^ 8
+FitsEnd (Fault kind tid at) = (1 ≤ tid) × (tid ≤ 4194303) × (at < 2 ^ 32)
+FitsEnd (Schedule line) = (1 ≤ line) × (line < 2 ^ 64)
+FitsEnd finish = Unit {0}
+
+-- a name, where there is one
+abbrev pub FitsName : Option (List ℕ) → Type 0
+FitsName name = IfSome name (λ bytes. is_name bytes ≡ true)
+
+-- a point: the sum in 128 bits, the others in 64
+pub record FitsPoint (p : Point) : Type 0 where
+  pub size : p.size < 2 ^ 64
+  pub calls : p.calls < 2 ^ 64
+  pub least : p.least < 2 ^ 64
+  pub most : p.most < 2 ^ 64
+  pub sum : p.sum < 2 ^ 128
+  pub costs : IsPoint p

@@ -1,0 +1,94 @@
+-- The grammar of a report's lines: the text of each, which may come next, and where it leads.
+use Rattle.std.specs.Prelude.{ℕ, ◌+◌, ◌-◌, ◌<◌, ◌^◌, Bool, true, false, ◌&&◌, ◌==◌, nat_lt, List, [], ◌∷◌, ◌++◌, codes, length, slice_get, Option, Some, None, is_some}
+use Rattle.std.specs.Option.{option_map}
+use Rattle.profile_report.specs.declared.line.Line.{Line}
+use Rattle.profile_report.specs.declared.line.Line.TheVariants.{First, End, Steps, Open, OfRoutine, OfPoint, Done}
+use Rattle.profile_report.specs.declared.place.Place.{Place}
+use Rattle.profile_report.specs.declared.place.Place.TheVariants.{AtVersion, AtEnd, AtSteps, AtOpen, AtRoutines, Over}
+use Rattle.profile_report.specs.Reported.{ReportedRoutine, Reported}
+use Rattle.profile_report.specs.Fits.{FitsEnd, FitsName, FitsPoint}
+use Rattle.profile_report.specs.LineForms.{labelled, end_line, routine_line}
+use Rattle.profile_report.specs.ReportText.{Version}
+
+-- what a line says, as its text, without the byte that ends it
+abbrev pub line_text : Version → Line → List ℕ
+line_text v First = v.first_line
+line_text v (End finish) = end_line finish
+line_text v (Steps steps) = labelled (codes "steps ") steps
+line_text v (Open pending) = labelled (codes "open ") pending
+line_text v (OfRoutine entry name) = routine_line entry name
+line_text v (OfPoint p) = v.point_line p
+line_text v (Done routines) = labelled (codes "done ") routines
+
+-- the numbers of a line are in their widths, a name is a name, and a point is one of activations
+abbrev pub FitsLine : Line → Type 0
+FitsLine First = Unit {0}
+FitsLine (End finish) = FitsEnd finish
+FitsLine (Steps steps) = steps < 2 ^ 64
+FitsLine (Open pending) = pending < 2 ^ 64
+FitsLine (OfRoutine entry name) = (entry < 2 ^ 32) × FitsName name
+FitsLine (OfPoint p) = FitsPoint p
+FitsLine (Done routines) = routines < 2 ^ 64
+
+-- a line that has no name
+abbrev pub IsPlain : Line → Type 0
+IsPlain (OfRoutine entry name) = ⊥
+IsPlain line = Unit {0}
+
+-- the routines that are whole, and the one that began last
+abbrev pub closed : Reported → Option ReportedRoutine → Reported
+closed r None = r
+closed r (Some routine) = record r { routines = r.routines ++ routine ∷ [] }
+
+-- each routine that began has a point
+abbrev pub has_points : Option ReportedRoutine → Bool
+has_points None = true
+has_points (Some routine) = nat_lt 0 (length routine.points)
+
+-- how many routines began
+abbrev pub count_of : Reported → Option ReportedRoutine → ℕ
+count_of r None = length r.routines
+count_of r (Some routine) = length r.routines + 1
+
+-- Which line may come next. A point comes behind a routine's line, and a routine or the end behind a point.
+abbrev pub may_stand : Place → Line → Bool
+may_stand AtVersion First = true
+may_stand AtEnd (End finish) = true
+may_stand (AtSteps f) (Steps steps) = true
+may_stand (AtOpen f n) (Open pending) = true
+may_stand (AtRoutines r begun) (OfRoutine entry name) = has_points begun
+may_stand (AtRoutines r begun) (OfPoint p) = is_some begun
+may_stand (AtRoutines r begun) (Done routines) = has_points begun && (routines == count_of r begun)
+may_stand place line = false
+
+-- the entry of the routine that began last
+abbrev pub last_entry : Option ReportedRoutine → Option ℕ
+last_entry None = None
+last_entry (Some routine) = Some routine.entry
+
+-- the last size of the routine that began last
+abbrev pub last_size : Option ReportedRoutine → Option ℕ
+last_size None = None
+last_size (Some routine) = option_map (λ p. p.size) (slice_get routine.points (length routine.points - 1))
+
+-- a number is above the last one, where there is one
+abbrev pub is_above : Option ℕ → ℕ → Bool
+is_above None n = true
+is_above (Some last) n = nat_lt last n
+
+-- the line keeps the order: entries rise, and sizes rise within a routine
+abbrev pub rises : Place → Line → Bool
+rises (AtRoutines r begun) (OfRoutine entry name) = is_above (last_entry begun) entry
+rises (AtRoutines r begun) (OfPoint p) = is_above (last_size begun) p.size
+rises place line = true
+
+-- the place behind a line that may stand there
+abbrev pub next : Place → Line → Place
+next AtVersion First = AtEnd
+next AtEnd (End finish) = AtSteps finish
+next (AtSteps f) (Steps steps) = AtOpen f steps
+next (AtOpen f n) (Open pending) = AtRoutines (record { finish = f; steps = n; pending = pending; routines = [] }) None
+next (AtRoutines r begun) (OfRoutine entry name) = AtRoutines (closed r begun) (Some (record { entry = entry; name = name; points = [] }))
+next (AtRoutines r (Some routine)) (OfPoint p) = AtRoutines r (Some (record routine { points = routine.points ++ p ∷ [] }))
+next (AtRoutines r begun) (Done routines) = Over (closed r begun)
+next place line = place

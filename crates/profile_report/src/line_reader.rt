@@ -1,0 +1,267 @@
+//! Reading a line: what a line says, where it has one of the forms.
+ghost use Rattle.std.specs.Prelude.{◌≡◌, ℕ, ◌≤◌, ◌<◌, ◌^◌, List, ◌++◌, ◌∷◌, ◌↔◌, codes, Option, Some, IfSome, IsSomeAnd, IsTrue, MatchResult, IfOk};
+ghost use Rattle.std.specs.Fmt.{decimal};
+ghost use Rattle.std.specs.Option.{SomeIff};
+ghost use Rattle.guest_words.specs.Names.{is_name};
+ghost use Rattle.guest_words.specs.declared.endings.FaultKind.{FaultKind};
+ghost use Rattle.guest_words.specs.declared.endings.Finish.{Finish};
+ghost use Rattle.cost_points.specs.declared.point.Point.{Point};
+ghost use Rattle.cost_points.specs.Valid.{IsPoint};
+ghost use Rattle.profile_report.specs.LineForms.{end_line, fault_words, hex_address, kind_number, labelled, name_word, point_line};
+ghost use Rattle.profile_report.specs.declared.line.Line.{Line};
+ghost use Rattle.profile_report.specs.Grammar.{FitsLine, IsPlain, line_text};
+ghost use Rattle.profile_report.specs.ReportText.{version_1};
+ghost use Rattle.profile_report.specs.Fits.{FitsEnd, FitsName, FitsPoint};
+
+use crate::line::{Line, LineError};
+use crate::words::{address, cut, number, wide_number};
+use cost_points::Point;
+use guest_words::{FaultKind, Finish, Name, NameError, Tid};
+use std::alloc::Global;
+
+/// What stands behind a label.
+fn behind<'a>(label: &[u8], line: &'a [u8]) -> Option<&'a [u8]>
+    ensures found { IfSome result (λ rest. line.now ≡ label.now ++ rest.now) }
+    ensures only { (rest : List ℕ) → line.now ≡ label.now ++ rest
+        → IsSomeAnd result (λ r. r.now ≡ rest) }
+{
+    line.strip_prefix(label)
+}
+
+/// The number before the first space, and what stands behind that.
+fn first_number(words: &[u8]) -> Option<(u64, &[u8])>
+    ensures found { IfSome result (λ x. words.now ≡ decimal x.0 ++ 32 ∷ x.1.now) }
+    ensures only { (n : ℕ) (rest : List ℕ) → n < 2 ^ 64 → words.now ≡ decimal n ++ 32 ∷ rest
+        → IsSomeAnd result (λ x. (x.0 ≡ n) × (x.1.now ≡ rest)) }
+{
+    let (word, rest) = cut(words, b' ')?;
+    Some((number(word)?, rest))
+}
+
+/// Whether a point can be one of activations: the sum is one of as many costs from the least up to the greatest.
+fn is_point(point: Point) -> bool
+    ensures { IsTrue result ↔ IsPoint point }
+{
+    let calls = u128::from(point.calls);
+    1 <= point.calls
+        && point.least <= point.most
+        && calls * u128::from(point.least) <= point.sum
+        && point.sum <= calls * u128::from(point.most)
+}
+
+/// The kind of a fault by its number.
+fn kind_of(number: u64) -> Option<FaultKind>
+    ensures found { IfSome result (λ kind. number ≡ kind_number kind) }
+    ensures only { (kind : FaultKind) → number ≡ kind_number kind → result ≡ Some kind }
+{
+    match number {
+        1 => Some(FaultKind::Illegal),
+        2 => Some(FaultKind::Fetch),
+        3 => Some(FaultKind::Load),
+        4 => Some(FaultKind::Store),
+        5 => Some(FaultKind::JumpAlign),
+        6 => Some(FaultKind::AtomicAlign),
+        7 => Some(FaultKind::Break),
+        _ => None,
+    }
+}
+
+/// The thread of a number.
+fn thread_of(number: u64) -> Option<Tid>
+    ensures { SomeIff result ((1 ≤ number) × (number ≤ 4194303)) number }
+{
+    Tid::new(u32::try_from(number).ok()?)
+}
+
+/// The words of a fault.
+fn fault_of(words: &[u8]) -> Option<Finish>
+    ensures found { IfSome result (λ f. FitsEnd f × (codes "end fault " ++ words.now
+        ≡ end_line f)) }
+    ensures only { (kind : FaultKind) (tid at : ℕ) → FitsEnd (Finish.Fault kind tid at)
+        → words.now ≡ fault_words kind tid at → result ≡ Some (Finish.Fault kind tid at) }
+{
+    let (kind, rest) = first_number(words)?;
+    let (tid, rest) = first_number(rest)?;
+    Some(Finish::Fault {
+        kind: kind_of(kind)?,
+        tid: thread_of(tid)?,
+        at: address(rest)?,
+    })
+}
+
+/// The status in 8 bits that is written so.
+fn status_of(word: &[u8]) -> Option<Finish>
+    ensures found { IfSome result (λ f. FitsEnd f × (codes "end exit " ++ word.now ≡ end_line f)) }
+    ensures only { (status : ℕ) → status < 2 ^ 8 → word.now ≡ decimal status
+        → result ≡ Some (Finish.Exit status) }
+{
+    let status = u8::try_from(number(word)?).ok()?;
+    Some(Finish::Exit { status })
+}
+
+/// The line of a schedule that is written so, counted from 1.
+fn schedule_of(word: &[u8]) -> Option<Finish>
+    ensures found { IfSome result (λ f. FitsEnd f × (codes "end schedule " ++ word.now
+        ≡ end_line f)) }
+    ensures only { (line : ℕ) → 1 ≤ line → line < 2 ^ 64 → word.now ≡ decimal line
+        → result ≡ Some (Finish.Schedule line) }
+{
+    match number(word) {
+        Some(line) if 1 <= line => Some(Finish::Schedule { line }),
+        _ => None,
+    }
+}
+
+/// An end that has no words of its own.
+fn plain_end_of(line: &[u8]) -> Option<Finish>
+    ensures found { IfSome result (λ f. FitsEnd f × (line.now ≡ end_line f)) }
+    ensures budget { line.now ≡ codes "end budget" → result ≡ Some Finish.Budget }
+    ensures deadlock { line.now ≡ codes "end deadlock" → result ≡ Some Finish.Deadlock }
+    ensures deep { line.now ≡ codes "end deep" → result ≡ Some Finish.Deep }
+{
+    if line == b"end budget".as_slice() {
+        return Some(Finish::Budget);
+    }
+    if line == b"end deadlock".as_slice() {
+        return Some(Finish::Deadlock);
+    }
+    if line == b"end deep".as_slice() {
+        return Some(Finish::Deep);
+    }
+    None
+}
+
+/// How the run ended.
+fn end_of(line: &[u8]) -> Option<Finish>
+    ensures found { IfSome result (λ f. FitsEnd f × (line.now ≡ end_line f)) }
+    ensures only { (f : Finish) → FitsEnd f → line.now ≡ end_line f → result ≡ Some f }
+{
+    if let Some(word) = behind(b"end exit ", line) {
+        return status_of(word);
+    }
+    if let Some(words) = behind(b"end fault ", line) {
+        return fault_of(words);
+    }
+    if let Some(word) = behind(b"end schedule ", line) {
+        return schedule_of(word);
+    }
+    plain_end_of(line)
+}
+
+/// The four numbers and the sum of a point.
+fn point_of(line: &[u8]) -> Option<Point>
+    ensures found { IfSome result (λ p. FitsPoint p × (line.now ≡ point_line p)) }
+    ensures only { (p : Point) → FitsPoint p → line.now ≡ point_line p → result ≡ Some p }
+{
+    let (size, rest) = first_number(line)?;
+    let (calls, rest) = first_number(rest)?;
+    let (least, rest) = first_number(rest)?;
+    let (most, rest) = first_number(rest)?;
+    let point = Point {
+        size,
+        calls,
+        least,
+        most,
+        sum: wide_number(rest)?,
+    };
+    if is_point(point) { Some(point) } else { None }
+}
+
+/// A name, or the dash that stands for none.
+fn name_of(alloc: Global, word: &[u8]) -> Result<Option<Name>, LineError>
+    ensures found { IfOk result (λ name. FitsName name × (word.now ≡ name_word name)) }
+    ensures only { (name : Option (List ℕ)) → FitsName name → word.now ≡ name_word name
+        → MatchResult result (λ x. x ≡ name) (λ e. e ≡ LineError.Memory) }
+{
+    if word == b"-".as_slice() {
+        return Ok(None);
+    }
+    match Name::new(alloc, word) {
+        Ok(name) => Ok(Some(name)),
+        Err(NameError::Bad) => Err(LineError::NoForm),
+        Err(NameError::Memory) => Err(LineError::Memory),
+    }
+}
+
+/// A routine's entry and its name.
+fn routine_of(alloc: Global, words: &[u8]) -> Result<Line, LineError>
+    ensures found { IfOk result (λ l. FitsLine l × (codes "routine " ++ words.now
+        ≡ line_text version_1 l)) }
+    ensures only { (entry : ℕ) (name : Option (List ℕ)) → FitsLine (Line.OfRoutine entry name)
+        → words.now ≡ hex_address entry ++ 32 ∷ name_word name
+        → MatchResult result (λ l. l ≡ Line.OfRoutine entry name) (λ e. e ≡ LineError.Memory) }
+{
+    let Some((entry, name)) = cut(words, b' ') else {
+        return Err(LineError::NoForm);
+    };
+    match address(entry) {
+        Some(entry) => Ok(Line::OfRoutine(entry, name_of(alloc, name)?)),
+        None => Err(LineError::NoForm),
+    }
+}
+
+/// The number of instructions that is written so.
+fn steps_of(word: &[u8]) -> Option<Line>
+    ensures found { IfSome result (λ l. FitsLine l × (codes "steps " ++ word.now
+        ≡ line_text version_1 l)) }
+    ensures only { (n : ℕ) → n < 2 ^ 64 → word.now ≡ decimal n → result ≡ Some (Line.Steps n) }
+{
+    Some(Line::Steps(number(word)?))
+}
+
+/// The number of open activations that is written so.
+fn pending_of(word: &[u8]) -> Option<Line>
+    ensures found { IfSome result (λ l. FitsLine l × (codes "open " ++ word.now
+        ≡ line_text version_1 l)) }
+    ensures only { (n : ℕ) → n < 2 ^ 64 → word.now ≡ decimal n → result ≡ Some (Line.Open n) }
+{
+    Some(Line::Open(number(word)?))
+}
+
+/// The number of routines that is written so.
+fn count_of(word: &[u8]) -> Option<Line>
+    ensures found { IfSome result (λ l. FitsLine l × (codes "done " ++ word.now
+        ≡ line_text version_1 l)) }
+    ensures only { (n : ℕ) → n < 2 ^ 64 → word.now ≡ decimal n → result ≡ Some (Line.Done n) }
+{
+    Some(Line::Done(number(word)?))
+}
+
+/// A line that has no name.
+fn plain_line(line: &[u8]) -> Option<Line>
+    ensures found { IfSome result (λ l. FitsLine l × (line.now ≡ line_text version_1 l)) }
+    ensures only { (l : Line) → IsPlain l → FitsLine l → line.now ≡ line_text version_1 l
+        → result ≡ Some l }
+{
+    if line == b"aprof 1".as_slice() {
+        return Some(Line::First);
+    }
+    if let Some(word) = behind(b"steps ", line) {
+        return steps_of(word);
+    }
+    if let Some(word) = behind(b"open ", line) {
+        return pending_of(word);
+    }
+    if let Some(word) = behind(b"done ", line) {
+        return count_of(word);
+    }
+    if let Some(finish) = end_of(line) {
+        return Some(Line::End(finish));
+    }
+    Some(Line::OfPoint(point_of(line)?))
+}
+
+/// What a line says.
+pub fn read_line(alloc: Global, line: &[u8]) -> Result<Line, LineError>
+    ensures found { IfOk result (λ l. FitsLine l × (line.now ≡ line_text version_1 l)) }
+    ensures only { (l : Line) → FitsLine l → line.now ≡ line_text version_1 l
+        → MatchResult result (λ x. x ≡ l) (λ e. e ≡ LineError.Memory) }
+{
+    if let Some(words) = behind(b"routine ", line) {
+        return routine_of(alloc, words);
+    }
+    match plain_line(line) {
+        Some(line) => Ok(line),
+        None => Err(LineError::NoForm),
+    }
+}

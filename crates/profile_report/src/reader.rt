@@ -1,0 +1,116 @@
+//! Reading a report.
+ghost use Rattle.std.specs.Prelude.{◌≡◌, ℕ, ◌≤◌, ◌<◌, ◌^◌, ◌+◌, List, [], IfOk, IfErr, MatchResult};
+ghost use Rattle.profile_report.specs.Reading.{IsMisplaced, IsRefused, Leads, RefusesLine, RefusesRest};
+ghost use Rattle.profile_report.specs.Reported.{Reported};
+ghost use Rattle.profile_report.specs.ReportText.{report_text, version_1};
+ghost use Rattle.profile_report.specs.Valid.{IsValid};
+ghost use Rattle.profile_report.specs.declared.place.Place.TheVariants.{Over};
+
+use crate::Report;
+use crate::line::LineError;
+use crate::line_reader::read_line;
+use crate::place::{Place, may_stand, next, rises};
+use crate::words::cut;
+use std::alloc::{AllocError, Global};
+use thiserror::Error;
+
+/// Why a text is not read as a report. Lines are counted from 1.
+#[derive(Clone, Copy, Debug, PartialEq, Eq, Error)]
+pub enum ReportError {
+    /// The first line names no version that is known.
+    #[error("not a report of a known version")]
+    Version,
+    /// The line has no form that may stand there, or bytes follow the last line.
+    #[error("line {line} may not stand there")]
+    Line { line: u64 },
+    /// The line's entry or size does not rise.
+    #[error("line {line} does not rise")]
+    Order { line: u64 },
+    /// The text ends before the report does.
+    #[error("the report is cut off")]
+    Short,
+    /// Want of memory.
+    #[error("out of memory")]
+    Memory,
+}
+
+impl From<AllocError> for ReportError {
+    ghost use Rattle.std.specs.Prelude.{◌≡◌};
+    ghost use Rattle.profile_report.specs.declared.reader.ReportError.TheVariants.{Memory};
+
+    ghost from_gives = { λ _ e. e ≡ Memory };
+
+    fn from(_error: AllocError) -> ReportError {
+        ReportError::Memory
+    }
+}
+
+/// The refusal of a line that may not stand at a place.
+fn misplaced(place: &Place, number: u64) -> ReportError
+    ensures { (bytes : List ℕ) → IsMisplaced version_1 place.now bytes
+        → RefusesLine version_1 number place.now bytes result }
+{
+    match place {
+        Place::AtVersion => ReportError::Version,
+        _ => ReportError::Line { line: number },
+    }
+}
+
+/// The place behind a line of this number.
+fn step(alloc: Global, place: Place, bytes: &[u8], number: u64) -> Result<Place, ReportError>
+    ensures ok { IfOk result (λ after. Leads version_1 place bytes.now after) }
+    ensures err { IfErr result (λ e. RefusesLine version_1 number place bytes.now e) }
+{
+    let line = match read_line(alloc, bytes) {
+        Ok(line) => line,
+        Err(LineError::NoForm) => return Err(misplaced(&place, number)),
+        Err(LineError::Memory) => return Err(ReportError::Memory),
+    };
+    if !may_stand(&place, &line) {
+        return Err(misplaced(&place, number));
+    }
+    if !rises(&place, &line) {
+        return Err(ReportError::Order { line: number });
+    }
+    Ok(next(alloc, place, line)?)
+}
+
+/// The report behind whose lines stands a rest that has no whole line.
+fn finish(place: Place, rest: &[u8], number: u64) -> Result<Report, ReportError>
+    ensures ok { IfOk result (λ r. (place ≡ Over r) × (rest.now ≡ [])) }
+    ensures err { IfErr result (λ e. RefusesRest number place rest.now e) }
+{
+    match place {
+        Place::Over(report) => {
+            if rest.is_empty() {
+                Ok(report)
+            } else {
+                Err(ReportError::Line { line: number })
+            }
+        }
+        _ => Err(ReportError::Short),
+    }
+}
+
+/// The report whose text this is: line by line, and the first line that fails gives the refusal.
+pub fn read_report(alloc: Global, text: &[u8]) -> Result<Report, ReportError>
+    ensures found { IfOk result (λ r. IsValid r × (text.now ≡ report_text r)) }
+    ensures only { (r : Reported) → IsValid r → text.now ≡ report_text r
+        → MatchResult result (λ x. x ≡ r) (λ e. e ≡ ReportError.Memory) }
+    ensures refused { IfErr result (λ e. IsRefused version_1 text.now e) }
+{
+    let mut place = Place::AtVersion;
+    let mut rest = text;
+    let mut number = 1;
+    while let Some((line, after)) = cut(rest, b'\n') {
+        place = step(alloc, place, line, number)?;
+        rest = after;
+        number += 1;
+    }
+    finish(place, rest, number)
+}
+
+/// No two valid reports have one text.
+pub fn a_text_is_of_one_report()
+    ensures { (r s : Reported) → IsValid r → IsValid s → report_text r ≡ report_text s → r ≡ s }
+{}

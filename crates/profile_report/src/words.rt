@@ -1,0 +1,112 @@
+//! The words of a line, read: each is what the form of a value writes.
+ghost use Rattle.std.specs.Prelude.{◌≡◌, ◌≢◌, ℕ, ◌<◌, ◌^◌, ◌++◌, ◌∷◌, ◌↔◌, true, Some, IfSome, IfNone, IsTrue, length};
+ghost use Rattle.std.specs.Fmt.{decimal};
+ghost use Rattle.profile_report.specs.LineForms.{hex_address, hex_glyph};
+ghost use Rattle.profile_report.specs.Separators.{lacks};
+
+use crate::line_text::hex_address;
+use guest_words::Addr;
+use itoa::Buffer;
+use std::str;
+
+/// What stands before the first such byte, and what stands after it.
+pub fn cut(bytes: &[u8], byte: u8) -> Option<(&[u8], &[u8])>
+    ensures parts { IfSome result (λ x. (lacks byte x.0.now ≡ true) × (bytes.now
+        ≡ x.0.now ++ byte ∷ x.1.now)) }
+    ensures none { IfNone result (lacks byte bytes.now ≡ true) }
+{
+    for place in 0..bytes.len() {
+        if bytes[place] == byte {
+            let (front, back) = bytes.split_at(place);
+            return Some((front, &back[1..]));
+        }
+    }
+    None
+}
+
+/// Whether the number is written so.
+fn is_written(number: u128, word: &[u8]) -> bool
+    ensures { IsTrue result ↔ (word.now ≡ decimal number) }
+{
+    let mut buffer = Buffer::new();
+    buffer.format(number).as_bytes() == word
+}
+
+/// The number that digits say, with leading zeros or a plus sign too.
+fn parsed(word: &[u8]) -> Option<u128>
+    ensures { (n : ℕ) → n < 2 ^ 128 → word.now ≡ decimal n → result ≡ Some n }
+{
+    match str::from_utf8(word) {
+        Ok(text) => text.parse::<u128>().ok(),
+        Err(_) => None,
+    }
+}
+
+/// The number that is written so.
+pub fn wide_number(word: &[u8]) -> Option<u128>
+    ensures found { IfSome result (λ n. word.now ≡ decimal n) }
+    ensures only { (n : ℕ) → n < 2 ^ 128 → word.now ≡ decimal n → result ≡ Some n }
+{
+    match parsed(word) {
+        Some(number) if is_written(number, word) => Some(number),
+        _ => None,
+    }
+}
+
+/// The number that is written so, where it is in 64 bits.
+pub fn number(word: &[u8]) -> Option<u64>
+    ensures found { IfSome result (λ n. word.now ≡ decimal n) }
+    ensures only { (n : ℕ) → n < 2 ^ 64 → word.now ≡ decimal n → result ≡ Some n }
+{
+    u64::try_from(wide_number(word)?).ok()
+}
+
+/// The digit in base 16 that a glyph stands for, and 0 where it stands for none.
+fn hex_digit(glyph: u8) -> u32
+    ensures range { result < 16 }
+    ensures read { (d : ℕ) → d < 16 → glyph ≡ hex_glyph d → result ≡ d }
+{
+    match glyph {
+        b'0'..=b'9' => u32::from(glyph - b'0'),
+        b'a'..=b'f' => u32::from(glyph - b'a') + 10,
+        _ => 0,
+    }
+}
+
+/// The number of eight digits in base 16.
+fn hex_number(glyphs: &[u8]) -> Addr
+    requires { length glyphs.now ≡ 8 }
+    ensures { (at : ℕ) → at < 2 ^ 32 → glyphs.now ≡ hex_address at → result ≡ at }
+{
+    hex_digit(glyphs[0]) * 0x1000_0000
+        + hex_digit(glyphs[1]) * 0x100_0000
+        + hex_digit(glyphs[2]) * 0x10_0000
+        + hex_digit(glyphs[3]) * 0x1_0000
+        + hex_digit(glyphs[4]) * 0x1000
+        + hex_digit(glyphs[5]) * 0x100
+        + hex_digit(glyphs[6]) * 0x10
+        + hex_digit(glyphs[7])
+}
+
+/// Whether the address is written so.
+fn is_written_address(at: Addr, word: &[u8]) -> bool
+    ensures { IsTrue result ↔ (word.now ≡ hex_address at) }
+{
+    hex_address(at).as_slice() == word
+}
+
+/// The address that is written so.
+pub fn address(word: &[u8]) -> Option<Addr>
+    ensures found { IfSome result (λ at. word.now ≡ hex_address at) }
+    ensures only { (at : ℕ) → at < 2 ^ 32 → word.now ≡ hex_address at → result ≡ Some at }
+{
+    if word.len() != 8 {
+        return None;
+    }
+    let at = hex_number(word);
+    if is_written_address(at, word) {
+        Some(at)
+    } else {
+        None
+    }
+}

@@ -1,0 +1,4 @@
+pub mod Cuts
+pub mod Found
+pub mod Read
+pub mod Threads

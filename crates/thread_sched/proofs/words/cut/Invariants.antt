@@ -1,0 +1,7 @@
+use Rattle.std.proofs.Common.{◌≡◌, true, take}
+use Rattle.thread_sched.specs.Separators.{lacks}
+use Rattle.thread_sched.proofs.words.cut.Given as goal
+
+-- the byte is not among those before the place
+abbrev pub invariant-loop-place : goal.invariant-loop-place
+invariant-loop-place l = lacks l.byte (take l.place l.bytes) ≡ true

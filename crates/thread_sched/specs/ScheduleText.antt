@@ -1,0 +1,62 @@
+-- The text of a schedule: a line for each entry.
+use Rattle.std.specs.Prelude.{◌≡◌, ◌≢◌, ◌⊎◌, ℕ, ◌+◌, ◌≤◌, true, List, [], ◌∷◌, ◌++◌, codes, length}
+use Rattle.std.specs.Fmt.{decimal}
+use Rattle.std.specs.List.{AllByRecursion, flat_map}
+use Rattle.thread_sched.specs.declared.entry.Entry.{Entry}
+use Rattle.thread_sched.specs.declared.schedule.ScheduleError.{ScheduleError}
+use Rattle.thread_sched.specs.declared.schedule.ScheduleError.TheVariants.{BadLine, Memory}
+use Rattle.thread_sched.specs.Separators.{lacks}
+
+-- a thread's number, and 1 to 10^12 instructions
+pub record IsEntry (e : Entry) : Type 0 where
+  pub first : 1 ≤ e.tid
+  pub last : e.tid ≤ 4194303
+  pub some : 1 ≤ e.most
+  pub most : e.most ≤ 1000000000000
+
+-- an entry, without the byte that ends its line
+abbrev pub entry_text : Entry → List ℕ
+entry_text e = decimal e.tid ++ codes " " ++ decimal e.most
+
+-- a line for each entry, each with the byte that ends it
+abbrev pub schedule_text : List Entry → List ℕ
+schedule_text entries = flat_map (λ e. entry_text e ++ 10 ∷ []) entries
+
+-- the text is that of the entries, where the last line may lack the byte that ends it
+abbrev pub IsText : List ℕ → List Entry → Type 0
+IsText text entries = (text ≡ schedule_text entries) ⊎ (text ++ 10 ∷ [] ≡ schedule_text entries)
+
+-- the bytes are a line before what follows them: nothing, if they are some, or the byte that ends them
+abbrev pub IsLineBefore : List ℕ → List ℕ → Type 0
+IsLineBefore bytes rest = (lacks 10 bytes ≡ true) × (((bytes ≢ []) × (rest ≡ [])) ⊎ ((more : List ℕ) × (rest ≡ 10 ∷ more)))
+
+-- the bytes are no entry's
+abbrev pub IsNoEntry : List ℕ → Type 0
+IsNoEntry bytes = (e : Entry) → IsEntry e → bytes ≢ entry_text e
+
+-- The line of this number is no entry's, and each line before it is one's.
+pub record IsBadLine (text : List ℕ) (number : ℕ) : Type 0 where
+  pub entries : List Entry
+  pub bytes : List ℕ
+  pub rest : List ℕ
+  pub before : AllByRecursion IsEntry entries
+  pub counted : number ≡ length entries + 1
+  pub whole : text ≡ schedule_text entries ++ (bytes ++ rest)
+  pub line : IsLineBefore bytes rest
+  pub bad : IsNoEntry bytes
+
+-- why a text is no schedule
+abbrev pub IsRefused : List ℕ → ScheduleError → Type 0
+IsRefused text (BadLine number) = IsBadLine text number
+IsRefused text Memory = Unit {0}
+
+-- why a line of this number is refused
+abbrev pub RefusesLine : ℕ → List ℕ → ScheduleError → Type 0
+RefusesLine number bytes (BadLine n) = (n ≡ number) × IsNoEntry bytes
+RefusesLine number bytes Memory = Unit {0}
+
+-- the bytes are this entry's, and no other's
+pub record Says (bytes : List ℕ) (e : Entry) : Type 0 where
+  pub fits : IsEntry e
+  pub text : bytes ≡ entry_text e
+  pub alone : (other : Entry) → IsEntry other → bytes ≡ entry_text other → other ≡ e

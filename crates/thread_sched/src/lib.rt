@@ -1,0 +1,17 @@
+//! Turns: which thread of the guest runs next and how long, by a schedule or in rotation, and the recording of the turns
+//! that were made. Contracts see a schedule and a recording as lists of entries, and a scheduler as what it knows.
+#![tactic(auto)]
+
+mod entry;
+mod recording;
+mod schedule;
+mod turns;
+mod words;
+
+pub use entry::Entry;
+pub use recording::{Recording, a_recording_is_read_as_its_turns};
+pub use schedule::{Schedule, ScheduleError};
+pub use turns::{Sched, Turn};
+
+#[cfg(test)]
+mod tests;
