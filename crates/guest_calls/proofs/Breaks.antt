@@ -177,11 +177,11 @@ not_false false h = absurd (cc)
 mprotect_free : (c : Call) → KeepsFree c (mprotect c)
 mprotect_free c = refused_free c (mprotect_tests c) (λ x. returns c 0 ▷ remaps (λ m. with_rights m (arg c 0 / 4096) (pages (arg c 1)) (rights_of (arg c 2))))
     (λ passed free.
-      let one = (failed (not (arg c 0 % 4096 == 0)) _ _ passed).1 in
-      let two = (failed (arg c 1 == 0) _ _ one).1 in
-      let three = (failed (nat_lt (2 ^ 32) (arg c 0 + arg c 1)) _ _ two).1 in
-      let four = (failed (not (are_mapped c.memory (arg c 0 / 4096) (pages (arg c 1)))) _ _ three).0 in
-      protected_free c.memory (arg c 0 / 4096) (pages (arg c 1)) (rights_of (arg c 2)) c.kernel.program_break (not_false (are_mapped c.memory (arg c 0 / 4096) (pages (arg c 1))) four) free)
+    let one = (failed (not (arg c 0 % 4096 == 0)) _ _ passed).1 in
+    let two = (failed (arg c 1 == 0) _ _ one).1 in
+    let three = (failed (nat_lt (2 ^ 32) (arg c 0 + arg c 1)) _ _ two).1 in
+    let four = (failed (not (are_mapped c.memory (arg c 0 / 4096) (pages (arg c 1)))) _ _ three).0 in
+    protected_free c.memory (arg c 0 / 4096) (pages (arg c 1)) (rights_of (arg c 2)) c.kernel.program_break (not_false (are_mapped c.memory (arg c 0 / 4096) (pages (arg c 1))) four) free)
 
 -- pages that are mapped elsewhere
 mapped_high : (m : Memory) (page count : ℕ) (o : Option Rights) (b : ℕ) → 0x40000 ≤ page → IsBreakFree m b → IsBreakFree (with_pages m page count o) b
@@ -206,13 +206,13 @@ place_high (Some page) m count is some = found_from (is_place m count) 0x40000 0
 mmap2_free : (c : Call) → KeepsFree c (mmap2 c)
 mmap2_free c = refused_free c (mmap2_tests c) (λ x. returns c (unwrap_or (lowest_place c.memory (pages (arg c 1))) 0 * 4096) ▷ maps (unwrap_or (lowest_place c.memory (pages (arg c 1))) 0) (pages (arg c 1)) (rights_of (arg c 2)))
     (λ passed free.
-      let place = lowest_place c.memory (pages (arg c 1)) in
-      let one = (failed (not (arg c 3 % 2 ^ 4 == 2)) _ _ passed).1 in
-      let two = (failed (not (has (arg c 3) 0x20)) _ _ one).1 in
-      let three = (failed (has (arg c 3) 0x100010) _ _ two).1 in
-      let four = (failed (arg c 1 == 0) _ _ three).1 in
-      let five = (failed (is_none place) _ _ four).0 in
-      mapped_high c.memory (unwrap_or place 0) (pages (arg c 1)) (Some (rights_of (arg c 2))) c.kernel.program_break (place_high place c.memory (pages (arg c 1)) refl five) free)
+    let place = lowest_place c.memory (pages (arg c 1)) in
+    let one = (failed (not (arg c 3 % 2 ^ 4 == 2)) _ _ passed).1 in
+    let two = (failed (not (has (arg c 3) 0x20)) _ _ one).1 in
+    let three = (failed (has (arg c 3) 0x100010) _ _ two).1 in
+    let four = (failed (arg c 1 == 0) _ _ three).1 in
+    let five = (failed (is_none place) _ _ four).0 in
+    mapped_high c.memory (unwrap_or place 0) (pages (arg c 1)) (Some (rights_of (arg c 2))) c.kernel.program_break (place_high place c.memory (pages (arg c 1)) refl five) free)
 
 among_past : (first count n : ℕ) → first + count ≤ n → is_among first count n ≡ false
 among_past first count n high = grind (arith, nat_tests)

@@ -59,9 +59,9 @@ readv_carries : (c : Call) (file : Descriptor) (bytes : List ℕ) (into : List P
 readv_carries c file bytes into source passed reach =
     let last : List (Bool × ℕ) = (not (all_in_reach (can_write c.memory) into), efault) ∷ [] in
     let tests : cond (not (is_source file)) (Some ebadf) (first_answer (table_tests c.memory (arg c 1) (arg c 2) ++ last)) ≡ None =
-      ap (λ (b : Bool). cond (not b) (Some ebadf) (first_answer (table_tests c.memory (arg c 1) (arg c 2) ++ last))) source
-      ∙ first_answer_none (table_tests c.memory (arg c 1) (arg c 2)) last passed
-      ∙ ap (λ (b : Bool). cond (not b) (Some efault) (let none : Option ℕ = None in none)) reach
+    ap (λ (b : Bool). cond (not b) (Some ebadf) (first_answer (table_tests c.memory (arg c 1) (arg c 2) ++ last))) source
+    ∙ first_answer_none (table_tests c.memory (arg c 1) (arg c 2)) last passed
+    ∙ ap (λ (b : Bool). cond (not b) (Some efault) (let none : Option ℕ = None in none)) reach
     in
     ap (λ (o : Option ℕ). answered_or o c (λ _. returns c (length bytes) ▷ reads c.tid (arg c 1) (8 * arg c 2) ▷ fills_parts into bytes ▷ changes (advanced file (arg c 0) (length bytes)))) tests
 
@@ -77,8 +77,8 @@ readv_does caller state new memory memory' held held' before middle after file b
     let c = asked caller state memory held in
     let e = read_event caller.tid (arg c 1) (8 * arg c 2) in
     let is : guest_of memory' held' after ≡ behind before.list (filled_parts into bytes (record { memory = memory_of memory; held = reserved_by held; events = e })) =
-      filled ∙ ap (λ (es : List Event). filled_parts into bytes (record { memory = memory_of memory; held = reserved_by held; events = es })) noted
-      ∙ filled_behind into bytes (memory_of memory) (reserved_by held) before.list e
+    filled ∙ ap (λ (es : List Event). filled_parts into bytes (record { memory = memory_of memory; held = reserved_by held; events = es })) noted
+    ∙ filled_behind into bytes (memory_of memory) (reserved_by held) before.list e
     in
     subst (λ (r : CallResult). Does r (Back (length bytes)) new memory' held' before after) (sym (readv_carries c file bytes into source passed reach)) (record {
       answered = refl;

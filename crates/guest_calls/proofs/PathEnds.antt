@@ -37,8 +37,8 @@ pub path_reads : (m : Memory) (path n : ℕ) → ((q : ℕ) → path ≤ q → q
 path_reads m path n before =
     let e : n + 0 ≡ n = omega arith in
     let none : first_refusal m need.Read path n ≡ None =
-      ap (λ (k : ℕ). first_refusal m need.Read path k) (sym e)
-      ∙ refusal_skip m need.Read path n 0 (λ k lt. byte_reads m (path + k) (before (path + k) (omega arith) (omega (arith, lt))))
+    ap (λ (k : ℕ). first_refusal m need.Read path k) (sym e)
+    ∙ refusal_skip m need.Read path n 0 (λ k lt. byte_reads m (path + k) (before (path + k) (omega arith) (omega (arith, lt))))
     in
     ap (λ (o : Option MemError). is_none o) none
 

@@ -100,7 +100,7 @@ pub waited_is_state : (k new : KernelState) (at tid bits : ℕ) → IsState k �
 waited_is_state k new at tid bits is can after =
     let live = (and_true (lives k tid) (not (waits k.waiting tid)) can).0 in
     subst IsState (sym after) (with_waiting k (after_wait k.waiting at tid bits) is (λ q gone.
-      waited_out k.waiting at tid bits q (is.waiting_live q gone) (apart_where (lives k q) tid q (λ e. subst (λ (n : ℕ). lives k n ≡ true) e live) gone)))
+    waited_out k.waiting at tid bits q (is.waiting_live q gone) (apart_where (lives k q) tid q (λ e. subst (λ (n : ℕ). lives k n ≡ true) e live) gone)))
 
 length_take_le : (n : ℕ) (ws : List Waiter) → length (take n ws) ≤ length ws
 length_take_le zero ws = omega arith

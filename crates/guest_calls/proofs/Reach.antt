@@ -82,8 +82,8 @@ writable_kept m to bytes at n = ap (λ (o : Option MemError). is_none o) (refusa
 refusal_within : (m : Memory) (need : Need) (at n k count : ℕ) → first_refusal m need at n ≡ None → k + count ≤ n → first_refusal m need (at + k) count ≡ None
 refusal_within m need at n k count none fits =
     let each : (j : ℕ) → j < count → byte_refusal m need ((at + k) + j) ≡ None = λ j lt.
-      let e : at + (k + j) ≡ (at + k) + j = omega arith in
-      subst (λ (a : ℕ). byte_refusal m need a ≡ None) e (refusal_each m need at n none (k + j) (omega (arith, lt, fits)))
+    let e : at + (k + j) ≡ (at + k) + j = omega arith in
+    subst (λ (a : ℕ). byte_refusal m need a ≡ None) e (refusal_each m need at n none (k + j) (omega (arith, lt, fits)))
     in
     let e : count ≡ count + 0 = omega arith in
     ap (λ (j : ℕ). first_refusal m need (at + k) j) e ∙ refusal_skip m need (at + k) count 0 each

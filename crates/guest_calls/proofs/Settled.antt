@@ -49,7 +49,7 @@ if_gives_before (Err e) r kept memory held b b' after same g = g
 pub refused_before : (result : Result Answer AllocError) (kept new : Kept) (memory memory' : GuestMemory) (held held' : Reservations) (b b' after : EventList) → b.list ≡ b'.list → OnErr result (IsAsBefore kept new memory memory' held held' b after) → OnErr result (IsAsBefore kept new memory memory' held held' b' after)
 refused_before (Ok answer) kept new memory memory' held held' b b' after same h = h
 refused_before (Err e) kept new memory memory' held held' b b' after same h = record {
-  untouched = record { state_same = h.untouched.state_same; memory_same = h.untouched.memory_same; held_same = h.untouched.held_same; events_same = h.untouched.events_same ∙ same; };
+  untouched = record { state_same = h.untouched.state_same; memory_same = h.untouched.memory_same; held_same = h.untouched.held_same; events_same = h.untouched.events_same ∙ same };
   out_same = h.out_same;
 }
 

@@ -33,7 +33,7 @@ use Rattle.guest_calls.proofs.PartLists.{length_carried, total_carried}
 abbrev pub IsLightResult : Call → CallResult → Type 0
 IsLightResult c r = weight r.guest.events ≤ 65536
 
-weight_append : (xs ys : List Event) → weight (xs ++ ys) ≡ weight xs + weight ys
+pub weight_append : (xs ys : List Event) → weight (xs ++ ys) ≡ weight xs + weight ys
 weight_append [] ys = omega arith
 weight_append (e ∷ xs) ys = let h = weight_append xs ys in omega (arith, h)
 

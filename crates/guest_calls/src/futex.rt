@@ -63,12 +63,7 @@ fn refusal(memory: &GuestMemory, caller: &Caller, operation: Operation) -> Optio
 }
 
 /// Whether the word is the value. It is read, and the read is an event.
-fn compare(
-    memory: &GuestMemory,
-    events: &mut Events,
-    caller: &Caller,
-    value: u32,
-) -> bool
+fn compare(memory: &GuestMemory, events: &mut Events, caller: &Caller, value: u32) -> bool
     requires reach { can_read (memory_of memory.now) (slice_index caller.now.cpu.regs 10) 4 ≡ true }
     requires room { 1 ≤ events.old.room }
     ensures same { result ≡ (number_at (memory_of memory.now) (slice_index caller.now.cpu.regs 10) 4 == value) }

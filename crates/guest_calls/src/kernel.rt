@@ -108,6 +108,13 @@ impl Kernel {
         answer
     }
 
+    /// Whether the thread lives and does not wait.
+    pub fn can_run(&self, tid: Tid) -> bool
+        ensures { result ≡ can_run self.now.state tid }
+    {
+        self.state.can_run(tid)
+    }
+
     /// The channel, 1 or 2, and the bytes of the last call, where it was a write of at least one byte.
     pub fn outgoing(&self) -> Option<(u32, &[u8])>
         ensures out { option_map (λ out. (out.0, out.1.now)) result ≡ self.now.out }

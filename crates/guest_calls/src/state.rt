@@ -1,7 +1,7 @@
 //! What the kernel keeps of a guest.
 ghost use Rattle.std.specs.Prelude.{◌≡◌, [], IfOk};
 ghost use Rattle.guest_calls.specs.Invariant.{IsState};
-ghost use Rattle.guest_calls.specs.Kernel.{can_run, ready, started};
+ghost use Rattle.guest_calls.specs.Kernel.{can_run, lives, ready, started};
 
 use crate::Inputs;
 use crate::descriptor::Descriptor;
@@ -93,11 +93,17 @@ impl State {
         }
     }
 
+    /// Whether the thread lives.
+    fn lives(&self, tid: Tid) -> bool
+        ensures { result ≡ lives self.now tid }
+    {
+        self.threads.iter().any(|t| t.tid == tid)
+    }
+
     /// Whether the thread lives and does not wait.
-    #[cfg(test)]
     pub fn can_run(&self, tid: Tid) -> bool
         ensures { result ≡ can_run self.now tid }
     {
-        self.threads.iter().any(|t| t.tid == tid) && !self.waiting.waits(tid)
+        self.lives(tid) && !self.waiting.waits(tid)
     }
 }

@@ -64,14 +64,18 @@ impl State {
             96 => Ok(self.set_tid_address(caller)),
             124 => Ok(Answer::Yield),
             135 => Ok(rt_sigprocmask(memory, held, events, caller)),
-            178 => Ok(Answer::Back { value: caller.tid.number() }),
+            178 => Ok(Answer::Back {
+                value: caller.tid.number(),
+            }),
             214 => self.brk(memory, caller),
             215 => Ok(munmap(memory, caller)),
             220 => Ok(self.clone_thread(memory, held, events, caller)),
             222 => mmap2(memory, caller),
             226 => Ok(mprotect(memory, caller)),
             422 => Ok(self.futex(memory, events, caller)),
-            number => Ok(Answer::Back { value: constant_answer(number) }),
+            number => Ok(Answer::Back {
+                value: constant_answer(number),
+            }),
         }
     }
 }

@@ -1,6 +1,6 @@
 // A guest and its calls: what each of them answers.
-ghost use Rattle.std.specs.Prelude.{◌≡◌};
-ghost use Rattle.guest_calls.specs.Kernel.{can_run};
+ghost use Rattle.guest_memory.specs.Guest.{memory_of};
+ghost use Rattle.guest_calls.specs.Pages.{IsBreakFree};
 
 use crate::{Answer, Inputs, Kernel, every_call_is_light, every_call_keeps_the_break_free};
 use guest_memory::{GuestMemory, Reservations};
@@ -16,15 +16,6 @@ const ALL: Rights = Rights {
     exec: true,
 };
 
-impl Kernel {
-    // Whether the thread lives and does not wait.
-    fn can_run(&self, tid: Tid) -> bool
-        ensures { result ≡ can_run self.now.state tid }
-    {
-        self.state.can_run(tid)
-    }
-}
-
 // A guest with the pages 0x10 and 0x11, and the break behind them.
 #[derive(Drop)]
 struct Guest {
@@ -36,9 +27,6 @@ struct Guest {
 }
 
 impl Guest {
-    ghost use Rattle.guest_memory.specs.Guest.{memory_of};
-    ghost use Rattle.guest_calls.specs.Pages.{IsBreakFree};
-
     // The path `in` stands at 0x10400, and the first byte of another at 0x10410.
     fn new(alloc: Global) -> Result<Guest, Fail> {
         let mut inputs = Inputs::new(alloc)?;
@@ -122,28 +110,32 @@ fn calls_answer_by_the_table(rt: HostRuntime) -> Result<(), Fail> {
 }
 
 #[test]
-fn threads_are_born_wait_and_end(rt: HostRuntime) -> Result<(), Fail> {
+fn a_write_goes_out(rt: HostRuntime) -> Result<(), Fail> {
     let mut guest = Guest::new(rt.alloc())?;
     guest.call(1, 64, [2, 0x10400, 2, 0, 0, 0])?;
-    assert_eq!(rt; guest.kernel.outgoing(), Some((2u32, b"in".as_slice())));
-    let born = guest.call(1, 220, [0x7D_0F00, 0x11000, 0x10600, 7, 0, 0])?;
-    let mut child = Cpu::new(0x10058);
-    child.regs[17] = 220;
-    child.regs[2] = 0x11000;
-    child.regs[4] = 7;
-    child.regs[11] = 0x11000;
-    child.regs[12] = 0x10600;
-    child.regs[13] = 7;
-    let tid = Tid::new(2).ok_or("no thread")?;
-    assert_eq!(rt; born, Answer::Born { tid, child });
-    assert_eq!(rt; guest.call(1, 124, [0; 6])?, Answer::Yield);
-    assert_eq!(rt; guest.call(1, 422, [0x10600, 0, 2, 0, 0, 0])?, Answer::Block);
+    assert!(rt; matches!(guest.kernel.outgoing(), Some((2, b"in"))));
+    Ok(())
+}
+
+#[test]
+fn a_thread_waits_and_is_woken(rt: HostRuntime) -> Result<(), Fail> {
+    let mut guest = Guest::new(rt.alloc())?;
+    guest.call(1, 220, [0x7D_0F00, 0x11000, 0x10600, 7, 0, 0])?;
+    let waits = guest.call(1, 422, [0x10600, 0, 2, 0, 0, 0])?;
+    assert!(rt; matches!(waits, Answer::Block));
+    let wakes = guest.call(2, 422, [0x10600, 1, 1, 0, 0, 0])?;
+    assert!(rt; matches!(wakes, Answer::Back { value: 1 }));
+    Ok(())
+}
+
+#[test]
+fn a_process_ends(rt: HostRuntime) -> Result<(), Fail> {
+    let mut guest = Guest::new(rt.alloc())?;
+    let ends = guest.call(1, 94, [263, 0, 0, 0, 0, 0])?;
+    assert!(rt; matches!(ends, Answer::ProcessEnd { status: 7 }));
     let mut ready = ReadyList::new();
     guest.kernel.ready_into(&mut ready);
-    assert_eq!(rt; ready.len(), 2);
-    assert_eq!(rt; guest.call(2, 422, [0x10600, 1, 1, 0, 0, 0])?, Answer::Back { value: 1 });
-    assert_eq!(rt; guest.call(2, 93, [0; 6])?, Answer::ThreadEnd);
-    assert_eq!(rt; guest.call(1, 94, [263, 0, 0, 0, 0, 0])?, Answer::ProcessEnd { status: 7 });
+    assert!(rt; ready.len() == 0);
     Ok(())
 }
 

@@ -20,6 +20,10 @@ pub record MachineState : Type 0 where
 abbrev pub can_run : MachineState → ℕ → Bool
 can_run m tid = kernel.can_run m.kernel tid
 
+-- the live threads, by rising thread number, each with whether it can run
+abbrev pub ready : MachineState → List (ℕ × Bool)
+ready m = kernel.ready m.kernel
+
 -- the registers of a thread that does not live
 abbrev pub no_registers : Registers
 no_registers = record { pc = 0; regs = replicate 32 0 }

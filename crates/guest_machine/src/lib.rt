@@ -21,3 +21,6 @@ pub use hart::Hart;
 pub use machine::Machine;
 pub use setup::SetupError;
 pub use stepped::Stepped;
+
+#[cfg(test)]
+mod tests;

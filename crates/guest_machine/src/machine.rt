@@ -8,7 +8,7 @@ use crate::start_memory::STACK_PAGES;
 use crate::{SetupError, Stepped};
 use elf_image::Image;
 use guest_calls::Inputs;
-use guest_words::{Addr, Tid};
+use guest_words::{Addr, ReadyList, Tid};
 use std::alloc::{AllocError, Global};
 use std::marker::Model;
 use trace_model::Events;
@@ -37,14 +37,14 @@ impl Model for Machine {
 const IMAGE_LIMIT: u32 = 16384 - STACK_PAGES;
 
 impl Machine {
-    ghost use Rattle.std.specs.Prelude.{None, map, string_bytes, IfSome, IfNone, IfErr, Err};
+    ghost use Rattle.std.specs.Prelude.{[], None, map, string_bytes, IfSome, IfNone, IfErr, Err};
     ghost use Rattle.guest_machine.specs.declared.setup.SetupError.TheVariants.{Memory};
     ghost use Rattle.guest_machine.specs.Setup.{setup_refusal};
     ghost use Rattle.guest_machine.specs.Start.{start};
     ghost use Rattle.std.specs.Option.{option_map};
     ghost use Rattle.rv_isa.specs.declared.instruction.Instr.TheVariants.{Ecall};
     ghost use Rattle.guest_machine.specs.Kept.{machine_of, out_of, IsAsBefore, Steps};
-    ghost use Rattle.guest_machine.specs.Machine.{can_run};
+    ghost use Rattle.guest_machine.specs.Machine.{can_run, ready};
     ghost use Rattle.guest_machine.specs.Step.{next_instruction, step};
 
     /// A machine that begins: the image's segments, the argument strings, the first of which is the program's name, the
@@ -91,6 +91,21 @@ impl Machine {
         ensures entry { self.new.entry ≡ self.old.entry }
     {
         self.guest.step(tid, events)
+    }
+
+    /// Whether the thread lives and does not wait.
+    pub fn can_run(&self, tid: Tid) -> bool
+        ensures { result ≡ can_run (machine_of self.now) tid }
+    {
+        self.guest.kernel.can_run(tid)
+    }
+
+    /// Lists the live threads, rising, each with whether it can run.
+    pub fn ready_into(&self, into: &mut ReadyList)
+        requires { into.old ≡ [] }
+        ensures { into.new ≡ ready (machine_of self.now) }
+    {
+        self.guest.kernel.ready_into(into);
     }
 
     /// Where thread 1 began.

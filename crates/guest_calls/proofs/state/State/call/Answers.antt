@@ -114,7 +114,7 @@ returns-in-422-clause-does c =
 pub returns-in_default-clause-does : goal.returns-in_default-clause-does
 returns-in_default-clause-does c =
     let made : Call = asked c.args.caller.now c.args.self.now c.args.memory.now c.args.held.now in
-    let none : DoesNothing c.number.result = record { n56 = λ e. omega arith; n57 = λ e. omega arith; n62 = λ e. omega arith; n63 = λ e. omega arith; n64 = λ e. c.requires.no_write (sym c.number.ensures ∙ e); n65 = λ e. omega arith; n66 = λ e. c.requires.no_writev (sym c.number.ensures ∙ e); n93 = λ e. omega arith; n94 = λ e. omega arith; n96 = λ e. omega arith; n124 = λ e. omega arith; n135 = λ e. omega arith; n178 = λ e. omega arith; n214 = λ e. omega arith; n215 = λ e. omega arith; n220 = λ e. omega arith; n222 = λ e. omega arith; n226 = λ e. omega arith; n422 = λ e. omega arith; } in
+    let none : DoesNothing c.number.result = record { n56 = λ e. omega arith; n57 = λ e. omega arith; n62 = λ e. omega arith; n63 = λ e. omega arith; n64 = λ e. c.requires.no_write (sym c.number.ensures ∙ e); n65 = λ e. omega arith; n66 = λ e. c.requires.no_writev (sym c.number.ensures ∙ e); n93 = λ e. omega arith; n94 = λ e. omega arith; n96 = λ e. omega arith; n124 = λ e. omega arith; n135 = λ e. omega arith; n178 = λ e. omega arith; n214 = λ e. omega arith; n215 = λ e. omega arith; n220 = λ e. omega arith; n222 = λ e. omega arith; n226 = λ e. omega arith; n422 = λ e. omega arith } in
     let same = call_constant made (subst DoesNothing c.number.ensures none) in
     let value : c.constant_answer.result ≡ constant_answer (number made) = c.constant_answer.ensures ∙ ap constant_answer c.number.ensures in
     subst (λ (r : CallResult). Does r (Back c.constant_answer.result) c.args.self.now c.args.memory.now c.args.held.now c.args.events.now c.args.events.now)

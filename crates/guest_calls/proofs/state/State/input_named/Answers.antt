@@ -10,5 +10,5 @@ pub returns : goal.returns
 returns c =
     c.place_of.ensures
     ∙ ap₂ (λ (name : List ℕ) (inputs : List Input). position (is_named name) inputs)
-      (ap (take c.args.size) c.copy_to.ensures ∙ take_copied (memory_of c.args.memory.now) c.args.path c.args.size _)
-      (ap (λ (k : KernelState). k.inputs) c.self.view_is)
+    (ap (take c.args.size) c.copy_to.ensures ∙ take_copied (memory_of c.args.memory.now) c.args.path c.args.size _)
+    (ap (λ (k : KernelState). k.inputs) c.self.view_is)

@@ -23,11 +23,11 @@ returns-clause-does c =
     let is_into : into ≡ carried (length bytes) (parts made) = search rules in
     let here : Descriptor = descriptor c.args.self.now (arg made 0) in
     let is : readv_of made file bytes into ≡ readv made =
-      ap (λ (d : Descriptor). readv_of made d bytes into) is_file
-      ∙ ap (λ (ps : List Part). readv_of made here bytes ps) is_into
-      ∙ ap (λ (bs : List ℕ). readv_of made here bs (carried (length bs) (parts made))) is_bytes
+    ap (λ (d : Descriptor). readv_of made d bytes into) is_file
+    ∙ ap (λ (ps : List Part). readv_of made here bytes ps) is_into
+    ∙ ap (λ (bs : List ℕ). readv_of made here bs (carried (length bs) (parts made))) is_bytes
     in
     let filled : guest_of c.fill_parts.new.memory c.fill_parts.new.held c.fill_parts.new.events ≡ filled_parts into bytes (guest_of c.args.memory.now c.args.held.now c.note_read.new.events) = search rules in
     subst (λ (r : CallResult). Does r (Back (length bytes)) c.advance.new.self c.fill_parts.new.memory c.fill_parts.new.held c.args.events.now c.fill_parts.new.events) is
     (readv_does c.args.caller.now c.args.self.now c.advance.new.self c.args.memory.now c.fill_parts.new.memory c.args.held.now c.fill_parts.new.held c.args.events.now c.note_read.new.events c.fill_parts.new.events file bytes into
-      (search rules) (search rules) (search rules) (search rules) filled (search rules))
+    (search rules) (search rules) (search rules) (search rules) filled (search rules))
