@@ -1,5 +1,5 @@
 -- What holds of each call of the table holds of every call.
-use Rattle.std.proofs.Common.{◌≡◌, ℕ, ◌<◌, ◌≤◌, ◌+◌, ◌-◌, Bool, true, false, cond, List, [], ◌∷◌, Option, Some, None, refl}
+use Rattle.std.proofs.Common.{◌≡◌, ℕ, Bool, true, false, cond, List, [], ◌∷◌, Option, Some, None, refl}
 use Rattle.std.specs.Prelude.{◌==◌}
 use Rattle.guest_calls.specs.Errors.{enosys}
 use Rattle.guest_calls.specs.Results.{Call, CallResult, answered_or, first_answer, number, returns, unless}

@@ -1,25 +1,18 @@
 -- Threads that are born.
-use Rattle.std.proofs.Common.{◌≡◌, ℕ, zero, suc, ◌<◌, ◌≤◌, ◌+◌, Bool, true, false, cond, List, [], ◌∷◌, ◌++◌, length, arith, refl, ap, ap₂, sym, subst, append_assoc, length-append, ◌∙◌, inl, inr}
+use Rattle.std.proofs.Common.{◌≡◌, ℕ, ◌<◌, ◌+◌, Bool, true, false, List, [], ◌∷◌, ◌++◌, length, arith, refl, ap, sym, subst, append_assoc, length-append, ◌∙◌}
 use Rattle.std.specs.Prelude.{not, ◌&&◌, ◌||◌, ◌==◌, nat_le}
 use Rattle.std.specs.Int.{w32, to_le_bytes}
 use Rattle.std.specs.List.{list_any}
 use Rattle.std.proofs.lemmas.Bool.Decides.{nat_tests}
 use Rattle.std.proofs.lemmas.List.Folds.{list_any-append}
-use Rattle.guest_memory.specs.declared.memory.GuestMemory.{GuestMemory}
-use Rattle.guest_memory.specs.declared.reservations.Reservations.{Reservations}
-use Rattle.guest_memory.specs.Guest.{memory_of}
 use Rattle.guest_memory.specs.Memory.{Memory}
 use Rattle.guest_memory.specs.Reserved.{Reserved}
-use Rattle.guest_memory.specs.ReservedBy.{reserved_by}
 use Rattle.rv_exec.specs.Accesses.{can_write}
-use Rattle.rv_exec.specs.Registers.{Registers}
-use Rattle.trace_model.specs.EventList.{EventList}
 use Rattle.trace_model.specs.declared.event_kinds.Event.{Event}
 use Rattle.guest_calls.specs.declared.thread.Thread.{Thread}
 use Rattle.guest_calls.specs.Clone.{is_denied, is_full, with_thread}
 use Rattle.guest_calls.specs.Invariant.{IsState}
-use Rattle.guest_calls.specs.Kernel.{KernelState, is_thread, lives}
-use Rattle.guest_calls.specs.Outcome.{guest_of}
+use Rattle.guest_calls.specs.Kernel.{KernelState, is_thread}
 use Rattle.guest_calls.specs.Results.{Guest, fill_event, filled_where}
 use Rattle.guest_calls.proofs.PartLists.{behind}
 use Rattle.guest_calls.proofs.Reach.{writable_kept}

@@ -1,11 +1,11 @@
 -- The pages behind the break stay free.
-use Rattle.std.proofs.Common.{◌≡◌, ℕ, zero, suc, ◌<◌, ◌≤◌, ◌+◌, ◌-◌, ◌*◌, ◌/◌, ◌%◌, ◌^◌, Bool, true, false, cond, List, [], ◌∷◌, ◌++◌, length, take, drop, Option, Some, None, arith, refl, ap, sym, subst, ◌∙◌, inl, inr}
-use Rattle.std.specs.Prelude.{not, ◌&&◌, ◌==◌, nat_lt, nat_le, is_some, is_none, replicate, unwrap_or}
+use Rattle.std.proofs.Common.{◌≡◌, ℕ, zero, suc, ◌<◌, ◌≤◌, ◌+◌, ◌-◌, ◌*◌, ◌/◌, ◌%◌, ◌^◌, Bool, true, false, cond, List, [], ◌∷◌, take, drop, Option, Some, None, arith, refl, ap, sym, subst, ◌∙◌, inl, inr}
+use Rattle.std.specs.Prelude.{not, ◌&&◌, ◌==◌, nat_lt, nat_le, is_some, is_none, unwrap_or}
 use Rattle.std.specs.Option.{option_map_or}
 use Rattle.std.proofs.lemmas.Bool.{cases_lt}
 use Rattle.std.proofs.lemmas.Bool.Decides.{nat_tests}
 use Rattle.guest_words.specs.declared.rights.Rights.{Rights}
-use Rattle.guest_memory.specs.Memory.{Memory, AreFree, ArePagesMapped, is_among, with_pages, with_rights}
+use Rattle.guest_memory.specs.Memory.{Memory, is_among, with_pages, with_rights}
 use Rattle.guest_memory.proofs.WrittenBytes.{among_below, among_yes}
 use Rattle.guest_calls.specs.declared.descriptor.Descriptor.{Descriptor}
 use Rattle.guest_calls.specs.declared.descriptor.Descriptor.TheVariants.{Closed, StandardInput, Output, InputFile}
@@ -14,17 +14,17 @@ use Rattle.guest_calls.specs.declared.operation.Operation.TheVariants.{Wait, Wak
 use Rattle.guest_calls.specs.declared.vectors.Part.{Part}
 use Rattle.guest_calls.specs.declared.answer.Answer.{Answer}
 use Rattle.guest_calls.specs.declared.answer.Answer.TheVariants.{Back}
-use Rattle.guest_calls.specs.Clone.{clone, sets_child, sets_parent}
+use Rattle.guest_calls.specs.Clone.{clone}
 use Rattle.guest_calls.specs.Errors.{eagain, enosys, enotty}
 use Rattle.guest_calls.specs.Files.{advanced, close, llseek, openat, read, write}
-use Rattle.guest_calls.specs.Futex.{compares, count_woken, count_shifted, futex, futex_at, futex_by, futex_tests, futex_value, futex_value3, operation, performed, requeues, waits_for, wakes}
+use Rattle.guest_calls.specs.Futex.{count_woken, count_shifted, futex, futex_at, futex_by, futex_tests, futex_value, futex_value3, operation, performed, requeues, waits_for, wakes}
 use Rattle.futex_table.specs.Waiting.{all_bits}
 use Rattle.guest_calls.specs.Kernel.{KernelState}
 use Rattle.guest_calls.specs.Laws.{EveryCallKeepsTheBreakFree}
-use Rattle.guest_calls.specs.Pages.{IsBreakFree, are_free, are_mapped, brk, is_place, lowest_place, mmap2, brk_effect, brk_tests, maps, mmap2_tests, mprotect, mprotect_tests, munmap, munmap_tests, pages, remaps, rights_of, unmaps}
-use Rattle.guest_calls.specs.Results.{Call, CallResult, Guest, arg, answers, either, filled, filled_where, changes, first_answer, fills, fills_word, fills_word_where, has, returns, reads, unless, when, word, ◌▷◌}
+use Rattle.guest_calls.specs.Pages.{IsBreakFree, are_mapped, brk, is_place, lowest_place, mmap2, brk_effect, brk_tests, maps, mmap2_tests, mprotect, mprotect_tests, munmap, munmap_tests, pages, remaps, rights_of, unmaps}
+use Rattle.guest_calls.specs.Results.{Call, CallResult, Guest, arg, answers, either, filled, filled_where, changes, first_answer, fills_word, fills_word_where, has, returns, reads, unless, when, word, ◌▷◌}
 use Rattle.guest_calls.specs.Search.{first_passing}
-use Rattle.guest_calls.specs.Table.{always, call, gettid, table}
+use Rattle.guest_calls.specs.Table.{always, gettid, table}
 use Rattle.guest_calls.specs.Threads.{clear_tid, exit, exit_group, is_cleared, rt_sigprocmask, sched_yield, set_tid_address, told_end}
 use Rattle.guest_calls.specs.Vectors.{filled_parts, readv, writev}
 use Rattle.guest_calls.proofs.AllCalls.{of_every_call, of_unless}

@@ -1,11 +1,11 @@
 -- Calls that carry parts.
-use Rattle.std.proofs.Common.{◌≡◌, ℕ, ◌+◌, ◌*◌, Bool, true, false, cond, List, [], ◌∷◌, ◌++◌, length, Option, Some, None, refl, ap, ap₂, sym, subst, ◌∙◌}
-use Rattle.std.specs.Prelude.{not, is_none, unwrap_or}
+use Rattle.std.proofs.Common.{◌≡◌, ℕ, ◌*◌, Bool, true, false, cond, List, [], ◌∷◌, ◌++◌, length, Option, Some, None, refl, ap, sym, subst, ◌∙◌}
+use Rattle.std.specs.Prelude.{not}
 use Rattle.guest_memory.specs.declared.memory.GuestMemory.{GuestMemory}
 use Rattle.guest_memory.specs.declared.reservations.Reservations.{Reservations}
 use Rattle.guest_memory.specs.Guest.{memory_of}
 use Rattle.guest_memory.specs.ReservedBy.{reserved_by}
-use Rattle.rv_exec.specs.Accesses.{can_read, can_write}
+use Rattle.rv_exec.specs.Accesses.{can_write}
 use Rattle.trace_model.specs.EventList.{EventList}
 use Rattle.trace_model.specs.declared.event_kinds.Event.{Event}
 use Rattle.guest_calls.specs.declared.answer.Answer.TheVariants.{Back}

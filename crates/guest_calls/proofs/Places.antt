@@ -1,6 +1,6 @@
 -- Ranges of pages, tested and stated.
 use Rattle.std.proofs.Common.{◌≡◌, ◌↔◌, ℕ, zero, suc, ◌<◌, ◌≤◌, ◌+◌, Bool, true, false, cond, Option, Some, None, arith, refl, ap, ap₂, sym, subst, ◌∙◌, inl, inr}
-use Rattle.std.specs.Prelude.{IsTrue, ◌&&◌, ◌==◌, nat_le, is_none, is_some, IfSome, IfNone}
+use Rattle.std.specs.Prelude.{IsTrue, ◌&&◌, nat_le, is_none, is_some, IfSome, IfNone}
 use Rattle.std.proofs.lemmas.Bool.{cases_eq}
 use Rattle.std.proofs.lemmas.Bool.Decides.{nat_tests}
 use Rattle.guest_words.specs.declared.rights.Rights.{Rights}

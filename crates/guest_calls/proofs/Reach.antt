@@ -1,6 +1,6 @@
 -- Bytes in reach, and the events of their copies.
-use Rattle.std.proofs.Common.{◌≡◌, ℕ, zero, suc, ◌<◌, ◌≤◌, ◌+◌, ◌-◌, ◌/◌, ◌%◌, ◌^◌, Bool, true, false, cond, List, [], ◌∷◌, ◌++◌, length, Option, Some, None, arith, refl, ap, ap₂, sym, subst, ◌∙◌, inl, inr}
-use Rattle.std.specs.Prelude.{◌==◌, ◌&&◌, nat_lt, nat_le, is_none}
+use Rattle.std.proofs.Common.{◌≡◌, ℕ, zero, suc, ◌<◌, ◌≤◌, ◌+◌, ◌-◌, ◌/◌, ◌^◌, Bool, true, false, cond, List, [], ◌∷◌, Option, Some, None, arith, refl, ap, subst, ◌∙◌, inl, inr}
+use Rattle.std.specs.Prelude.{nat_lt, is_none}
 use Rattle.std.specs.Option.{option_map_or, option_or}
 use Rattle.std.proofs.lemmas.Bool.{cases_lt}
 use Rattle.std.proofs.lemmas.Bool.Decides.{nat_tests}
@@ -9,11 +9,10 @@ use Rattle.guest_words.specs.Words.{word_count}
 use Rattle.guest_memory.specs.declared.refusal.MemError.{MemError}
 use Rattle.guest_memory.specs.declared.refusal.Need.{Need}
 use Rattle.guest_memory.specs.declared.refusal.Need.TheVariants as need
-use Rattle.guest_memory.specs.Memory.{Memory, page_refusal, page_rights, byte_refusal, first_refusal, with_bytes, is_among}
-use Rattle.guest_memory.specs.Reserved.{Reserved, after_write, is_dropped}
+use Rattle.guest_memory.specs.Memory.{Memory, page_refusal, byte_refusal, first_refusal, with_bytes, is_among}
+use Rattle.guest_memory.specs.Reserved.{Reserved, after_write}
 use Rattle.guest_memory.proofs.Accesses.{refusal_each, refusal_skip}
 use Rattle.rv_exec.specs.Accesses.{can_read, can_write}
-use Rattle.trace_model.specs.declared.event_kinds.Event.{Event}
 use Rattle.trace_model.specs.declared.event_kinds.Event.TheVariants.{Read, Fill}
 use Rattle.guest_calls.specs.Results.{fill_event, read_event, words_touched}
 

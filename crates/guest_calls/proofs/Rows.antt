@@ -3,7 +3,7 @@ use Rattle.std.proofs.Common.{◌≡◌, ◌≢◌, ℕ, Bool, true, false, cond
 use Rattle.std.specs.Prelude.{◌==◌}
 use Rattle.std.proofs.lemmas.Bool.{ne_eqb}
 use Rattle.guest_calls.specs.Errors.{enotty, enosys}
-use Rattle.guest_calls.specs.Results.{Call, CallResult, number, returns}
+use Rattle.guest_calls.specs.Results.{Call, number, returns}
 use Rattle.guest_calls.specs.Files.{openat, close, llseek, read, write}
 use Rattle.guest_calls.specs.Vectors.{readv, writev}
 use Rattle.guest_calls.specs.Threads.{exit, exit_group, set_tid_address, sched_yield, rt_sigprocmask}

@@ -1,6 +1,6 @@
 -- From the calls of the state to the calls of the kernel.
-use Rattle.std.proofs.Common.{◌≡◌, ◌≢◌, ℕ, ◌+◌, Bool, true, false, cond, List, [], ◌∷◌, ◌++◌, Option, Some, None, Ok, Err, refl, ap, sym, subst, ◌∙◌}
-use Rattle.std.specs.Prelude.{Result, IfOk, OnErr, ◌==◌, not}
+use Rattle.std.proofs.Common.{◌≡◌, ◌≢◌, ℕ, ◌+◌, Bool, true, false, List, [], ◌∷◌, ◌++◌, Option, Some, None, Ok, Err, refl, ap, sym, subst, ◌∙◌}
+use Rattle.std.specs.Prelude.{Result, IfOk, OnErr, ◌==◌}
 use Rattle.std.specs.Option.{option_map_or}
 use Rattle.std.specs.declared.alloc.AllocError.{AllocError}
 use Rattle.std.proofs.lemmas.Bool.{ne_eqb}
@@ -22,9 +22,9 @@ use Rattle.guest_calls.specs.Futex.{count_shifted, count_woken, futex, futex_at,
 use Rattle.guest_calls.specs.Kernel.{KernelState, Kept}
 use Rattle.guest_calls.specs.Outcome.{Does, Gives, IsAsBefore}
 use Rattle.guest_calls.specs.Pages.{IsBreakFree, brk, mmap2, mprotect, munmap}
-use Rattle.guest_calls.specs.Results.{Call, CallResult, answers, arg, either, fills, fills_word, number, reads, returns, unless, when, word, ◌▷◌}
-use Rattle.guest_calls.specs.Table.{always, call, call_numbered, gettid, getpid, ioctl, madvise, rt_sigaction, set_robust_list, table}
-use Rattle.guest_calls.specs.Threads.{clear_tid, exit, exit_group, is_cleared, rt_sigprocmask, sched_yield, set_tid_address, told_end}
+use Rattle.guest_calls.specs.Results.{Call, CallResult, answers, either, fills_word, number, reads, returns, unless, when, word, ◌▷◌}
+use Rattle.guest_calls.specs.Table.{call, gettid, getpid, ioctl, madvise, rt_sigaction, set_robust_list, table}
+use Rattle.guest_calls.specs.Threads.{clear_tid, exit, exit_group, is_cleared, rt_sigprocmask, sched_yield, set_tid_address}
 use Rattle.guest_calls.specs.Vectors.{readv}
 use Rattle.guest_calls.proofs.AllCalls.{of_numbered, of_unless}
 use Rattle.guest_calls.proofs.Breaks.{every_call_keeps}

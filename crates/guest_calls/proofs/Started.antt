@@ -1,11 +1,11 @@
 -- The state at a guest's start.
-use Rattle.std.proofs.Common.{◌≡◌, ℕ, zero, suc, ◌<◌, ◌≤◌, ◌^◌, Bool, true, false, List, [], ◌∷◌, ◌++◌, length, arith, refl, ap, sym, subst, ◌∙◌}
-use Rattle.std.specs.Prelude.{slice_index_or, replicate}
+use Rattle.std.proofs.Common.{◌≡◌, ℕ, zero, suc, List, [], ◌∷◌, arith, refl, sym, subst}
+use Rattle.std.specs.Prelude.{slice_index_or}
 use Rattle.guest_calls.specs.declared.descriptor.Descriptor.{Descriptor}
 use Rattle.guest_calls.specs.declared.descriptor.Descriptor.TheVariants.{Closed, StandardInput, Output, InputFile}
 use Rattle.guest_calls.specs.Invariant.{IsState, IsWithinFile}
 use Rattle.guest_calls.specs.Inputs.{Input}
-use Rattle.guest_calls.specs.Kernel.{KernelState, started, descriptor}
+use Rattle.guest_calls.specs.Kernel.{KernelState, started}
 
 -- no file is among them
 abbrev pub AreNoFiles : List Descriptor → Type 0

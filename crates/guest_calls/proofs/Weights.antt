@@ -1,15 +1,13 @@
 -- How much the events of a call weigh.
-use Rattle.std.proofs.Common.{◌≡◌, ℕ, zero, suc, ◌<◌, ◌≤◌, ◌+◌, ◌-◌, ◌*◌, ◌/◌, Bool, true, false, cond, List, [], ◌∷◌, ◌++◌, length, take, drop, Option, Some, None, arith, refl, ap, sym, subst, ◌∙◌}
-use Rattle.std.specs.Prelude.{not, ◌==◌, nat_lt, is_none, min, unwrap_or, replicate}
+use Rattle.std.proofs.Common.{◌≡◌, ℕ, zero, suc, ◌<◌, ◌≤◌, ◌+◌, ◌-◌, ◌*◌, ◌/◌, Bool, true, false, cond, List, [], ◌∷◌, ◌++◌, length, take, drop, Option, Some, None, arith, refl, ap, sym, ◌∙◌}
+use Rattle.std.specs.Prelude.{not, ◌==◌, nat_lt, is_none, min, unwrap_or}
 use Rattle.std.specs.Option.{option_map_or}
 use Rattle.std.proofs.lemmas.Bool.Decides.{nat_tests}
 use Rattle.std.proofs.lemmas.List.Sums.{sum_by-cons}
 use Rattle.futex_table.specs.Waiting.{all_bits}
 use Rattle.guest_memory.specs.Memory.{Memory}
-use Rattle.guest_words.specs.Words.{word_count}
 use Rattle.trace_model.specs.declared.event_kinds.Event.{Event}
-use Rattle.trace_model.specs.WellFormed.{weight, weight_of}
-use Rattle.guest_calls.specs.declared.answer.Answer.{Answer}
+use Rattle.trace_model.specs.WellFormed.{weight}
 use Rattle.guest_calls.specs.declared.answer.Answer.TheVariants.{Back}
 use Rattle.guest_calls.specs.declared.operation.Operation.{Operation}
 use Rattle.guest_calls.specs.declared.operation.Operation.TheVariants.{Wait, Wake, Requeue, CmpRequeue, WaitBitset, WakeBitset}
@@ -17,16 +15,16 @@ use Rattle.guest_calls.specs.declared.vectors.Part.{Part}
 use Rattle.guest_calls.specs.Clone.{clone}
 use Rattle.guest_calls.specs.Errors.{eagain, ebadf, efault, enosys}
 use Rattle.guest_calls.specs.Files.{channel, close, ends_path, is_source, llseek, openat, openat_effect, openat_tests, path_end, read, write}
-use Rattle.guest_calls.specs.Futex.{count_shifted, count_woken, futex, futex_at, futex_by, futex_tests, futex_value, futex_value3, operation, performed, requeues, waits_for, wakes}
+use Rattle.guest_calls.specs.Futex.{count_shifted, count_woken, futex_at, futex_by, futex_tests, futex_value, futex_value3, operation, performed, requeues, waits_for, wakes}
 use Rattle.guest_calls.specs.Kernel.{descriptor}
 use Rattle.rv_exec.specs.Accesses.{can_read, can_write}
 use Rattle.guest_calls.specs.Laws.{EveryCallIsLight}
 use Rattle.guest_calls.specs.Pages.{brk, mmap2, mprotect, munmap}
-use Rattle.guest_calls.specs.Results.{Call, CallResult, Guest, answers, arg, changes, either, fill_event, filled, filled_where, fills, fills_word, fills_word_where, first_answer, read_event, reads, returns, unless, when, word, ◌▷◌}
+use Rattle.guest_calls.specs.Results.{Call, CallResult, Guest, answers, arg, either, fill_event, filled, filled_where, fills_word, first_answer, read_event, reads, returns, unless, when, word, ◌▷◌}
 use Rattle.guest_calls.specs.Search.{first_passing}
-use Rattle.guest_calls.specs.Table.{call, gettid, table}
-use Rattle.guest_calls.specs.Threads.{clear_tid, exit, exit_group, is_cleared, rt_sigprocmask, sched_yield, set_tid_address, told_end}
-use Rattle.guest_calls.specs.Vectors.{all_in_reach, carried, filled_parts, parts, parts_at, read_events, readv, readv_bytes, readv_effect, readv_parts, readv_tests, table_tests, total, writev, writev_count, writev_effect, writev_parts, writev_tests}
+use Rattle.guest_calls.specs.Table.{table}
+use Rattle.guest_calls.specs.Threads.{clear_tid, exit, is_cleared, rt_sigprocmask}
+use Rattle.guest_calls.specs.Vectors.{all_in_reach, filled_parts, parts, parts_at, read_events, readv, readv_bytes, readv_effect, readv_parts, readv_tests, table_tests, total, writev, writev_count, writev_effect, writev_parts, writev_tests}
 use Rattle.guest_calls.proofs.AllCalls.{of_every_call, of_unless}
 use Rattle.guest_calls.proofs.PartLists.{length_carried, total_carried}
 

@@ -8,7 +8,7 @@ use Rattle.rv_exec.specs.Accesses.{can_read}
 use Rattle.guest_calls.specs.declared.descriptor.Descriptor.{Descriptor}
 use Rattle.guest_calls.specs.declared.descriptor.Descriptor.TheVariants.{Closed, StandardInput, Output, InputFile}
 use Rattle.guest_calls.specs.Errors.{enoent, ebadf, eacces, efault, einval, emfile, espipe, enametoolong}
-use Rattle.guest_calls.specs.Inputs.{Input, is_named}
+use Rattle.guest_calls.specs.Inputs.{is_named}
 use Rattle.guest_calls.specs.Kernel.{KernelState, descriptor, with_descriptor}
 use Rattle.guest_calls.specs.Search.{first_passing}
 use Rattle.guest_calls.specs.Results.{Call, CallResult, arg, returns, unless, ◌⇒◌, ◌or◌, ◌▷◌, changes, sets, reads, fills, puts, readable, writable, has}

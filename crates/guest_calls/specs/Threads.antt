@@ -1,5 +1,5 @@
 -- The calls on threads and the process: exit(2), exit_group(2), set_tid_address(2), sched_yield(2), rt_sigprocmask(2).
-use Rattle.std.specs.Prelude.{ℕ, ◌%◌, ◌^◌, Bool, not, ◌&&◌, ◌==◌, List, [], map, replicate, if◌then◌else◌}
+use Rattle.std.specs.Prelude.{ℕ, ◌%◌, ◌^◌, Bool, not, ◌&&◌, ◌==◌, [], map, replicate, if◌then◌else◌}
 use Rattle.std.specs.List.{find}
 use Rattle.std.specs.Option.{option_map_or}
 use Rattle.guest_memory.specs.Reserved.{without_thread, nothing_reserved}

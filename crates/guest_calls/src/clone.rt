@@ -134,11 +134,7 @@ impl State {
         ensures does { Does (specs.clone (asked caller.now self.old memory.old held.old)) result self.new memory.new held.new events.old events.new }
         ensures room { events.old.room ≤ events.new.room + 2 }
     {
-        let (flags, parent, child) = (
-            caller.argument(0),
-            caller.argument(2),
-            caller.argument(4),
-        );
+        let (flags, parent, child) = (caller.argument(0), caller.argument(2), caller.argument(4));
         if !are_flags_taken(flags) {
             return Answer::Back { value: ENOSYS };
         }

@@ -56,9 +56,12 @@ impl Guest {
         let tid = Tid::new(thread).ok_or("no thread")?;
         let mut cpu = Cpu::new(0x10054);
         cpu.regs[17] = number;
-        for i in 0..6 {
-            cpu.regs[10 + i] = arguments[i];
-        }
+        cpu.regs[10] = arguments[0];
+        cpu.regs[11] = arguments[1];
+        cpu.regs[12] = arguments[2];
+        cpu.regs[13] = arguments[3];
+        cpu.regs[14] = arguments[4];
+        cpu.regs[15] = arguments[5];
         if !self.kernel.can_run(tid) {
             return Err("it can't run")?;
         }

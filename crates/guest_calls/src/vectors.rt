@@ -236,11 +236,7 @@ impl State {
         ensures refused { OnErr result (IsUntouched self.old self.new memory.old memory.new held.old held.new events.old events.new) }
         ensures room { events.old.room ≤ events.new.room + 1025 }
     {
-        let (fd, at, count) = (
-            caller.argument(0),
-            caller.argument(1),
-            caller.argument(2),
-        );
+        let (fd, at, count) = (caller.argument(0), caller.argument(1), caller.argument(2));
         let file = self.descriptor(fd);
         if !file.is_source() {
             return Ok(Answer::Back { value: EBADF });

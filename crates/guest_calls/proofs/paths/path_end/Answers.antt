@@ -1,4 +1,4 @@
-use Rattle.std.proofs.Common.{◌≡◌, ℕ, ◌≤◌, ◌<◌, ◌+◌, ◌-◌, true, sym, ◌∙◌, arith}
+use Rattle.std.proofs.Common.{◌-◌, sym, ◌∙◌, arith}
 use Rattle.guest_memory.specs.Guest.{memory_of}
 use Rattle.guest_calls.proofs.PathEnds.{path_ends, path_reads, path_does_not_end}
 use Rattle.guest_calls.proofs.paths.path_end.Goals as goal

@@ -1,4 +1,4 @@
-use Rattle.std.proofs.Common.{◌≡◌, ◌≤◌, take, length}
+use Rattle.std.proofs.Common.{◌≡◌, take, length}
 use Rattle.guest_memory.specs.Guest.{memory_of}
 use Rattle.guest_calls.specs.Vectors.{bytes_of, total}
 use Rattle.guest_calls.proofs.vectors.copy_parts.Given as goal

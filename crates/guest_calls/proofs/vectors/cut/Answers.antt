@@ -1,8 +1,8 @@
-use Rattle.std.proofs.Common.{◌≡◌, ℕ, ◌≤◌, List, length, ap, sym, subst, ◌∙◌}
+use Rattle.std.proofs.Common.{◌≤◌, List, ap, sym, subst, ◌∙◌}
 use Rattle.std.proofs.lemmas.List.{with_items_is}
 use Rattle.guest_calls.specs.declared.vectors.Part.{Part}
 use Rattle.guest_calls.specs.Vectors.{carried, total}
-use Rattle.guest_calls.proofs.PartLists.{length_carried, total_carried}
+use Rattle.guest_calls.proofs.PartLists.{total_carried}
 use Rattle.guest_calls.proofs.vectors.cut.Goals as goal
 
 pub returns-clause-cut : goal.returns-clause-cut

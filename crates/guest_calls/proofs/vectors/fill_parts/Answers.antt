@@ -1,4 +1,4 @@
-use Rattle.std.proofs.Common.{◌≡◌, ℕ, ◌+◌, length, get_or, arith, ap, ◌∙◌}
+use Rattle.std.proofs.Common.{arith, ◌∙◌}
 use Rattle.guest_memory.specs.Guest.{memory_of}
 use Rattle.guest_calls.specs.declared.vectors.Part.{Part}
 use Rattle.guest_calls.specs.Outcome.{guest_of}

@@ -1,9 +1,8 @@
-use Rattle.std.proofs.Common.{◌≡◌, ◌≢◌, ℕ, None, arith, refl, ap, sym, subst, ◌∙◌}
-use Rattle.std.specs.Prelude.{IfOk, OnErr}
-use Rattle.guest_memory.specs.Guest.{memory_of}
+use Rattle.std.proofs.Common.{◌≡◌, ◌≢◌, arith, refl, ap, sym, subst, ◌∙◌}
+use Rattle.std.specs.Prelude.{IfOk}
 use Rattle.guest_calls.specs.declared.answer.Answer.{Answer}
 use Rattle.guest_calls.specs.Kernel.{KernelState, Kept}
-use Rattle.guest_calls.specs.Outcome.{asked, Does, Gives, IsAsBefore}
+use Rattle.guest_calls.specs.Outcome.{asked, Does, Gives}
 use Rattle.guest_calls.specs.Results.{Call, CallResult, number}
 use Rattle.guest_calls.specs.Table.{call}
 use Rattle.guest_calls.proofs.Rows.{call_write, call_writev}

@@ -1,4 +1,4 @@
-use Rattle.std.proofs.Common.{◌≡◌, ap, List, ℕ, ◌+◌, false, sym, ◌∙◌, arith, ◌∷◌, ◌++◌, []}
+use Rattle.std.proofs.Common.{◌≡◌, ap, List, ◌+◌, sym, ◌∙◌, arith}
 use Rattle.guest_calls.specs.declared.thread.Thread.{Thread}
 use Rattle.guest_calls.specs.Clone.{is_full}
 use Rattle.guest_calls.specs.Kernel.{KernelState}

@@ -1,8 +1,7 @@
-use Rattle.std.proofs.Common.{◌≡◌, true, ap, List, ◌∙◌, arith}
-use Rattle.futex_table.specs.declared.waiter.Waiter.{Waiter}
+use Rattle.std.proofs.Common.{◌≡◌, true, ap, ◌∙◌, arith}
 use Rattle.guest_calls.specs.Kernel.{KernelState, can_run}
 use Rattle.guest_calls.specs.State.{state_in}
-use Rattle.guest_calls.proofs.Queues.{fewer_wait, waited_is_state}
+use Rattle.guest_calls.proofs.Queues.{fewer_wait}
 use Rattle.guest_calls.proofs.state.State.begin_to_wait.Goals as goal
 
 pub prove-unreachable-requires : goal.prove-unreachable-requires

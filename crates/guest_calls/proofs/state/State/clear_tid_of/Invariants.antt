@@ -1,8 +1,6 @@
 use Rattle.std.proofs.Common.{◌≡◌, drop}
-use Rattle.std.specs.Option.{option_map_or}
 use Rattle.std.specs.List.{find}
 use Rattle.guest_calls.specs.Kernel.{is_thread}
-use Rattle.guest_calls.specs.Threads.{clear_tid_of}
 use Rattle.guest_calls.proofs.state.State.clear_tid_of.Given as goal
 
 abbrev pub invariant-loop-t : goal.invariant-loop-t

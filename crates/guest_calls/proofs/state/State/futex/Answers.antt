@@ -1,7 +1,5 @@
-use Rattle.std.proofs.Common.{◌≡◌, ℕ, Option, Some, None, ap, sym, subst, ◌∙◌}
+use Rattle.std.proofs.Common.{◌≡◌, ℕ, Some, None, ap, sym, subst, ◌∙◌}
 use Rattle.std.specs.Prelude.{bit_and}
-use Rattle.guest_memory.specs.declared.memory.GuestMemory.{GuestMemory}
-use Rattle.guest_memory.specs.declared.reservations.Reservations.{Reservations}
 use Rattle.guest_calls.specs.declared.answer.Answer.TheVariants.{Back}
 use Rattle.guest_calls.specs.declared.operation.Operation.{Operation}
 use Rattle.guest_calls.specs.Futex.{compares, count_woken, futex_at, futex_tests, futex_value, operation, operation_numbered, performed, waits_for, wakes}

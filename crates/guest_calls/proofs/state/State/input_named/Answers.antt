@@ -1,4 +1,4 @@
-use Rattle.std.proofs.Common.{ℕ, List, ap, ap₂, take, drop, ◌∙◌}
+use Rattle.std.proofs.Common.{ℕ, List, ap, ap₂, take, ◌∙◌}
 use Rattle.std.specs.List.{position}
 use Rattle.guest_memory.specs.Guest.{memory_of}
 use Rattle.guest_calls.specs.Inputs.{Input, is_named}

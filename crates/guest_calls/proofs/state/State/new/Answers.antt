@@ -1,10 +1,5 @@
-use Rattle.std.proofs.Common.{◌≡◌, ℕ, ◌≤◌, ◌<◌, ◌^◌, length, true, false, List, [], ◌∷◌, ◌++◌, subst, sym, ap, ◌∙◌, zero, suc, arith}
-use Rattle.futex_table.specs.Once.{waits}
-use Rattle.futex_table.specs.declared.waiter.Waiter.{Waiter}
+use Rattle.std.proofs.Common.{List, [], ◌∷◌, ◌++◌, ap, ◌∙◌, arith}
 use Rattle.guest_calls.specs.declared.thread.Thread.{Thread}
-use Rattle.guest_calls.specs.Invariant.{RisesTo, IsWithinFile, IsState}
-use Rattle.guest_calls.specs.Inputs.{Input}
-use Rattle.guest_calls.specs.Kernel.{KernelState, started, descriptor}
 use Rattle.guest_calls.proofs.Started.{started_is_state}
 use Rattle.guest_calls.proofs.state.State.new.Goals as goal
 

@@ -1,4 +1,4 @@
-use Rattle.std.proofs.Common.{◌≡◌, ℕ, ◌+◌, ◌-◌, true, sym, subst, ap, ◌∙◌, arith}
+use Rattle.std.proofs.Common.{◌≡◌, ℕ, ◌+◌, ◌-◌, true, sym, ap, ◌∙◌, arith}
 use Rattle.guest_memory.specs.Guest.{memory_of}
 use Rattle.rv_exec.specs.Accesses.{can_read}
 use Rattle.guest_calls.proofs.PathEnds.{read_through}

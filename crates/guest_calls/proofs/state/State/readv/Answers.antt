@@ -1,6 +1,4 @@
-use Rattle.std.proofs.Common.{rules, ◌≡◌, ℕ, ◌*◌, ◌≤◌, true, None, List, length, take, ap, ap₂, sym, subst, ◌∙◌, arith}
-use Rattle.guest_memory.specs.Guest.{memory_of}
-use Rattle.rv_exec.specs.Accesses.{can_write}
+use Rattle.std.proofs.Common.{rules, ◌≡◌, ℕ, List, length, take, ap, subst, ◌∙◌}
 use Rattle.guest_calls.specs.declared.answer.Answer.TheVariants.{Back}
 use Rattle.guest_calls.specs.declared.descriptor.Descriptor.{Descriptor}
 use Rattle.guest_calls.specs.declared.vectors.Part.{Part}
@@ -8,7 +6,7 @@ use Rattle.guest_calls.specs.Files.{bytes_left}
 use Rattle.guest_calls.specs.Kernel.{descriptor}
 use Rattle.guest_calls.specs.Outcome.{asked, guest_of, Does}
 use Rattle.guest_calls.specs.Results.{Call, CallResult, arg}
-use Rattle.guest_calls.specs.Vectors.{all_in_reach, carried, filled_parts, parts, readv, total}
+use Rattle.guest_calls.specs.Vectors.{carried, filled_parts, parts, readv, total}
 use Rattle.guest_calls.proofs.Carrying.{readv_does, readv_of}
 use Rattle.guest_calls.proofs.state.State.readv.Goals as goal
 

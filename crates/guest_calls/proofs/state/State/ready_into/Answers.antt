@@ -1,4 +1,4 @@
-use Rattle.std.proofs.Common.{◌≡◌, ◌<◌, ℕ, ◌≤◌, length, Bool, List, get_or, map, take, subst, sym, ap, refl, arith, ◌∙◌}
+use Rattle.std.proofs.Common.{◌≡◌, ℕ, Bool, List, map, take, subst, sym, refl, arith}
 use Rattle.std.specs.Prelude.{not}
 use Rattle.futex_table.specs.Once.{waits}
 use Rattle.guest_words.specs.Ready.{IsAboveLast}

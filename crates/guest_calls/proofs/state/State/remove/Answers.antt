@@ -1,6 +1,5 @@
-use Rattle.std.proofs.Common.{ap, List, sym, ◌∙◌, arith}
+use Rattle.std.proofs.Common.{ap, List, arith}
 use Rattle.guest_calls.specs.declared.thread.Thread.{Thread}
-use Rattle.guest_calls.specs.Kernel.{KernelState}
 use Rattle.guest_calls.specs.State.{state_in}
 use Rattle.guest_calls.proofs.Leaving.{left_is_state}
 use Rattle.guest_calls.proofs.state.State.remove.Goals as goal

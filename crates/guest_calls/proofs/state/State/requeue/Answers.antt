@@ -1,6 +1,5 @@
-use Rattle.std.proofs.Common.{◌≡◌, ap, List, arith}
+use Rattle.std.proofs.Common.{ap, List, arith}
 use Rattle.futex_table.specs.declared.waiter.Waiter.{Waiter}
-use Rattle.guest_calls.specs.Kernel.{KernelState}
 use Rattle.guest_calls.specs.State.{state_in}
 use Rattle.guest_calls.proofs.Queues.{few_shifted, few_woken, requeued_is_state}
 use Rattle.futex_table.specs.Waiting.{all_bits}

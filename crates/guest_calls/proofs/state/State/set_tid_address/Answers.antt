@@ -1,7 +1,6 @@
-use Rattle.std.proofs.Common.{map, ap, List, sym, ◌∙◌, arith}
+use Rattle.std.proofs.Common.{map, ap, List, ◌∙◌}
 use Rattle.std.proofs.lemmas.List.{with_items_is}
 use Rattle.guest_calls.specs.declared.thread.Thread.{Thread}
-use Rattle.guest_calls.specs.Kernel.{KernelState}
 use Rattle.guest_calls.specs.State.{state_in}
 use Rattle.guest_calls.specs.Threads.{with_clear_tid}
 use Rattle.guest_calls.proofs.Leaving.{cleared_is_state}

@@ -1,6 +1,5 @@
-use Rattle.std.proofs.Common.{rules, ◌≡◌, true, ap, sym, subst, ◌∙◌, arith}
+use Rattle.std.proofs.Common.{rules, sym, subst, ◌∙◌}
 use Rattle.guest_calls.specs.declared.answer.Answer.TheVariants.{Back}
-use Rattle.guest_calls.specs.Kernel.{has_others}
 use Rattle.guest_calls.specs.Outcome.{asked, Does}
 use Rattle.guest_calls.specs.Results.{CallResult}
 use Rattle.guest_calls.proofs.Leaving.{told_where_cleared}
