@@ -14,9 +14,9 @@ ghost use Rattle.profile_report.specs.ReportText.{version_1};
 ghost use Rattle.profile_report.specs.Fits.{FitsEnd, FitsName, FitsPoint};
 
 use crate::line::{Line, LineError};
-use crate::words::{address, cut, number, wide_number};
+use crate::words::{address, number, wide_number};
 use cost_points::Point;
-use guest_words::{FaultKind, Finish, Name, NameError, Tid};
+use guest_words::{FaultKind, Finish, Name, NameError, Tid, cut};
 use std::alloc::Global;
 
 /// What stands behind a label.

@@ -2,27 +2,11 @@
 ghost use Rattle.std.specs.Prelude.{◌≡◌, ◌≢◌, ℕ, ◌<◌, ◌^◌, ◌++◌, ◌∷◌, ◌↔◌, true, Some, IfSome, IfNone, IsTrue, length};
 ghost use Rattle.std.specs.Fmt.{decimal};
 ghost use Rattle.profile_report.specs.LineForms.{hex_address, hex_glyph};
-ghost use Rattle.profile_report.specs.Separators.{lacks};
 
 use crate::line_text::hex_address;
 use guest_words::Addr;
 use itoa::Buffer;
 use std::str;
-
-/// What stands before the first such byte, and what stands after it.
-pub fn cut(bytes: &[u8], byte: u8) -> Option<(&[u8], &[u8])>
-    ensures parts { IfSome result (λ x. (lacks byte x.0.now ≡ true) × (bytes.now
-        ≡ x.0.now ++ byte ∷ x.1.now)) }
-    ensures none { IfNone result (lacks byte bytes.now ≡ true) }
-{
-    for place in 0..bytes.len() {
-        if bytes[place] == byte {
-            let (front, back) = bytes.split_at(place);
-            return Some((front, &back[1..]));
-        }
-    }
-    None
-}
 
 /// Whether the number is written so.
 fn is_written(number: u128, word: &[u8]) -> bool

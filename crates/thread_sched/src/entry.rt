@@ -5,8 +5,8 @@ ghost use Rattle.std.specs.Option.{SomeIff};
 ghost use Rattle.thread_sched.specs.ScheduleText.{IsEntry, entry_text};
 ghost use Rattle.thread_sched.specs.declared.entry.Entry.{Entry};
 
-use crate::words::{cut, number, push_number};
-use guest_words::Tid;
+use crate::words::{number, push_number};
+use guest_words::{Tid, cut};
 use std::alloc::AllocError;
 
 /// One turn: its thread, and how many instructions it has at most, 1 to 10^12.

@@ -1,26 +1,10 @@
 //! The words of a line: numbers, and what stands before and behind a separator.
 ghost use Rattle.std.specs.Prelude.{◌≡◌, ◌↔◌, ℕ, ◌<◌, ◌^◌, ◌++◌, ◌∷◌, true, Some, IfSome, IfNone, IsTrue, OnOk};
 ghost use Rattle.std.specs.Fmt.{decimal};
-ghost use Rattle.thread_sched.specs.Separators.{lacks};
 
 use itoa::Buffer;
 use std::alloc::AllocError;
 use std::str;
-
-/// What stands before the first such byte, and what stands after it.
-pub fn cut(bytes: &[u8], byte: u8) -> Option<(&[u8], &[u8])>
-    ensures parts { IfSome result (λ x. (lacks byte x.0.now ≡ true) × (bytes.now
-        ≡ x.0.now ++ byte ∷ x.1.now)) }
-    ensures none { IfNone result (lacks byte bytes.now ≡ true) }
-{
-    for place in 0..bytes.len() {
-        if bytes[place] == byte {
-            let (front, back) = bytes.split_at(place);
-            return Some((front, &back[1..]));
-        }
-    }
-    None
-}
 
 /// Whether the number is written so.
 fn is_written(number: u64, word: &[u8]) -> bool

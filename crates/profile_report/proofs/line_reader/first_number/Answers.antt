@@ -1,6 +1,6 @@
 use Rattle.std.proofs.Common.{◌∙◌, sym, arith}
-use Rattle.profile_report.proofs.Cuts.{cut_once, lacks_decimal}
-use Rattle.profile_report.proofs.Found.{nothing, same}
+use Rattle.guest_words.proofs.Cuts.{cut_once, lacks_decimal}
+use Rattle.guest_words.proofs.Found.{nothing, same}
 use Rattle.profile_report.proofs.line_reader.first_number.Goals as goal
 
 pub returns-in_err-number-clause-only : goal.returns-in_err-number-clause-only
