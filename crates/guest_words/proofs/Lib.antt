@@ -1,3 +1,4 @@
 pub mod Cuts
 pub mod Found
+pub mod Numerals
 pub mod ReadyPlaces

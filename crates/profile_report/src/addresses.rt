@@ -1,49 +1,9 @@
-//! The words of a line, read: each is what the form of a value writes.
-ghost use Rattle.std.specs.Prelude.{◌≡◌, ◌≢◌, ℕ, ◌<◌, ◌^◌, ◌++◌, ◌∷◌, ◌↔◌, true, Some, IfSome, IfNone, IsTrue, length};
-ghost use Rattle.std.specs.Fmt.{decimal};
+//! The eight digits of an address, read.
+ghost use Rattle.std.specs.Prelude.{◌≡◌, ℕ, ◌<◌, ◌^◌, ◌↔◌, Some, IfSome, IsTrue, length};
 ghost use Rattle.profile_report.specs.LineForms.{hex_address, hex_glyph};
 
 use crate::line_text::hex_address;
 use guest_words::Addr;
-use itoa::Buffer;
-use std::str;
-
-/// Whether the number is written so.
-fn is_written(number: u128, word: &[u8]) -> bool
-    ensures { IsTrue result ↔ (word.now ≡ decimal number) }
-{
-    let mut buffer = Buffer::new();
-    buffer.format(number).as_bytes() == word
-}
-
-/// The number that digits say, with leading zeros or a plus sign too.
-fn parsed(word: &[u8]) -> Option<u128>
-    ensures { (n : ℕ) → n < 2 ^ 128 → word.now ≡ decimal n → result ≡ Some n }
-{
-    match str::from_utf8(word) {
-        Ok(text) => text.parse::<u128>().ok(),
-        Err(_) => None,
-    }
-}
-
-/// The number that is written so.
-pub fn wide_number(word: &[u8]) -> Option<u128>
-    ensures found { IfSome result (λ n. word.now ≡ decimal n) }
-    ensures only { (n : ℕ) → n < 2 ^ 128 → word.now ≡ decimal n → result ≡ Some n }
-{
-    match parsed(word) {
-        Some(number) if is_written(number, word) => Some(number),
-        _ => None,
-    }
-}
-
-/// The number that is written so, where it is in 64 bits.
-pub fn number(word: &[u8]) -> Option<u64>
-    ensures found { IfSome result (λ n. word.now ≡ decimal n) }
-    ensures only { (n : ℕ) → n < 2 ^ 64 → word.now ≡ decimal n → result ≡ Some n }
-{
-    u64::try_from(wide_number(word)?).ok()
-}
 
 /// The digit in base 16 that a glyph stands for, and 0 where it stands for none.
 fn hex_digit(glyph: u8) -> u32
