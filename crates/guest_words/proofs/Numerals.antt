@@ -24,7 +24,7 @@ value_after n (c ∷ cs) some d small =
     ∙ ap (λ x. x ++ cs) (decimal_step_wide m (omega arith) (omega (arith, le_value_after m cs)) ∙ (λ i. decimal (front i) ++ (end i ∷ [])))
     ∙ append_assoc (decimal n) (c ∷ []) cs
 
--- digits with no leading zero, or just `0`, are what `decimal` writes of their value
+-- digits with no leading zero, or just `0`, are what `decimal` writes of their value; std says it below 2 ^ 64 alone
 value_digits : (ds : List ℕ) → AllDigits 10 ds → 0 < length ds → (get_or ds 0 0 ≡ 48 → length ds ≡ 1) → digits_value 10 ds < 10 ^ 64 → decimal (digits_value 10 ds) ≡ ds
 value_digits [] d some lead small = absurd (omega arith)
 value_digits (c ∷ []) d some lead small =
