@@ -1,1 +1,4 @@
+pub mod Cuts
+pub mod Found
+pub mod Numerals
 pub mod ReadyPlaces

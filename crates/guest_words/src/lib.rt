@@ -1,5 +1,6 @@
 //! The words that every crate speaks: addresses and memory words of a 32-bit guest, thread numbers, the faults of the
-//! RISC-V unprivileged specification, how a run ends, names of routines, little-endian fields, and short lists of threads.
+//! RISC-V unprivileged specification, how a run ends, names of routines, little-endian fields, short lists of threads, and the
+//! words of a text.
 #![tactic(auto)]
 
 mod addresses;
@@ -8,6 +9,7 @@ mod fields;
 mod name;
 mod ready;
 mod rights;
+mod text_words;
 mod threads;
 
 pub use addresses::{Addr, Word, words_over};
@@ -16,6 +18,7 @@ pub use fields::{le16, le32, put_le32};
 pub use name::{Name, NameError};
 pub use ready::ReadyList;
 pub use rights::Rights;
+pub use text_words::{cut, decimal_number, wide_decimal_number};
 pub use threads::Tid;
 
 #[cfg(test)]

@@ -1,4 +1,7 @@
-use crate::{FaultKind, Name, NameError, ReadyList, Tid, Word, le16, le32, put_le32, words_over};
+use crate::{
+    FaultKind, Name, NameError, ReadyList, Tid, Word, cut, decimal_number, le16, le32, put_le32,
+    wide_decimal_number, words_over,
+};
 use std::test::Fail;
 
 #[test]
@@ -66,4 +69,24 @@ fn a_name_is_visible_bytes_and_no_dash(rt: HostRuntime) -> Result<(), Fail> {
         assert!(rt; matches!(Name::new(alloc, bad), Err(NameError::Bad)));
     }
     Ok(())
+}
+
+#[test]
+fn words_are_cut_and_read(rt: HostRuntime) {
+    assert_eq!(rt;
+        cut(b"5 20 6", b' '),
+        Some((b"5".as_slice(), b"20 6".as_slice()))
+    );
+    assert_eq!(rt; cut(b"520", b' '), None);
+    for (word, number) in [
+        (b"0".as_slice(), Some(0u64)),
+        (b"18446744073709551615", Some(u64::MAX)),
+        (b"18446744073709551616", None),
+        (b"007", None),
+        (b"+7", None),
+        (b"", None),
+    ] {
+        assert_eq!(rt; decimal_number(word), number);
+    }
+    assert_eq!(rt; wide_decimal_number(b"18446744073709551616"), Some(1 << 64));
 }

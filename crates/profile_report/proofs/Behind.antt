@@ -15,9 +15,9 @@ use Rattle.profile_report.specs.Reported.{Reported}
 use Rattle.profile_report.specs.declared.reader.ReportError.{ReportError}
 use Rattle.profile_report.specs.declared.reader.ReportError.TheVariants as errors
 use Rattle.profile_report.specs.ReportText.{version_1}
-use Rattle.profile_report.specs.Separators.{lacks}
-use Rattle.profile_report.proofs.Cuts.{cut_once, lacks_not}
-use Rattle.profile_report.proofs.Found.{nothing, same}
+use Rattle.guest_words.specs.Separators.{lacks}
+use Rattle.guest_words.proofs.Cuts.{cut_once, lacks_not}
+use Rattle.guest_words.proofs.Found.{nothing, same}
 use Rattle.profile_report.proofs.Newlines.{line_lacks}
 
 -- Lines are read that lead to the place, and any lines that make up the text begin with them.

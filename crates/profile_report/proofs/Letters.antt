@@ -18,7 +18,7 @@ use Rattle.profile_report.specs.declared.line.LineError.TheVariants.{Memory}
 use Rattle.profile_report.specs.Grammar.{FitsLine, line_text}
 use Rattle.profile_report.specs.LineForms.{end_line, hex_address, labelled, name_word, point_line}
 use Rattle.profile_report.specs.Fits.{FitsEnd}
-use Rattle.profile_report.proofs.Found.{same}
+use Rattle.guest_words.proofs.Found.{same}
 use Rattle.profile_report.specs.ReportText.{version_1}
 
 -- the letter that a form begins with, or 0 for a digit

@@ -1,5 +1,4 @@
-pub mod Cuts
-pub mod Found
+pub mod Labels
 pub mod Letters
 pub mod Newlines
 pub mod Behind

@@ -16,8 +16,9 @@ use Rattle.profile_report.specs.Fits.{FitsName, FitsPoint}
 use Rattle.profile_report.specs.Grammar.{FitsLine, line_text}
 use Rattle.profile_report.specs.LineForms.{hex_address, kind_number, labelled, name_word, point_line}
 use Rattle.profile_report.specs.ReportText.{version_1}
-use Rattle.profile_report.specs.Separators.{lacks}
-use Rattle.profile_report.proofs.Cuts.{lacks_address, lacks_decimal}
+use Rattle.guest_words.specs.Separators.{lacks}
+use Rattle.guest_words.proofs.Cuts.{lacks_decimal}
+use Rattle.profile_report.proofs.Digits.{lacks_address}
 
 -- two parts without the byte
 both : (a b : List ℕ) → lacks 10 a ≡ true → lacks 10 b ≡ true → lacks 10 (a ++ b) ≡ true

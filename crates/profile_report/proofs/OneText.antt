@@ -21,13 +21,14 @@ use Rattle.profile_report.specs.LineForms.{end_line, fault_words, hex_address, h
 use Rattle.profile_report.specs.Reading.{led, lines_text}
 use Rattle.profile_report.specs.Reported.{Reported}
 use Rattle.profile_report.specs.ReportText.{report_text, version_1}
-use Rattle.profile_report.specs.Separators.{lacks}
+use Rattle.guest_words.specs.Separators.{lacks}
 use Rattle.profile_report.specs.Valid.{IsValid}
 use Rattle.profile_report.specs.declared.place.Place.TheVariants.{AtVersion, Over}
 use Rattle.profile_report.proofs.Behind.{lines_first, next_line, no_line, over_one}
-use Rattle.profile_report.proofs.Cuts.{cut_once, lacks_address, lacks_decimal}
+use Rattle.guest_words.proofs.Cuts.{cut_once, lacks_decimal}
+use Rattle.profile_report.proofs.Digits.{lacks_address}
 use Rattle.profile_report.proofs.Digits.{by_digits}
-use Rattle.profile_report.proofs.Found.{same}
+use Rattle.guest_words.proofs.Found.{same}
 use Rattle.profile_report.proofs.Letters.{alike}
 use Rattle.profile_report.proofs.Newlines.{line_lacks}
 use Rattle.profile_report.proofs.Written.{lines_of, lines_of-fit, lines_of-lead, lines_of-text}

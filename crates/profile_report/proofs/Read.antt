@@ -18,7 +18,7 @@ use Rattle.profile_report.specs.Reported.{Reported, ReportedRoutine}
 use Rattle.profile_report.specs.ReportText.{report_text, routine_text, version_1}
 use Rattle.profile_report.specs.Valid.{IsValid, IsValidRoutine}
 use Rattle.profile_report.proofs.Behind.{Behind, chosen}
-use Rattle.profile_report.proofs.Found.{same}
+use Rattle.guest_words.proofs.Found.{same}
 use Rattle.profile_report.proofs.Rising.{above_last, rising_more}
 
 abbrev text : Line → List ℕ

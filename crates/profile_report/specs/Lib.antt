@@ -1,7 +1,6 @@
 pub mod Reported
 pub mod LineForms
 pub mod ReportText
-pub mod Separators
 pub mod Fits
 pub mod Grammar
 pub mod Reading

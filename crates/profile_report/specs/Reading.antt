@@ -9,7 +9,7 @@ use Rattle.profile_report.specs.declared.reader.ReportError.TheVariants as error
 use Rattle.profile_report.specs.Grammar.{FitsLine, line_text, may_stand, rises, next}
 use Rattle.profile_report.specs.LineForms.{ended}
 use Rattle.profile_report.specs.ReportText.{Version}
-use Rattle.profile_report.specs.Separators.{lacks}
+use Rattle.guest_words.specs.Separators.{lacks}
 
 -- the text of lines, each with the byte that ends it
 abbrev pub lines_text : Version → List Line → List ℕ

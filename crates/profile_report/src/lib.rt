@@ -2,13 +2,13 @@
 //! lines. Contracts see a report as plain data, and the text as a definition over it: a form a line.
 #![tactic(auto)]
 
+mod addresses;
 mod line;
 mod line_reader;
 mod line_text;
 mod place;
 mod reader;
 mod report;
-mod words;
 mod writer;
 
 pub use reader::{ReportError, a_text_is_of_one_report, read_report};

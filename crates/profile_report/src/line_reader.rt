@@ -13,10 +13,12 @@ ghost use Rattle.profile_report.specs.Grammar.{FitsLine, IsPlain, line_text};
 ghost use Rattle.profile_report.specs.ReportText.{version_1};
 ghost use Rattle.profile_report.specs.Fits.{FitsEnd, FitsName, FitsPoint};
 
+use crate::addresses::address;
 use crate::line::{Line, LineError};
-use crate::words::{address, cut, number, wide_number};
 use cost_points::Point;
-use guest_words::{FaultKind, Finish, Name, NameError, Tid};
+use guest_words::{
+    FaultKind, Finish, Name, NameError, Tid, cut, decimal_number, wide_decimal_number,
+};
 use std::alloc::Global;
 
 /// What stands behind a label.
@@ -35,7 +37,7 @@ fn first_number(words: &[u8]) -> Option<(u64, &[u8])>
         → IsSomeAnd result (λ x. (x.0 ≡ n) × (x.1.now ≡ rest)) }
 {
     let (word, rest) = cut(words, b' ')?;
-    Some((number(word)?, rest))
+    Some((decimal_number(word)?, rest))
 }
 
 /// Whether a point can be one of activations: the sum is one of as many costs from the least up to the greatest.
@@ -95,7 +97,7 @@ fn status_of(word: &[u8]) -> Option<Finish>
     ensures only { (status : ℕ) → status < 2 ^ 8 → word.now ≡ decimal status
         → result ≡ Some (Finish.Exit status) }
 {
-    let status = u8::try_from(number(word)?).ok()?;
+    let status = u8::try_from(decimal_number(word)?).ok()?;
     Some(Finish::Exit { status })
 }
 
@@ -106,7 +108,7 @@ fn schedule_of(word: &[u8]) -> Option<Finish>
     ensures only { (line : ℕ) → 1 ≤ line → line < 2 ^ 64 → word.now ≡ decimal line
         → result ≡ Some (Finish.Schedule line) }
 {
-    match number(word) {
+    match decimal_number(word) {
         Some(line) if 1 <= line => Some(Finish::Schedule { line }),
         _ => None,
     }
@@ -162,7 +164,7 @@ fn point_of(line: &[u8]) -> Option<Point>
         calls,
         least,
         most,
-        sum: wide_number(rest)?,
+        sum: wide_decimal_number(rest)?,
     };
     if is_point(point) { Some(point) } else { None }
 }
@@ -206,7 +208,7 @@ fn steps_of(word: &[u8]) -> Option<Line>
         ≡ line_text version_1 l)) }
     ensures only { (n : ℕ) → n < 2 ^ 64 → word.now ≡ decimal n → result ≡ Some (Line.Steps n) }
 {
-    Some(Line::Steps(number(word)?))
+    Some(Line::Steps(decimal_number(word)?))
 }
 
 /// The number of open activations that is written so.
@@ -215,7 +217,7 @@ fn pending_of(word: &[u8]) -> Option<Line>
         ≡ line_text version_1 l)) }
     ensures only { (n : ℕ) → n < 2 ^ 64 → word.now ≡ decimal n → result ≡ Some (Line.Open n) }
 {
-    Some(Line::Open(number(word)?))
+    Some(Line::Open(decimal_number(word)?))
 }
 
 /// The number of routines that is written so.
@@ -224,7 +226,7 @@ fn count_of(word: &[u8]) -> Option<Line>
         ≡ line_text version_1 l)) }
     ensures only { (n : ℕ) → n < 2 ^ 64 → word.now ≡ decimal n → result ≡ Some (Line.Done n) }
 {
-    Some(Line::Done(number(word)?))
+    Some(Line::Done(decimal_number(word)?))
 }
 
 /// A line that has no name.

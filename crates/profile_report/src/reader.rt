@@ -10,7 +10,7 @@ use crate::Report;
 use crate::line::LineError;
 use crate::line_reader::read_line;
 use crate::place::{Place, may_stand, next, rises};
-use crate::words::cut;
+use guest_words::cut;
 use std::alloc::{AllocError, Global};
 use thiserror::Error;
 

@@ -1,4 +1,2 @@
-pub mod Cuts
-pub mod Found
 pub mod Read
 pub mod Threads

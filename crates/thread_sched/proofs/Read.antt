@@ -11,8 +11,8 @@ use Rattle.thread_sched.specs.declared.entry.Entry.{Entry}
 use Rattle.thread_sched.specs.declared.schedule.ScheduleError.{ScheduleError}
 use Rattle.thread_sched.specs.declared.schedule.ScheduleError.TheVariants.{BadLine, Memory}
 use Rattle.thread_sched.specs.ScheduleText.{IsEntry, IsText, RefusesLine, Says, entry_text, schedule_text}
-use Rattle.thread_sched.specs.Separators.{lacks}
-use Rattle.thread_sched.proofs.Cuts.{cut_once, lacks_decimal, lacks_not}
+use Rattle.guest_words.specs.Separators.{lacks}
+use Rattle.guest_words.proofs.Cuts.{cut_once, lacks_decimal, lacks_not}
 
 -- Entries are read, and any entries whose text this is begin with them.
 pub record Behind (text : List ℕ) (entries : List Entry) (rest : List ℕ) : Type 0 where

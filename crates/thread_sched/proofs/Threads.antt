@@ -9,7 +9,7 @@ use Rattle.std.proofs.lemmas.List.Folds.{list_any-append}
 use Rattle.thread_sched.specs.declared.entry.Entry.{Entry}
 use Rattle.thread_sched.specs.declared.turns.Turn.TheVariants.{Run, Mismatch}
 use Rattle.thread_sched.specs.TurnRule.{Known, able, above, least, lesser, next_line, scheduled}
-use Rattle.thread_sched.proofs.Found.{nothing, same}
+use Rattle.guest_words.proofs.Found.{nothing, same}
 
 -- the element at a place, behind those before it and before those behind it
 pub take_got : {A : Type 0} (xs : List A) (i : ℕ) (x : A) → slice_get xs i ≡ Some x → take (suc i) xs ≡ take i xs ++ x ∷ []

@@ -1,3 +1,2 @@
-pub mod Separators
 pub mod ScheduleText
 pub mod TurnRule

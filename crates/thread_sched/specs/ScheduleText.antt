@@ -5,7 +5,7 @@ use Rattle.std.specs.List.{AllByRecursion, flat_map}
 use Rattle.thread_sched.specs.declared.entry.Entry.{Entry}
 use Rattle.thread_sched.specs.declared.schedule.ScheduleError.{ScheduleError}
 use Rattle.thread_sched.specs.declared.schedule.ScheduleError.TheVariants.{BadLine, Memory}
-use Rattle.thread_sched.specs.Separators.{lacks}
+use Rattle.guest_words.specs.Separators.{lacks}
 
 -- a thread's number, and 1 to 10^12 instructions
 pub record IsEntry (e : Entry) : Type 0 where

@@ -5,8 +5,8 @@ ghost use Rattle.std.specs.Option.{SomeIff};
 ghost use Rattle.thread_sched.specs.ScheduleText.{IsEntry, entry_text};
 ghost use Rattle.thread_sched.specs.declared.entry.Entry.{Entry};
 
-use crate::words::{cut, number, push_number};
-use guest_words::Tid;
+use guest_words::{Tid, cut, decimal_number};
+use itoa::Buffer;
 use std::alloc::AllocError;
 
 /// One turn: its thread, and how many instructions it has at most, 1 to 10^12.
@@ -29,7 +29,7 @@ fn steps_of(word: &[u8]) -> Option<u64>
     ensures found { IfSome result (λ n. word.now ≡ decimal n) }
     ensures only { (n : ℕ) → 1 ≤ n → n ≤ 1000000000000 → word.now ≡ decimal n → result ≡ Some n }
 {
-    match number(word) {
+    match decimal_number(word) {
         Some(number) if 1 <= number && number <= 1_000_000_000_000 => Some(number),
         _ => None,
     }
@@ -42,7 +42,7 @@ fn first_number(line: &[u8]) -> Option<(u64, &[u8])>
         → IsSomeAnd result (λ x. (x.0 ≡ n) × (x.1.now ≡ rest)) }
 {
     let (word, rest) = cut(line, b' ')?;
-    Some((number(word)?, rest))
+    Some((decimal_number(word)?, rest))
 }
 
 /// The entry of a line, without the byte that ends it.
@@ -55,6 +55,14 @@ pub fn entry_of(line: &[u8]) -> Option<Entry>
         tid: thread_of(tid)?,
         most: steps_of(rest)?,
     })
+}
+
+/// Appends a number in decimal.
+fn push_number(text: &mut Vec<u8>, number: u64) -> Result<(), AllocError>
+    ensures { OnOk result (text.new.items ≡ text.old.items ++ decimal number) }
+{
+    let mut buffer = Buffer::new();
+    text.extend_from_slice(buffer.format(number).as_bytes())
 }
 
 /// Appends the line of an entry, without the byte that ends it.

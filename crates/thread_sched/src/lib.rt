@@ -6,7 +6,6 @@ mod entry;
 mod recording;
 mod schedule;
 mod turns;
-mod words;
 
 pub use entry::Entry;
 pub use recording::{Recording, a_recording_is_read_as_its_turns};

@@ -6,7 +6,7 @@ ghost use Rattle.thread_sched.specs.declared.entry.Entry.{Entry};
 
 use crate::Entry;
 use crate::entry::entry_of;
-use crate::words::cut;
+use guest_words::cut;
 use std::alloc::{AllocError, AllocFailed, Global};
 use std::marker::Model;
 use thiserror::Error;

@@ -1,7 +1,7 @@
 use Rattle.std.specs.Fmt.{decimal}
 use Rattle.guest_words.specs.declared.endings.Finish.TheVariants.{Exit, Fault, Budget, Deadlock, Deep, Schedule}
 use Rattle.profile_report.specs.LineForms.{fault_words}
-use Rattle.profile_report.proofs.Found.{nothing_behind}
+use Rattle.profile_report.proofs.Labels.{nothing_behind}
 use Rattle.profile_report.proofs.line_reader.end_of.Goals as goal
 
 pub returns-clause-only : goal.returns-clause-only

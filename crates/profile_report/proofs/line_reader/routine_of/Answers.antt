@@ -3,8 +3,9 @@ use Rattle.std.specs.Result.{MatchResult}
 use Rattle.std.proofs.lemmas.Result.{MatchResult-at_ok, MatchResult-at_err, err_from_is_err_and}
 use Rattle.profile_report.specs.declared.line.Line.TheVariants.{OfRoutine}
 use Rattle.profile_report.specs.declared.line.LineError.TheVariants.{Memory}
-use Rattle.profile_report.proofs.Cuts.{cut_once, lacks_address}
-use Rattle.profile_report.proofs.Found.{nothing, same}
+use Rattle.guest_words.proofs.Cuts.{cut_once}
+use Rattle.profile_report.proofs.Digits.{lacks_address}
+use Rattle.guest_words.proofs.Found.{nothing, same}
 use Rattle.profile_report.proofs.line_reader.routine_of.Goals as goal
 
 pub returns-in_err-name_of-in-Some-address-clause-only : goal.returns-in_err-name_of-in-Some-address-clause-only

@@ -1,6 +1,6 @@
 use Rattle.std.proofs.Common.{ℕ, ◌≡◌, length, refl, ap, arith}
 use Rattle.profile_report.specs.LineForms.{hex_address}
-use Rattle.profile_report.proofs.words.address.Goals as goal
+use Rattle.profile_report.proofs.addresses.address.Goals as goal
 
 long : (at : ℕ) → length (hex_address at) ≡ 8
 unfolding hex_address

@@ -1,14 +1,12 @@
 -- Lists cut at a byte that doesn't occur before.
-use Rattle.std.proofs.Common.{◌≡◌, ◌≢◌, ℕ, suc, ◌<◌, ◌^◌, ◌/◌, ◌%◌, eqb, true, false, List, [], ◌∷◌, ◌++◌, length, get_or, refl, arith}
+use Rattle.std.proofs.Common.{◌≡◌, ◌≢◌, ℕ, suc, ◌<◌, ◌^◌, true, List, [], ◌∷◌, ◌++◌, length, get_or, refl, arith}
 use Rattle.std.specs.Int.{IsInRange}
 use Rattle.std.specs.Fmt.{decimal}
 use Rattle.std.specs.Str.Parse.{AllDigits}
-use Rattle.std.proofs.lemmas.Bool.{agree_below, agree_below_at, and_from, not_from_false}
 use Rattle.std.proofs.lemmas.Bool.Decides.{nat_tests}
 use Rattle.std.proofs.lemmas.Fmt.{decimal_is_IsNumeral_wide}
 use Rattle.std.proofs.lemmas.Str.Parse.{not_in_digits, numerals_by_value, tells_digits}
-use Rattle.profile_report.specs.LineForms.{hex_address, hex_glyph}
-use Rattle.profile_report.specs.Separators.{lacks}
+use Rattle.guest_words.specs.Separators.{lacks}
 
 -- a byte that isn't the separator
 lacks_head : (c x : ℕ) (xs : List ℕ) → lacks c (x ∷ xs) ≡ true → (x ≡ c → ⊥) × (lacks c xs ≡ true)
@@ -43,17 +41,3 @@ pub lacks_decimal : (c n : ℕ) → (IsInRange 48 57 c → ⊥) → n < 2 ^ 128 
 lacks_decimal c n other fits =
     let digits = (decimal_is_IsNumeral_wide n (omega arith)).0.1 in
     lacks_at c (decimal n) (not_in_digits (numerals_by_value (AllDigits 10) tells_digits) (decimal n) c digits other)
-
--- the digits of an address have no byte that is no such digit
-pub lacks_address : (c at : ℕ) → agree_below (λ d. eqb (hex_glyph d) c) (λ d. false) 16 ≡ true → lacks c (hex_address at) ≡ true
-unfolding hex_address
-lacks_address c at other =
-    let glyph = λ (d : ℕ). λ (below : d < 16). not_from_false _ (agree_below_at (λ d. eqb (hex_glyph d) c) (λ d. false) 16 d other below) in
-    and_from _ _ (glyph (at / 0x1000_0000 % 16) (omega arith))
-    (and_from _ _ (glyph (at / 0x100_0000 % 16) (omega arith))
-    (and_from _ _ (glyph (at / 0x10_0000 % 16) (omega arith))
-    (and_from _ _ (glyph (at / 0x1_0000 % 16) (omega arith))
-    (and_from _ _ (glyph (at / 0x1000 % 16) (omega arith))
-    (and_from _ _ (glyph (at / 0x100 % 16) (omega arith))
-    (and_from _ _ (glyph (at / 0x10 % 16) (omega arith))
-    (and_from _ _ (glyph (at % 16) (omega arith)) refl)))))))

@@ -1,7 +1,7 @@
 use Rattle.std.proofs.Common.{ℕ, ◌/◌, ◌%◌, List, get_or, ap, arith}
 use Rattle.profile_report.specs.LineForms.{hex_address}
 use Rattle.profile_report.proofs.Digits.{by_digits}
-use Rattle.profile_report.proofs.words.hex_number.Goals as goal
+use Rattle.profile_report.proofs.addresses.hex_number.Goals as goal
 
 pub returns : goal.returns
 unfolding hex_address

@@ -1,6 +1,6 @@
 use Rattle.std.proofs.Common.{◌≡◌, true, take}
-use Rattle.thread_sched.specs.Separators.{lacks}
-use Rattle.thread_sched.proofs.words.cut.Given as goal
+use Rattle.guest_words.specs.Separators.{lacks}
+use Rattle.guest_words.proofs.text_words.cut.Given as goal
 
 -- the byte is not among those before the place
 abbrev pub invariant-loop-place : goal.invariant-loop-place

@@ -1,7 +1,0 @@
-use Rattle.std.proofs.Common.{◌≡◌, true, take}
-use Rattle.profile_report.specs.Separators.{lacks}
-use Rattle.profile_report.proofs.words.cut.Given as goal
-
--- the byte is not among those before the place
-abbrev pub invariant-loop-place : goal.invariant-loop-place
-invariant-loop-place l = lacks l.byte (take l.place l.bytes) ≡ true
