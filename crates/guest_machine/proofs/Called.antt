@@ -1,5 +1,5 @@
 -- What a call of the kernel leaves of a machine.
-use Rattle.std.proofs.Common.{◌≡◌, ℕ, ◌+◌, ◌<◌, ◌≤◌, ◌%◌, ◌^◌, List, [], ◌∷◌, ◌++◌, length, map, Bool, true, false, not, ap, ap₂, append_assoc, sym, refl, ◌∙◌, subst, arith, None, cond}
+use Rattle.std.proofs.Common.{◌≡◌, ℕ, ◌+◌, ◌<◌, ◌%◌, ◌^◌, List, [], ◌∷◌, ◌++◌, length, map, Bool, true, false, not, ap, ap₂, append_assoc, sym, refl, ◌∙◌, arith, None, cond}
 use Rattle.std.specs.Prelude.{◌==◌, filter}
 use Rattle.std.proofs.lemmas.List.{length-map, length-append, map-append}
 use Rattle.trace_model.specs.declared.event_kinds.Event.{Event}
@@ -14,7 +14,7 @@ use Rattle.guest_memory.specs.Reserved.{Reserved}
 use Rattle.guest_calls.specs.Kernel.{KernelState}
 use Rattle.guest_calls.specs.Invariant.{IsState}
 use Rattle.guest_calls.specs.Pages.{IsBreakFree}
-use Rattle.guest_calls.specs.Results.{Call, CallResult}
+use Rattle.guest_calls.specs.Results.{CallResult}
 use Rattle.guest_calls.specs.Table.{call}
 use Rattle.guest_machine.specs.declared.hart.Hart.{Hart}
 use Rattle.guest_machine.specs.declared.stepped.Stepped.{Stepped}
@@ -22,7 +22,7 @@ use Rattle.guest_machine.specs.Kept.{Parts, Steps, machine_of}
 use Rattle.guest_machine.specs.Machine.{MachineState, registers_of, with_registers, without_hart}
 use Rattle.guest_machine.specs.Sound.{AreAligned, IsSound}
 use Rattle.guest_machine.specs.Step.{after_call, call_of, harts_after, life_events, resumed, stepped_by}
-use Rattle.guest_machine.proofs.Calls.{BeginsAligned, IsLawful, call_lawful, tids_after}
+use Rattle.guest_machine.proofs.Calls.{BeginsAligned, call_lawful, tids_after}
 use Rattle.guest_machine.proofs.Registers.{aligned-append, aligned-with_registers, aligned-without, pc_aligned, tids-with_registers}
 
 -- the threads that are left

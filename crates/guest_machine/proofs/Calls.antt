@@ -1,15 +1,13 @@
 -- What every call of the kernel keeps: which threads live afterwards, that those with a reservation do, and that a new
 -- thread begins at a multiple of 4.
-use Rattle.std.proofs.Common.{◌≡◌, ℕ, zero, suc, ◌+◌, ◌%◌, ◌^◌, List, [], ◌∷◌, ◌++◌, length, map, take, drop, Bool, true, false, not, ◌&&◌, ◌||◌, ap, ap₂, sym, refl, ◌∙◌, subst, arith, Option, Some, None, cond}
-use Rattle.std.specs.Prelude.{◌==◌, ◌-◌, nat_eq, if◌then◌else◌, filter, is_some, slice_set, min}
+use Rattle.std.proofs.Common.{◌≡◌, ℕ, ◌%◌, List, [], ◌∷◌, ◌++◌, map, take, drop, Bool, true, false, not, ◌||◌, ap, ap₂, sym, refl, ◌∙◌, arith, Option, Some, None, cond}
+use Rattle.std.specs.Prelude.{◌==◌, if◌then◌else◌, filter, is_some}
 use Rattle.std.specs.List.{list_any}
 use Rattle.std.proofs.lemmas.List.{map-append}
 use Rattle.std.proofs.lemmas.Bool.Decides.{nat_tests}
 use Rattle.std.specs.Option.{option_map_or}
 use Rattle.std.specs.Int.{w32, to_le_bytes}
 use Rattle.guest_memory.specs.Memory.{Memory}
-use Rattle.guest_memory.specs.Reserved.{Reserved, after_write, is_dropped, without_thread, nothing_reserved}
-use Rattle.rv_exec.specs.Registers.{Registers}
 use Rattle.guest_calls.specs.declared.answer.Answer.{Answer}
 use Rattle.guest_calls.specs.declared.answer.Answer.TheVariants.{Back, Yield, Block, ThreadEnd, ProcessEnd, Born}
 use Rattle.guest_calls.specs.declared.descriptor.Descriptor.{Descriptor}

@@ -1,7 +1,7 @@
 -- The rights of pages, by the segments that touch them.
-use Rattle.std.proofs.Common.{◌≡◌, ℕ, zero, suc, ◌+◌, ◌-◌, ◌<◌, ◌≤◌, ◌/◌, List, [], ◌∷◌, ◌++◌, length, take, Bool, true, false, ◌&&◌, ◌||◌, ap, ap₂, sym, refl, ◌∙◌, subst, arith, Option, Some, None, cond, inl, inr, fold, get_or}
-use Rattle.std.specs.Prelude.{◌*◌, max, nat_le, nat_lt, slice_set, slice_index_or, is_some, if◌then◌else◌}
-use Rattle.std.specs.List.{All, count_by, list_any, range_with_len}
+use Rattle.std.proofs.Common.{◌≡◌, ℕ, zero, suc, ◌+◌, ◌-◌, ◌<◌, ◌≤◌, ◌/◌, List, [], ◌∷◌, length, Bool, true, false, ◌&&◌, ◌||◌, ap, ap₂, sym, refl, ◌∙◌, subst, arith, Option, Some, None, cond, inl, inr, fold, get_or}
+use Rattle.std.specs.Prelude.{◌*◌, max, nat_le, nat_lt, slice_index_or, is_some, if◌then◌else◌}
+use Rattle.std.specs.List.{All, count_by, range_with_len}
 use Rattle.std.proofs.lemmas.Bool.{cases_eq, cases_lt}
 use Rattle.std.proofs.lemmas.Bool.Decides.{nat_tests}
 use Rattle.guest_words.specs.declared.rights.Rights.{Rights}

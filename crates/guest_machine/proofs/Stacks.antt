@@ -1,5 +1,5 @@
 -- The strings and words of a stack.
-use Rattle.std.proofs.Common.{◌≡◌, ℕ, suc, ◌+◌, ◌<◌, ◌≤◌, List, [], ◌∷◌, ◌++◌, length, map, take, ap, append_assoc, sym, refl, ◌∙◌, arith, Option, Some, None, cond, Bool, true, false, string_bytes, String, Global}
+use Rattle.std.proofs.Common.{◌≡◌, ℕ, suc, ◌+◌, ◌<◌, ◌≤◌, List, [], ◌∷◌, ◌++◌, length, map, take, ap, append_assoc, sym, refl, ◌∙◌, arith, Some, None, cond, Bool, true, false, string_bytes, String, Global}
 use Rattle.std.specs.Prelude.{◌*◌, ◌/◌, is_some, nat_le, slice_index_or}
 use Rattle.std.specs.Int.{w32, to_le_bytes}
 use Rattle.std.proofs.lemmas.List.{length-append, length-map, take-map}
@@ -46,7 +46,7 @@ pub fewer_strings : (texts : List (List ℕ)) → length texts ≤ length (strin
 fewer_strings [] = omega arith
 fewer_strings (s ∷ texts) =
     let split : length (strings (s ∷ texts)) ≡ length (s ++ 0 ∷ []) + length (strings texts) =
-        ap length (flat_map-cons (λ (s : List ℕ). s ++ 0 ∷ []) s texts) ∙ length-append (s ++ 0 ∷ []) (strings texts) in
+    ap length (flat_map-cons (λ (s : List ℕ). s ++ 0 ∷ []) s texts) ∙ length-append (s ++ 0 ∷ []) (strings texts) in
     let one : length (s ++ 0 ∷ []) ≡ length s + 1 = length-append s (0 ∷ []) in
     omega (arith, fewer_strings texts, split, one)
 
@@ -59,7 +59,7 @@ bytes_counted : (words : List ℕ) → length (flat_map (λ n. to_le_bytes w32 n
 bytes_counted [] = refl
 bytes_counted (w ∷ words) =
     let split : length (flat_map (λ n. to_le_bytes w32 n) (w ∷ words)) ≡ 4 + length (flat_map (λ n. to_le_bytes w32 n) words) =
-        ap length (flat_map-cons (λ n. to_le_bytes w32 n) w words) ∙ length-append (to_le_bytes w32 w) (flat_map (λ n. to_le_bytes w32 n) words) in
+    ap length (flat_map-cons (λ n. to_le_bytes w32 n) w words) ∙ length-append (to_le_bytes w32 w) (flat_map (λ n. to_le_bytes w32 n) words) in
     omega (arith, bytes_counted words, split)
 
 pub words_counted : (image : Executable) (texts : List (List ℕ)) → length (flat_map (λ n. to_le_bytes w32 n) (stack_words image texts)) ≡ 4 * (length texts + 17)

@@ -1,6 +1,6 @@
 -- The state at the start.
-use Rattle.std.proofs.Common.{◌≡◌, ℕ, ◌+◌, ◌-◌, ◌*◌, ◌/◌, ◌%◌, ◌<◌, ◌≤◌, List, [], ◌∷◌, length, map, ap, sym, refl, ◌∙◌, subst, arith, true, false, Option, Some, None}
-use Rattle.std.specs.Prelude.{is_some, replicate, slice_set}
+use Rattle.std.proofs.Common.{◌≡◌, ℕ, ◌+◌, ◌*◌, ◌/◌, List, [], ◌∷◌, ap, refl, ◌∙◌, arith}
+use Rattle.std.specs.Prelude.{replicate, slice_set}
 use Rattle.std.specs.Int.{div_ceil}
 use Rattle.std.proofs.lemmas.Grind.{div_ceil_times}
 use Rattle.elf_image.specs.Image as elf
@@ -10,7 +10,7 @@ use Rattle.guest_memory.specs.ReservedBy.{reserved_by}
 use Rattle.guest_memory.specs.Reserved.{nothing_reserved}
 use Rattle.guest_calls.specs.Inputs.{Input}
 use Rattle.guest_calls.specs.Invariant.{IsState}
-use Rattle.guest_calls.specs.Kernel.{KernelState, started}
+use Rattle.guest_calls.specs.Kernel.{started}
 use Rattle.guest_calls.specs.Pages.{IsBreakFree}
 use Rattle.guest_machine.specs.declared.hart.Hart.{Hart}
 use Rattle.guest_machine.specs.Kept.{Parts, machine_of}

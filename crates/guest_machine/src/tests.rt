@@ -45,12 +45,7 @@ const CLONES: [u32; 8] = [
 ];
 
 // The code, the threads whose turn it is, what their last step gives, and how many events it has.
-type Row = (
-    &'static [u32; 8],
-    &'static [u32],
-    Stepped,
-    usize,
-);
+type Row = (&'static [u32; 8], &'static [u32], Stepped, usize);
 
 // An image of this code, with so many pages of memory.
 fn image_of(alloc: Global, code: &[u32; 8], pages: u16) -> Result<Image, Fail> {
@@ -84,11 +79,7 @@ fn step(machine: &mut Machine, thread: u32, events: &mut Events) -> Result<Stepp
 }
 
 // Runs the steps of these threads, and says what the last gives.
-fn run(
-    alloc: Global,
-    machine: &mut Machine,
-    turns: &[u32],
-) -> Result<(Stepped, usize), Fail> {
+fn run(alloc: Global, machine: &mut Machine, turns: &[u32]) -> Result<(Stepped, usize), Fail> {
     let mut events = Events::new(alloc)?;
     let mut last = Stepped::Went;
     for thread in turns {
@@ -114,7 +105,12 @@ fn guests_go_step_by_step(rt: HostRuntime) -> Result<(), Fail> {
         ),
         (&CLONES, &[1, 1, 1, 1], Stepped::Went, 2),
         (&CLONES, &[1, 1, 1, 1, 2, 2], Stepped::Ended, 2),
-        (&CLONES, &[1, 1, 1, 1, 2, 2, 1, 1], Stepped::Finished { status: 2 }, 2),
+        (
+            &CLONES,
+            &[1, 1, 1, 1, 2, 2, 1, 1],
+            Stepped::Finished { status: 2 },
+            2,
+        ),
     ];
     for (code, turns, last, count) in rows {
         let name = String::from_str(rt.alloc(), "guest")?;

@@ -1,6 +1,5 @@
-use Rattle.std.proofs.Common.{◌≡◌, ◌∙◌, ◌/◌, ap, take, subst, length, arith}
+use Rattle.std.proofs.Common.{◌∙◌, ◌/◌, ap, take}
 use Rattle.std.specs.Option.{is_some}
-use Rattle.elf_image.specs.Image.{Segment}
 use Rattle.guest_memory.specs.Memory.{Memory}
 use Rattle.guest_machine.specs.Setup.{pages_of}
 use Rattle.guest_machine.proofs.ImagePages.{segment_mapped, written_rights}

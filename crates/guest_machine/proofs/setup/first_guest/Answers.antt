@@ -1,7 +1,6 @@
-use Rattle.std.proofs.Common.{◌≡◌, ℕ, ◌+◌, ◌-◌, ◌*◌, ◌/◌, ◌<◌, ◌≤◌, ◌∙◌, [], ◌∷◌, ◌++◌, ap, arith, length, map, refl, string_bytes, subst, sym, false}
+use Rattle.std.proofs.Common.{◌≡◌, ◌*◌, ◌∙◌, [], ◌∷◌, ◌++◌, ap, arith, length, map, string_bytes, subst, sym, false}
 use Rattle.std.proofs.lemmas.List.{length-map}
-use Rattle.guest_memory.specs.Guest.{memory_of}
-use Rattle.guest_machine.specs.Start.{first_break, greatest_end, stack_pointer, start}
+use Rattle.guest_machine.specs.Start.{first_break, greatest_end, stack_pointer}
 use Rattle.guest_calls.specs.Kernel.{Kept, started}
 use Rattle.guest_calls.specs.Invariant.{IsState}
 use Rattle.guest_machine.specs.Sound.{IsSound}
@@ -24,10 +23,10 @@ returns-clause-start c =
     let break : c.div_ceil-first_break.result * 4096 ≡ first_break c.args.image.now.segments = break_is c.args.image.now.segments c.greatest_end.result c.div_ceil-first_break.result (c.greatest_end.ensures.value ∙ ap greatest_end c.segments.ensures.same) c.div_ceil-first_break.ensures in
     let kernel = c.in_ok-kernel.ensures.started in
     start_is c.args.image.now texts c.args.inputs c.args.stdin.items (parts_of (record { harts = c.push.new.self; kernel = c.in_ok-kernel.kernel; memory = c.in_ok-memory.memory; held = c.new-2.result; entry = c.entry-2.result; called = false }))
-        (c.in_ok-push.ensures.items ∙ ap (λ hs. hs ++ c.first_hart.result ∷ []) c.in_ok-harts.ensures.items ∙ only_hart c.first_hart.result _ _ _ _ c.first_hart.ensures c.entry.ensures pointer)
-        (ap (λ (k : Kept). k.state) c.in_ok-kernel.ensures.started ∙ ap (started c.args.inputs c.args.stdin.items) break)
-        c.in_ok-memory.ensures
-        c.new-2.ensures
+    (c.in_ok-push.ensures.items ∙ ap (λ hs. hs ++ c.first_hart.result ∷ []) c.in_ok-harts.ensures.items ∙ only_hart c.first_hart.result _ _ _ _ c.first_hart.ensures c.entry.ensures pointer)
+    (ap (λ (k : Kept). k.state) c.in_ok-kernel.ensures.started ∙ ap (started c.args.inputs c.args.stdin.items) break)
+    c.in_ok-memory.ensures
+    c.new-2.ensures
 
 pub returns-clause-sound : goal.returns-clause-sound
 returns-clause-sound c =

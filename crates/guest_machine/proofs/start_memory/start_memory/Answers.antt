@@ -1,4 +1,4 @@
-use Rattle.std.proofs.Common.{◌≡◌, ℕ, ◌+◌, ◌/◌, ◌<◌, ◌≤◌, ◌∙◌, ap, arith, length, map, refl, string_bytes, subst, sym}
+use Rattle.std.proofs.Common.{◌≡◌, ◌/◌, ◌∙◌, ap, arith, length, map, string_bytes, subst, sym}
 use Rattle.std.proofs.lemmas.List.{length-map}
 use Rattle.std.specs.List.{All}
 use Rattle.std.specs.Option.{is_some}
@@ -6,7 +6,7 @@ use Rattle.elf_image.specs.Image.{IsPlaced, page_count}
 use Rattle.guest_memory.specs.Guest.{memory_of}
 use Rattle.guest_memory.specs.Memory.{Memory, mapped_pages}
 use Rattle.guest_machine.proofs.ImagePages.{far_rights, image-counted, image_rights}
-use Rattle.guest_machine.proofs.Stacks.{bytes_after_strings, fewer_strings, stack_mapped, words_within}
+use Rattle.guest_machine.proofs.Stacks.{fewer_strings, stack_mapped, words_within}
 use Rattle.guest_machine.proofs.start_memory.start_memory.Goals as goal
 
 pub word_bytes-requires-clause-count : goal.word_bytes-requires-clause-count
@@ -23,7 +23,7 @@ map_stack-requires-clause-free c q low high =
 pub map_stack-requires-clause-few : goal.map_stack-requires-clause-few
 map_stack-requires-clause-few c =
     let counted : mapped_pages (memory_of c.in_ok-memory.memory) ≡ page_count c.args.image.now.segments =
-        ap mapped_pages c.in_ok-memory.ensures ∙ image-counted c.segments.result.now ∙ ap page_count c.segments.ensures.same in
+    ap mapped_pages c.in_ok-memory.ensures ∙ image-counted c.segments.result.now ∙ ap page_count c.segments.ensures.same in
     omega (arith, c.requires.few, counted)
 
 pub first_contents-requires : goal.first_contents-requires

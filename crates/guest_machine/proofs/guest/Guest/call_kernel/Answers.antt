@@ -3,10 +3,8 @@ use Rattle.trace_model.specs.declared.event_kinds.Event.TheVariants.{Step}
 use Rattle.guest_memory.specs.Memory.{Memory}
 use Rattle.guest_calls.specs.Invariant.{IsState}
 use Rattle.guest_calls.specs.Pages.{IsBreakFree}
-use Rattle.guest_memory.specs.Guest.{memory_of}
-use Rattle.guest_memory.specs.ReservedBy.{reserved_by}
 use Rattle.rv_exec.specs.Registers.{Registers}
-use Rattle.guest_calls.specs.Results.{Call, CallResult}
+use Rattle.guest_calls.specs.Results.{CallResult}
 use Rattle.guest_calls.specs.Table.{call}
 use Rattle.guest_machine.specs.declared.hart.Hart.{Hart}
 use Rattle.guest_machine.specs.Kept.{Steps, machine_of}

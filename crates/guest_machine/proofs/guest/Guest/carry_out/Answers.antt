@@ -1,4 +1,4 @@
-use Rattle.std.proofs.Common.{◌≡◌, ◌∙◌, ◌++◌, ◌∷◌, [], ap, refl, sym, subst, Ok, arith, append_assoc}
+use Rattle.std.proofs.Common.{◌∙◌, ap, refl, sym, subst}
 use Rattle.guest_memory.specs.Guest.{memory_of}
 use Rattle.guest_memory.specs.ReservedBy.{reserved_by}
 use Rattle.rv_exec.specs.Effects.{Core}
@@ -6,8 +6,7 @@ use Rattle.guest_machine.specs.Kept.{machine_of}
 use Rattle.guest_machine.specs.Machine.{registers_of}
 use Rattle.guest_machine.specs.Parts.{parts_of}
 use Rattle.guest_machine.specs.Sound.{IsSound}
-use Rattle.guest_machine.specs.Step.{executed}
-use Rattle.guest_machine.proofs.Executed.{Steps-faulted, Steps-went, executed-fault, executed-no_call, fault-core, few_events, sound-core, unchanged, went-events}
+use Rattle.guest_machine.proofs.Executed.{Steps-faulted, Steps-went, executed-fault, executed-no_call, fault-core, sound-core, unchanged, went-events}
 use Rattle.rv_exec.specs.Registers.{Registers}
 use Rattle.guest_machine.specs.declared.hart.Hart.{Hart}
 use Rattle.guest_machine.proofs.Places.{cpu_at}

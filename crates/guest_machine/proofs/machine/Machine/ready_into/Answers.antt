@@ -1,4 +1,4 @@
-use Rattle.std.proofs.Common.{◌≡◌, ap, ◌∙◌}
+use Rattle.std.proofs.Common.{ap, ◌∙◌}
 use Rattle.guest_machine.specs.Kept.{Parts, machine_of}
 use Rattle.guest_machine.specs.Machine.{ready}
 use Rattle.guest_machine.proofs.machine.Machine.ready_into.Goals as goal
