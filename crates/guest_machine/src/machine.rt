@@ -8,7 +8,7 @@ use crate::start_memory::STACK_PAGES;
 use crate::{SetupError, Stepped};
 use elf_image::Image;
 use guest_calls::Inputs;
-use guest_words::{Addr, Tid};
+use guest_words::{Addr, ReadyList, Tid};
 use std::alloc::{AllocError, Global};
 use std::marker::Model;
 use trace_model::Events;
@@ -45,6 +45,7 @@ impl Machine {
     ghost use Rattle.rv_isa.specs.declared.instruction.Instr.TheVariants.{Ecall};
     ghost use Rattle.guest_machine.specs.Kept.{machine_of, out_of, IsAsBefore, Steps};
     ghost use Rattle.guest_machine.specs.Machine.{can_run};
+    ghost use Rattle.guest_calls.specs.Kernel.{ready};
     ghost use Rattle.guest_machine.specs.Step.{next_instruction, step};
 
     /// A machine that begins: the image's segments, the argument strings, the first of which is the program's name, the
@@ -79,6 +80,13 @@ impl Machine {
         } else {
             None
         }
+    }
+
+    /// Makes the list that of the live threads, by rising number, each with whether it can run.
+    pub fn ready_into(&self, into: &mut ReadyList)
+        ensures { into.new ≡ ready (machine_of self.now).kernel }
+    {
+        self.guest.kernel.ready_into(into);
     }
 
     /// Runs one step of a thread that can run, and adds its events. An instruction other than ECALL takes no memory where
