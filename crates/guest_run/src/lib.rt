@@ -1,0 +1,11 @@
+//! A run of a guest, turn by turn: which thread moves next, one step of it, and what is kept of the step, up to the end of
+//! the run.
+//!
+//! Contracts see a run as its list of moves and how it ended (specs/Run.antt).
+#![tactic(auto)]
+
+mod pace;
+mod traced;
+mod turns;
+
+pub use pace::Pace;
