@@ -1,2 +1,4 @@
 pub mod Able
 pub mod Chosen
+pub mod Pasts
+pub mod Watched

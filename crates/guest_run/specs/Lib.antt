@@ -1,4 +1,6 @@
 pub mod Machine
 pub mod Run
+pub mod Profiled
+pub mod Watched
 pub mod Kept
 pub mod Place
