@@ -2,3 +2,5 @@ pub mod Able
 pub mod Chosen
 pub mod Pasts
 pub mod Watched
+pub mod Callers
+pub mod Followed

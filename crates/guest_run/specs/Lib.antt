@@ -3,4 +3,5 @@ pub mod Run
 pub mod Profiled
 pub mod Watched
 pub mod Kept
+pub mod Open
 pub mod Place

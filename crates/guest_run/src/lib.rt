@@ -4,6 +4,7 @@
 //! Contracts see a run as its list of moves and how it ended (specs/Run.antt).
 #![tactic(auto)]
 
+mod depth;
 mod pace;
 mod traced;
 mod turns;
