@@ -4,3 +4,4 @@ pub mod Pasts
 pub mod Watched
 pub mod Callers
 pub mod Followed
+pub mod Steps
