@@ -4,6 +4,10 @@ use Rattle.std.specs.Prelude.{◌==◌, ◌||◌, ◌&&◌, not, nat_lt, filter,
 use Rattle.std.specs.List.{list_any}
 use Rattle.std.specs.Option.{option_or}
 use Rattle.std.proofs.lemmas.Bool.{eq-eqb, or_left, or_right, cases_lt, or_cases}
+use Rattle.std.proofs.lemmas.Bool.Decides.{nat_tests}
+use Rattle.futex_table.specs.Once.{waits}
+use Rattle.guest_calls.specs.declared.thread.Thread.{Thread}
+use Rattle.guest_calls.specs.Kernel.{KernelState, can_run, is_thread, ready}
 use Rattle.thread_sched.specs.declared.entry.Entry.{Entry}
 use Rattle.thread_sched.specs.declared.turns.Turn.{Turn}
 use Rattle.thread_sched.specs.declared.turns.Turn.TheVariants.{Run, Deadlock, Mismatch}
@@ -64,3 +68,28 @@ Has-turn k live t most e = by (next_thread k.last (able live)) refl e
     by : (o : Option ℕ) → next_thread k.last (able live) ≡ o → turn_if k (able live) o ≡ Run t most → Has (able live) t
     by None found e = absurd (cc)
     by (Some next) found e = scheduled-has next (Has-next_thread k.last (able live) next found) k.entries e
+
+-- a thread of the list can run
+ready-can : (waiting : ℕ → Bool) (threads : List Thread) (t : ℕ) → Has (able (map (λ (x : Thread). (x.tid, not (waiting x.tid))) threads)) t →
+    (list_any (is_thread t) threads ≡ true) × (not (waiting t) ≡ true)
+ready-can waiting [] t h = absurd (cc)
+ready-can waiting (x ∷ threads) t h = by (not (waiting x.tid)) refl (ready-can waiting threads t) h
+  where
+    later : (list_any (is_thread t) threads ≡ true) × (not (waiting t) ≡ true) → (list_any (is_thread t) (x ∷ threads) ≡ true) × (not (waiting t) ≡ true)
+    later ih = (or_right (eqb x.tid t) (list_any (is_thread t) threads) ih.0, ih.1)
+
+    by : (b : Bool) → not (waiting x.tid) ≡ b → (Has (able (map (λ (x : Thread). (x.tid, not (waiting x.tid))) threads)) t → (list_any (is_thread t) threads ≡ true) × (not (waiting t) ≡ true)) →
+        Has (map (λ (p : ℕ × Bool). p.0) (cond b ((x.tid, not (waiting x.tid)) ∷ filter (λ (p : ℕ × Bool). p.1) (map (λ (x : Thread). (x.tid, not (waiting x.tid))) threads)) (filter (λ (p : ℕ × Bool). p.1) (map (λ (x : Thread). (x.tid, not (waiting x.tid))) threads)))) t →
+        (list_any (is_thread t) (x ∷ threads) ≡ true) × (not (waiting t) ≡ true)
+    by true is ih h = elim (or_cases (eqb x.tid t) _ h) [
+      | inl here ↦
+          let same : x.tid ≡ t = grind (arith, nat_tests, here) in
+          (or_left (eqb x.tid t) (list_any (is_thread t) threads) here, ap (λ u. not (waiting u)) (sym same) ∙ is)
+      | inr rest ↦ later (ih rest)
+    ]
+    by false is ih h = later (ih h)
+
+pub turn-can : (k : Known) (kernel : KernelState) (t most : ℕ) → turn_of k (ready kernel) ≡ Run t most → can_run kernel t ≡ true
+turn-can k kernel t most e =
+    let parts = ready-can (λ u. waits kernel.waiting u) kernel.threads t (Has-turn k (ready kernel) t most e) in
+    ap₂ (λ (a b : Bool). a && b) parts.0 parts.1

@@ -5,3 +5,4 @@ pub mod Watched
 pub mod Kept
 pub mod Open
 pub mod Place
+pub mod Shown

@@ -6,7 +6,9 @@
 
 mod depth;
 mod pace;
+mod run;
 mod traced;
 mod turns;
 
 pub use pace::Pace;
+pub use run::Run;
