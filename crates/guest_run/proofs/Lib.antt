@@ -5,3 +5,4 @@ pub mod Watched
 pub mod Callers
 pub mod Followed
 pub mod Steps
+pub mod Advances
