@@ -26,8 +26,9 @@ use Rattle.guest_run.specs.Profiled.{past_after}
 use Rattle.guest_run.specs.Watched.{watched, watched_step}
 use Rattle.guest_run.specs.Kept.{Adds, Told}
 use Rattle.guest_run.specs.Place.{IsUnderWay, chosen_of, position, recorded}
-use Rattle.guest_run.specs.Shown.{IsGoing, Shown, left, position_of, shown}
-use Rattle.guest_run.specs.Shown as shows
+use Rattle.guest_run.specs.Shown.{Shown}
+use Rattle.guest_run.specs.Going.{IsGoing, left, position_of, shown}
+use Rattle.guest_run.specs.Going as shows
 use Rattle.guest_run.proofs.Able.{step_able}
 use Rattle.guest_run.proofs.Pasts.{cut-within, past_after-append}
 use Rattle.guest_run.proofs.Watched.{chosen-watched, chosen_with}

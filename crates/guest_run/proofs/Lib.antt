@@ -6,3 +6,4 @@ pub mod Callers
 pub mod Followed
 pub mod Steps
 pub mod Advances
+pub mod Ends

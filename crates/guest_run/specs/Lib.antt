@@ -6,3 +6,4 @@ pub mod Kept
 pub mod Open
 pub mod Place
 pub mod Shown
+pub mod Going

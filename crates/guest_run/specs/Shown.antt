@@ -1,22 +1,15 @@
--- What is shown of a run, as the program makes it.
-use Rattle.std.specs.Prelude.{◌≡◌, ℕ, suc, ◌<◌, ◌++◌, [], List, reverse, Option, Some, None}
+-- What is shown of a run.
+use Rattle.std.specs.Prelude.{◌≡◌, ℕ, List, reverse}
 use Rattle.guest_words.specs.declared.endings.Finish.{Finish}
 use Rattle.trace_model.specs.declared.event_kinds.Event.{Event}
-use Rattle.trace_model.specs.Depth.{cut, pending}
+use Rattle.trace_model.specs.Depth.{pending}
 use Rattle.trace_model.specs.Profile.{steps}
 use Rattle.thread_sched.specs.declared.entry.Entry.{Entry}
-use Rattle.guest_machine.specs.Machine.{MachineState}
-use Rattle.guest_machine.specs.Kept.{machine_of}
 use Rattle.guest_run.specs.declared.run.Run.{Run}
-use Rattle.guest_run.specs.declared.run.Runner.{Runner}
-use Rattle.guest_run.specs.Kept.{Told}
-use Rattle.guest_run.specs.Machine.{guest}
-use Rattle.guest_run.specs.Place.{IsUnderWay, position, recorded}
-use Rattle.guest_run.specs.Profiled.{past_after, Profiled}
-use Rattle.guest_run.specs.Run.{WrittenRun, Position, bytes_on, events_of, recording, run_from}
-use Rattle.guest_run.specs.Watched.{watched}
+use Rattle.guest_run.specs.Profiled.{Profiled}
+use Rattle.guest_run.specs.Run.{bytes_on, recording}
 
--- What is shown of a run: its trace, newest first, its bytes, its recording and its end.
+-- Its trace, the newest event first, the bytes on the channels 1 and 2, its recording and its end.
 pub record Shown : Type 0 where
   pub past : List Event
   pub out : List ℕ
@@ -24,52 +17,15 @@ pub record Shown : Type 0 where
   pub turns : List Entry
   pub finish : Finish
 
--- what is shown in the end, where this was kept and then these moves are made
-abbrev pub shown : Runner → WrittenRun → Shown
-shown r run = record {
-  past = cut (past_after (reverse r.traced.events.list) (events_of run.moves)) r.traced.depth.greatest;
-  out = r.traced.out.items ++ bytes_on 1 run.moves;
-  err = r.traced.err.items ++ bytes_on 2 run.moves;
-  turns = recorded r.recorder run.moves;
-  finish = run.finish;
-}
+abbrev pub shown_of : Profiled → Shown
+shown_of p = record { past = p.past; out = bytes_on 1 p.moves; err = bytes_on 2 p.moves; turns = recording p.moves; finish = p.finish }
 
--- where the watched machine stands
-abbrev pub position_of : Runner → Position (List Event × MachineState)
-position_of r = position (reverse r.traced.events.list, machine_of r.traced.machine) r.place
-
--- so many more moves of the watched machine
-abbrev pub left : ℕ → Runner → WrittenRun
-left n r = run_from (watched r.traced.depth.greatest guest) n (position_of r)
-
--- what the program keeps is true, and the thread whose turn goes on can run, as it made a move of it
-pub record IsGoing (r : Runner) : Type 0 where
-  pub told : Told r.traced.depth (reverse r.traced.events.list)
-  pub way : 0 < r.place.left → IsUnderWay (machine_of r.traced.machine) r.place
-  pub made : 0 < r.place.left → 0 < r.recorder.made
-
--- the run goes on, or it ended so, by a move
-pub record GoesOn (old new : Runner) : Type 0 where
-  pub going : IsGoing new
-  pub shows : (n : ℕ) → shown old (left (suc n) old) ≡ shown new (left n new)
-  pub greatest_is : new.traced.depth.greatest ≡ old.traced.depth.greatest
-  pub entry : new.traced.machine.entry ≡ old.traced.machine.entry
-
-pub record Ended (old new : Runner) (finish : Finish) : Type 0 where
-  pub told : Told new.traced.depth (reverse new.traced.events.list)
-  pub shows : (n : ℕ) → shown old (left (suc n) old) ≡ shown new (record { moves = []; finish = finish })
-  pub greatest_is : new.traced.depth.greatest ≡ old.traced.depth.greatest
-
-abbrev pub Advances : Runner → Runner → Option Finish → Type 0
-Advances old new None = GoesOn old new
-Advances old new (Some finish) = Ended old new finish
-
--- What is known of a run is what is profiled of it.
-pub record IsRun (p : Profiled) (r : Run) : Type 0 where
-  pub events : reverse r.events.list ≡ p.past
-  pub steps_are : r.steps ≡ steps p.past
-  pub pending_are : r.pending ≡ pending p.past
-  pub out : r.out.items ≡ bytes_on 1 p.moves
-  pub err : r.err.items ≡ bytes_on 2 p.moves
-  pub recorded : r.recording ≡ recording p.moves
-  pub finish : r.finish ≡ p.finish
+-- the program has all this of a run, and how many steps were made and how many activations are open
+pub record IsShown (s : Shown) (r : Run) : Type 0 where
+  pub past_is : reverse r.events.list ≡ s.past
+  pub steps_are : r.steps ≡ steps s.past
+  pub pending_are : r.pending ≡ pending s.past
+  pub out_is : r.out.items ≡ s.out
+  pub err_is : r.err.items ≡ s.err
+  pub recorded : r.recording ≡ s.turns
+  pub ended : r.finish ≡ s.finish

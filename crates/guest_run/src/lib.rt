@@ -11,4 +11,4 @@ mod traced;
 mod turns;
 
 pub use pace::Pace;
-pub use run::Run;
+pub use run::{Run, run_guest};

@@ -1,8 +1,10 @@
 //! The run.
-ghost use Rattle.std.specs.Prelude.{◌≡◌, ◌≤◌, ◌<◌, ◌+◌, ℕ, IfOk};
+ghost use Rattle.std.specs.Prelude.{◌≡◌, ◌≤◌, ◌<◌, ◌+◌, ◌^◌, ℕ, [], reverse, IfOk};
 ghost use Rattle.thread_sched.specs.TurnRule.{Known};
 ghost use Rattle.guest_machine.specs.Kept.{machine_of};
-ghost use Rattle.guest_run.specs.Shown.{Advances, IsGoing, IsRun};
+ghost use Rattle.guest_run.specs.Going.{Advances, IsGoing, shown};
+ghost use Rattle.guest_run.specs.Kept.{Told};
+ghost use Rattle.guest_run.specs.Shown.{IsShown, shown_of};
 ghost use Rattle.guest_run.specs.Machine.{guest};
 ghost use Rattle.guest_run.specs.Profiled.{first_past, profiled};
 ghost use Rattle.guest_run.specs.Run.{run};
@@ -65,4 +67,48 @@ impl Runner {
             }
         }
     }
+
+    /// What is known of the run, which ends so.
+    fn finish(self, finish: Finish) -> Result<Run, AllocError>
+        requires told { Told self.traced.depth (reverse self.traced.events.list) }
+        requires room { self.recorder.made ≤ 1000000000000 }
+        ensures { IfOk result (IsShown (shown self (record { moves = []; finish = finish }))) }
+    {
+        let traced = self.traced;
+        Ok(Run {
+            events: traced.events,
+            steps: traced.depth.steps,
+            pending: traced.depth.pending,
+            out: traced.out,
+            err: traced.err,
+            recording: self.recorder.finish()?,
+            finish,
+        })
+    }
+}
+
+/// Runs a machine, at most `budget` steps, up to the step by which three stamps for each open activation and three more,
+/// up to the greatest stamp, are too few.
+pub fn run_guest(
+    alloc: Global,
+    machine: Machine,
+    turns: Sched,
+    budget: u64,
+    greatest: u32,
+) -> Result<Run, AllocError>
+    requires budget { budget ≤ 10 ^ 12 }
+    requires greatest { 6 ≤ greatest }
+    ensures { IfOk result (IsShown (shown_of (profiled greatest (first_past machine.entry) (run guest turns budget (machine_of machine))))) }
+{
+    let mut runner = Runner {
+        traced: Traced::new(alloc, machine, greatest)?,
+        place: Place::new(turns),
+        recorder: Recorder::new(alloc)?,
+    };
+    for count in 0..budget {
+        if let Some(finish) = runner.advance()? {
+            return runner.finish(finish);
+        }
+    }
+    runner.finish(Finish::Budget)
 }
