@@ -7,3 +7,5 @@ pub mod Followed
 pub mod Steps
 pub mod Advances
 pub mod Ends
+pub mod Replayed
+pub mod Bounds

@@ -7,3 +7,4 @@ pub mod Open
 pub mod Place
 pub mod Shown
 pub mod Going
+pub mod Laws

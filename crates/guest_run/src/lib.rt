@@ -5,10 +5,12 @@
 #![tactic(auto)]
 
 mod depth;
+mod laws;
 mod pace;
 mod run;
 mod traced;
 mod turns;
 
+pub use laws::{runs_replay, runs_stay_within};
 pub use pace::Pace;
 pub use run::{Run, run_guest};
