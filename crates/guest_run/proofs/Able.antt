@@ -170,30 +170,78 @@ futex_able (Some o) c = tested c (futex_tests o c) _ (performed_able o c)
 every_call_able : (c : Call) → StaysAble c (call c)
 unfolding table
 every_call_able = of_every_call StaysAble (
-    (λ c can goes. can), (
-    (λ c. tested c (openat_tests c) (λ x. openat_effect c) (λ can goes. can)), (
-    (λ c. tested c (is_closed (descriptor c.kernel (arg c 0)) ⇒ ebadf) (λ x. sets (arg c 0) Closed (returns c 0)) (λ can goes. can)), (
-    (λ c. tested c (llseek_tests c) (λ x. llseek_effect c) (λ can goes. can)), (
-    (λ c. tested c (read_tests c) (λ x. read_effect c) (λ can goes. advanced_able (descriptor c.kernel (arg c 0)) (arg c 0) (length (read_bytes c)) c.kernel c.tid ∙ can)), (
-    (λ c. tested c (write_tests c) (λ x. write_effect c) (λ can goes. can)), (
-    (λ c. tested c (readv_tests c) (λ x. readv_effect c) (λ can goes. advanced_able (descriptor c.kernel (arg c 0)) (arg c 0) (length (readv_bytes c)) c.kernel c.tid ∙ can)), (
-    (λ c. tested c (writev_tests c) (λ x. writev_effect c) (λ can goes. can)), (
-    exit_able, (
-    (λ c can goes. absurd (cc)), (
-    (λ c can goes. ap (λ (b : Bool). b && not (waits c.kernel.waiting c.tid)) (cleared_lives c.tid (arg c 0) c.tid c.kernel.threads) ∙ can), (
-    (λ c can goes. can), (
-    (λ c can goes. absurd (cc)), (
-    (λ c can goes. can), (
-    sigprocmask_able, (
-    (λ c can goes. can), (
-    (λ c can goes. can), (
-    (λ c. tested c (brk_tests c) (λ x. brk_effect c) (λ can goes. can)), (
-    (λ c. tested c (munmap_tests c) (λ x. unmaps (arg c 0 / 4096) (pages (arg c 1)) (returns c 0)) (λ can goes. can)), (
-    (λ c. tested c (clone_tests c) (λ x. clone_effect c) (λ can goes. born_able (c.kernel.last_tid + 1) (child_clear_tid (arg c 0) (arg c 4)) c.kernel c.tid can)), (
-    (λ c. tested c (mmap2_tests c) (λ x. mmap2_effect c) (λ can goes. can)), (
-    (λ c. tested c (mprotect_tests c) (λ x. mprotect_effect c) (λ can goes. can)), (
-    (λ c can goes. can), (
-    (λ c. futex_able (operation c) c), tt)))))))))))))))))))))))) (λ c can goes. can)
+  (λ c can goes. can),
+  (
+    (λ c. tested c (openat_tests c) (λ x. openat_effect c) (λ can goes. can)),
+    (
+      (λ c. tested c (is_closed (descriptor c.kernel (arg c 0)) ⇒ ebadf) (λ x. sets (arg c 0) Closed (returns c 0)) (λ can goes. can)),
+      (
+        (λ c. tested c (llseek_tests c) (λ x. llseek_effect c) (λ can goes. can)),
+        (
+          (λ c. tested c (read_tests c) (λ x. read_effect c) (λ can goes. advanced_able (descriptor c.kernel (arg c 0)) (arg c 0) (length (read_bytes c)) c.kernel c.tid ∙ can)),
+          (
+            (λ c. tested c (write_tests c) (λ x. write_effect c) (λ can goes. can)),
+            (
+              (λ c. tested c (readv_tests c) (λ x. readv_effect c) (λ can goes. advanced_able (descriptor c.kernel (arg c 0)) (arg c 0) (length (readv_bytes c)) c.kernel c.tid ∙ can)),
+              (
+                (λ c. tested c (writev_tests c) (λ x. writev_effect c) (λ can goes. can)),
+                (
+                  exit_able,
+                  (
+                    (λ c can goes. absurd (cc)),
+                    (
+                      (λ c can goes. ap (λ (b : Bool). b && not (waits c.kernel.waiting c.tid)) (cleared_lives c.tid (arg c 0) c.tid c.kernel.threads) ∙ can),
+                      (
+                        (λ c can goes. can),
+                        (
+                          (λ c can goes. absurd (cc)),
+                          (
+                            (λ c can goes. can),
+                            (
+                              sigprocmask_able,
+                              (
+                                (λ c can goes. can),
+                                (
+                                  (λ c can goes. can),
+                                  (
+                                    (λ c. tested c (brk_tests c) (λ x. brk_effect c) (λ can goes. can)),
+                                    (
+                                      (λ c. tested c (munmap_tests c) (λ x. unmaps (arg c 0 / 4096) (pages (arg c 1)) (returns c 0)) (λ can goes. can)),
+                                      (
+                                        (λ c. tested c (clone_tests c) (λ x. clone_effect c) (λ can goes. born_able (c.kernel.last_tid + 1) (child_clear_tid (arg c 0) (arg c 4)) c.kernel c.tid can)),
+                                        (
+                                          (λ c. tested c (mmap2_tests c) (λ x. mmap2_effect c) (λ can goes. can)),
+                                          (
+                                            (λ c. tested c (mprotect_tests c) (λ x. mprotect_effect c) (λ can goes. can)),
+                                            (
+                                              (λ c can goes. can),
+                                              (
+                                                (λ c. futex_able (operation c) c),
+                                                tt,
+                                              ),
+                                            ),
+                                          ),
+                                        ),
+                                      ),
+                                    ),
+                                  ),
+                                ),
+                              ),
+                            ),
+                          ),
+                        ),
+                      ),
+                    ),
+                  ),
+                ),
+              ),
+            ),
+          ),
+        ),
+      ),
+    ),
+  ),
+) (λ c can goes. can)
 
 -- ---- every step
 effect_able : (m : MachineState) (tid : ℕ) (i : Instr) (given : Outcome × Core) → can_run m tid ≡ true → (after_effect m tid i given).outcome ≡ Went → can_run (after_effect m tid i given).machine tid ≡ true

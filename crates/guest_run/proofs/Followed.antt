@@ -41,15 +41,17 @@ follows-return old new past tid target opens counts steps greatest room stands =
     let long : length (backs (open_calls past tid)) ≡ length (open_calls past tid) = length-map (open_calls past tid) (λ a. a.back) in
     let within : count_returned target (backs (open_calls past tid)) ≤ length (open_calls past tid) = omega (arith, returned-le target (backs (open_calls past tid)), long) in
     let ended : length (take (cond (tid == tid) (count_returned target (backs (open_calls past tid))) 0) (open_calls past tid)) ≡ n =
-        ap (λ b. length (take (cond b (count_returned target (backs (open_calls past tid))) 0) (open_calls past tid))) (own tid)
-        ∙ length-take-le (count_returned target (backs (open_calls past tid))) (open_calls past tid) within ∙ sym m
+    ap (λ b. length (take (cond b (count_returned target (backs (open_calls past tid))) 0) (open_calls past tid))) (own tid)
+    ∙ length-take-le (count_returned target (backs (open_calls past tid))) (open_calls past tid) within ∙ sym m
     in
-    let left : new.pending ≡ pending (Ret tid target ∷ past) = omega (arith, counts, stands.pending_are, ended) in
-    (record {
-      open_calls_are = λ t. opens t ∙ by t (tid == t) refl;
-      pending_are = left;
-      steps_are = steps ∙ stands.steps_are;
-    }, omega (arith, left, counts, room, greatest))
+    let left : new.pending ≡ pending (Ret tid target ∷ past) = omega (arith, counts, stands.pending_are, ended) in (
+      record {
+        open_calls_are = λ t. opens t ∙ by t (tid == t) refl;
+        pending_are = left;
+        steps_are = steps ∙ stands.steps_are;
+      },
+      omega (arith, left, counts, room, greatest),
+    )
   where
     by : (t : ℕ) (b : Bool) → (tid == t) ≡ b →
         cond b (drop (count_returned target (backs_of old.callers.items tid)) (backs_of old.callers.items t)) (backs_of old.callers.items t) ≡ backs (drop (cond b (count_returned target (backs (open_calls past t))) 0) (open_calls past t))

@@ -51,9 +51,10 @@ pub cut-at : (events : List Event) (i most : ℕ) → i < length events → is_w
     (cut (reverse events) most ≡ reverse (take i events)) × (is_within (reverse events) most ≡ false)
 cut-at events i most low fits deep =
     let d : Event = Fill 0 0 in
-    let here : is_within (get_or events i d ∷ reverse (take i events)) most ≡ false = ap (λ past. is_within past most) (sym (past-next events i d low)) ∙ deep in
-    (ap (λ past. cut past most) (past-split events i d low) ∙ cut-here (reverse (take i events)) (reverse (drop (i + 1) events)) (get_or events i d) most fits here,
-    ap (λ past. is_within past most) (past-split events i d low) ∙ within-earlier (get_or events i d ∷ reverse (take i events)) (reverse (drop (i + 1) events)) most here)
+    let here : is_within (get_or events i d ∷ reverse (take i events)) most ≡ false = ap (λ past. is_within past most) (sym (past-next events i d low)) ∙ deep in (
+      ap (λ past. cut past most) (past-split events i d low) ∙ cut-here (reverse (take i events)) (reverse (drop (i + 1) events)) (get_or events i d) most fits here,
+      ap (λ past. is_within past most) (past-split events i d low) ∙ within-earlier (get_or events i d ∷ reverse (take i events)) (reverse (drop (i + 1) events)) most here,
+    )
 
 steps-le : (past : List Event) → steps past ≤ length past
 steps-le [] = omega arith

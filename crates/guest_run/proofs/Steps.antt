@@ -58,7 +58,7 @@ module _ (r : StepResult) (tid : ℕ) (stepped : Stepped) (old mid new : Traced)
   Adds-whole pace last machine_is out_is err_is events greatest told paced =
       let most = old.depth.greatest in
       let within : is_within (reverse r.events ++ reverse old.events.list) most ≡ true =
-          ap (λ past. is_within past most) (sym past-whole) ∙ ap (λ m. is_within (reverse all) m) (sym greatest) ∙ told.within
+      ap (λ past. is_within past most) (sym past-whole) ∙ ap (λ m. is_within (reverse all) m) (sym greatest) ∙ told.within
       in
       record {
         state = ap machine_of (machine_is ∙ is.kept.machine_is) ∙ is.steps.machine;

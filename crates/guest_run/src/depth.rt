@@ -36,11 +36,7 @@ fn find(callers: &[Caller], tid: Tid) -> Option<usize>
 }
 
 // Where the thread stands among the callers. It comes to them where it is none of them.
-fn place_of(
-    alloc: Global,
-    callers: &mut Vec<Caller>,
-    tid: Tid,
-) -> Result<usize, AllocError>
+fn place_of(alloc: Global, callers: &mut Vec<Caller>, tid: Tid) -> Result<usize, AllocError>
     ensures place { IfOk result (IsPlace callers.new.items tid) }
     ensures same { OnOk result ((t : ℕ) → calls_of callers.new.items t ≡ calls_of callers.old.items t) }
 {

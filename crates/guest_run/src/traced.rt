@@ -26,11 +26,7 @@ pub(crate) struct Traced {
 }
 
 // Takes the events from a place on, and says where the first of them stands by which an activation is too deep.
-fn follow(
-    depth: &mut Depth,
-    events: &[Event],
-    before: usize,
-) -> Result<Option<usize>, AllocError>
+fn follow(depth: &mut Depth, events: &[Event], before: usize) -> Result<Option<usize>, AllocError>
     requires before { before ≤ length events.now }
     requires told { Told depth.old (reverse (take before events.now)) }
     ensures told { IfOk result (λ deep. MatchOption deep (Told depth.new (reverse events.now)) (λ i. (i < length events.now) × Told depth.new (reverse (take i events.now)) × (is_within (reverse (take (i + 1) events.now)) depth.old.greatest ≡ false))) }
@@ -46,11 +42,7 @@ fn follow(
 
 impl Traced {
     /// A machine that begins: its thread 1 starts.
-    pub(crate) fn new(
-        alloc: Global,
-        machine: Machine,
-        greatest: u32,
-    ) -> Result<Traced, AllocError>
+    pub(crate) fn new(alloc: Global, machine: Machine, greatest: u32) -> Result<Traced, AllocError>
         requires { 6 ≤ greatest }
         ensures { IfOk result (IsNew machine greatest) }
     {

@@ -14,7 +14,7 @@ returns-in-Ends-clause-advances c =
     let old : Runner = c.args.self.now in
     let new : Runner = record { traced = c.step.new.self; place = c.choose.new.self; recorder = c.add.new.self } in
     let moved : Moved old c.choose.new.self c.in-Moves.opens c.in_ok-finish.field-0 new =
-        record { chose = c.in-Moves.ensures.chosen; way = c.in-Moves.ensures.way c.in-Moves.opens refl; adds = c.in_ok-finish.ensures; takes = c.in_ok-add.ensures.recorded } in
+    record { chose = c.in-Moves.ensures.chosen; way = c.in-Moves.ensures.way c.in-Moves.opens refl; adds = c.in_ok-finish.ensures; takes = c.in_ok-add.ensures.recorded } in
     Ended-moved old c.choose.new.self c.in-Moves.opens c.in_ok-finish.field-0 new moved c.in-Ends.finish c.in-Ends.is
 
 pub returns-in-TurnOver-clause-advances : goal.returns-in-TurnOver-clause-advances
@@ -23,7 +23,7 @@ returns-in-TurnOver-clause-advances c =
     let at : Place = record { turns = c.choose.new.self.turns; tid = c.choose.new.self.tid; left = 0 } in
     let new : Runner = record { traced = c.step.new.self; place = at; recorder = c.add.new.self } in
     let moved : Moved old c.choose.new.self c.in-Moves.opens c.in_ok-finish.field-0 new =
-        record { chose = c.in-Moves.ensures.chosen; way = c.in-Moves.ensures.way c.in-Moves.opens refl; adds = c.in_ok-finish.ensures; takes = c.in_ok-add.ensures.recorded } in
+    record { chose = c.in-Moves.ensures.chosen; way = c.in-Moves.ensures.way c.in-Moves.opens refl; adds = c.in_ok-finish.ensures; takes = c.in_ok-add.ensures.recorded } in
     GoesOn-over old c.choose.new.self c.in-Moves.opens c.in_ok-finish.field-0 new moved at c.in-TurnOver.is refl refl refl
 
 pub returns-in-GoesOn-clause-advances : goal.returns-in-GoesOn-clause-advances
@@ -32,5 +32,5 @@ returns-in-GoesOn-clause-advances c =
     let at : Place = record { turns = c.choose.new.self.turns; tid = c.choose.new.self.tid; left = c.saturating_sub-self.result } in
     let new : Runner = record { traced = c.step.new.self; place = at; recorder = c.add.new.self } in
     let moved : Moved old c.choose.new.self c.in-Moves.opens c.in_ok-finish.field-0 new =
-        record { chose = c.in-Moves.ensures.chosen; way = c.in-Moves.ensures.way c.in-Moves.opens refl; adds = c.in_ok-finish.ensures; takes = c.in_ok-add.ensures.recorded } in
+    record { chose = c.in-Moves.ensures.chosen; way = c.in-Moves.ensures.way c.in-Moves.opens refl; adds = c.in_ok-finish.ensures; takes = c.in_ok-add.ensures.recorded } in
     GoesOn-turn old c.choose.new.self c.in-Moves.opens c.in_ok-finish.field-0 new moved at c.in-GoesOn.is refl refl refl c.saturating_sub-self.ensures c.in_ok-add.ensures.made.0

@@ -25,7 +25,7 @@ returns-in-Some c =
     let all = c.step.new.events.list in
     let same : c.keep_output.new.self.events.list ≡ all = ap (λ (e : EventList). e.list) kept.events in
     let is : IsStepped r c.args.tid c.in_ok-stepped.stepped old mid c.keep_output.new.self all =
-        record { steps = c.in_ok-stepped.ensures.step; kept = kept; before_out = refl; before_err = refl; entry = c.step.ensures.entry } in
+    record { steps = c.in_ok-stepped.ensures.step; kept = kept; before_out = refl; before_err = refl; entry = c.step.ensures.entry } in
     let most : c.keep_output.new.self.depth.greatest ≡ old.depth.greatest = ap (λ (d : Depth). d.greatest) kept.depth_is in
     let found = subst (λ (es : List Event). Found c.follow.new.depth c.keep_output.new.self.depth.greatest c.in_ok-end.field-0 es) (c.list.ensures ∙ same) c.in_ok-end.ensures.told in
     let here = subst (λ (o : Option ℕ). Found c.follow.new.depth c.keep_output.new.self.depth.greatest o all) c.in-Some.is found in
@@ -42,7 +42,7 @@ returns c =
     let all = c.step.new.events.list in
     let same : c.keep_output.new.self.events.list ≡ all = ap (λ (e : EventList). e.list) kept.events in
     let is : IsStepped r c.args.tid c.in_ok-stepped.stepped old mid c.keep_output.new.self all =
-        record { steps = c.in_ok-stepped.ensures.step; kept = kept; before_out = refl; before_err = refl; entry = c.step.ensures.entry } in
+    record { steps = c.in_ok-stepped.ensures.step; kept = kept; before_out = refl; before_err = refl; entry = c.step.ensures.entry } in
     let most : c.keep_output.new.self.depth.greatest ≡ old.depth.greatest = ap (λ (d : Depth). d.greatest) kept.depth_is in
     let found = subst (λ (es : List Event). Found c.follow.new.depth c.keep_output.new.self.depth.greatest c.in_ok-end.field-0 es) (c.list.ensures ∙ same) c.in_ok-end.ensures.told in
     let here = subst (λ (o : Option ℕ). Found c.follow.new.depth c.keep_output.new.self.depth.greatest o all) c.in_default.is found in
