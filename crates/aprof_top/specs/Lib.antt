@@ -1,9 +1,7 @@
 pub mod Answers
 pub mod Command
 pub mod Ending
-pub mod Guest
 pub mod Image
-pub mod Machine
 pub mod Outcome
 pub mod Outside
 pub mod Product

@@ -1,10 +1,14 @@
 -- What the written product answers: a function of the words and of the files that it loads.
-use Rattle.std.specs.Prelude.{ℕ, Bool, ◌&&◌, nat_lt, nat_le, List, [], ◌∷◌, length, Option, Some, None, if◌then◌else◌}
+use Rattle.std.specs.Prelude.{ℕ, Bool, ◌&&◌, nat_le, List, [], ◌∷◌, length, Option, Some, None, is_none, if◌then◌else◌}
 use Rattle.guest_words.specs.declared.endings.Finish.{Finish}
 use Rattle.guest_words.specs.declared.endings.Finish.TheVariants.{Exit}
 use Rattle.aprof_top.specs.Command.{RunOptions, options_of}
-use Rattle.aprof_top.specs.Image.{file_limit, is_plain_image}
-use Rattle.aprof_top.specs.Run.{Run, run_of}
+use Rattle.elf_image.specs.Reading.{image_of}
+use Rattle.elf_image.specs.Tests.{first_refusal}
+use Rattle.guest_machine.specs.Setup.{setup_refusal}
+use Rattle.guest_run.specs.Shown.{Shown}
+use Rattle.aprof_top.specs.Image.{file_limit}
+use Rattle.aprof_top.specs.Run.{run_of}
 use Rattle.profile_report.specs.ReportText.{report_text}
 use Rattle.aprof_top.specs.Report.{report_of}
 use Rattle.aprof_top.specs.Texts.{bad_command_text, not_built_text}
@@ -28,13 +32,9 @@ refusal status text = record { status = status; out = []; err = []; stores = [];
 abbrev pub nothing : Outcome
 nothing = refusal 10 []
 
--- the greatest length of the argument strings with their zero bytes
-abbrev pub argument_limit : ℕ
-argument_limit = 65536
-
--- The image is one that is built: not too long, of the plain form, and with a path that fits the argument strings.
+-- The file is not too long, and an executable that can begin, with the path as its one argument.
 abbrev pub is_built : List ℕ → List ℕ → Bool
-is_built name file = nat_le (length file) file_limit && is_plain_image file && nat_lt (length name) argument_limit
+is_built name file = nat_le (length file) file_limit && is_none (first_refusal file) && is_none (setup_refusal (image_of file) (name ∷ []))
 
 -- What a run leaves: its output, and its report.
 pub record Product : Type 0 where
@@ -43,13 +43,17 @@ pub record Product : Type 0 where
   pub report : List ℕ
 
 -- what a run leaves by how it ended: one that exited has a report, and no other is built
-abbrev pub product_by : Option Finish → Run → Option Product
-product_by (Some (Exit status)) run = Some (record { out = run.out; err = run.err; report = report_text (report_of (Exit status) run.trace) })
+abbrev pub product_by : Finish → Shown → Option Product
+product_by (Exit status) run = Some (record { out = run.out; err = run.err; report = report_text (report_of (Exit status) run.past) })
 product_by _ run = None
 
--- the product of an image, where it and each step of its run is built
+-- the product of an executable by its run
+abbrev pub run_product : Shown → Option Product
+run_product run = product_by run.finish run
+
+-- the product of an image, where it is built and its run ends by exit
 abbrev pub guest_product : List ℕ → List ℕ → Option Product
-guest_product name file = if is_built name file then (let run = run_of name file in product_by run.finish run) else None
+guest_product name file = if is_built name file then run_product (run_of name (image_of file)) else None
 
 -- what `run` answers, by the guest's product
 abbrev pub run_outcome : RunOptions → Option Product → Outcome

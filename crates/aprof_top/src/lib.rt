@@ -4,11 +4,8 @@
 mod command;
 mod delivery;
 mod ending;
-mod guest;
-mod image;
 mod product;
 mod report;
-mod run;
 mod top;
 
 pub use top::aprof;

@@ -7,10 +7,12 @@ ghost use Rattle.aprof_top.specs.Outside.{outside, NothingRose};
 use crate::command::read_command;
 use crate::delivery::deliver;
 use crate::ending::{Ending, tell};
-use crate::image::FILE_LIMIT;
 use crate::product::guest_product;
 use host_io::{Files, LoadError, Sink};
 use std::alloc::Global;
+
+/// The greatest length of a file that is loaded.
+const FILE_LIMIT: usize = 16_777_216;
 
 // Reads the words, loads the image, runs it, and hands out its output and its report.
 fn run_command<'a, F: Files, O: Sink, E: Sink>(
