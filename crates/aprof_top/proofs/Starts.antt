@@ -1,8 +1,10 @@
 -- Whether a machine began, and what its run leaves.
-use Rattle.std.proofs.Common.{◌≡◌, ◌≢◌, ◌≤◌, ℕ, Bool, true, false, ◌&&◌, cond, List, [], ◌∷◌, length, Option, Some, None, Result, Ok, Err, ap, refl, sym, ◌∙◌, arith}
-use Rattle.std.specs.Prelude.{IfErr, IfNone, IfOk, IfSome, OnOk, is_none, nat_le, option_map}
+use Rattle.std.proofs.Common.{◌≡◌, ◌≢◌, ◌<◌, ◌≤◌, ℕ, Bool, true, false, ◌&&◌, cond, List, [], ◌∷◌, length, Option, Some, None, Result, Ok, Err, ap, inl, inr, refl, sym, ◌∙◌, arith}
+use Rattle.std.specs.Prelude.{◌⊎◌, IfErr, IfNone, IfOk, IfSome, IsSomeAnd, OnOk, is_none, nat_le, option_map}
 use Rattle.std.specs.declared.alloc.AllocError.{AllocError}
 use Rattle.std.proofs.lemmas.Bool.Decides.{nat_tests}
+use Rattle.host_io.specs.Faults.{Rose}
+use Rattle.host_io.specs.Files.{Contents, Holds, HoldsMore}
 use Rattle.elf_image.specs.Image.{Executable}
 use Rattle.elf_image.specs.Reading.{image_of}
 use Rattle.elf_image.specs.Tests.{first_refusal}
@@ -60,3 +62,31 @@ product_is name file image m entry run (Ok product) short accepted is fits begin
     gives (shown_from m entry) shows
     ∙ ap run_product (same_run name image m entry begins from ∙ ap (run_of name) is)
     ∙ sym (ap (λ b. cond b (run_product (run_of name (image_of file))) None) (built name file image short accepted is fits))
+
+-- a file that is too long has no run
+pub too_long : (name file : List ℕ) → file_limit < length file → guest_product name file ≡ None
+too_long name file long =
+    ap (λ b. cond (b && is_none (first_refusal file) && is_none (setup_refusal (image_of file) (name ∷ []))) (run_product (run_of name (image_of file))) None) test
+  where
+    test : nat_le (length file) file_limit ≡ false
+    test = grind (arith, nat_tests, long)
+
+-- and neither has one that is empty
+empty_unbuilt : (name : List ℕ) → guest_product name [] ≡ None
+unfolding first_refusal
+empty_unbuilt name = refl
+
+-- a file for a load that met its limit
+pub record Unrun (contents : Option Contents) (name : List ℕ) (before after : ℕ) : Type 0 where
+  pub file : List ℕ
+  pub held : Holds contents name file
+  pub limit : (length file ≤ file_limit) ⊎ Rose before after
+  pub unbuilt : guest_product name file ≡ None
+
+unrun_by : (files : Contents) (name : List ℕ) (before after : ℕ) (o : Option (List ℕ)) → files name ≡ o → IsSomeAnd o (λ bytes. file_limit < length bytes) → Rose before after → Unrun (Some files) name before after
+unrun_by files name before after None is more rose = absurd more
+unrun_by files name before after (Some bytes) is more rose = record { file = bytes; held = is; limit = inr rose; unbuilt = too_long name bytes more }
+
+pub unrun : (contents : Option Contents) (name : List ℕ) (before after : ℕ) → HoldsMore contents name file_limit → Rose before after → Unrun contents name before after
+unrun None name before after more rose = record { file = []; held = tt; limit = inr rose; unbuilt = empty_unbuilt name }
+unrun (Some files) name before after more rose = unrun_by files name before after (files name) refl more rose
