@@ -1,5 +1,5 @@
 -- A thread that went on by its step can run.
-use Rattle.std.proofs.Common.{◌≡◌, ℕ, ◌+◌, Bool, true, false, cond, List, [], ◌∷◌, ◌++◌, Option, Some, None, refl, ap, ap₂, sym, subst, ◌∙◌, Ok, Err}
+use Rattle.std.proofs.Common.{◌≡◌, ℕ, ◌+◌, Bool, true, false, cond, List, [], ◌∷◌, Option, Some, None, refl, ap, ap₂, ◌∙◌, Ok, Err}
 use Rattle.std.specs.Prelude.{◌*◌, ◌/◌, not, ◌&&◌, ◌||◌, ◌==◌, map, min, take, length, replicate, is_none, unwrap_or, unsigned_abs, Result}
 use Rattle.std.specs.Int.{w64, to_le_bytes}
 use Rattle.guest_memory.specs.Memory.{bytes_at, with_rights}
@@ -11,11 +11,10 @@ use Rattle.futex_table.specs.Waiting.{all_bits, after_requeue}
 use Rattle.guest_words.specs.declared.endings.FaultKind.{FaultKind}
 use Rattle.rv_isa.specs.declared.instruction.Instr.{Instr}
 use Rattle.rv_exec.specs.Effects.{Core, effect}
-use Rattle.rv_exec.specs.Registers.{Registers}
 use Rattle.rv_exec.specs.declared.outcome.Outcome.{Outcome}
 use Rattle.rv_exec.specs.declared.outcome.Outcome.TheVariants as outcome
 use Rattle.guest_calls.specs.declared.answer.Answer.{Answer}
-use Rattle.guest_calls.specs.declared.answer.Answer.TheVariants.{Back, Yield, Block, ThreadEnd, ProcessEnd, Born}
+use Rattle.guest_calls.specs.declared.answer.Answer.TheVariants.{Back, ThreadEnd, ProcessEnd, Born}
 use Rattle.guest_calls.specs.declared.descriptor.Descriptor.{Descriptor}
 use Rattle.guest_calls.specs.declared.descriptor.Descriptor.TheVariants.{Closed, StandardInput, Output, InputFile}
 use Rattle.guest_calls.specs.declared.operation.Operation.{Operation}
@@ -35,10 +34,9 @@ use Rattle.guest_calls.specs.Table.{call, table}
 use Rattle.guest_calls.proofs.AllCalls.{of_every_call, of_unless}
 use Rattle.guest_calls.proofs.Leaving.{and_true, does_not_wait, woken_can_run}
 use Rattle.guest_calls.proofs.Queues.{requeued_out}
-use Rattle.guest_machine.specs.declared.stepped.Stepped.{Stepped}
-use Rattle.guest_machine.specs.declared.stepped.Stepped.TheVariants.{Went, Yielded, Blocked, Ended, Finished, Faulted}
+use Rattle.guest_machine.specs.declared.stepped.Stepped.TheVariants.{Went}
 use Rattle.guest_machine.specs.Machine.{MachineState, can_run}
-use Rattle.guest_machine.specs.Step.{after_call, after_effect, call_of, core_of, executed, next_instruction, step, stepped_by}
+use Rattle.guest_machine.specs.Step.{after_effect, call_of, core_of, executed, next_instruction, step, stepped_by}
 
 -- by this answer the thread goes on, and it can run
 abbrev GoesOnAble : ℕ → KernelState → Answer → Type 0

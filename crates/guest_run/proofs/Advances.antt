@@ -1,5 +1,5 @@
 -- What is shown of a run, as a move of it is made.
-use Rattle.std.proofs.Common.{◌≡◌, ℕ, zero, suc, ◌+◌, ◌-◌, ◌<◌, Bool, true, false, cond, List, [], ◌∷◌, ◌++◌, reverse, refl, sym, ap, ap₂, subst, ◌∙◌, append_assoc, append-nil, arith}
+use Rattle.std.proofs.Common.{◌≡◌, ℕ, zero, suc, ◌-◌, ◌<◌, Bool, true, false, cond, List, [], ◌∷◌, ◌++◌, reverse, refl, sym, ap, ap₂, subst, ◌∙◌, append_assoc, append-nil, arith}
 use Rattle.std.specs.Prelude.{pred}
 use Rattle.guest_words.specs.declared.endings.Finish.{Finish}
 use Rattle.guest_words.specs.declared.endings.Finish.TheVariants.{Deep}
@@ -20,7 +20,7 @@ use Rattle.guest_run.specs.declared.turns.Choice.TheVariants as choice
 use Rattle.guest_run.specs.declared.turns.Place.{Place}
 use Rattle.guest_run.specs.declared.turns.Recorder.{Recorder}
 use Rattle.guest_run.specs.Machine.{Progress, Machine, guest, pace_of}
-use Rattle.guest_run.specs.Run.{Move, WrittenRun, Position, Chosen, by_pace, bytes_on, chosen, events_of, go_on, after_step, move_of, position_after, run_from, sent, with_move}
+use Rattle.guest_run.specs.Run.{Move, WrittenRun, Position, by_pace, bytes_on, chosen, events_of, go_on, after_step, move_of, position_after, run_from, sent, with_move}
 use Rattle.guest_run.specs.Run.Chosen.{Moves, Stops}
 use Rattle.guest_run.specs.Profiled.{past_after}
 use Rattle.guest_run.specs.Watched.{watched, watched_step}

@@ -1,5 +1,5 @@
 -- How many moves a run has, its turns, and what is profiled of it.
-use Rattle.std.proofs.Common.{◌≡◌, ℕ, zero, suc, ◌+◌, ◌≤◌, Bool, true, false, cond, List, [], ◌∷◌, ◌++◌, length, reverse, refl, sym, ap, subst, ◌∙◌, arith}
+use Rattle.std.proofs.Common.{◌≡◌, ℕ, zero, suc, ◌+◌, ◌≤◌, Bool, true, false, cond, List, [], ◌∷◌, length, reverse, refl, sym, ap, ◌∙◌, arith}
 use Rattle.std.specs.Prelude.{sum_by}
 use Rattle.std.specs.List.{All}
 use Rattle.std.proofs.lemmas.Bool.{true≢false}
@@ -19,30 +19,30 @@ use Rattle.guest_machine.specs.Step.{step}
 use Rattle.guest_run.specs.declared.pace.Pace.{Pace}
 use Rattle.guest_run.specs.declared.pace.Pace.TheVariants.{GoesOn, TurnOver, Ends}
 use Rattle.guest_run.specs.Machine.{Machine, guest, pace_of}
-use Rattle.guest_run.specs.Run.{Move, WrittenRun, Position, Chosen, asked, by_turn, chosen_by, chosen, with_move, by_pace, move_of, go_on, run_from, run, start, events_of, current, recording}
+use Rattle.guest_run.specs.Run.{Move, WrittenRun, Position, Chosen, by_turn, chosen_by, chosen, with_move, by_pace, move_of, go_on, run_from, run, start, events_of, current, recording}
 use Rattle.guest_run.specs.Run.Chosen.{Moves, Stops}
 use Rattle.guest_run.specs.Profiled.{past_after, moves_kept, profiled}
-use Rattle.guest_run.specs.Laws.{StaysWithin, NeverEndsForBudget, SpendsBudget, TurnsHaveMoves, RecordsTurns, IsPrefix, IsProfileOf, ProfilesPart}
+use Rattle.guest_run.specs.Laws.{StaysWithin, NeverEndsForBudget, SpendsBudget, RecordsTurns, IsPrefix, ProfilesPart}
 use Rattle.guest_run.proofs.Pasts.{cut-within, past_after-append, within-earlier}
 use Rattle.guest_run.proofs.Replayed.{current-over}
 
 -- A fact of every run from a position on, by a step: it holds where there is no move, and goes over a move.
-record Steps {State : Type 0} (machine : Machine State) (Holds : ℕ → WrittenRun → Type 0) : Type 0 where
-  spent : Holds 0 (record { moves = []; finish = Budget })
-  stops : (more : ℕ) (at : Position State) (finish : Finish) → chosen machine at ≡ Stops finish → Holds (suc more) (record { moves = []; finish = finish })
-  ends : (more : ℕ) (opens : Bool) (state : State) (tid : ℕ) (finish : Finish) → (machine.step state tid).pace ≡ Ends finish →
+pub record Steps {State : Type 0} (machine : Machine State) (Holds : ℕ → WrittenRun → Type 0) : Type 0 where
+  pub spent : Holds 0 (record { moves = []; finish = Budget })
+  pub stops : (more : ℕ) (at : Position State) (finish : Finish) → chosen machine at ≡ Stops finish → Holds (suc more) (record { moves = []; finish = finish })
+  pub ends : (more : ℕ) (opens : Bool) (state : State) (tid : ℕ) (finish : Finish) → (machine.step state tid).pace ≡ Ends finish →
       Holds (suc more) (record { moves = move_of opens tid (machine.step state tid) ∷ []; finish = finish })
-  moves : (more : ℕ) (opens : Bool) (state : State) (tid : ℕ) (run : WrittenRun) → Holds more run → Holds (suc more) (with_move (move_of opens tid (machine.step state tid)) run)
+  pub moves : (more : ℕ) (opens : Bool) (state : State) (tid : ℕ) (run : WrittenRun) → ((finish : Finish) → (machine.step state tid).pace ≡ Ends finish → ⊥) → Holds more run → Holds (suc more) (with_move (move_of opens tid (machine.step state tid)) run)
 
-each_run : {State : Type 0} (machine : Machine State) (Holds : ℕ → WrittenRun → Type 0) → Steps machine Holds → (fuel : ℕ) (at : Position State) → Holds fuel (run_from machine fuel at)
+pub each_run : {State : Type 0} (machine : Machine State) (Holds : ℕ → WrittenRun → Type 0) → Steps machine Holds → (fuel : ℕ) (at : Position State) → Holds fuel (run_from machine fuel at)
 unfolding run_from
 each_run machine Holds steps zero at = steps.spent
 each_run {State} machine Holds steps (suc more) at = by (chosen machine at) refl (each_run machine Holds steps more)
   where
     paced : ((at : Position State) → Holds more (run_from machine more at)) → (opens : Bool) (to : Position State) (pace : Pace) → (machine.step to.state to.turns.last).pace ≡ pace →
         Holds (suc more) (by_pace (run_from machine more) (move_of opens to.turns.last (machine.step to.state to.turns.last)) to (machine.step to.state to.turns.last).state pace)
-    paced ih opens to GoesOn e = steps.moves more opens to.state to.turns.last _ (ih _)
-    paced ih opens to TurnOver e = steps.moves more opens to.state to.turns.last _ (ih _)
+    paced ih opens to GoesOn e = steps.moves more opens to.state to.turns.last _ (λ finish over. absurd (let no : GoesOn ≡ Ends finish = sym e ∙ over in cc)) (ih _)
+    paced ih opens to TurnOver e = steps.moves more opens to.state to.turns.last _ (λ finish over. absurd (let no : TurnOver ≡ Ends finish = sym e ∙ over in cc)) (ih _)
     paced ih opens to (Ends finish) e = steps.ends more opens to.state to.turns.last finish e
 
     by : (c : Chosen State) → chosen machine at ≡ c → ((at : Position State) → Holds more (run_from machine more at)) → Holds (suc more) (go_on machine (run_from machine more) c)
@@ -54,7 +54,7 @@ moves-within {State} machine = each_run machine (λ fuel run. length run.moves �
   spent = omega arith;
   stops = λ more at finish e. omega arith;
   ends = λ more opens state tid finish e. omega arith;
-  moves = λ more opens state tid run ih. omega (arith, ih);
+  moves = λ more opens state tid run goes ih. omega (arith, ih);
 })
 
 pub stays_within : {State : Type 0} (machine : Machine State) → StaysWithin machine
@@ -80,7 +80,7 @@ spends {State} machine never turns budget state =
       spent = λ e. refl;
       stops = λ more at finish e ended. absurd (stops-other machine at (e ∙ ap Stops ended));
       ends = λ more opens state tid finish e ended. absurd (never state tid (e ∙ ap Ends ended));
-      moves = λ more opens state tid run ih ended. ap suc (ih ended);
+      moves = λ more opens state tid run goes ih ended. ap suc (ih ended);
     }) budget (start turns state)
 
 paces-other : (tid : ℕ) (outcome : Stepped) → pace_of tid outcome ≡ Ends Budget → ⊥

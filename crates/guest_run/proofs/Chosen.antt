@@ -1,6 +1,6 @@
 -- The thread of a turn can run.
 use Rattle.std.proofs.Common.{◌≡◌, ℕ, Bool, true, false, cond, eqb, List, [], ◌∷◌, min, Option, Some, None, refl, sym, ap, ap₂, ◌∙◌, subst, inl, inr, arith}
-use Rattle.std.specs.Prelude.{◌==◌, ◌||◌, ◌&&◌, not, nat_lt, filter, map}
+use Rattle.std.specs.Prelude.{◌==◌, ◌&&◌, not, nat_lt, filter, map}
 use Rattle.std.specs.List.{list_any}
 use Rattle.std.specs.Option.{option_or}
 use Rattle.std.proofs.lemmas.Bool.{eq-eqb, or_left, or_right, cases_lt, or_cases}
@@ -9,8 +9,7 @@ use Rattle.futex_table.specs.Once.{waits}
 use Rattle.guest_calls.specs.declared.thread.Thread.{Thread}
 use Rattle.guest_calls.specs.Kernel.{KernelState, can_run, is_thread, ready}
 use Rattle.thread_sched.specs.declared.entry.Entry.{Entry}
-use Rattle.thread_sched.specs.declared.turns.Turn.{Turn}
-use Rattle.thread_sched.specs.declared.turns.Turn.TheVariants.{Run, Deadlock, Mismatch}
+use Rattle.thread_sched.specs.declared.turns.Turn.TheVariants.{Run, Mismatch}
 use Rattle.thread_sched.specs.TurnRule.{Known, able, above, least, lesser, next_thread, scheduled, turn_if, turn_of}
 
 -- the thread is in the list

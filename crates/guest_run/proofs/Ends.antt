@@ -1,6 +1,6 @@
 -- A run from its begin to its end.
-use Rattle.std.proofs.Common.{◌≡◌, ℕ, zero, suc, ◌+◌, ◌-◌, ◌<◌, ◌≤◌, ◌*◌, List, [], ◌∷◌, ◌++◌, true, reverse, refl, sym, ap, ap₂, subst, ◌∙◌, append-nil, arith}
-use Rattle.std.specs.Prelude.{nat_le, ◌&&◌}
+use Rattle.std.proofs.Common.{◌≡◌, ℕ, suc, ◌+◌, ◌-◌, ◌<◌, ◌≤◌, ◌*◌, List, [], ◌++◌, true, reverse, sym, ap, ap₂, subst, ◌∙◌, append-nil, arith}
+use Rattle.std.specs.Prelude.{nat_le}
 use Rattle.std.proofs.lemmas.Bool.{le-leb, and_from}
 use Rattle.guest_words.specs.declared.endings.Finish.{Finish}
 use Rattle.guest_words.specs.declared.endings.Finish.TheVariants.{Budget}
@@ -11,13 +11,11 @@ use Rattle.thread_sched.specs.declared.entry.Entry.{Entry}
 use Rattle.thread_sched.specs.TurnRule.{Known}
 use Rattle.guest_machine.specs.Kept.{Parts, machine_of}
 use Rattle.guest_machine.specs.Machine.{MachineState}
-use Rattle.guest_run.specs.declared.depth.Depth.{Depth}
 use Rattle.guest_run.specs.declared.run.Run.{Run}
 use Rattle.guest_run.specs.declared.run.Runner.{Runner}
-use Rattle.guest_run.specs.declared.turns.Recorder.{Recorder}
 use Rattle.guest_run.specs.Kept.{IsNew, Told}
-use Rattle.guest_run.specs.Machine.{Machine, guest}
-use Rattle.guest_run.specs.Going.{GoesOn, Ended, IsGoing, left, position_of, shown}
+use Rattle.guest_run.specs.Machine.{guest}
+use Rattle.guest_run.specs.Going.{GoesOn, Ended, IsGoing, left, shown}
 use Rattle.guest_run.specs.Place.{recorded, with_present}
 use Rattle.guest_run.specs.Profiled.{first_past, past_after, profiled}
 use Rattle.guest_run.specs.Run.{Move, WrittenRun, Position, bytes_on, current, events_of, recording, run, run_from}

@@ -9,3 +9,4 @@ pub mod Advances
 pub mod Ends
 pub mod Replayed
 pub mod Bounds
+pub mod Counted

@@ -1,24 +1,20 @@
 -- A run under the schedule that is its own recording.
 use Rattle.std.proofs.Common.{◌≡◌, ℕ, zero, suc, ◌+◌, Bool, true, false, cond, List, [], ◌∷◌, Option, Some, None, refl, sym, ap, subst, ◌∙◌}
-use Rattle.std.specs.Prelude.{◌==◌, pred, drop}
+use Rattle.std.specs.Prelude.{◌==◌, pred}
 use Rattle.std.specs.List.{list_any}
-use Rattle.guest_words.specs.declared.endings.Finish.{Finish}
-use Rattle.trace_model.specs.declared.event_kinds.Event.{Event}
-use Rattle.trace_model.specs.Depth.{is_within}
 use Rattle.thread_sched.specs.declared.entry.Entry.{Entry}
 use Rattle.thread_sched.specs.declared.turns.Turn.{Turn}
 use Rattle.thread_sched.specs.declared.turns.Turn.TheVariants as turn
-use Rattle.thread_sched.specs.TurnRule.{Known, able, behind, next_line, next_thread, scheduled, turn_if, turn_of}
-use Rattle.guest_machine.specs.Machine.{MachineState}
+use Rattle.thread_sched.specs.TurnRule.{Known, able, behind, next_thread, turn_if, turn_of}
 use Rattle.guest_run.specs.declared.pace.Pace.{Pace}
 use Rattle.guest_run.specs.declared.pace.Pace.TheVariants.{GoesOn, TurnOver, Ends}
 use Rattle.guest_run.specs.Machine.{Progress, Machine, guest}
-use Rattle.guest_run.specs.Run.{Move, WrittenRun, Position, Chosen, asked, by_turn, chosen_by, chosen, position_after, with_move, by_pace, move_of, after_step, go_on, run_from, run, start, current, recording}
+use Rattle.guest_run.specs.Run.{Move, Position, Chosen, by_turn, chosen_by, chosen, position_after, with_move, by_pace, move_of, after_step, go_on, run_from, run, start, current, recording}
 use Rattle.guest_run.specs.Run.Chosen.{Moves, Stops}
 use Rattle.guest_run.specs.Profiled.{Profiled, profiled}
 use Rattle.guest_run.specs.Watched.{watched, with_cut}
 use Rattle.guest_run.specs.Laws.{IsNoMismatch, ReplaysRun, ReplaysProfiled, scheduler}
-use Rattle.guest_run.proofs.Chosen.{Has, Has-turn}
+use Rattle.guest_run.proofs.Chosen.{Has-turn}
 use Rattle.guest_run.proofs.Watched.{profiled_is_watched}
 
 -- a scheduler of another quantum, with these entries from this line on

@@ -1,5 +1,5 @@
 -- A profiled run is the run of the watched machine.
-use Rattle.std.proofs.Common.{◌≡◌, ℕ, zero, suc, Bool, true, false, cond, List, [], ◌∷◌, ◌++◌, reverse, refl, sym, ap, subst, ◌∙◌}
+use Rattle.std.proofs.Common.{◌≡◌, ℕ, zero, suc, Bool, true, false, cond, List, [], ◌∷◌, ◌++◌, reverse, refl, sym, ap, ◌∙◌}
 use Rattle.std.specs.Prelude.{pred}
 use Rattle.guest_words.specs.declared.endings.Finish.{Finish}
 use Rattle.guest_words.specs.declared.endings.Finish.TheVariants.{Deep}
@@ -11,7 +11,7 @@ use Rattle.thread_sched.specs.TurnRule.{Known, turn_of}
 use Rattle.guest_run.specs.declared.pace.Pace.{Pace}
 use Rattle.guest_run.specs.declared.pace.Pace.TheVariants.{GoesOn, TurnOver, Ends}
 use Rattle.guest_run.specs.Machine.{Progress, Machine}
-use Rattle.guest_run.specs.Run.{Move, WrittenRun, Position, Chosen, asked, by_turn, chosen_by, chosen, position_after, with_move, by_pace, move_of, after_step, go_on, run_from, run, start, events_of}
+use Rattle.guest_run.specs.Run.{Move, WrittenRun, Position, Chosen, by_turn, chosen_by, chosen, position_after, with_move, by_pace, move_of, after_step, go_on, run_from, run, start, events_of}
 use Rattle.guest_run.specs.Run.Chosen.{Moves, Stops}
 use Rattle.guest_run.specs.Profiled.{past_after, moves_kept, Profiled, profiled}
 use Rattle.guest_run.specs.Watched.{watched_step, watched, with_cut}

@@ -1,5 +1,5 @@
 -- What the program keeps of a run, in the words of the run.
-use Rattle.std.specs.Prelude.{◌≡◌, ℕ, ◌++◌, ◌∷◌, [], true, List, reverse}
+use Rattle.std.specs.Prelude.{◌≡◌, ℕ, ◌++◌, [], true, List, reverse}
 use Rattle.trace_model.specs.declared.event_kinds.Event.{Event}
 use Rattle.trace_model.specs.Depth.{cut, is_within}
 use Rattle.guest_machine.specs.Machine.{MachineState}

@@ -1,17 +1,18 @@
 -- The laws of a run by turns.
-use Rattle.std.specs.Prelude.{◌≡◌, ℕ, ◌≤◌, true, false, List, ◌++◌, length, sum_by}
+use Rattle.std.specs.Prelude.{◌≡◌, ℕ, ◌+◌, ◌≤◌, true, false, List, ◌++◌, length, reverse, sum_by}
 use Rattle.std.specs.List.{All}
 use Rattle.guest_words.specs.declared.endings.Finish.{Finish}
 use Rattle.guest_words.specs.declared.endings.Finish.TheVariants.{Exit, Fault, Budget, Deadlock, Deep, Schedule}
 use Rattle.trace_model.specs.declared.event_kinds.Event.{Event}
 use Rattle.trace_model.specs.Depth.{is_within}
+use Rattle.trace_model.specs.Profile.{steps}
 use Rattle.thread_sched.specs.declared.entry.Entry.{Entry}
 use Rattle.thread_sched.specs.TurnRule.{Known}
 use Rattle.guest_machine.specs.Machine.{MachineState}
 use Rattle.guest_run.specs.declared.pace.Pace.TheVariants.{Ends}
 use Rattle.guest_run.specs.Machine.{Machine, guest}
 use Rattle.guest_run.specs.Run.{WrittenRun, events_of, recording, run}
-use Rattle.guest_run.specs.Profiled.{Profiled, past_after, profiled}
+use Rattle.guest_run.specs.Profiled.{past_after, profiled}
 
 -- what a scheduler knows before the first turn
 abbrev pub scheduler : ℕ → List Entry → Known
@@ -82,3 +83,25 @@ pub record IsProfileOf (most : ℕ) (past : List Event) (whole : WrittenRun) : T
 
 abbrev pub ProfilesPart : Type 0
 ProfilesPart = (most : ℕ) (past : List Event) (whole : WrittenRun) → IsProfileOf most past whole
+
+-- the move that faults
+abbrev pub faults : Finish → ℕ
+faults (Fault kind tid at) = 1
+faults (Exit status) = 0
+faults Budget = 0
+faults Deadlock = 0
+faults Deep = 0
+faults (Schedule line) = 0
+
+-- A run of the guest has a step for each move, but for the one that faults.
+abbrev pub CountsSteps : Type 0
+CountsSteps =
+    (turns : Known) (budget : ℕ) (state : MachineState) →
+    let whole = run guest turns budget state in
+    steps (reverse (events_of whole.moves)) + faults whole.finish ≡ length whole.moves
+
+-- So what is profiled of it has at most as many steps as its budget, beside those of the past before it.
+abbrev pub StepsWithin : Type 0
+StepsWithin =
+    (most : ℕ) (past : List Event) (turns : Known) (budget : ℕ) (state : MachineState) →
+    steps (profiled most past (run guest turns budget state)).past ≤ steps past + budget

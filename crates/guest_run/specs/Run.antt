@@ -3,7 +3,6 @@ use Rattle.std.specs.Prelude.{ℕ, zero, suc, pred, ◌==◌, Bool, true, false,
 use Rattle.guest_words.specs.declared.endings.Finish.{Finish}
 use Rattle.guest_words.specs.declared.endings.Finish.TheVariants.{Budget, Deadlock, Schedule}
 use Rattle.trace_model.specs.declared.event_kinds.Event.{Event}
-use Rattle.trace_model.specs.declared.event_kinds.Event.TheVariants.{Start}
 use Rattle.thread_sched.specs.declared.entry.Entry.{Entry}
 use Rattle.thread_sched.specs.declared.turns.Turn.{Turn}
 use Rattle.thread_sched.specs.declared.turns.Turn.TheVariants as turn
@@ -95,10 +94,6 @@ run machine turns budget state = run_from machine budget (start turns state)
 abbrev pub events_of : List Move → List Event
 events_of [] = []
 events_of (move ∷ moves) = move.events ++ events_of moves
-
--- The trace of a run that begins at the entry: thread 1 starts, and then come the events of the moves.
-abbrev pub trace : ℕ → List Move → List Event
-trace entry moves = Start 1 entry ∷ events_of moves
 
 -- what goes out on a channel
 abbrev pub sent : ℕ → Option (ℕ × List ℕ) → List ℕ

@@ -1,8 +1,7 @@
-use Rattle.std.proofs.Common.{◌≡◌, ◌∙◌, ◌-◌, length, arith, ap, sym, subst}
+use Rattle.std.proofs.Common.{◌≡◌, ◌∙◌, ◌-◌, arith, ap}
 use Rattle.guest_run.proofs.Callers.{IsPlace-found, IsPlace-pushed, calls-pushed}
 use Rattle.guest_run.specs.declared.depth.Caller.{Caller}
-use Rattle.guest_run.specs.Open.{IsPlace}
-use Rattle.std.proofs.Common.{List, ℕ, Option, None}
+use Rattle.std.proofs.Common.{List, None}
 use Rattle.std.specs.List.{position}
 use Rattle.std.specs.Prelude.{◌==◌}
 use Rattle.guest_run.proofs.depth.place_of.Goals as goal

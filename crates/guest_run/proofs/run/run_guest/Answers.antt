@@ -1,4 +1,4 @@
-use Rattle.std.proofs.Common.{◌≡◌, ◌-◌, ap, sym, subst, arith, Some, Option}
+use Rattle.std.proofs.Common.{◌≡◌, ◌-◌, subst, arith, Option}
 use Rattle.std.proofs.lemmas.Result.{IfOk-weaker}
 use Rattle.guest_words.specs.declared.endings.Finish.{Finish}
 use Rattle.guest_machine.specs.Kept.{machine_of}
@@ -8,7 +8,7 @@ use Rattle.guest_run.specs.Machine.{guest}
 use Rattle.guest_run.specs.Profiled.{first_past, profiled}
 use Rattle.guest_run.specs.Run.{run}
 use Rattle.guest_run.specs.Shown.{shown_of}
-use Rattle.guest_run.proofs.Ends.{Remains-first, Remains-ends, Remains-goes_on, Remains-spent}
+use Rattle.guest_run.proofs.Ends.{Remains-first, Remains-ends, Remains-spent}
 use Rattle.guest_run.proofs.run.run_guest.Goals as goal
 
 pub loop-count-init : goal.loop-count-init

@@ -1,4 +1,4 @@
-use Rattle.std.proofs.Common.{◌≡◌, ◌∙◌, ap, get_or}
+use Rattle.std.proofs.Common.{◌≡◌, ◌∙◌, ap}
 use Rattle.guest_run.specs.declared.depth.Caller.{Caller}
 use Rattle.guest_run.proofs.Callers.{returned}
 use Rattle.guest_run.proofs.depth.Depth.returned.Goals as goal

@@ -1,4 +1,4 @@
-use Rattle.std.proofs.Common.{◌≡◌, ◌∙◌, ◌+◌, ◌<◌, ap, sym, refl, subst, List, ℕ, Option, Some, None, length, take, reverse, false}
+use Rattle.std.proofs.Common.{◌≡◌, ◌∙◌, ◌+◌, ◌<◌, ap, refl, subst, List, ℕ, Option, length, take, reverse, false}
 use Rattle.std.specs.Prelude.{MatchOption}
 use Rattle.trace_model.specs.Depth.{is_within}
 use Rattle.trace_model.specs.EventList.{EventList}

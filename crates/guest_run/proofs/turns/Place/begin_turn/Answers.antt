@@ -1,6 +1,5 @@
-use Rattle.std.proofs.Common.{◌≡◌, ◌∙◌, Bool, true, ℕ, List, ap, sym, refl}
+use Rattle.std.proofs.Common.{◌≡◌, ◌∙◌, true, ap, sym}
 use Rattle.guest_machine.specs.Kept.{machine_of}
-use Rattle.guest_run.specs.declared.turns.Choice.TheVariants.{Moves}
 use Rattle.thread_sched.specs.TurnRule.{Known, turn_of}
 use Rattle.guest_run.proofs.Chosen.{turn-can}
 use Rattle.guest_run.proofs.turns.Place.begin_turn.Goals as goal
