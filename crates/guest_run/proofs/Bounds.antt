@@ -1,0 +1,168 @@
+-- How many moves a run has, its turns, and what is profiled of it.
+use Rattle.std.proofs.Common.{◌≡◌, ℕ, zero, suc, ◌+◌, ◌≤◌, Bool, true, false, cond, List, [], ◌∷◌, length, reverse, refl, sym, ap, ◌∙◌, arith}
+use Rattle.std.specs.Prelude.{sum_by}
+use Rattle.std.specs.List.{All}
+use Rattle.std.proofs.lemmas.Bool.{true≢false}
+use Rattle.std.proofs.lemmas.List.Elements.{All-cons, All-nil}
+use Rattle.std.proofs.lemmas.List.Sums.{sum_by-cons}
+use Rattle.guest_words.specs.declared.endings.Finish.{Finish}
+use Rattle.guest_words.specs.declared.endings.Finish.TheVariants.{Budget, Deep}
+use Rattle.trace_model.specs.declared.event_kinds.Event.{Event}
+use Rattle.trace_model.specs.Depth.{is_within}
+use Rattle.thread_sched.specs.declared.entry.Entry.{Entry}
+use Rattle.thread_sched.specs.declared.turns.Turn.{Turn}
+use Rattle.thread_sched.specs.declared.turns.Turn.TheVariants as turn
+use Rattle.thread_sched.specs.TurnRule.{turn_of}
+use Rattle.guest_machine.specs.declared.stepped.Stepped.{Stepped}
+use Rattle.guest_machine.specs.declared.stepped.Stepped.TheVariants.{Went, Yielded, Blocked, Ended, Finished, Faulted}
+use Rattle.guest_machine.specs.Step.{step}
+use Rattle.guest_run.specs.declared.pace.Pace.{Pace}
+use Rattle.guest_run.specs.declared.pace.Pace.TheVariants.{GoesOn, TurnOver, Ends}
+use Rattle.guest_run.specs.Machine.{Machine, guest, pace_of}
+use Rattle.guest_run.specs.Run.{Move, WrittenRun, Position, Chosen, by_turn, chosen_by, chosen, with_move, by_pace, move_of, go_on, run_from, run, start, events_of, current, recording}
+use Rattle.guest_run.specs.Run.Chosen.{Moves, Stops}
+use Rattle.guest_run.specs.Profiled.{past_after, moves_kept, profiled}
+use Rattle.guest_run.specs.Laws.{StaysWithin, NeverEndsForBudget, SpendsBudget, RecordsTurns, IsPrefix, ProfilesPart}
+use Rattle.guest_run.proofs.Pasts.{cut-within, past_after-append, within-earlier}
+use Rattle.guest_run.proofs.Replayed.{current-over}
+
+-- A fact of every run from a position on, by a step: it holds where there is no move, and goes over a move.
+pub record Steps {State : Type 0} (machine : Machine State) (Holds : ℕ → WrittenRun → Type 0) : Type 0 where
+  pub spent : Holds 0 (record { moves = []; finish = Budget })
+  pub stops : (more : ℕ) (at : Position State) (finish : Finish) → chosen machine at ≡ Stops finish → Holds (suc more) (record { moves = []; finish = finish })
+  pub ends : (more : ℕ) (opens : Bool) (state : State) (tid : ℕ) (finish : Finish) → (machine.step state tid).pace ≡ Ends finish →
+      Holds (suc more) (record { moves = move_of opens tid (machine.step state tid) ∷ []; finish = finish })
+  pub moves : (more : ℕ) (opens : Bool) (state : State) (tid : ℕ) (run : WrittenRun) → ((finish : Finish) → (machine.step state tid).pace ≡ Ends finish → ⊥) → Holds more run → Holds (suc more) (with_move (move_of opens tid (machine.step state tid)) run)
+
+pub each_run : {State : Type 0} (machine : Machine State) (Holds : ℕ → WrittenRun → Type 0) → Steps machine Holds → (fuel : ℕ) (at : Position State) → Holds fuel (run_from machine fuel at)
+unfolding run_from
+each_run machine Holds steps zero at = steps.spent
+each_run {State} machine Holds steps (suc more) at = by (chosen machine at) refl (each_run machine Holds steps more)
+  where
+    paced : ((at : Position State) → Holds more (run_from machine more at)) → (opens : Bool) (to : Position State) (pace : Pace) → (machine.step to.state to.turns.last).pace ≡ pace →
+        Holds (suc more) (by_pace (run_from machine more) (move_of opens to.turns.last (machine.step to.state to.turns.last)) to (machine.step to.state to.turns.last).state pace)
+    paced ih opens to GoesOn e = steps.moves more opens to.state to.turns.last _ (λ finish over. absurd (let no : GoesOn ≡ Ends finish = sym e ∙ over in cc)) (ih _)
+    paced ih opens to TurnOver e = steps.moves more opens to.state to.turns.last _ (λ finish over. absurd (let no : TurnOver ≡ Ends finish = sym e ∙ over in cc)) (ih _)
+    paced ih opens to (Ends finish) e = steps.ends more opens to.state to.turns.last finish e
+
+    by : (c : Chosen State) → chosen machine at ≡ c → ((at : Position State) → Holds more (run_from machine more at)) → Holds (suc more) (go_on machine (run_from machine more) c)
+    by (Moves opens to) e ih = paced ih opens to (machine.step to.state to.turns.last).pace refl
+    by (Stops finish) e ih = steps.stops more at finish e
+
+moves-within : {State : Type 0} (machine : Machine State) (fuel : ℕ) (at : Position State) → length (run_from machine fuel at).moves ≤ fuel
+moves-within {State} machine = each_run machine (λ fuel run. length run.moves ≤ fuel) (record {
+  spent = omega arith;
+  stops = λ more at finish e. omega arith;
+  ends = λ more opens state tid finish e. omega arith;
+  moves = λ more opens state tid run goes ih. omega (arith, ih);
+})
+
+pub stays_within : {State : Type 0} (machine : Machine State) → StaysWithin machine
+stays_within machine turns budget state = moves-within machine budget (start turns state)
+
+-- a turn rule's answer is no end for the budget
+stops-other : {State : Type 0} (machine : Machine State) (at : Position State) → chosen machine at ≡ Stops Budget → ⊥
+unfolding chosen
+stops-other {State} machine at e = by at.left e
+  where
+    turned : (t : Turn) → by_turn at.turns (machine.wake at.state) t ≡ Stops Budget → ⊥
+    turned (turn.Run tid most) e' = cc
+    turned turn.Deadlock e' = cc
+    turned (turn.Mismatch line) e' = cc
+
+    by : (left : ℕ) → chosen_by machine at left ≡ Stops Budget → ⊥
+    by zero e' = turned (turn_of at.turns (machine.ready (machine.wake at.state))) e'
+    by (suc more) e' = cc
+
+spends : {State : Type 0} (machine : Machine State) → NeverEndsForBudget machine → SpendsBudget machine
+spends {State} machine never turns budget state =
+    each_run machine (λ fuel run. run.finish ≡ Budget → length run.moves ≡ fuel) (record {
+      spent = λ e. refl;
+      stops = λ more at finish e ended. absurd (stops-other machine at (e ∙ ap Stops ended));
+      ends = λ more opens state tid finish e ended. absurd (never state tid (e ∙ ap Ends ended));
+      moves = λ more opens state tid run goes ih ended. ap suc (ih ended);
+    }) budget (start turns state)
+
+paces-other : (tid : ℕ) (outcome : Stepped) → pace_of tid outcome ≡ Ends Budget → ⊥
+paces-other tid Went e = cc
+paces-other tid Yielded e = cc
+paces-other tid Blocked e = cc
+paces-other tid Ended e = cc
+paces-other tid (Finished status) e = cc
+paces-other tid (Faulted kind at) e = cc
+
+pub spends_budget : SpendsBudget guest
+spends_budget = spends guest (λ m tid e. paces-other tid (step m tid).outcome e)
+
+-- the turns that begin in these moves
+abbrev IsTurn : ℕ → Entry → Type 0
+IsTurn budget entry = (1 ≤ entry.most) × (entry.most ≤ budget)
+
+current-le : (moves : List Move) → current moves ≤ length moves
+current-le [] = omega arith
+current-le (move ∷ moves) = by move.opens (current-le moves)
+  where
+    by : (b : Bool) → current moves ≤ length moves → cond b 0 (suc (current moves)) ≤ suc (length moves)
+    by true ih = omega arith
+    by false ih = omega (arith, ih)
+
+recording-each : (budget : ℕ) (moves : List Move) → length moves ≤ budget → All (IsTurn budget) (recording moves)
+recording-each budget [] h = All-nil (IsTurn budget)
+recording-each budget (move ∷ moves) h = by move.opens (recording-each budget moves (omega (arith, h)))
+  where
+    by : (b : Bool) → All (IsTurn budget) (recording moves) → All (IsTurn budget) (cond b (record { tid = move.tid; most = suc (current moves) } ∷ recording moves) (recording moves))
+    by true ih = All-cons (IsTurn budget) (record { tid = move.tid; most = suc (current moves) }) (recording moves) (omega arith, omega (arith, current-le moves, h)) ih
+    by false ih = ih
+
+recording-sum : (moves : List Move) → current moves + sum_by (λ (entry : Entry). entry.most) (recording moves) ≡ length moves
+recording-sum [] = refl
+recording-sum (move ∷ moves) = by move.opens (recording-sum moves)
+  where
+    by : (b : Bool) → current moves + sum_by (λ (entry : Entry). entry.most) (recording moves) ≡ length moves →
+        cond b 0 (suc (current moves)) + sum_by (λ (entry : Entry). entry.most) (cond b (record { tid = move.tid; most = suc (current moves) } ∷ recording moves) (recording moves)) ≡ suc (length moves)
+    by true ih = omega (arith, ih, sum_by-cons (λ (entry : Entry). entry.most) (record { tid = move.tid; most = suc (current moves) }) (recording moves))
+    by false ih = omega (arith, ih)
+
+pub records_turns : {State : Type 0} (machine : Machine State) → RecordsTurns machine
+records_turns {State} machine turns budget state =
+    let whole : WrittenRun = run machine turns budget state in
+    let over : current whole.moves ≡ 0 = current-over machine budget (start turns state) refl in
+    record {
+      each = recording-each budget whole.moves (stays_within machine turns budget state);
+      all = omega (arith, recording-sum whole.moves, over);
+    }
+
+-- ---- what is profiled
+kept-prefix : (most : ℕ) (past : List Event) (moves : List Move) → IsPrefix (moves_kept most past moves) moves
+kept-prefix most past [] = ([], refl)
+kept-prefix most past (move ∷ moves) = by (is_within (past_after past move.events) most) (kept-prefix most (past_after past move.events) moves)
+  where
+    by : (b : Bool) → IsPrefix (moves_kept most (past_after past move.events) moves) moves →
+        IsPrefix (move ∷ cond b (moves_kept most (past_after past move.events) moves) []) (move ∷ moves)
+    by true ih = (ih.0, ap (λ ms. move ∷ ms) ih.1)
+    by false ih = (moves, refl)
+
+kept-whole : (most : ℕ) (past : List Event) (moves : List Move) → is_within (past_after past (events_of moves)) most ≡ true → moves_kept most past moves ≡ moves
+kept-whole most past [] h = refl
+kept-whole most past (move ∷ moves) h =
+    by (is_within (past_after past move.events) most) refl (kept-whole most (past_after past move.events) moves) (ap (λ p. is_within p most) (sym (past_after-append past move.events (events_of moves))) ∙ h)
+  where
+    by : (b : Bool) → is_within (past_after past move.events) most ≡ b →
+        (is_within (past_after (past_after past move.events) (events_of moves)) most ≡ true → moves_kept most (past_after past move.events) moves ≡ moves) →
+        is_within (past_after (past_after past move.events) (events_of moves)) most ≡ true →
+        move ∷ cond b (moves_kept most (past_after past move.events) moves) [] ≡ move ∷ moves
+    by true e ih h' = ap (λ ms. move ∷ ms) (ih h')
+    by false e ih h' = absurd (true≢false (sym h' ∙ within-earlier (past_after past move.events) (reverse (events_of moves)) most e))
+
+pub profiles_part : ProfilesPart
+unfolding profiled
+profiles_part most past whole =
+    let all = past_after past (events_of whole.moves) in
+    record {
+      moves = kept-prefix most past whole.moves;
+      passed = λ h.
+          ap (λ ms. record { moves = ms; past = (profiled most past whole).past; finish = (profiled most past whole).finish }) (kept-whole most past whole.moves h)
+          ∙ ap (λ p. record { moves = whole.moves; past = p; finish = (profiled most past whole).finish }) (cut-within all most h)
+          ∙ ap (λ b. record { moves = whole.moves; past = all; finish = cond b whole.finish Deep }) h;
+      failed = λ h. ap (λ b. cond b whole.finish Deep) h;
+    }

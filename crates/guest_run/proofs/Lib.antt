@@ -1,0 +1,12 @@
+pub mod Able
+pub mod Chosen
+pub mod Pasts
+pub mod Watched
+pub mod Callers
+pub mod Followed
+pub mod Steps
+pub mod Advances
+pub mod Ends
+pub mod Replayed
+pub mod Bounds
+pub mod Counted

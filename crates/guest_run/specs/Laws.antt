@@ -1,0 +1,107 @@
+-- The laws of a run by turns.
+use Rattle.std.specs.Prelude.{◌≡◌, ℕ, ◌+◌, ◌≤◌, true, false, List, ◌++◌, length, reverse, sum_by}
+use Rattle.std.specs.List.{All}
+use Rattle.guest_words.specs.declared.endings.Finish.{Finish}
+use Rattle.guest_words.specs.declared.endings.Finish.TheVariants.{Exit, Fault, Budget, Deadlock, Deep, Schedule}
+use Rattle.trace_model.specs.declared.event_kinds.Event.{Event}
+use Rattle.trace_model.specs.Depth.{is_within}
+use Rattle.trace_model.specs.Profile.{steps}
+use Rattle.thread_sched.specs.declared.entry.Entry.{Entry}
+use Rattle.thread_sched.specs.TurnRule.{Known}
+use Rattle.guest_machine.specs.Machine.{MachineState}
+use Rattle.guest_run.specs.declared.pace.Pace.TheVariants.{Ends}
+use Rattle.guest_run.specs.Machine.{Machine, guest}
+use Rattle.guest_run.specs.Run.{WrittenRun, events_of, recording, run}
+use Rattle.guest_run.specs.Profiled.{past_after, profiled}
+
+-- what a scheduler knows before the first turn
+abbrev pub scheduler : ℕ → List Entry → Known
+scheduler quantum schedule = record { quantum = quantum; last = 0; line = 1; entries = schedule }
+
+-- the run did not end at an entry of its schedule
+abbrev pub IsNoMismatch : Finish → Type 0
+IsNoMismatch (Schedule line) = ⊥
+IsNoMismatch (Exit status) = Unit {0}
+IsNoMismatch (Fault kind tid at) = Unit {0}
+IsNoMismatch Budget = Unit {0}
+IsNoMismatch Deadlock = Unit {0}
+IsNoMismatch Deep = Unit {0}
+
+-- A run is the same under the schedule that is its own recording, and under any quantum, as the recording has all its
+-- turns; unless it ended at an entry of its schedule.
+abbrev pub ReplaysRun : {State : Type 0} → Machine State → Type 0
+ReplaysRun {State} machine =
+    (quantum other budget : ℕ) (schedule : List Entry) (state : State) →
+    let first = run machine (scheduler quantum schedule) budget state in
+    IsNoMismatch first.finish → run machine (scheduler other (recording first.moves)) budget state ≡ first
+
+-- So is a profiled run of the guest, whatever the greatest stamp, where no activation is too deep before its first move.
+abbrev pub ReplaysProfiled : Type 0
+ReplaysProfiled =
+    (most : ℕ) (past : List Event) (quantum other budget : ℕ) (schedule : List Entry) (state : MachineState) →
+    is_within past most ≡ true →
+    let first = profiled most past (run guest (scheduler quantum schedule) budget state) in
+    IsNoMismatch first.finish →
+    profiled most past (run guest (scheduler other (recording first.moves)) budget state) ≡ first
+
+-- A run has at most as many moves as its budget.
+abbrev pub StaysWithin : {State : Type 0} → Machine State → Type 0
+StaysWithin {State} machine = (turns : Known) (budget : ℕ) (state : State) → length (run machine turns budget state).moves ≤ budget
+
+-- No step of the machine ends a run for the budget.
+abbrev pub NeverEndsForBudget : {State : Type 0} → Machine State → Type 0
+NeverEndsForBudget {State} machine = (state : State) (tid : ℕ) → (machine.step state tid).pace ≡ Ends Budget → ⊥
+
+-- A run that ends for its budget has made as many moves.
+abbrev pub SpendsBudget : {State : Type 0} → Machine State → Type 0
+SpendsBudget {State} machine =
+    (turns : Known) (budget : ℕ) (state : State) →
+    (run machine turns budget state).finish ≡ Budget → length (run machine turns budget state).moves ≡ budget
+
+-- Each turn of a recording has a move and at most as many as the budget, and all together have the moves of the run.
+pub record TurnsHaveMoves (recorded : List Entry) (moves budget : ℕ) : Type 0 where
+  pub each : All (λ (entry : Entry). (1 ≤ entry.most) × (entry.most ≤ budget)) recorded
+  pub all : sum_by (λ (entry : Entry). entry.most) recorded ≡ moves
+
+abbrev pub RecordsTurns : {State : Type 0} → Machine State → Type 0
+RecordsTurns {State} machine =
+    (turns : Known) (budget : ℕ) (state : State) →
+    let whole = run machine turns budget state in
+    TurnsHaveMoves (recording whole.moves) (length whole.moves) budget
+
+-- the first list is what the second begins with
+abbrev pub IsPrefix : {X : Type 0} → List X → List X → Type 0
+IsPrefix {X} xs ys = (rest : List X) × (xs ++ rest ≡ ys)
+
+-- What is profiled of a run is a part of it, from its begin on; a run in which no activation is too deep is profiled whole,
+-- and any other ends with `Deep`.
+pub record IsProfileOf (most : ℕ) (past : List Event) (whole : WrittenRun) : Type 0 where
+  pub moves : IsPrefix (profiled most past whole).moves whole.moves
+  pub passed : is_within (past_after past (events_of whole.moves)) most ≡ true →
+      profiled most past whole ≡ record { moves = whole.moves; past = past_after past (events_of whole.moves); finish = whole.finish }
+  pub failed : is_within (past_after past (events_of whole.moves)) most ≡ false → (profiled most past whole).finish ≡ Deep
+
+abbrev pub ProfilesPart : Type 0
+ProfilesPart = (most : ℕ) (past : List Event) (whole : WrittenRun) → IsProfileOf most past whole
+
+-- the move that faults
+abbrev pub faults : Finish → ℕ
+faults (Fault kind tid at) = 1
+faults (Exit status) = 0
+faults Budget = 0
+faults Deadlock = 0
+faults Deep = 0
+faults (Schedule line) = 0
+
+-- A run of the guest has a step for each move, but for the one that faults.
+abbrev pub CountsSteps : Type 0
+CountsSteps =
+    (turns : Known) (budget : ℕ) (state : MachineState) →
+    let whole = run guest turns budget state in
+    steps (reverse (events_of whole.moves)) + faults whole.finish ≡ length whole.moves
+
+-- So what is profiled of it has at most as many steps as its budget, beside those of the past before it.
+abbrev pub StepsWithin : Type 0
+StepsWithin =
+    (most : ℕ) (past : List Event) (turns : Known) (budget : ℕ) (state : MachineState) →
+    steps (profiled most past (run guest turns budget state)).past ≤ steps past + budget

@@ -1,0 +1,45 @@
+-- What a run needs of the machine that it drives, and the guest as such a machine.
+use Rattle.std.specs.Prelude.{ℕ, Bool, List, Option}
+use Rattle.guest_words.specs.declared.endings.Finish.TheVariants.{Exit, Fault}
+use Rattle.trace_model.specs.declared.event_kinds.Event.{Event}
+use Rattle.guest_calls.specs.Kernel.{ready}
+use Rattle.guest_machine.specs.declared.stepped.Stepped.{Stepped}
+use Rattle.guest_machine.specs.declared.stepped.Stepped.TheVariants.{Went, Yielded, Blocked, Ended, Finished, Faulted}
+use Rattle.guest_machine.specs.Machine.{MachineState}
+use Rattle.guest_machine.specs.Step.{StepResult, step}
+use Rattle.guest_run.specs.declared.pace.Pace.{Pace}
+use Rattle.guest_run.specs.declared.pace.Pace.TheVariants.{GoesOn, TurnOver, Ends}
+
+-- a turn is over early where its thread yields, waits or ends
+abbrev pub pace_of : ℕ → Stepped → Pace
+pace_of tid Went = GoesOn
+pace_of tid Yielded = TurnOver
+pace_of tid Blocked = TurnOver
+pace_of tid Ended = TurnOver
+pace_of tid (Finished status) = Ends (Exit status)
+pace_of tid (Faulted kind at) = Ends (Fault kind tid at)
+
+-- What one step gives: the state after it, its events in order, the bytes that go out with their channel, and its pace.
+pub record Progress (State : Type 0) : Type 0 where
+  pub state : State
+  pub events : List Event
+  pub out : Option (ℕ × List ℕ)
+  pub pace : Pace
+
+-- A machine: the step of a thread, the live threads with whether each can run, and what is woken before the next turn is
+-- chosen.
+pub record Machine (State : Type 0) : Type 0 where
+  pub step : State → ℕ → Progress State
+  pub ready : State → List (ℕ × Bool)
+  pub wake : State → State
+
+abbrev pub progress_of : ℕ → StepResult → Progress MachineState
+progress_of tid r = record { state = r.machine; events = r.events; out = r.out; pace = pace_of tid r.outcome }
+
+-- The guest, whose threads no clock wakes.
+abbrev pub guest : Machine MachineState
+guest = record {
+  step = λ m tid. progress_of tid (step m tid);
+  ready = λ m. ready m.kernel;
+  wake = λ m. m;
+}

@@ -1,0 +1,22 @@
+//! Laws of a run: each is the contract of a function that does nothing.
+ghost use Rattle.guest_run.specs.Laws.{CountsSteps, ProfilesPart, RecordsTurns, ReplaysProfiled, ReplaysRun, SpendsBudget, StaysWithin, StepsWithin};
+ghost use Rattle.guest_run.specs.Machine.{guest};
+
+/// A run of the guest under the schedule that is its own recording is the same in all its moves and its end, and so is a
+/// profiled run, unless it ended at an entry of its schedule.
+pub fn runs_replay()
+    ensures run { ReplaysRun guest }
+    ensures profiled { ReplaysProfiled }
+{}
+
+/// The bounds of a run of the guest: it has at most as many moves as its budget, and as many where it ends for the budget;
+/// each turn that it records has a move. What is profiled of it is a part of it, from its begin on. It has a step for each
+/// move but the one that faults, and so has what is profiled of it no more than the budget.
+pub fn runs_stay_within()
+    ensures moves { StaysWithin guest }
+    ensures spent { SpendsBudget guest }
+    ensures turns { RecordsTurns guest }
+    ensures profiled { ProfilesPart }
+    ensures steps { CountsSteps }
+    ensures few { StepsWithin }
+{}

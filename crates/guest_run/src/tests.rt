@@ -1,0 +1,128 @@
+//! Small guests, by hand, and how their runs end.
+use super::*;
+use elf_image::read_image;
+use guest_calls::Inputs;
+use guest_machine::Machine;
+use guest_words::{FaultKind, Finish, Tid};
+use std::alloc::Global;
+use std::test::Fail;
+use thread_sched::{Sched, Schedule};
+
+// The header of a file of 120 bytes, with one segment at 0x10000, which holds the whole file. The code stands behind it, at
+// 0x10054, and then zeros.
+const HEADER: [u8; 84] = [
+    0x7f, 0x45, 0x4c, 0x46, 0x01, 0x01, 0x01, 0x00, 0x00, 0x00, 0x00, 0x00, 0x00, 0x00, 0x00, 0x00,
+    0x02, 0x00, 0xf3, 0x00, 0x01, 0x00, 0x00, 0x00, 0x54, 0x00, 0x01, 0x00, 0x34, 0x00, 0x00, 0x00,
+    0x00, 0x00, 0x00, 0x00, 0x00, 0x00, 0x00, 0x00, 0x34, 0x00, 0x20, 0x00, 0x01, 0x00, 0x28, 0x00,
+    0x00, 0x00, 0x00, 0x00, 0x01, 0x00, 0x00, 0x00, 0x00, 0x00, 0x00, 0x00, 0x00, 0x00, 0x01, 0x00,
+    0x00, 0x00, 0x01, 0x00, 0x78, 0x00, 0x00, 0x00, 0x78, 0x00, 0x00, 0x00, 0x07, 0x00, 0x00, 0x00,
+    0x00, 0x10, 0x00, 0x00,
+];
+
+fn file_of(alloc: Global, code: &[u32]) -> Result<Vec<u8>, Fail> {
+    let mut file = Vec::from_slice(alloc, &HEADER)?;
+    for word in code {
+        file.extend_from_slice(&word.to_le_bytes())?;
+    }
+    file.resize(120, 0)?;
+    Ok(file)
+}
+
+// A run of 200 steps at most, with stamps of eight bits.
+fn run_of(alloc: Global, code: &[u32], schedule: &str) -> Result<Run, Fail> {
+    let image = read_image(alloc, &file_of(alloc, code)?)?;
+    let arguments = [String::from_str(alloc, "image")?];
+    let machine = Machine::new(
+        alloc,
+        &image,
+        &arguments,
+        Inputs::new(alloc)?,
+        Vec::new(alloc),
+    )?;
+    let turns = Sched::new(3, Schedule::read(alloc, schedule.as_bytes())?);
+    Ok(run_guest(alloc, machine, turns, 200, 255)?)
+}
+
+#[test]
+fn each_run_ends_by_its_cause(rt: HostRuntime) -> Result<(), Fail> {
+    let alloc = rt.alloc();
+    let fault = Finish::Fault {
+        kind: FaultKind::Break,
+        tid: Tid::FIRST,
+        at: 0x10054,
+    };
+    let rows: [(&[u32], &str, Finish, u64, u64, &str); 7] = [
+        // addi x17,x0,93; addi x10,x0,0; ecall
+        (
+            &[0x05d0_0893, 0x513, 0x73],
+            "",
+            Finish::Exit { status: 0 },
+            3,
+            0,
+            "1 3\n",
+        ),
+        // ebreak
+        (&[0x0010_0073], "", fault, 0, 1, "1 1\n"),
+        // jal x0,0, by a schedule that gives the first turn 199 steps
+        (&[0x6f], "1 199\n", Finish::Budget, 200, 1, "1 199\n1 1\n"),
+        // a futex wait at 0x10000 for the word that stands there
+        (
+            &[0x0001_0537, 0x0005_2603, 0x593, 0x693, 0x1a60_0893, 0x73],
+            "",
+            Finish::Deadlock,
+            6,
+            1,
+            "1 3\n1 3\n",
+        ),
+        // jal x1,0: each of them is a call, and the 84th begins the 85th activation
+        (&[0xef], "1 84\n", Finish::Deep, 84, 84, "1 84\n"),
+        // the second entry's thread does not live
+        (
+            &[0x6f],
+            "1 2\n2 5\n",
+            Finish::Schedule { line: 2 },
+            2,
+            1,
+            "1 2\n",
+        ),
+        // a turn ends early where its thread yields: addi x17,x0,124; ecall; ebreak
+        (
+            &[0x07c0_0893, 0x73, 0x6f],
+            "1 5\n1 198\n",
+            Finish::Budget,
+            200,
+            1,
+            "1 2\n1 198\n",
+        ),
+    ];
+    for (code, schedule, finish, steps, pending, recording) in rows {
+        let run = run_of(alloc, code, schedule)?;
+        assert_eq!(rt; run.finish, finish);
+        assert_eq!(rt; run.steps, steps);
+        assert_eq!(rt; run.pending, pending);
+        assert_eq!(rt; run.recording.text(alloc)?.as_slice(), recording.as_bytes());
+    }
+    runs_replay();
+    runs_stay_within();
+    Ok(())
+}
+
+#[test]
+fn bytes_go_out_on_their_channel(rt: HostRuntime) -> Result<(), Fail> {
+    // write(1, 0x10000, 4), and then exit
+    let code = [
+        0x0010_0513,
+        0x0001_05b7,
+        0x0040_0613,
+        0x0400_0893,
+        0x73,
+        0x05d0_0893,
+        0x73,
+    ];
+    let run = run_of(rt.alloc(), &code, "")?;
+    assert_eq!(rt; run.out.as_slice(), b"\x7fELF".as_slice());
+    assert!(rt; run.err.is_empty());
+    assert_eq!(rt; run.finish, Finish::Exit { status: 4 });
+    assert_eq!(rt; run.events.list().len(), 10);
+    Ok(())
+}

@@ -1,0 +1,132 @@
+//! Who moves next, and the recording so far.
+ghost use Rattle.std.specs.Prelude.{◌≡◌, ◌≤◌, ◌+◌, ◌<◌, [], ◌∷◌, List, true, false, IfOk};
+ghost use Rattle.thread_sched.specs.TurnRule.{Known};
+ghost use Rattle.guest_machine.specs.Kept.{machine_of};
+ghost use Rattle.guest_machine.specs.Machine.{can_run};
+ghost use Rattle.guest_run.specs.Machine.{guest};
+ghost use Rattle.guest_run.specs.Place.{IsUnderWay, chosen_of, position, recorded};
+ghost use Rattle.guest_run.specs.Run.{Move, chosen};
+
+use guest_machine::Machine;
+use guest_words::{Finish, ReadyList, Tid};
+use std::alloc::{AllocError, Global};
+use thread_sched::{Recording, Sched, Turn};
+
+/// Where a run stands, beside its machine: the scheduler, the thread that has the present turn, and how many moves that
+/// turn has left at most, 0 where it is over.
+#[derive(Drop)]
+pub(crate) struct Place {
+    pub(crate) turns: Sched,
+    pub(crate) tid: Tid,
+    pub(crate) left: u64,
+}
+
+/// Who moves next: the thread of the place, in a new turn or not, or no one.
+#[derive(Clone, Copy)]
+pub(crate) enum Choice {
+    Moves { opens: bool },
+    Stops { finish: Finish },
+}
+
+impl Place {
+    /// Before the first turn.
+    pub(crate) fn new(turns: Sched) -> Place
+        ensures { (result.turns ≡ turns) × (result.left ≡ 0) }
+    {
+        Place {
+            turns,
+            tid: Tid::FIRST,
+            left: 0,
+        }
+    }
+
+    // Begins a turn.
+    #[tactic(auto, unfolding(crate::specs::Run::chosen))]
+    fn begin_turn(&mut self, machine: &Machine) -> Choice
+        requires { self.old.left ≡ 0 }
+        ensures chosen { chosen guest (position (machine_of machine.now) self.old) ≡ chosen_of (machine_of machine.now) self.new result }
+        ensures way { (opens : _) → result ≡ Choice.Moves opens → (opens ≡ true) × IsUnderWay (machine_of machine.now) self.new }
+    {
+        let mut live = ReadyList::new();
+        machine.ready_into(&mut live);
+        match self.turns.next(&live) {
+            Turn::Run { tid, most } => {
+                self.tid = tid;
+                self.left = most;
+                Choice::Moves { opens: true }
+            }
+            Turn::Deadlock => Choice::Stops {
+                finish: Finish::Deadlock,
+            },
+            Turn::Mismatch { line } => Choice::Stops {
+                finish: Finish::Schedule { line },
+            },
+        }
+    }
+
+    /// Chooses who moves next.
+    #[tactic(auto, unfolding(crate::specs::Run::chosen))]
+    pub(crate) fn choose(&mut self, machine: &Machine) -> Choice
+        requires { 0 < self.old.left → IsUnderWay (machine_of machine.now) self.old }
+        ensures chosen { chosen guest (position (machine_of machine.now) self.old) ≡ chosen_of (machine_of machine.now) self.new result }
+        ensures way { (opens : _) → result ≡ Choice.Moves opens → IsUnderWay (machine_of machine.now) self.new }
+        ensures going { result ≡ Choice.Moves false → 0 < self.old.left }
+    {
+        if self.left > 0 {
+            return Choice::Moves { opens: false };
+        }
+        self.begin_turn(machine)
+    }
+}
+
+/// The recording so far, and the present turn with how many moves it made.
+#[derive(Drop)]
+pub(crate) struct Recorder {
+    pub(crate) turns: Recording,
+    pub(crate) tid: Tid,
+    pub(crate) made: u64,
+}
+
+impl Recorder {
+    /// No turn.
+    pub(crate) fn new(alloc: Global) -> Result<Recorder, AllocError>
+        ensures { IfOk result (λ r. (r.turns ≡ []) × (r.made ≡ 0)) }
+    {
+        Ok(Recorder {
+            turns: Recording::new(alloc)?,
+            tid: Tid::FIRST,
+            made: 0,
+        })
+    }
+
+    /// Takes one more move.
+    pub(crate) fn add(&mut self, opens: bool, tid: Tid) -> Result<(), AllocError>
+        requires going { opens ≡ false → 0 < self.old.made }
+        requires room { self.old.made < 1000000000000 }
+        ensures recorded { IfOk result (λ u. (move : Move) (rest : List Move) → move.opens ≡ opens → move.tid ≡ tid → recorded self.old (move ∷ rest) ≡ recorded self.new rest) }
+        ensures made { IfOk result (λ u. (0 < self.new.made) × (self.new.made ≤ self.old.made + 1)) }
+    {
+        if !opens {
+            self.made += 1;
+            return Ok(());
+        }
+        if self.made > 0 {
+            self.turns.add(self.tid, self.made)?;
+        }
+        self.tid = tid;
+        self.made = 1;
+        Ok(())
+    }
+
+    /// The whole recording.
+    pub(crate) fn finish(self) -> Result<Recording, AllocError>
+        requires { self.made ≤ 1000000000000 }
+        ensures { IfOk result (λ turns. turns ≡ recorded self []) }
+    {
+        let mut turns = self.turns;
+        if self.made > 0 {
+            turns.add(self.tid, self.made)?;
+        }
+        Ok(turns)
+    }
+}
