@@ -1,0 +1,45 @@
+-- The command line as `clap` sees it: `aprof` with a required subcommand, and no help or version of any kind.
+use Rattle.std.specs.Prelude.{true, Some, List, codes}
+use Rattle.clap.specs.Lexer.{usize_max}
+use Rattle.clap.specs.Words.{App, Rule, Text, new_app, new_rule, with_rule, with_subcommand}
+use Rattle.clap.specs.declared.builder.ArgAction.TheVariants.{Append, Set}
+
+-- an option with one value, `--name VALUE`
+abbrev pub value_rule : Text → Rule
+value_rule name = record (new_rule name) { long = Some name; action = Some Set }
+
+-- `-o PATH`, which has to be there; its letter is 111
+abbrev pub output_rule : Rule
+output_rule = record (new_rule (codes "output")) { short = Some 111; action = Some Set; required = true }
+
+-- a word of its own that has to be there
+abbrev pub required_rule : Text → Rule
+required_rule name = record (new_rule name) { action = Some Set; required = true }
+
+-- any number of further words
+abbrev pub word_rule : Rule
+word_rule = record (new_rule (codes "word")) {
+  action = Some Append;
+  range = Some (record { start_inclusive = 0; end_inclusive = usize_max });
+}
+
+-- `run` with its options, the image and the further words
+unfoldable pub run_app : App
+run_app = with_rule (with_rule (with_rule (with_rule (with_rule (with_rule (with_rule (with_rule (new_app (codes "run"))
+    (value_rule (codes "stdin"))) (value_rule (codes "quantum"))) (value_rule (codes "schedule")))
+    (value_rule (codes "record"))) (value_rule (codes "budget"))) output_rule) (required_rule (codes "image"))) word_rule
+
+-- `aprof` without its subcommands
+unfoldable pub top_app : App
+top_app = let app = new_app (codes "aprof") in record app {
+  top = record app.top {
+    subcommand_required = true;
+    disable_help_flag = true;
+    disable_help_subcommand = true;
+    disable_version_flag = true;
+  };
+}
+
+-- the whole command
+unfoldable pub the_app : App
+the_app = with_subcommand top_app run_app.top

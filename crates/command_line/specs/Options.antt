@@ -1,0 +1,115 @@
+-- What the words of a command line ask for.
+use Rattle.std.specs.Prelude.{◌≡◌, ◌⊎◌, ℕ, Bool, false, ◌&&◌, ◌==◌, not, nat_eq, nat_le, if◌then◌else◌, List, [], ◌∷◌, length, drop, map, filter, Option, Some, None, option_map, option_and_then, unwrap_or, codes}
+use Rattle.std.specs.List.{list_all, list_any, starts_with}
+use Rattle.std.specs.Str.{bytes_eq}
+use Rattle.std.specs.Str.Parse.{digits_value}
+use Rattle.clap.specs.Words.{Row, all_of, first_of, subcommand_of, takes}
+use Rattle.command_line.specs.App.{the_app}
+
+-- What `run` is asked.
+pub record RunOptions : Type 0 where
+  -- the path of the report
+  pub report : List ℕ
+  -- the paths of the guest's standard input and of a schedule to follow
+  pub stdin : Option (List ℕ)
+  pub schedule : Option (List ℕ)
+  -- the path of a recording to write
+  pub recording : Option (List ℕ)
+  -- the steps of a turn, and of the whole run
+  pub quantum : ℕ
+  pub budget : ℕ
+  -- the path of the image, and the further words
+  pub image : List ℕ
+  pub words : List (List ℕ)
+
+-- ---- the further words
+
+-- the word stands for itself: it begins with `=`
+abbrev pub is_plain_argument : List ℕ → Bool
+is_plain_argument word = starts_with nat_eq word (codes "=")
+
+-- the argument that a word gives the guest
+abbrev pub argument_of : List ℕ → List ℕ
+argument_of word = if is_plain_argument word then drop 1 word else word
+
+-- the guest's arguments: the image's path, and the words without their `=`
+abbrev pub arguments : RunOptions → List (List ℕ)
+arguments options = options.image ∷ map argument_of options.words
+
+-- each of the names once, where it stands first
+abbrev pub distinct : List (List ℕ) → List (List ℕ)
+distinct [] = []
+distinct (name ∷ rest) = name ∷ filter (λ other. not (bytes_eq other name)) (distinct rest)
+
+-- the words that name files
+abbrev pub names : List (List ℕ) → List (List ℕ)
+names words = filter (λ word. not (is_plain_argument word)) words
+
+-- the names of the input files, each once
+abbrev pub inputs : RunOptions → List (List ℕ)
+inputs options = distinct (names options.words)
+
+-- ---- numbers
+
+abbrev pub is_digit : ℕ → Bool
+is_digit byte = nat_le 48 byte && nat_le byte 57
+
+-- one to twenty digits; leading zeros are taken
+abbrev pub is_numeral : List ℕ → Bool
+is_numeral text = nat_le 1 (length text) && nat_le (length text) 20 && list_all is_digit text
+
+-- the number that the text says, if that is in the range
+abbrev pub number_between : ℕ → ℕ → List ℕ → Option ℕ
+number_between least greatest text =
+    let number = digits_value 10 text in
+    if is_numeral text && nat_le least number && nat_le number greatest then Some number else None
+
+-- the number of an option that may be left out
+abbrev pub number_or : ℕ → ℕ → ℕ → Option (List ℕ) → Option ℕ
+number_or usual least greatest None = Some usual
+number_or usual least greatest (Some text) = number_between least greatest text
+
+-- ---- the options
+
+-- the steps of a turn: 1 to 10^9
+abbrev pub quantum_of : Option (List ℕ) → Option ℕ
+quantum_of = number_or 10000 1 1000000000
+
+-- the steps of a run: 1 to 10^12
+abbrev pub budget_of : Option (List ℕ) → Option ℕ
+budget_of = number_or 1000000000 1 1000000000000
+
+-- the options with these two numbers and these two paths, where all of them are there; the rest is read of the rows
+abbrev pub options_with : List Row → Option ℕ → Option ℕ → Option (List ℕ) → Option (List ℕ) → Option RunOptions
+options_with rows (Some quantum) (Some budget) (Some report) (Some image) = Some (record {
+  report = report;
+  stdin = first_of (codes "stdin") rows;
+  schedule = first_of (codes "schedule") rows;
+  recording = first_of (codes "record") rows;
+  quantum = quantum;
+  budget = budget;
+  image = image;
+  words = unwrap_or (all_of (codes "word") rows) [];
+})
+options_with rows _ _ _ _ = None
+
+-- the options that `clap`'s matches say: `None` where a number is out of its form or range
+abbrev pub options_of_rows : List Row → Option RunOptions
+options_of_rows rows = options_with rows
+    (quantum_of (first_of (codes "quantum") rows))
+    (budget_of (first_of (codes "budget") rows))
+    (first_of (codes "output") rows)
+    (first_of (codes "image") rows)
+
+abbrev pub has_zero : List ℕ → Bool
+has_zero word = list_any (λ byte. byte == 0) word
+
+-- What the words of a command line say, the program's name first: `None` where a word has a zero byte.
+unfoldable pub options_of : List (List ℕ) → Option RunOptions
+options_of words =
+    if list_any has_zero words then None
+    else option_and_then (λ found. options_of_rows found.1) (subcommand_of the_app words)
+
+-- What the words ask for; where `clap`'s stated test does not take them, a refusal is right too.
+abbrev pub AsksFor : List (List ℕ) → Option RunOptions → Type 0
+AsksFor words asked = (asked ≡ options_of words) ⊎ ((asked ≡ None) × (takes the_app words ≡ false))

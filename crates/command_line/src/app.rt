@@ -1,0 +1,81 @@
+//! The fixed command line.
+ghost use Rattle.std.specs.Prelude.{◌≡◌, IfOk, false, codes};
+ghost use Rattle.clap.specs.Words.{app_of, rule_of};
+ghost use Rattle.clap.specs.declared.builder.command.Command.TheViews.{out-Command};
+ghost use Rattle.command_line.specs.App.{the_app, top_app, run_app, output_rule, required_rule, value_rule, word_rule};
+
+use clap::{Arg, ArgAction, Command};
+use std::alloc::{AllocError, Global};
+
+// An option that takes one value, `--name VALUE`.
+fn value_option<'a>(alloc: Global, name: &'a str) -> Arg<'a>
+    ensures rule { rule_of result ≡ value_rule name.entry.now }
+    ensures local { result.global ≡ false }
+{
+    Arg::new(alloc, name).long(name).action(ArgAction::Set)
+}
+
+// `-o PATH`, which has to be there.
+fn output_option<'a>(alloc: Global) -> Arg<'a>
+    ensures rule { rule_of result ≡ output_rule }
+    ensures local { result.global ≡ false }
+{
+    Arg::new(alloc, "output")
+        .short('o')
+        .action(ArgAction::Set)
+        .required(true)
+}
+
+// One word of its own, which has to be there.
+fn required_value<'a>(alloc: Global, name: &'a str) -> Arg<'a>
+    ensures rule { rule_of result ≡ required_rule name.entry.now }
+    ensures local { result.global ≡ false }
+{
+    Arg::new(alloc, name).action(ArgAction::Set).required(true)
+}
+
+// Any number of further words.
+fn further_words<'a>(alloc: Global) -> Arg<'a>
+    ensures rule { rule_of result ≡ word_rule }
+    ensures local { result.global ≡ false }
+{
+    Arg::new(alloc, "word")
+        .action(ArgAction::Append)
+        .num_args(0..)
+}
+
+// `run`, with its options, the image and the further words.
+fn run_subcommand<'a>(alloc: Global) -> Result<Command<'a>, AllocError>
+    ensures app { IfOk result (λ c. app_of c ≡ run_app) }
+    ensures local { IfOk result (λ c. (out-Command c).has_globals ≡ false) }
+{
+    Command::new(alloc, "run")
+        .arg(value_option(alloc, "stdin"))?
+        .arg(value_option(alloc, "quantum"))?
+        .arg(value_option(alloc, "schedule"))?
+        .arg(value_option(alloc, "record"))?
+        .arg(value_option(alloc, "budget"))?
+        .arg(output_option(alloc))?
+        .arg(required_value(alloc, "image"))?
+        .arg(further_words(alloc))
+}
+
+// The command without its subcommands.
+#[tactic(auto, unfolding(crate::specs::App::top_app))]
+fn top_command<'a>(alloc: Global) -> Command<'a>
+    ensures app { app_of result ≡ top_app }
+    ensures local { (out-Command result).has_globals ≡ false }
+{
+    Command::new(alloc, "aprof")
+        .subcommand_required(true)
+        .disable_help_flag(true)
+        .disable_help_subcommand(true)
+        .disable_version_flag(true)
+}
+
+/// The whole command.
+pub(crate) fn whole_command<'a>(alloc: Global) -> Result<Command<'a>, AllocError>
+    ensures { IfOk result (λ c. app_of c ≡ the_app) }
+{
+    top_command(alloc).subcommand(run_subcommand(alloc)?)
+}

@@ -1,0 +1,14 @@
+//! The words of the command line, `aprof run ...`, read by one fixed `clap` command. What they ask for is `options_of` of
+//! the words, a function of the rows that `clap` states for that command.
+#![tactic(auto)]
+
+mod app;
+mod laws;
+mod matches;
+mod numbers;
+mod run_command;
+
+pub use run_command::{CommandError, RunCommand, read_command};
+
+#[cfg(test)]
+mod tests;

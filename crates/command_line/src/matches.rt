@@ -1,0 +1,33 @@
+//! What `clap` makes of the words.
+ghost use Rattle.std.specs.Prelude.{◌≡◌, IfOk, IfErr, List, map, true, false, option_map, option_and_then, string_bytes, unwrap_or};
+ghost use Rattle.clap.specs.Words.{all_of, first_of, found_of, kind_of, rows_of, subcommand_of, subcommand_rows_of, takes};
+ghost use Rattle.command_line.specs.App.{the_app};
+
+use crate::app::whole_command;
+use clap::{ArgMatches, Error};
+use std::alloc::Global;
+
+/// The matches of the words. An error that is no want of memory comes only where `clap`'s stated test does not take them.
+pub(crate) fn matches_of_words<'a>(
+    alloc: Global,
+    words: &'a [String],
+) -> Result<ArgMatches<'a>, Error>
+    ensures rows { IfOk result (λ m. subcommand_rows_of m ≡ subcommand_of the_app (map string_bytes words.entry.now)) }
+    ensures passes { IfErr result (λ e. takes the_app (map string_bytes words.entry.now) ≡ true → kind_of e ≡ ErrorKind.OutOfMemory) }
+{
+    whole_command(alloc)?.try_get_matches_from(words)
+}
+
+/// The first value of an argument.
+pub(crate) fn text_of<'a>(matches: &ArgMatches<'a>, id: &str) -> Option<&'a str>
+    ensures { option_map (λ s. s.now) result ≡ first_of id.now (rows_of (found_of matches.now)) }
+{
+    matches.get_str(id)
+}
+
+/// All values of an argument.
+pub(crate) fn texts_of<'m, 'a>(matches: &'m ArgMatches<'a>, id: &str) -> &'m [&'a str]
+    ensures { map (λ v. v.now) result.now ≡ unwrap_or (all_of id.now (rows_of (found_of matches.now))) [] }
+{
+    matches.get_raw(id).unwrap_or(&[])
+}

@@ -1,0 +1,162 @@
+//! The command `run`, and the words that ask for it.
+ghost use Rattle.std.specs.Prelude.{◌≡◌, IfOk, IfErr, MatchOption, List, map, true, false, Some, None, string_bytes};
+ghost use Rattle.std.specs.List.{list_any};
+ghost use Rattle.clap.specs.Words.{found_of, rows_of};
+ghost use Rattle.command_line.specs.Options.{AsksFor, arguments, has_zero, inputs, is_plain_argument, argument_of, options_of_rows};
+ghost use Rattle.command_line.specs.Read.{AreInRange, options_in};
+ghost use Rattle.command_line.specs.declared.run_command.CommandError.TheVariants.{Refused};
+
+use crate::matches::{matches_of_words, text_of, texts_of};
+use crate::numbers::number_or;
+use clap::ArgMatches;
+use clap::error::ErrorKind;
+use std::alloc::{AllocError, Global};
+use thiserror::Error;
+
+/// Why no command is made of the words.
+#[derive(Clone, Copy, Debug, PartialEq, Eq, Error)]
+pub enum CommandError {
+    /// The words are not of the form.
+    #[error("bad command line")]
+    Refused,
+    /// Want of memory.
+    #[error("out of memory")]
+    Memory,
+}
+
+impl From<AllocError> for CommandError {
+    ghost use Rattle.std.specs.Prelude.{◌≡◌};
+    ghost use Rattle.command_line.specs.declared.run_command.CommandError.TheVariants.{Memory};
+
+    ghost from_gives = { λ _ e. e ≡ Memory };
+
+    fn from(_error: AllocError) -> CommandError {
+        CommandError::Memory
+    }
+}
+
+/// What `run` is asked: `options_in` says its options.
+#[derive(Drop)]
+pub struct RunCommand<'a> {
+    /// The path of the report, after `-o`.
+    pub report: &'a str,
+    /// The path of the guest's standard input.
+    pub stdin: Option<&'a str>,
+    /// The path of a schedule that the run is to follow.
+    pub schedule: Option<&'a str>,
+    /// The path of a recording of the run's turns, after `--record`.
+    pub recording: Option<&'a str>,
+    /// The most steps of a turn.
+    pub quantum: u64,
+    /// The most steps of the run.
+    pub budget: u64,
+    /// The path of the image.
+    pub image: &'a str,
+    /// The further words.
+    pub words: Vec<&'a str>,
+}
+
+// Whether a word has a zero byte.
+fn has_zero(word: &str) -> bool
+    ensures { result ≡ has_zero word.now }
+{
+    word.as_bytes().iter().any(|byte| *byte == 0)
+}
+
+// Whether some word has a zero byte.
+fn some_has_zero(words: &[String]) -> bool
+    ensures { result ≡ list_any (λ word. has_zero (string_bytes word)) words.now }
+{
+    words.iter().any(|word| has_zero(word.as_str()))
+}
+
+// The command that the matches of `run` say.
+fn command_of<'a>(
+    alloc: Global,
+    matches: &ArgMatches<'a>,
+) -> Result<RunCommand<'a>, CommandError>
+    ensures asked { IfOk result (λ command. options_of_rows (rows_of (found_of matches.now)) ≡ Some (options_in command)) }
+    ensures refused { IfErr result (λ e. e ≡ Refused → options_of_rows (rows_of (found_of matches.now)) ≡ None) }
+    ensures ranges { IfOk result (λ command. AreInRange command.quantum command.budget) }
+{
+    let Some(quantum) = number_or(10_000, 1, 1_000_000_000, text_of(matches, "quantum")) else {
+        return Err(CommandError::Refused);
+    };
+    let Some(budget) = number_or(1_000_000_000, 1, 1_000_000_000_000, text_of(matches, "budget")) else {
+        return Err(CommandError::Refused);
+    };
+    let Some(report) = text_of(matches, "output") else {
+        return Err(CommandError::Refused);
+    };
+    let Some(image) = text_of(matches, "image") else {
+        return Err(CommandError::Refused);
+    };
+    Ok(RunCommand {
+        report,
+        stdin: text_of(matches, "stdin"),
+        schedule: text_of(matches, "schedule"),
+        recording: text_of(matches, "record"),
+        quantum,
+        budget,
+        image,
+        words: Vec::from_slice(alloc, texts_of(matches, "word"))?,
+    })
+}
+
+/// Reads the words of the command line, the program's name first.
+pub fn read_command<'a>(
+    alloc: Global,
+    words: &'a [String],
+) -> Result<RunCommand<'a>, CommandError>
+    ensures asked { IfOk result (λ command. AsksFor (map string_bytes words.entry.now) (Some (options_in command))) }
+    ensures refused { IfErr result (λ e. e ≡ Refused → AsksFor (map string_bytes words.entry.now) None) }
+    ensures ranges { IfOk result (λ command. AreInRange command.quantum command.budget) }
+{
+    if some_has_zero(words) {
+        return Err(CommandError::Refused);
+    }
+    let matches = match matches_of_words(alloc, words) {
+        Ok(matches) => matches,
+        Err(error) if error.kind() == ErrorKind::OutOfMemory => return Err(CommandError::Memory),
+        Err(_) => return Err(CommandError::Refused),
+    };
+    match matches.subcommand() {
+        Some((_, found)) => command_of(alloc, found),
+        None => Err(CommandError::Refused),
+    }
+}
+
+// The text of a word that begins with `=`, without that byte.
+fn plain_argument(word: &str) -> Option<&str>
+    ensures { MatchOption result (is_plain_argument word.now ≡ false) (λ text. (is_plain_argument word.now ≡ true) × (text.now ≡ argument_of word.now)) }
+{
+    word.strip_prefix('=')
+}
+
+impl<'a> RunCommand<'a> {
+    /// The guest's arguments: the image's path and then the words, without their `=`.
+    pub fn arguments(&self, alloc: Global) -> Result<Vec<String>, AllocError>
+        ensures { IfOk result (λ v. map string_bytes v.items ≡ arguments (options_in self.now)) }
+    {
+        let mut arguments = Vec::new(alloc);
+        arguments.push(String::from_str(alloc, self.image)?)?;
+        for word in &self.words {
+            let argument = plain_argument(word).unwrap_or(word);
+            arguments.push(String::from_str(alloc, argument)?)?;
+        }
+        Ok(arguments)
+    }
+
+    /// The names of the input files: the words that don't begin with `=`, each once.
+    pub fn inputs(&self, alloc: Global) -> Result<Vec<&'a str>, AllocError>
+        ensures { IfOk result (λ v. map (λ name. name.now) v.items ≡ inputs (options_in self.now)) }
+    {
+        let mut inputs: Vec<&'a str> = Vec::new(alloc);
+        for word in &self.words {
+            if plain_argument(word).is_none() && !inputs.contains(word) {
+                inputs.push(*word)?;
+            }
+        }
+        Ok(inputs)
+    }
+}
