@@ -1,11 +1,12 @@
 //! What `clap` makes of the words.
-ghost use Rattle.std.specs.Prelude.{◌≡◌, IfOk, IfErr, List, map, true, false, option_map, option_and_then, string_bytes, unwrap_or};
+ghost use Rattle.std.specs.Prelude.{◌≡◌, IfOk, IfErr, [], map, true, option_map, string_bytes, unwrap_or};
 ghost use Rattle.clap.specs.Words.{all_of, first_of, found_of, kind_of, rows_of, subcommand_of, subcommand_rows_of, takes};
+ghost use Rattle.clap.specs.declared.error.kind.ErrorKind.TheVariants.{OutOfMemory};
 ghost use Rattle.command_line.specs.App.{the_app};
 
 use crate::app::whole_command;
 use clap::{ArgMatches, Error};
-use std::alloc::Global;
+use std::alloc::{AllocError, Global};
 
 /// The matches of the words. An error that is no want of memory comes only where `clap`'s stated test does not take them.
 pub(crate) fn matches_of_words<'a>(
@@ -13,7 +14,7 @@ pub(crate) fn matches_of_words<'a>(
     words: &'a [String],
 ) -> Result<ArgMatches<'a>, Error>
     ensures rows { IfOk result (λ m. subcommand_rows_of m ≡ subcommand_of the_app (map string_bytes words.entry.now)) }
-    ensures passes { IfErr result (λ e. takes the_app (map string_bytes words.entry.now) ≡ true → kind_of e ≡ ErrorKind.OutOfMemory) }
+    ensures passes { IfErr result (λ e. takes the_app (map string_bytes words.entry.now) ≡ true → kind_of e ≡ OutOfMemory) }
 {
     whole_command(alloc)?.try_get_matches_from(words)
 }
@@ -26,8 +27,15 @@ pub(crate) fn text_of<'a>(matches: &ArgMatches<'a>, id: &str) -> Option<&'a str>
 }
 
 /// All values of an argument.
-pub(crate) fn texts_of<'m, 'a>(matches: &'m ArgMatches<'a>, id: &str) -> &'m [&'a str]
-    ensures { map (λ v. v.now) result.now ≡ unwrap_or (all_of id.now (rows_of (found_of matches.now))) [] }
+pub(crate) fn texts_of<'a>(
+    alloc: Global,
+    matches: &ArgMatches<'a>,
+    id: &str,
+) -> Result<Vec<&'a str>, AllocError>
+    ensures { IfOk result (λ texts. map (λ t. t.now) texts.items ≡ unwrap_or (all_of id.now (rows_of (found_of matches.now))) []) }
 {
-    matches.get_raw(id).unwrap_or(&[])
+    match matches.get_raw(id) {
+        Some(texts) => Vec::from_slice(alloc, texts),
+        None => Ok(Vec::new(alloc)),
+    }
 }

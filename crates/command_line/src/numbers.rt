@@ -27,7 +27,7 @@ fn number_between(least: u64, greatest: u64, text: &str) -> Option<u64>
 
 /// The number of an option that may be left out.
 pub(crate) fn number_or(usual: u64, least: u64, greatest: u64, text: Option<&str>) -> Option<u64>
-    ensures { result ≡ number_or usual least greatest (option_map (λ s. s.now) text) }
+    ensures { result ≡ number_or usual least greatest (option_map (λ s. s.now) text.entry) }
 {
     match text {
         None => Some(usual),

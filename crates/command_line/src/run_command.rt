@@ -99,7 +99,7 @@ fn command_of<'a>(
         quantum,
         budget,
         image,
-        words: Vec::from_slice(alloc, texts_of(matches, "word"))?,
+        words: texts_of(alloc, matches, "word")?,
     })
 }
 

@@ -1,0 +1,13 @@
+use Rattle.std.proofs.Common.{ap, ap₂, ◌∙◌}
+use Rattle.std.proofs.lemmas.Result.{IfOk-weaker}
+use Rattle.clap.specs.Words.{App, with_subcommand}
+use Rattle.command_line.specs.App.{the_app}
+use Rattle.command_line.proofs.app.whole_command.Goals as goal
+
+pub returns : goal.returns
+unfolding the_app
+returns c =
+    let run_is = ap (λ (a : App). a.top) c.in_ok-run_subcommand.ensures.app in
+    IfOk-weaker c.subcommand.result _ _
+    (λ whole h. h.shape c.in_ok-run_subcommand.ensures.local ∙ ap₂ with_subcommand c.top_command.ensures.app run_is)
+    c.subcommand.ensures
