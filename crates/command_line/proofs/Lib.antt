@@ -1,1 +1,5 @@
+pub mod Distinct
 pub mod Fixed
+pub mod Numerals
+pub mod PlainArguments
+pub mod Refusals

@@ -39,7 +39,7 @@ arguments options = options.image ∷ map argument_of options.words
 -- each of the names once, where it stands first
 abbrev pub distinct : List (List ℕ) → List (List ℕ)
 distinct [] = []
-distinct (name ∷ rest) = name ∷ filter (λ other. not (bytes_eq other name)) (distinct rest)
+distinct (name ∷ rest) = name ∷ filter (λ other. not (bytes_eq name other)) (distinct rest)
 
 -- the words that name files
 abbrev pub names : List (List ℕ) → List (List ℕ)

@@ -1,23 +1,41 @@
 //! Numbers among the words.
-ghost use Rattle.std.specs.Prelude.{◌≡◌, ◌<◌, ◌≤◌, ◌^◌, IfSome, Option, option_map};
-ghost use Rattle.command_line.specs.Options.{is_numeral, number_between, number_or};
+ghost use Rattle.std.specs.Prelude.{◌≡◌, option_map};
+ghost use Rattle.std.specs.List.{list_all};
+ghost use Rattle.command_line.specs.Options.{is_digit, is_numeral, number_between, number_or};
+
+// Whether each byte is a digit.
+fn are_digits(bytes: &[u8]) -> bool
+    ensures { result ≡ list_all is_digit bytes.now }
+{
+    bytes.iter().all(|byte| 48 <= *byte && *byte <= 57)
+}
 
 // Whether the text is one to twenty digits.
+#[tactic(auto, using(std::proofs::lemmas::Bool::Decides::nat_tests))]
 fn is_numeral(text: &str) -> bool
     ensures { result ≡ is_numeral text.now }
 {
     let bytes = text.as_bytes();
-    1 <= bytes.len() && bytes.len() <= 20 && bytes.iter().all(|byte| 48 <= *byte && *byte <= 57)
+    if bytes.is_empty() {
+        return false;
+    }
+    if bytes.len() > 20 {
+        return false;
+    }
+    are_digits(bytes)
 }
 
 // The number that the text says, if that is in the range.
+#[tactic(auto, using(crate::proofs::Numerals::number_read, crate::proofs::Numerals::number_too_long))]
 fn number_between(least: u64, greatest: u64, text: &str) -> Option<u64>
     ensures { result ≡ number_between least greatest text.now }
 {
     if !is_numeral(text) {
         return None;
     }
-    let number = text.parse::<u64>().ok()?;
+    let Ok(number) = text.parse::<u64>() else {
+        return None;
+    };
     if least <= number && number <= greatest {
         Some(number)
     } else {

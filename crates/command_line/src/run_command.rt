@@ -126,11 +126,21 @@ pub fn read_command<'a>(
     }
 }
 
-// The text of a word that begins with `=`, without that byte.
+// What follows the `=` that a word begins with.
 fn plain_argument(word: &str) -> Option<&str>
     ensures { MatchOption result (is_plain_argument word.now ≡ false) (λ text. (is_plain_argument word.now ≡ true) × (text.now ≡ argument_of word.now)) }
 {
     word.strip_prefix('=')
+}
+
+// The argument that a word gives the guest.
+fn argument(alloc: Global, word: &str) -> Result<String, AllocError>
+    ensures { IfOk result (λ text. string_bytes text ≡ argument_of word.now) }
+{
+    match plain_argument(word) {
+        Some(text) => String::from_str(alloc, text),
+        None => String::from_str(alloc, word),
+    }
 }
 
 impl<'a> RunCommand<'a> {
@@ -141,8 +151,7 @@ impl<'a> RunCommand<'a> {
         let mut arguments = Vec::new(alloc);
         arguments.push(String::from_str(alloc, self.image)?)?;
         for word in &self.words {
-            let argument = plain_argument(word).unwrap_or(word);
-            arguments.push(String::from_str(alloc, argument)?)?;
+            arguments.push(argument(alloc, word)?)?;
         }
         Ok(arguments)
     }
