@@ -1,5 +1,5 @@
 -- Words that begin with `=`.
-use Rattle.std.proofs.Common.{◌≡◌, ◌≢◌, ℕ, Bool, true, false, refl, ap, sym, ◌∷◌, arith, List, [], Option, Some, None, nat_eq}
+use Rattle.std.proofs.Common.{◌≡◌, ◌≢◌, ℕ, Bool, true, false, refl, ap, sym, ◌∷◌, arith, List, [], Option, Some, None, nat_eq, ◌≤◌, zero, suc, length, take, map}
 use Rattle.std.proofs.lemmas.Bool.Decides.{nat_tests}
 use Rattle.std.specs.Prelude.{MatchOption}
 use Rattle.std.specs.Borrow.{Bor}
@@ -21,3 +21,11 @@ pub plain_stripped : (word : List ℕ) (r : Option (Bor (List ℕ))) → MatchOp
     → MatchOption r (is_plain_argument word ≡ false) (λ text. (is_plain_argument word ≡ true) × (text.now ≡ argument_of word))
 plain_stripped word None h = plain_never word h
 plain_stripped word (Some text) h = plain_after word text.now h
+
+-- the arguments of all words
+pub all_arguments : (words : List (Bor (List ℕ))) (i : ℕ) → length words ≤ i
+    → map (λ word. argument_of word.now) (take i words) ≡ map argument_of (map (λ word. word.now) words)
+all_arguments [] zero le = refl
+all_arguments [] (suc i) le = refl
+all_arguments (w ∷ ws) zero le = absurd (omega arith)
+all_arguments (w ∷ ws) (suc i) le = ap (λ (rest : List (List ℕ)). argument_of w.now ∷ rest) (all_arguments ws i (omega arith))

@@ -1,6 +1,7 @@
 //! The command `run`, and the words that ask for it.
-ghost use Rattle.std.specs.Prelude.{◌≡◌, IfOk, IfErr, MatchOption, List, map, true, false, Some, None, string_bytes};
+ghost use Rattle.std.specs.Prelude.{◌≡◌, IfOk, IfErr, MatchOption, ◌&&◌, not, map, true, false, Some, None, string_bytes};
 ghost use Rattle.std.specs.List.{list_any};
+ghost use Rattle.std.specs.Str.{bytes_eq};
 ghost use Rattle.clap.specs.Words.{found_of, rows_of};
 ghost use Rattle.command_line.specs.Options.{AsksFor, arguments, has_zero, inputs, is_plain_argument, argument_of, options_of_rows};
 ghost use Rattle.command_line.specs.Read.{AreInRange, options_in};
@@ -143,6 +144,13 @@ fn argument(alloc: Global, word: &str) -> Result<String, AllocError>
     }
 }
 
+// Whether the word names an input that was not found before.
+fn is_new_input(found: &[&str], word: &str) -> bool
+    ensures { result ≡ (not (is_plain_argument word.now) && not (list_any (λ name. bytes_eq name.now word.now) found.now)) }
+{
+    plain_argument(word).is_none() && !found.contains(&word)
+}
+
 impl<'a> RunCommand<'a> {
     /// The guest's arguments: the image's path and then the words, without their `=`.
     pub fn arguments(&self, alloc: Global) -> Result<Vec<String>, AllocError>
@@ -162,7 +170,7 @@ impl<'a> RunCommand<'a> {
     {
         let mut inputs: Vec<&'a str> = Vec::new(alloc);
         for word in &self.words {
-            if plain_argument(word).is_none() && !inputs.contains(word) {
+            if is_new_input(&inputs, word) {
                 inputs.push(*word)?;
             }
         }

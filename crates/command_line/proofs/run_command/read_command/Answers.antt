@@ -1,6 +1,6 @@
 use Rattle.std.proofs.Common.{◌≡◌, true, false, ap, sym, ◌∙◌, map, subst, Some, None, List, ℕ, string_bytes}
 use Rattle.std.proofs.lemmas.Result.{IfErr-weaker, IfOk-weaker}
-use Rattle.std.specs.Prelude.{option_and_then}
+use Rattle.std.specs.Prelude.{option_map}
 use Rattle.std.specs.List.{list_any}
 use Rattle.clap.specs.Words.{found_of, rows_of}
 use Rattle.clap.proofs.WalkLemmas.{list_any-map}
@@ -14,14 +14,17 @@ returns-then-some_has_zero-clause-refused c h =
     (sym (list_any-map has_zero string_bytes c.args.words.now) ∙ (sym c.some_has_zero.ensures ∙ c.if-some_has_zero.true))
 
 pub returns-in-Err-2-clause-refused : goal.returns-in-Err-2-clause-refused
-returns-in-Err-2-clause-refused c h = untaken_is_refused (map string_bytes c.args.words.now) (λ taken. ?)
+returns-in-Err-2-clause-refused c h = untaken_is_refused (map string_bytes c.args.words.now) (λ taken.
+    let is = c.kind.ensures ∙ c.in-Err.ensures.passes taken in
+    let no : false ≡ true = rw is at c.if-eq.ensures in
+    cc)
 
 pub returns-in-Some-clause-asked : goal.returns-in-Some-clause-asked
 returns-in-Some-clause-asked c =
     let words = map string_bytes c.args.words.now in
     let none : list_any has_zero words ≡ false = sym (list_any-map has_zero string_bytes c.args.words.now) ∙ (sym c.some_has_zero.ensures ∙ c.if-some_has_zero.false) in
     IfOk-weaker c.command_of.result _ _
-    (λ command is. subst (AsksFor words) is (rows_ask words (Some (rows_of (found_of c.in-Some.found.now))) none ?))
+    (λ command is. subst (AsksFor words) is (rows_ask words (Some (rows_of (found_of c.in-Some.found.now))) none (c.in-Some.ensures.rows ∙ ap (option_map (λ p. p.1)) c.in-Ok.ensures.rows)))
     c.command_of.ensures.asked
 
 pub returns-in-Some-clause-refused : goal.returns-in-Some-clause-refused
@@ -29,11 +32,11 @@ returns-in-Some-clause-refused c =
     let words = map string_bytes c.args.words.now in
     let none : list_any has_zero words ≡ false = sym (list_any-map has_zero string_bytes c.args.words.now) ∙ (sym c.some_has_zero.ensures ∙ c.if-some_has_zero.false) in
     IfErr-weaker c.command_of.result _ _
-    (λ e is refused. subst (AsksFor words) (is refused) (rows_ask words (Some (rows_of (found_of c.in-Some.found.now))) none ?))
+    (λ e is refused. subst (AsksFor words) (is refused) (rows_ask words (Some (rows_of (found_of c.in-Some.found.now))) none (c.in-Some.ensures.rows ∙ ap (option_map (λ p. p.1)) c.in-Ok.ensures.rows)))
     c.command_of.ensures.refused
 
 pub returns-clause-refused : goal.returns-clause-refused
 returns-clause-refused c h =
     let words = map string_bytes c.args.words.now in
     let none : list_any has_zero words ≡ false = sym (list_any-map has_zero string_bytes c.args.words.now) ∙ (sym c.some_has_zero.ensures ∙ c.if-some_has_zero.false) in
-    rows_ask words None none ?
+    rows_ask words None none (c.in-None.ensures.rows ∙ ap (option_map (λ p. p.1)) c.in-Ok.ensures.rows)
