@@ -1,5 +1,10 @@
+pub mod Choices
 pub mod Distinct
 pub mod Fixed
 pub mod Numerals
 pub mod PlainArguments
+pub mod PlainOptions
+pub mod PlainWords
 pub mod Refusals
+pub mod Rows
+pub mod Steps

@@ -1,3 +1,4 @@
 pub mod App
 pub mod Options
+pub mod Plain
 pub mod Read

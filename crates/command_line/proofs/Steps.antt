@@ -1,0 +1,206 @@
+-- The walk of `clap` over the words of `run`, word by word.
+use Rattle.std.proofs.Common.{◌≡◌, ◌<◌, ◌^◌, ℕ, Bool, true, false, refl, ◌&&◌, ap, ap₂, ◌∙◌, List, [], ◌∷◌, ◌++◌, Option, Some, None, codes, unwrap_or, arith, nat_eq, nat_le, length}
+use Rattle.std.proofs.lemmas.Bool.Decides.{nat_tests}
+use Rattle.std.specs.Prelude.{slice_get}
+use Rattle.std.specs.List.{list_all}
+use Rattle.std.specs.Str.{bytes_eq}
+use Rattle.clap.specs.Lexer.{long_of, short_of, usize_max}
+use Rattle.clap.specs.Simple.{new_shape}
+use Rattle.clap.specs.Takes.{settle_passes, turn_passes, walk_passes}
+use Rattle.clap.specs.Walk.{Waiting, Walk, has_row, idle, option, positional, settled_rows, walked}
+use Rattle.clap.specs.Words.{Row, Rule, Shape, Text, built}
+use Rattle.clap.proofs.OnLiterals.{clap_on_literals}
+use Rattle.command_line.specs.App.{the_app, top_app, run_app}
+use Rattle.command_line.specs.Plain.{is_plain_word}
+use Rattle.command_line.proofs.Rows.{new_row, new_row_kept, plain_row}
+
+-- `run` as `clap` builds it
+abbrev pub run_shape : Shape
+run_shape = unwrap_or (slice_get (built the_app).subs 0) (new_shape [])
+
+abbrev pub rules : List Rule
+rules = run_shape.rules
+
+-- an argument whose values are being read
+abbrev pub Pending : Type 0
+Pending = Option (Text × List Text)
+
+-- between two words: the rows so far, what is pending, what waits, and the next position
+abbrev pub stand : List Row → Pending → Waiting → ℕ → Walk
+stand rows pending waiting position = record {
+  held = record { rows = rows; pending = pending; skip = 0 };
+  waiting = waiting;
+  position = position;
+  is_trailing = false;
+  stopped = None;
+}
+
+-- the next word passes here
+abbrev pub turn : List Row → Pending → Waiting → ℕ → Text → Bool
+turn rows pending waiting position word = turn_passes run_shape [] (stand rows pending waiting position) word
+
+-- what is pending may be used
+abbrev pub may_settle : List Row → Pending → Bool
+may_settle rows pending = settle_passes rules false (record { rows = rows; pending = pending; skip = 0 })
+
+-- What is pending settles with these rows.
+pub record Settles (rows : List Row) (pending : Pending) (all : List Row) : Type 0 where
+  pub rows_are : settled_rows rules pending rows ≡ all
+  pub passes : may_settle rows pending ≡ true
+
+-- a word that is no flag
+pub record IsNoFlag (word : Text) : Type 0 where
+  pub no_dashes : bytes_eq word (45 ∷ 45 ∷ []) ≡ false
+  pub no_long : long_of word ≡ None
+  pub no_short : short_of word ≡ None
+
+no_flag : (x : ℕ) (xs : Text) → nat_eq x 45 ≡ false → IsNoFlag (x ∷ xs)
+no_flag x xs e = record { no_dashes = rw e refl; no_long = rw e refl; no_short = rw e refl }
+
+pub plain_is_no_flag : (word : Text) → is_plain_word word ≡ true → IsNoFlag word
+plain_is_no_flag [] h = cc
+plain_is_no_flag (x ∷ xs) h = no_flag x xs (grind (arith, nat_tests))
+
+and_false : (b : Bool) → (b && false) ≡ false
+and_false true = refl
+and_false false = refl
+
+and_true : (b : Bool) → (b && true) ≡ b
+and_true true = refl
+and_true false = refl
+
+all_true : (ws : List Text) → list_all (λ _. true) ws ≡ true
+all_true [] = refl
+all_true (w ∷ ws) = all_true ws
+
+-- ---- an option and its value
+
+-- This flag is that of an option with one value.
+pub record TakesValue (flag id : Text) : Type 0 where
+  pub flag_word : (rows : List Row) (p : Pending)
+      → walked rules [] (stand rows p idle 1) flag ≡ stand (settled_rows rules p rows) (Some (id, [])) (option id) 1
+  pub flag_turn : (rows : List Row) (p : Pending) → turn rows p idle 1 flag ≡ may_settle rows p
+  pub value_word : (rows : List Row) (word : Text) → IsNoFlag word
+      → walked rules [] (stand rows (Some (id, [])) (option id) 1) word ≡ stand rows (Some (id, word ∷ [])) idle 1
+  pub value_turn : (rows : List Row) (word : Text) → IsNoFlag word → turn rows (Some (id, [])) (option id) 1 word ≡ true
+  pub settles : (rows : List Row) (word : Text) → has_row id rows ≡ false
+      → Settles rows (Some (id, word ∷ [])) (rows ++ plain_row id (word ∷ []) ∷ [])
+
+pub takes_stdin : TakesValue (codes "--stdin") (codes "stdin")
+unfolding the_app top_app run_app clap_on_literals
+takes_stdin = record {
+  flag_word = λ rows p. refl;
+  flag_turn = λ rows p. and_true _;
+  value_word = λ rows word h. rw (h.no_dashes, h.no_long, h.no_short) refl;
+  value_turn = λ rows word h. rw (h.no_dashes, h.no_long, h.no_short) refl;
+  settles = λ rows word h. record { rows_are = new_row (codes "stdin") (word ∷ []) rows h; passes = rw h refl };
+}
+
+pub takes_quantum : TakesValue (codes "--quantum") (codes "quantum")
+unfolding the_app top_app run_app clap_on_literals
+takes_quantum = record {
+  flag_word = λ rows p. refl;
+  flag_turn = λ rows p. and_true _;
+  value_word = λ rows word h. rw (h.no_dashes, h.no_long, h.no_short) refl;
+  value_turn = λ rows word h. rw (h.no_dashes, h.no_long, h.no_short) refl;
+  settles = λ rows word h. record { rows_are = new_row (codes "quantum") (word ∷ []) rows h; passes = rw h refl };
+}
+
+pub takes_schedule : TakesValue (codes "--schedule") (codes "schedule")
+unfolding the_app top_app run_app clap_on_literals
+takes_schedule = record {
+  flag_word = λ rows p. refl;
+  flag_turn = λ rows p. and_true _;
+  value_word = λ rows word h. rw (h.no_dashes, h.no_long, h.no_short) refl;
+  value_turn = λ rows word h. rw (h.no_dashes, h.no_long, h.no_short) refl;
+  settles = λ rows word h. record { rows_are = new_row (codes "schedule") (word ∷ []) rows h; passes = rw h refl };
+}
+
+pub takes_recording : TakesValue (codes "--record") (codes "record")
+unfolding the_app top_app run_app clap_on_literals
+takes_recording = record {
+  flag_word = λ rows p. refl;
+  flag_turn = λ rows p. and_true _;
+  value_word = λ rows word h. rw (h.no_dashes, h.no_long, h.no_short) refl;
+  value_turn = λ rows word h. rw (h.no_dashes, h.no_long, h.no_short) refl;
+  settles = λ rows word h. record { rows_are = new_row (codes "record") (word ∷ []) rows h; passes = rw h refl };
+}
+
+pub takes_budget : TakesValue (codes "--budget") (codes "budget")
+unfolding the_app top_app run_app clap_on_literals
+takes_budget = record {
+  flag_word = λ rows p. refl;
+  flag_turn = λ rows p. and_true _;
+  value_word = λ rows word h. rw (h.no_dashes, h.no_long, h.no_short) refl;
+  value_turn = λ rows word h. rw (h.no_dashes, h.no_long, h.no_short) refl;
+  settles = λ rows word h. record { rows_are = new_row (codes "budget") (word ∷ []) rows h; passes = rw h refl };
+}
+
+pub takes_output : TakesValue (codes "-o") (codes "output")
+unfolding the_app top_app run_app clap_on_literals
+takes_output = record {
+  flag_word = λ rows p. refl;
+  flag_turn = λ rows p. and_true _;
+  value_word = λ rows word h. rw (h.no_dashes, h.no_long, h.no_short) refl;
+  value_turn = λ rows word h. rw (h.no_dashes, h.no_long, h.no_short) refl;
+  settles = λ rows word h. record { rows_are = new_row (codes "output") (word ∷ []) rows h; passes = rw h refl };
+}
+
+-- ---- the image
+
+pub image_word : (rows : List Row) (p : Pending) (word : Text) → IsNoFlag word
+    → walked rules [] (stand rows p idle 1) word ≡ stand (settled_rows rules p rows) (Some (codes "image", word ∷ [])) idle 2
+unfolding the_app top_app run_app clap_on_literals
+image_word rows None word h = rw (h.no_dashes, h.no_long, h.no_short) refl
+image_word rows (Some q) word h = rw (h.no_dashes, h.no_long, h.no_short, and_false (bytes_eq q.0 (codes "image"))) refl
+
+pub image_turn : (rows : List Row) (p : Pending) (word : Text) → IsNoFlag word
+    → turn rows p idle 1 word ≡ may_settle rows p
+unfolding the_app top_app run_app clap_on_literals
+image_turn rows None word h = rw (h.no_dashes, h.no_long, h.no_short) refl
+image_turn rows (Some q) word h = rw (h.no_dashes, h.no_long, h.no_short, and_false (bytes_eq q.0 (codes "image"))) refl
+
+pub image_settles : (rows : List Row) (image : Text) → has_row (codes "image") rows ≡ false
+    → Settles rows (Some (codes "image", image ∷ [])) (rows ++ plain_row (codes "image") (image ∷ []) ∷ [])
+unfolding the_app top_app run_app clap_on_literals
+image_settles rows image h = record { rows_are = new_row (codes "image") (image ∷ []) rows h; passes = rw h refl }
+
+-- ---- the further words
+
+pub first_word : (rows : List Row) (image word : Text) → IsNoFlag word
+    → walked rules [] (stand rows (Some (codes "image", image ∷ [])) idle 2) word
+    ≡ stand (settled_rows rules (Some (codes "image", image ∷ [])) rows) (Some (codes "word", word ∷ [])) positional 2
+unfolding the_app top_app run_app clap_on_literals
+first_word rows image word h = rw (h.no_dashes, h.no_long, h.no_short) refl
+
+pub first_turn : (rows : List Row) (image word : Text) → IsNoFlag word
+    → turn rows (Some (codes "image", image ∷ [])) idle 2 word ≡ may_settle rows (Some (codes "image", image ∷ []))
+unfolding the_app top_app run_app clap_on_literals
+first_turn rows image word h = rw (h.no_dashes, h.no_long, h.no_short) refl
+
+pub further_word : (rows : List Row) (words : List Text) (word : Text) → IsNoFlag word
+    → walked rules [] (stand rows (Some (codes "word", words)) positional 2) word
+    ≡ stand rows (Some (codes "word", words ++ word ∷ [])) positional 2
+unfolding the_app top_app run_app clap_on_literals
+further_word rows words word h = rw (h.no_dashes, h.no_long, h.no_short) refl
+
+pub further_turn : (rows : List Row) (words : List Text) (word : Text) → IsNoFlag word
+    → turn rows (Some (codes "word", words)) positional 2 word ≡ true
+unfolding the_app top_app run_app clap_on_literals
+further_turn rows words word h = rw (h.no_dashes, h.no_long, h.no_short) refl
+
+pub words_settle : (rows : List Row) (word : Text) (words : List Text) → has_row (codes "word") rows ≡ false
+    → length (word ∷ words) < 2 ^ 64
+    → Settles rows (Some (codes "word", word ∷ words)) (rows ++ plain_row (codes "word") (word ∷ words) ∷ [])
+unfolding the_app top_app run_app clap_on_literals
+words_settle rows word words h lt =
+    let few : nat_le (length (word ∷ words)) usize_max ≡ true = grind (arith, nat_tests) in
+    let some : nat_le 0 (length (word ∷ words)) ≡ true = grind (arith, nat_tests) in
+    record { rows_are = new_row_kept (codes "word") (word ∷ words) rows h; passes = rw (some, few) (all_true words) }
+
+-- ---- one word of a walk
+
+pub pass_step : (w v : Walk) (word : Text) (rest : List Text) → turn_passes run_shape [] w word ≡ true → walked rules [] w word ≡ v
+    → walk_passes run_shape [] w (word ∷ rest) ≡ walk_passes run_shape [] v rest
+unfolding walk_passes
+pass_step w v word rest h e = ap₂ ◌&&◌ h (ap (λ u. walk_passes run_shape [] u rest) e)

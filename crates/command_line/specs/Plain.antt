@@ -1,0 +1,102 @@
+-- Plain words of `run`, and what is read of them.
+use Rattle.std.specs.Prelude.{◌≡◌, ◌<◌, ◌^◌, ◌==◌, ℕ, Bool, true, false, not, length, if◌then◌else◌, List, [], ◌∷◌, ◌++◌, map, Option, Some, None, codes}
+use Rattle.std.specs.List.{list_all, list_any}
+use Rattle.std.specs.Str.{bytes_eq}
+use Rattle.clap.specs.Words.{Text, takes}
+use Rattle.command_line.specs.App.{the_app}
+use Rattle.command_line.specs.Options.{RunOptions, budget_of, has_zero, options_of, quantum_of}
+
+-- an option of `run` that is given, with its value
+pub data Choice : Type 0 where
+  stdin : Text → Choice
+  quantum : Text → Choice
+  schedule : Text → Choice
+  recording : Text → Choice
+  budget : Text → Choice
+  report : Text → Choice
+
+-- the argument of the command that it is of
+abbrev pub id_of : Choice → Text
+id_of (stdin v) = codes "stdin"
+id_of (quantum v) = codes "quantum"
+id_of (schedule v) = codes "schedule"
+id_of (recording v) = codes "record"
+id_of (budget v) = codes "budget"
+id_of (report v) = codes "output"
+
+abbrev pub value_of : Choice → Text
+value_of (stdin v) = v
+value_of (quantum v) = v
+value_of (schedule v) = v
+value_of (recording v) = v
+value_of (budget v) = v
+value_of (report v) = v
+
+-- the words that give it
+abbrev pub words_of : Choice → List Text
+words_of (stdin v) = codes "--stdin" ∷ v ∷ []
+words_of (quantum v) = codes "--quantum" ∷ v ∷ []
+words_of (schedule v) = codes "--schedule" ∷ v ∷ []
+words_of (recording v) = codes "--record" ∷ v ∷ []
+words_of (budget v) = codes "--budget" ∷ v ∷ []
+words_of (report v) = codes "-o" ∷ v ∷ []
+
+abbrev pub choice_words : List Choice → List Text
+choice_words [] = []
+choice_words (c ∷ cs) = words_of c ++ choice_words cs
+
+-- the words of a whole command line: the program's name, `run`, the options, the image and the further words
+abbrev pub run_words : Text → List Choice → Text → List Text → List Text
+run_words program choices image words = program ∷ codes "run" ∷ (choice_words choices ++ image ∷ words)
+
+-- a word that is not empty and does not begin with a hyphen
+abbrev pub is_plain_word : Text → Bool
+is_plain_word [] = false
+is_plain_word (x ∷ xs) = not (x == 45)
+
+-- some choice is of this argument
+abbrev pub is_chosen : Text → List Choice → Bool
+is_chosen id choices = list_any (λ c. bytes_eq id (id_of c)) choices
+
+-- each option at most once
+abbrev pub HasNoRepeat : List Choice → Type 0
+HasNoRepeat [] = Unit {0}
+HasNoRepeat (c ∷ cs) = (is_chosen (id_of c) cs ≡ false) × HasNoRepeat cs
+
+-- Each option is given at most once, and no value, image or further word looks like an option.
+pub record ArePlain (choices : List Choice) (image : Text) (words : List Text) : Type 0 where
+  pub plain_values : list_all is_plain_word (map value_of choices) ≡ true
+  pub once : HasNoRepeat choices
+  pub plain_image : is_plain_word image ≡ true
+  pub plain_words : list_all is_plain_word words ≡ true
+  -- as many as a list in memory can have
+  pub few : length words < 2 ^ 64
+
+-- Plain words are taken, where the report's path is among them.
+abbrev pub PlainWordsAreTaken : Type 0
+PlainWordsAreTaken = (program : Text) (choices : List Choice) (image : Text) (words : List Text)
+    → ArePlain choices image words → is_chosen (codes "output") choices ≡ true
+    → takes the_app (run_words program choices image words) ≡ true
+
+-- the value that the choices give an argument
+abbrev pub given : Text → List Choice → Option Text
+given id [] = None
+given id (c ∷ cs) = if bytes_eq (id_of c) id then Some (value_of c) else given id cs
+
+-- The options of plain words are the values in the words, and the defaults of the numbers that are left out.
+abbrev pub PlainOptionsAreRead : Type 0
+PlainOptionsAreRead = (program : Text) (choices : List Choice) (image : Text) (words : List Text)
+    → ArePlain choices image words → list_any has_zero (run_words program choices image words) ≡ false
+    → (report_path : Text) (turn_steps run_steps : ℕ) → given (codes "output") choices ≡ Some report_path
+    → quantum_of (given (codes "quantum") choices) ≡ Some turn_steps
+    → budget_of (given (codes "budget") choices) ≡ Some run_steps
+    → options_of (run_words program choices image words) ≡ Some (record {
+  report = report_path;
+  stdin = given (codes "stdin") choices;
+  schedule = given (codes "schedule") choices;
+  recording = given (codes "record") choices;
+  quantum = turn_steps;
+  budget = run_steps;
+  image = image;
+  words = words;
+})
