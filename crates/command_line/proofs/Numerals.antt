@@ -1,5 +1,5 @@
 -- Texts of one to twenty digits, and the numbers that they say.
-use Rattle.std.proofs.Common.{◌≡◌, ◌≢◌, ℕ, Bool, true, false, refl, subst, ◌<◌, ◌≤◌, ◌^◌, ◌&&◌, ◌∙◌, List, [], ◌∷◌, length, get_or, Some, None, ap, sym, arith, nat_le, cond}
+use Rattle.std.proofs.Common.{◌≡◌, ℕ, Bool, true, false, refl, subst, ◌<◌, ◌^◌, ◌&&◌, List, [], ◌∷◌, length, Some, None, ap, sym, arith, nat_le, cond}
 use Rattle.std.proofs.lemmas.Bool.Decides.{nat_tests}
 use Rattle.std.proofs.lemmas.Str.Parse.{without_leading_plus_none}
 use Rattle.std.specs.Char.{digit_value}

@@ -1,5 +1,5 @@
 -- Words that begin with `=`.
-use Rattle.std.proofs.Common.{◌≡◌, ◌≢◌, ℕ, Bool, true, false, refl, ap, sym, ◌∷◌, arith, List, [], Option, Some, None, nat_eq, ◌≤◌, zero, suc, length, take, map}
+use Rattle.std.proofs.Common.{◌≡◌, ℕ, Bool, true, false, refl, ap, ◌∷◌, arith, List, [], Option, Some, None, nat_eq, ◌≤◌, zero, suc, length, take, map}
 use Rattle.std.proofs.lemmas.Bool.Decides.{nat_tests}
 use Rattle.std.specs.Prelude.{MatchOption}
 use Rattle.std.specs.Borrow.{Bor}

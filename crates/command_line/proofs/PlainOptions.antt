@@ -1,14 +1,13 @@
 -- What is read of the rows of plain words.
-use Rattle.std.proofs.Common.{◌≡◌, ℕ, Bool, true, false, refl, ap, ap₂, sym, ◌∙◌, List, [], ◌∷◌, ◌++◌, Option, Some, None, codes, cond}
+use Rattle.std.proofs.Common.{◌≡◌, ℕ, Bool, true, false, refl, ap, ap₂, ◌∙◌, List, [], ◌∷◌, ◌++◌, Option, Some, None, codes, cond}
 use Rattle.std.specs.Prelude.{option_and_then, unwrap_or}
-use Rattle.std.specs.List.{list_any}
 use Rattle.std.specs.Str.{bytes_eq}
 use Rattle.clap.specs.Words.{Row, Text, all_of, first_of, subcommand_of}
 use Rattle.command_line.specs.App.{the_app}
-use Rattle.command_line.specs.Options.{RunOptions, budget_of, has_zero, options_of, options_of_rows, options_with, quantum_of}
-use Rattle.command_line.specs.Plain.{Choice, PlainOptionsAreRead, given, id_of, run_words, value_of}
+use Rattle.command_line.specs.Options.{budget_of, options_of, options_of_rows, options_with, quantum_of}
+use Rattle.command_line.specs.Plain.{Choice, PlainOptionsAreRead, given, id_of, run_words}
 use Rattle.command_line.proofs.PlainWords.{plain_subcommand}
-use Rattle.command_line.proofs.Rows.{IsNoChoice, choice_row, choice_rows, image_is_none, plain_rows, tail_rows, word_is_none, word_rows}
+use Rattle.command_line.proofs.Rows.{IsNoChoice, choice_row, choice_rows, image_is_none, plain_rows, tail_rows, word_is_none}
 
 -- the value of an option, where the rows after those of the options have none
 first_given : (id : Text) (cs : List Choice) (rest : List Row) → first_of id rest ≡ None
@@ -69,15 +68,15 @@ options_are : (rows : List Row) (turn_steps run_steps : ℕ) (report_path image 
     → first_of (codes "stdin") rows ≡ stdin → first_of (codes "schedule") rows ≡ schedule → first_of (codes "record") rows ≡ recording
     → unwrap_or (all_of (codes "word") rows) [] ≡ words
     → options_of_rows rows ≡ Some (record {
-  report = report_path;
-  stdin = stdin;
-  schedule = schedule;
-  recording = recording;
-  quantum = turn_steps;
-  budget = run_steps;
-  image = image;
-  words = words;
-})
+      report = report_path;
+      stdin = stdin;
+      schedule = schedule;
+      recording = recording;
+      quantum = turn_steps;
+      budget = run_steps;
+      image = image;
+      words = words;
+    })
 options_are rows turn_steps run_steps report_path image stdin schedule recording words q b r i s c l w =
     ap₂ (λ x y. options_with rows x y (first_of (codes "output") rows) (first_of (codes "image") rows)) q b
     ∙ (ap₂ (options_with rows (Some turn_steps) (Some run_steps)) r i

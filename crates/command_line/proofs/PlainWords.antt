@@ -1,5 +1,5 @@
 -- Plain words are taken, and their rows are these.
-use Rattle.std.proofs.Common.{◌≡◌, Bool, true, false, refl, ap, ap₂, sym, ◌∙◌, ◌||◌, ◌&&◌, List, [], ◌∷◌, ◌++◌, Option, Some, None, codes, append_assoc, cond}
+use Rattle.std.proofs.Common.{◌≡◌, Bool, true, false, refl, ap, ap₂, sym, ◌∙◌, ◌&&◌, List, [], ◌∷◌, ◌++◌, Option, Some, None, codes, append_assoc, cond}
 use Rattle.std.proofs.lemmas.List.{append-nil}
 use Rattle.std.specs.Prelude.{fold, is_some}
 use Rattle.std.specs.List.{list_all}
@@ -13,7 +13,7 @@ use Rattle.command_line.specs.App.{the_app, top_app, run_app}
 use Rattle.command_line.specs.Plain.{ArePlain, Choice, PlainWordsAreTaken, budget, choice_words, is_chosen, quantum, recording, report, run_words, schedule, stdin}
 use Rattle.command_line.proofs.Choices.{ends_run}
 use Rattle.command_line.proofs.Fixed.{the_app_is_simple}
-use Rattle.command_line.proofs.Rows.{choice_rows, image_is_none, plain_row, plain_rows, tail_rows, word_rows, IsNoChoice}
+use Rattle.command_line.proofs.Rows.{choice_rows, image_is_none, plain_rows, tail_rows, IsNoChoice}
 use Rattle.command_line.proofs.Steps.{rules, run_shape, stand}
 
 -- ---- no argument has a default

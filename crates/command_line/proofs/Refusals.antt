@@ -1,6 +1,6 @@
 -- What the words ask for, by what was seen of them.
-use Rattle.std.proofs.Common.{◌≡◌, Bool, true, false, refl, ap, sym, ◌∙◌, List, Option, Some, None, ℕ, cond, inl, inr, map}
-use Rattle.std.specs.Prelude.{option_map, option_and_then, string_bytes}
+use Rattle.std.proofs.Common.{◌≡◌, Bool, true, false, refl, ap, sym, ◌∙◌, List, Option, Some, None, ℕ, cond, inl, inr}
+use Rattle.std.specs.Prelude.{option_map, option_and_then}
 use Rattle.clap.specs.Words.{Row, Text, subcommand_of, takes}
 use Rattle.command_line.specs.App.{the_app}
 use Rattle.command_line.specs.Options.{AsksFor, RunOptions, has_zero, options_of, options_of_rows}

@@ -1,5 +1,5 @@
 -- The walk of `clap` over the words of `run`, word by word.
-use Rattle.std.proofs.Common.{◌≡◌, ◌<◌, ◌^◌, ℕ, Bool, true, false, refl, ◌&&◌, ap, ap₂, ◌∙◌, List, [], ◌∷◌, ◌++◌, Option, Some, None, codes, unwrap_or, arith, nat_eq, nat_le, length}
+use Rattle.std.proofs.Common.{◌≡◌, ◌<◌, ◌^◌, ℕ, Bool, true, false, refl, ◌&&◌, ap, ap₂, List, [], ◌∷◌, ◌++◌, Option, Some, None, codes, unwrap_or, arith, nat_eq, nat_le, length}
 use Rattle.std.proofs.lemmas.Bool.Decides.{nat_tests}
 use Rattle.std.specs.Prelude.{slice_get}
 use Rattle.std.specs.List.{list_all}

@@ -1,5 +1,5 @@
 -- The command line as `clap` sees it: `aprof` with a required subcommand, and no help or version of any kind.
-use Rattle.std.specs.Prelude.{true, Some, List, codes}
+use Rattle.std.specs.Prelude.{true, Some, codes}
 use Rattle.clap.specs.Lexer.{usize_max}
 use Rattle.clap.specs.Words.{App, Rule, Text, new_app, new_rule, with_rule, with_subcommand}
 use Rattle.clap.specs.declared.builder.ArgAction.TheVariants.{Append, Set}

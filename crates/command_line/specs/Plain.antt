@@ -4,7 +4,7 @@ use Rattle.std.specs.List.{list_all, list_any}
 use Rattle.std.specs.Str.{bytes_eq}
 use Rattle.clap.specs.Words.{Text, takes}
 use Rattle.command_line.specs.App.{the_app}
-use Rattle.command_line.specs.Options.{RunOptions, budget_of, has_zero, options_of, quantum_of}
+use Rattle.command_line.specs.Options.{budget_of, has_zero, options_of, quantum_of}
 
 -- an option of `run` that is given, with its value
 pub data Choice : Type 0 where
@@ -91,12 +91,12 @@ PlainOptionsAreRead = (program : Text) (choices : List Choice) (image : Text) (w
     → quantum_of (given (codes "quantum") choices) ≡ Some turn_steps
     → budget_of (given (codes "budget") choices) ≡ Some run_steps
     → options_of (run_words program choices image words) ≡ Some (record {
-  report = report_path;
-  stdin = given (codes "stdin") choices;
-  schedule = given (codes "schedule") choices;
-  recording = given (codes "record") choices;
-  quantum = turn_steps;
-  budget = run_steps;
-  image = image;
-  words = words;
-})
+      report = report_path;
+      stdin = given (codes "stdin") choices;
+      schedule = given (codes "schedule") choices;
+      recording = given (codes "record") choices;
+      quantum = turn_steps;
+      budget = run_steps;
+      image = image;
+      words = words;
+    })

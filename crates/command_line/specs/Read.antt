@@ -1,5 +1,5 @@
 -- The options of a command that was read.
-use Rattle.std.specs.Prelude.{ℕ, ◌≤◌, List, map, option_map}
+use Rattle.std.specs.Prelude.{ℕ, ◌≤◌, map, option_map}
 use Rattle.command_line.specs.Options.{RunOptions}
 use Rattle.command_line.specs.declared.run_command.RunCommand.{RunCommand}
 

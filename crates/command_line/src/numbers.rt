@@ -1,5 +1,5 @@
 //! Numbers among the words.
-ghost use Rattle.std.specs.Prelude.{◌≡◌, option_map};
+ghost use Rattle.std.specs.Prelude.{◌≡◌, ◌≤◌, IfSome, option_map};
 ghost use Rattle.std.specs.List.{list_all};
 ghost use Rattle.command_line.specs.Options.{is_digit, is_numeral, number_between, number_or};
 
@@ -7,7 +7,7 @@ ghost use Rattle.command_line.specs.Options.{is_digit, is_numeral, number_betwee
 fn are_digits(bytes: &[u8]) -> bool
     ensures { result ≡ list_all is_digit bytes.now }
 {
-    bytes.iter().all(|byte| 48 <= *byte && *byte <= 57)
+    bytes.iter().all(|byte| b'0' <= *byte && *byte <= b'9')
 }
 
 // Whether the text is one to twenty digits.
@@ -28,7 +28,8 @@ fn is_numeral(text: &str) -> bool
 // The number that the text says, if that is in the range.
 #[tactic(auto, using(crate::proofs::Numerals::number_read, crate::proofs::Numerals::number_too_long))]
 fn number_between(least: u64, greatest: u64, text: &str) -> Option<u64>
-    ensures { result ≡ number_between least greatest text.now }
+    ensures number { result ≡ number_between least greatest text.now }
+    ensures range { IfSome result (λ number. (least ≤ number) × (number ≤ greatest)) }
 {
     if !is_numeral(text) {
         return None;
@@ -45,7 +46,10 @@ fn number_between(least: u64, greatest: u64, text: &str) -> Option<u64>
 
 /// The number of an option that may be left out.
 pub(crate) fn number_or(usual: u64, least: u64, greatest: u64, text: Option<&str>) -> Option<u64>
-    ensures { result ≡ number_or usual least greatest (option_map (λ s. s.now) text.entry) }
+    requires not_small { least ≤ usual }
+    requires not_great { usual ≤ greatest }
+    ensures number { result ≡ number_or usual least greatest (option_map (λ s. s.now) text.entry) }
+    ensures range { IfSome result (λ number. (least ≤ number) × (number ≤ greatest)) }
 {
     match text {
         None => Some(usual),

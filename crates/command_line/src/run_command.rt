@@ -14,6 +14,16 @@ use clap::error::ErrorKind;
 use std::alloc::{AllocError, Global};
 use thiserror::Error;
 
+/// The most steps of a turn, where the words don't say, and the greatest number that they may say.
+const USUAL_QUANTUM: u64 = 10_000;
+
+const GREATEST_QUANTUM: u64 = 1_000_000_000;
+
+/// The most steps of a run, in the same way.
+const USUAL_BUDGET: u64 = 1_000_000_000;
+
+const GREATEST_BUDGET: u64 = 1_000_000_000_000;
+
 /// Why no command is made of the words.
 #[derive(Clone, Copy, Debug, PartialEq, Eq, Error)]
 pub enum CommandError {
@@ -72,43 +82,29 @@ fn some_has_zero(words: &[String]) -> bool
 }
 
 // The command that the matches of `run` say.
-fn command_of<'a>(
-    alloc: Global,
-    matches: &ArgMatches<'a>,
-) -> Result<RunCommand<'a>, CommandError>
+fn command_of<'a>(alloc: Global, matches: &ArgMatches<'a>) -> Result<RunCommand<'a>, CommandError>
     ensures asked { IfOk result (λ command. options_of_rows (rows_of (found_of matches.now)) ≡ Some (options_in command)) }
     ensures refused { IfErr result (λ e. e ≡ Refused → options_of_rows (rows_of (found_of matches.now)) ≡ None) }
     ensures ranges { IfOk result (λ command. AreInRange command.quantum command.budget) }
 {
-    let Some(quantum) = number_or(10_000, 1, 1_000_000_000, text_of(matches, "quantum")) else {
-        return Err(CommandError::Refused);
-    };
-    let Some(budget) = number_or(1_000_000_000, 1, 1_000_000_000_000, text_of(matches, "budget")) else {
-        return Err(CommandError::Refused);
-    };
-    let Some(report) = text_of(matches, "output") else {
-        return Err(CommandError::Refused);
-    };
-    let Some(image) = text_of(matches, "image") else {
-        return Err(CommandError::Refused);
-    };
+    let quantum_text = text_of(matches, "quantum");
+    let quantum = number_or(USUAL_QUANTUM, 1, GREATEST_QUANTUM, quantum_text);
+    let budget_text = text_of(matches, "budget");
+    let budget = number_or(USUAL_BUDGET, 1, GREATEST_BUDGET, budget_text);
     Ok(RunCommand {
-        report,
+        report: text_of(matches, "output").ok_or(CommandError::Refused)?,
         stdin: text_of(matches, "stdin"),
         schedule: text_of(matches, "schedule"),
         recording: text_of(matches, "record"),
-        quantum,
-        budget,
-        image,
+        quantum: quantum.ok_or(CommandError::Refused)?,
+        budget: budget.ok_or(CommandError::Refused)?,
+        image: text_of(matches, "image").ok_or(CommandError::Refused)?,
         words: texts_of(alloc, matches, "word")?,
     })
 }
 
 /// Reads the words of the command line, the program's name first.
-pub fn read_command<'a>(
-    alloc: Global,
-    words: &'a [String],
-) -> Result<RunCommand<'a>, CommandError>
+pub fn read_command<'a>(alloc: Global, words: &'a [String]) -> Result<RunCommand<'a>, CommandError>
     ensures asked { IfOk result (λ command. AsksFor (map string_bytes words.entry.now) (Some (options_in command))) }
     ensures refused { IfErr result (λ e. e ≡ Refused → AsksFor (map string_bytes words.entry.now) None) }
     ensures ranges { IfOk result (λ command. AreInRange command.quantum command.budget) }

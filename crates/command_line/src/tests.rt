@@ -1,0 +1,100 @@
+use crate::{CommandError, read_command};
+use std::alloc::{AllocError, Global};
+use std::test::Fail;
+
+// The words of a line, between single spaces.
+fn words_of(alloc: Global, line: &str) -> Result<Vec<String>, AllocError> {
+    let mut words = Vec::new(alloc);
+    for word in line.split(' ') {
+        words.push(String::from_str(alloc, word)?)?;
+    }
+    Ok(words)
+}
+
+// The quantum and the budget that words ask for, where they are of the form.
+fn numbers_of(alloc: Global, words: &[String]) -> Result<Option<(u64, u64)>, AllocError> {
+    match read_command(alloc, words) {
+        Ok(command) => Ok(Some((command.quantum, command.budget))),
+        Err(CommandError::Refused) => Ok(None),
+        Err(CommandError::Memory) => Err(AllocError),
+    }
+}
+
+#[test]
+fn words_of_the_form_are_taken(rt: HostRuntime) -> Result<(), Fail> {
+    let usual = (10_000, 1_000_000_000);
+    for (line, numbers) in [
+        ("aprof run -o r img", usual),
+        ("aprof run img in -o r", usual),
+        ("aprof run -or --stdin=s -- -img", usual),
+        (" run --record t -o r img = =-x in in", usual),
+        ("aprof run --quantum 1 --budget 1 -o r img", (1, 1)),
+        (
+            "aprof run --budget 1000000000000 -o r --quantum 1000000000 img",
+            (1_000_000_000, 1_000_000_000_000),
+        ),
+        (
+            "aprof run --quantum 00000000000000000007 -o r img",
+            (7, 1_000_000_000),
+        ),
+    ] {
+        let words = words_of(rt.alloc(), line)?;
+        assert_eq!(rt; numbers_of(rt.alloc(), &words)?, Some(numbers));
+    }
+    Ok(())
+}
+
+#[test]
+fn other_words_are_refused(rt: HostRuntime) -> Result<(), Fail> {
+    assert_eq!(rt; numbers_of(rt.alloc(), &[])?, None);
+    for line in [
+        "aprof",
+        "aprof help",
+        "aprof --help",
+        "aprof demo 1",
+        "aprof run --help",
+        "aprof run -h",
+        "aprof run img",
+        "aprof run -o r",
+        "aprof run img -o",
+        "aprof run -o r --stats img",
+        "aprof run -o r -o r img",
+        "aprof run --stdin s --stdin s -o r img",
+        "aprof run --quantum 0 -o r img",
+        "aprof run --quantum 1000000001 -o r img",
+        "aprof run --budget 0 -o r img",
+        "aprof run --budget 1000000000001 -o r img",
+        "aprof run --budget 99999999999999999999 -o r img",
+        "aprof run --quantum 000000000000000000007 -o r img",
+        "aprof run --quantum= -o r img",
+        "aprof run --quantum  -o r img",
+        "aprof run --quantum +7 -o r img",
+        "aprof run --quantum 7x -o r img",
+        "apr\0of run -o r img",
+        "aprof run -o r img in\0",
+    ] {
+        let words = words_of(rt.alloc(), line)?;
+        assert_eq!(rt; numbers_of(rt.alloc(), &words)?, None);
+    }
+    Ok(())
+}
+
+#[test]
+fn a_command_has_arguments_and_inputs(rt: HostRuntime) -> Result<(), Fail> {
+    let alloc = rt.alloc();
+    let line = "aprof run --schedule s -o r --record t --stdin i img b =a a b =b";
+    let words = words_of(alloc, line)?;
+    let command = read_command(alloc, &words).expect(&rt, "words of the form");
+    assert_eq!(rt; (command.report, command.image), ("r", "img"));
+    assert_eq!(rt;
+        (command.stdin, command.schedule, command.recording),
+        (Some("i"), Some("s"), Some("t"))
+    );
+    assert_eq!(rt; command.inputs(alloc)?.as_slice(), ["b", "a"].as_slice());
+    let arguments = command.arguments(alloc)?;
+    assert_eq!(rt; arguments.len(), 6);
+    for (argument, text) in arguments.iter().zip(["img", "b", "a", "a", "b", "b"]) {
+        assert_eq!(rt; argument.as_str(), text);
+    }
+    Ok(())
+}

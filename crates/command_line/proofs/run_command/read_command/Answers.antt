@@ -1,10 +1,10 @@
-use Rattle.std.proofs.Common.{◌≡◌, true, false, ap, sym, ◌∙◌, map, subst, Some, None, List, ℕ, string_bytes}
+use Rattle.std.proofs.Common.{◌≡◌, true, false, ap, sym, ◌∙◌, map, subst, Some, None, string_bytes}
 use Rattle.std.proofs.lemmas.Result.{IfErr-weaker, IfOk-weaker}
 use Rattle.std.specs.Prelude.{option_map}
 use Rattle.std.specs.List.{list_any}
 use Rattle.clap.specs.Words.{found_of, rows_of}
 use Rattle.clap.proofs.WalkLemmas.{list_any-map}
-use Rattle.command_line.specs.Options.{AsksFor, RunOptions, has_zero, options_of_rows}
+use Rattle.command_line.specs.Options.{AsksFor, has_zero}
 use Rattle.command_line.proofs.Refusals.{rows_ask, untaken_is_refused, zero_is_refused}
 use Rattle.command_line.proofs.run_command.read_command.Goals as goal
 
