@@ -10,3 +10,4 @@ pub mod Ends
 pub mod Replayed
 pub mod Bounds
 pub mod Counted
+pub mod Weights
