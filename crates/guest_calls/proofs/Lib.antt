@@ -2,7 +2,7 @@ pub mod AllCalls
 pub mod Births
 pub mod Breaks
 pub mod Carrying
-pub mod Copies
+pub mod CopyEvents
 pub mod Leaving
 pub mod Numbers
 pub mod PartLists

@@ -1,10 +1,9 @@
 -- The numbers that calls give to threads.
-use Rattle.std.proofs.Common.{◌≡◌, ℕ, ◌+◌, Bool, true, false, cond, List, Option, Some, None, refl, ◌∙◌}
-use Rattle.std.specs.Prelude.{not, ◌==◌, replicate}
+use Rattle.std.proofs.Common.{◌≡◌, ℕ, ◌+◌, Bool, true, false, cond, List, Option, Some, None, length, refl}
+use Rattle.std.specs.Prelude.{◌==◌}
 use Rattle.std.specs.Option.{option_map_or}
 use Rattle.futex_table.specs.Waiting.{all_bits}
-use Rattle.guest_calls.specs.declared.answer.Answer.{Answer}
-use Rattle.guest_calls.specs.declared.answer.Answer.TheVariants.{Back, Yield, Block, ThreadEnd, ProcessEnd, Born}
+use Rattle.guest_calls.specs.declared.answer.Answer.TheVariants.{Back, ThreadEnd, ProcessEnd}
 use Rattle.guest_calls.specs.declared.descriptor.Descriptor.{Descriptor}
 use Rattle.guest_calls.specs.declared.descriptor.Descriptor.TheVariants.{Closed, StandardInput, Output, InputFile}
 use Rattle.guest_calls.specs.declared.operation.Operation.{Operation}
@@ -16,7 +15,7 @@ use Rattle.guest_calls.specs.Futex.{count_shifted, count_woken, futex_at, futex_
 use Rattle.guest_calls.specs.Kernel.{KernelState, descriptor, has_others}
 use Rattle.guest_calls.specs.Laws.{EveryCallGivesNumber, GivesNumber}
 use Rattle.guest_calls.specs.Pages.{brk, mmap2, mprotect, munmap}
-use Rattle.guest_calls.specs.Results.{Call, CallResult, answers, arg, either, fills, fills_word, reads, returns, unless, when, word, ◌▷◌}
+use Rattle.guest_calls.specs.Results.{Call, CallResult, answers, arg, either, fills_word, reads, returns, unless, when, word, ◌▷◌}
 use Rattle.guest_calls.specs.Table.{table}
 use Rattle.guest_calls.specs.Threads.{clear_tid, exit, is_cleared, rt_sigprocmask, status}
 use Rattle.guest_calls.specs.Futex.{wakes}
@@ -56,16 +55,19 @@ exit_numbers c = ended_numbers (has_others c.kernel c.tid) (status c) c.kernel _
     (when_last (is_cleared c) (λ r. r ▷ fills_word (clear_tid c) 0 ▷ wakes (clear_tid c) 1 all_bits) (returns c 0) refl)
 
 read-numbers : (c : Call) → Numbers c (read c)
-read-numbers c = tested c _ _ (advanced_last (descriptor c.kernel (arg c 0)) (arg c 0) _ c.kernel)
+read-numbers c = search (tested, advanced_last)
 
 readv_numbers : (c : Call) → Numbers c (readv c)
-readv_numbers c = tested c (readv_tests c) (λ x. readv_effect c) (advanced_last (descriptor c.kernel (arg c 0)) (arg c 0) _ c.kernel)
+readv_numbers c = tested c (readv_tests c) (λ x. readv_effect c) (advanced_last (descriptor c.kernel (arg c 0)) (arg c 0) (length (readv_bytes c)) c.kernel)
 
 sigprocmask_numbers : (c : Call) → Numbers c (rt_sigprocmask c)
-sigprocmask_numbers c = tested c _ _ (when_numbers c (not (arg c 2 == 0)) (fills (arg c 2) (replicate 8 0)) (returns c 0) refl refl)
+sigprocmask_numbers c = search (tested, when_numbers)
+
+number_given : (n m : ℕ) → n ≡ m → (n ≡ m) × (n ≡ n)
+number_given n m same = (same, refl)
 
 clone_numbers : (c : Call) → Numbers c (clone c)
-clone_numbers c = tested c _ _ (refl, refl)
+clone_numbers c = search (tested, number_given)
 
 performed_numbers : (o : Operation) (c : Call) → Numbers c (performed o c)
 performed_numbers Wait c = either_numbers c (word c (futex_at c) == futex_value c) (waits_for c all_bits) (answers (Back eagain)) (returns c 0 ▷ reads c.tid (futex_at c) 4) refl refl
@@ -80,31 +82,31 @@ futex_numbers None c = refl
 futex_numbers (Some o) c = tested c (futex_tests o c) (λ x. performed o c) (performed_numbers o c)
 
 openat_numbers : (c : Call) → Numbers c (openat c)
-openat_numbers c = tested c _ _ refl
+openat_numbers c = search tested
 
 close_numbers : (c : Call) → Numbers c (close c)
-close_numbers c = tested c _ _ refl
+close_numbers c = search tested
 
 llseek_numbers : (c : Call) → Numbers c (llseek c)
-llseek_numbers c = tested c _ _ refl
+llseek_numbers c = search tested
 
 write_numbers : (c : Call) → Numbers c (write c)
-write_numbers c = tested c _ _ refl
+write_numbers c = search tested
 
 writev_numbers : (c : Call) → Numbers c (writev c)
-writev_numbers c = tested c _ _ refl
+writev_numbers c = search tested
 
 brk_numbers : (c : Call) → Numbers c (brk c)
-brk_numbers c = tested c _ _ refl
+brk_numbers c = search tested
 
 munmap_numbers : (c : Call) → Numbers c (munmap c)
-munmap_numbers c = tested c _ _ refl
+munmap_numbers c = search tested
 
 mmap2_numbers : (c : Call) → Numbers c (mmap2 c)
-mmap2_numbers c = tested c _ _ refl
+mmap2_numbers c = search tested
 
 mprotect_numbers : (c : Call) → Numbers c (mprotect c)
-mprotect_numbers c = tested c _ _ refl
+mprotect_numbers c = search tested
 
 pub every_call_numbers : EveryCallGivesNumber
 unfolding table

@@ -1,6 +1,7 @@
 //! Laws of a run: each is the contract of a function that does nothing.
 ghost use Rattle.guest_run.specs.Laws.{CountsSteps, ProfilesPart, RecordsTurns, ReplaysProfiled, ReplaysRun, SpendsBudget, StaysWithin, StepsWithin};
 ghost use Rattle.guest_run.specs.Machine.{guest};
+ghost use Rattle.guest_run.specs.Traces.{EveryRunIsLight};
 
 /// A run of the guest under the schedule that is its own recording is the same in all its moves and its end, and so is a
 /// profiled run, unless it ended at an entry of its schedule.
@@ -19,4 +20,10 @@ pub fn runs_stay_within()
     ensures profiled { ProfilesPart }
     ensures steps { CountsSteps }
     ensures few { StepsWithin }
+{}
+
+/// The trace of a run of the guest from its start, up to 10^12 moves: it is light enough that sizes and costs are 64-bit
+/// numbers.
+pub fn traces_are_well_formed()
+    ensures light { EveryRunIsLight }
 {}
