@@ -1,6 +1,6 @@
 -- How much the events of a run weigh.
-use Rattle.std.proofs.Common.{◌≡◌, ℕ, zero, suc, ◌+◌, ◌*◌, ◌%◌, ◌^◌, ◌≤◌, Bool, true, false, cond, List, [], ◌∷◌, ◌++◌, length, reverse, map, refl, ap, subst, sym, ◌∙◌, arith, Ok, Err}
-use Rattle.std.specs.Prelude.{◌==◌, Result, not}
+use Rattle.std.proofs.Common.{◌≡◌, ℕ, zero, suc, ◌+◌, ◌*◌, ◌%◌, ◌^◌, ◌<◌, ◌≤◌, Bool, true, false, cond, List, [], ◌∷◌, ◌++◌, length, reverse, map, refl, ap, sym, ◌∙◌, arith, Ok, Err}
+use Rattle.std.specs.Prelude.{◌==◌, Result, not, pred}
 use Rattle.std.proofs.lemmas.List.{length-append, length-map, reverse-append}
 use Rattle.guest_words.specs.declared.endings.FaultKind.{FaultKind}
 use Rattle.rv_isa.specs.declared.instruction.Instr.{Instr}
@@ -16,12 +16,14 @@ use Rattle.call_tracker.specs.Links.{kind_of}
 use Rattle.call_tracker.specs.declared.jumps.JumpKind.{JumpKind}
 use Rattle.call_tracker.specs.declared.jumps.JumpKind.TheVariants.{Nothing, Push, Pop, PopPush}
 use Rattle.trace_model.specs.declared.event_kinds.Event.{Event}
-use Rattle.trace_model.specs.declared.event_kinds.Event.TheVariants.{Start, End}
+use Rattle.trace_model.specs.declared.event_kinds.Event.TheVariants.{End}
 use Rattle.trace_model.specs.Depth.{cut, is_within}
 use Rattle.trace_model.specs.WellFormed.{weight, weight_of}
-use Rattle.thread_sched.specs.TurnRule.{turn_of}
+use Rattle.thread_sched.specs.TurnRule.{Known, turn_of}
 use Rattle.thread_sched.specs.declared.turns.Turn.{Turn}
 use Rattle.thread_sched.specs.declared.turns.Turn.TheVariants as turn
+use Rattle.elf_image.specs.Image.{Executable}
+use Rattle.guest_calls.specs.Inputs.{Input}
 use Rattle.guest_calls.specs.declared.answer.Answer.{Answer}
 use Rattle.guest_calls.specs.declared.answer.Answer.TheVariants.{Back, Yield, Block, ThreadEnd, ProcessEnd, Born}
 use Rattle.guest_calls.specs.Kernel.{ready}
@@ -38,7 +40,7 @@ use Rattle.guest_run.specs.Machine.{guest}
 use Rattle.guest_run.specs.Run.{Position, Chosen, by_pace, by_turn, chosen, chosen_by, events_of, go_on, move_of, position_after, run, run_from}
 use Rattle.guest_run.specs.Run.Chosen.{Moves, Stops}
 use Rattle.guest_run.specs.Profiled.{first_past, past_after, profiled}
-use Rattle.guest_run.specs.Traces.{EveryRunIsLight}
+use Rattle.guest_run.specs.Traces.{EveryRunIsLight, most_moves}
 
 weight_reverse : (xs : List Event) → weight (reverse xs) ≡ weight xs
 weight_reverse [] = refl
@@ -75,7 +77,7 @@ life_weight (Born child registers) harts tid r =
 
 access_weight : (tid : ℕ) (a : Access) → IsInMemory a → weight (access_events tid a) ≤ 3
 access_weight tid access.Nothing few = omega arith
-access_weight tid (access.Read first count) few = omega (arith, few.1.0)
+access_weight tid (access.Read first count) few = omega (arith, few.1)
 access_weight tid (access.Write first count) few = omega arith
 access_weight tid (access.Both word) few = omega arith
 
@@ -168,13 +170,19 @@ whole_weight past events =
     let both = weight_append (reverse events) past in
     omega (arith, both, weight_reverse events)
 
-pub every_run_light : EveryRunIsLight
-unfolding profiled start
-every_run_light image arguments inputs stdin most turns budget few =
+-- the whole past of a run
+pub whole_light : (image : Executable) (arguments : List (List ℕ)) (inputs : List Input) (stdin : List ℕ) (turns : Known) (budget : ℕ) → budget ≤ most_moves →
+    weight (past_after (first_past image.entry) (events_of (run guest turns budget (start image arguments inputs stdin)).moves)) < 2 ^ 62
+unfolding start
+whole_light image arguments inputs stdin turns budget few =
     let begin = start image arguments inputs stdin in
-    let moves = (run guest turns budget begin).moves in
-    let all = past_after (first_past image.entry) (events_of moves) in
     let one : length begin.harts ≡ 1 = refl in
     let own : weight (first_past image.entry) ≡ 1 = refl in
-    let light = run_weight budget (record { state = begin; turns = turns; left = 0 }) in
-    omega (arith, cut_weight all most, whole_weight (first_past image.entry) (events_of moves), light, one, own, few)
+    let moves = run_weight budget (record { state = begin; turns = turns; left = 0 }) in
+    omega (arith, whole_weight (first_past image.entry) (events_of (run guest turns budget begin).moves), moves, one, own, few)
+
+pub every_run_light : EveryRunIsLight
+unfolding profiled
+every_run_light image arguments inputs stdin most turns budget few =
+    let all = past_after (first_past image.entry) (events_of (run guest turns budget (start image arguments inputs stdin)).moves) in
+    omega (arith, cut_weight all most, whole_light image arguments inputs stdin turns budget few)

@@ -22,8 +22,8 @@ pub fn runs_stay_within()
     ensures few { StepsWithin }
 {}
 
-/// The trace of a run of the guest from its start, up to 10^12 moves: it is light enough that sizes and costs are 64-bit
-/// numbers.
+/// What is profiled of a run of the guest from its start, of at most 10^12 moves, is light enough that sizes and costs are
+/// 64-bit numbers.
 pub fn traces_are_well_formed()
     ensures light { EveryRunIsLight }
 {}
