@@ -11,3 +11,4 @@ pub mod Replayed
 pub mod Bounds
 pub mod Counted
 pub mod Weights
+pub mod Formed
