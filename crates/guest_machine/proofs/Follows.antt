@@ -230,10 +230,6 @@ ends_follow (h ∷ harts) past low last live rising =
     ∙ head_gone h.tid t (list_any (λ n. n == t) (tids_in harts)) (λ same. not_among h.tid (tids_in harts) last t rising.1 (omega (arith, same)))) rising.1 in
     ((first, rest.0), rest.1)
 
-rises-low : (low : ℕ) (ns : List ℕ) (last : ℕ) → Rises low ns last → low ≤ last
-rises-low low [] last h = h
-rises-low low (n ∷ ns) last h = let rest = rises-low n ns last h.1 in omega (arith, h.0, rest)
-
 born_live : (child t : ℕ) (x : Bool) → (nat_eq t child || x) ≡ (x || ((child == t) || false))
 born_live child t x = elim (cases_eq t child) [
   | inl same ↦

@@ -29,8 +29,8 @@ EveryStepContinues =
     (m : MachineState) (tid : ℕ) (past : List Event) → StandsFor m past → can_run m tid ≡ true
     → Continues (step m tid).machine (step m tid).events past
 
--- The events of a step weigh little, but for one for each thread that ends. So do those of all steps together, as each
--- thread but the first ones started by a step.
+-- The events of a step weigh at most 65540, less one for each thread that it adds and more one for each that it ends. So
+-- those of many steps weigh at most as much for each, and one for each thread at first.
 abbrev pub EveryStepIsLight : Type 0
 EveryStepIsLight =
     (m : MachineState) (tid : ℕ) → weight (step m tid).events + length (step m tid).machine.harts ≤ 65540 + length m.harts
