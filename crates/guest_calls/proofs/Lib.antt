@@ -2,7 +2,9 @@ pub mod AllCalls
 pub mod Births
 pub mod Breaks
 pub mod Carrying
+pub mod CopyEvents
 pub mod Leaving
+pub mod Numbers
 pub mod PartLists
 pub mod PathEnds
 pub mod Places

@@ -1,47 +1,28 @@
 -- Bytes in reach, and the events of their copies.
-use Rattle.std.proofs.Common.{◌≡◌, ℕ, zero, suc, ◌<◌, ◌≤◌, ◌+◌, ◌-◌, ◌/◌, ◌^◌, Bool, true, false, cond, List, [], ◌∷◌, Option, Some, None, arith, refl, ap, subst, ◌∙◌, inl, inr}
-use Rattle.std.specs.Prelude.{nat_lt, is_none}
+use Rattle.std.proofs.Common.{◌≡◌, ℕ, zero, suc, ◌<◌, ◌≤◌, ◌+◌, ◌/◌, ◌^◌, Bool, true, false, cond, List, [], ◌∷◌, Option, Some, None, arith, refl, ap, subst, ◌∙◌, inl, inr}
+use Rattle.std.specs.Prelude.{is_none}
 use Rattle.std.specs.Option.{option_map_or, option_or}
 use Rattle.std.proofs.lemmas.Bool.{cases_lt}
 use Rattle.std.proofs.lemmas.Bool.Decides.{nat_tests}
-use Rattle.guest_words.specs.declared.rights.Rights.{Rights}
 use Rattle.guest_words.specs.Words.{word_count}
 use Rattle.guest_memory.specs.declared.refusal.MemError.{MemError}
 use Rattle.guest_memory.specs.declared.refusal.Need.{Need}
 use Rattle.guest_memory.specs.declared.refusal.Need.TheVariants as need
-use Rattle.guest_memory.specs.Memory.{Memory, page_refusal, byte_refusal, first_refusal, with_bytes, is_among}
+use Rattle.guest_memory.specs.Memory.{Memory, byte_refusal, first_refusal, with_bytes, is_among}
 use Rattle.guest_memory.specs.Reserved.{Reserved, after_write}
 use Rattle.guest_memory.proofs.Accesses.{refusal_each, refusal_skip}
 use Rattle.rv_exec.specs.Accesses.{can_read, can_write}
+use Rattle.rv_exec.proofs.Reach as far
+use Rattle.rv_exec.proofs.Reach.{none_of}
 use Rattle.trace_model.specs.declared.event_kinds.Event.TheVariants.{Read, Fill}
 use Rattle.guest_calls.specs.Results.{fill_event, read_event, words_touched}
 
-none_of : {T : Type 0} (o : Option T) → is_none o ≡ true → o ≡ None
-none_of None h = refl
-none_of (Some x) h = absurd (cc)
-
-refused_outside : (need : Need) (inside : Bool) (r : Option Rights) → page_refusal need (cond inside r None) ≡ None → inside ≡ true
-refused_outside need true r h = refl
-refused_outside need false r h = absurd (cc)
-
--- a byte that is not refused lies below 2 ^ 32
-pub below_end : (m : Memory) (need : Need) (at : ℕ) → byte_refusal m need at ≡ None → at < 2 ^ 32
-below_end m need at none =
-    let inside : nat_lt (at / 4096) 1048576 ≡ true = refused_outside need (nat_lt (at / 4096) 1048576) (m.rights (at / 4096)) none in
-    grind (arith, nat_tests, inside)
-
 -- bytes that are not refused end at 2 ^ 32 or below
-pub reach_end : (m : Memory) (need : Need) (at n : ℕ) → first_refusal m need at n ≡ None → 1 ≤ n → at + n ≤ 2 ^ 32
-reach_end m need at n none some =
-    let last : byte_refusal m need (at + (n - 1)) ≡ None = refusal_each m need at n none (n - 1) (omega arith) in
-    let low : at + (n - 1) < 2 ^ 32 = below_end m need (at + (n - 1)) last in
-    omega (arith, low, some)
-
 pub writable_end : (m : Memory) (at n : ℕ) → can_write m at n ≡ true → 1 ≤ n → at + n ≤ 2 ^ 32
-writable_end m at n reach some = reach_end m need.Write at n (none_of (first_refusal m need.Write at n) reach) some
+writable_end = far.writable_end
 
 pub readable_end : (m : Memory) (at n : ℕ) → can_read m at n ≡ true → 1 ≤ n → at + n ≤ 2 ^ 32
-readable_end m at n reach some = reach_end m need.Read at n (none_of (first_refusal m need.Read at n) reach) some
+readable_end = far.readable_end
 
 -- some bytes give one event
 pub filled_some : (at n : ℕ) → 1 ≤ n → (fill_event at n ≡ Fill (at / 4) (word_count at n) ∷ []) × (words_touched at n ≡ word_count at n)

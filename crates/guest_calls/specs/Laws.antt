@@ -1,6 +1,11 @@
 -- What holds of every call.
-use Rattle.std.specs.Prelude.{◌≤◌}
-use Rattle.trace_model.specs.WellFormed.{weight}
+use Rattle.std.specs.Prelude.{◌≡◌, ℕ, ◌≤◌, ◌+◌, List, [], ◌∷◌}
+use Rattle.trace_model.specs.declared.event_kinds.Event.{Event}
+use Rattle.trace_model.specs.declared.event_kinds.Event.TheVariants.{Read, Fill}
+use Rattle.trace_model.specs.WellFormed.{AreWords, weight}
+use Rattle.guest_calls.specs.declared.answer.Answer.{Answer}
+use Rattle.guest_calls.specs.declared.answer.Answer.TheVariants.{Born}
+use Rattle.guest_calls.specs.Kernel.{KernelState}
 use Rattle.guest_calls.specs.Pages.{IsBreakFree}
 use Rattle.guest_calls.specs.Results.{Call}
 use Rattle.guest_calls.specs.Table.{call}
@@ -13,3 +18,25 @@ EveryCallIsLight = (c : Call) → weight (call c).guest.events ≤ 65536
 abbrev pub EveryCallKeepsTheBreakFree : Type 0
 EveryCallKeepsTheBreakFree =
     (c : Call) → IsBreakFree c.memory c.kernel.program_break → IsBreakFree (call c).guest.memory (call c).kernel.program_break
+
+-- the event is a copy of words of memory, from it for the thread or to it
+abbrev pub IsCopy : ℕ → Event → Type 0
+IsCopy tid (Read reader first count) = (reader ≡ tid) × AreWords first count
+IsCopy tid (Fill first count) = AreWords first count
+IsCopy tid _ = ⊥
+
+abbrev pub AreCopies : ℕ → List Event → Type 0
+AreCopies tid [] = Unit {0}
+AreCopies tid (e ∷ events) = IsCopy tid e × AreCopies tid events
+
+-- each event of a call is a copy for its thread
+abbrev pub EveryCallCopies : Type 0
+EveryCallCopies = (c : Call) → AreCopies c.tid (call c).guest.events
+
+-- a new thread has the next number, which is then the last one given; without one that stays
+abbrev pub GivesNumber : Answer → KernelState → KernelState → Type 0
+GivesNumber (Born child registers) old new = (child ≡ old.last_tid + 1) × (new.last_tid ≡ child)
+GivesNumber _ old new = new.last_tid ≡ old.last_tid
+
+abbrev pub EveryCallGivesNumber : Type 0
+EveryCallGivesNumber = (c : Call) → GivesNumber (call c).answer c.kernel (call c).kernel

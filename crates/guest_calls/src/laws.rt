@@ -1,5 +1,5 @@
 //! Laws of the calls: each is the contract of a function that does nothing.
-ghost use Rattle.guest_calls.specs.Laws.{EveryCallIsLight, EveryCallKeepsTheBreakFree};
+ghost use Rattle.guest_calls.specs.Laws.{EveryCallCopies, EveryCallGivesNumber, EveryCallIsLight, EveryCallKeepsTheBreakFree};
 
 /// The events of one call weigh at most 65536.
 pub fn every_call_is_light()
@@ -9,4 +9,11 @@ pub fn every_call_is_light()
 /// No call maps a page between the break and its limit.
 pub fn every_call_keeps_the_break_free()
     ensures free { EveryCallKeepsTheBreakFree }
+{}
+
+/// Each event of a call is a copy of words of memory, from it for the calling thread or to it; and a new thread has the number
+/// behind the last one given.
+pub fn every_call_is_traced()
+    ensures copies { EveryCallCopies }
+    ensures numbers { EveryCallGivesNumber }
 {}

@@ -34,7 +34,7 @@ without_tids (h ∷ harts) tid = by_kept (not (h.tid == tid)) refl (without_tids
     by_kept true e rest = rw e (ap (λ ns. h.tid ∷ ns) rest)
     by_kept false e rest = rw e rest
 
-after_tids : (answer : Answer) (harts : List Hart) (tid : ℕ) (r : Registers) → map (λ h. h.tid) (harts_after answer harts tid r) ≡ tids_after answer tid (map (λ h. h.tid) harts)
+pub after_tids : (answer : Answer) (harts : List Hart) (tid : ℕ) (r : Registers) → map (λ h. h.tid) (harts_after answer harts tid r) ≡ tids_after answer tid (map (λ h. h.tid) harts)
 after_tids (Back value) harts tid r = tids-with_registers harts tid (resumed r value)
 after_tids Yield harts tid r = tids-with_registers harts tid (resumed r 0)
 after_tids Block harts tid r = tids-with_registers harts tid (resumed r 0)

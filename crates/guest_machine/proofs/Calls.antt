@@ -62,7 +62,7 @@ record IsQuiet (c : Call) (r : CallResult) : Type 0 where
   threads : map (λ t. t.tid) r.kernel.threads ≡ map (λ t. t.tid) c.kernel.threads
   held : (q : ℕ) → is_some (r.guest.held q) ≡ true → is_some (c.held q) ≡ true
 
-any_thread : (threads : List Thread) (tid : ℕ) → list_any (λ t. t.tid == tid) threads ≡ list_any (λ n. n == tid) (map (λ t. t.tid) threads)
+pub any_thread : (threads : List Thread) (tid : ℕ) → list_any (λ t. t.tid == tid) threads ≡ list_any (λ n. n == tid) (map (λ t. t.tid) threads)
 any_thread [] tid = refl
 any_thread (t ∷ threads) tid = ap (λ b. (t.tid == tid) || b) (any_thread threads tid)
 

@@ -7,3 +7,5 @@ pub mod Called
 pub mod ImagePages
 pub mod Stacks
 pub mod Starts
+pub mod Follows
+pub mod Weights

@@ -6,3 +6,4 @@ pub mod Sound
 pub mod Places
 pub mod Parts
 pub mod Setup
+pub mod Laws

@@ -10,6 +10,7 @@ mod answers;
 mod guest;
 mod hart;
 mod image_pages;
+mod laws;
 mod machine;
 mod setup;
 mod stack;
@@ -18,6 +19,7 @@ mod step_events;
 mod stepped;
 
 pub use hart::Hart;
+pub use laws::every_step_is_traced;
 pub use machine::Machine;
 pub use setup::SetupError;
 pub use stepped::Stepped;

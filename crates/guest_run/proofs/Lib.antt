@@ -10,3 +10,5 @@ pub mod Ends
 pub mod Replayed
 pub mod Bounds
 pub mod Counted
+pub mod Weights
+pub mod Formed

@@ -8,3 +8,4 @@ pub mod Place
 pub mod Shown
 pub mod Going
 pub mod Laws
+pub mod Traces

@@ -12,7 +12,7 @@ mod run;
 mod traced;
 mod turns;
 
-pub use laws::{runs_replay, runs_stay_within};
+pub use laws::{runs_replay, runs_stay_within, traces_are_well_formed};
 pub use pace::Pace;
 pub use run::{Run, run_guest};
 

@@ -1,7 +1,9 @@
 -- What holds of every instruction, state and thread.
-use Rattle.std.specs.Prelude.{◌≡◌, ◌↔◌, ℕ, ◌%◌, true, is_some}
+use Rattle.std.specs.Prelude.{◌≡◌, ◌↔◌, ℕ, ◌+◌, ◌%◌, ◌^◌, ◌<◌, ◌≤◌, true, is_some}
 use Rattle.rv_isa.specs.declared.instruction.Instr.{Instr}
 use Rattle.rv_isa.specs.declared.instruction.Instr.TheVariants.{Ecall}
+use Rattle.rv_exec.specs.declared.outcome.Access.{Access}
+use Rattle.rv_exec.specs.declared.outcome.Access.TheVariants as access
 use Rattle.rv_exec.specs.declared.outcome.Outcome.{Outcome}
 use Rattle.rv_exec.specs.declared.outcome.Outcome.TheVariants.{Went, KernelCall, Fault}
 use Rattle.rv_exec.specs.Effects.{Core, effect}
@@ -33,3 +35,24 @@ KeepsRights = (tid : ℕ) (i : Instr) (c : Core) → (effect tid i c).1.memory.r
 -- the pc stays a multiple of 4
 abbrev pub KeepsAlignment : Type 0
 KeepsAlignment = (tid : ℕ) (i : Instr) (c : Core) → c.registers.pc % 4 ≡ 0 → (effect tid i c).1.registers.pc % 4 ≡ 0
+
+-- one word or two, among the 2 ^ 30 words of memory
+abbrev pub AreFewWords : ℕ → ℕ → Type 0
+AreFewWords first count = (1 ≤ count) × (count ≤ 2) × (first + count ≤ 2 ^ 30)
+
+-- the words that are accessed are such
+abbrev pub IsInMemory : Access → Type 0
+IsInMemory access.Nothing = Unit {0}
+IsInMemory (access.Read first count) = AreFewWords first count
+IsInMemory (access.Write first count) = AreFewWords first count
+IsInMemory (access.Both word) = word < 2 ^ 30
+
+-- so are those of an instruction that went on; any other accessed none
+abbrev pub AccessesMemory : Outcome → Type 0
+AccessesMemory (Went accessed) = IsInMemory accessed
+AccessesMemory KernelCall = Unit {0}
+AccessesMemory (Fault kind) = Unit {0}
+
+-- an instruction accesses one word or two of memory, or none
+abbrev pub AccessesFewWords : Type 0
+AccessesFewWords = (tid : ℕ) (i : Instr) (c : Core) → AccessesMemory (effect tid i c).0
