@@ -158,7 +158,7 @@ fn names_go_by_binding_and_bytes(rt: HostRuntime) -> Result<(), Fail> {
 #[test]
 fn bad_section_tables_give_no_names(rt: HostRuntime) -> Result<(), Fail> {
     let alloc = rt.alloc();
-    let edits: [Edits; 10] = [
+    let edits: [Edits; 17] = [
         // e_shoff past the end, no section, sections of another size
         &[(32, 0xff), (33, 0xff), (34, 0xff), (35, 0xff)],
         &[(48, 0)],
@@ -170,9 +170,17 @@ fn bad_section_tables_give_no_names(rt: HostRuntime) -> Result<(), Fail> {
         &[(408, 24)],
         &[(396, 3)],
         &[(416, 1)],
-        // symbols and strings past the end
+        // symbols and strings past the end, by their offsets, by their sizes, and where the sum of both is past 2^32
         &[(390, 0x10)],
         &[(430, 0x10)],
+        &[(394, 0x10)],
+        &[(434, 0x10)],
+        &[(388, 0xff), (389, 0xff), (390, 0xff), (391, 0xff)],
+        &[(428, 0xff), (429, 0xff), (430, 0xff), (431, 0xff)],
+        // a first symbol table without symbols, a part of a symbol, and strings without a zero byte behind
+        &[(336, 2)],
+        &[(392, 0x0f)],
+        &[(432, 0x02)],
     ];
     for bytes in edits {
         let mut file = Vec::from_slice(alloc, &NAMED)?;
