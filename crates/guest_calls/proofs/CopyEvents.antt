@@ -51,10 +51,12 @@ copies_append tid [] ys front back = back
 copies_append tid (e ∷ xs) ys front back = (front.0, copies_append tid xs ys front.1 back)
 
 -- ---- tests
-tested : (c : Call) (tests : List (Bool × ℕ)) (effect : Unit {0} → CallResult) → (first_answer tests ≡ None → AreCopies c.tid (effect tt).guest.events) → CopiesOnly c (unless c tests effect)
+tested : (c : Call) (tests : List (Bool × ℕ)) (effect : Unit {0} → CallResult) →
+    (first_answer tests ≡ None → AreCopies c.tid (effect tt).guest.events) → CopiesOnly c (unless c tests effect)
 tested c tests effect done = of_unless CopiesOnly c tests effect (λ value. tt) done
 
-quiet_copies : (c : Call) (tests : List (Bool × ℕ)) (effect : Unit {0} → CallResult) → (effect tt).guest.events ≡ [] → CopiesOnly c (unless c tests effect)
+quiet_copies : (c : Call) (tests : List (Bool × ℕ)) (effect : Unit {0} → CallResult) → (effect tt).guest.events ≡ [] →
+    CopiesOnly c (unless c tests effect)
 quiet_copies c tests effect none = tested c tests effect (λ passed. subst (AreCopies c.tid) (sym none) tt)
 
 -- a test that failed, and those after it
@@ -85,11 +87,14 @@ unfolding first_passing
 found_from test from zero s h = absurd (cc)
 found_from test from (suc n) s h = by (test from) h (found_from test (from + 1) n s)
   where
-    by : (b : Bool) → cond b (Some from) (first_passing test (from + 1) n) ≡ Some s → (first_passing test (from + 1) n ≡ Some s → from + 1 ≤ s) → from ≤ s
+    by : (b : Bool) → cond b (Some from) (first_passing test (from + 1) n) ≡ Some s →
+        (first_passing test (from + 1) n ≡ Some s → from + 1 ≤ s) → from ≤ s
     by true h' later = let e : from ≡ s = cc in omega (arith, e)
     by false h' later = let below = later h' in omega (arith, below)
 
-path_copies : (c : Call) (path : ℕ) (o : Option ℕ) → o ≡ path_end c.memory path → option_map_or (λ at. not (can_read c.memory at 1)) o false ≡ false → is_none o ≡ false → AreCopies c.tid (read_event c.tid path (unwrap_or o path - path + 1))
+path_copies : (c : Call) (path : ℕ) (o : Option ℕ) → o ≡ path_end c.memory path →
+    option_map_or (λ at. not (can_read c.memory at 1)) o false ≡ false → is_none o ≡ false →
+    AreCopies c.tid (read_event c.tid path (unwrap_or o path - path + 1))
 path_copies c path None is reach some = absurd (cc)
 path_copies c path (Some stop) is reach some =
     let from = found_from (ends_path c.memory) path 4096 stop (sym is) in
@@ -147,7 +152,8 @@ write_copies c = tested c (write_tests c) (λ x. write_effect c) (λ passed.
     read_copies c.tid (arg c 1) n (readable_end c.memory (arg c 1) n (not_false (readable c (arg c 1) n) all.1.0)))
 
 -- ---- the calls in parts
-filled_copies : (m : Memory) (tid : ℕ) (ps : List Part) (bytes : List ℕ) (g : Guest) → all_in_reach (can_write m) ps ≡ true → AreCopies tid g.events → AreCopies tid (filled_parts ps bytes g).events
+filled_copies : (m : Memory) (tid : ℕ) (ps : List Part) (bytes : List ℕ) (g : Guest) →
+    all_in_reach (can_write m) ps ≡ true → AreCopies tid g.events → AreCopies tid (filled_parts ps bytes g).events
 filled_copies m tid [] bytes g reach before = before
 filled_copies m tid (p ∷ ps) bytes g reach before =
     let both = and_true (can_write m p.at p.size) (all_in_reach (can_write m) ps) reach in
@@ -157,14 +163,16 @@ filled_copies m tid (p ∷ ps) bytes g reach before =
     (copies_append tid g.events (fill_event p.at (length front)) before
     (fill_copies tid p.at (length front) (λ some. let end = writable_end m p.at p.size both.0 (omega (arith, short, some)) in omega (arith, short, end))))
 
-parts_copies : (m : Memory) (tid : ℕ) (ps : List Part) → all_in_reach (can_read m) ps ≡ true → AreCopies tid (read_events tid ps)
+parts_copies : (m : Memory) (tid : ℕ) (ps : List Part) → all_in_reach (can_read m) ps ≡ true →
+    AreCopies tid (read_events tid ps)
 parts_copies m tid [] reach = tt
 parts_copies m tid (p ∷ ps) reach =
     let both = and_true (can_read m p.at p.size) (all_in_reach (can_read m) ps) reach in
     copies_append tid (read_event tid p.at p.size) (read_events tid ps) (read_copies tid p.at p.size (readable_end m p.at p.size both.0)) (parts_copies m tid ps both.1)
 
 -- the table of the parts is read
-table_copies : (c : Call) → not (can_read c.memory (arg c 1) (8 * arg c 2)) ≡ false → AreCopies c.tid (read_event c.tid (arg c 1) (8 * arg c 2))
+table_copies : (c : Call) → not (can_read c.memory (arg c 1) (8 * arg c 2)) ≡ false →
+    AreCopies c.tid (read_event c.tid (arg c 1) (8 * arg c 2))
 table_copies c reach =
     read_copies c.tid (arg c 1) (8 * arg c 2) (readable_end c.memory (arg c 1) (8 * arg c 2) (not_false (can_read c.memory (arg c 1) (8 * arg c 2)) reach))
 
@@ -181,7 +189,9 @@ writev_copies c = tested c (writev_tests c) (λ x. writev_effect c) (λ passed.
     (parts_copies c.memory c.tid (writev_parts c) (not_false (all_in_reach (can_read c.memory) (writev_parts c)) all.1.1.1.1.0)))
 
 -- ---- threads
-when_copies : (tid : ℕ) (b : Bool) (effect : CallResult → CallResult) (r : CallResult) → AreCopies tid r.guest.events → (b ≡ true → AreCopies tid (effect r).guest.events) → AreCopies tid (when b effect r).guest.events
+when_copies : (tid : ℕ) (b : Bool) (effect : CallResult → CallResult) (r : CallResult) →
+    AreCopies tid r.guest.events → (b ≡ true → AreCopies tid (effect r).guest.events) →
+    AreCopies tid (when b effect r).guest.events
 when_copies tid true effect r plain done = done refl
 when_copies tid false effect r plain done = plain
 
@@ -200,7 +210,8 @@ sigprocmask_copies c = tested c ((not (arg c 2 == 0) && not (writable c (arg c 2
     when_copies c.tid (not (old == 0)) (fills old (replicate 8 0)) (returns c 0) tt
     (λ is. fill_copies c.tid old 8 (writable_end c.memory old 8 (asked_reach (not (old == 0)) (writable c old 8) all.0 is))))
 
-where_copies : (tid : ℕ) (asked : Bool) (at n : ℕ) (g : Guest) → AreCopies tid g.events → (asked ≡ true → at + 4 ≤ 2 ^ 32) → AreCopies tid (filled_where asked at n g).events
+where_copies : (tid : ℕ) (asked : Bool) (at n : ℕ) (g : Guest) → AreCopies tid g.events →
+    (asked ≡ true → at + 4 ≤ 2 ^ 32) → AreCopies tid (filled_where asked at n g).events
 where_copies tid true at n g before fits = copies_append tid g.events (fill_event at 4) before (fill_copies tid at 4 (λ some. fits refl))
 where_copies tid false at n g before fits = before
 
@@ -227,15 +238,19 @@ clone_copies c = tested c (clone_tests c) (λ x. clone_effect c) (λ passed.
     (asked_end c.memory (has (arg c 0) sets_child) (arg c 4) all.1.1.1.0))
 
 -- ---- the futexes
-either_copies : (tid : ℕ) (b : Bool) (one other : CallResult → CallResult) (r : CallResult) → AreCopies tid (one r).guest.events → AreCopies tid (other r).guest.events → AreCopies tid (either b one other r).guest.events
+either_copies : (tid : ℕ) (b : Bool) (one other : CallResult → CallResult) (r : CallResult) →
+    AreCopies tid (one r).guest.events → AreCopies tid (other r).guest.events →
+    AreCopies tid (either b one other r).guest.events
 either_copies tid true one other r here there = here
 either_copies tid false one other r here there = there
 
 -- the word that is looked at is read
-word_copies : (c : Call) → (true && not (readable c (futex_at c) 4)) ≡ false → AreCopies c.tid (read_event c.tid (futex_at c) 4)
+word_copies : (c : Call) → (true && not (readable c (futex_at c) 4)) ≡ false →
+    AreCopies c.tid (read_event c.tid (futex_at c) 4)
 word_copies c reach = read_copies c.tid (futex_at c) 4 (readable_end c.memory (futex_at c) 4 (not_false (readable c (futex_at c) 4) reach))
 
-performed_copies : (o : Operation) (c : Call) → (reads_word o && not (readable c (futex_at c) 4)) ≡ false → AreCopies c.tid (performed o c).guest.events
+performed_copies : (o : Operation) (c : Call) → (reads_word o && not (readable c (futex_at c) 4)) ≡ false →
+    AreCopies c.tid (performed o c).guest.events
 performed_copies Wait c reach =
     let h = word_copies c reach in
     either_copies c.tid (word c (futex_at c) == futex_value c) (waits_for c all_bits) (answers (Back eagain)) (returns c 0 ▷ reads c.tid (futex_at c) 4) h h

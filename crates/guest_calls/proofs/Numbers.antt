@@ -25,7 +25,8 @@ use Rattle.guest_calls.proofs.AllCalls.{of_every_call, of_unless}
 abbrev Numbers : Call → CallResult → Type 0
 Numbers c r = GivesNumber r.answer c.kernel r.kernel
 
-tested : (c : Call) (tests : List (Bool × ℕ)) (effect : Unit {0} → CallResult) → Numbers c (effect tt) → Numbers c (unless c tests effect)
+tested : (c : Call) (tests : List (Bool × ℕ)) (effect : Unit {0} → CallResult) → Numbers c (effect tt) →
+    Numbers c (unless c tests effect)
 tested c tests effect done = of_unless Numbers c tests effect (λ value. refl) (λ passed. done)
 
 advanced_last : (d : Descriptor) (fd n : ℕ) (k : KernelState) → (advanced d fd n k).last_tid ≡ k.last_tid
@@ -34,19 +35,23 @@ advanced_last StandardInput fd n k = refl
 advanced_last (Output channel) fd n k = refl
 advanced_last (InputFile input position) fd n k = refl
 
-when_last : (b : Bool) (effect : CallResult → CallResult) (r : CallResult) → (effect r).kernel.last_tid ≡ r.kernel.last_tid → (when b effect r).kernel.last_tid ≡ r.kernel.last_tid
+when_last : (b : Bool) (effect : CallResult → CallResult) (r : CallResult) →
+    (effect r).kernel.last_tid ≡ r.kernel.last_tid → (when b effect r).kernel.last_tid ≡ r.kernel.last_tid
 when_last true effect r same = same
 when_last false effect r same = refl
 
-when_numbers : (c : Call) (b : Bool) (effect : CallResult → CallResult) (r : CallResult) → Numbers c r → Numbers c (effect r) → Numbers c (when b effect r)
+when_numbers : (c : Call) (b : Bool) (effect : CallResult → CallResult) (r : CallResult) → Numbers c r →
+    Numbers c (effect r) → Numbers c (when b effect r)
 when_numbers c true effect r plain done = done
 when_numbers c false effect r plain done = plain
 
-either_numbers : (c : Call) (b : Bool) (one other : CallResult → CallResult) (r : CallResult) → Numbers c (one r) → Numbers c (other r) → Numbers c (either b one other r)
+either_numbers : (c : Call) (b : Bool) (one other : CallResult → CallResult) (r : CallResult) → Numbers c (one r) →
+    Numbers c (other r) → Numbers c (either b one other r)
 either_numbers c true one other r here there = here
 either_numbers c false one other r here there = there
 
-ended_numbers : (others : Bool) (n : ℕ) (old new : KernelState) → new.last_tid ≡ old.last_tid → GivesNumber (cond others ThreadEnd (ProcessEnd n)) old new
+ended_numbers : (others : Bool) (n : ℕ) (old new : KernelState) → new.last_tid ≡ old.last_tid →
+    GivesNumber (cond others ThreadEnd (ProcessEnd n)) old new
 ended_numbers true n old new same = same
 ended_numbers false n old new same = same
 

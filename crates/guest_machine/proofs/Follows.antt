@@ -56,7 +56,8 @@ grown-append : (xs ys past : List Event) → grown (xs ++ ys) past ≡ grown ys 
 grown-append [] ys past = refl
 grown-append (e ∷ xs) ys past = grown-append xs ys (e ∷ past)
 
-follows-append : (xs ys past : List Event) → EachFollows xs past → EachFollows ys (grown xs past) → EachFollows (xs ++ ys) past
+follows-append : (xs ys past : List Event) → EachFollows xs past → EachFollows ys (grown xs past) →
+    EachFollows (xs ++ ys) past
 follows-append [] ys past front back = back
 follows-append (e ∷ xs) ys past front back = (front.0, follows-append xs ys (e ∷ past) front.1 back)
 
@@ -79,7 +80,8 @@ AreOwn tid (e ∷ events) = IsOwn tid e × AreOwn tid events
 abbrev IsSameLife : List Event → List Event → Type 0
 IsSameLife past next = ((t : ℕ) → is_live next t ≡ is_live past t) × (greatest_start next ≡ greatest_start past)
 
-own_follows : (tid : ℕ) (events past : List Event) → AreOwn tid events → IsRunning past tid → EachFollows events past × IsSameLife past (grown events past)
+own_follows : (tid : ℕ) (events past : List Event) → AreOwn tid events → IsRunning past tid →
+    EachFollows events past × IsSameLife past (grown events past)
 own_follows tid [] past own running = (tt, ((λ t. refl), refl))
 own_follows tid (Read t first count ∷ events) past own running =
     let rest = own_follows tid events (Read t first count ∷ past) own.1 running in
@@ -143,7 +145,8 @@ rises-push : (low : ℕ) (ns : List ℕ) (last n : ℕ) → Rises low ns last �
 rises-push low [] last n h above = (omega (arith, h, above), omega arith)
 rises-push low (k ∷ ns) last n h above = (h.0, rises-push k ns last n h.1 above)
 
-rises-filter : (test : ℕ → Bool) (low : ℕ) (ns : List ℕ) (last : ℕ) → Rises low ns last → Rises low (filter test ns) last
+rises-filter : (test : ℕ → Bool) (low : ℕ) (ns : List ℕ) (last : ℕ) → Rises low ns last →
+    Rises low (filter test ns) last
 rises-filter test low [] last h = h
 rises-filter test low (n ∷ ns) last h = by (test n) (rises-filter test n ns last h.1)
   where
@@ -164,7 +167,8 @@ record Lives (past : List Event) (tids : List ℕ) (last : ℕ) : Type 0 where
   greatest : greatest_start past ≤ last
   rising : Rises 0 tids last
 
-lives_same : (past next : List Event) (tids : List ℕ) (last : ℕ) → IsSameLife past next → Lives past tids last → Lives next tids last
+lives_same : (past next : List Event) (tids : List ℕ) (last : ℕ) → IsSameLife past next → Lives past tids last →
+    Lives next tids last
 lives_same past next tids last same before = record {
   live = λ t. same.0 t ∙ before.live t;
   greatest = subst (λ n. n ≤ last) (sym same.1) before.greatest;
@@ -172,13 +176,15 @@ lives_same past next tids last same before = record {
 }
 
 -- the thread that ends is no more among them
-gone_by : (b c e x : Bool) → (b ≡ true → c ≡ true → e ≡ true) → (b ≡ false → c ≡ true → e ≡ false) → (not e && (c || x)) ≡ cond (not b) (c || (not e && x)) (not e && x)
+gone_by : (b c e x : Bool) → (b ≡ true → c ≡ true → e ≡ true) → (b ≡ false → c ≡ true → e ≡ false) →
+    (not e && (c || x)) ≡ cond (not b) (c || (not e && x)) (not e && x)
 gone_by true true e x same apart = rw (same refl refl) refl
 gone_by true false e x same apart = refl
 gone_by false true e x same apart = rw (apart refl refl) refl
 gone_by false false e x same apart = refl
 
-any_cond : (b : Bool) (n t : ℕ) (ns : List ℕ) → list_any (λ k. k == t) (cond b (n ∷ ns) ns) ≡ cond b ((n == t) || list_any (λ k. k == t) ns) (list_any (λ k. k == t) ns)
+any_cond : (b : Bool) (n t : ℕ) (ns : List ℕ) → list_any (λ k. k == t)
+    (cond b (n ∷ ns) ns) ≡ cond b ((n == t) || list_any (λ k. k == t) ns) (list_any (λ k. k == t) ns)
 any_cond true n t ns = refl
 any_cond false n t ns = refl
 
@@ -188,7 +194,8 @@ same_end n t tid h k = grind (arith, nat_tests, h, k)
 other_end : (n t tid : ℕ) → (n == tid) ≡ false → (n == t) ≡ true → nat_eq t tid ≡ false
 other_end n t tid h k = grind (arith, nat_tests, h, k)
 
-any_left : (tids : List ℕ) (tid t : ℕ) → (not (nat_eq t tid) && list_any (λ k. k == t) tids) ≡ list_any (λ k. k == t) (filter (λ n. not (n == tid)) tids)
+any_left : (tids : List ℕ) (tid t : ℕ) → (not (nat_eq t tid) && list_any (λ k. k == t) tids) ≡ list_any (λ k. k == t)
+    (filter (λ n. not (n == tid)) tids)
 any_left [] tid t = by (nat_eq t tid)
   where
     by : (b : Bool) → (not b && false) ≡ false
@@ -220,7 +227,8 @@ ends_of harts = map (λ (h : Hart). End h.tid) harts
 abbrev tids_in : List Hart → List ℕ
 tids_in harts = map (λ (h : Hart). h.tid) harts
 
-ends_follow : (harts : List Hart) (past : List Event) (low last : ℕ) → ((t : ℕ) → is_live past t ≡ list_any (λ n. n == t) (tids_in harts)) → Rises low (tids_in harts) last →
+ends_follow : (harts : List Hart) (past : List Event) (low last : ℕ) →
+    ((t : ℕ) → is_live past t ≡ list_any (λ n. n == t) (tids_in harts)) → Rises low (tids_in harts) last →
     EachFollows (ends_of harts) past × (((t : ℕ) → is_live (grown (ends_of harts) past) t ≡ false) × (greatest_start (grown (ends_of harts) past) ≡ greatest_start past))
 ends_follow [] past low last live rising = (tt, (live, refl))
 ends_follow (h ∷ harts) past low last live rising =
@@ -286,26 +294,32 @@ life_follows (Born child registers) harts tid past old new before live given = (
 )
 
 -- ---- a step
-rises-tids : (low : ℕ) (threads : List Thread) (last : ℕ) → RisesTo low threads last → Rises low (map (λ (t : Thread). t.tid) threads) last
+rises-tids : (low : ℕ) (threads : List Thread) (last : ℕ) → RisesTo low threads last →
+    Rises low (map (λ (t : Thread). t.tid) threads) last
 rises-tids low [] last h = h
 rises-tids low (t ∷ threads) last h = (h.0, rises-tids t.tid threads last h.1)
 
-threads-rise : (low : ℕ) (threads : List Thread) (last : ℕ) → Rises low (map (λ (t : Thread). t.tid) threads) last → RisesTo low threads last
+threads-rise : (low : ℕ) (threads : List Thread) (last : ℕ) → Rises low (map (λ (t : Thread). t.tid) threads) last →
+    RisesTo low threads last
 threads-rise low [] last h = h
 threads-rise low (t ∷ threads) last h = (h.0, threads-rise t.tid threads last h.1)
 
 -- a thread lives where its number is among those of the registers
-live_tids : (m : MachineState) (t : ℕ) → tids_in m.harts ≡ map (λ (u : Thread). u.tid) m.kernel.threads → lives m.kernel t ≡ list_any (λ n. n == t) (tids_in m.harts)
+live_tids : (m : MachineState) (t : ℕ) → tids_in m.harts ≡ map (λ (u : Thread). u.tid) m.kernel.threads →
+    lives m.kernel t ≡ list_any (λ n. n == t) (tids_in m.harts)
 live_tids m t same = any_thread m.kernel.threads t ∙ ap (list_any (λ n. n == t)) (sym same)
 
-lives_before : (m : MachineState) (past : List Event) → StandsFor m past → Lives past (tids_in m.harts) m.kernel.last_tid
+lives_before : (m : MachineState) (past : List Event) → StandsFor m past →
+    Lives past (tids_in m.harts) m.kernel.last_tid
 lives_before m past stands = record {
   live = λ t. stands.live t ∙ live_tids m t stands.same_threads;
   greatest = stands.started;
   rising = subst (λ ns. Rises 0 ns m.kernel.last_tid) (sym stands.same_threads) (rises-tids 0 m.kernel.threads m.kernel.last_tid stands.rising);
 }
 
-stands_after : (m : MachineState) (past : List Event) → tids_in m.harts ≡ map (λ (t : Thread). t.tid) m.kernel.threads → Lives past (tids_in m.harts) m.kernel.last_tid → StandsFor m past
+stands_after : (m : MachineState) (past : List Event) →
+    tids_in m.harts ≡ map (λ (t : Thread). t.tid) m.kernel.threads → Lives past (tids_in m.harts) m.kernel.last_tid →
+    StandsFor m past
 stands_after m past same after = record {
   same_threads = same;
   rising = threads-rise 0 m.kernel.threads m.kernel.last_tid (subst (λ ns. Rises 0 ns m.kernel.last_tid) same after.rising);
@@ -318,10 +332,12 @@ abbrev Grows : MachineState → List Event → List Event → Type 0
 Grows m events past = EachFollows events past × StandsFor m (grown events past)
 
 -- the past with the step itself
-with_step : (past : List Event) (tid : ℕ) (tids : List ℕ) (last : ℕ) → Lives past tids last → Lives (Step tid ∷ past) tids last
+with_step : (past : List Event) (tid : ℕ) (tids : List ℕ) (last : ℕ) → Lives past tids last →
+    Lives (Step tid ∷ past) tids last
 with_step past tid tids last before = record { live = before.live; greatest = before.greatest; rising = before.rising }
 
-effect_follows : (m : MachineState) (tid : ℕ) (i : Instr) (given : Outcome × Core) (past : List Event) → AccessesMemory given.0 → StandsFor m past → is_live past tid ≡ true →
+effect_follows : (m : MachineState) (tid : ℕ) (i : Instr) (given : Outcome × Core) (past : List Event) →
+    AccessesMemory given.0 → StandsFor m past → is_live past tid ≡ true →
     Grows (after_effect m tid i given).machine (after_effect m tid i given).events past
 effect_follows m tid i (outcome.Went accessed, c) past few stands live =
     let back = (pc_of m tid + 4) % 2 ^ 32 in
@@ -353,12 +369,14 @@ effect_follows m tid i (outcome.KernelCall, c) past few stands live =
           (subst (λ ns. Lives next ns r.kernel.last_tid) (sym tids) whole),
     )
 
-executed_follows : (m : MachineState) (tid : ℕ) (found : Result Instr FaultKind) (past : List Event) → StandsFor m past → is_live past tid ≡ true →
+executed_follows : (m : MachineState) (tid : ℕ) (found : Result Instr FaultKind) (past : List Event) →
+    StandsFor m past → is_live past tid ≡ true →
     Grows (executed m tid found).machine (executed m tid found).events past
 executed_follows m tid (Ok i) past stands live = effect_follows m tid i (effect tid i (core_of m tid)) past (effect_accesses tid i (core_of m tid)) stands live
 executed_follows m tid (Err kind) past stands live = (tt, stands)
 
-step_grows : (m : MachineState) (tid : ℕ) (past : List Event) → StandsFor m past → is_live past tid ≡ true → Grows (step m tid).machine (step m tid).events past
+step_grows : (m : MachineState) (tid : ℕ) (past : List Event) → StandsFor m past → is_live past tid ≡ true →
+    Grows (step m tid).machine (step m tid).events past
 unfolding step
 step_grows m tid past stands live = executed_follows m tid (next_instruction m tid) past stands live
 

@@ -35,7 +35,8 @@ harts_left : (harts : List Hart) (tid : ℕ) → length (without_hart harts tid)
 harts_left [] tid = omega arith
 harts_left (h ∷ harts) tid = by (not (h.tid == tid)) (harts_left harts tid)
   where
-    by : (b : Bool) → length (without_hart harts tid) ≤ length harts → length (cond b (h ∷ without_hart harts tid) (without_hart harts tid)) ≤ suc (length harts)
+    by : (b : Bool) → length (without_hart harts tid) ≤ length harts →
+        length (cond b (h ∷ without_hart harts tid) (without_hart harts tid)) ≤ suc (length harts)
     by true rest = omega (arith, rest)
     by false rest = omega (arith, rest)
 
@@ -43,7 +44,8 @@ ends_weight : (harts : List Hart) → weight (map (λ (h : Hart). End h.tid) har
 ends_weight [] = refl
 ends_weight (h ∷ harts) = omega (arith, ends_weight harts)
 
-life_weight : (answer : Answer) (harts : List Hart) (tid : ℕ) (r : Registers) → weight (life_events answer harts tid) + length (harts_after answer harts tid r) ≤ 2 + length harts
+life_weight : (answer : Answer) (harts : List Hart) (tid : ℕ) (r : Registers) →
+    weight (life_events answer harts tid) + length (harts_after answer harts tid r) ≤ 2 + length harts
 life_weight (Back value) harts tid r = omega (arith, harts_kept harts tid (resumed r value))
 life_weight Yield harts tid r = omega (arith, harts_kept harts tid (resumed r 0))
 life_weight Block harts tid r = omega (arith, harts_kept harts tid (resumed r 0))
@@ -65,7 +67,8 @@ jump_weight Push tid target back = omega arith
 jump_weight Pop tid target back = omega arith
 jump_weight PopPush tid target back = omega arith
 
-effect_weight : (m : MachineState) (tid : ℕ) (i : Instr) (given : Outcome × Core) → AccessesMemory given.0 → weight (after_effect m tid i given).events + length (after_effect m tid i given).machine.harts ≤ 65540 + length m.harts
+effect_weight : (m : MachineState) (tid : ℕ) (i : Instr) (given : Outcome × Core) → AccessesMemory given.0 →
+    weight (after_effect m tid i given).events + length (after_effect m tid i given).machine.harts ≤ 65540 + length m.harts
 effect_weight m tid i (outcome.Went accessed, c) few =
     let back = (pc_of m tid + 4) % 2 ^ 32 in
     let both = weight_append (access_events tid accessed) (jump_events (kind_of i) tid c.registers.pc back) in
@@ -76,7 +79,8 @@ effect_weight m tid i (outcome.KernelCall, c) few =
     let both = weight_append r.guest.events (life_events r.answer m.harts tid) in
     omega (arith, both, every_call_light (call_of m tid), life_weight r.answer m.harts tid (registers_of m.harts tid))
 
-executed_weight : (m : MachineState) (tid : ℕ) (found : Result Instr FaultKind) → weight (executed m tid found).events + length (executed m tid found).machine.harts ≤ 65540 + length m.harts
+executed_weight : (m : MachineState) (tid : ℕ) (found : Result Instr FaultKind) →
+    weight (executed m tid found).events + length (executed m tid found).machine.harts ≤ 65540 + length m.harts
 executed_weight m tid (Ok i) = effect_weight m tid i (effect tid i (core_of m tid)) (effect_accesses tid i (core_of m tid))
 executed_weight m tid (Err kind) = omega arith
 

@@ -31,7 +31,8 @@ use Rattle.guest_run.proofs.Chosen.{turn-can}
 use Rattle.guest_run.proofs.Pasts.{past_after-cons}
 use Rattle.guest_run.proofs.Weights.{every_run_light, whole_light}
 
-follows-append : (xs ys past : List Event) → EachFollows xs past → EachFollows ys (past_after past xs) → EachFollows (xs ++ ys) past
+follows-append : (xs ys past : List Event) → EachFollows xs past → EachFollows ys (past_after past xs) →
+    EachFollows (xs ++ ys) past
 follows-append [] ys past front back = back
 follows-append (e ∷ xs) ys past front back = (front.0, follows-append xs ys (e ∷ past) front.1 (subst (EachFollows ys) (past_after-cons past e xs) back))
 
@@ -49,12 +50,14 @@ chosen_able : (at : Position MachineState) → IsAble at → IsChosenAble at.sta
 unfolding chosen
 chosen_able at able = by at.left able
   where
-    turned : (t : Turn) → turn_of at.turns (ready at.state.kernel) ≡ t → IsChosenAble at.state (by_turn at.turns at.state t)
+    turned : (t : Turn) → turn_of at.turns (ready at.state.kernel) ≡ t →
+        IsChosenAble at.state (by_turn at.turns at.state t)
     turned (turn.Run tid most) is = (refl, turn-can at.turns at.state.kernel tid most is)
     turned turn.Deadlock is = tt
     turned (turn.Mismatch line) is = tt
 
-    by : (left : ℕ) → (0 < left → can_run at.state at.turns.last ≡ true) → IsChosenAble at.state (chosen_by guest at left)
+    by : (left : ℕ) → (0 < left → can_run at.state at.turns.last ≡ true) →
+        IsChosenAble at.state (chosen_by guest at left)
     by zero able' = turned (turn_of at.turns (ready at.state.kernel)) refl
     by (suc more) able' = (refl, able' (omega arith))
 
@@ -75,7 +78,8 @@ unfolding run_from
 run_follows zero at past stands able = tt
 run_follows (suc more) at past stands able = by (chosen guest at) (chosen_able at able) (run_follows more)
   where
-    paced : RunFollows more → (opens : Bool) (to : Position MachineState) (pace : Pace) → StandsFor to.state past → can_run to.state to.turns.last ≡ true →
+    paced : RunFollows more → (opens : Bool) (to : Position MachineState) (pace : Pace) → StandsFor to.state past →
+        can_run to.state to.turns.last ≡ true →
         pace_of to.turns.last (step to.state to.turns.last).outcome ≡ pace →
         EachFollows (events_of (by_pace (run_from guest more) (move_of opens to.turns.last (guest.step to.state to.turns.last)) to (step to.state to.turns.last).machine pace).moves) past
     paced ih opens to GoesOn stands' can paces =
@@ -95,7 +99,8 @@ run_follows (suc more) at past stands able = by (chosen guest at) (chosen_able a
         let first = every_step_continues to.state tid past stands' can in
         follows-append (step to.state tid).events [] past first.0 tt
 
-    by : (c : Chosen MachineState) → IsChosenAble at.state c → RunFollows more → EachFollows (events_of (go_on guest (run_from guest more) c).moves) past
+    by : (c : Chosen MachineState) → IsChosenAble at.state c → RunFollows more →
+        EachFollows (events_of (go_on guest (run_from guest more) c).moves) past
     by (Moves opens to) is ih =
         paced ih opens to (guest.step to.state to.turns.last).pace (subst (λ m. StandsFor m past) (sym is.0) stands)
         (ap (λ m. can_run m to.turns.last) is.0 ∙ is.1) refl
@@ -136,7 +141,8 @@ one_live t = elim (cases_eq t 1) [
       ap (λ (b : Bool). b || false) (is ∙ sym back)
 ]
 
-start_stands : (image : Executable) (arguments : List (List ℕ)) (inputs : List Input) (stdin : List ℕ) → StandsFor (start image arguments inputs stdin) (first_past image.entry)
+start_stands : (image : Executable) (arguments : List (List ℕ)) (inputs : List Input) (stdin : List ℕ) →
+    StandsFor (start image arguments inputs stdin) (first_past image.entry)
 unfolding start
 start_stands image arguments inputs stdin = record { same_threads = refl; rising = (omega arith, omega arith); live = one_live; started = omega arith }
 

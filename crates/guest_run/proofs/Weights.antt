@@ -49,7 +49,8 @@ chosen_in at = by at.left
     by zero = turned (turn_of at.turns (ready at.state.kernel))
     by (suc more) = refl
 
-run_weight : (fuel : ℕ) (at : Position MachineState) → weight (events_of (run_from guest fuel at).moves) ≤ 65540 * fuel + length at.state.harts
+run_weight : (fuel : ℕ) (at : Position MachineState) →
+    weight (events_of (run_from guest fuel at).moves) ≤ 65540 * fuel + length at.state.harts
 unfolding run_from
 run_weight zero at = omega arith
 run_weight (suc more) at = by (chosen guest at) (chosen_in at) (run_weight more)
@@ -84,18 +85,21 @@ cut_weight : (past : List Event) (most : ℕ) → weight (cut past most) ≤ wei
 cut_weight [] most = omega arith
 cut_weight (e ∷ past) most = by (is_within (e ∷ past) most) (cut_weight past most)
   where
-    by : (b : Bool) → weight (cut past most) ≤ weight past → weight (cond b (e ∷ past) (cut past most)) ≤ weight past + weight_of e
+    by : (b : Bool) → weight (cut past most) ≤ weight past →
+        weight (cond b (e ∷ past) (cut past most)) ≤ weight past + weight_of e
     by true ih = omega arith
     by false ih = omega (arith, ih)
 
 -- the past of a run from its start
-whole_weight : (past : List Event) (events : List Event) → weight (past_after past events) ≡ weight past + weight events
+whole_weight : (past : List Event) (events : List Event) →
+    weight (past_after past events) ≡ weight past + weight events
 whole_weight past events =
     let both = weight_append (reverse events) past in
     omega (arith, both, weight_reverse events)
 
 -- the whole past of a run
-pub whole_light : (image : Executable) (arguments : List (List ℕ)) (inputs : List Input) (stdin : List ℕ) (turns : Known) (budget : ℕ) → budget ≤ most_moves →
+pub whole_light : (image : Executable) (arguments : List (List ℕ)) (inputs : List Input) (stdin : List ℕ)
+    (turns : Known) (budget : ℕ) → budget ≤ most_moves →
     weight (past_after (first_past image.entry) (events_of (run guest turns budget (start image arguments inputs stdin)).moves)) < 2 ^ 62
 unfolding start
 whole_light image arguments inputs stdin turns budget few =

@@ -29,7 +29,8 @@ pub none_of : {T : Type 0} (o : Option T) → is_none o ≡ true → o ≡ None
 none_of None h = refl
 none_of (Some x) h = absurd (cc)
 
-refused_outside : (need : Need) (inside : Bool) (r : Option Rights) → page_refusal need (cond inside r None) ≡ None → inside ≡ true
+refused_outside : (need : Need) (inside : Bool) (r : Option Rights) → page_refusal need (cond inside r None) ≡ None →
+    inside ≡ true
 refused_outside need true r h = refl
 refused_outside need false r h = absurd (cc)
 
@@ -62,12 +63,14 @@ size_some One = (omega arith, omega arith)
 size_some Two = (omega arith, omega arith)
 size_some Four = (omega arith, omega arith)
 
-words_read : (m : Memory) (at : ℕ) (size : Size) → can_read m at (byte_count size) ≡ true → AreFewWords (at / 4) (word_count at (byte_count size))
+words_read : (m : Memory) (at : ℕ) (size : Size) → can_read m at (byte_count size) ≡ true → AreFewWords (at / 4)
+    (word_count at (byte_count size))
 words_read m at size reach =
     let some = size_some size in
     few_words at (byte_count size) some.0 some.1 (readable_end m at (byte_count size) reach some.0)
 
-words_written : (m : Memory) (at : ℕ) (size : Size) → can_write m at (byte_count size) ≡ true → AreFewWords (at / 4) (word_count at (byte_count size))
+words_written : (m : Memory) (at : ℕ) (size : Size) → can_write m at (byte_count size) ≡ true → AreFewWords (at / 4)
+    (word_count at (byte_count size))
 words_written m at size reach =
     let some = size_some size in
     few_words at (byte_count size) some.0 some.1 (writable_end m at (byte_count size) reach some.0)
@@ -76,14 +79,16 @@ words_written m at size reach =
 one_word : (at : ℕ) → at + 4 ≤ 2 ^ 32 → AreFewWords (at / 4) 1
 one_word at fits = (omega arith, omega arith, omega (arith, fits))
 
-checked_accesses : {S : Type 0} (b : Bool) (kind : FaultKind) (s : S) (rest : Unit {0} → Outcome × S) → (b ≡ true → AccessesMemory (rest tt).0) → AccessesMemory (checked b kind s rest).0
+checked_accesses : {S : Type 0} (b : Bool) (kind : FaultKind) (s : S) (rest : Unit {0} → Outcome × S) →
+    (b ≡ true → AccessesMemory (rest tt).0) → AccessesMemory (checked b kind s rest).0
 checked_accesses true kind s rest own = own refl
 checked_accesses false kind s rest own = tt
 
 jumped_accesses : (target : ℕ) (regs : List ℕ) (r : Registers) → AccessesMemory (jumped target regs r).0
 jumped_accesses target regs r = by (nat_eq (target % 4) 0)
   where
-    by : (even : Bool) → AccessesMemory (checked even fault.JumpAlign r (λ _. (outcome.Went access.Nothing, record { pc = target; regs = regs }))).0
+    by : (even : Bool) →
+        AccessesMemory (checked even fault.JumpAlign r (λ _. (outcome.Went access.Nothing, record { pc = target; regs = regs }))).0
     by true = tt
     by false = tt
 
@@ -91,7 +96,8 @@ branched_accesses : (b : Bool) (target : ℕ) (r : Registers) → AccessesMemory
 branched_accesses true target r = jumped_accesses target r.regs r
 branched_accesses false target r = tt
 
-stored_accesses : (b : Bool) (tid rd at n : ℕ) (c : Core) → at + 4 ≤ 2 ^ 32 → AccessesMemory (store_where b tid rd at n c).0
+stored_accesses : (b : Bool) (tid rd at n : ℕ) (c : Core) → at + 4 ≤ 2 ^ 32 →
+    AccessesMemory (store_where b tid rd at n c).0
 stored_accesses true tid rd at n c fits = one_word at fits
 stored_accesses false tid rd at n c fits = tt
 
