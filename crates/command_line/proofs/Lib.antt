@@ -1,6 +1,7 @@
 pub mod Choices
 pub mod Distinct
 pub mod Fixed
+pub mod Filled
 pub mod Numerals
 pub mod PlainArguments
 pub mod PlainOptions
@@ -8,3 +9,4 @@ pub mod PlainWords
 pub mod Refusals
 pub mod Rows
 pub mod Steps
+pub mod Taken

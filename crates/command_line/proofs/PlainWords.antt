@@ -31,7 +31,7 @@ no_defaults [] rows h = refl
 no_defaults (a ∷ rest) rows h =
     ap (λ x. fold with_default x rest) (if_none (has_row a.id rows) a rows h.0) ∙ no_defaults rest rows h.1
 
-finished_rows : (rows : List Row) → fold with_default rows rules ≡ rows
+pub finished_rows : (rows : List Row) → fold with_default rows rules ≡ rows
 unfolding the_app top_app run_app clap_on_literals
 finished_rows rows = no_defaults rules rows (refl, (refl, (refl, (refl, (refl, (refl, (refl, (refl, tt))))))))
 

@@ -2,3 +2,4 @@ pub mod App
 pub mod Options
 pub mod Plain
 pub mod Read
+pub mod Taken

@@ -1,5 +1,6 @@
 //! Laws of the words, each the contract of a function with no body.
 ghost use Rattle.command_line.specs.Plain.{PlainOptionsAreRead, PlainWordsAreTaken};
+ghost use Rattle.command_line.specs.Taken.{TakenWordsFailByNumbers};
 
 /// Plain words are taken: any program name, each option at most once and `-o` among them, in any order, then the image and
 /// any further words.
@@ -10,4 +11,9 @@ pub fn plain_words_are_taken()
 /// What is read of plain words: the values in the words, and the defaults for what is left out.
 pub fn plain_options_are_read()
     ensures { PlainOptionsAreRead }
+{}
+
+/// Words that `clap` takes are refused only for a zero byte or a number out of its form or range.
+pub fn taken_words_fail_by_numbers()
+    ensures { TakenWordsFailByNumbers }
 {}

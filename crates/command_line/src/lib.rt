@@ -8,7 +8,7 @@ mod matches;
 mod numbers;
 mod run_command;
 
-pub use laws::{plain_options_are_read, plain_words_are_taken};
+pub use laws::{plain_options_are_read, plain_words_are_taken, taken_words_fail_by_numbers};
 pub use run_command::{CommandError, RunCommand, read_command};
 
 #[cfg(test)]

@@ -14,14 +14,16 @@ use clap::error::ErrorKind;
 use std::alloc::{AllocError, Global};
 use thiserror::Error;
 
-/// The most steps of a turn, where the words don't say, and the greatest number that they may say.
+/// The most steps of a turn, where the words don't say.
 const USUAL_QUANTUM: u64 = 10_000;
 
+/// The most that they may say.
 const GREATEST_QUANTUM: u64 = 1_000_000_000;
 
-/// The most steps of a run, in the same way.
+/// The most steps of a run, where the words don't say.
 const USUAL_BUDGET: u64 = 1_000_000_000;
 
+/// The most that they may say.
 const GREATEST_BUDGET: u64 = 1_000_000_000_000;
 
 /// Why no command is made of the words.
