@@ -113,28 +113,6 @@ fn each_refusal_has_its_status_and_its_text(rt: HostRuntime) -> Result<(), Fail>
     Ok(())
 }
 
-#[test]
-fn other_guests_are_not_built(rt: HostRuntime) -> Result<(), Fail> {
-    let images: &[&[u8]] = &[
-        // cut off; no code; with a flag; for another machine
-        &EXITS[..51],
-        &EXITS[..84],
-        &changed(36, 1),
-        &changed(18, 0xf4),
-        // a call other than exit; an instruction that is not built; no instruction
-        &changed(87, 0x06),
-        &changed(84, 0xb7),
-        &changed(84, 0x00),
-    ];
-    for image in images {
-        let seen = call(rt.alloc(), RUN, Some(image), 9)?;
-        assert_eq!(rt; seen.status, 12);
-        assert_eq!(rt; seen.err.bytes(), b"aprof: not built\n".as_slice());
-        assert_eq!(rt; seen.files.bytes("r"), None);
-    }
-    Ok(())
-}
-
 // Where an allocation is refused, by `rt try --test --fail-alloc N`, the status is that of want of memory.
 #[test]
 fn want_of_memory_has_its_own_status(rt: HostRuntime) {
