@@ -1,10 +1,10 @@
 -- From the loads and the run of a command to how it ends.
-use Rattle.std.proofs.Common.{◌≡◌, ◌⊎◌, ℕ, ◌<◌, ◌≤◌, Bool, true, false, cond, List, [], ◌∷◌, Option, Some, None, Result, Ok, Err, refl, sym, ap, ◌∙◌, subst, inl, inr, arith, length, slice_get, take}
+use Rattle.std.proofs.Common.{◌≡◌, ℕ, ◌<◌, Bool, true, false, cond, List, [], Some, None, Err, refl, sym, ap, ◌∙◌, subst, inl, inr, arith, length, slice_get, take}
 use Rattle.std.specs.Prelude.{nat_lt}
 use Rattle.std.proofs.lemmas.Bool.Decides.{nat_tests}
+use Rattle.std.proofs.lemmas.List.{length-map}
 use Rattle.std.proofs.lemmas.Option.{slice_get_within}
 use Rattle.command_line.specs.Options.{AsksFor, RunOptions, options_of}
-use Rattle.host_io.specs.Faults.{Rose}
 use Rattle.host_io.specs.Files.{FilesState, FilesUnchanged, NoCountFalls, with_file, with_path}
 use Rattle.host_io.specs.Sink.{SinkState}
 use Rattle.aprof_top.specs.declared.ending.Ending as declared
@@ -13,16 +13,16 @@ use Rattle.aprof_top.specs.declared.ending.Verdict as verdicts
 use Rattle.aprof_top.specs.declared.ending.Verdict.TheVariants as verdict
 use Rattle.aprof_top.specs.declared.loaded.Loaded as kept
 use Rattle.aprof_top.specs.declared.product.Product.{Product}
-use Rattle.aprof_top.specs.Answers.{Decides, Found, StoreFails}
-use Rattle.aprof_top.specs.Delivery.{Delivers, DoesAll, FailsAtStore, FailsOnErr, FailsOnOut, FailsToStore, PutsNothing, PutsOutput, StopsAtStore, StopsShort, StoresAll, StoresSome}
-use Rattle.aprof_top.specs.Ending.{CommandEnds, DoesNothing, FailsBefore, OptionsEnd, Reaches}
-use Rattle.aprof_top.specs.Loading.{AreLoaded, FailsToLoad, LoadsEnd, PassesLimit}
+use Rattle.aprof_top.specs.Answers.{Decides, Found}
+use Rattle.aprof_top.specs.Delivery.{Delivers, FailsToStore, PutsNothing, PutsOutput, StoresAll, StoresSome}
+use Rattle.aprof_top.specs.Ending.{DoesNothing, OptionsEnd, Reaches}
+use Rattle.aprof_top.specs.Loading.{LoadsEnd}
 use Rattle.aprof_top.specs.Loads.{loaded_of, loaded_paths, passes_limit, shared_count}
-use Rattle.aprof_top.specs.Outcome.{Follows, IsOutcome, IsRun, Outcome, refusal, stage}
+use Rattle.aprof_top.specs.Outcome.{Follows, IsRun, Outcome, refusal, stage}
 use Rattle.aprof_top.specs.Outcome.Stage.{Complete, Loading, PastLimit}
 use Rattle.aprof_top.specs.Outside.{Outside, outside, with_stores}
-use Rattle.aprof_top.specs.Products.{FilesRun, LoadsAll, outcome_of}
-use Rattle.aprof_top.proofs.Sinks.{Rose-earlier, Rose-later, append_known-nothing}
+use Rattle.aprof_top.specs.Products.{FilesRun, LoadsAll, outcome_of, store_of}
+use Rattle.aprof_top.proofs.Sinks.{Rose-later, append_known-nothing}
 
 -- ---- where the loads stand
 stage_by : (options : RunOptions) (files : List (List ℕ)) (past more : Bool) → passes_limit (shared_count options) files ≡ past → nat_lt (length files) (length (loaded_paths options)) ≡ more → stage options files ≡ cond past PastLimit (cond more Loading Complete)
@@ -44,6 +44,10 @@ complete_stage options files few all =
   where
     test : (a b : ℕ) → a ≡ b → nat_lt a b ≡ false
     test a b same = grind (arith, nat_tests, same)
+
+-- a product that stores something has such an outcome
+pub some_stores : (product : Product) → 0 < length product.stores.items → 0 < length (outcome_of product).stores
+some_stores product some = let e = length-map product.stores.items store_of in omega (arith, e, some)
 
 -- ---- refusals
 -- a verdict that stores nothing was reached

@@ -1,5 +1,5 @@
 -- From the parts of the program to what the whole call answers.
-use Rattle.std.proofs.Common.{◌≡◌, ◌⊎◌, ℕ, ◌<◌, ◌≤◌, List, [], ◌∷◌, ◌++◌, Option, Some, None, refl, sym, ap, ◌∙◌, subst, inl, inr, arith, length}
+use Rattle.std.proofs.Common.{◌≡◌, ◌⊎◌, ℕ, ◌<◌, ◌≤◌, List, [], refl, sym, ap, ◌∙◌, subst, inl, inr, arith, length}
 use Rattle.std.specs.Prelude.{take}
 use Rattle.std.specs.Io.KnownBytes.{append_known}
 use Rattle.std.proofs.Math.Seq.{take-length}
@@ -8,14 +8,13 @@ use Rattle.host_io.specs.Files.{FilesState}
 use Rattle.host_io.specs.Sink.{SinkState}
 use Rattle.aprof_top.specs.Answers.{Answers, CannotRead, CannotWrite, Decides, DoesFirst, Found, IsWritten, OutOfMemory, StoresFirst}
 use Rattle.aprof_top.specs.Delivery.{Delivers, FailsAtStore, FailsOnErr, FailsOnOut, PutsNothing, PutsOutput}
-use Rattle.aprof_top.specs.Ending.{CommandEnds, CountsStay, DoesNothing, Reaches, Stores, Told, last_text_of, status_of}
+use Rattle.aprof_top.specs.Ending.{CommandEnds, CountsStay, DoesNothing, Reaches, Told, last_text_of}
 use Rattle.aprof_top.specs.Outcome.{Outcome, refusal}
 use Rattle.aprof_top.specs.Outside.{Outside, outside, Ends, NothingRose, with_stores}
 use Rattle.aprof_top.specs.Texts.{cannot_write_text, out_of_memory_text}
 use Rattle.aprof_top.specs.Verdicts.{verdict_status, verdict_text}
 use Rattle.aprof_top.specs.declared.ending.Ending as declared
 use Rattle.aprof_top.specs.declared.ending.Ending.TheVariants as ending
-use Rattle.aprof_top.specs.declared.ending.Verdict as verdicts
 use Rattle.aprof_top.specs.declared.ending.Verdict.TheVariants as verdict
 use Rattle.aprof_top.proofs.Sinks.{Ends-later, Rose-earlier, Rose-later, all_of, append_known-append, append_known-nothing, take-nothing}
 use Rattle.aprof_top.proofs.Statuses.{four_not_ten, not_this, own_status, told_ending, two_not_ten, written_status}

@@ -1,9 +1,10 @@
 -- One more file of a command.
-use Rattle.std.proofs.Common.{◌≡◌, ◌⊎◌, ℕ, zero, suc, ◌+◌, ◌<◌, ◌≤◌, Bool, true, false, ◌&&◌, ◌||◌, cond, List, [], ◌∷◌, ◌++◌, Option, Some, None, refl, sym, ap, ◌∙◌, inl, inr, arith, length, subst}
-use Rattle.std.specs.Prelude.{IsSomeAnd, drop, nat_le, nat_lt, replicate, slice_get, sum_by, take}
+use Rattle.std.proofs.Common.{◌≡◌, ℕ, zero, suc, ◌+◌, ◌<◌, ◌≤◌, Bool, true, false, ◌&&◌, ◌||◌, cond, List, [], ◌∷◌, ◌++◌, Option, Some, None, refl, sym, ap, ◌∙◌, inl, inr, arith, length, subst}
+use Rattle.std.specs.Prelude.{IsSomeAnd, nat_le, nat_lt, replicate, slice_get, sum_by, take}
 use Rattle.std.specs.List.{AllByRecursion, list_any}
 use Rattle.std.proofs.lemmas.Bool.Decides.{nat_tests}
 use Rattle.std.proofs.lemmas.List.{length-replicate}
+use Rattle.std.proofs.lemmas.List.Sums.{sum_by-cons}
 use Rattle.host_io.specs.Faults.{Rose}
 use Rattle.host_io.specs.Files.{Contents, FailsAt, FilesState, FilesUnchanged, GivesFile, Holds, HoldsMore, MeetsLimit, NoCountFalls, with_path}
 use Rattle.aprof_top.specs.Limits.{file_limit, inputs_limit}
@@ -33,31 +34,48 @@ any_more (f ∷ files) file long = by (is_long f) (any_more files file long)
 
 none_long : (files : List (List ℕ)) → AllByRecursion IsShort files → list_any is_long files ≡ false
 none_long [] all = refl
-none_long (f ∷ files) (short, all) = rw (test : is_long f ≡ false) (none_long files all)
+none_long (f ∷ files) (short, all) = rw test (none_long files all)
   where
     test : is_long f ≡ false
     test = grind (arith, nat_tests, short)
 
+below : (n : ℕ) → nat_lt 0 (suc n) ≡ true
+below n = grind (arith, nat_tests)
+
+both_below : (n m : ℕ) → nat_lt (suc n) (suc m) ≡ nat_lt n m
+both_below n m = grind (arith, nat_tests)
+
 sum_more : (count : ℕ) (files : List (List ℕ)) (file : List ℕ) → sum_by length (take count (files ++ file ∷ [])) ≡ cond (nat_lt (length files) count) (sum_by length (take count files) + length file) (sum_by length (take count files))
-sum_more zero files file = refl
-sum_more (suc count) [] file = omega arith
-sum_more (suc count) (f ∷ files) file = ap (λ n. length f + n) (sum_more count files file) ∙ by (nat_lt (length files) count)
+sum_more zero files file = rw (never (length files)) refl
   where
-    rest : ℕ
-    rest = sum_by length (take count files)
-    by : (b : Bool) → length f + cond b (rest + length file) rest ≡ cond b (length f + rest + length file) (length f + rest)
-    by true = omega arith
-    by false = refl
+    never : (n : ℕ) → nat_lt n 0 ≡ false
+    never n = grind (arith, nat_tests)
+sum_more (suc zero) [] file = omega arith
+sum_more (suc (suc count)) [] file = rw (below (suc count)) (omega arith)
+sum_more (suc count) (f ∷ files) file =
+    sum_by-cons length f (take count (files ++ file ∷ []))
+    ∙ ap (λ n. length f + n) (sum_more count files file)
+    ∙ by (nat_lt (length files) count)
+    ∙ ap (λ b. cond b (sum_by length (f ∷ take count files) + length file) (sum_by length (f ∷ take count files))) (sym (both_below (length files) count))
+  where
+    split : sum_by length (f ∷ take count files) ≡ length f + sum_by length (take count files)
+    split = sum_by-cons length f (take count files)
+    by : (b : Bool) → length f + cond b (sum_by length (take count files) + length file) (sum_by length (take count files)) ≡ cond b (sum_by length (f ∷ take count files) + length file) (sum_by length (f ∷ take count files))
+    by true = omega (arith, split)
+    by false = sym split
 
 -- how long the files that share a limit are, with one more
 pub shared_more : (count : ℕ) (files : List (List ℕ)) (file : List ℕ) → shared_length count (files ++ file ∷ []) ≡ cond (nat_le 1 (length files) && nat_le (length files) count) (shared_length count files + length file) (shared_length count files)
 shared_more zero [] file = refl
 shared_more (suc count) [] file = refl
-shared_more count (f ∷ files) file = sum_more count files file
+shared_more count (f ∷ files) file = rw (some (length files)) (sum_more count files file)
+  where
+    some : (n : ℕ) → nat_le 1 (suc n) ≡ true
+    some n = grind (arith, nat_tests)
 
 -- ---- limits
 not_past : (count : ℕ) (files : List (List ℕ)) → AllByRecursion IsShort files → shared_length count files ≤ inputs_limit → passes_limit count files ≡ false
-not_past count files all small = rw (none_long files all) (test : nat_lt inputs_limit (shared_length count files) ≡ false)
+not_past count files all small = rw (none_long files all) test
   where
     test : nat_lt inputs_limit (shared_length count files) ≡ false
     test = grind (arith, nat_tests, small)
@@ -72,7 +90,7 @@ past_sum count files large = by (list_any is_long files) (nat_lt inputs_limit (s
     by false b e = e
 
 past_long : (count : ℕ) (files : List (List ℕ)) (file : List ℕ) → file_limit < length file → passes_limit count (files ++ file ∷ []) ≡ true
-past_long count files file long = rw (any_more files file (test : is_long file ≡ true)) refl
+past_long count files file long = rw (any_more files file test) refl
   where
     test : is_long file ≡ true
     test = grind (arith, nat_tests, long)
@@ -93,7 +111,7 @@ long_file most = replicate (most + 1) 0
 
 long_file-long : (most : ℕ) → most < length (long_file most)
 unfolding long_file
-long_file-long most = let e = length-replicate (most + 1) 0 in omega (arith, e)
+long_file-long most = let e = length-replicate {A = ℕ} (most + 1) 0 in omega (arith, e)
 
 -- ---- the steps of the loads
 module _ (shared sum : ℕ) (paths files : List (List ℕ)) (path : List ℕ) (old mid now : FilesState) (so_far : IsLoading shared sum paths files old mid) (next : slice_get paths (length files) ≡ Some path) (counts : NoCountFalls mid now) (contents : now.contents ≡ mid.contents) where
@@ -201,3 +219,8 @@ AreLoaded-all shared sum paths files old now so_far = record {
   few = not_past shared files so_far.each (subst (λ n. n ≤ inputs_limit) so_far.sum_is so_far.small);
   unchanged = so_far.unchanged;
 }
+
+-- the same loads, by another name
+pub AreLoaded-as : (shared shared' : ℕ) (paths paths' files : List (List ℕ)) (old now : FilesState) → shared ≡ shared' → paths ≡ paths' → AreLoaded shared paths files old now → AreLoaded shared' paths' files old now
+AreLoaded-as shared shared' paths paths' files old now same_shared same_paths are =
+    subst (λ s. AreLoaded s paths' files old now) same_shared (subst (λ p. AreLoaded shared p files old now) same_paths are)

@@ -1,5 +1,5 @@
 -- What sinks gain, and counts that rose.
-use Rattle.std.proofs.Common.{◌≡◌, ◌⊎◌, ℕ, zero, suc, ◌≤◌, List, [], ◌∷◌, ◌++◌, Option, Some, None, refl, sym, ap, ◌∙◌, inl, inr, arith, length, append_assoc}
+use Rattle.std.proofs.Common.{◌≡◌, ◌⊎◌, ℕ, zero, suc, ◌≤◌, List, [], ◌++◌, Option, Some, None, refl, sym, ap, ◌∙◌, inl, inr, arith, length, append_assoc}
 use Rattle.std.specs.Prelude.{take}
 use Rattle.std.specs.Io.KnownBytes.{append_known}
 use Rattle.std.proofs.lemmas.List.{append-nil}

@@ -1,7 +1,6 @@
 -- Which endings have which status.
-use Rattle.std.proofs.Common.{◌≡◌, ◌⊎◌, ℕ, sym, ◌∙◌, inl, inr, arith}
+use Rattle.std.proofs.Common.{◌≡◌, ℕ, sym, ◌∙◌, inl, inr, arith}
 use Rattle.host_io.specs.Sink.{SinkState}
-use Rattle.guest_words.specs.declared.endings.Finish.{Finish}
 use Rattle.guest_words.specs.declared.endings.Finish.TheVariants as finish
 use Rattle.aprof_top.specs.Answers.{IsWritten}
 use Rattle.aprof_top.specs.Ending.{TellsEnding, Told, status_of}

@@ -1,5 +1,5 @@
 -- How an outcome is handed out to the sinks and the files.
-use Rattle.std.specs.Prelude.{◌≡◌, ◌⊎◌, ◌<◌, ◌≤◌, ℕ, List, length, take, Result, Ok, Err}
+use Rattle.std.specs.Prelude.{◌≡◌, ◌⊎◌, ◌<◌, ℕ, List, length, take, Result, Ok, Err}
 use Rattle.std.specs.Io.KnownBytes.{append_known}
 use Rattle.host_io.specs.Files.{FilesState, FilesUnchanged}
 use Rattle.host_io.specs.Sink.{FailsToAppend}

@@ -9,7 +9,6 @@ use Rattle.aprof_top.specs.Loads.{passes_limit, shared_length}
 use Rattle.aprof_top.specs.Outside.{AreHeld}
 use Rattle.aprof_top.specs.declared.ending.Ending.{Ending}
 use Rattle.aprof_top.specs.declared.ending.Ending.TheVariants as ending
-use Rattle.aprof_top.specs.declared.ending.Verdict.{Verdict}
 use Rattle.aprof_top.specs.declared.ending.Verdict.TheVariants.{BadCommand, BadImage, BadSchedule, TooLarge, Ran}
 
 -- the bytes of files in memory

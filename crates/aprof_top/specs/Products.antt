@@ -19,7 +19,7 @@ use Rattle.aprof_top.specs.declared.product.Product.{Product}
 use Rattle.aprof_top.specs.declared.product.Store.{Store}
 use Rattle.aprof_top.specs.Loading.{AreLoaded, LoadsEnd}
 use Rattle.aprof_top.specs.Loads.{Loaded, loaded_of, loaded_paths, shared_count, with_inputs}
-use Rattle.aprof_top.specs.Outcome.{IsRun, Outcome, refusal, run_outcome}
+use Rattle.aprof_top.specs.Outcome.{IsRun, Outcome, refusal}
 use Rattle.aprof_top.specs.Run.{shown_from}
 
 -- The program has these files of the command.

@@ -29,7 +29,9 @@ fn store_all<F: Files>(stores: &[Store<'_>], files: &mut F) -> Result<(), StoreE
     ensures ends { StoresEnd (map store_of stores.now) (F.state files.old) (F.state files.new) result }
 {
     for store in stores {
-        files.store(store.path, store.bytes.as_slice())?;
+        if let Err(error) = files.store(store.path, store.bytes.as_slice()) {
+            return Err(error);
+        }
     }
     Ok(())
 }

@@ -5,7 +5,7 @@ ghost use Rattle.command_line.specs.Options.{inputs};
 ghost use Rattle.command_line.specs.Read.{options_in};
 ghost use Rattle.host_io.specs.Files.{NoCountFalls};
 ghost use Rattle.aprof_top.specs.Loading.{AreLoaded, LoadsEnd, contents_of};
-ghost use Rattle.aprof_top.specs.Loads.{loaded_paths};
+ghost use Rattle.aprof_top.specs.Loads.{loaded_paths, shared_count};
 
 use crate::ending::{Ending, Verdict};
 use command_line::RunCommand;
@@ -44,6 +44,17 @@ pub(crate) fn loaded_paths<'a>(
     push_path(&mut paths, command.stdin)?;
     push_path(&mut paths, command.schedule)?;
     Ok(paths)
+}
+
+/// How many files behind the image share a limit: the input files, whose names these are, and standard input.
+pub(crate) fn shared_count(command: &RunCommand<'_>, names: &[&str]) -> usize
+    requires { map (λ path. path.now) names.now ≡ inputs (options_in command.now) }
+    ensures { result ≡ shared_count (options_in command.now) }
+{
+    match command.stdin {
+        Some(_) => names.len() + 1,
+        None => names.len(),
+    }
 }
 
 // How long the files that share a limit are, with one more file, before which this many were loaded.

@@ -2,6 +2,8 @@
 ghost use Rattle.std.specs.Prelude.{◌≡◌, ◌≢◌, ◌<◌, length, map, option_map, reverse, Some, None, IfOk, IfErr, OnOk};
 ghost use Rattle.command_line.specs.Options.{arguments};
 ghost use Rattle.command_line.specs.Read.{AreInRange, options_in};
+ghost use Rattle.trace_model.specs.Depth.{pending};
+ghost use Rattle.trace_model.specs.Profile.{steps};
 ghost use Rattle.trace_model.specs.WellFormed.{IsLight};
 ghost use Rattle.guest_machine.specs.Kept.{machine_of};
 ghost use Rattle.guest_machine.specs.Setup.{setup_refusal};
@@ -103,6 +105,8 @@ fn product_of<'a>(
     run: Run,
 ) -> Result<Product<'a>, AllocError>
     requires light { IsLight (reverse run.events.list) }
+    requires steps { run.steps ≡ steps (reverse run.events.list) }
+    requires pending { run.pending ≡ pending (reverse run.events.list) }
     ensures outcome { IfOk result (λ product. (shown : Shown) → IsShown shown run → outcome_of product ≡ run_outcome (options_in command.now) image.now shown) }
     ensures stores { IfOk result (λ product. 0 < length product.stores.items) }
 {

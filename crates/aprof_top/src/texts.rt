@@ -38,7 +38,8 @@ fn fault_text(
 {
     let kind = kind as u8;
     let tid = tid.number();
-    let mut text = format!(in alloc; "aprof: fault {kind} thread {tid} at ")?.into_bytes();
+    let mut text = format!(in alloc; "aprof: fault {kind} thread {tid}")?.into_bytes();
+    text.extend_from_slice(b" at ")?;
     text.extend_from_slice(&hex_address(at))?;
     text.extend_from_slice(b"\n")?;
     Ok(text)

@@ -10,7 +10,7 @@ ghost use Rattle.command_line.specs.Read.{AreInRange, options_in};
 use crate::delivery::deliver;
 use crate::ending::{Ending, Verdict, tell};
 use crate::loaded::Loaded;
-use crate::loads::{load_files, loaded_paths};
+use crate::loads::{load_files, loaded_paths, shared_count};
 use crate::product::run_files;
 use command_line::{CommandError, RunCommand, read_command};
 use host_io::{Files, Sink};
@@ -33,7 +33,7 @@ fn load_command<'a, F: Files>(
         Ok(paths) => paths,
         Err(_) => return Err(Ending::OutOfMemory),
     };
-    let shared = names.len() + usize::from(command.stdin.is_some());
+    let shared = shared_count(command, names.as_slice());
     let loaded = match load_files(alloc, paths.as_slice(), shared, files) {
         Ok(loaded) => loaded,
         Err(ending) => return Err(ending),
