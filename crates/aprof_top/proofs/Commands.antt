@@ -56,10 +56,13 @@ Reaches-refusal words before after v found written puts unchanged = record {
   found = found;
   outcome = refusal v;
   written = written;
-  delivery = (refl, record {
-    output = record { out = puts.out ∙ append_known-nothing before.out.bytes; err = puts.err ∙ append_known-nothing before.err.bytes };
-    stored = record { contents = unchanged.contents; failed_paths = unchanged.failed_paths };
-  });
+  delivery = (
+    refl,
+    record {
+      output = record { out = puts.out ∙ append_known-nothing before.out.bytes; err = puts.err ∙ append_known-nothing before.err.bytes };
+      stored = record { contents = unchanged.contents; failed_paths = unchanged.failed_paths };
+    },
+  );
 }
 
 -- the words are refused
@@ -101,9 +104,9 @@ module _ (options : RunOptions) (files loaded : FilesState) (out err : SinkState
   }
   OptionsEnd-unloaded (ending.Decided verdict.TooLarge) passes words asks =
       Reaches-refusal words before between verdict.TooLarge
-        (record { asked = Some options; asks = asks; files = passes.files; held = passes.held; limit = passes.limit })
-        (subst (λ s. Follows options passes.files (refusal verdict.TooLarge) s) (sym (past_stage options passes.files passes.many)) refl)
-        untouched passes.unchanged
+      (record { asked = Some options; asks = asks; files = passes.files; held = passes.held; limit = passes.limit })
+      (subst (λ s. Follows options passes.files (refusal verdict.TooLarge) s) (sym (past_stage options passes.files passes.many)) refl)
+      untouched passes.unchanged
   OptionsEnd-unloaded (ending.Decided verdict.BadCommand) ends words asks = absurd ends
   OptionsEnd-unloaded (ending.Decided (verdict.BadImage e)) ends words asks = absurd ends
   OptionsEnd-unloaded (ending.Decided (verdict.BadSchedule line)) ends words asks = absurd ends

@@ -60,6 +60,7 @@ sum_more (suc count) (f ∷ files) file =
   where
     split : sum_by length (f ∷ take count files) ≡ length f + sum_by length (take count files)
     split = sum_by-cons length f (take count files)
+
     by : (b : Bool) → length f + cond b (sum_by length (take count files) + length file) (sum_by length (take count files)) ≡ cond b (sum_by length (f ∷ take count files) + length file) (sum_by length (f ∷ take count files))
     by true = omega (arith, split)
     by false = sym split
@@ -85,6 +86,7 @@ past_sum count files large = by (list_any is_long files) (nat_lt inputs_limit (s
   where
     test : nat_lt inputs_limit (shared_length count files) ≡ true
     test = grind (arith, nat_tests, large)
+
     by : (a b : Bool) → b ≡ true → (a || b) ≡ true
     by true b e = refl
     by false b e = e
@@ -192,6 +194,7 @@ module _ (shared sum : ℕ) (paths files : List (List ℕ)) (path : List ℕ) (o
       by_file : (known : Contents) (o : Option (List ℕ)) → old.contents ≡ Some known → known path ≡ o → IsSomeAnd o (λ bytes. file_limit < length bytes) → PassesLimit shared paths old now
       by_file known None is there longer = absurd longer
       by_file known (Some bytes) is there longer = PassesLimit-long bytes longer (subst (λ c. Holds c path bytes) (sym is) there) met.oversized met.failed_paths
+
       by : (c : Option Contents) → old.contents ≡ c → HoldsMore c path file_limit → PassesLimit shared paths old now
       by None is longer = PassesLimit-long (long_file file_limit) (long_file-long file_limit) (subst (λ c. Holds c path (long_file file_limit)) (sym is) tt) met.oversized met.failed_paths
       by (Some known) is longer = by_file known (known path) is refl longer

@@ -42,7 +42,7 @@ inputs_more names files i d before after file within more so_far is added =
     let contents = contents_of files in
     let there : length contents ≡ length files = length-map files (λ (file : Vec ℕ Global). file.items) in
     let same : length (map text (take i names)) ≡ length (take i contents) =
-        length-map (take i names) text ∙ length_taken names contents i within (omega (arith, more, there)) in
+    length-map (take i names) text ∙ length_taken names contents i within (omega (arith, more, there)) in
     added
     ∙ ap₂ (λ b f. with_input b (get_or names i d).now f) so_far (is ∙ ap first_file (contents_behind files i) ∙ first_behind contents i)
     ∙ sym (with_inputs-more [] (map text (take i names)) (take i contents) (get_or names i d).now (get_or contents i []) same)
@@ -59,9 +59,9 @@ Keeps-all options names files first second third k are image one ins two stdin t
     let count : length names ≡ length (inputs options) = sym (length-map names text) ∙ ap length are in
     let first_is : contents_of first ≡ drop 1 (contents_of files) = ap contents_of one ∙ contents_behind files 1 in
     let second_is : contents_of second ≡ drop (length (inputs options)) (drop 1 (contents_of files)) =
-        ap contents_of two ∙ contents_behind first (length names) ∙ ap₂ drop count first_is in
+    ap contents_of two ∙ contents_behind first (length names) ∙ ap₂ drop count first_is in
     let third_is : contents_of third ≡ drop (length (option_to_list options.stdin)) (drop (length (inputs options)) (drop 1 (contents_of files))) =
-        ap contents_of three ∙ contents_behind second (length (option_to_list options.stdin)) ∙ ap (drop (length (option_to_list options.stdin))) second_is in
+    ap contents_of three ∙ contents_behind second (length (option_to_list options.stdin)) ∙ ap (drop (length (option_to_list options.stdin))) second_is in
     record {
       image = image;
       inputs_are = ins ∙ ap₂ (with_inputs []) are (ap₂ take count first_is);

@@ -14,3 +14,5 @@ pub use top::aprof;
 
 #[cfg(test)]
 mod tests;
+#[cfg(test)]
+mod worked;

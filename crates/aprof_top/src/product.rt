@@ -145,7 +145,14 @@ pub(crate) fn run_files<'a>(
             return Err(Ending::Decided(Verdict::BadSchedule(line)));
         }
     };
-    let run = match run_image(alloc, command, &image, schedule, loaded.inputs, loaded.stdin) {
+    let run = match run_image(
+        alloc,
+        command,
+        &image,
+        schedule,
+        loaded.inputs,
+        loaded.stdin,
+    ) {
         Ok(run) => run,
         Err(ending) => return Err(ending),
     };

@@ -39,11 +39,7 @@ fn name_at(alloc: Global, image: &Image, at: Addr) -> Result<Option<Name>, Alloc
 }
 
 // The routines of a table, with their names.
-fn named_routines(
-    alloc: Global,
-    image: &Image,
-    table: &Table,
-) -> Result<Vec<Routine>, AllocError>
+fn named_routines(alloc: Global, image: &Image, table: &Table) -> Result<Vec<Routine>, AllocError>
     ensures { IfOk result (λ routines. routines.items ≡ map (named image.now) table.now.routines) }
 {
     let mut routines = Vec::new(alloc);

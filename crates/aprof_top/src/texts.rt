@@ -28,12 +28,7 @@ fn schedule_text(alloc: Global, line: u64) -> Result<Vec<u8>, AllocError>
     Ok(format!(in alloc; "aprof: schedule {line}\n")?.into_bytes())
 }
 
-fn fault_text(
-    alloc: Global,
-    kind: FaultKind,
-    tid: Tid,
-    at: Addr,
-) -> Result<Vec<u8>, AllocError>
+fn fault_text(alloc: Global, kind: FaultKind, tid: Tid, at: Addr) -> Result<Vec<u8>, AllocError>
     ensures { IfOk result (λ text. text.items ≡ fault_text kind tid at) }
 {
     let kind = kind as u8;

@@ -43,13 +43,13 @@ loop-path-preserved g c =
       len = c.in_ok-push_back.ensures.len ∙ ap (λ n. n + 1) c.loop-path.invariant.len;
       count = count_more c.loop-path.loaded.items c.push_back.new.self.items c.in-Ok.file c.loop-path.path-index after c.loop-path.invariant.count;
       so_far = subst (λ files. IsLoading c.args.shared c.with_length-sum.result (map (λ path. path.now) c.args.paths.now) files (g.F.Files.state c.args.files.now) (g.F.Files.state c.load.new.self)) (sym (contents_more c.loop-path.loaded.items c.push_back.new.self.items c.in-Ok.file after))
-        (IsLoading-more c.args.shared c.loop-path.sum _ (contents_of c.loop-path.loaded.items) _ (g.F.Files.state c.args.files.now) (g.F.Files.state c.loop-path.files) (g.F.Files.state c.load.new.self)
-        c.loop-path.invariant.so_far
-        (path_at c.args.paths.now c.loop-path.loaded.items c.loop-path.path-index _ c.loop-path.invariant.count c.loop-path-test.true)
-        c.load.ensures.counts c.load.ensures.unchanged
-        c.in-Ok.file.items c.in-Ok.ensures.ends c.with_length-sum.result
-        (c.with_length-sum.ensures ∙ ap₂ (λ n m. cond (nat_le 1 n && nat_le n c.args.shared) (c.loop-path.sum + m) c.loop-path.sum) count size)
-        c.if-sum-gt-INPUTS_LIMIT.false);
+          (IsLoading-more c.args.shared c.loop-path.sum _ (contents_of c.loop-path.loaded.items) _ (g.F.Files.state c.args.files.now) (g.F.Files.state c.loop-path.files) (g.F.Files.state c.load.new.self)
+          c.loop-path.invariant.so_far
+          (path_at c.args.paths.now c.loop-path.loaded.items c.loop-path.path-index _ c.loop-path.invariant.count c.loop-path-test.true)
+          c.load.ensures.counts c.load.ensures.unchanged
+          c.in-Ok.file.items c.in-Ok.ensures.ends c.with_length-sum.result
+          (c.with_length-sum.ensures ∙ ap₂ (λ n m. cond (nat_le 1 n && nat_le n c.args.shared) (c.loop-path.sum + m) c.loop-path.sum) count size)
+          c.if-sum-gt-INPUTS_LIMIT.false);
     }
 
 pub returns-clause-loaded : goal.returns-clause-loaded
