@@ -322,7 +322,8 @@ fn a_child_begins_behind_the_call(rt: HostRuntime) -> Result<(), Fail> {
     Ok(())
 }
 
-// The new thread's number is written for the parent and for the child. At its end a zero stands there, and thread 1 is woken.
+// The new thread's number is written for the parent and for the child. At its end a zero stands there, and thread 1
+// is woken.
 #[test]
 fn the_end_of_a_child_is_told(rt: HostRuntime) -> Result<(), Fail> {
     let mut guest = Guest::new(rt.alloc())?;
