@@ -278,7 +278,7 @@ fn calls_answer_by_the_table(rt: HostRuntime) -> Result<(), Fail> {
     Ok(())
 }
 
-// The numbers that can be given are spent: of descriptors after 31, of live threads after 32, of threads after the greatest.
+// There are no more than 32 descriptors and 32 live threads.
 #[test]
 fn numbers_run_out(rt: HostRuntime) -> Result<(), Fail> {
     let mut guest = Guest::new(rt.alloc())?;
