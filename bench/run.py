@@ -1,0 +1,154 @@
+#!/usr/bin/env python3
+"""bench/run.py [PROGRAM]: times the built program on guests of its own, each at two lengths of run, and prints the steps, the
+seconds, the nanoseconds for a step, and how these compare with the first guest's. Growth with the length of a run shows as a
+second ratio above the first. The figures are of one run on one machine; docs/PERFORMANCE.md has a table of them."""
+import os
+import struct
+import subprocess
+import sys
+import tempfile
+import time
+
+HERE = os.path.dirname(os.path.abspath(__file__))
+PROGRAM = sys.argv[1] if len(sys.argv) > 1 else os.path.join(HERE, "../crates/aprof/out/aprof")
+
+
+def i_type(opcode, funct3, rd, rs1, immediate):
+    return (immediate & 0xFFF) << 20 | rs1 << 15 | funct3 << 12 | rd << 7 | opcode
+
+
+def addi(rd, rs1, immediate):
+    return i_type(0x13, 0, rd, rs1, immediate)
+
+
+def add(rd, rs1, rs2):
+    return rs2 << 20 | rs1 << 15 | rd << 7 | 0x33
+
+
+def lui(rd, value):
+    return (value & 0xFFFFF) << 12 | rd << 7 | 0x37
+
+
+def lw(rd, offset, rs1):
+    return i_type(0x03, 2, rd, rs1, offset)
+
+
+def sw(rs2, offset, rs1):
+    return (offset >> 5 & 0x7F) << 25 | rs2 << 20 | rs1 << 15 | 2 << 12 | (offset & 0x1F) << 7 | 0x23
+
+
+def branch(funct3, rs1, rs2, offset):
+    return (
+        (offset >> 12 & 1) << 31 | (offset >> 5 & 0x3F) << 25 | rs2 << 20 | rs1 << 15
+        | funct3 << 12 | (offset >> 1 & 0xF) << 8 | (offset >> 11 & 1) << 7 | 0x63
+    )
+
+
+def jal(rd, offset):
+    return (
+        (offset >> 20 & 1) << 31 | (offset >> 1 & 0x3FF) << 21 | (offset >> 11 & 1) << 20
+        | (offset >> 12 & 0xFF) << 12 | rd << 7 | 0x6F
+    )
+
+
+ECALL = 0x73
+RETURN = i_type(0x67, 0, 0, 1, 0)
+
+
+def number(rd, value):
+    """Puts any number into a register, by two instructions."""
+    low = (value & 0xFFF) - (0x1000 if value & 0x800 else 0)
+    return [lui(rd, value - low >> 12), addi(rd, rd, low)]
+
+
+EXIT = [addi(17, 0, 94), addi(10, 0, 0), ECALL]
+
+
+def image(code):
+    """The file of a code: one segment at 0x10000, which holds the headers of 84 bytes and the code."""
+    size = 84 + 4 * len(code)
+    header = b"\x7fELF\x01\x01\x01" + bytes(9)
+    header += struct.pack("<HHIIIIIHHHHHH", 2, 243, 1, 0x10054, 52, 0, 0, 52, 32, 1, 40, 0, 0)
+    header += struct.pack("<IIIIIIII", 1, 0, 0x10000, 0x10000, size, size, 7, 4096)
+    return header + struct.pack("<%dI" % len(code), *code)
+
+
+def counting(steps):
+    """A loop of two instructions."""
+    return number(8, steps // 2) + [addi(8, 8, -1), branch(1, 8, 0, -4)] + EXIT
+
+
+def calling(steps):
+    """A loop that calls an empty routine."""
+    loop = [jal(1, 24), addi(8, 8, -1), branch(1, 8, 0, -8)]
+    return number(8, steps // 4) + loop + EXIT + [RETURN]
+
+
+def touching(steps, pages):
+    """A loop that loads and stores one word of each of some pages of the stack, one after another."""
+    # x9 walks down from x6, a page at a time, to x7
+    begin = number(8, steps // 5) + number(6, 0x7FC00000) + number(7, 0x7FC00000 - 4096 * pages) + number(5, -4096) + [addi(9, 6, 0)]
+    loop = [add(9, 9, 5), branch(1, 9, 7, 8), addi(9, 6, 0), lw(10, 0, 9), sw(10, 0, 9), addi(8, 8, -1), branch(1, 8, 0, -24)]
+    return begin + loop + EXIT
+
+
+def futex(operation, value):
+    """The kernel's call on the word at x6; x13 and x17 are set before."""
+    return [addi(10, 6, 0), addi(11, 0, operation), addi(12, 0, value), ECALL]
+
+
+def handing(steps):
+    """Two threads that hand a word to each other: each waits while it is the other's, and wakes the other."""
+    begin = number(6, 0x7FC00000) + number(8, steps // 30)
+    clone = number(10, 0x10900) + [addi(17, 0, 220), ECALL, addi(13, 0, 0), addi(17, 0, 422)]
+    wait, wake = futex(0, 1), futex(1, 1)
+    parent = [lw(11, 0, 6), branch(0, 11, 0, 24)] + wait + [jal(0, -24)]
+    parent += [addi(11, 0, 1), sw(11, 0, 6)] + wake + [addi(8, 8, -1)]
+    parent += [branch(1, 8, 0, -4 * len(parent))] + EXIT
+    child = [lw(11, 0, 6), branch(1, 11, 0, 24)] + futex(0, 0) + [jal(0, -24), sw(0, 0, 6)] + wake
+    child += [jal(0, -4 * len(child))]
+    return begin + clone + [branch(0, 10, 0, 4 * (1 + len(parent)))] + parent + child
+
+
+GUESTS = [
+    ("a loop", counting, 5_000_000),
+    ("calls and returns", calling, 20_000),
+    ("loads and stores, 1 page", lambda steps: touching(steps, 1), 20_000),
+    ("loads and stores, 64 pages", lambda steps: touching(steps, 64), 20_000),
+    ("loads and stores, 1024 pages", lambda steps: touching(steps, 1024), 20_000),
+    ("two threads and a futex", handing, 20_000),
+]
+
+
+def run(code, folder):
+    """The steps of a run and its seconds, the least of three."""
+    path = os.path.join(folder, "guest")
+    report = os.path.join(folder, "report")
+    with open(path, "wb") as file:
+        file.write(image(code))
+    best = None
+    for _ in range(3):
+        began = time.monotonic()
+        subprocess.run([PROGRAM, "run", "-o", report, path], check=True)
+        taken = time.monotonic() - began
+        best = taken if best is None else min(best, taken)
+    with open(report) as file:
+        lines = file.read().splitlines()
+    assert lines[1] == "end exit 0", lines[1]
+    return int(lines[2].split()[1]), best
+
+
+def main():
+    first = None
+    print("| Guest | Steps | Seconds | ns a step | to the first |")
+    print("|---|---|---|---|---|")
+    with tempfile.TemporaryDirectory() as folder:
+        for name, make, steps in GUESTS:
+            for length in (steps, 2 * steps):
+                made, seconds = run(make(length), folder)
+                nanoseconds = seconds / made * 1e9
+                first = first or nanoseconds
+                print("| %s | %d | %.3f | %.0f | %.1f |" % (name, made, seconds, nanoseconds, nanoseconds / first), flush=True)
+
+
+main()
