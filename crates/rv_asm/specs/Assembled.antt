@@ -30,5 +30,5 @@ pub record IsWordOf (instruction : Instr) (word : ℕ) : Type 0 where
 -- The words are those of the lines, one for each.
 pub record AreAssembled (d : Draft) (words : List ℕ) : Type 0 where
   pub count : length words ≡ length d.lines
-  pub each : (at : ℕ) (line : Line) → at < length d.lines
+  pub each : (at : ℕ) → at < length d.lines → (line : Line)
       → IsWordOf (instruction_at d.places at (slice_index_or d.lines at line)) (slice_index words at)

@@ -21,7 +21,7 @@ IsInReach places at (ToLabel jump label) = IsEncodable (instruction_at places at
 
 -- all lines before a word are in reach
 abbrev pub AreInReach : Draft → ℕ → Type 0
-AreInReach d end = (at : ℕ) (line : Line) → at < end → IsInReach d.places at (slice_index_or d.lines at line)
+AreInReach d end = (at : ℕ) → at < end → (line : Line) → IsInReach d.places at (slice_index_or d.lines at line)
 
 -- The word is the first that is out of reach.
 pub record IsFirstOut (d : Draft) (at : ℕ) : Type 0 where
@@ -34,10 +34,18 @@ pub record IsAccepted (d : Draft) : Type 0 where
   pub bound : first_unbound d.places d.lines ≡ None
   pub reach : AreInReach d (length d.lines)
 
+-- what the refusals of a draft say of it whose labels are all bound
+abbrev pub IsOutOfReach : Draft → AsmError → Type 0
+IsOutOfReach d (Reach at) = IsFirstOut d at
+IsOutOfReach d Memory = Unit {0}
+IsOutOfReach d (Unbound label) = ⊥
+IsOutOfReach d (Twice label) = ⊥
+IsOutOfReach d (Unencodable at) = ⊥
+
 -- What the refusals of a draft say of it. Want of memory may come at any draft.
 abbrev pub IsRefused : Draft → AsmError → Type 0
 IsRefused d (Unbound label) = first_unbound d.places d.lines ≡ Some label
 IsRefused d (Reach at) = (first_unbound d.places d.lines ≡ None) × IsFirstOut d at
+IsRefused d Memory = Unit {0}
 IsRefused d (Twice label) = ⊥
 IsRefused d (Unencodable at) = ⊥
-IsRefused d Memory = Unit {0}

@@ -1,13 +1,16 @@
 //! Writing a program line by line.
-ghost use Rattle.std.specs.Prelude.{◌≡◌, ◌≢◌, ◌<◌, ◌≤◌, ℕ, length, slice_index_or, None, Some, IfOk, IfErr, OnOk, OnErr};
+ghost use Rattle.std.specs.Prelude.{◌≡◌, ◌≢◌, ◌<◌, length, None, IsSome, IsSomeAnd, IfOk, IfErr, OnOk, OnErr};
 ghost use Rattle.rv_isa.specs.Encoding.{IsEncodable};
+ghost use Rattle.rv_asm.specs.Assembled.{place_of, AreAssembled};
+ghost use Rattle.rv_asm.specs.Jumps.{jump_of};
+ghost use Rattle.rv_asm.specs.Refusals.{IsAccepted, IsRefused};
 ghost use Rattle.rv_asm.specs.Draft.{empty_draft, with_label, with_line, with_place};
 ghost use Rattle.rv_asm.specs.declared.jump.Line.TheVariants.{Fixed, ToLabel};
 
 use crate::error::AsmError;
-use crate::jump::{Jump, Line};
-use crate::lines::{first_unbound, place_of};
-use rv_isa::{Instr, encode};
+use crate::jump::{Jump, Line, push_fixed};
+use crate::lines::{append, first_unbound, is_encodable, place_of, words_of};
+use rv_isa::Instr;
 use std::alloc::{AllocError, Global};
 use std::marker::Model;
 
@@ -83,5 +86,80 @@ impl Builder {
         ensures { result ≡ length self.now.lines }
     {
         self.lines.len() as u32
+    }
+
+    /// Appends an instruction.
+    pub fn emit(&mut self, i: Instr) -> Result<(), AsmError>
+        requires { length self.old.lines < 4000000 }
+        ensures line { OnOk result (self.new ≡ with_line self.old (Fixed i)) }
+        ensures encodable { OnOk result (IsEncodable i) }
+        ensures unchanged { OnErr result (self.new ≡ self.old) }
+        ensures refused { IfErr result (λ e. e ≢ AsmError.Memory
+            → (e ≡ AsmError.Unencodable (length self.old.lines)) × (IsEncodable i → ⊥)) }
+    {
+        if !is_encodable(&i) {
+            return Err(AsmError::Unencodable { at: self.len() });
+        }
+        push_fixed(&mut self.lines, i)?;
+        Ok(())
+    }
+
+    /// Makes a label. Labels are numbered from 0 on.
+    pub fn label(&mut self) -> Result<Label, AsmError>
+        requires { length self.old.places < 4000000 }
+        ensures made { OnOk result (self.new ≡ with_label self.old) }
+        ensures number { IfOk result (λ label. label ≡ length self.old.places) }
+        ensures unchanged { OnErr result (self.new ≡ self.old) }
+        ensures refused { IfErr result (λ e. e ≡ AsmError.Memory) }
+    {
+        let number = self.places.len() as u32;
+        append(&mut self.places, None)?;
+        Ok(Label(number))
+    }
+
+    /// Appends a jump whose offset will be that of the label. The offset of `i` is not looked at.
+    pub fn jump(&mut self, i: Instr, to: Label) -> Result<(), AsmError>
+        requires room { length self.old.lines < 4000000 }
+        requires label { to < length self.old.places }
+        ensures line { OnOk result (IsSomeAnd (jump_of i) (λ jump. self.new ≡ with_line self.old (ToLabel jump to))) }
+        ensures unchanged { OnErr result (self.new ≡ self.old) }
+        ensures refused { IfErr result (λ e. e ≢ AsmError.Memory
+            → (e ≡ AsmError.Unencodable (length self.old.lines)) × (jump_of i ≡ None)) }
+    {
+        let Some(jump) = Jump::of(i) else {
+            return Err(AsmError::Unencodable { at: self.len() });
+        };
+        append(&mut self.lines, Line::ToLabel { jump, label: to.0 })?;
+        Ok(())
+    }
+
+    /// The label stands for the next word from now on.
+    pub fn bind(&mut self, l: Label) -> Result<(), AsmError>
+        requires { l < length self.old.places }
+        ensures bound { OnOk result (self.new ≡ with_place self.old l) }
+        ensures once { OnOk result (place_of self.old.places l ≡ None) }
+        ensures unchanged { OnErr result (self.new ≡ self.old) }
+        ensures refused { IfErr result (λ e. (e ≡ AsmError.Twice l) × IsSome (place_of self.old.places l)) }
+    {
+        let label = l.0;
+        if place_of(&self.places, label).is_some() {
+            return Err(AsmError::Twice { label });
+        }
+        let at = self.len();
+        self.places[label as usize] = Some(at);
+        Ok(())
+    }
+
+    /// The words of the program, where each label of a jump is bound and each jump is in reach.
+    pub fn finish(self) -> Result<Code, AsmError>
+        ensures words { IfOk result (AreAssembled self) }
+        ensures accepted { OnOk result (IsAccepted self) }
+        ensures refused { IfErr result (IsRefused self) }
+    {
+        if let Some(label) = first_unbound(&self.lines, &self.places) {
+            return Err(AsmError::Unbound { label });
+        }
+        let words = words_of(self.alloc, &self.lines, &self.places)?;
+        Ok(Code { words })
     }
 }

@@ -1,8 +1,9 @@
 //! Lines of a program: instructions, and jumps to labels.
-ghost use Rattle.std.specs.Prelude.{◌≡◌};
+ghost use Rattle.std.specs.Prelude.{◌≡◌, ◌++◌, ◌∷◌, [], OnOk, OnErr};
 ghost use Rattle.rv_asm.specs.Jumps.{jump_of, with_offset};
 
 use rv_isa::{Instr, Reg, Test};
+use std::alloc::AllocError;
 
 /// An instruction that jumps by an offset, which is still to come.
 #[derive(Clone, Copy, PartialEq, Eq, Debug)]
@@ -55,4 +56,13 @@ impl Jump {
             },
         }
     }
+}
+
+/// Appends an instruction as it stands.
+pub(crate) fn push_fixed(lines: &mut Vec<Line>, instruction: Instr) -> Result<(), AllocError>
+    ensures ok { OnOk result (lines.new.items ≡ lines.old.items ++ Line.Fixed instruction ∷ []) }
+    ensures err { OnErr result (lines.new.items ≡ lines.old.items) }
+{
+    lines.push(Line::Fixed { instruction })?;
+    Ok(())
 }

@@ -1,14 +1,14 @@
 //! From the lines of a program to its words.
-ghost use Rattle.std.specs.Prelude.{◌≡◌, ◌<◌, ◌≤◌, ◌↔◌, length, All, None, Some, IfOk, IfErr, IfSome, IsSome, OnOk};
+ghost use Rattle.std.specs.Prelude.{◌≡◌, ◌<◌, ◌≤◌, ◌↔◌, length, All, None, Some, IfOk, IfErr, IfSome, IsSome, IsTrue, OnOk, OnErr, ◌++◌, ◌∷◌, [], ◌≢◌};
 ghost use Rattle.rv_isa.specs.Encoding.{IsEncodable};
-ghost use Rattle.rv_asm.specs.Assembled.{instruction_at, place_of, IsWordOf};
+ghost use Rattle.rv_asm.specs.Assembled.{instruction_at, place_of, AreAssembled, IsWordOf};
 ghost use Rattle.rv_asm.specs.Draft.{IsPlace, IsWritable};
-ghost use Rattle.rv_asm.specs.Refusals.{first_unbound};
+ghost use Rattle.rv_asm.specs.Refusals.{first_unbound, AreInReach, IsOutOfReach};
 
 use crate::error::AsmError;
 use crate::jump::Line;
 use rv_isa::{Instr, encode};
-use std::alloc::Global;
+use std::alloc::{AllocError, Global};
 
 /// The word that a label stands for, once it is bound.
 pub(crate) fn place_of(places: &[Option<u32>], label: u32) -> Option<u32>
@@ -51,10 +51,50 @@ fn instruction_at(line: Line, at: u32, places: &[Option<u32>]) -> Instr
     }
 }
 
+/// Whether an instruction has a word.
+pub(crate) fn is_encodable(instruction: &Instr) -> bool
+    ensures { IsTrue result ↔ IsEncodable instruction.now }
+{
+    encode(*instruction).is_some()
+}
+
 /// The word of an instruction, where it has one.
 fn word_of(instruction: Instr) -> Option<u32>
     ensures encodable { IsSome result ↔ IsEncodable instruction }
     ensures word { IfSome result (IsWordOf instruction) }
 {
     encode(instruction)
+}
+
+/// Appends an item.
+pub(crate) fn append<T: Drop>(items: &mut Vec<T>, item: T) -> Result<(), AllocError>
+    ensures ok { OnOk result (items.new.items ≡ items.old.items ++ item ∷ []) }
+    ensures err { OnErr result (items.new.items ≡ items.old.items) }
+{
+    items.push(item)?;
+    Ok(())
+}
+
+/// The words of the lines, where each jump is in reach.
+pub(crate) fn words_of(
+    alloc: Global,
+    lines: &[Line],
+    places: &[Option<u32>],
+) -> Result<Vec<u32>, AsmError>
+    requires short { length lines.now ≤ 4000000 }
+    requires writable { All IsWritable lines.now }
+    requires places { All IsPlace places.now }
+    ensures words { IfOk result (λ words. AreAssembled (record { lines = lines.now; places = places.now }) words.items) }
+    ensures reach { OnOk result (AreInReach (record { lines = lines.now; places = places.now }) (length lines.now)) }
+    ensures refused { IfErr result (IsOutOfReach (record { lines = lines.now; places = places.now })) }
+{
+    let mut words = Vec::new(alloc);
+    for (at, line) in lines.iter().enumerate() {
+        let at = at as u32;
+        let Some(word) = word_of(instruction_at(*line, at, places)) else {
+            return Err(AsmError::Reach { at });
+        };
+        append(&mut words, word)?;
+    }
+    Ok(words)
 }
