@@ -1,10 +1,10 @@
 -- Lists of words that grow at their end.
 use Rattle.std.proofs.Common.{◌≡◌, ℕ, ◌+◌, ◌<◌, List, [], ◌∷◌, ◌++◌, length, get_or, arith, subst, sym, below_more}
-use Rattle.std.specs.Prelude.{Option}
+use Rattle.std.specs.Prelude.{Option, Some, None, refl}
+use Rattle.rv_isa.specs.declared.instruction.Instr.{Instr}
 use Rattle.std.proofs.lemmas.Grind.{common_steps}
 use Rattle.rv_isa.specs.Encoding.{IsEncodable}
-use Rattle.rv_asm.specs.declared.jump.Line.{Line}
-use Rattle.rv_asm.specs.declared.jump.Line.TheVariants.{Fixed, ToLabel}
+use Rattle.rv_asm.specs.declared.line.Line.{Line}
 use Rattle.rv_asm.specs.Assembled.{instruction_at, IsWordOf}
 use Rattle.rv_asm.specs.Draft.{IsWritable}
 use Rattle.rv_asm.specs.Refusals.{IsInReach}
@@ -40,11 +40,6 @@ assembled_more places lines words w at x long inside is each last =
     words_more (λ (k v : ℕ). (line : Line) → IsWordOf (instruction_at places k (get_or lines k line)) v) words w at long each
     (λ line. subst (λ (y : Line). IsWordOf (instruction_at places at y) w) (sym (same_line lines at x line inside is)) last)
 
--- a line whose instruction has a word is in reach
-in_reach : (places : List (Option ℕ)) (at : ℕ) (line : Line) → IsEncodable (instruction_at places at line) → IsInReach places at line
-in_reach places at (Fixed instruction) h = tt
-in_reach places at (ToLabel jump label) h = h
-
 -- one more line in reach
 pub reach_more : (places : List (Option ℕ)) (lines : List Line) (at : ℕ) (x : Line)
     → at < length lines → x ≡ get_or lines at x
@@ -53,17 +48,4 @@ pub reach_more : (places : List (Option ℕ)) (lines : List Line) (at : ℕ) (x 
     → (k : ℕ) → k < at + 1 → (line : Line) → IsInReach places k (get_or lines k line)
 reach_more places lines at x inside is before last =
     below_more (λ (k : ℕ). (line : Line) → IsInReach places k (get_or lines k line)) at before
-    (λ line. subst (λ (y : Line). IsInReach places at y) (sym (same_line lines at x line inside is)) (in_reach places at x last))
-
-far : (places : List (Option ℕ)) (at : ℕ) (line : Line) → IsWritable line → (IsEncodable (instruction_at places at line) → ⊥)
-    → IsInReach places at line → ⊥
-far places at (Fixed instruction) writable none h = none writable
-far places at (ToLabel jump label) writable none h = none h
-
--- a line whose instruction has no word is out of reach, where each instruction without a label has one
-pub out_of_reach : (places : List (Option ℕ)) (lines : List Line) (at : ℕ) (x : Line)
-    → at < length lines → x ≡ get_or lines at x → IsWritable x
-    → (IsEncodable (instruction_at places at x) → ⊥)
-    → (line : Line) → IsInReach places at (get_or lines at line) → ⊥
-out_of_reach places lines at x inside is writable far_off line h =
-    far places at x writable far_off (subst (λ (y : Line). IsInReach places at y) (same_line lines at x line inside is) h)
+    (λ line. subst (λ (y : Line). IsInReach places at y) (sym (same_line lines at x line inside is)) (λ some. last))

@@ -2,11 +2,11 @@
 use Rattle.std.specs.Prelude.{◌≡◌, ℕ, ◌*◌, ◌<◌, ℤ, pos, ◌-ℤ◌, List, length, slice_index, slice_index_or, Option, Some, None, is_some, if◌then◌else◌, unwrap_or}
 use Rattle.rv_isa.specs.declared.instruction.Instr.{Instr}
 use Rattle.rv_isa.specs.declared.instruction.Instr.TheVariants.{Fence, FenceI}
+use Rattle.std.specs.Option.{option_map_or}
 use Rattle.rv_isa.specs.Table.{decoded}
-use Rattle.rv_asm.specs.declared.jump.Line.{Line}
-use Rattle.rv_asm.specs.declared.jump.Line.TheVariants.{Fixed, ToLabel}
+use Rattle.rv_asm.specs.declared.line.Line.{Line}
 use Rattle.rv_asm.specs.Draft.{Draft}
-use Rattle.rv_asm.specs.Jumps.{with_offset}
+use Rattle.rv_asm.specs.Lines.{with_offset}
 
 -- the word that a label stands for, once it is bound
 abbrev pub place_of : List (Option ℕ) → ℕ → Option ℕ
@@ -18,8 +18,7 @@ offset_between from to = pos (4 * to) -ℤ pos (4 * from)
 
 -- the instruction of the line at a word: a jump goes to its label, which is to be bound
 abbrev pub instruction_at : List (Option ℕ) → ℕ → Line → Instr
-instruction_at places at (Fixed instruction) = instruction
-instruction_at places at (ToLabel jump label) = with_offset jump (offset_between at (unwrap_or (place_of places label) 0))
+instruction_at places at line = option_map_or (λ label. with_offset line.instruction (offset_between at (unwrap_or (place_of places label) 0))) line.to line.instruction
 
 -- A word is the one that is written for an instruction: it stands for it, and those of the fences are these of several.
 pub record IsWordOf (instruction : Instr) (word : ℕ) : Type 0 where

@@ -1,9 +1,7 @@
 -- A program that is being written: its lines so far, and the labels that it has made.
 use Rattle.std.specs.Prelude.{◌≡◌, ℕ, ◌≤◌, List, [], ◌∷◌, ◌++◌, length, slice_set, All, Option, Some, None, IfSome}
-use Rattle.rv_isa.specs.declared.instruction.Instr.{Instr}
 use Rattle.rv_isa.specs.Encoding.{IsEncodable}
-use Rattle.rv_asm.specs.declared.jump.Line.{Line}
-use Rattle.rv_asm.specs.declared.jump.Line.TheVariants.{Fixed, ToLabel}
+use Rattle.rv_asm.specs.declared.line.Line.{Line}
 
 -- A draft: a line for each word of code, and for each label the number of the word that it stands for, once it is bound.
 pub record Draft : Type 0 where
@@ -28,8 +26,7 @@ with_place d label = record { lines = d.lines; places = slice_set d.places label
 
 -- an instruction that needs no label has a word
 abbrev pub IsWritable : Line → Type 0
-IsWritable (Fixed instruction) = IsEncodable instruction
-IsWritable (ToLabel jump label) = Unit {0}
+IsWritable line = line.to ≡ None → IsEncodable line.instruction
 
 -- a label that is bound stands for a word of the code or for its end
 abbrev pub IsPlace : Option ℕ → Type 0

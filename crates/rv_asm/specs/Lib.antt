@@ -2,5 +2,5 @@ pub mod Assembled
 pub mod Draft
 pub mod Executable
 pub mod Fields
-pub mod Jumps
+pub mod Lines
 pub mod Refusals

@@ -1,23 +1,25 @@
 -- Why a draft is not assembled.
-use Rattle.std.specs.Prelude.{◌≡◌, ℕ, ◌<◌, List, [], ◌∷◌, length, slice_index_or, Option, Some, None, is_some, if◌then◌else◌}
+use Rattle.std.specs.Prelude.{◌≡◌, ℕ, ◌<◌, List, [], ◌∷◌, length, slice_index_or, Option, Some, None, is_some, IsSome, if◌then◌else◌, Bool, true}
+use Rattle.std.specs.Option.{option_map_or}
 use Rattle.rv_isa.specs.Encoding.{IsEncodable}
 use Rattle.rv_asm.specs.declared.error.AsmError.{AsmError}
 use Rattle.rv_asm.specs.declared.error.AsmError.TheVariants.{Unbound, Twice, Reach, Unencodable, Memory}
-use Rattle.rv_asm.specs.declared.jump.Line.{Line}
-use Rattle.rv_asm.specs.declared.jump.Line.TheVariants.{Fixed, ToLabel}
+use Rattle.rv_asm.specs.declared.line.Line.{Line}
 use Rattle.rv_asm.specs.Draft.{Draft}
 use Rattle.rv_asm.specs.Assembled.{instruction_at, place_of}
+
+-- whether a line needs no label, or one that is bound
+abbrev pub is_ready : List (Option ℕ) → Option ℕ → Bool
+is_ready places to = option_map_or (λ label. is_some (place_of places label)) to true
 
 -- the label of the first jump whose label is not bound
 abbrev pub first_unbound : List (Option ℕ) → List Line → Option ℕ
 first_unbound places [] = None
-first_unbound places (Fixed instruction ∷ rest) = first_unbound places rest
-first_unbound places (ToLabel jump label ∷ rest) = if is_some (place_of places label) then first_unbound places rest else Some label
+first_unbound places (line ∷ rest) = if is_ready places line.to then first_unbound places rest else line.to
 
 -- the line at a word is an instruction without a label, or a jump whose offset is in its form's range
 abbrev pub IsInReach : List (Option ℕ) → ℕ → Line → Type 0
-IsInReach places at (Fixed instruction) = Unit {0}
-IsInReach places at (ToLabel jump label) = IsEncodable (instruction_at places at (ToLabel jump label))
+IsInReach places at line = IsSome line.to → IsEncodable (instruction_at places at line)
 
 -- all lines before a word are in reach
 abbrev pub AreInReach : Draft → ℕ → Type 0

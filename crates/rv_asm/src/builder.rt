@@ -1,14 +1,13 @@
 //! Writing a program line by line.
-ghost use Rattle.std.specs.Prelude.{◌≡◌, ◌≢◌, ◌<◌, length, None, IsSome, IsSomeAnd, IfOk, IfErr, OnOk, OnErr};
+ghost use Rattle.std.specs.Prelude.{◌≡◌, ◌≢◌, ◌<◌, length, true, false, None, Some, IsSome, IfOk, IfErr, OnOk, OnErr};
 ghost use Rattle.rv_isa.specs.Encoding.{IsEncodable};
 ghost use Rattle.rv_asm.specs.Assembled.{place_of, AreAssembled};
-ghost use Rattle.rv_asm.specs.Jumps.{jump_of};
+ghost use Rattle.rv_asm.specs.Lines.{is_jump};
 ghost use Rattle.rv_asm.specs.Refusals.{IsAccepted, IsRefused};
 ghost use Rattle.rv_asm.specs.Draft.{empty_draft, with_label, with_line, with_place};
-ghost use Rattle.rv_asm.specs.declared.jump.Line.TheVariants.{Fixed, ToLabel};
 
 use crate::error::AsmError;
-use crate::jump::{Jump, Line, push_fixed};
+use crate::line::{Line, is_jump};
 use crate::lines::{append, first_unbound, is_encodable, place_of, words_of};
 use rv_isa::Instr;
 use std::alloc::{AllocError, Global};
@@ -91,7 +90,7 @@ impl Builder {
     /// Appends an instruction.
     pub fn emit(&mut self, i: Instr) -> Result<(), AsmError>
         requires { length self.old.lines < 4000000 }
-        ensures line { OnOk result (self.new ≡ with_line self.old (Fixed i)) }
+        ensures line { OnOk result (self.new ≡ with_line self.old (record { instruction = i; to = None })) }
         ensures encodable { OnOk result (IsEncodable i) }
         ensures unchanged { OnErr result (self.new ≡ self.old) }
         ensures refused { IfErr result (λ e. e ≢ AsmError.Memory
@@ -100,7 +99,11 @@ impl Builder {
         if !is_encodable(&i) {
             return Err(AsmError::Unencodable { at: self.len() });
         }
-        push_fixed(&mut self.lines, i)?;
+        let line = Line {
+            instruction: i,
+            to: None,
+        };
+        append(&mut self.lines, line)?;
         Ok(())
     }
 
@@ -121,15 +124,20 @@ impl Builder {
     pub fn jump(&mut self, i: Instr, to: Label) -> Result<(), AsmError>
         requires room { length self.old.lines < 4000000 }
         requires label { to < length self.old.places }
-        ensures line { OnOk result (IsSomeAnd (jump_of i) (λ jump. self.new ≡ with_line self.old (ToLabel jump to))) }
+        ensures line { OnOk result (self.new ≡ with_line self.old (record { instruction = i; to = Some to })) }
+        ensures jump { OnOk result (is_jump i ≡ true) }
         ensures unchanged { OnErr result (self.new ≡ self.old) }
         ensures refused { IfErr result (λ e. e ≢ AsmError.Memory
-            → (e ≡ AsmError.Unencodable (length self.old.lines)) × (jump_of i ≡ None)) }
+            → (e ≡ AsmError.Unencodable (length self.old.lines)) × (is_jump i ≡ false)) }
     {
-        let Some(jump) = Jump::of(i) else {
+        if !is_jump(&i) {
             return Err(AsmError::Unencodable { at: self.len() });
+        }
+        let line = Line {
+            instruction: i,
+            to: Some(to.0),
         };
-        append(&mut self.lines, Line::ToLabel { jump, label: to.0 })?;
+        append(&mut self.lines, line)?;
         Ok(())
     }
 

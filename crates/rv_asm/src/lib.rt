@@ -7,7 +7,7 @@ mod error;
 mod executable;
 mod fields;
 mod headers;
-mod jump;
+mod line;
 mod lines;
 
 

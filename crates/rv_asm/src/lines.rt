@@ -3,10 +3,10 @@ ghost use Rattle.std.specs.Prelude.{◌≡◌, ◌<◌, ◌≤◌, ◌↔◌, le
 ghost use Rattle.rv_isa.specs.Encoding.{IsEncodable};
 ghost use Rattle.rv_asm.specs.Assembled.{instruction_at, place_of, AreAssembled, IsWordOf};
 ghost use Rattle.rv_asm.specs.Draft.{IsPlace, IsWritable};
-ghost use Rattle.rv_asm.specs.Refusals.{first_unbound, AreInReach, IsOutOfReach};
+ghost use Rattle.rv_asm.specs.Refusals.{first_unbound, is_ready, AreInReach, IsOutOfReach};
 
 use crate::error::AsmError;
-use crate::jump::Line;
+use crate::line::{Line, with_offset};
 use rv_isa::{Instr, encode};
 use std::alloc::{AllocError, Global};
 
@@ -22,15 +22,23 @@ pub(crate) fn place_of(places: &[Option<u32>], label: u32) -> Option<u32>
     }
 }
 
+/// Whether a line needs no label, or one that is bound.
+fn is_ready(to: Option<u32>, places: &[Option<u32>]) -> bool
+    ensures { result ≡ is_ready places.now to }
+{
+    match to {
+        None => true,
+        Some(label) => place_of(places, label).is_some(),
+    }
+}
+
 /// The label of the first jump whose label is not bound.
 pub(crate) fn first_unbound(lines: &[Line], places: &[Option<u32>]) -> Option<u32>
     ensures { result ≡ first_unbound places.now lines.now }
 {
     for line in lines {
-        if let Line::ToLabel { jump: _, label } = *line {
-            if place_of(places, label).is_none() {
-                return Some(label);
-            }
+        if !is_ready(line.to, places) {
+            return line.to;
         }
     }
     None
@@ -42,11 +50,11 @@ fn instruction_at(line: Line, at: u32, places: &[Option<u32>]) -> Instr
     requires places { All IsPlace places.now }
     ensures { result ≡ instruction_at places.now at line }
 {
-    match line {
-        Line::Fixed { instruction } => instruction,
-        Line::ToLabel { jump, label } => {
+    match line.to {
+        None => line.instruction,
+        Some(label) => {
             let to = place_of(places, label).unwrap_or(0);
-            jump.with_offset(4 * to as i32 - 4 * at as i32)
+            with_offset(line.instruction, 4 * to as i32 - 4 * at as i32)
         }
     }
 }

@@ -1,6 +1,5 @@
 use Rattle.std.proofs.Common.{ℕ, length, refl, arith, subst, length-append}
 use Rattle.rv_asm.specs.Assembled.{instruction_at, IsWordOf}
-use Rattle.rv_asm.specs.declared.jump.Line.{Line}
 use Rattle.rv_isa.specs.Encoding.{IsEncodable}
 use Rattle.rv_isa.specs.declared.instruction.Instr.{Instr}
 use Rattle.rv_asm.proofs.Words.{assembled_more, reach_more}

@@ -1,5 +1,5 @@
 use Rattle.std.proofs.Common.{◌≡◌, ◌<◌, ℕ, length, get_or}
-use Rattle.rv_asm.specs.declared.jump.Line.{Line}
+use Rattle.rv_asm.specs.declared.line.Line.{Line}
 use Rattle.rv_asm.specs.Assembled.{instruction_at, IsWordOf}
 use Rattle.rv_asm.specs.Refusals.{IsInReach}
 use Rattle.rv_asm.proofs.lines.words_of.Given as goal
