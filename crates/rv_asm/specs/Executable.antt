@@ -1,6 +1,6 @@
 -- The executable of a code and its symbols: an ELF file of one segment, which holds the headers and the code, and behind
 -- it, where there are symbols, a symbol table, its strings and the section headers.
-use Rattle.std.specs.Prelude.{ℕ, ◌+◌, ◌-◌, ◌*◌, ◌/◌, List, [], ◌∷◌, ◌++◌, length, replicate}
+use Rattle.std.specs.Prelude.{ℕ, ◌+◌, ◌-◌, ◌*◌, ◌/◌, ◌==◌, if◌then◌else◌, List, [], ◌∷◌, ◌++◌, length, replicate}
 use Rattle.std.specs.List.{flat_map}
 use Rattle.std.specs.Int.{to_le_bytes, w32}
 use Rattle.rv_asm.specs.declared.executable.Symbol.{Symbol}
@@ -88,17 +88,13 @@ symbol_entries st_name (symbol ∷ rest) =
 unfoldable pub symbol_table : List Symbol → List ℕ
 symbol_table symbols = replicate 16 0 ++ symbol_entries 1 symbols
 
--- where the strings begin, and where they end
-abbrev pub strings_begin : ℕ → ℕ → ℕ
-strings_begin words symbols = code_end words + 16 * (symbols + 1)
-
 -- the next multiple of 4
 abbrev pub aligned : ℕ → ℕ
 aligned n = (n + 3) / 4 * 4
 
--- where the section headers begin, by the numbers of words, of symbols and of bytes of the string table
-abbrev pub sections_begin : ℕ → ℕ → ℕ → ℕ
-sections_begin words symbols strings = aligned (strings_begin words symbols + strings)
+-- zeros up to the next multiple of 4
+abbrev pub padding : ℕ → List ℕ
+padding n = replicate (aligned n - n) 0
 
 -- a section of type SHT_SYMTAB, of which only the empty entry is local, with the section 2 for its strings
 abbrev pub symbol_section : ℕ → ℕ → SectionHeader
@@ -130,26 +126,32 @@ string_section sh_offset sh_size = record {
   sh_entsize = 0;
 }
 
--- the section headers: the empty one (SHT_NULL), the symbol table's and that of its strings
+-- the section headers: the empty one (SHT_NULL), that of the symbol table, which ends where its strings begin, and that
+-- of the strings
 abbrev pub section_headers : ℕ → ℕ → ℕ → List ℕ
-section_headers words symbols strings =
-    replicate 40 0 ++ bytes_of (section_fields (symbol_section (code_end words) (16 * (symbols + 1))))
-    ++ bytes_of (section_fields (string_section (strings_begin words symbols) strings))
+section_headers symbols_begin strings_begin strings_size =
+    replicate 40 0 ++ bytes_of (section_fields (symbol_section symbols_begin (strings_begin - symbols_begin)))
+    ++ bytes_of (section_fields (string_section strings_begin strings_size))
 
--- zeros up to the next multiple of 4
-abbrev pub padding : ℕ → List ℕ
-padding n = replicate (aligned n - n) 0
+-- where the strings begin: behind the code and the symbol table, whose entries have 16 bytes each
+abbrev pub strings_begin : List ℕ → List Symbol → ℕ
+strings_begin words symbols = code_end (length words) + 16 * (length symbols + 1)
 
--- the symbol table, its strings, zeros and the section headers
-abbrev pub sections : ℕ → List Symbol → List ℕ
-sections words symbols =
-    let strings = string_table symbols in
-    symbol_table symbols ++ strings ++ padding (strings_begin words (length symbols) + length strings)
-    ++ section_headers words (length symbols) (length strings)
+-- where the strings end
+abbrev pub strings_end : List ℕ → List Symbol → ℕ
+strings_end words symbols = strings_begin words symbols + length (string_table symbols)
+
+-- a file without symbols: the headers and the code
+unfoldable pub plain_file : List ℕ → List ℕ
+plain_file words = image_bytes words 0 0
+
+-- a file with symbols: behind the code stand their table, its strings, zeros and the section headers
+unfoldable pub named_file : List ℕ → List Symbol → List ℕ
+named_file words symbols =
+    image_bytes words (aligned (strings_end words symbols)) 3
+    ++ symbol_table symbols ++ string_table symbols ++ padding (strings_end words symbols)
+    ++ section_headers (code_end (length words)) (strings_begin words symbols) (length (string_table symbols))
 
 -- the whole file
 abbrev pub executable : List ℕ → List Symbol → List ℕ
-executable words [] = image_bytes words 0 0
-executable words (symbol ∷ rest) =
-    let symbols = symbol ∷ rest in
-    image_bytes words (sections_begin (length words) (length symbols) (length (string_table symbols))) 3 ++ sections (length words) symbols
+executable words symbols = if length symbols == 0 then plain_file words else named_file words symbols

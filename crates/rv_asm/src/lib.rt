@@ -9,11 +9,12 @@ mod fields;
 mod headers;
 mod line;
 mod lines;
+mod symbols;
 
 
 pub use builder::{Builder, Code, Label};
 pub use error::AsmError;
-pub use executable::Symbol;
+pub use executable::{Symbol, write_exec};
 
 #[cfg(test)]
 mod tests;
