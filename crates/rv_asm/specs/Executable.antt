@@ -54,7 +54,7 @@ program_header size = record {
 }
 
 -- the headers and the code
-abbrev pub image_bytes : List ℕ → ℕ → ℕ → List ℕ
+unfoldable pub image_bytes : List ℕ → ℕ → ℕ → List ℕ
 image_bytes words e_shoff e_shnum =
     e_ident ++ bytes_of (file_fields (file_header e_shoff e_shnum))
     ++ bytes_of (program_fields (program_header (code_end (length words)))) ++ code_bytes words
