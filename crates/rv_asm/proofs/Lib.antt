@@ -1,3 +1,3 @@
 mod Entries
-mod Sizes
+pub mod Sizes
 mod Words

@@ -1,12 +1,10 @@
 -- Lists of words that grow at their end.
 use Rattle.std.proofs.Common.{◌≡◌, ℕ, ◌+◌, ◌<◌, List, [], ◌∷◌, ◌++◌, length, get_or, arith, subst, sym, below_more}
-use Rattle.std.specs.Prelude.{Option, Some, None, refl}
-use Rattle.rv_isa.specs.declared.instruction.Instr.{Instr}
+use Rattle.std.specs.Prelude.{Option}
 use Rattle.std.proofs.lemmas.Grind.{common_steps}
 use Rattle.rv_isa.specs.Encoding.{IsEncodable}
 use Rattle.rv_asm.specs.declared.line.Line.{Line}
 use Rattle.rv_asm.specs.Assembled.{instruction_at, IsWordOf}
-use Rattle.rv_asm.specs.Draft.{IsWritable}
 use Rattle.rv_asm.specs.Refusals.{IsInReach}
 
 -- the words before the end stay

@@ -1,5 +1,5 @@
 -- What the lines of a draft stand for, once all labels are bound.
-use Rattle.std.specs.Prelude.{◌≡◌, ℕ, ◌*◌, ◌<◌, ℤ, pos, ◌-ℤ◌, List, length, slice_index, slice_index_or, Option, Some, None, is_some, if◌then◌else◌, unwrap_or}
+use Rattle.std.specs.Prelude.{◌≡◌, ℕ, ◌*◌, ◌<◌, ℤ, pos, ◌-ℤ◌, List, length, slice_index, slice_index_or, Option, Some, None, unwrap_or}
 use Rattle.rv_isa.specs.declared.instruction.Instr.{Instr}
 use Rattle.rv_isa.specs.declared.instruction.Instr.TheVariants.{Fence, FenceI}
 use Rattle.std.specs.Option.{option_map_or}

@@ -1,5 +1,5 @@
 -- The headers and tables of an ELF file for 32 bits as bytes, by the names of the ELF gABI.
-use Rattle.std.specs.Prelude.{ℕ, List, [], ◌∷◌, ◌++◌}
+use Rattle.std.specs.Prelude.{ℕ, List, [], ◌∷◌}
 use Rattle.std.specs.List.{flat_map}
 use Rattle.std.specs.Int.{to_le_bytes, w16, w32}
 use Rattle.rv_asm.specs.declared.fields.Field.{Field}

@@ -73,7 +73,12 @@ fn push_program_header(file: &mut Vec<u8>, size: u32) -> Result<(), AllocError>
 
 /// Appends the headers and the code.
 #[tactic(auto, unfolding(crate::specs::Executable::image_bytes))]
-fn push_image(file: &mut Vec<u8>, words: &[u32], e_shoff: u32, e_shnum: u16) -> Result<(), AllocError>
+fn push_image(
+    file: &mut Vec<u8>,
+    words: &[u32],
+    e_shoff: u32,
+    e_shnum: u16,
+) -> Result<(), AllocError>
     requires { 84 + 4 * length words.now < 2 ^ 32 }
     ensures { OnOk result (file.new.items ≡ file.old.items ++ image_bytes words.now e_shoff e_shnum) }
 {

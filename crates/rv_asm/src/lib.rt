@@ -11,7 +11,6 @@ mod line;
 mod lines;
 mod symbols;
 
-
 pub use builder::{Builder, Code, Label};
 pub use error::AsmError;
 pub use executable::{Symbol, write_exec};

@@ -1,4 +1,4 @@
-use Rattle.std.proofs.Common.{ℕ, ◌≤◌, ◌*◌, length, arith, List, subst, sym}
+use Rattle.std.proofs.Common.{◌≤◌, ◌*◌, length, arith}
 use Rattle.rv_asm.specs.Executable.{strings_end}
 use Rattle.rv_asm.proofs.Sizes.{named_within, plain_within}
 use Rattle.rv_asm.proofs.executable.write_exec.Goals as goal
@@ -10,5 +10,5 @@ plain_file-requires c =
 
 pub named_file-requires : goal.named_file-requires
 named_file-requires c =
-    let small : strings_end c.args.code.now c.args.symbols.now ≤ 50331748 = named_within _ _ _ c.is_empty.ensures c.if-is_empty.false c.requires.size in
+    let small : strings_end c.args.code.now c.args.symbols.now ≤ 16777216 = named_within _ _ _ c.is_empty.ensures c.if-is_empty.false c.requires.size in
     rw c.words-else-is_empty.ensures (omega arith)

@@ -1,4 +1,4 @@
-use Rattle.std.proofs.Common.{ℕ, ◌≡◌, length, arith, ap}
+use Rattle.std.proofs.Common.{◌≡◌, length, arith, ap}
 use Rattle.rv_asm.proofs.Entries.{entries_more, names_more}
 use Rattle.rv_asm.proofs.symbols.push_symbols.Goals as goal
 
