@@ -1,63 +1,65 @@
--- From what a run hands out to what the command leaves, over the load before it.
-use Rattle.std.proofs.Common.{◌≡◌, ℕ, ◌≤◌, List, Some, ap, ◌∙◌, inl, inr}
-use Rattle.host_io.specs.Files.{FilesState, PutsFile, FilesUnchanged, with_file}
-use Rattle.host_io.specs.Sink.{SinkState}
-use Rattle.aprof_top.specs.Command.{RunOptions}
-use Rattle.aprof_top.specs.Ending.{CommandEnds, Delivers, LoadsImage, PutsOutput, Runs}
-use Rattle.aprof_top.specs.Outcome.{Product, guest_product}
-use Rattle.aprof_top.specs.Outside.{Outside, outside}
-use Rattle.aprof_top.specs.declared.ending.Ending as declared
-use Rattle.aprof_top.specs.declared.ending.Ending.TheVariants as ending
-use Rattle.aprof_top.proofs.Endings.{FailsToPut-later}
+-- Stores, one after another.
+use Rattle.std.proofs.Common.{◌≡◌, ℕ, ◌+◌, ◌<◌, List, [], ◌∷◌, ◌++◌, Option, Some, Err, zero, suc, refl, sym, ap, ◌∙◌, arith, length, map, take, get_or, slice_get}
+use Rattle.std.proofs.lemmas.List.{map-append, take_more}
+use Rattle.host_io.specs.Files.{Contents, FilesState, NoCountFalls, PutsFile, StoreEnds, with_file, with_path}
+use Rattle.host_io.specs.declared.files.StoreError.{StoreError}
+use Rattle.host_io.specs.declared.files.StoreError.TheVariants as store
+use Rattle.aprof_top.specs.declared.product.Store.{Store}
+use Rattle.aprof_top.specs.Delivery.{StoresAll, StoresEnd}
+use Rattle.aprof_top.specs.Outside.{with_stores}
+use Rattle.aprof_top.specs.Products.{store_of}
+use Rattle.aprof_top.proofs.Sinks.{Rose-later}
 
--- before the load, between it and what is handed out, and at the end
-module _ (words : List (List ℕ)) (options : RunOptions) (file : List ℕ) (product : Product) (files loaded : FilesState) (out err : SinkState) (after : Outside) (contents : loaded.contents ≡ files.contents) (failed_paths : loaded.failed_paths ≡ files.failed_paths) (later : files.faults ≤ loaded.faults) (image : LoadsImage words options file files after.files) (built : guest_product options.image file ≡ Some product) where
-  abbrev before : Outside
-  before = outside files out err
+with_stores-more : (stores : List (List ℕ × List ℕ)) (s : List ℕ × List ℕ) (contents : Option Contents) → with_stores (stores ++ s ∷ []) contents ≡ with_file s.0 (Some s.1) (with_stores stores contents)
+with_stores-more [] s contents = refl
+with_stores-more (first ∷ stores) s contents = with_stores-more stores s (with_file first.0 (Some first.1) contents)
 
-  abbrev mid : Outside
-  mid = outside loaded out err
+-- the first stores, with one more
+first_more : (stores : List Store) (i : ℕ) (s : Store) → i < length stores → s ≡ get_or stores i s → map store_of (take (i + 1) stores) ≡ map store_of (take i stores) ++ store_of s ∷ []
+first_more stores i s within is =
+    ap (map store_of) (take_more stores i s within)
+    ∙ map-append store_of (take i stores) (get_or stores i s ∷ [])
+    ∙ ap (λ t. map store_of (take i stores) ++ store_of t ∷ []) (sym is)
 
-  runs_of : (e : declared.Ending) → Delivers options.report product before after e → Runs words before after e
-  runs_of e delivery = record {
-    options = options;
-    file = file;
-    image = image;
-    product = product;
-    built = built;
-    delivery = delivery;
+first_of_map : (stores : List Store) (i : ℕ) → map store_of (take i stores) ≡ take i (map store_of stores)
+first_of_map [] zero = refl
+first_of_map [] (suc i) = refl
+first_of_map (s ∷ stores) zero = refl
+first_of_map (s ∷ stores) (suc i) = ap (λ rest. store_of s ∷ rest) (first_of_map stores i)
+
+store_at : (stores : List Store) (i : ℕ) (s : Store) → i < length stores → s ≡ get_or stores i s → slice_get (map store_of stores) i ≡ Some (store_of s)
+store_at [] i s within is = absurd (omega (arith, within))
+store_at (first ∷ stores) zero s within is = ap (λ t. Some (store_of t)) (sym is)
+store_at (first ∷ stores) (suc i) s within is = store_at stores i s (omega (arith, within)) is
+
+module _ (stores : List Store) (i : ℕ) (s : Store) (bytes : List ℕ) (old mid new : FilesState) (within : i < length stores) (is : s ≡ get_or stores i s) (same : bytes ≡ s.bytes.items) (done : StoresAll (map store_of (take i stores)) old mid) (counts : NoCountFalls old mid) where
+  done_first : mid.contents ≡ with_stores (take i (map store_of stores)) old.contents
+  done_first = done.contents ∙ ap (λ first. with_stores first old.contents) (first_of_map stores i)
+
+  -- one more was done
+  pub StoresAll-more : PutsFile s.path.now bytes mid new → StoresAll (map store_of (take (i + 1) stores)) old new
+  StoresAll-more put = record {
+    contents = put.contents
+        ∙ ap (λ b. with_file s.path.now (Some b) mid.contents) same
+        ∙ ap (with_file s.path.now (Some s.bytes.items)) done.contents
+        ∙ sym (with_stores-more (map store_of (take i stores)) (store_of s) old.contents)
+        ∙ ap (λ first. with_stores first old.contents) (sym (first_more stores i s within is));
+    failed_paths = put.failed_paths ∙ done.failed_paths;
   }
 
-  output_of : PutsOutput product mid after → PutsOutput product before after
-  output_of output = record { out = output.out; err = output.err }
-
-  unchanged_of : FilesUnchanged loaded after.files → FilesUnchanged files after.files
-  unchanged_of unchanged = record {
-    contents = unchanged.contents ∙ contents;
-    failed_paths = unchanged.failed_paths ∙ failed_paths;
+  -- it failed, or memory was wanting for it
+  pub StoresEnd-stopped : (e : StoreError) → StoreEnds s.path.now bytes mid new (Err e) → StoresEnd (map store_of stores) old new (Err e)
+  StoresEnd-stopped store.Failed ends = record {
+    count = i;
+    fails = record {
+      store = store_of s;
+      next = store_at stores i s within is;
+      failed = record {
+        faults = Rose-later old.faults mid.faults new.faults counts.faults ends.failed.faults;
+        failed_paths = ends.failed.failed_paths ∙ ap (with_path s.path.now) done.failed_paths;
+      };
+      left = ends.left;
+      contents = ends.contents ∙ ap (with_file s.path.now ends.left) done_first;
+    };
   }
-
-  put_of : PutsFile options.report product.report loaded after.files → PutsFile options.report product.report files after.files
-  put_of put = record {
-    contents = put.contents ∙ ap (with_file options.report (Some product.report)) contents;
-    failed_paths = put.failed_paths ∙ failed_paths;
-  }
-
-  pub CommandEnds-from_delivery : (e : declared.Ending) → Delivers options.report product mid after e → CommandEnds words before after e
-  CommandEnds-from_delivery ending.Done d = runs_of ending.Done (record { output = output_of d.output; put = put_of d.put })
-  CommandEnds-from_delivery ending.BadCommand d = absurd d
-  CommandEnds-from_delivery (ending.CannotRead path) d = absurd d
-  CommandEnds-from_delivery ending.CannotWrite (inl d) = runs_of ending.CannotWrite (inl (record {
-    output = output_of d.output;
-    put = FailsToPut-later options.report files loaded after.files contents failed_paths later d.put;
-  }))
-  CommandEnds-from_delivery ending.CannotWrite (inr d) = runs_of ending.CannotWrite (inr (record { some = d.some; failed = d.failed; err = d.err; unchanged = unchanged_of d.unchanged }))
-  CommandEnds-from_delivery ending.CannotPut d = runs_of ending.CannotPut (record { some = d.some; out = d.out; failed = d.failed; unchanged = unchanged_of d.unchanged })
-  CommandEnds-from_delivery ending.OutOfMemory d = inr (runs_of ending.OutOfMemory (record {
-    out_count = d.out_count;
-    err_count = d.err_count;
-    out = d.out;
-    err = d.err;
-    contents = d.contents ∙ contents;
-  }))
-  CommandEnds-from_delivery ending.NotBuilt d = absurd d
+  StoresEnd-stopped store.Memory ends = record { count = i; contents = ends.contents ∙ done_first }

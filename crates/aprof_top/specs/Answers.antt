@@ -2,28 +2,34 @@
 use Rattle.std.specs.Prelude.{◌≡◌, ◌≢◌, ◌⊎◌, ◌<◌, ◌≤◌, ℕ, List, [], ◌++◌, length, take, slice_get, Option, Some, None}
 use Rattle.std.specs.List.{AllByRecursion}
 use Rattle.std.specs.Io.KnownBytes.{append_known}
+use Rattle.command_line.specs.Options.{AsksFor, RunOptions}
 use Rattle.host_io.specs.Faults.{Rose}
 use Rattle.host_io.specs.Files.{FilesState, FailsAt, with_file}
 use Rattle.host_io.specs.Sink.{SinkState}
-use Rattle.aprof_top.specs.Command.{RunOptions, options_of, loaded_paths}
-use Rattle.aprof_top.specs.Image.{file_limit}
-use Rattle.aprof_top.specs.Outcome.{Outcome, nothing, outcome_of}
+use Rattle.aprof_top.specs.Limits.{file_limit}
+use Rattle.aprof_top.specs.Loads.{loaded_paths}
+use Rattle.aprof_top.specs.Outcome.{IsOutcome, IsUndecided, Outcome}
 use Rattle.aprof_top.specs.Outside.{Outside, AreHeld, Ends, with_stores}
 use Rattle.aprof_top.specs.Texts.{cannot_read_text, cannot_write_text, out_of_memory_text}
+use Rattle.aprof_top.specs.Verdicts.{verdict_status, verdict_text}
 
--- the paths that words load, in order
-abbrev pub asked_paths : Option RunOptions → List (List ℕ)
-asked_paths None = []
-asked_paths (Some options) = loaded_paths options
+-- the paths that are loaded, in order
+abbrev pub paths_of : Option RunOptions → List (List ℕ)
+paths_of None = []
+paths_of (Some options) = loaded_paths options
 
-abbrev pub paths_of : List (List ℕ) → List (List ℕ)
-paths_of words = asked_paths (options_of words)
-
--- These are the bytes of the first files that the words load, as far as the contents are told. One of them is longer
--- than the limit only where a load met its limit in this call.
-pub record AreLoaded (words files : List (List ℕ)) (before after : Outside) : Type 0 where
-  pub held : AreHeld before.files.contents (paths_of words) files
+-- What a call finds: what its words ask for, and the bytes of the first files that this loads, as far as the contents are
+-- told. One of them is longer than the limit only where a load met its limit in this call.
+pub record Found (words : List (List ℕ)) (before after : Outside) : Type 0 where
+  pub asked : Option RunOptions
+  pub asks : AsksFor words asked
+  pub files : List (List ℕ)
+  pub held : AreHeld before.files.contents (paths_of asked) files
   pub limit : AllByRecursion (λ file. length file ≤ file_limit) files ⊎ Rose before.files.oversized after.files.oversized
+
+-- the outcome is the written product's over what is found
+abbrev pub Decides : {words : List (List ℕ)} {before after : Outside} → Found words before after → Outcome → Type 0
+Decides found outcome = IsOutcome found.asked found.files outcome
 
 -- A status of the written product: it is neither that of a failed load, put or store nor that of want of memory.
 pub record IsWritten (status : ℕ) : Type 0 where
@@ -33,26 +39,22 @@ pub record IsWritten (status : ℕ) : Type 0 where
 
 -- The call answered as the written product does: it put and stored all of it.
 pub record Answers (words : List (List ℕ)) (before after : Outside) (status : ℕ) : Type 0 where
-  -- the bytes of the files that it loaded
-  pub files : List (List ℕ)
-  pub loaded : AreLoaded words files before after
+  pub found : Found words before after
   pub outcome : Outcome
-  pub written : outcome_of words files ≡ Some outcome
-  pub same_status : status ≡ outcome.status
+  pub written : Decides found outcome
+  pub same_status : status ≡ verdict_status outcome.verdict
   pub out : after.out.bytes ≡ append_known before.out.bytes outcome.out
-  pub err : Ends outcome.err outcome.last_text before.err after.err
+  pub err : Ends outcome.err (verdict_text outcome.verdict) before.err after.err
   pub stored : after.files.contents ≡ with_stores outcome.stores before.files.contents
   pub failed_paths : after.files.failed_paths ≡ before.files.failed_paths
 
 -- A load failed: that of the next path, where the files before it did not decide the answer. Nothing was put or
 -- stored but the last text, which names the path.
 pub record CannotRead (words : List (List ℕ)) (before after : Outside) : Type 0 where
-  -- the bytes of the files that were loaded before
-  pub files : List (List ℕ)
-  pub loaded : AreLoaded words files before after
-  pub undecided : outcome_of words files ≡ None
+  pub found : Found words before after
+  pub undecided : IsUndecided found.asked found.files
   pub path : List ℕ
-  pub next : slice_get (paths_of words) (length files) ≡ Some path
+  pub next : slice_get (paths_of found.asked) (length found.files) ≡ Some path
   pub failed : FailsAt path before.files after.files
   pub out : after.out.bytes ≡ before.out.bytes
   pub err : Ends [] (cannot_read_text path) before.err after.err
@@ -96,24 +98,24 @@ pub record PutFails (outcome : Outcome) (before after : Outside) : Type 0 where
 
 -- A store failed, after all output came; or a put of the output did. What came before is a first part of the outcome.
 pub record CannotWrite (words : List (List ℕ)) (before after : Outside) : Type 0 where
-  pub files : List (List ℕ)
-  pub loaded : AreLoaded words files before after
+  pub found : Found words before after
   pub outcome : Outcome
-  pub written : outcome_of words files ≡ Some outcome
+  pub written : Decides found outcome
   -- it is that of a run, which stores its report
   pub ran : 0 < length outcome.stores
   pub first : DoesFirst outcome cannot_write_text before after
   pub cause : (StoreFails outcome.stores first.count before.files after.files × (take first.out_count outcome.out ≡ outcome.out) × (take first.err_count outcome.err ≡ outcome.err)) ⊎ PutFails outcome before after
   pub whole_text : (take first.text_count cannot_write_text ≡ cannot_write_text) ⊎ Rose before.err.faults after.err.faults
 
--- The outcome is that of the words, over the files that were loaded; or it has nothing, as before they are loaded.
-pub record IsReached (words : List (List ℕ)) (outcome : Outcome) (before after : Outside) : Type 0 where
-  pub files : List (List ℕ)
-  pub loaded : AreLoaded words files before after
-  pub reached : (outcome_of words files ≡ Some outcome) ⊎ (outcome ≡ nothing)
+-- nothing is put or stored
+pub record IsNothing (outcome : Outcome) : Type 0 where
+  pub out : outcome.out ≡ []
+  pub err : outcome.err ≡ []
+  pub stores : outcome.stores ≡ []
 
--- Want of memory: what came before is a first part of an outcome.
+-- Want of memory: what came before is a first part of the outcome; or nothing came, as before all is loaded.
 pub record OutOfMemory (words : List (List ℕ)) (before after : Outside) : Type 0 where
+  pub found : Found words before after
   pub outcome : Outcome
-  pub reached : IsReached words outcome before after
+  pub reached : Decides found outcome ⊎ IsNothing outcome
   pub first : DoesFirst outcome out_of_memory_text before after

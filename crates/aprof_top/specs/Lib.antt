@@ -1,10 +1,14 @@
 pub mod Answers
-pub mod Command
+pub mod Delivery
 pub mod Ending
-pub mod Image
+pub mod Limits
+pub mod Loading
+pub mod Loads
 pub mod Outcome
 pub mod Outside
-pub mod Product
+pub mod Products
 pub mod Report
 pub mod Run
+pub mod Schedules
 pub mod Texts
+pub mod Verdicts

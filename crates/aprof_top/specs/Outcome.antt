@@ -1,82 +1,105 @@
--- What the written product answers: a function of the words and of the files that it loads.
-use Rattle.std.specs.Prelude.{ℕ, Bool, ◌&&◌, nat_le, List, [], ◌∷◌, length, Option, Some, None, is_none, if◌then◌else◌}
-use Rattle.guest_words.specs.declared.endings.Finish.{Finish}
-use Rattle.guest_words.specs.declared.endings.Finish.TheVariants.{Exit}
-use Rattle.aprof_top.specs.Command.{RunOptions, options_of}
+-- What the written product answers to a command, over the files that it loads.
+use Rattle.std.specs.Prelude.{◌≡◌, ℕ, nat_lt, List, [], ◌∷◌, ◌++◌, length, Option, Some, None, if◌then◌else◌}
+use Rattle.command_line.specs.Options.{RunOptions, arguments}
+use Rattle.elf_image.specs.declared.error.ElfError.{ElfError}
+use Rattle.elf_image.specs.Image.{Executable}
 use Rattle.elf_image.specs.Reading.{image_of}
 use Rattle.elf_image.specs.Tests.{first_refusal}
+use Rattle.guest_machine.specs.declared.setup.SetupError.{SetupError}
 use Rattle.guest_machine.specs.Setup.{setup_refusal}
 use Rattle.guest_run.specs.Shown.{Shown}
-use Rattle.aprof_top.specs.Image.{file_limit}
-use Rattle.aprof_top.specs.Run.{run_of}
 use Rattle.profile_report.specs.ReportText.{report_text}
+use Rattle.thread_sched.specs.declared.entry.Entry.{Entry}
+use Rattle.thread_sched.specs.ScheduleText as recordings
+use Rattle.aprof_top.specs.declared.ending.Verdict.{Verdict}
+use Rattle.aprof_top.specs.declared.ending.Verdict.TheVariants.{BadCommand, BadImage, BadSchedule, TooLarge, Ran}
+use Rattle.aprof_top.specs.Loads.{Loaded, loaded_of, loaded_paths, passes_limit, shared_count}
 use Rattle.aprof_top.specs.Report.{report_of}
-use Rattle.aprof_top.specs.Texts.{bad_command_text, not_built_text}
+use Rattle.aprof_top.specs.Run.{run_of}
+use Rattle.aprof_top.specs.Schedules.{Reading, Reads}
+use Rattle.aprof_top.specs.Schedules.Reading.{Turns, BadLine}
 
 -- What the written product answers.
 pub record Outcome : Type 0 where
-  pub status : ℕ
+  -- it has the status and the last text
+  pub verdict : Verdict
   -- the guest's output on its descriptors 1 and 2
   pub out : List ℕ
   pub err : List ℕ
   -- the files that are stored, in order: the path and the bytes of each
   pub stores : List (List ℕ × List ℕ)
-  -- what goes to `err` at the end
-  pub last_text : List ℕ
 
 -- nothing is put or stored but the last text
-abbrev pub refusal : ℕ → List ℕ → Outcome
-refusal status text = record { status = status; out = []; err = []; stores = []; last_text = text }
+abbrev pub refusal : Verdict → Outcome
+refusal verdict = record { verdict = verdict; out = []; err = []; stores = [] }
 
--- nothing at all
-abbrev pub nothing : Outcome
-nothing = refusal 10 []
+-- ---- the run
+-- the recording, where a path is given for it
+abbrev pub recording_stores : Option (List ℕ) → List Entry → List (List ℕ × List ℕ)
+recording_stores None turns = []
+recording_stores (Some path) turns = (path, recordings.schedule_text turns) ∷ []
 
--- The file is not too long, and an executable that can begin, with the path as its one argument.
-abbrev pub is_built : List ℕ → List ℕ → Bool
-is_built name file = nat_le (length file) file_limit && is_none (first_refusal file) && is_none (setup_refusal (image_of file) (name ∷ []))
-
--- What a run leaves: its output, and its report.
-pub record Product : Type 0 where
-  pub out : List ℕ
-  pub err : List ℕ
-  pub report : List ℕ
-
--- what a run leaves by how it ended: one that exited has a report, and no other is built
-abbrev pub product_by : Finish → Shown → Option Product
-product_by (Exit status) run = Some (record { out = run.out; err = run.err; report = report_text (report_of (Exit status) run.past) })
-product_by _ run = None
-
--- the product of an executable by its run
-abbrev pub run_product : Shown → Option Product
-run_product run = product_by run.finish run
-
--- the product of an image, where it is built and its run ends by exit
-abbrev pub guest_product : List ℕ → List ℕ → Option Product
-guest_product name file = if is_built name file then run_product (run_of name (image_of file)) else None
-
--- what `run` answers, by the guest's product
-abbrev pub run_outcome : RunOptions → Option Product → Outcome
-run_outcome options (Some product) = record {
-  status = 0;
-  out = product.out;
-  err = product.err;
-  stores = (options.report, product.report) ∷ [];
-  last_text = [];
+-- what a run leaves: its output, its recording where it is asked for, and then its report
+abbrev pub run_outcome : RunOptions → Executable → Shown → Outcome
+run_outcome options image run = record {
+  verdict = Ran run.finish;
+  out = run.out;
+  err = run.err;
+  stores = recording_stores options.recording run.turns ++ (options.report, report_text (report_of image run.finish run.past)) ∷ [];
 }
-run_outcome options None = refusal 12 not_built_text
 
--- what is answered to options, over the bytes of the files that were loaded for them, from the first on; `None` where
--- these files don't decide it yet
-abbrev pub options_outcome : RunOptions → List (List ℕ) → Option Outcome
-options_outcome options [] = None
-options_outcome options (file ∷ files) = Some (run_outcome options (guest_product options.image file))
+-- a guest that can begin is run
+abbrev pub begun_outcome : RunOptions → Loaded → List Entry → Option SetupError → Outcome
+begun_outcome options loaded turns (Some why) = refusal TooLarge
+begun_outcome options loaded turns None = run_outcome options (image_of loaded.image) (run_of options loaded turns)
 
--- what is answered where the words ask for this, or are refused
-abbrev pub asked_outcome : Option RunOptions → List (List ℕ) → Option Outcome
-asked_outcome None files = Some (refusal 1 bad_command_text)
-asked_outcome (Some options) files = options_outcome options files
+-- under the schedule that was read
+abbrev pub scheduled_outcome : RunOptions → Loaded → Reading → Outcome
+scheduled_outcome options loaded (BadLine line) = refusal (BadSchedule line)
+scheduled_outcome options loaded (Turns turns) = begun_outcome options loaded turns (setup_refusal (image_of loaded.image) (arguments options))
 
--- What is answered to the words of a command line, over the bytes of the files that were loaded for them.
-abbrev pub outcome_of : List (List ℕ) → List (List ℕ) → Option Outcome
-outcome_of words files = asked_outcome (options_of words) files
+-- The schedule reads so, and the outcome is that of the guest's run under it, or of its refusal.
+pub record IsScheduled (options : RunOptions) (loaded : Loaded) (outcome : Outcome) : Type 0 where
+  pub reading : Reading
+  pub read : Reads loaded.schedule reading
+  pub answered : outcome ≡ scheduled_outcome options loaded reading
+
+-- an image is refused by the first test that it fails
+abbrev pub ByImage : RunOptions → Loaded → Outcome → Option ElfError → Type 0
+ByImage options loaded outcome (Some e) = outcome ≡ refusal (BadImage e)
+ByImage options loaded outcome None = IsScheduled options loaded outcome
+
+-- the outcome of a run of these files
+abbrev pub IsRun : RunOptions → Loaded → Outcome → Type 0
+IsRun options loaded outcome = ByImage options loaded outcome (first_refusal loaded.image)
+
+-- ---- the loads
+-- Where the loads of a command stand: a limit is passed, or more files are to be loaded, or all are there.
+pub data Stage : Type 0 where
+  PastLimit : Stage
+  Loading : Stage
+  Complete : Stage
+
+-- by the bytes of the files that were loaded, from the first on
+abbrev pub stage : RunOptions → List (List ℕ) → Stage
+stage options files =
+    if passes_limit (shared_count options) files then PastLimit
+    else if nat_lt (length files) (length (loaded_paths options)) then Loading
+    else Complete
+
+-- the outcome of options, by where the loads stand
+abbrev pub Follows : RunOptions → List (List ℕ) → Outcome → Stage → Type 0
+Follows options files outcome PastLimit = outcome ≡ refusal TooLarge
+Follows options files outcome Loading = ⊥
+Follows options files outcome Complete = IsRun options (loaded_of options files) outcome
+
+-- ---- the whole
+-- The outcome of what the words ask for, or of their refusal, over the bytes of the files that were loaded.
+abbrev pub IsOutcome : Option RunOptions → List (List ℕ) → Outcome → Type 0
+IsOutcome None files outcome = outcome ≡ refusal BadCommand
+IsOutcome (Some options) files outcome = Follows options files outcome (stage options files)
+
+-- these files decide nothing yet
+abbrev pub IsUndecided : Option RunOptions → List (List ℕ) → Type 0
+IsUndecided None files = ⊥
+IsUndecided (Some options) files = stage options files ≡ Loading

@@ -1,22 +1,23 @@
--- The report of a run, by its past, the list of its events with the newest first: how it ended, its instructions, the activations that are still open, and the points of
--- those that ended.
-use Rattle.std.specs.Prelude.{List, map, None}
+-- The report of a run, by its past, the list of its events with the newest first: how it ended, its instructions, the
+-- activations that are still open, and the points of those that ended, by routines with their names.
+use Rattle.std.specs.Prelude.{List, map}
 use Rattle.guest_words.specs.declared.endings.Finish.{Finish}
+use Rattle.elf_image.specs.Image.{Executable, name_of}
 use Rattle.trace_model.specs.declared.event_kinds.Event.{Event}
 use Rattle.trace_model.specs.Depth.{pending}
 use Rattle.trace_model.specs.Profile.{done, steps}
 use Rattle.cost_points.specs.Points.{Routine, points}
 use Rattle.profile_report.specs.Reported.{Reported, ReportedRoutine}
 
--- a routine that has no name
-abbrev pub unnamed : Routine → ReportedRoutine
-unnamed routine = record { entry = routine.entry; name = None; points = routine.points }
+-- a routine with the name that the executable gives its entry
+abbrev pub named : Executable → Routine → ReportedRoutine
+named image routine = record { entry = routine.entry; name = name_of image routine.entry; points = routine.points }
 
 -- the report of a run that ended so, by its past
-abbrev pub report_of : Finish → List Event → Reported
-report_of finish past = record {
+abbrev pub report_of : Executable → Finish → List Event → Reported
+report_of image finish past = record {
   finish = finish;
   steps = steps past;
   pending = pending past;
-  routines = map unnamed (points (done past));
+  routines = map (named image) (points (done past));
 }

@@ -1,12 +1,14 @@
-//! Handing out what a run leaves: its output to the sinks, its report to the files.
-ghost use Rattle.std.specs.Prelude.{◌≡◌, ◌<◌, ◌≤◌, length, IsErrOf};
+//! Handing out what a run leaves: its output to the sinks, its recording and its report to the files.
+ghost use Rattle.std.specs.Prelude.{◌≡◌, ◌<◌, ◌≤◌, length, map, IsErrOf};
+ghost use Rattle.host_io.specs.Files.{NoCountFalls};
 ghost use Rattle.host_io.specs.Sink.{PutEnds};
-ghost use Rattle.aprof_top.specs.Ending.{CountsStay, Delivers};
+ghost use Rattle.aprof_top.specs.Delivery.{Delivers, StoresEnd};
+ghost use Rattle.aprof_top.specs.Ending.{CountsStay};
 ghost use Rattle.aprof_top.specs.Outside.{outside};
-ghost use Rattle.aprof_top.specs.Product.{product_of};
+ghost use Rattle.aprof_top.specs.Products.{outcome_of, store_of};
 
-use crate::ending::Ending;
-use crate::product::Product;
+use crate::ending::{Ending, Verdict};
+use crate::product::{Product, Store};
 use host_io::{Files, PutError, Sink, StoreError};
 
 /// Puts bytes, where there are any.
@@ -21,10 +23,22 @@ pub(crate) fn put_all<S: Sink>(bytes: &[u8], sink: &mut S) -> Result<(), PutErro
     sink.put(bytes)
 }
 
-/// Puts the output of a run, and then stores its report.
+// Stores files, in order.
+fn store_all<F: Files>(stores: &[Store<'_>], files: &mut F) -> Result<(), StoreError>
+    ensures counts { NoCountFalls (F.state files.old) (F.state files.new) }
+    ensures ends { StoresEnd (map store_of stores.now) (F.state files.old) (F.state files.new) result }
+{
+    for store in stores {
+        if let Err(error) = files.store(store.path, store.bytes.as_slice()) {
+            return Err(error);
+        }
+    }
+    Ok(())
+}
+
+/// Puts the output of a run, and then stores its files.
 pub(crate) fn deliver<F: Files, O: Sink, E: Sink>(
-    path: &str,
-    product: &Product,
+    product: &Product<'_>,
     files: &mut F,
     out: &mut O,
     err: &mut E,
@@ -32,7 +46,7 @@ pub(crate) fn deliver<F: Files, O: Sink, E: Sink>(
     ensures counts { CountsStay
         (outside (F.state files.old) (O.state out.old) (E.state err.old))
         (outside (F.state files.new) (O.state out.new) (E.state err.new)) }
-    ensures ends { Delivers path.now (product_of product.now)
+    ensures ends { Delivers (outcome_of product.now)
         (outside (F.state files.old) (O.state out.old) (E.state err.old))
         (outside (F.state files.new) (O.state out.new) (E.state err.new)) result }
 {
@@ -46,8 +60,8 @@ pub(crate) fn deliver<F: Files, O: Sink, E: Sink>(
         Err(PutError::Failed) => return Ending::CannotPut,
         Err(PutError::Memory) => return Ending::OutOfMemory,
     }
-    match files.store(path, product.report.as_slice()) {
-        Ok(()) => Ending::Done,
+    match store_all(product.stores.as_slice(), files) {
+        Ok(()) => Ending::Decided(Verdict::Ran(product.finish)),
         Err(StoreError::Failed) => Ending::CannotWrite,
         Err(StoreError::Memory) => Ending::OutOfMemory,
     }

@@ -1,56 +1,114 @@
 //! How a command ends: its status and its last text.
-ghost use Rattle.std.specs.Prelude.{◌≡◌, ◌≤◌, [], OnOk, OnErr};
+ghost use Rattle.std.specs.Prelude.{◌≡◌, ◌≤◌, [], IfOk, OnOk, OnErr};
 ghost use Rattle.aprof_top.specs.Ending.{Told, last_text_of, status_of};
 ghost use Rattle.aprof_top.specs.Outside.{Ends};
+ghost use Rattle.aprof_top.specs.Verdicts.{finish_status, verdict_status};
 
 use crate::delivery::put_all;
+use crate::texts::{cannot_read_text, verdict_text};
+use elf_image::ElfError;
+use guest_words::Finish;
 use host_io::{PutError, Sink};
-use std::alloc::{AllocError, Global};
+use std::alloc::{AllocError, AllocFailed, Global};
+
+/// What the program answers by the words, the files and the run of the guest.
+#[derive(Clone, Copy)]
+pub(crate) enum Verdict {
+    BadCommand,
+    BadImage(ElfError),
+    BadSchedule(u64),
+    TooLarge,
+    Ran(Finish),
+}
 
 /// How a command ended.
 #[derive(Clone, Copy)]
 pub(crate) enum Ending<'a> {
-    Done,
-    BadCommand,
+    Decided(Verdict),
     CannotRead(&'a str),
     CannotWrite,
     // A put on `err` failed, so nothing more is put there.
     CannotPut,
     OutOfMemory,
-    NotBuilt,
+}
+
+impl<'a> From<AllocError> for Ending<'a> {
+    ghost use Rattle.std.specs.Prelude.{◌≡◌};
+    ghost use Rattle.aprof_top.specs.declared.ending.Ending.TheVariants.{OutOfMemory};
+
+    ghost from_gives = { λ _ e. e ≡ OutOfMemory };
+
+    fn from(_error: AllocError) -> Ending<'a> {
+        Ending::OutOfMemory
+    }
+}
+
+impl<'a, T: Drop> From<AllocFailed<T>> for Ending<'a> {
+    ghost use Rattle.std.specs.Prelude.{◌≡◌};
+    ghost use Rattle.aprof_top.specs.declared.ending.Ending.TheVariants.{OutOfMemory};
+
+    ghost from_gives = { λ _ e. e ≡ OutOfMemory };
+
+    fn from(_error: AllocFailed<T>) -> Ending<'a> {
+        Ending::OutOfMemory
+    }
+}
+
+// The status of a run that ended so.
+fn finish_status(finish: Finish) -> u8
+    ensures { result ≡ finish_status finish }
+{
+    match finish {
+        Finish::Exit { .. } => 0,
+        Finish::Fault { .. } => 5,
+        Finish::Budget => 6,
+        Finish::Deadlock => 7,
+        Finish::Deep => 8,
+        Finish::Schedule { .. } => 9,
+    }
+}
+
+fn verdict_status(verdict: Verdict) -> u8
+    ensures { result ≡ verdict_status verdict }
+{
+    match verdict {
+        Verdict::BadCommand => 1,
+        Verdict::BadImage(_) => 3,
+        Verdict::BadSchedule(_) => 9,
+        Verdict::TooLarge => 11,
+        Verdict::Ran(finish) => finish_status(finish),
+    }
+}
+
+// The status of an ending.
+fn status(ending: &Ending<'_>) -> u8
+    ensures { result ≡ status_of ending.now }
+{
+    match ending {
+        Ending::Decided(verdict) => verdict_status(*verdict),
+        Ending::CannotRead(_) => 2,
+        Ending::CannotWrite | Ending::CannotPut => 4,
+        Ending::OutOfMemory => 10,
+    }
 }
 
 // Puts a text, where it is not empty. An `Err` has put nothing.
-fn put_text<E: Sink>(text: &str, err: &mut E) -> Result<(), AllocError>
+fn put_text<E: Sink>(text: &[u8], err: &mut E) -> Result<(), AllocError>
     ensures ok { OnOk result (Ends [] text.now (E.state err.old) (E.state err.new)) }
     ensures err { OnErr result ((E.state err.new).bytes ≡ (E.state err.old).bytes) }
     ensures counts { (E.state err.old).faults ≤ (E.state err.new).faults }
 {
-    match put_all(text.as_bytes(), err) {
+    match put_all(text, err) {
         Ok(()) => Ok(()),
         Err(PutError::Failed) => Ok(()),
         Err(PutError::Memory) => Err(AllocError),
     }
 }
 
-// The status of an ending.
-fn status(ending: Ending<'_>) -> u8
-    ensures { result ≡ status_of ending.entry }
-{
-    match ending {
-        Ending::Done => 0,
-        Ending::BadCommand => 1,
-        Ending::CannotRead(_) => 2,
-        Ending::CannotWrite | Ending::CannotPut => 4,
-        Ending::OutOfMemory => 10,
-        Ending::NotBuilt => 12,
-    }
-}
-
 // Puts the last text of an ending, and answers its status.
-fn tell_by<E: Sink>(ending: Ending<'_>, text: &str, err: &mut E) -> u8
-    requires { text.now ≡ last_text_of ending }
-    ensures told { Told ending.entry (E.state err.old) (E.state err.new) result }
+fn tell_by<E: Sink>(ending: &Ending<'_>, text: &[u8], err: &mut E) -> u8
+    requires { text.now ≡ last_text_of ending.now }
+    ensures told { Told ending.now (E.state err.old) (E.state err.new) result }
     ensures counts { (E.state err.old).faults ≤ (E.state err.new).faults }
 {
     match put_text(text, err) {
@@ -59,20 +117,28 @@ fn tell_by<E: Sink>(ending: Ending<'_>, text: &str, err: &mut E) -> u8
     }
 }
 
+// Puts the last text of an ending, where there was memory for it.
+fn tell_made<E: Sink>(ending: &Ending<'_>, text: Result<Vec<u8>, AllocError>, err: &mut E) -> u8
+    requires { IfOk text (λ text. text.items ≡ last_text_of ending.now) }
+    ensures told { Told ending.now (E.state err.old) (E.state err.new) result }
+    ensures counts { (E.state err.old).faults ≤ (E.state err.new).faults }
+{
+    match text {
+        Ok(text) => tell_by(ending, text.as_slice(), err),
+        Err(_) => tell_by(&Ending::OutOfMemory, b"aprof: out of memory\n", err),
+    }
+}
+
 /// Puts the last text of an ending, and answers its status.
-pub(crate) fn tell<E: Sink>(alloc: Global, ending: Ending<'_>, err: &mut E) -> u8
-    ensures told { Told ending.entry (E.state err.old) (E.state err.new) result }
+pub(crate) fn tell<E: Sink>(alloc: Global, ending: &Ending<'_>, err: &mut E) -> u8
+    ensures told { Told ending.now (E.state err.old) (E.state err.new) result }
     ensures counts { (E.state err.old).faults ≤ (E.state err.new).faults }
 {
     match ending {
-        Ending::Done | Ending::CannotPut => tell_by(ending, "", err),
-        Ending::BadCommand => tell_by(ending, "aprof: bad command line\n", err),
-        Ending::CannotRead(path) => match format!(in alloc; "aprof: cannot read {path}\n") {
-            Ok(text) => tell_by(ending, text.as_str(), err),
-            Err(_) => tell_by(Ending::OutOfMemory, "aprof: out of memory\n", err),
-        },
-        Ending::CannotWrite => tell_by(ending, "aprof: cannot write\n", err),
-        Ending::OutOfMemory => tell_by(ending, "aprof: out of memory\n", err),
-        Ending::NotBuilt => tell_by(ending, "aprof: not built\n", err),
+        Ending::Decided(verdict) => tell_made(ending, verdict_text(alloc, *verdict), err),
+        Ending::CannotRead(path) => tell_made(ending, cannot_read_text(alloc, path), err),
+        Ending::CannotWrite => tell_by(ending, b"aprof: cannot write\n", err),
+        Ending::CannotPut => tell_by(ending, b"", err),
+        Ending::OutOfMemory => tell_by(ending, b"aprof: out of memory\n", err),
     }
 }

@@ -1,14 +1,18 @@
-//! The top call: it reads the words of a command line, runs the guest and stores the report of its run.
+//! The top call: it reads the words of a command line, loads its files, runs the guest and stores the report of its run.
 #![tactic(auto)]
 
-mod command;
 mod delivery;
 mod ending;
+mod loaded;
+mod loads;
 mod product;
 mod report;
+mod texts;
 mod top;
 
 pub use top::aprof;
 
 #[cfg(test)]
 mod tests;
+#[cfg(test)]
+mod worked;

@@ -1,100 +1,163 @@
-//! What the run of an image leaves.
-ghost use Rattle.std.specs.Prelude.{◌≡◌, ◌≢◌, ◌≤◌, [], ◌∷◌, length, reverse, Some, None, IfOk, IfErr, OnOk};
-ghost use Rattle.std.specs.Option.{option_map};
+//! What the run of a guest leaves.
+ghost use Rattle.std.specs.Prelude.{◌≡◌, ◌≢◌, ◌<◌, length, map, option_map, reverse, Some, None, IfOk, IfErr, OnOk};
+ghost use Rattle.command_line.specs.Options.{arguments};
+ghost use Rattle.command_line.specs.Read.{AreInRange, options_in};
 ghost use Rattle.trace_model.specs.Depth.{pending};
 ghost use Rattle.trace_model.specs.Profile.{steps};
+ghost use Rattle.trace_model.specs.WellFormed.{IsLight};
 ghost use Rattle.guest_machine.specs.Kept.{machine_of};
 ghost use Rattle.guest_machine.specs.Setup.{setup_refusal};
 ghost use Rattle.guest_machine.specs.Start.{start};
 ghost use Rattle.guest_machine.specs.declared.setup.SetupError.TheVariants.{Memory};
-ghost use Rattle.guest_run.specs.Laws.{scheduler};
-ghost use Rattle.guest_run.specs.Machine.{guest};
-ghost use Rattle.guest_run.specs.Profiled.{first_past, profiled};
-ghost use Rattle.guest_run.specs.Run.{run};
-ghost use Rattle.guest_run.specs.Shown.{IsShown, Shown, shown_of};
-ghost use Rattle.aprof_top.specs.Image.{file_limit};
-ghost use Rattle.aprof_top.specs.Outcome.{guest_product, run_product};
-ghost use Rattle.aprof_top.specs.Product.{product_of};
-ghost use Rattle.aprof_top.specs.Run.{budget, greatest_stamp, quantum};
+ghost use Rattle.guest_run.specs.Shown.{IsShown, Shown};
+ghost use Rattle.aprof_top.specs.Loads as loads;
+ghost use Rattle.aprof_top.specs.Outcome.{recording_stores, run_outcome};
+ghost use Rattle.aprof_top.specs.Products.{FilesRun, ImageRuns, Keeps, outcome_of, store_of};
+ghost use Rattle.aprof_top.specs.Run.{shown_from};
 
-use crate::report::exit_report;
+use crate::ending::{Ending, Verdict};
+use crate::loaded::Loaded;
+use crate::report::report_of;
+use command_line::RunCommand;
 use elf_image::{ElfError, Image, read_image};
 use guest_calls::Inputs;
 use guest_machine::{Machine, SetupError};
 use guest_run::{Run, run_guest};
 use guest_words::Finish;
 use std::alloc::{AllocError, Global};
-use thread_sched::{Sched, Schedule};
+use thread_sched::{Recording, Sched, Schedule, ScheduleError};
 
-/// How many steps a guest may run.
-const BUDGET: u64 = 1_000_000_000;
-
-/// How many steps a turn has at most.
-const QUANTUM: u64 = 10_000;
-
-/// What a run leaves: the guest's output on its descriptors 1 and 2, and the report.
+/// A file to store.
 #[derive(Drop)]
-pub(crate) struct Product {
+pub(crate) struct Store<'a> {
+    pub(crate) path: &'a str,
+    pub(crate) bytes: Vec<u8>,
+}
+
+/// What a run leaves: the guest's output on its descriptors 1 and 2, and the files to store, in order.
+#[derive(Drop)]
+pub(crate) struct Product<'a> {
+    pub(crate) finish: Finish,
     pub(crate) out: Vec<u8>,
     pub(crate) err: Vec<u8>,
-    pub(crate) report: Vec<u8>,
+    pub(crate) stores: Vec<Store<'a>>,
 }
 
-// The machine of an image, with the path as its one argument.
-fn first_machine(alloc: Global, name: &str, image: &Image) -> Result<Machine, SetupError>
-    ensures refused { IfErr result (λ e. e ≢ Memory → setup_refusal image.now (name.now ∷ []) ≡ Some e) }
-    ensures accepted { OnOk result (setup_refusal image.now (name.now ∷ []) ≡ None) }
-    ensures start { IfOk result (λ machine. machine_of machine ≡ start image.now (name.now ∷ []) [] []) }
+// The machine of an image, with the command's arguments.
+fn first_machine(
+    alloc: Global,
+    command: &RunCommand<'_>,
+    image: &Image,
+    inputs: Inputs,
+    stdin: Vec<u8>,
+) -> Result<Machine, SetupError>
+    ensures refused { IfErr result (λ e. e ≢ Memory → setup_refusal image.now (arguments (options_in command.now)) ≡ Some e) }
+    ensures accepted { OnOk result (setup_refusal image.now (arguments (options_in command.now)) ≡ None) }
+    ensures start { IfOk result (λ machine. machine_of machine ≡ start image.now (arguments (options_in command.now)) inputs stdin.items) }
     ensures entry { IfOk result (λ machine. machine.entry ≡ image.now.entry) }
 {
-    let words = [String::from_str(alloc, name)?];
-    Machine::new(alloc, image, &words, Inputs::new(alloc)?, Vec::new(alloc))
+    let words = command.arguments(alloc)?;
+    Machine::new(alloc, image, words.as_slice(), inputs, stdin)
 }
 
-// The run of a machine from its start.
-fn run_machine(alloc: Global, machine: Machine) -> Result<Run, AllocError>
-    ensures { IfOk result (IsShown (shown_of (profiled greatest_stamp (first_past machine.entry) (run guest (scheduler quantum []) budget (machine_of machine))))) }
+// The run of an executable, which begins with these input files and this standard input.
+fn run_image(
+    alloc: Global,
+    command: &RunCommand<'_>,
+    image: &Image,
+    schedule: Schedule,
+    inputs: Inputs,
+    stdin: Vec<u8>,
+) -> Result<Run, Ending<'static>>
+    requires { AreInRange command.now.quantum command.now.budget }
+    ensures { ImageRuns (options_in command.now) image.now schedule inputs stdin.items result }
 {
-    let turns = Sched::new(QUANTUM, Schedule::empty(alloc)?);
-    run_guest(alloc, machine, turns, BUDGET, u32::MAX)
+    let machine = match first_machine(alloc, command, image, inputs, stdin) {
+        Ok(machine) => machine,
+        Err(SetupError::Memory) => return Err(Ending::OutOfMemory),
+        Err(_) => return Err(Ending::Decided(Verdict::TooLarge)),
+    };
+    let turns = Sched::new(command.quantum, schedule);
+    Ok(run_guest(alloc, machine, turns, command.budget, u32::MAX)?)
 }
 
-// What a run leaves, which has a report where it ended by exit.
-fn run_product(alloc: Global, run: Run) -> Result<Option<Product>, AllocError>
+// The recording to store, where the command has a path for it.
+fn recording_stores<'a>(
+    alloc: Global,
+    path: Option<&'a str>,
+    recording: &Recording,
+) -> Result<Vec<Store<'a>>, AllocError>
+    ensures { IfOk result (λ stores. map store_of stores.items ≡ recording_stores (option_map (λ p. p.now) path.entry) recording.now) }
+{
+    let mut stores = Vec::new(alloc);
+    if let Some(path) = path {
+        let bytes = recording.text(alloc)?;
+        stores.push(Store { path, bytes })?;
+    }
+    Ok(stores)
+}
+
+// What a run leaves.
+fn product_of<'a>(
+    alloc: Global,
+    command: &RunCommand<'a>,
+    image: &Image,
+    run: Run,
+) -> Result<Product<'a>, AllocError>
+    requires light { IsLight (reverse run.events.list) }
     requires steps { run.steps ≡ steps (reverse run.events.list) }
     requires pending { run.pending ≡ pending (reverse run.events.list) }
-    ensures { IfOk result (λ product. (shown : Shown) → IsShown shown run → option_map product_of product ≡ run_product shown) }
+    ensures outcome { IfOk result (λ product. (shown : Shown) → IsShown shown run → outcome_of product ≡ run_outcome (options_in command.now) image.now shown) }
+    ensures stores { IfOk result (λ product. 0 < length product.stores.items) }
 {
-    let Finish::Exit { status } = run.finish else {
-        return Ok(None);
-    };
-    let report = exit_report(alloc, status, run.steps, run.pending, run.events.list())?;
-    Ok(Some(Product {
+    let mut stores = recording_stores(alloc, command.recording, &run.recording)?;
+    let bytes = report_of(alloc, image, &run)?;
+    stores.push(Store {
+        path: command.report,
+        bytes,
+    })?;
+    Ok(Product {
+        finish: run.finish,
         out: run.out,
         err: run.err,
-        report,
-    }))
+        stores,
+    })
 }
 
-/// Runs an image; None where it, or a step of its run, is not built.
-pub(crate) fn guest_product(
+/// Runs the files of a command.
+pub(crate) fn run_files<'a>(
     alloc: Global,
-    name: &str,
-    file: &[u8],
-) -> Result<Option<Product>, AllocError>
-    requires { length file.now ≤ file_limit }
-    ensures { IfOk result (λ product. option_map product_of product ≡ guest_product name.now file.now) }
+    command: &RunCommand<'a>,
+    loaded: Loaded,
+) -> Result<Product<'a>, Ending<'a>>
+    requires { AreInRange command.now.quantum command.now.budget }
+    ensures { (files : loads.Loaded) → Keeps (options_in command.now) files loaded → FilesRun (options_in command.now) files result }
 {
-    let image = match read_image(alloc, file) {
+    let image = match read_image(alloc, loaded.image.as_slice()) {
         Ok(image) => image,
-        Err(ElfError::Memory) => return Err(AllocError),
-        Err(_) => return Ok(None),
+        Err(ElfError::Memory) => return Err(Ending::OutOfMemory),
+        Err(error) => return Err(Ending::Decided(Verdict::BadImage(error))),
     };
-    let machine = match first_machine(alloc, name, &image) {
-        Ok(machine) => machine,
-        Err(SetupError::Memory) => return Err(AllocError),
-        Err(_) => return Ok(None),
+    let schedule = match Schedule::read(alloc, loaded.schedule.as_slice()) {
+        Ok(schedule) => schedule,
+        Err(ScheduleError::Memory) => return Err(Ending::OutOfMemory),
+        Err(ScheduleError::BadLine { line }) => {
+            return Err(Ending::Decided(Verdict::BadSchedule(line)));
+        }
     };
-    let run = run_machine(alloc, machine)?;
-    run_product(alloc, run)
+    let run = match run_image(
+        alloc,
+        command,
+        &image,
+        schedule,
+        loaded.inputs,
+        loaded.stdin,
+    ) {
+        Ok(run) => run,
+        Err(ending) => return Err(ending),
+    };
+    match product_of(alloc, command, &image, run) {
+        Ok(product) => Ok(product),
+        Err(_) => Err(Ending::OutOfMemory),
+    }
 }

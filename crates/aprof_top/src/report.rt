@@ -1,18 +1,20 @@
 //! The report of a run.
-ghost use Rattle.std.specs.Prelude.{◌≡◌, ◌<◌, ◌≤◌, ◌^◌, true, length, map, reverse, IfOk};
-ghost use Rattle.guest_words.specs.declared.endings.Finish.TheVariants.{Exit};
-ghost use Rattle.trace_model.specs.Depth as depth;
-ghost use Rattle.trace_model.specs.Profile as profile;
-ghost use Rattle.trace_model.specs.WellFormed.{weight, weight_of};
+ghost use Rattle.std.specs.Prelude.{◌≡◌, ◌<◌, ◌^◌, length, map, option_map, reverse, IfOk};
+ghost use Rattle.elf_image.specs.Image.{name_of};
+ghost use Rattle.trace_model.specs.Depth.{pending};
+ghost use Rattle.trace_model.specs.Profile.{steps};
+ghost use Rattle.trace_model.specs.WellFormed.{IsLight};
 ghost use Rattle.cost_points.specs.Tally.{tally_of};
 ghost use Rattle.profile_report.specs.ReportText.{report_text};
-ghost use Rattle.aprof_top.specs.Report.{report_of, unnamed};
+ghost use Rattle.aprof_top.specs.Report.{named, report_of};
 
 use cost_points::Table;
-use guest_words::Finish;
+use elf_image::Image;
+use guest_run::Run;
+use guest_words::{Addr, Name};
 use profile_report::{Report, Routine, write_report};
 use std::alloc::{AllocError, Global};
-use trace_model::{Done, Event, slow_done};
+use trace_model::{Done, slow_done};
 
 // The points of ended activations.
 fn table_of(alloc: Global, done: &[Done]) -> Result<Table, AllocError>
@@ -26,71 +28,48 @@ fn table_of(alloc: Global, done: &[Done]) -> Result<Table, AllocError>
     Ok(table)
 }
 
-// The routines of a table, none of which has a name.
-fn unnamed_routines(alloc: Global, table: &Table) -> Result<Vec<Routine>, AllocError>
-    ensures { IfOk result (λ routines. routines.items ≡ map unnamed table.now.routines) }
+// The name of the routine at an address, where it has one.
+fn name_at(alloc: Global, image: &Image, at: Addr) -> Result<Option<Name>, AllocError>
+    ensures { IfOk result (λ name. name ≡ name_of image.now at) }
+{
+    match image.name_of(at) {
+        Some(name) => Ok(Some(name.copy(alloc)?)),
+        None => Ok(None),
+    }
+}
+
+// The routines of a table, with their names.
+fn named_routines(alloc: Global, image: &Image, table: &Table) -> Result<Vec<Routine>, AllocError>
+    ensures { IfOk result (λ routines. routines.items ≡ map (named image.now) table.now.routines) }
 {
     let mut routines = Vec::new(alloc);
     for i in 0..table.routines() {
         let (entry, points) = table.routine(i);
+        let name = name_at(alloc, image, entry)?;
         let points = Vec::from_slice(alloc, points)?;
         routines.push(Routine {
             entry,
-            name: None,
+            name,
             points,
         })?;
     }
     Ok(routines)
 }
 
-// How much an event weighs: one, and one for each word that it reads.
-fn weight_of(event: Event) -> u64
-    ensures value { result ≡ weight_of event }
-    ensures bound { result ≤ 2 ^ 32 }
+/// The text of the report of a run of an executable.
+pub(crate) fn report_of(alloc: Global, image: &Image, run: &Run) -> Result<Vec<u8>, AllocError>
+    requires light { IsLight (reverse run.now.events.list) }
+    requires steps { run.now.steps ≡ steps (reverse run.now.events.list) }
+    requires pending { run.now.pending ≡ pending (reverse run.now.events.list) }
+    ensures { IfOk result (λ text. text.items ≡ report_text (report_of image.now run.now.finish (reverse run.now.events.list))) }
 {
-    match event {
-        Event::Read { count, .. } => 1 + u64::from(count),
-        _ => 1,
-    }
-}
-
-// Whether the events and the words that they read are few enough for 64-bit sizes.
-fn is_light(trace: &[Event]) -> bool
-    ensures { result ≡ true → weight (reverse trace.now) < 2 ^ 62 }
-{
-    let mut total = 0;
-    for event in trace {
-        total += weight_of(*event);
-        if total >= 1 << 62 {
-            return false;
-        }
-    }
-    true
-}
-
-/// The text of the report of a run that exited with this status, by its trace, and the numbers of its steps and of its open
-/// activations. A trace that is too heavy for 64-bit sizes is refused as want of memory.
-pub(crate) fn exit_report(
-    alloc: Global,
-    status: u8,
-    steps: u64,
-    pending: u64,
-    trace: &[Event],
-) -> Result<Vec<u8>, AllocError>
-    requires steps { steps ≡ profile.steps (reverse trace.now) }
-    requires pending { pending ≡ depth.pending (reverse trace.now) }
-    ensures { IfOk result (λ text. text.items ≡ report_text (report_of (Exit status) (reverse trace.now))) }
-{
-    if !is_light(trace) {
-        return Err(AllocError);
-    }
-    let done = slow_done(alloc, trace)?;
+    let done = slow_done(alloc, run.events.list())?;
     let table = table_of(alloc, done.as_slice())?;
     let report = Report {
-        finish: Finish::Exit { status },
-        steps,
-        pending,
-        routines: unnamed_routines(alloc, &table)?,
+        finish: run.finish,
+        steps: run.steps,
+        pending: run.pending,
+        routines: named_routines(alloc, image, &table)?,
     };
     write_report(alloc, &report)
 }

@@ -1,21 +1,77 @@
 //! The top call.
 ghost use Rattle.std.specs.Prelude.{◌≡◌, ◌⊎◌, map, string_bytes};
 ghost use Rattle.aprof_top.specs.Answers.{Answers, CannotRead, CannotWrite, IsWritten, OutOfMemory};
-ghost use Rattle.aprof_top.specs.Ending.{CommandEnds, CountsStay};
+ghost use Rattle.aprof_top.specs.Ending.{CommandEnds, CountsStay, OptionsEnd};
 ghost use Rattle.aprof_top.specs.Outside.{outside, NothingRose};
+ghost use Rattle.aprof_top.specs.Products.{CommandLoads};
+ghost use Rattle.host_io.specs.Files.{NoCountFalls};
+ghost use Rattle.command_line.specs.Read.{AreInRange, options_in};
 
-use crate::command::read_command;
 use crate::delivery::deliver;
-use crate::ending::{Ending, tell};
-use crate::product::guest_product;
-use host_io::{Files, LoadError, Sink};
+use crate::ending::{Ending, Verdict, tell};
+use crate::loaded::Loaded;
+use crate::loads::{load_files, loaded_paths, shared_count};
+use crate::product::run_files;
+use command_line::{CommandError, RunCommand, read_command};
+use host_io::{Files, Sink};
 use std::alloc::Global;
 
-/// The greatest length of a file that is loaded.
-const FILE_LIMIT: usize = 16_777_216;
+// Loads the files of a command.
+fn load_command<'a, F: Files>(
+    alloc: Global,
+    command: &RunCommand<'a>,
+    files: &mut F,
+) -> Result<Loaded, Ending<'a>>
+    ensures counts { NoCountFalls (F.state files.old) (F.state files.new) }
+    ensures ends { CommandLoads (options_in command.now) (F.state files.old) (F.state files.new) result }
+{
+    let names = match command.inputs(alloc) {
+        Ok(names) => names,
+        Err(_) => return Err(Ending::OutOfMemory),
+    };
+    let paths = match loaded_paths(alloc, command, names.as_slice()) {
+        Ok(paths) => paths,
+        Err(_) => return Err(Ending::OutOfMemory),
+    };
+    let shared = shared_count(command, names.as_slice());
+    let loaded = match load_files(alloc, paths.as_slice(), shared, files) {
+        Ok(loaded) => loaded,
+        Err(ending) => return Err(ending),
+    };
+    match Loaded::new(alloc, command, names.as_slice(), loaded) {
+        Ok(loaded) => Ok(loaded),
+        Err(_) => Err(Ending::OutOfMemory),
+    }
+}
 
-// Reads the words, loads the image, runs it, and hands out its output and its report.
+// Loads the files of a command, runs the image, and hands out its output and its report.
 fn run_command<'a, F: Files, O: Sink, E: Sink>(
+    alloc: Global,
+    command: &RunCommand<'a>,
+    files: &mut F,
+    out: &mut O,
+    err: &mut E,
+) -> Ending<'a>
+    requires { AreInRange command.now.quantum command.now.budget }
+    ensures counts { CountsStay
+        (outside (F.state files.old) (O.state out.old) (E.state err.old))
+        (outside (F.state files.new) (O.state out.new) (E.state err.new)) }
+    ensures ends { OptionsEnd (options_in command.now)
+        (outside (F.state files.old) (O.state out.old) (E.state err.old))
+        (outside (F.state files.new) (O.state out.new) (E.state err.new)) result }
+{
+    let loaded = match load_command(alloc, command, files) {
+        Ok(loaded) => loaded,
+        Err(ending) => return ending,
+    };
+    match run_files(alloc, command, loaded) {
+        Ok(product) => deliver(&product, files, out, err),
+        Err(ending) => ending,
+    }
+}
+
+// Reads the words, and does what they ask for.
+fn run_words<'a, F: Files, O: Sink, E: Sink>(
     alloc: Global,
     words: &'a [String],
     files: &mut F,
@@ -29,19 +85,10 @@ fn run_command<'a, F: Files, O: Sink, E: Sink>(
         (outside (F.state files.old) (O.state out.old) (E.state err.old))
         (outside (F.state files.new) (O.state out.new) (E.state err.new)) result }
 {
-    let Some(command) = read_command(words) else {
-        return Ending::BadCommand;
-    };
-    let image = match files.load(alloc, command.image, FILE_LIMIT) {
-        Ok(image) => image,
-        Err(LoadError::Failed) => return Ending::CannotRead(command.image),
-        Err(LoadError::TooLarge) => return Ending::NotBuilt,
-        Err(LoadError::Memory) => return Ending::OutOfMemory,
-    };
-    match guest_product(alloc, command.image, image.as_slice()) {
-        Ok(Some(product)) => deliver(command.report, &product, files, out, err),
-        Ok(None) => Ending::NotBuilt,
-        Err(_) => Ending::OutOfMemory,
+    match read_command(alloc, words) {
+        Ok(command) => run_command(alloc, &command, files, out, err),
+        Err(CommandError::Refused) => Ending::Decided(Verdict::BadCommand),
+        Err(CommandError::Memory) => Ending::OutOfMemory,
     }
 }
 
@@ -74,6 +121,6 @@ pub fn aprof<F: Files, O: Sink, E: Sink>(
         (outside (F.state files.old) (O.state out.old) (E.state err.old))
         (outside (F.state files.new) (O.state out.new) (E.state err.new)) → IsWritten result ⊎ (result ≡ 10) }
 {
-    let ending = run_command(alloc, words, files, out, err);
-    tell(alloc, ending, err)
+    let ending = run_words(alloc, words, files, out, err);
+    tell(alloc, &ending, err)
 }

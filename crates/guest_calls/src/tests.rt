@@ -278,7 +278,7 @@ fn calls_answer_by_the_table(rt: HostRuntime) -> Result<(), Fail> {
     Ok(())
 }
 
-// The numbers that can be given are spent: of descriptors after 31, of live threads after 32, of threads after the greatest.
+// There are no more than 32 descriptors and 32 live threads.
 #[test]
 fn numbers_run_out(rt: HostRuntime) -> Result<(), Fail> {
     let mut guest = Guest::new(rt.alloc())?;
@@ -322,7 +322,8 @@ fn a_child_begins_behind_the_call(rt: HostRuntime) -> Result<(), Fail> {
     Ok(())
 }
 
-// The new thread's number is written for the parent and for the child. At its end a zero stands there, and thread 1 is woken.
+// The new thread's number is written for the parent and for the child. At its end a zero stands there, and thread 1
+// is woken.
 #[test]
 fn the_end_of_a_child_is_told(rt: HostRuntime) -> Result<(), Fail> {
     let mut guest = Guest::new(rt.alloc())?;

@@ -8,14 +8,14 @@ use std::alloc::Global;
 use std::test::Fail;
 use thread_sched::{Sched, Schedule};
 
-// The header of a file of 120 bytes, with one segment at 0x10000, which holds the whole file. The code stands behind it, at
+// The header of a file of 256 bytes, with one segment at 0x10000, which holds the whole file. The code stands behind it, at
 // 0x10054, and then zeros.
 const HEADER: [u8; 84] = [
     0x7f, 0x45, 0x4c, 0x46, 0x01, 0x01, 0x01, 0x00, 0x00, 0x00, 0x00, 0x00, 0x00, 0x00, 0x00, 0x00,
     0x02, 0x00, 0xf3, 0x00, 0x01, 0x00, 0x00, 0x00, 0x54, 0x00, 0x01, 0x00, 0x34, 0x00, 0x00, 0x00,
     0x00, 0x00, 0x00, 0x00, 0x00, 0x00, 0x00, 0x00, 0x34, 0x00, 0x20, 0x00, 0x01, 0x00, 0x28, 0x00,
     0x00, 0x00, 0x00, 0x00, 0x01, 0x00, 0x00, 0x00, 0x00, 0x00, 0x00, 0x00, 0x00, 0x00, 0x01, 0x00,
-    0x00, 0x00, 0x01, 0x00, 0x78, 0x00, 0x00, 0x00, 0x78, 0x00, 0x00, 0x00, 0x07, 0x00, 0x00, 0x00,
+    0x00, 0x00, 0x01, 0x00, 0x00, 0x01, 0x00, 0x00, 0x00, 0x01, 0x00, 0x00, 0x07, 0x00, 0x00, 0x00,
     0x00, 0x10, 0x00, 0x00,
 ];
 
@@ -24,11 +24,11 @@ fn file_of(alloc: Global, code: &[u32]) -> Result<Vec<u8>, Fail> {
     for word in code {
         file.extend_from_slice(&word.to_le_bytes())?;
     }
-    file.resize(120, 0)?;
+    file.resize(256, 0)?;
     Ok(file)
 }
 
-// A run of 200 steps at most, with stamps of eight bits.
+// A run of 1000 steps at most, with stamps of eight bits.
 fn run_of(alloc: Global, code: &[u32], schedule: &str) -> Result<Run, Fail> {
     let image = read_image(alloc, &file_of(alloc, code)?)?;
     let arguments = [String::from_str(alloc, "image")?];
@@ -40,7 +40,29 @@ fn run_of(alloc: Global, code: &[u32], schedule: &str) -> Result<Run, Fail> {
         Vec::new(alloc),
     )?;
     let turns = Sched::new(3, Schedule::read(alloc, schedule.as_bytes())?);
-    Ok(run_guest(alloc, machine, turns, 200, 255)?)
+    Ok(run_guest(alloc, machine, turns, 1000, 255)?)
+}
+
+// A guest whose routine calls itself, as often as its first word puts into x10.
+fn nested(first: u32) -> [u32; 13] {
+    [
+        // first; jal x1,f; addi x10,x0,0; addi x17,x0,93; ecall
+        first,
+        0x0100_00ef,
+        0x0000_0513,
+        0x05d0_0893,
+        0x0000_0073,
+        // f: addi x2,x2,-16; sw x1,0(x2); addi x10,x10,-1; beq x10,x0,out; jal x1,f
+        0xff01_0113,
+        0x0011_2023,
+        0xfff5_0513,
+        0x0005_0463,
+        0xff1f_f0ef,
+        // out: lw x1,0(x2); addi x2,x2,16; jalr x0,0(x1)
+        0x0001_2083,
+        0x0101_0113,
+        0x0000_8067,
+    ]
 }
 
 #[test]
@@ -51,7 +73,7 @@ fn each_run_ends_by_its_cause(rt: HostRuntime) -> Result<(), Fail> {
         tid: Tid::FIRST,
         at: 0x10054,
     };
-    let rows: [(&[u32], &str, Finish, u64, u64, &str); 7] = [
+    let rows: [(&[u32], &str, Finish, u64, u64, &str); 9] = [
         // addi x17,x0,93; addi x10,x0,0; ecall
         (
             &[0x05d0_0893, 0x513, 0x73],
@@ -63,8 +85,8 @@ fn each_run_ends_by_its_cause(rt: HostRuntime) -> Result<(), Fail> {
         ),
         // ebreak
         (&[0x0010_0073], "", fault, 0, 1, "1 1\n"),
-        // jal x0,0, by a schedule that gives the first turn 199 steps
-        (&[0x6f], "1 199\n", Finish::Budget, 200, 1, "1 199\n1 1\n"),
+        // jal x0,0, by a schedule that gives the first turn 999 steps
+        (&[0x6f], "1 999\n", Finish::Budget, 1000, 1, "1 999\n1 1\n"),
         // a futex wait at 0x10000 for the word that stands there
         (
             &[0x0001_0537, 0x0005_2603, 0x593, 0x693, 0x1a60_0893, 0x73],
@@ -88,11 +110,28 @@ fn each_run_ends_by_its_cause(rt: HostRuntime) -> Result<(), Fail> {
         // a turn ends early where its thread yields: addi x17,x0,124; ecall; ebreak
         (
             &[0x07c0_0893, 0x73, 0x6f],
-            "1 5\n1 198\n",
+            "1 5\n1 998\n",
             Finish::Budget,
-            200,
+            1000,
             1,
-            "1 2\n1 198\n",
+            "1 2\n1 998\n",
+        ),
+        // a routine that calls itself, up to 83 open activations of it; one more is too deep
+        (
+            &nested(0x0530_0513),
+            "1 1000\n",
+            Finish::Exit { status: 0 },
+            668,
+            0,
+            "1 668\n",
+        ),
+        (
+            &nested(0x0540_0513),
+            "1 1000\n",
+            Finish::Deep,
+            417,
+            84,
+            "1 417\n",
         ),
     ];
     for (code, schedule, finish, steps, pending, recording) in rows {

@@ -1,0 +1,229 @@
+-- One more file of a command.
+use Rattle.std.proofs.Common.{◌≡◌, ℕ, zero, suc, ◌+◌, ◌<◌, ◌≤◌, Bool, true, false, ◌&&◌, ◌||◌, cond, List, [], ◌∷◌, ◌++◌, Option, Some, None, refl, sym, ap, ◌∙◌, inl, inr, arith, length, subst}
+use Rattle.std.specs.Prelude.{IsSomeAnd, nat_le, nat_lt, replicate, slice_get, sum_by, take}
+use Rattle.std.specs.List.{AllByRecursion, list_any}
+use Rattle.std.proofs.lemmas.Bool.Decides.{nat_tests}
+use Rattle.std.proofs.lemmas.List.{length-replicate}
+use Rattle.std.proofs.lemmas.List.Sums.{sum_by-cons}
+use Rattle.host_io.specs.Faults.{Rose}
+use Rattle.host_io.specs.Files.{Contents, FailsAt, FilesState, FilesUnchanged, GivesFile, Holds, HoldsMore, MeetsLimit, NoCountFalls, with_path}
+use Rattle.aprof_top.specs.Limits.{file_limit, inputs_limit}
+use Rattle.aprof_top.specs.Loading.{AreLoaded, FailsToLoad, IsLoading, PassesLimit}
+use Rattle.aprof_top.specs.Loads.{passes_limit, shared_length}
+use Rattle.aprof_top.specs.Outside.{AreHeld}
+use Rattle.aprof_top.proofs.Sinks.{Rose-later}
+
+abbrev is_long : List ℕ → Bool
+is_long file = nat_lt file_limit (length file)
+
+abbrev IsShort : List ℕ → Type 0
+IsShort file = length file ≤ file_limit
+
+-- ---- lists with one more at the end
+all_more : (files : List (List ℕ)) (file : List ℕ) → AllByRecursion IsShort files → IsShort file → AllByRecursion IsShort (files ++ file ∷ [])
+all_more [] file all one = (one, tt)
+all_more (f ∷ files) file (short, all) one = (short, all_more files file all one)
+
+any_more : (files : List (List ℕ)) (file : List ℕ) → is_long file ≡ true → list_any is_long (files ++ file ∷ []) ≡ true
+any_more [] file long = rw long refl
+any_more (f ∷ files) file long = by (is_long f) (any_more files file long)
+  where
+    by : (b : Bool) → list_any is_long (files ++ file ∷ []) ≡ true → (b || list_any is_long (files ++ file ∷ [])) ≡ true
+    by true rest = refl
+    by false rest = rest
+
+none_long : (files : List (List ℕ)) → AllByRecursion IsShort files → list_any is_long files ≡ false
+none_long [] all = refl
+none_long (f ∷ files) (short, all) = rw test (none_long files all)
+  where
+    test : is_long f ≡ false
+    test = grind (arith, nat_tests, short)
+
+below : (n : ℕ) → nat_lt 0 (suc n) ≡ true
+below n = grind (arith, nat_tests)
+
+both_below : (n m : ℕ) → nat_lt (suc n) (suc m) ≡ nat_lt n m
+both_below n m = grind (arith, nat_tests)
+
+sum_more : (count : ℕ) (files : List (List ℕ)) (file : List ℕ) → sum_by length (take count (files ++ file ∷ [])) ≡ cond (nat_lt (length files) count) (sum_by length (take count files) + length file) (sum_by length (take count files))
+sum_more zero files file = rw (never (length files)) refl
+  where
+    never : (n : ℕ) → nat_lt n 0 ≡ false
+    never n = grind (arith, nat_tests)
+sum_more (suc zero) [] file = omega arith
+sum_more (suc (suc count)) [] file = rw (below (suc count)) (omega arith)
+sum_more (suc count) (f ∷ files) file =
+    sum_by-cons length f (take count (files ++ file ∷ []))
+    ∙ ap (λ n. length f + n) (sum_more count files file)
+    ∙ by (nat_lt (length files) count)
+    ∙ ap (λ b. cond b (sum_by length (f ∷ take count files) + length file) (sum_by length (f ∷ take count files))) (sym (both_below (length files) count))
+  where
+    split : sum_by length (f ∷ take count files) ≡ length f + sum_by length (take count files)
+    split = sum_by-cons length f (take count files)
+
+    by : (b : Bool) → length f + cond b (sum_by length (take count files) + length file) (sum_by length (take count files)) ≡ cond b (sum_by length (f ∷ take count files) + length file) (sum_by length (f ∷ take count files))
+    by true = omega (arith, split)
+    by false = sym split
+
+-- how long the files that share a limit are, with one more
+pub shared_more : (count : ℕ) (files : List (List ℕ)) (file : List ℕ) → shared_length count (files ++ file ∷ []) ≡ cond (nat_le 1 (length files) && nat_le (length files) count) (shared_length count files + length file) (shared_length count files)
+shared_more zero [] file = refl
+shared_more (suc count) [] file = refl
+shared_more count (f ∷ files) file = rw (some (length files)) (sum_more count files file)
+  where
+    some : (n : ℕ) → nat_le 1 (suc n) ≡ true
+    some n = grind (arith, nat_tests)
+
+-- ---- limits
+not_past : (count : ℕ) (files : List (List ℕ)) → AllByRecursion IsShort files → shared_length count files ≤ inputs_limit → passes_limit count files ≡ false
+not_past count files all small = rw (none_long files all) test
+  where
+    test : nat_lt inputs_limit (shared_length count files) ≡ false
+    test = grind (arith, nat_tests, small)
+
+past_sum : (count : ℕ) (files : List (List ℕ)) → inputs_limit < shared_length count files → passes_limit count files ≡ true
+past_sum count files large = by (list_any is_long files) (nat_lt inputs_limit (shared_length count files)) test
+  where
+    test : nat_lt inputs_limit (shared_length count files) ≡ true
+    test = grind (arith, nat_tests, large)
+
+    by : (a b : Bool) → b ≡ true → (a || b) ≡ true
+    by true b e = refl
+    by false b e = e
+
+past_long : (count : ℕ) (files : List (List ℕ)) (file : List ℕ) → file_limit < length file → passes_limit count (files ++ file ∷ []) ≡ true
+past_long count files file long = rw (any_more files file test) refl
+  where
+    test : is_long file ≡ true
+    test = grind (arith, nat_tests, long)
+
+-- ---- what is held
+held_more : (contents : Option Contents) (paths files : List (List ℕ)) (path file : List ℕ) → AreHeld contents paths files → slice_get paths (length files) ≡ Some path → Holds contents path file → AreHeld contents paths (files ++ file ∷ [])
+held_more contents [] [] path file held next one = absurd (cc)
+held_more contents (p ∷ paths) [] path file held next one = (subst (λ q. Holds contents q file) (some_same path p (sym next)) one, tt)
+  where
+    some_same : (x y : List ℕ) → Some x ≡ Some y → x ≡ y
+    some_same x y e = cc
+held_more contents [] (f ∷ files) path file held next one = absurd held
+held_more contents (p ∷ paths) (f ∷ files) path file (here, held) next one = (here, held_more contents paths files path file held next one)
+
+-- a file that is longer than the limit, where the object tells no contents
+unfoldable long_file : ℕ → List ℕ
+long_file most = replicate (most + 1) 0
+
+long_file-long : (most : ℕ) → most < length (long_file most)
+unfolding long_file
+long_file-long most = let e = length-replicate {A = ℕ} (most + 1) 0 in omega (arith, e)
+
+-- ---- the steps of the loads
+module _ (shared sum : ℕ) (paths files : List (List ℕ)) (path : List ℕ) (old mid now : FilesState) (so_far : IsLoading shared sum paths files old mid) (next : slice_get paths (length files) ≡ Some path) (counts : NoCountFalls mid now) (contents : now.contents ≡ mid.contents) where
+  counts_since : NoCountFalls old now
+  counts_since = record {
+    faults = omega (arith, so_far.counts.faults, counts.faults);
+    oversized = omega (arith, so_far.counts.oversized, counts.oversized);
+  }
+
+  contents_since : now.contents ≡ old.contents
+  contents_since = contents ∙ so_far.unchanged.contents
+
+  held_mid : (file : List ℕ) → Holds mid.contents path file → Holds old.contents path file
+  held_mid file held = subst (λ known. Holds known path file) so_far.unchanged.contents held
+
+  -- one more file was loaded
+  module _ (file : List ℕ) (gives : GivesFile path file_limit file mid now) (total : ℕ) (total_is : total ≡ cond (nat_le 1 (length files) && nat_le (length files) shared) (sum + length file) sum) where
+    held_now : AreHeld old.contents paths (files ++ file ∷ [])
+    held_now = held_more old.contents paths files path file so_far.held next (held_mid file gives.held)
+
+    each_now : AllByRecursion IsShort (files ++ file ∷ [])
+    each_now = all_more files file so_far.each gives.limit
+
+    total_now : total ≡ shared_length shared (files ++ file ∷ [])
+    total_now = total_is ∙ ap (λ s. cond (nat_le 1 (length files) && nat_le (length files) shared) (s + length file) s) so_far.sum_is ∙ sym (shared_more shared files file)
+
+    unchanged_now : FilesUnchanged old now
+    unchanged_now = record { contents = contents_since; failed_paths = gives.failed_paths ∙ so_far.unchanged.failed_paths }
+
+    pub IsLoading-more : total ≤ inputs_limit → IsLoading shared total paths (files ++ file ∷ []) old now
+    IsLoading-more small = record {
+      held = held_now;
+      each = each_now;
+      sum_is = total_now;
+      small = small;
+      unchanged = unchanged_now;
+      counts = counts_since;
+    }
+
+    pub PassesLimit-together : inputs_limit < total → PassesLimit shared paths old now
+    PassesLimit-together large = record {
+      files = files ++ file ∷ [];
+      held = held_now;
+      limit = inl each_now;
+      many = past_sum shared (files ++ file ∷ []) (subst (λ n. inputs_limit < n) total_now large);
+      unchanged = unchanged_now;
+    }
+
+  -- the load failed
+  pub FailsToLoad-next : FailsAt path mid now → FailsToLoad shared paths path old now
+  FailsToLoad-next fails = record {
+    files = files;
+    held = so_far.held;
+    each = so_far.each;
+    few = not_past shared files so_far.each (subst (λ n. n ≤ inputs_limit) so_far.sum_is so_far.small);
+    next = next;
+    failed = record {
+      faults = Rose-later old.faults mid.faults now.faults so_far.counts.faults fails.faults;
+      failed_paths = fails.failed_paths ∙ ap (with_path path) so_far.unchanged.failed_paths;
+    };
+    contents = contents_since;
+  }
+
+  -- a file is longer than the limit
+  PassesLimit-long : (file : List ℕ) → file_limit < length file → Holds old.contents path file → Rose mid.oversized now.oversized → now.failed_paths ≡ mid.failed_paths → PassesLimit shared paths old now
+  PassesLimit-long file long held rose same = record {
+    files = files ++ file ∷ [];
+    held = held_more old.contents paths files path file so_far.held next held;
+    limit = inr (Rose-later old.oversized mid.oversized now.oversized so_far.counts.oversized rose);
+    many = past_long shared files file long;
+    unchanged = record { contents = contents_since; failed_paths = same ∙ so_far.unchanged.failed_paths };
+  }
+
+  -- the file that was met
+  pub PassesLimit-met : MeetsLimit path file_limit mid now → PassesLimit shared paths old now
+  PassesLimit-met met = by old.contents refl (subst (λ known. HoldsMore known path file_limit) so_far.unchanged.contents met.longer)
+    where
+      by_file : (known : Contents) (o : Option (List ℕ)) → old.contents ≡ Some known → known path ≡ o → IsSomeAnd o (λ bytes. file_limit < length bytes) → PassesLimit shared paths old now
+      by_file known None is there longer = absurd longer
+      by_file known (Some bytes) is there longer = PassesLimit-long bytes longer (subst (λ c. Holds c path bytes) (sym is) there) met.oversized met.failed_paths
+
+      by : (c : Option Contents) → old.contents ≡ c → HoldsMore c path file_limit → PassesLimit shared paths old now
+      by None is longer = PassesLimit-long (long_file file_limit) (long_file-long file_limit) (subst (λ c. Holds c path (long_file file_limit)) (sym is) tt) met.oversized met.failed_paths
+      by (Some known) is longer = by_file known (known path) is refl longer
+
+-- no file was loaded yet
+pub IsLoading-none : (shared : ℕ) (paths : List (List ℕ)) (old : FilesState) → IsLoading shared 0 paths [] old old
+IsLoading-none shared paths old = record {
+  held = tt;
+  each = tt;
+  sum_is = nothing shared;
+  small = omega arith;
+  unchanged = record { contents = refl; failed_paths = refl };
+  counts = record { faults = omega arith; oversized = omega arith };
+}
+  where
+    nothing : (count : ℕ) → 0 ≡ shared_length count []
+    nothing zero = refl
+    nothing (suc count) = refl
+
+-- all were loaded
+pub AreLoaded-all : (shared sum : ℕ) (paths files : List (List ℕ)) (old now : FilesState) → IsLoading shared sum paths files old now → AreLoaded shared paths files old now
+AreLoaded-all shared sum paths files old now so_far = record {
+  held = so_far.held;
+  each = so_far.each;
+  few = not_past shared files so_far.each (subst (λ n. n ≤ inputs_limit) so_far.sum_is so_far.small);
+  unchanged = so_far.unchanged;
+}
+
+-- the same loads, by another name
+pub AreLoaded-as : (shared shared' : ℕ) (paths paths' files : List (List ℕ)) (old now : FilesState) → shared ≡ shared' → paths ≡ paths' → AreLoaded shared paths files old now → AreLoaded shared' paths' files old now
+AreLoaded-as shared shared' paths paths' files old now same_shared same_paths are =
+    subst (λ s. AreLoaded s paths' files old now) same_shared (subst (λ p. AreLoaded shared p files old now) same_paths are)

@@ -1,0 +1,114 @@
+-- What the run of a command's files comes to.
+use Rattle.std.proofs.Common.{◌≡◌, ℕ, List, [], Option, Some, None, Err, ◌<◌, ◌≤◌, length, reverse, refl, sym, ap, ap₂, ◌∙◌, subst}
+use Rattle.std.specs.List.{AllByRecursion}
+use Rattle.command_line.specs.Options.{RunOptions, arguments, inputs}
+use Rattle.elf_image.specs.declared.error.ElfError.{ElfError}
+use Rattle.elf_image.specs.Image.{Executable}
+use Rattle.elf_image.specs.Reading.{image_of}
+use Rattle.elf_image.specs.Tests.{first_refusal}
+use Rattle.guest_calls.specs.Inputs.{Input}
+use Rattle.guest_machine.specs.declared.setup.SetupError.{SetupError}
+use Rattle.guest_machine.specs.Setup.{setup_refusal}
+use Rattle.guest_machine.specs.Start.{start}
+use Rattle.guest_machine.specs.Machine.{MachineState}
+use Rattle.guest_run.specs.declared.run.Run.{Run}
+use Rattle.guest_run.specs.Laws.{scheduler}
+use Rattle.guest_run.specs.Machine.{guest}
+use Rattle.guest_run.specs.Profiled.{first_past, profiled}
+use Rattle.guest_run.specs.Run.{run}
+use Rattle.guest_run.specs.Shown.{IsShown, Shown, shown_of}
+use Rattle.guest_run.specs.Traces.{most_moves}
+use Rattle.guest_run.proofs.Weights.{every_run_light}
+use Rattle.thread_sched.specs.TurnRule.{Known}
+use Rattle.trace_model.specs.WellFormed.{IsLight}
+use Rattle.thread_sched.specs.declared.entry.Entry.{Entry}
+use Rattle.thread_sched.specs.ScheduleText.{IsBadLine, IsEntry, IsText}
+use Rattle.aprof_top.specs.declared.ending.Ending as declared
+use Rattle.aprof_top.specs.declared.ending.Ending.TheVariants as ending
+use Rattle.aprof_top.specs.declared.ending.Verdict.TheVariants.{BadCommand, BadImage, BadSchedule, TooLarge, Ran}
+use Rattle.aprof_top.specs.declared.loaded.Loaded as kept
+use Rattle.aprof_top.specs.declared.product.Product.{Product}
+use Rattle.aprof_top.specs.Loads.{Loaded, with_inputs}
+use Rattle.aprof_top.specs.Outcome.{ByImage, IsRun, IsScheduled, Outcome, begun_outcome, refusal, run_outcome}
+use Rattle.aprof_top.specs.Products.{FilesRun, ImageRuns, IsRefused, IsRunOf, RunsTo, outcome_of}
+use Rattle.aprof_top.specs.Run.{first_state, greatest_stamp, run_of, shown_from}
+use Rattle.aprof_top.specs.Schedules.Reading.{BadLine, Turns}
+
+module _ (options : RunOptions) (loaded : Loaded) where
+  pub IsRun-bad_image : (e : ElfError) → first_refusal loaded.image ≡ Some e → IsRun options loaded (refusal (BadImage e))
+  IsRun-bad_image e is = subst (λ o. ByImage options loaded (refusal (BadImage e)) o) (sym is) refl
+
+  module _ (accepted : first_refusal loaded.image ≡ None) where
+    accepts : (outcome : Outcome) → IsScheduled options loaded outcome → IsRun options loaded outcome
+    accepts outcome scheduled = subst (λ o. ByImage options loaded outcome o) (sym accepted) scheduled
+
+    pub IsRun-bad_line : (line : ℕ) → IsBadLine loaded.schedule line → IsRun options loaded (refusal (BadSchedule line))
+    IsRun-bad_line line bad = accepts (refusal (BadSchedule line)) (record { reading = BadLine line; read = bad; answered = refl })
+
+    module _ (turns : List Entry) (entries : AllByRecursion IsEntry turns) (text : IsText loaded.schedule turns) (image : Executable) (is : image ≡ image_of loaded.image) where
+      refused_by : (o : Option SetupError) → IsRefused o → refusal TooLarge ≡ begun_outcome options loaded turns o
+      refused_by None refused = absurd refused
+      refused_by (Some why) refused = refl
+
+      pub IsRun-unbegun : IsRefused (setup_refusal image (arguments options)) → IsRun options loaded (refusal TooLarge)
+      IsRun-unbegun refused = accepts (refusal TooLarge) (record {
+        reading = Turns turns;
+        read = (entries, text);
+        answered = refused_by (setup_refusal (image_of loaded.image) (arguments options)) (subst (λ i. IsRefused (setup_refusal i (arguments options))) is refused);
+      })
+
+      pub IsRun-run : setup_refusal image (arguments options) ≡ None → (shown : Shown) → shown ≡ run_of options loaded turns → (outcome : Outcome) → outcome ≡ run_outcome options image shown → IsRun options loaded outcome
+      IsRun-run begins shown runs outcome answered = accepts outcome (record {
+        reading = Turns turns;
+        read = (entries, text);
+        answered = answered
+            ∙ ap₂ (run_outcome options) is runs
+            ∙ ap (begun_outcome options loaded turns) (sym begins ∙ ap (λ i. setup_refusal i (arguments options)) is);
+      })
+
+-- the run of the machine that began so
+pub same_run : (options : RunOptions) (loaded : Loaded) (turns : List Entry) (image : Executable) (files : List Input) (stdin : List ℕ) → image ≡ image_of loaded.image → files ≡ with_inputs [] (inputs options) loaded.inputs → stdin ≡ loaded.stdin → shown_from options turns image.entry (start image (arguments options) files stdin) ≡ run_of options loaded turns
+unfolding first_state
+same_run options loaded turns image files stdin is files_are stdin_is =
+    ap (λ i. shown_from options turns i.entry (start i (arguments options) files stdin)) is
+    ∙ ap₂ (λ f s. shown_from options turns (image_of loaded.image).entry (start (image_of loaded.image) (arguments options) f s)) files_are stdin_is
+
+-- the image was taken
+pub image_accepted : (files : Loaded) (k : kept.Loaded) (bytes : List ℕ) → k.image.items ≡ files.image → bytes ≡ k.image.items → first_refusal bytes ≡ None → first_refusal files.image ≡ None
+image_accepted files k bytes keeps same accepted = ap first_refusal (sym (same ∙ keeps)) ∙ accepted
+
+-- what is shown of the run of a machine
+pub IsShown-from : (options : RunOptions) (turns : List Entry) (entry from : ℕ) (state machine : MachineState) (known : Known) (r : Run) → from ≡ entry → machine ≡ state → known ≡ scheduler options.quantum turns → IsShown (shown_of (profiled greatest_stamp (first_past from) (run guest known options.budget machine))) r → IsShown (shown_from options turns entry state) r
+unfolding shown_from
+IsShown-from options turns entry from state machine known r entry_is state_is known_is shows =
+    subst (λ e. IsShown (shown_of (profiled greatest_stamp (first_past e) (run guest (scheduler options.quantum turns) options.budget state))) r) entry_is
+    (subst (λ s. IsShown (shown_of (profiled greatest_stamp (first_past from) (run guest (scheduler options.quantum turns) options.budget s))) r) state_is
+    (subst (λ k. IsShown (shown_of (profiled greatest_stamp (first_past from) (run guest k options.budget machine))) r) known_is shows))
+
+-- it is light
+pub IsLight-shown : (options : RunOptions) (turns : List Entry) (image : Executable) (files : List Input) (stdin : List ℕ) (r : Run) → options.budget ≤ most_moves → IsShown (shown_from options turns image.entry (start image (arguments options) files stdin)) r → IsLight (reverse r.events.list)
+unfolding shown_from
+IsLight-shown options turns image files stdin r few shows =
+    subst IsLight (sym shows.past_is) (every_run_light image (arguments options) files stdin greatest_stamp (scheduler options.quantum turns) options.budget few)
+
+-- the run of a command's files gave a product
+pub RunsTo-run : (options : RunOptions) (files : Loaded) (accepted : first_refusal files.image ≡ None) (turns : List Entry) (entries : AllByRecursion IsEntry turns) (text : IsText files.schedule turns) (image : Executable) (is : image ≡ image_of files.image) (inputs' : List Input) (stdin : List ℕ) → inputs' ≡ with_inputs [] (inputs options) files.inputs → stdin ≡ files.stdin → (r : Run) → IsRunOf options image turns inputs' stdin r → (product : Product) → ((shown : Shown) → IsShown shown r → outcome_of product ≡ run_outcome options image shown) → 0 < length product.stores.items → RunsTo options files product
+RunsTo-run options files accepted turns entries text image is inputs' stdin inputs_are stdin_is r runs product outcome stores = record {
+  is_run = IsRun-run options files accepted turns entries text image is runs.begins
+      (shown_from options turns image.entry (start image (arguments options) inputs' stdin))
+      (same_run options files turns image inputs' stdin is inputs_are stdin_is)
+      (outcome_of product) (outcome _ runs.shown);
+  stores = stores;
+}
+
+-- it gave none
+pub FilesRun-unrun : (options : RunOptions) (files : Loaded) (accepted : first_refusal files.image ≡ None) (turns : List Entry) (entries : AllByRecursion IsEntry turns) (text : IsText files.schedule turns) (image : Executable) (is : image ≡ image_of files.image) (inputs' : List Input) (stdin : List ℕ) (e : declared.Ending) → ImageRuns options image turns inputs' stdin (Err e) → FilesRun options files (Err e)
+FilesRun-unrun options files accepted turns entries text image is inputs' stdin ending.OutOfMemory runs = tt
+FilesRun-unrun options files accepted turns entries text image is inputs' stdin (ending.Decided TooLarge) runs = IsRun-unbegun options files accepted turns entries text image is runs
+FilesRun-unrun options files accepted turns entries text image is inputs' stdin (ending.Decided BadCommand) runs = absurd runs
+FilesRun-unrun options files accepted turns entries text image is inputs' stdin (ending.Decided (BadImage e)) runs = absurd runs
+FilesRun-unrun options files accepted turns entries text image is inputs' stdin (ending.Decided (BadSchedule line)) runs = absurd runs
+FilesRun-unrun options files accepted turns entries text image is inputs' stdin (ending.Decided (Ran finish)) runs = absurd runs
+FilesRun-unrun options files accepted turns entries text image is inputs' stdin (ending.CannotRead path) runs = absurd runs
+FilesRun-unrun options files accepted turns entries text image is inputs' stdin ending.CannotWrite runs = absurd runs
+FilesRun-unrun options files accepted turns entries text image is inputs' stdin ending.CannotPut runs = absurd runs

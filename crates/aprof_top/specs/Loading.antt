@@ -1,0 +1,62 @@
+-- What the loads of a command find and leave.
+use Rattle.std.specs.Prelude.{◌≡◌, ◌⊎◌, ℕ, ◌≤◌, false, true, List, map, length, slice_get, Some, Vec}
+use Rattle.std.specs.List.{AllByRecursion}
+use Rattle.std.specs.declared.alloc.Global.{Global}
+use Rattle.host_io.specs.Faults.{Rose}
+use Rattle.host_io.specs.Files.{FilesState, FailsAt, FilesUnchanged, NoCountFalls}
+use Rattle.aprof_top.specs.Limits.{file_limit, inputs_limit}
+use Rattle.aprof_top.specs.Loads.{passes_limit, shared_length}
+use Rattle.aprof_top.specs.Outside.{AreHeld}
+use Rattle.aprof_top.specs.declared.ending.Ending.{Ending}
+use Rattle.aprof_top.specs.declared.ending.Ending.TheVariants as ending
+use Rattle.aprof_top.specs.declared.ending.Verdict.TheVariants.{BadCommand, BadImage, BadSchedule, TooLarge, Ran}
+
+-- the bytes of files in memory
+abbrev pub contents_of : List (Vec ℕ Global) → List (List ℕ)
+contents_of files = map (λ file. file.items) files
+
+-- These are the first files at the paths, and no limit is passed.
+pub record AreLoaded (shared : ℕ) (paths files : List (List ℕ)) (old new : FilesState) : Type 0 where
+  pub held : AreHeld old.contents paths files
+  pub each : AllByRecursion (λ file. length file ≤ file_limit) files
+  pub few : passes_limit shared files ≡ false
+  pub unchanged : FilesUnchanged old new
+
+-- So far these files were loaded, and no limit is passed; the files that share one are so long together.
+pub record IsLoading (shared sum : ℕ) (paths files : List (List ℕ)) (old now : FilesState) : Type 0 where
+  pub held : AreHeld old.contents paths files
+  pub each : AllByRecursion (λ file. length file ≤ file_limit) files
+  pub sum_is : sum ≡ shared_length shared files
+  pub small : sum ≤ inputs_limit
+  pub unchanged : FilesUnchanged old now
+  pub counts : NoCountFalls old now
+
+-- The load of the next path failed.
+pub record FailsToLoad (shared : ℕ) (paths : List (List ℕ)) (path : List ℕ) (old new : FilesState) : Type 0 where
+  pub files : List (List ℕ)
+  pub held : AreHeld old.contents paths files
+  pub each : AllByRecursion (λ file. length file ≤ file_limit) files
+  pub few : passes_limit shared files ≡ false
+  pub next : slice_get paths (length files) ≡ Some path
+  pub failed : FailsAt path old new
+  pub contents : new.contents ≡ old.contents
+
+-- A limit is passed.
+pub record PassesLimit (shared : ℕ) (paths : List (List ℕ)) (old new : FilesState) : Type 0 where
+  pub files : List (List ℕ)
+  pub held : AreHeld old.contents paths files
+  pub limit : AllByRecursion (λ file. length file ≤ file_limit) files ⊎ Rose old.oversized new.oversized
+  pub many : passes_limit shared files ≡ true
+  pub unchanged : FilesUnchanged old new
+
+-- why the loads of a command end it
+abbrev pub LoadsEnd : ℕ → List (List ℕ) → FilesState → FilesState → Ending → Type 0
+LoadsEnd shared paths old new (ending.CannotRead path) = FailsToLoad shared paths path.now old new
+LoadsEnd shared paths old new (ending.Decided TooLarge) = PassesLimit shared paths old new
+LoadsEnd shared paths old new ending.OutOfMemory = new.contents ≡ old.contents
+LoadsEnd shared paths old new (ending.Decided BadCommand) = ⊥
+LoadsEnd shared paths old new (ending.Decided (BadImage e)) = ⊥
+LoadsEnd shared paths old new (ending.Decided (BadSchedule line)) = ⊥
+LoadsEnd shared paths old new (ending.Decided (Ran finish)) = ⊥
+LoadsEnd shared paths old new ending.CannotWrite = ⊥
+LoadsEnd shared paths old new ending.CannotPut = ⊥

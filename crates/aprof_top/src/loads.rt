@@ -1,0 +1,100 @@
+//! Loading the files of a command.
+ghost use Rattle.std.specs.Prelude.{◌≡◌, ◌+◌, ◌≤◌, ◌&&◌, nat_le, if◌then◌else◌, ◌++◌, ◌^◌, length, map, option_map, IfOk, IfErr, OnOk};
+ghost use Rattle.std.specs.Option.{option_to_list};
+ghost use Rattle.command_line.specs.Options.{inputs};
+ghost use Rattle.command_line.specs.Read.{options_in};
+ghost use Rattle.host_io.specs.Files.{NoCountFalls};
+ghost use Rattle.aprof_top.specs.Loading.{AreLoaded, LoadsEnd, contents_of};
+ghost use Rattle.aprof_top.specs.Loads.{loaded_paths, shared_count};
+
+use crate::ending::{Ending, Verdict};
+use command_line::RunCommand;
+use host_io::{Files, LoadError};
+use std::alloc::{AllocError, Global};
+use std::collections::VecDeque;
+
+/// The greatest length of a file that is loaded.
+const FILE_LIMIT: usize = 16_777_216;
+
+/// The greatest length of the input files and standard input together.
+const INPUTS_LIMIT: usize = 67_108_864;
+
+// One more path, where there is one.
+fn push_path<'a>(paths: &mut Vec<&'a str>, path: Option<&'a str>) -> Result<(), AllocError>
+    ensures { OnOk result (map (λ p. p.now) paths.new.items ≡ map (λ p. p.now) paths.old.items ++ option_to_list (option_map (λ p. p.now) path.entry)) }
+{
+    if let Some(path) = path {
+        paths.push(path)?;
+    }
+    Ok(())
+}
+
+/// The paths of the files that a command loads, in order, `names` being those of its input files.
+pub(crate) fn loaded_paths<'a>(
+    alloc: Global,
+    command: &RunCommand<'a>,
+    names: &[&'a str],
+) -> Result<Vec<&'a str>, AllocError>
+    requires { map (λ path. path.now) names.now ≡ inputs (options_in command.now) }
+    ensures { IfOk result (λ paths. map (λ path. path.now) paths.items ≡ loaded_paths (options_in command.now)) }
+{
+    let mut paths = Vec::new(alloc);
+    paths.push(command.image)?;
+    paths.extend_from_slice(names)?;
+    push_path(&mut paths, command.stdin)?;
+    push_path(&mut paths, command.schedule)?;
+    Ok(paths)
+}
+
+/// How many files behind the image share a limit: the input files, whose names these are, and standard input.
+pub(crate) fn shared_count(command: &RunCommand<'_>, names: &[&str]) -> usize
+    requires { map (λ path. path.now) names.now ≡ inputs (options_in command.now) }
+    ensures { result ≡ shared_count (options_in command.now) }
+{
+    match command.stdin {
+        Some(_) => names.len() + 1,
+        None => names.len(),
+    }
+}
+
+// How long the files that share a limit are, with one more file, before which this many were loaded.
+fn with_length(sum: usize, loaded: usize, shared: usize, length: usize) -> usize
+    requires { sum + length ≤ 2 ^ 32 }
+    ensures { result ≡ (if nat_le 1 loaded && nat_le loaded shared then sum + length else sum) }
+{
+    if 1 <= loaded && loaded <= shared {
+        sum + length
+    } else {
+        sum
+    }
+}
+
+/// Loads the files at the paths, in order. The first is the image; the `shared` ones behind it share a limit.
+pub(crate) fn load_files<'a, F: Files>(
+    alloc: Global,
+    paths: &[&'a str],
+    shared: usize,
+    files: &mut F,
+) -> Result<VecDeque<Vec<u8>>, Ending<'a>>
+    ensures loaded { IfOk result (λ loaded. AreLoaded shared (map (λ path. path.now) paths.now) (contents_of loaded.items) (F.state files.old) (F.state files.new)) }
+    ensures all { IfOk result (λ loaded. length loaded.items ≡ length paths.now) }
+    ensures ends { IfErr result (λ e. LoadsEnd shared (map (λ path. path.now) paths.now) (F.state files.old) (F.state files.new) e) }
+    ensures counts { NoCountFalls (F.state files.old) (F.state files.new) }
+{
+    let mut loaded = VecDeque::new(alloc);
+    let mut sum = 0;
+    for path in paths {
+        let file = match files.load(alloc, path, FILE_LIMIT) {
+            Ok(file) => file,
+            Err(LoadError::Failed) => return Err(Ending::CannotRead(path)),
+            Err(LoadError::TooLarge) => return Err(Ending::Decided(Verdict::TooLarge)),
+            Err(LoadError::Memory) => return Err(Ending::OutOfMemory),
+        };
+        sum = with_length(sum, loaded.len(), shared, file.len());
+        loaded.push_back(file)?;
+        if sum > INPUTS_LIMIT {
+            return Err(Ending::Decided(Verdict::TooLarge));
+        }
+    }
+    Ok(loaded)
+}
