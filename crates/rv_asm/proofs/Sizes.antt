@@ -23,7 +23,7 @@ entries_size st_name (x ∷ xs) =
     let next : ℕ = st_name + (length (x.name ++ 0 ∷ [])) in
     omega (arith, entries_size next xs, length-append (bytes_of (symbol_fields (symbol_entry st_name x))) (symbol_entries next xs))
 
-table_size : (symbols : List Symbol) → length (symbol_table symbols) ≡ 16 * (length symbols + 1)
+pub table_size : (symbols : List Symbol) → length (symbol_table symbols) ≡ 16 * (length symbols + 1)
 unfolding symbol_table
 table_size symbols = omega (arith, entries_size 1 symbols, length-append {A = ℕ})
 

@@ -13,13 +13,13 @@ tables words symbols =
     symbol_table symbols ++ (string_table symbols ++ (padding (strings_end words symbols)
     ++ section_headers (code_end (length words)) (strings_begin words symbols) (length (string_table symbols))))
 
-regrouped : (a b d e f : List ℕ) → a ++ (b ++ (d ++ (e ++ f))) ≡ a ++ b ++ d ++ e ++ f
+pub regrouped : (a b d e f : List ℕ) → a ++ (b ++ (d ++ (e ++ f))) ≡ a ++ b ++ d ++ e ++ f
 regrouped a b d e f = simp append_assoc
 
 named_is : (words : List ℕ) (s : Symbol) (rest : List Symbol) → named_file words (s ∷ rest) ≡ executable words (s ∷ rest)
 named_is words s rest = sym (ap (λ b. if b then plain_file words else named_file words (s ∷ rest)) (ne_eqb (length (s ∷ rest)) 0 (omega arith)))
 
-with_tables : (words : List ℕ) (s : Symbol) (rest : List Symbol)
+pub with_tables : (words : List ℕ) (s : Symbol) (rest : List Symbol)
     → image_bytes words (aligned (strings_end words (s ∷ rest))) 3 ++ tables words (s ∷ rest) ≡ executable words (s ∷ rest)
 unfolding named_file
 with_tables words s rest = regrouped (image_bytes words (aligned (strings_end words (s ∷ rest))) 3) (symbol_table (s ∷ rest)) (string_table (s ∷ rest))

@@ -1,5 +1,9 @@
 -- What is read of the files that the assembler writes.
-use Rattle.std.specs.Prelude.{ℕ, ◌≤◌, true, List, [], ◌∷◌, ◌++◌, length, take}
+use Rattle.std.specs.Prelude.{◌≡◌, ℕ, ◌^◌, ◌<◌, ◌≤◌, ◌==◌, true, false, List, [], ◌∷◌, ◌++◌, length, map, filter, take, All}
+use Rattle.std.specs.List.{Contains}
+use Rattle.std.specs.Ordering.{is_lt, nat_cmp}
+use Rattle.std.specs.Cmp.Lexicographic.{slice_cmp}
+use Rattle.guest_words.specs.Names.{is_name}
 use Rattle.elf_image.specs.Image.{Executable, Segment}
 use Rattle.elf_image.specs.Reading.{names_of}
 use Rattle.rv_asm.specs.declared.executable.Symbol.{Symbol}
@@ -28,3 +32,17 @@ written_image words symbols = record {
   segments = written_segment words symbols ∷ [];
   names = names_of (executable words symbols);
 }
+
+-- A symbol of a routine has a name that a report can show, at an address of 32 bits.
+pub record IsRoutine (s : Symbol) : Type 0 where
+  pub name : is_name s.name ≡ true
+  pub address : s.at < 2 ^ 32
+
+-- the names of the symbols at an address
+abbrev pub names_at : List Symbol → ℕ → List (List ℕ)
+names_at symbols at = map (λ s. s.name) (filter (λ s. s.at == at) symbols)
+
+-- The name is one of these, and none of them is less, byte by byte.
+pub record IsLeast (names : List (List ℕ)) (name : List ℕ) : Type 0 where
+  pub given : Contains names name
+  pub least : All (λ other. is_lt (slice_cmp nat_cmp other name) ≡ false) names

@@ -3,4 +3,4 @@
 
 mod laws;
 
-pub use laws::written_files_are_accepted;
+pub use laws::{written_files_are_accepted, written_names_are_read};
