@@ -13,9 +13,11 @@ tables words symbols =
     symbol_table symbols ++ (string_table symbols ++ (padding (strings_end words symbols)
     ++ section_headers (code_end (length words)) (strings_begin words symbols) (length (string_table symbols))))
 
+-- five parts, joined from the last or from the first
 pub regrouped : (a b d e f : List ℕ) → a ++ (b ++ (d ++ (e ++ f))) ≡ a ++ b ++ d ++ e ++ f
 regrouped a b d e f = simp append_assoc
 
+-- the file where there is a symbol
 named_is : (words : List ℕ) (s : Symbol) (rest : List Symbol) → named_file words (s ∷ rest) ≡ executable words (s ∷ rest)
 named_is words s rest = sym (ap (λ b. if b then plain_file words else named_file words (s ∷ rest)) (ne_eqb (length (s ∷ rest)) 0 (omega arith)))
 
@@ -36,7 +38,7 @@ of_file P words (s ∷ rest) each =
     let same = with_tables words s rest in
     subst P same (each (aligned (strings_end words (s ∷ rest))) 3 (tables words (s ∷ rest)) same)
 
--- the headers and the code are not too large
+-- the headers and the code are not too large where the file is not
 small : (words : List ℕ) (shoff shnum : ℕ) (rest file : List ℕ) → image_bytes words shoff shnum ++ rest ≡ file → length file ≤ 16777216
     → code_end (length words) ≤ 16777216
 small words shoff shnum rest file same size =

@@ -29,7 +29,7 @@ find-one p x h = rw h refl
 pub word_back : (n : ℕ) → n < 2 ^ 32 → n % 256 + 256 * (n / 256 % 256 + 256 * (n / 65536 % 256 + 256 * (n / 16777216 % 256 + 0))) ≡ n
 word_back n fits = omega arith
 
--- the program header, and its segment
+-- the segment of the headers and the code
 abbrev pub the_segment : ℕ → List ℕ → Segment
 the_segment size bytes = record { place = 0x10000; size = size; rights = record { read = true; write = true; exec = true }; bytes = bytes }
 
@@ -68,12 +68,14 @@ module _ (words : List ℕ) (shoff shnum : ℕ) where
     loaded = subst (λ (n : ℕ). take n file ≡ image_bytes words shoff shnum) image_size (take-append_seam (image_bytes words shoff shnum) rest)
 
     module _ (some : 1 ≤ length words) (fits : code_end (length words) ≤ 16777216) where
+      -- the tests of the file header
       header_passes : first_of (header_tests file) ≡ None
       unfolding image_bytes half_at word_at
       header_passes =
           goes_on (fails_short file) error.Short (drop 1 (header_tests file)) None (le-ltb (length file) 52 (omega (arith, file_size)))
           (goes_on (fails_header_table file) error.HeaderTable [] None (le-ltb (length file) 84 (omega (arith, file_size))) refl)
 
+      -- the one program header, of a load segment that takes memory
       program_headers_are : program_headers file ≡ program_header_at file 52 ∷ []
       unfolding image_bytes half_at word_at program_headers
       program_headers_are = refl
@@ -100,6 +102,7 @@ module _ (words : List ℕ) (shoff shnum : ℕ) where
       segments_are = ap (map (segment_of file)) occupied_are
           ∙ ap (λ n. the_segment n (take n file) ∷ []) size_is
 
+      -- the tests of that header
       interpreter : fails_interpreter file ≡ false
       unfolding image_bytes word_at
       interpreter = ap (list_any (λ h. eqb h.p_type 3)) program_headers_are
@@ -128,6 +131,7 @@ module _ (words : List ℕ) (shoff shnum : ℕ) where
           (goes_on (fails_segment_size file) error.SegmentSize (drop 3 (segment_tests file)) None segment_size
           (goes_on (fails_segment_place file) error.SegmentPlace [] None segment_place refl)))
 
+      -- the tests of its segment
       enters : fails_entry file ≡ false
       unfolding image_bytes half_at word_at
       enters = ap (λ s. not (is_code s 0x10054)) segments_are
@@ -147,6 +151,7 @@ module _ (words : List ℕ) (shoff shnum : ℕ) where
       pub passes : first_refusal file ≡ None
       passes = passed_all file header_passes segment_passes layout_passes
 
+      -- the segment holds the program header
       holds : holds_headers file (program_header_at file 52) ≡ true
       unfolding image_bytes half_at word_at
       holds = ap (λ n. leb 84 (0 + n)) part_is ∙ le-leb 84 (0 + code_end (length words)) (omega arith)
