@@ -1,0 +1,33 @@
+-- What the lines of a draft stand for, once all labels are bound.
+use Rattle.std.specs.Prelude.{◌≡◌, ℕ, ◌*◌, ◌<◌, ℤ, pos, ◌-ℤ◌, List, length, slice_index, slice_index_or, Option, Some, None, unwrap_or}
+use Rattle.rv_isa.specs.declared.instruction.Instr.{Instr}
+use Rattle.rv_isa.specs.declared.instruction.Instr.TheVariants.{Fence, FenceI}
+use Rattle.std.specs.Option.{option_map_or}
+use Rattle.rv_isa.specs.Table.{decoded}
+use Rattle.rv_asm.specs.declared.line.Line.{Line}
+use Rattle.rv_asm.specs.Draft.{Draft}
+use Rattle.rv_asm.specs.Lines.{with_offset}
+
+-- the word that a label stands for, once it is bound
+abbrev pub place_of : List (Option ℕ) → ℕ → Option ℕ
+place_of places label = slice_index_or places label None
+
+-- how many bytes lie from one word to another
+abbrev pub offset_between : ℕ → ℕ → ℤ
+offset_between from to = pos (4 * to) -ℤ pos (4 * from)
+
+-- the instruction of the line at a word: a jump goes to its label, which is to be bound
+abbrev pub instruction_at : List (Option ℕ) → ℕ → Line → Instr
+instruction_at places at line = option_map_or (λ label. with_offset line.instruction (offset_between at (unwrap_or (place_of places label) 0))) line.to line.instruction
+
+-- A word is the one that is written for an instruction: it stands for it, and those of the fences are these of several.
+pub record IsWordOf (instruction : Instr) (word : ℕ) : Type 0 where
+  pub decoded : decoded word ≡ Some instruction
+  pub fence : instruction ≡ Fence → word ≡ 0x0FF0000F
+  pub fence_i : instruction ≡ FenceI → word ≡ 0x0000100F
+
+-- The words are those of the lines, one for each.
+pub record AreAssembled (d : Draft) (words : List ℕ) : Type 0 where
+  pub count : length words ≡ length d.lines
+  pub each : (at : ℕ) → at < length d.lines → (line : Line)
+      → IsWordOf (instruction_at d.places at (slice_index_or d.lines at line)) (slice_index words at)

@@ -1,0 +1,40 @@
+-- A program that is being written: its lines so far, and the labels that it has made.
+use Rattle.std.specs.Prelude.{◌≡◌, ℕ, ◌≤◌, List, [], ◌∷◌, ◌++◌, length, slice_set, All, Option, Some, None, IfSome}
+use Rattle.rv_isa.specs.Encoding.{IsEncodable}
+use Rattle.rv_asm.specs.declared.line.Line.{Line}
+
+-- A draft: a line for each word of code, and for each label the number of the word that it stands for, once it is bound.
+pub record Draft : Type 0 where
+  pub lines : List Line
+  pub places : List (Option ℕ)
+
+-- no code, and no label
+abbrev pub empty_draft : Draft
+empty_draft = record { lines = []; places = [] }
+
+-- one more line
+abbrev pub with_line : Draft → Line → Draft
+with_line d line = record { lines = d.lines ++ line ∷ []; places = d.places }
+
+-- one more label, which is not bound
+abbrev pub with_label : Draft → Draft
+with_label d = record { lines = d.lines; places = d.places ++ None ∷ [] }
+
+-- the label stands for the next word
+abbrev pub with_place : Draft → ℕ → Draft
+with_place d label = record { lines = d.lines; places = slice_set d.places label (Some (length d.lines)) }
+
+-- an instruction that needs no label has a word
+abbrev pub IsWritable : Line → Type 0
+IsWritable line = line.to ≡ None → IsEncodable line.instruction
+
+-- a label that is bound stands for a word of the code or for its end
+abbrev pub IsPlace : Option ℕ → Type 0
+IsPlace place = IfSome place (λ at. at ≤ 4000000)
+
+-- What every draft keeps.
+pub record IsSound (d : Draft) : Type 0 where
+  pub short : length d.lines ≤ 4000000
+  pub few : length d.places ≤ 4000000
+  pub writable : All IsWritable d.lines
+  pub placed : All IsPlace d.places

@@ -1,0 +1,7 @@
+mod Entries
+mod Files
+mod Headers
+mod Least
+mod Named
+mod Names
+mod Sections
