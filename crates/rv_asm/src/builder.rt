@@ -6,9 +6,9 @@ ghost use Rattle.rv_asm.specs.Lines.{is_jump};
 ghost use Rattle.rv_asm.specs.Refusals.{IsAccepted, IsRefused};
 ghost use Rattle.rv_asm.specs.Draft.{empty_draft, with_label, with_line, with_place};
 
+use crate::assembly::{append, first_unbound, is_encodable, place_of, words_of};
 use crate::error::AsmError;
 use crate::line::{Line, is_jump};
-use crate::lines::{append, first_unbound, is_encodable, place_of, words_of};
 use rv_isa::Instr;
 use std::alloc::{AllocError, Global};
 use std::marker::Model;

@@ -92,8 +92,10 @@ pub(crate) fn words_of(
     requires short { length lines.now ≤ 4000000 }
     requires writable { All IsWritable lines.now }
     requires places { All IsPlace places.now }
-    ensures words { IfOk result (λ words. AreAssembled (record { lines = lines.now; places = places.now }) words.items) }
-    ensures reach { OnOk result (AreInReach (record { lines = lines.now; places = places.now }) (length lines.now)) }
+    ensures words { IfOk result (λ words.
+        AreAssembled (record { lines = lines.now; places = places.now }) words.items) }
+    ensures reach { OnOk result (
+        AreInReach (record { lines = lines.now; places = places.now }) (length lines.now)) }
     ensures refused { IfErr result (IsOutOfReach (record { lines = lines.now; places = places.now })) }
 {
     let mut words = Vec::new(alloc);
