@@ -1,5 +1,5 @@
 //! From the lines of a program to its words.
-ghost use Rattle.std.specs.Prelude.{◌≡◌, ◌<◌, ◌≤◌, ◌↔◌, length, All, None, Some, IfOk, IfErr, IfSome, IsSome, IsTrue, OnOk, OnErr, ◌++◌, ◌∷◌, [], ◌≢◌};
+ghost use Rattle.std.specs.Prelude.{◌≡◌, ◌≤◌, ◌↔◌, ◌++◌, ◌∷◌, [], length, All, IfOk, IfErr, IfSome, IsSome, IsTrue, OnOk, OnErr};
 ghost use Rattle.rv_isa.specs.Encoding.{IsEncodable};
 ghost use Rattle.rv_asm.specs.Assembled.{instruction_at, place_of, AreAssembled, IsWordOf};
 ghost use Rattle.rv_asm.specs.Draft.{IsPlace, IsWritable};

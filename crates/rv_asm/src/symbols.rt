@@ -1,5 +1,5 @@
 //! The symbol table of an executable and its strings.
-ghost use Rattle.std.specs.Prelude.{◌≡◌, ◌≤◌, ◌<◌, ◌+◌, ◌*◌, ◌^◌, ◌++◌, length, IfOk, OnOk};
+ghost use Rattle.std.specs.Prelude.{◌≡◌, ◌≤◌, ◌<◌, ◌^◌, ◌++◌, length, IfOk, OnOk};
 ghost use Rattle.rv_asm.specs.Executable.{padding, section_headers, string_of, string_table, symbol_entry, symbol_table};
 ghost use Rattle.rv_asm.specs.Fields.{bytes_of, symbol_fields};
 
