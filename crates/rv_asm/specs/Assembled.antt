@@ -16,9 +16,14 @@ place_of places label = slice_index_or places label None
 abbrev pub offset_between : ℕ → ℕ → ℤ
 offset_between from to = pos (4 * to) -ℤ pos (4 * from)
 
--- the instruction of the line at a word: a jump goes to its label, which is to be bound
+-- the offset from a word to a label, which is to be bound
+abbrev pub label_offset : List (Option ℕ) → ℕ → ℕ → ℤ
+label_offset places at label = offset_between at (unwrap_or (place_of places label) 0)
+
+-- the instruction of the line at a word: with the offset of its label, if it has one
 abbrev pub instruction_at : List (Option ℕ) → ℕ → Line → Instr
-instruction_at places at line = option_map_or (λ label. with_offset line.instruction (offset_between at (unwrap_or (place_of places label) 0))) line.to line.instruction
+instruction_at places at line =
+    option_map_or (λ label. with_offset line.instruction (label_offset places at label)) line.to line.instruction
 
 -- A word is the one that is written for an instruction: it stands for it, and those of the fences are these of several.
 pub record IsWordOf (instruction : Instr) (word : ℕ) : Type 0 where

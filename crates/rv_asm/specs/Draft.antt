@@ -3,7 +3,7 @@ use Rattle.std.specs.Prelude.{◌≡◌, ℕ, ◌≤◌, List, [], ◌∷◌, �
 use Rattle.rv_isa.specs.Encoding.{IsEncodable}
 use Rattle.rv_asm.specs.declared.line.Line.{Line}
 
--- A draft: a line for each word of code, and for each label the number of the word that it stands for, once it is bound.
+-- A draft: a line for each word of code, and for each label the word that it stands for, once it is bound.
 pub record Draft : Type 0 where
   pub lines : List Line
   pub places : List (Option ℕ)

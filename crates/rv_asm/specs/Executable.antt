@@ -1,5 +1,5 @@
--- The executable of a code and its symbols: an ELF file of one segment, which holds the headers and the code, and behind
--- it, where there are symbols, a symbol table, its strings and the section headers.
+-- The executable of a code and its symbols: an ELF file of one segment, which holds the headers and the code. Where there
+-- are symbols, a symbol table, its strings and the section headers stand behind it.
 use Rattle.std.specs.Prelude.{ℕ, ◌+◌, ◌-◌, ◌*◌, ◌/◌, ◌==◌, if◌then◌else◌, List, [], ◌∷◌, ◌++◌, length, replicate}
 use Rattle.std.specs.List.{flat_map}
 use Rattle.std.specs.Int.{to_le_bytes, w32}
@@ -14,7 +14,7 @@ use Rattle.rv_asm.specs.Fields.{bytes_of, file_fields, program_fields, section_f
 abbrev pub code_bytes : List ℕ → List ℕ
 code_bytes words = flat_map (to_le_bytes w32) words
 
--- where the parts behind the headers of 52 and 32 bytes begin: the code and, at its end, the symbol table
+-- where the code ends, behind the file header of 52 bytes and the program header of 32, and the symbol table begins
 abbrev pub code_end : ℕ → ℕ
 code_end words = 84 + 4 * words
 

@@ -22,8 +22,9 @@ bytes_of fields = flat_map field_bytes fields
 -- Elf32_Ehdr behind e_ident
 abbrev pub file_fields : FileHeader → List Field
 file_fields h =
-    Half h.e_type ∷ Half h.e_machine ∷ Word h.e_version ∷ Word h.e_entry ∷ Word h.e_phoff ∷ Word h.e_shoff ∷ Word h.e_flags
-    ∷ Half h.e_ehsize ∷ Half h.e_phentsize ∷ Half h.e_phnum ∷ Half h.e_shentsize ∷ Half h.e_shnum ∷ Half h.e_shstrndx ∷ []
+    Half h.e_type ∷ Half h.e_machine ∷ Word h.e_version ∷ Word h.e_entry ∷ Word h.e_phoff
+    ∷ Word h.e_shoff ∷ Word h.e_flags ∷ Half h.e_ehsize ∷ Half h.e_phentsize ∷ Half h.e_phnum
+    ∷ Half h.e_shentsize ∷ Half h.e_shnum ∷ Half h.e_shstrndx ∷ []
 
 -- Elf32_Phdr
 abbrev pub program_fields : ProgramHeader → List Field

@@ -6,9 +6,9 @@ ghost use Rattle.rv_asm.specs.Lines.{is_jump};
 ghost use Rattle.rv_asm.specs.Refusals.{IsAccepted, IsRefused};
 ghost use Rattle.rv_asm.specs.Draft.{empty_draft, with_label, with_line, with_place};
 
+use crate::assembly::{append, first_unbound, is_encodable, place_of, words_of};
 use crate::error::AsmError;
 use crate::line::{Line, is_jump};
-use crate::lines::{append, first_unbound, is_encodable, place_of, words_of};
 use rv_isa::Instr;
 use std::alloc::{AllocError, Global};
 use std::marker::Model;
@@ -62,7 +62,7 @@ impl Model for Code {
 impl Code {
     /// The words, of which the first stands at 0x10054.
     pub fn words(&self) -> &[u32]
-        ensures { result.now ≡ self.now }
+        ensures words { result.now ≡ self.now }
     {
         &self.words
     }
@@ -71,7 +71,7 @@ impl Code {
 impl Builder {
     /// No code yet, and no label.
     pub fn new(alloc: Global) -> Result<Builder, AllocError>
-        ensures { IfOk result (λ builder. builder ≡ empty_draft) }
+        ensures empty { IfOk result (λ builder. builder ≡ empty_draft) }
     {
         Ok(Builder {
             alloc,
@@ -82,7 +82,7 @@ impl Builder {
 
     /// How many words there are so far.
     pub fn len(&self) -> u32
-        ensures { result ≡ length self.now.lines }
+        ensures count { result ≡ length self.now.lines }
     {
         self.lines.len() as u32
     }

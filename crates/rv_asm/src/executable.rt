@@ -33,7 +33,8 @@ const SYMBOL_SIZE: u32 = 16;
 
 /// Appends the file header, with the section headers at a place.
 fn push_file_header(file: &mut Vec<u8>, e_shoff: u32, e_shnum: u16) -> Result<(), AllocError>
-    ensures { OnOk result (file.new.items ≡ file.old.items ++ (e_ident ++ bytes_of (file_fields (file_header e_shoff e_shnum)))) }
+    ensures { OnOk result (file.new.items
+        ≡ file.old.items ++ (e_ident ++ bytes_of (file_fields (file_header e_shoff e_shnum)))) }
 {
     file.extend_from_slice(&IDENT)?;
     let header = FileHeader {
@@ -118,8 +119,7 @@ fn named_file(alloc: Global, words: &[u32], symbols: &[Symbol]) -> Result<Vec<u8
     Ok(file)
 }
 
-/// The executable of a code: where it is loaded, its first word stands at 0x10054, and there it begins to run. Its symbols
-/// name routines.
+/// The executable of a code: loaded, its first word stands at 0x10054, where it begins to run. Its symbols name routines.
 pub fn write_exec(alloc: Global, code: &Code, symbols: &[Symbol]) -> Result<Vec<u8>, AllocError>
     requires some { 1 ≤ length code.now }
     requires size { length (executable code.now symbols.now) ≤ 16777216 }

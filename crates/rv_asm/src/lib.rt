@@ -1,14 +1,15 @@
-//! An assembler for RV32IMA, and a writer of executables: instructions and jumps to labels become the words of a code, and a
-//! code with the names of its routines becomes a static ELF file of the ELF gABI, whose first word stands at 0x10054.
+//! An assembler for RV32IMA, and a writer of executables. Instructions and jumps to labels become the words of a code, of
+//! which the first stands at 0x10054. A code and the names of its routines become a file of the ELF gABI. A program that is
+//! being written is seen as a draft: its lines and its labels.
 #![tactic(auto)]
 
+mod assembly;
 mod builder;
 mod error;
 mod executable;
 mod fields;
 mod headers;
 mod line;
-mod lines;
 mod symbols;
 
 pub use builder::{Builder, Code, Label};

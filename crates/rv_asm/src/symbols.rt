@@ -1,5 +1,5 @@
 //! The symbol table of an executable and its strings.
-ghost use Rattle.std.specs.Prelude.{◌≡◌, ◌≤◌, ◌<◌, ◌+◌, ◌*◌, ◌^◌, ◌++◌, length, IfOk, OnOk};
+ghost use Rattle.std.specs.Prelude.{◌≡◌, ◌≤◌, ◌<◌, ◌^◌, ◌++◌, length, IfOk, OnOk};
 ghost use Rattle.rv_asm.specs.Executable.{padding, section_headers, string_of, string_table, symbol_entry, symbol_table};
 ghost use Rattle.rv_asm.specs.Fields.{bytes_of, symbol_fields};
 
@@ -30,7 +30,8 @@ pub(crate) fn string_table(alloc: Global, symbols: &[Symbol]) -> Result<Vec<u8>,
 
 /// Appends the entry of a symbol: a global symbol of a routine, with an absolute value.
 fn push_symbol(file: &mut Vec<u8>, st_name: u32, symbol: &Symbol) -> Result<(), AllocError>
-    ensures { OnOk result (file.new.items ≡ file.old.items ++ bytes_of (symbol_fields (symbol_entry st_name symbol.now))) }
+    ensures { OnOk result (file.new.items
+        ≡ file.old.items ++ bytes_of (symbol_fields (symbol_entry st_name symbol.now))) }
 {
     let entry = SymbolEntry {
         st_name,
@@ -74,7 +75,8 @@ pub(crate) fn push_section_headers(
     strings_size: u32,
 ) -> Result<(), AllocError>
     requires { symbols_begin ≤ strings_begin }
-    ensures { OnOk result (file.new.items ≡ file.old.items ++ section_headers symbols_begin strings_begin strings_size) }
+    ensures { OnOk result (file.new.items
+        ≡ file.old.items ++ section_headers symbols_begin strings_begin strings_size) }
 {
     file.extend_from_slice(&[0; 40])?;
     let symbols = SectionHeader {

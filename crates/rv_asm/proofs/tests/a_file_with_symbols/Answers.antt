@@ -1,7 +1,5 @@
-use Rattle.std.proofs.Common.{◌≡◌, ℕ, List, [], ◌∷◌, ◌++◌, ◌≤◌, ◌+◌, ◌*◌, length, ap, arith, length-append}
-use Rattle.std.specs.List.{flat_map}
-use Rattle.rv_asm.specs.declared.executable.Symbol.{Symbol}
-use Rattle.rv_asm.specs.Executable.{executable, string_of}
+use Rattle.std.proofs.Common.{◌≡◌, ℕ, List, [], ◌∷◌, ◌≤◌, length, ap, arith, length-append}
+use Rattle.rv_asm.specs.Executable.{executable}
 use Rattle.rv_asm.proofs.Sizes.{executable_within}
 use Rattle.rv_asm.proofs.tests.a_file_with_symbols.Goals as goal
 

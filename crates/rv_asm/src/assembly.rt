@@ -1,5 +1,5 @@
 //! From the lines of a program to its words.
-ghost use Rattle.std.specs.Prelude.{◌≡◌, ◌<◌, ◌≤◌, ◌↔◌, length, All, None, Some, IfOk, IfErr, IfSome, IsSome, IsTrue, OnOk, OnErr, ◌++◌, ◌∷◌, [], ◌≢◌};
+ghost use Rattle.std.specs.Prelude.{◌≡◌, ◌≤◌, ◌↔◌, ◌++◌, ◌∷◌, [], length, All, IfOk, IfErr, IfSome, IsSome, IsTrue, OnOk, OnErr};
 ghost use Rattle.rv_isa.specs.Encoding.{IsEncodable};
 ghost use Rattle.rv_asm.specs.Assembled.{instruction_at, place_of, AreAssembled, IsWordOf};
 ghost use Rattle.rv_asm.specs.Draft.{IsPlace, IsWritable};
@@ -92,8 +92,10 @@ pub(crate) fn words_of(
     requires short { length lines.now ≤ 4000000 }
     requires writable { All IsWritable lines.now }
     requires places { All IsPlace places.now }
-    ensures words { IfOk result (λ words. AreAssembled (record { lines = lines.now; places = places.now }) words.items) }
-    ensures reach { OnOk result (AreInReach (record { lines = lines.now; places = places.now }) (length lines.now)) }
+    ensures words { IfOk result (λ words.
+        AreAssembled (record { lines = lines.now; places = places.now }) words.items) }
+    ensures reach { OnOk result (
+        AreInReach (record { lines = lines.now; places = places.now }) (length lines.now)) }
     ensures refused { IfErr result (IsOutOfReach (record { lines = lines.now; places = places.now })) }
 {
     let mut words = Vec::new(alloc);

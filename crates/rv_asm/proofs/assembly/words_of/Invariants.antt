@@ -2,7 +2,7 @@ use Rattle.std.proofs.Common.{◌≡◌, ◌<◌, ℕ, length, get_or}
 use Rattle.rv_asm.specs.declared.line.Line.{Line}
 use Rattle.rv_asm.specs.Assembled.{instruction_at, IsWordOf}
 use Rattle.rv_asm.specs.Refusals.{IsInReach}
-use Rattle.rv_asm.proofs.lines.words_of.Given as goal
+use Rattle.rv_asm.proofs.assembly.words_of.Given as goal
 
 -- The words so far are those of the lines so far, and these are in reach.
 abbrev pub invariant-loop-at : goal.invariant-loop-at

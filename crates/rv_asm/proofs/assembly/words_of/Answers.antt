@@ -3,7 +3,7 @@ use Rattle.rv_asm.specs.Assembled.{IsWordOf}
 use Rattle.rv_isa.specs.Encoding.{IsEncodable}
 use Rattle.rv_isa.specs.declared.instruction.Instr.{Instr}
 use Rattle.rv_asm.proofs.Words.{assembled_more, reach_more}
-use Rattle.rv_asm.proofs.lines.words_of.Goals as goal
+use Rattle.rv_asm.proofs.assembly.words_of.Goals as goal
 
 pub loop-at-preserved : goal.loop-at-preserved
 loop-at-preserved c = rw c.in_ok-append.ensures.ok (record {
