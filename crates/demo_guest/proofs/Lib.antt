@@ -1,0 +1,10 @@
+mod Accepted
+mod Digits
+mod Encodable
+mod Labels
+mod Lines
+mod Ranges
+mod Ready
+mod Resolved
+mod Whole
+mod Sizes

@@ -1,0 +1,25 @@
+//! The demo as an executable.
+ghost use Rattle.std.specs.Prelude.{◌≡◌, ◌≤◌, None, IfOk};
+ghost use Rattle.elf_image.specs.Image.{page_count};
+ghost use Rattle.elf_image.specs.Reading.{image_of};
+ghost use Rattle.elf_image.specs.Tests.{first_refusal};
+ghost use Rattle.demo_guest.specs.Image.{IsDemoFile};
+
+use crate::code::code;
+use crate::names::symbols;
+use rv_asm::write_exec;
+use std::alloc::{AllocError, Global};
+use written_images::written_files_are_accepted;
+
+/// The executable of the demo with so many routines.
+pub fn demo_image(alloc: Global, routines: u32) -> Result<Vec<u8>, AllocError>
+    requires { (1 ≤ routines) × (routines ≤ 40000) }
+    ensures file { IfOk result (λ file. IsDemoFile routines file.items) }
+    ensures accepted { IfOk result (λ file. first_refusal file.items ≡ None) }
+    ensures fits { IfOk result (λ file. page_count (image_of file.items).segments ≤ 14336) }
+{
+    let code = code(alloc, routines)?;
+    let symbols = symbols(alloc, routines)?;
+    written_files_are_accepted();
+    write_exec(alloc, &code, &symbols)
+}

@@ -1,0 +1,75 @@
+//! The names of the demo's routines, as symbols.
+ghost use Rattle.std.specs.Prelude.{◌≡◌, ◌≤◌, ◌<◌, ◌+◌, ◌*◌, ◌∷◌, ◌++◌, [], true, IfOk, OnOk, decimal, map};
+ghost use Rattle.std.specs.List.{range_with_len};
+ghost use Rattle.guest_words.specs.Names.{is_name};
+ghost use Rattle.demo_guest.specs.Guest.{reads, routine_place};
+ghost use Rattle.demo_guest.specs.Image.{address, routine_symbol, symbols};
+
+use guest_words::{Name, NameError};
+use itoa::Buffer;
+use rv_asm::Symbol;
+use std::alloc::{AllocError, Global};
+
+/// The address of the first word of the code.
+const ENTRY: u32 = 0x1_0054;
+
+/// A symbol whose name is one.
+fn named(alloc: Global, name: &[u8], place: u32) -> Result<Symbol, AllocError>
+    requires name { is_name name.now ≡ true }
+    requires place { place ≤ 4000000 }
+    ensures symbol { IfOk result (λ symbol. symbol ≡ record { name = name.now; at = address place }) }
+{
+    let at = ENTRY + 4 * place;
+    match Name::new(alloc, name) {
+        Ok(name) => Ok(Symbol { name, at }),
+        Err(NameError::Memory) => Err(AllocError),
+        Err(NameError::Bad) => unreachable!(),
+    }
+}
+
+/// The name of a routine.
+fn routine_name(alloc: Global, routine: u32) -> Result<Vec<u8>, AllocError>
+    requires { routine < 40000 }
+    ensures { IfOk result (λ name. name.items ≡ 114 ∷ decimal (routine + 1)) }
+{
+    let mut buffer = Buffer::new();
+    let mut name = Vec::from_slice(alloc, b"r")?;
+    name.extend_from_slice(buffer.format(routine + 1).as_bytes())?;
+    Ok(name)
+}
+
+/// The symbol of a routine that begins at this word.
+fn routine_symbol(alloc: Global, routine: u32, place: u32) -> Result<Symbol, AllocError>
+    requires routine { routine < 40000 }
+    requires place { place ≤ 4000000 }
+    ensures { IfOk result (λ symbol. symbol ≡ record { name = 114 ∷ decimal (routine + 1); at = address place }) }
+{
+    let name = routine_name(alloc, routine)?;
+    named(alloc, &name, place)
+}
+
+/// Appends the symbols of the routines.
+fn push_routines(alloc: Global, symbols: &mut Vec<Symbol>, routines: u32) -> Result<(), AllocError>
+    requires { routines ≤ 40000 }
+    ensures { OnOk result (symbols.new.items ≡ symbols.old.items ++ map (routine_symbol routines) (range_with_len 0 routines)) }
+{
+    let mut place = 13 + 2 * routines;
+    for routine in 0..routines {
+        symbols.push(routine_symbol(alloc, routine, place)?)?;
+        place += routine % 4 + 2;
+    }
+    Ok(())
+}
+
+/// The symbols of the demo with so many routines.
+#[tactic(auto, unfolding(crate::specs::Image::symbols))]
+pub(crate) fn symbols(alloc: Global, routines: u32) -> Result<Vec<Symbol>, AllocError>
+    requires { routines ≤ 40000 }
+    ensures { IfOk result (λ list. list.items ≡ symbols routines) }
+{
+    let mut symbols = Vec::new(alloc);
+    symbols.push(named(alloc, b"_start", 0)?)?;
+    symbols.push(named(alloc, b"thread", 5)?)?;
+    push_routines(alloc, &mut symbols, routines)?;
+    Ok(symbols)
+}

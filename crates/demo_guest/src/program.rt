@@ -1,0 +1,91 @@
+//! The steps of writing a program, where memory is all that can be wanting.
+ghost use Rattle.std.specs.Prelude.{◌≡◌, ◌≢◌, ◌<◌, ◌≤◌, ◌+◌, ◌++◌, ◌∷◌, [], length, map, true, None, Some, IfOk, OnOk, All, slice_set};
+ghost use Rattle.rv_isa.specs.Encoding.{IsEncodable};
+ghost use Rattle.rv_asm.specs.Assembled.{place_of, AreAssembled};
+ghost use Rattle.rv_asm.specs.Lines.{is_jump};
+ghost use Rattle.rv_asm.specs.Refusals.{IsAccepted};
+ghost use Rattle.rv_asm.specs.Draft.{with_label, with_line, with_place};
+ghost use Rattle.demo_guest.specs.Drafts.{jump, plain};
+
+use rv_asm::{AsmError, Builder, Code, Label};
+use rv_isa::Instr;
+use std::alloc::AllocError;
+
+/// Appends an instruction that has a word.
+pub(crate) fn emit(program: &mut Builder, instruction: Instr) -> Result<(), AllocError>
+    requires room { length program.old.lines < 4000000 }
+    requires encodable { IsEncodable instruction }
+    ensures line { OnOk result (program.new ≡ with_line program.old (plain instruction)) }
+{
+    match program.emit(instruction) {
+        Ok(()) => Ok(()),
+        Err(AsmError::Memory) => Err(AllocError),
+        Err(_) => unreachable!(),
+    }
+}
+
+/// Appends instructions that have words.
+pub(crate) fn emit_all(program: &mut Builder, instructions: &[Instr]) -> Result<(), AllocError>
+    requires room { length program.old.lines + length instructions.now ≤ 4000000 }
+    requires encodable { All IsEncodable instructions.now }
+    ensures lines { OnOk result (program.new.lines ≡ program.old.lines ++ map plain instructions.now) }
+    ensures places { OnOk result (program.new.places ≡ program.old.places) }
+{
+    for instruction in instructions {
+        emit(program, *instruction)?;
+    }
+    Ok(())
+}
+
+/// Makes a label.
+pub(crate) fn label(program: &mut Builder) -> Result<Label, AllocError>
+    requires room { length program.old.places < 4000000 }
+    ensures made { OnOk result (program.new ≡ with_label program.old) }
+    ensures number { IfOk result (λ label. label ≡ length program.old.places) }
+{
+    match program.label() {
+        Ok(label) => Ok(label),
+        Err(AsmError::Memory) => Err(AllocError),
+        Err(_) => unreachable!(),
+    }
+}
+
+/// Appends a jump to a label.
+pub(crate) fn jump(program: &mut Builder, instruction: Instr, to: Label) -> Result<(), AllocError>
+    requires room { length program.old.lines < 4000000 }
+    requires label { to < length program.old.places }
+    requires jump { is_jump instruction ≡ true }
+    ensures line { OnOk result (program.new ≡ with_line program.old (jump instruction to)) }
+{
+    match program.jump(instruction, to) {
+        Ok(()) => Ok(()),
+        Err(AsmError::Memory) => Err(AllocError),
+        Err(_) => unreachable!(),
+    }
+}
+
+/// A label that is not bound stands for the next word from now on.
+pub(crate) fn bind(program: &mut Builder, label: Label)
+    requires label { label < length program.old.places }
+    requires once { place_of program.old.places label ≡ None }
+    ensures bound { program.new ≡ with_place program.old label }
+{
+    match program.bind(label) {
+        Ok(()) => (),
+        Err(_) => unreachable!(),
+    }
+}
+
+/// The words of a program whose jumps are all bound and in reach.
+pub(crate) fn finish(program: Builder) -> Result<Code, AllocError>
+    requires accepted { IsAccepted program }
+    ensures words { IfOk result (AreAssembled program) }
+{
+    match program.finish() {
+        Ok(code) => Ok(code),
+        Err(AsmError::Memory) => Err(AllocError),
+        Err(AsmError::Unbound { label: _ }) => unreachable!(),
+        Err(AsmError::Reach { at: _ }) => unreachable!(),
+        Err(AsmError::Twice { label: _ } | AsmError::Unencodable { at: _ }) => unreachable!(),
+    }
+}
