@@ -4,7 +4,8 @@ use Rattle.std.specs.Prelude.{nat_lt}
 use Rattle.std.proofs.lemmas.Bool.Decides.{nat_tests}
 use Rattle.std.proofs.lemmas.List.{length-map}
 use Rattle.std.proofs.lemmas.Option.{slice_get_within}
-use Rattle.command_line.specs.Options.{AsksFor, RunOptions, options_of}
+use Rattle.command_line.specs.Options.{Asked, AsksFor, RunOptions, asked_of}
+use Rattle.command_line.specs.Options.Asked.{Run, Demo}
 use Rattle.host_io.specs.Files.{FilesState, FilesUnchanged, NoCountFalls, with_file, with_path}
 use Rattle.host_io.specs.Sink.{SinkState}
 use Rattle.aprof_top.specs.declared.ending.Ending as declared
@@ -15,13 +16,14 @@ use Rattle.aprof_top.specs.declared.loaded.Loaded as kept
 use Rattle.aprof_top.specs.declared.product.Product.{Product}
 use Rattle.aprof_top.specs.Answers.{Decides, Found}
 use Rattle.aprof_top.specs.Delivery.{Delivers, FailsToStore, PutsNothing, PutsOutput, StoresAll, StoresSome}
-use Rattle.aprof_top.specs.Ending.{DoesNothing, OptionsEnd, Reaches}
+use Rattle.aprof_top.specs.Ending.{DoesNothing, AskedEnds, Reaches}
 use Rattle.aprof_top.specs.Loading.{LoadsEnd}
 use Rattle.aprof_top.specs.Loads.{loaded_of, loaded_paths, passes_limit, shared_count}
-use Rattle.aprof_top.specs.Outcome.{Follows, IsRun, Outcome, refusal, stage}
+use Rattle.aprof_top.specs.Outcome.{Follows, IsDemo, IsRun, Outcome, refusal, stage}
 use Rattle.aprof_top.specs.Outcome.Stage.{Complete, Loading, PastLimit}
 use Rattle.aprof_top.specs.Outside.{Outside, outside, with_stores}
-use Rattle.aprof_top.specs.Products.{FilesRun, LoadsAll, outcome_of, store_of}
+use Rattle.aprof_top.specs.Products.{DemoRuns, FilesRun, LoadsAll, outcome_of, store_of}
+use Rattle.aprof_top.specs.Verdicts.{IsOfRun}
 use Rattle.aprof_top.proofs.Sinks.{Rose-later, append_known-nothing}
 
 -- ---- where the loads stand
@@ -44,10 +46,6 @@ complete_stage options files few all =
   where
     test : (a b : ℕ) → a ≡ b → nat_lt a b ≡ false
     test a b same = grind (arith, nat_tests, same)
-
--- a product that stores something has such an outcome
-pub some_stores : (product : Product) → 0 < length product.stores.items → 0 < length (outcome_of product).stores
-some_stores product some = let e = length-map product.stores.items store_of in omega (arith, e, some)
 
 -- ---- refusals
 -- a verdict that stores nothing was reached
@@ -73,7 +71,7 @@ CommandEnds-refused words same asks =
 -- nothing was done at all
 pub DoesNothing-unread : (words : List (List ℕ)) (before : Outside) → DoesNothing words before before
 DoesNothing-unread words before = record {
-  found = record { asked = options_of words; asks = inl refl; files = []; held = tt; limit = inl tt };
+  found = record { asked = asked_of words; asks = inl refl; files = []; held = tt; limit = inl tt };
   puts = record { out = refl; err = refl };
   contents = refl;
 }
@@ -89,48 +87,49 @@ module _ (options : RunOptions) (files loaded : FilesState) (out err : SinkState
   untouched : PutsNothing before between
   untouched = record { out = refl; err = refl }
 
-  abbrev nothing_loaded : (words : List (List ℕ)) → AsksFor words (Some options) → Found words before between
-  nothing_loaded words asks = record { asked = Some options; asks = asks; files = []; held = tt; limit = inl tt }
+  abbrev nothing_loaded : (words : List (List ℕ)) → AsksFor words (Some (Run options)) → Found words before between
+  nothing_loaded words asks = record { asked = Some (Run options); asks = asks; files = []; held = tt; limit = inl tt }
 
   -- the loads ended it
-  pub OptionsEnd-unloaded : (e : declared.Ending) → LoadsEnd (shared_count options) (loaded_paths options) files loaded e → OptionsEnd options before between e
-  OptionsEnd-unloaded (ending.CannotRead path) fails words asks = record {
-    found = record { asked = Some options; asks = asks; files = fails.files; held = fails.held; limit = inl fails.each };
+  pub AskedEnds-unloaded : (e : declared.Ending) → LoadsEnd (shared_count options) (loaded_paths options) files loaded e → AskedEnds (Run options) before between e
+  AskedEnds-unloaded (ending.CannotRead path) fails words asks = record {
+    found = record { asked = Some (Run options); asks = asks; files = fails.files; held = fails.held; limit = inl fails.each };
     undecided = loading_stage options fails.files path.now fails.few fails.next;
     next = fails.next;
     failed = fails.failed;
     puts = untouched;
     contents = fails.contents;
   }
-  OptionsEnd-unloaded (ending.Decided verdict.TooLarge) passes words asks =
+  AskedEnds-unloaded (ending.Decided verdict.TooLarge) passes words asks =
       Reaches-refusal words before between verdict.TooLarge
-      (record { asked = Some options; asks = asks; files = passes.files; held = passes.held; limit = passes.limit })
+      (record { asked = Some (Run options); asks = asks; files = passes.files; held = passes.held; limit = passes.limit })
       (subst (λ s. Follows options passes.files (refusal verdict.TooLarge) s) (sym (past_stage options passes.files passes.many)) refl)
       untouched passes.unchanged
-  OptionsEnd-unloaded (ending.Decided verdict.BadCommand) ends words asks = absurd ends
-  OptionsEnd-unloaded (ending.Decided (verdict.BadImage e)) ends words asks = absurd ends
-  OptionsEnd-unloaded (ending.Decided (verdict.BadSchedule line)) ends words asks = absurd ends
-  OptionsEnd-unloaded (ending.Decided (verdict.Ran finish)) ends words asks = absurd ends
-  OptionsEnd-unloaded ending.CannotWrite ends words asks = absurd ends
-  OptionsEnd-unloaded ending.CannotPut ends words asks = absurd ends
-  OptionsEnd-unloaded ending.OutOfMemory same words asks = inl (record { found = nothing_loaded words asks; puts = untouched; contents = same })
+  AskedEnds-unloaded (ending.Decided verdict.BadCommand) ends words asks = absurd ends
+  AskedEnds-unloaded (ending.Decided (verdict.BadImage e)) ends words asks = absurd ends
+  AskedEnds-unloaded (ending.Decided (verdict.BadSchedule line)) ends words asks = absurd ends
+  AskedEnds-unloaded (ending.Decided (verdict.Ran finish)) ends words asks = absurd ends
+  AskedEnds-unloaded (ending.Decided verdict.Summarized) ends words asks = absurd ends
+  AskedEnds-unloaded ending.CannotWrite ends words asks = absurd ends
+  AskedEnds-unloaded ending.CannotPut ends words asks = absurd ends
+  AskedEnds-unloaded ending.OutOfMemory same words asks = inl (record { found = nothing_loaded words asks; puts = untouched; contents = same })
 
   -- all was loaded
   module _ (kept' : kept.Loaded) (all : LoadsAll options files loaded kept') where
-    abbrev found_all : (words : List (List ℕ)) (after : Outside) → AsksFor words (Some options) → Found words before after
-    found_all words after asks = record { asked = Some options; asks = asks; files = all.files; held = all.are.held; limit = inl all.are.each }
+    abbrev found_all : (words : List (List ℕ)) (after : Outside) → AsksFor words (Some (Run options)) → Found words before after
+    found_all words after asks = record { asked = Some (Run options); asks = asks; files = all.files; held = all.are.held; limit = inl all.are.each }
 
     decided : (outcome : Outcome) → IsRun options (loaded_of options all.files) outcome → Follows options all.files outcome (stage options all.files)
     decided outcome is_run = subst (λ s. Follows options all.files outcome s) (sym (complete_stage options all.files all.are.few all.all)) is_run
 
     -- the run gave no product
-    pub OptionsEnd-unrun : (e : declared.Ending) → FilesRun options (loaded_of options all.files) (Err e) → OptionsEnd options before between e
-    OptionsEnd-unrun (ending.Decided v) is_run words asks =
+    pub AskedEnds-unrun : (e : declared.Ending) → FilesRun options (loaded_of options all.files) (Err e) → AskedEnds (Run options) before between e
+    AskedEnds-unrun (ending.Decided v) is_run words asks =
         Reaches-refusal words before between v (found_all words between asks) (decided (refusal v) is_run) untouched all.are.unchanged
-    OptionsEnd-unrun ending.OutOfMemory is_run words asks = inl (record { found = nothing_loaded words asks; puts = untouched; contents = all.are.unchanged.contents })
-    OptionsEnd-unrun (ending.CannotRead path) is_run words asks = absurd is_run
-    OptionsEnd-unrun ending.CannotWrite is_run words asks = absurd is_run
-    OptionsEnd-unrun ending.CannotPut is_run words asks = absurd is_run
+    AskedEnds-unrun ending.OutOfMemory is_run words asks = inl (record { found = nothing_loaded words asks; puts = untouched; contents = all.are.unchanged.contents })
+    AskedEnds-unrun (ending.CannotRead path) is_run words asks = absurd is_run
+    AskedEnds-unrun ending.CannotWrite is_run words asks = absurd is_run
+    AskedEnds-unrun ending.CannotPut is_run words asks = absurd is_run
 
     -- its product was handed out
     module _ (outcome : Outcome) (after : Outside) (counts : NoCountFalls files loaded) where
@@ -185,7 +184,7 @@ module _ (options : RunOptions) (files loaded : FilesState) (out err : SinkState
       })
       Delivers-since ending.OutOfMemory (inr short) = inr (record { output = output_of short.output; stored = some_of short.stored })
 
-      abbrev reached : (words : List (List ℕ)) (e : declared.Ending) → AsksFor words (Some options) → IsRun options (loaded_of options all.files) outcome → Delivers outcome between after e → Reaches words before after e
+      abbrev reached : (words : List (List ℕ)) (e : declared.Ending) → AsksFor words (Some (Run options)) → IsRun options (loaded_of options all.files) outcome → Delivers outcome between after e → Reaches words before after e
       reached words e asks is_run delivery = record {
         found = found_all words after asks;
         outcome = outcome;
@@ -193,9 +192,39 @@ module _ (options : RunOptions) (files loaded : FilesState) (out err : SinkState
         delivery = Delivers-since e delivery;
       }
 
-      pub OptionsEnd-delivered : (e : declared.Ending) → IsRun options (loaded_of options all.files) outcome → 0 < length outcome.stores → Delivers outcome between after e → OptionsEnd options before after e
-      OptionsEnd-delivered (ending.Decided v) is_run some delivery words asks = reached words (ending.Decided v) asks is_run delivery
-      OptionsEnd-delivered (ending.CannotRead path) is_run some delivery words asks = absurd delivery
-      OptionsEnd-delivered ending.CannotWrite is_run some delivery words asks = record { reached = reached words ending.CannotWrite asks is_run delivery; ran = some }
-      OptionsEnd-delivered ending.CannotPut is_run some delivery words asks = record { reached = reached words ending.CannotPut asks is_run delivery; ran = some }
-      OptionsEnd-delivered ending.OutOfMemory is_run some delivery words asks = inr (reached words ending.OutOfMemory asks is_run delivery)
+      pub AskedEnds-delivered : (e : declared.Ending) → IsRun options (loaded_of options all.files) outcome → IsOfRun outcome.verdict → Delivers outcome between after e → AskedEnds (Run options) before after e
+      AskedEnds-delivered (ending.Decided v) is_run some delivery words asks = reached words (ending.Decided v) asks is_run delivery
+      AskedEnds-delivered (ending.CannotRead path) is_run some delivery words asks = absurd delivery
+      AskedEnds-delivered ending.CannotWrite is_run some delivery words asks = record { reached = reached words ending.CannotWrite asks is_run delivery; ran = some }
+      AskedEnds-delivered ending.CannotPut is_run some delivery words asks = record { reached = reached words ending.CannotPut asks is_run delivery; ran = some }
+      AskedEnds-delivered ending.OutOfMemory is_run some delivery words asks = inr (reached words ending.OutOfMemory asks is_run delivery)
+
+-- ---- the demo
+-- its product was handed out
+module _ (number : ℕ) (outcome : Outcome) (before after : Outside) (is_demo : IsDemo number outcome) where
+  abbrev shown : (words : List (List ℕ)) (e : declared.Ending) → AsksFor words (Some (Demo number)) → Delivers outcome before after e → Reaches words before after e
+  shown words e asks delivery = record {
+    found = record { asked = Some (Demo number); asks = asks; files = []; held = tt; limit = inl tt };
+    outcome = outcome;
+    written = is_demo;
+    delivery = delivery;
+  }
+
+  pub AskedEnds-shown : (e : declared.Ending) → IsOfRun outcome.verdict → Delivers outcome before after e → AskedEnds (Demo number) before after e
+  AskedEnds-shown (ending.Decided v) ran delivery words asks = shown words (ending.Decided v) asks delivery
+  AskedEnds-shown (ending.CannotRead path) ran delivery words asks = absurd delivery
+  AskedEnds-shown ending.CannotWrite ran delivery words asks = record { reached = shown words ending.CannotWrite asks delivery; ran = ran }
+  AskedEnds-shown ending.CannotPut ran delivery words asks = record { reached = shown words ending.CannotPut asks delivery; ran = ran }
+  AskedEnds-shown ending.OutOfMemory ran delivery words asks = inr (shown words ending.OutOfMemory asks delivery)
+
+-- it gave no product
+pub AskedEnds-unshown : (number : ℕ) (same : Outside) (e : declared.Ending) → DemoRuns number (Err e) → AskedEnds (Demo number) same same e
+AskedEnds-unshown number same ending.OutOfMemory runs words asks = inl (record {
+  found = record { asked = Some (Demo number); asks = asks; files = []; held = tt; limit = inl tt };
+  puts = record { out = refl; err = refl };
+  contents = refl;
+})
+AskedEnds-unshown number same (ending.Decided v) runs words asks = absurd runs
+AskedEnds-unshown number same (ending.CannotRead path) runs words asks = absurd runs
+AskedEnds-unshown number same ending.CannotWrite runs words asks = absurd runs
+AskedEnds-unshown number same ending.CannotPut runs words asks = absurd runs

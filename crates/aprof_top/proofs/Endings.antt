@@ -12,7 +12,7 @@ use Rattle.aprof_top.specs.Ending.{CommandEnds, CountsStay, DoesNothing, Reaches
 use Rattle.aprof_top.specs.Outcome.{Outcome, refusal}
 use Rattle.aprof_top.specs.Outside.{Outside, outside, Ends, NothingRose, with_stores}
 use Rattle.aprof_top.specs.Texts.{cannot_write_text, out_of_memory_text}
-use Rattle.aprof_top.specs.Verdicts.{verdict_status, verdict_text}
+use Rattle.aprof_top.specs.Verdicts.{IsOfRun, verdict_status, verdict_text}
 use Rattle.aprof_top.specs.declared.ending.Ending as declared
 use Rattle.aprof_top.specs.declared.ending.Ending.TheVariants as ending
 use Rattle.aprof_top.specs.declared.ending.Verdict.TheVariants as verdict
@@ -155,7 +155,7 @@ module _ (words : List (List ℕ)) (files files' : FilesState) (out out' err err
   rose_since (inr rose) = inr (Rose-later err.faults err'.faults err''.faults counts.err rose)
 
   -- where the last text of a failed put or store came after all output, or after none on `err`
-  CannotWrite-told : (found : Found words before mid) (outcome : Outcome) → Decides found outcome → 0 < length outcome.stores → FailsAtStore outcome before mid ⊎ FailsOnOut outcome before mid → Ends [] cannot_write_text err' err'' → CannotWrite words before after
+  CannotWrite-told : (found : Found words before mid) (outcome : Outcome) → Decides found outcome → IsOfRun outcome.verdict → FailsAtStore outcome before mid ⊎ FailsOnOut outcome before mid → Ends [] cannot_write_text err' err'' → CannotWrite words before after
   CannotWrite-told found outcome written ran (inl fails) text = record {
     found = found_of found;
     outcome = outcome;
@@ -176,7 +176,7 @@ module _ (words : List (List ℕ)) (files files' : FilesState) (out out' err err
   }
 
   -- where the put on `err` failed, and no text was put
-  CannotWrite-untold : (found : Found words before mid) (outcome : Outcome) → Decides found outcome → 0 < length outcome.stores → FailsOnErr outcome before mid → Ends [] [] err' err'' → CannotWrite words before after
+  CannotWrite-untold : (found : Found words before mid) (outcome : Outcome) → Decides found outcome → IsOfRun outcome.verdict → FailsOnErr outcome before mid → Ends [] [] err' err'' → CannotWrite words before after
   CannotWrite-untold found outcome written ran fails text =
       let rose = Rose-earlier err.faults err'.faults err''.faults fails.failed.faults later in
       record {

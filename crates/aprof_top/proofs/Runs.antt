@@ -1,9 +1,13 @@
 -- What the run of a command's files comes to.
-use Rattle.std.proofs.Common.{◌≡◌, ℕ, List, [], Option, Some, None, Err, ◌<◌, ◌≤◌, length, reverse, refl, sym, ap, ap₂, ◌∙◌, subst}
+use Rattle.std.proofs.Common.{◌≡◌, ℕ, List, [], Option, Some, None, Err, ◌<◌, ◌≤◌, ◌+◌, false, nat_lt, arith, length, reverse, refl, sym, ap, ap₂, ◌∙◌, subst}
 use Rattle.std.specs.List.{AllByRecursion}
 use Rattle.command_line.specs.Options.{RunOptions, arguments, inputs}
 use Rattle.elf_image.specs.declared.error.ElfError.{ElfError}
-use Rattle.elf_image.specs.Image.{Executable}
+use Rattle.elf_image.specs.Image.{Executable, page_count}
+use Rattle.guest_calls.specs.Pages.{page_limit}
+use Rattle.guest_machine.specs.Start.{stack_pages}
+use Rattle.demo_guest.specs.Image.{IsDemoFile}
+use Rattle.std.proofs.lemmas.Bool.Decides.{nat_tests}
 use Rattle.elf_image.specs.Reading.{image_of}
 use Rattle.elf_image.specs.Tests.{first_refusal}
 use Rattle.guest_calls.specs.Inputs.{Input}
@@ -25,13 +29,16 @@ use Rattle.thread_sched.specs.declared.entry.Entry.{Entry}
 use Rattle.thread_sched.specs.ScheduleText.{IsBadLine, IsEntry, IsText}
 use Rattle.aprof_top.specs.declared.ending.Ending as declared
 use Rattle.aprof_top.specs.declared.ending.Ending.TheVariants as ending
-use Rattle.aprof_top.specs.declared.ending.Verdict.TheVariants.{BadCommand, BadImage, BadSchedule, TooLarge, Ran}
+use Rattle.aprof_top.specs.declared.ending.Verdict.TheVariants.{BadCommand, BadImage, BadSchedule, TooLarge, Ran, Summarized}
 use Rattle.aprof_top.specs.declared.loaded.Loaded as kept
 use Rattle.aprof_top.specs.declared.product.Product.{Product}
 use Rattle.aprof_top.specs.Loads.{Loaded, with_inputs}
-use Rattle.aprof_top.specs.Outcome.{ByImage, IsRun, IsScheduled, Outcome, begun_outcome, refusal, run_outcome}
-use Rattle.aprof_top.specs.Products.{FilesRun, ImageRuns, IsRefused, IsRunOf, RunsTo, outcome_of}
+use Rattle.aprof_top.specs.Outcome.{ByImage, IsDemo, IsRun, demo_options, demo_outcome, IsScheduled, Outcome, begun_outcome, refusal, run_outcome}
+use Rattle.aprof_top.specs.Products.{DemoRuns, FilesRun, ImageRuns, IsRefused, IsRunOf, RunsTo, outcome_of}
+use Rattle.aprof_top.specs.Report.{report_of}
+use Rattle.aprof_top.specs.Summary.{summary_text}
 use Rattle.aprof_top.specs.Run.{first_state, greatest_stamp, run_of, shown_from}
+use Rattle.aprof_top.specs.Verdicts.{IsOfRun}
 use Rattle.aprof_top.specs.Schedules.Reading.{BadLine, Turns}
 
 module _ (options : RunOptions) (loaded : Loaded) where
@@ -92,13 +99,13 @@ IsLight-shown options turns image files stdin r few shows =
     subst IsLight (sym shows.past_is) (every_run_light image (arguments options) files stdin greatest_stamp (scheduler options.quantum turns) options.budget few)
 
 -- the run of a command's files gave a product
-pub RunsTo-run : (options : RunOptions) (files : Loaded) (accepted : first_refusal files.image ≡ None) (turns : List Entry) (entries : AllByRecursion IsEntry turns) (text : IsText files.schedule turns) (image : Executable) (is : image ≡ image_of files.image) (inputs' : List Input) (stdin : List ℕ) → inputs' ≡ with_inputs [] (inputs options) files.inputs → stdin ≡ files.stdin → (r : Run) → IsRunOf options image turns inputs' stdin r → (product : Product) → ((shown : Shown) → IsShown shown r → outcome_of product ≡ run_outcome options image shown) → 0 < length product.stores.items → RunsTo options files product
-RunsTo-run options files accepted turns entries text image is inputs' stdin inputs_are stdin_is r runs product outcome stores = record {
+pub RunsTo-run : (options : RunOptions) (files : Loaded) (accepted : first_refusal files.image ≡ None) (turns : List Entry) (entries : AllByRecursion IsEntry turns) (text : IsText files.schedule turns) (image : Executable) (is : image ≡ image_of files.image) (inputs' : List Input) (stdin : List ℕ) → inputs' ≡ with_inputs [] (inputs options) files.inputs → stdin ≡ files.stdin → (r : Run) → IsRunOf options image turns inputs' stdin r → (product : Product) → ((shown : Shown) → IsShown shown r → outcome_of product ≡ run_outcome options image shown) → IsOfRun product.verdict → RunsTo options files product
+RunsTo-run options files accepted turns entries text image is inputs' stdin inputs_are stdin_is r runs product outcome ran = record {
   is_run = IsRun-run options files accepted turns entries text image is runs.begins
       (shown_from options turns image.entry (start image (arguments options) inputs' stdin))
       (same_run options files turns image inputs' stdin is inputs_are stdin_is)
       (outcome_of product) (outcome _ runs.shown);
-  stores = stores;
+  ran = ran;
 }
 
 -- it gave none
@@ -109,6 +116,55 @@ FilesRun-unrun options files accepted turns entries text image is inputs' stdin 
 FilesRun-unrun options files accepted turns entries text image is inputs' stdin (ending.Decided (BadImage e)) runs = absurd runs
 FilesRun-unrun options files accepted turns entries text image is inputs' stdin (ending.Decided (BadSchedule line)) runs = absurd runs
 FilesRun-unrun options files accepted turns entries text image is inputs' stdin (ending.Decided (Ran finish)) runs = absurd runs
+FilesRun-unrun options files accepted turns entries text image is inputs' stdin (ending.Decided Summarized) runs = absurd runs
 FilesRun-unrun options files accepted turns entries text image is inputs' stdin (ending.CannotRead path) runs = absurd runs
 FilesRun-unrun options files accepted turns entries text image is inputs' stdin ending.CannotWrite runs = absurd runs
 FilesRun-unrun options files accepted turns entries text image is inputs' stdin ending.CannotPut runs = absurd runs
+
+-- ---- the demo
+-- its guest can begin, as it has few pages
+demo_begins : (image : Executable) → page_count image.segments ≤ 14336 → setup_refusal image (arguments demo_options) ≡ None
+demo_begins image few = rw (test (page_count image.segments) few) refl
+  where
+    test : (n : ℕ) → n ≤ 14336 → nat_lt page_limit (n + stack_pages) ≡ false
+    test n few = grind (arith, nat_tests, few)
+
+-- so it is not refused
+pub DemoRuns-unrun : (number : ℕ) (image : Executable) (turns : List Entry) (inputs' : List Input) (stdin : List ℕ) (e : declared.Ending) → page_count image.segments ≤ 14336 → ImageRuns demo_options image turns inputs' stdin (Err e) → DemoRuns number (Err e)
+DemoRuns-unrun number image turns inputs' stdin ending.OutOfMemory few runs = tt
+DemoRuns-unrun number image turns inputs' stdin (ending.Decided TooLarge) few runs = subst IsRefused (demo_begins image few) runs
+DemoRuns-unrun number image turns inputs' stdin (ending.Decided BadCommand) few runs = runs
+DemoRuns-unrun number image turns inputs' stdin (ending.Decided (BadImage e)) few runs = runs
+DemoRuns-unrun number image turns inputs' stdin (ending.Decided (BadSchedule line)) few runs = runs
+DemoRuns-unrun number image turns inputs' stdin (ending.Decided (Ran finish)) few runs = runs
+DemoRuns-unrun number image turns inputs' stdin (ending.Decided Summarized) few runs = runs
+DemoRuns-unrun number image turns inputs' stdin (ending.CannotRead path) few runs = runs
+DemoRuns-unrun number image turns inputs' stdin ending.CannotWrite few runs = runs
+DemoRuns-unrun number image turns inputs' stdin ending.CannotPut few runs = runs
+
+-- its summary is the outcome
+pub IsDemo-run : (number : ℕ) (file : List ℕ) (image : Executable) (r : Run) (product : Product) → IsDemoFile number file → image ≡ image_of file → IsRunOf demo_options image [] [] [] r → ((shown : Shown) → IsShown shown r → outcome_of product ≡ demo_outcome number image shown) → IsDemo number (outcome_of product)
+unfolding first_state
+IsDemo-run number file image r product is_file is runs outcome = record {
+  file = file;
+  is_demo = is_file;
+  answered = outcome _ runs.shown
+      ∙ ap₂ (demo_outcome number) is (ap (λ i. shown_from demo_options [] i.entry (start i (arguments demo_options) [] [])) is);
+}
+
+-- the same run, by other names
+pub IsRunOf-as : (options options' : RunOptions) (image : Executable) (turns turns' : List Entry) (files files' : List Input) (stdin stdin' : List ℕ) (r : Run) → options ≡ options' → turns ≡ turns' → files ≡ files' → stdin ≡ stdin' → IsRunOf options image turns files stdin r → IsRunOf options' image turns' files' stdin' r
+IsRunOf-as options options' image turns turns' files files' stdin stdin' r same_options same_turns same_files same_stdin runs =
+    subst (λ o. IsRunOf o image turns' files' stdin' r) same_options
+    (subst (λ t. IsRunOf options image t files' stdin' r) same_turns
+    (subst (λ f. IsRunOf options image turns f stdin' r) same_files
+    (subst (λ s. IsRunOf options image turns files s r) same_stdin runs)))
+
+-- what is shown of its report
+pub demo_shown : (number : ℕ) (image : Executable) (r : Run) (out err : List ℕ) (stores : List (List ℕ × List ℕ)) → out ≡ summary_text number (report_of image r.finish (reverse r.events.list)) → err ≡ [] → stores ≡ [] → (shown : Shown) → IsShown shown r → record { verdict = Summarized; out = out; err = err; stores = stores } ≡ demo_outcome number image shown
+demo_shown number image r out err stores on_out on_err stored shown shows = λ i. record {
+  verdict = Summarized;
+  out = (on_out ∙ ap₂ (λ finish past. summary_text number (report_of image finish past)) shows.ended shows.past_is) i;
+  err = on_err i;
+  stores = stored i;
+}

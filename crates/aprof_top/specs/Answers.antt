@@ -2,7 +2,8 @@
 use Rattle.std.specs.Prelude.{◌≡◌, ◌≢◌, ◌⊎◌, ◌<◌, ◌≤◌, ℕ, List, [], ◌++◌, length, take, slice_get, Option, Some, None}
 use Rattle.std.specs.List.{AllByRecursion}
 use Rattle.std.specs.Io.KnownBytes.{append_known}
-use Rattle.command_line.specs.Options.{AsksFor, RunOptions}
+use Rattle.command_line.specs.Options.{Asked, AsksFor}
+use Rattle.command_line.specs.Options.Asked.{Run, Demo}
 use Rattle.host_io.specs.Faults.{Rose}
 use Rattle.host_io.specs.Files.{FilesState, FailsAt, with_file}
 use Rattle.host_io.specs.Sink.{SinkState}
@@ -11,17 +12,18 @@ use Rattle.aprof_top.specs.Loads.{loaded_paths}
 use Rattle.aprof_top.specs.Outcome.{IsOutcome, IsUndecided, Outcome}
 use Rattle.aprof_top.specs.Outside.{Outside, AreHeld, Ends, with_stores}
 use Rattle.aprof_top.specs.Texts.{cannot_read_text, cannot_write_text, out_of_memory_text}
-use Rattle.aprof_top.specs.Verdicts.{verdict_status, verdict_text}
+use Rattle.aprof_top.specs.Verdicts.{IsOfRun, verdict_status, verdict_text}
 
 -- the paths that are loaded, in order
-abbrev pub paths_of : Option RunOptions → List (List ℕ)
+abbrev pub paths_of : Option Asked → List (List ℕ)
 paths_of None = []
-paths_of (Some options) = loaded_paths options
+paths_of (Some (Run options)) = loaded_paths options
+paths_of (Some (Demo number)) = []
 
 -- What a call finds: what its words ask for, and the bytes of the first files that this loads, as far as the contents are
 -- told. One of them is longer than the limit only where a load met its limit in this call.
 pub record Found (words : List (List ℕ)) (before after : Outside) : Type 0 where
-  pub asked : Option RunOptions
+  pub asked : Option Asked
   pub asks : AsksFor words asked
   pub files : List (List ℕ)
   pub held : AreHeld before.files.contents (paths_of asked) files
@@ -101,8 +103,8 @@ pub record CannotWrite (words : List (List ℕ)) (before after : Outside) : Type
   pub found : Found words before after
   pub outcome : Outcome
   pub written : Decides found outcome
-  -- it is that of a run, which stores its report
-  pub ran : 0 < length outcome.stores
+  -- it is that of a run, which stores its report, or of the demo
+  pub ran : IsOfRun outcome.verdict
   pub first : DoesFirst outcome cannot_write_text before after
   pub cause : (StoreFails outcome.stores first.count before.files after.files × (take first.out_count outcome.out ≡ outcome.out) × (take first.err_count outcome.err ≡ outcome.err)) ⊎ PutFails outcome before after
   pub whole_text : (take first.text_count cannot_write_text ≡ cannot_write_text) ⊎ Rose before.err.faults after.err.faults

@@ -1,7 +1,7 @@
 -- How a command ended, and what it left: the contracts between the parts of the program.
 use Rattle.std.specs.Prelude.{◌≡◌, ◌⊎◌, ◌<◌, ◌≤◌, ℕ, List, [], length, take, slice_get, Some}
 use Rattle.std.specs.Io.KnownBytes.{append_known}
-use Rattle.command_line.specs.Options.{AsksFor, RunOptions}
+use Rattle.command_line.specs.Options.{Asked, AsksFor}
 use Rattle.host_io.specs.Files.{FailsAt}
 use Rattle.host_io.specs.Sink.{SinkState}
 use Rattle.aprof_top.specs.Answers.{Decides, Found, paths_of}
@@ -9,7 +9,7 @@ use Rattle.aprof_top.specs.Delivery.{Delivers, PutsNothing}
 use Rattle.aprof_top.specs.Outcome.{IsUndecided, Outcome}
 use Rattle.aprof_top.specs.Outside.{Outside, Ends}
 use Rattle.aprof_top.specs.Texts.{cannot_read_text, cannot_write_text, out_of_memory_text}
-use Rattle.aprof_top.specs.Verdicts.{verdict_status, verdict_text}
+use Rattle.aprof_top.specs.Verdicts.{IsOfRun, verdict_status, verdict_text}
 use Rattle.aprof_top.specs.declared.ending.Ending.{Ending}
 use Rattle.aprof_top.specs.declared.ending.Ending.TheVariants.{Decided, CannotRead, CannotWrite, CannotPut, OutOfMemory}
 
@@ -36,10 +36,10 @@ pub record Reaches (words : List (List ℕ)) (before after : Outside) (ending : 
   pub written : Decides found outcome
   pub delivery : Delivers outcome before after ending
 
--- So was one that stores something.
-pub record Stores (words : List (List ℕ)) (before after : Outside) (ending : Ending) : Type 0 where
+-- So was one of a run.
+pub record Runs (words : List (List ℕ)) (before after : Outside) (ending : Ending) : Type 0 where
   pub reached : Reaches words before after ending
-  pub ran : 0 < length reached.outcome.stores
+  pub ran : IsOfRun reached.outcome.verdict
 
 -- A load failed, and nothing was decided before.
 pub record FailsBefore (words : List (List ℕ)) (path : List ℕ) (before after : Outside) : Type 0 where
@@ -60,13 +60,13 @@ pub record DoesNothing (words : List (List ℕ)) (before after : Outside) : Type
 abbrev pub CommandEnds : List (List ℕ) → Outside → Outside → Ending → Type 0
 CommandEnds words before after (Decided verdict) = Reaches words before after (Decided verdict)
 CommandEnds words before after (CannotRead path) = FailsBefore words path.now before after
-CommandEnds words before after CannotWrite = Stores words before after CannotWrite
-CommandEnds words before after CannotPut = Stores words before after CannotPut
+CommandEnds words before after CannotWrite = Runs words before after CannotWrite
+CommandEnds words before after CannotPut = Runs words before after CannotPut
 CommandEnds words before after OutOfMemory = DoesNothing words before after ⊎ Reaches words before after OutOfMemory
 
--- so it is for all words that ask for these options
-abbrev pub OptionsEnd : RunOptions → Outside → Outside → Ending → Type 0
-OptionsEnd options before after ending = (words : List (List ℕ)) → AsksFor words (Some options) → CommandEnds words before after ending
+-- so it is for all words that ask for this
+abbrev pub AskedEnds : Asked → Outside → Outside → Ending → Type 0
+AskedEnds asked before after ending = (words : List (List ℕ)) → AsksFor words (Some asked) → CommandEnds words before after ending
 
 -- The status is the ending's, and the sink gained its last text, or a prefix of it where its count of faults rose.
 pub record TellsEnding (ending : Ending) (old new : SinkState) (status : ℕ) : Type 0 where

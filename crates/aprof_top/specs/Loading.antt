@@ -9,7 +9,7 @@ use Rattle.aprof_top.specs.Loads.{passes_limit, shared_length}
 use Rattle.aprof_top.specs.Outside.{AreHeld}
 use Rattle.aprof_top.specs.declared.ending.Ending.{Ending}
 use Rattle.aprof_top.specs.declared.ending.Ending.TheVariants as ending
-use Rattle.aprof_top.specs.declared.ending.Verdict.TheVariants.{BadCommand, BadImage, BadSchedule, TooLarge, Ran}
+use Rattle.aprof_top.specs.declared.ending.Verdict.TheVariants.{BadCommand, BadImage, BadSchedule, TooLarge, Ran, Summarized}
 
 -- the bytes of files in memory
 abbrev pub contents_of : List (Vec ℕ Global) → List (List ℕ)
@@ -58,5 +58,6 @@ LoadsEnd shared paths old new (ending.Decided BadCommand) = ⊥
 LoadsEnd shared paths old new (ending.Decided (BadImage e)) = ⊥
 LoadsEnd shared paths old new (ending.Decided (BadSchedule line)) = ⊥
 LoadsEnd shared paths old new (ending.Decided (Ran finish)) = ⊥
+LoadsEnd shared paths old new (ending.Decided Summarized) = ⊥
 LoadsEnd shared paths old new ending.CannotWrite = ⊥
 LoadsEnd shared paths old new ending.CannotPut = ⊥

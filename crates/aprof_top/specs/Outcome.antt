@@ -1,6 +1,7 @@
 -- What the written product answers to a command, over the files that it loads.
-use Rattle.std.specs.Prelude.{◌≡◌, ℕ, nat_lt, List, [], ◌∷◌, ◌++◌, length, Option, Some, None, if◌then◌else◌}
-use Rattle.command_line.specs.Options.{RunOptions, arguments}
+use Rattle.std.specs.Prelude.{◌≡◌, ℕ, ◌^◌, codes, nat_lt, List, [], ◌∷◌, ◌++◌, length, Option, Some, None, if◌then◌else◌}
+use Rattle.command_line.specs.Options.{Asked, RunOptions, arguments}
+use Rattle.command_line.specs.Options.Asked.{Run, Demo}
 use Rattle.elf_image.specs.declared.error.ElfError.{ElfError}
 use Rattle.elf_image.specs.Image.{Executable}
 use Rattle.elf_image.specs.Reading.{image_of}
@@ -12,10 +13,12 @@ use Rattle.profile_report.specs.ReportText.{report_text}
 use Rattle.thread_sched.specs.declared.entry.Entry.{Entry}
 use Rattle.thread_sched.specs.ScheduleText as recordings
 use Rattle.aprof_top.specs.declared.ending.Verdict.{Verdict}
-use Rattle.aprof_top.specs.declared.ending.Verdict.TheVariants.{BadCommand, BadImage, BadSchedule, TooLarge, Ran}
+use Rattle.aprof_top.specs.declared.ending.Verdict.TheVariants.{BadCommand, BadImage, BadSchedule, TooLarge, Ran, Summarized}
 use Rattle.aprof_top.specs.Loads.{Loaded, loaded_of, loaded_paths, passes_limit, shared_count}
 use Rattle.aprof_top.specs.Report.{report_of}
 use Rattle.aprof_top.specs.Run.{run_of}
+use Rattle.demo_guest.specs.Image.{IsDemoFile}
+use Rattle.aprof_top.specs.Summary.{summary_text}
 use Rattle.aprof_top.specs.Schedules.{Reading, Reads}
 use Rattle.aprof_top.specs.Schedules.Reading.{Turns, BadLine}
 
@@ -93,13 +96,48 @@ Follows options files outcome PastLimit = outcome ≡ refusal TooLarge
 Follows options files outcome Loading = ⊥
 Follows options files outcome Complete = IsRun options (loaded_of options files) outcome
 
+-- ---- the demo
+-- what the demo is run with: its one argument is its name, and all else is as without options
+abbrev pub demo_options : RunOptions
+demo_options = record {
+  report = [];
+  stdin = None;
+  schedule = None;
+  recording = None;
+  quantum = 10000;
+  budget = 10 ^ 9;
+  image = codes "demo";
+  words = [];
+}
+
+-- its executable, and no other file
+abbrev pub demo_files : List ℕ → Loaded
+demo_files file = record { image = file; inputs = []; stdin = []; schedule = [] }
+
+-- its summary is put, and nothing is stored
+abbrev pub demo_outcome : ℕ → Executable → Shown → Outcome
+demo_outcome number image run = record {
+  verdict = Summarized;
+  out = summary_text number (report_of image run.finish run.past);
+  err = [];
+  stores = [];
+}
+
+-- The outcome is the summary of the run of the demo's executable.
+pub record IsDemo (number : ℕ) (outcome : Outcome) : Type 0 where
+  pub file : List ℕ
+  pub is_demo : IsDemoFile number file
+  pub answered : outcome ≡ demo_outcome number (image_of file) (run_of demo_options (demo_files file) [])
+
 -- ---- the whole
 -- The outcome of what the words ask for, or of their refusal, over the bytes of the files that were loaded.
-abbrev pub IsOutcome : Option RunOptions → List (List ℕ) → Outcome → Type 0
+abbrev pub IsOutcome : Option Asked → List (List ℕ) → Outcome → Type 0
 IsOutcome None files outcome = outcome ≡ refusal BadCommand
-IsOutcome (Some options) files outcome = Follows options files outcome (stage options files)
+IsOutcome (Some (Run options)) files outcome = Follows options files outcome (stage options files)
+IsOutcome (Some (Demo number)) files outcome = IsDemo number outcome
 
 -- these files decide nothing yet
-abbrev pub IsUndecided : Option RunOptions → List (List ℕ) → Type 0
+abbrev pub IsUndecided : Option Asked → List (List ℕ) → Type 0
 IsUndecided None files = ⊥
-IsUndecided (Some options) files = stage options files ≡ Loading
+IsUndecided (Some (Run options)) files = stage options files ≡ Loading
+IsUndecided (Some (Demo number)) files = ⊥

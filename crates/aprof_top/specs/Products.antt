@@ -13,14 +13,15 @@ use Rattle.trace_model.specs.WellFormed.{IsLight}
 use Rattle.thread_sched.specs.declared.entry.Entry.{Entry}
 use Rattle.aprof_top.specs.declared.ending.Ending.{Ending}
 use Rattle.aprof_top.specs.declared.ending.Ending.TheVariants as ending
-use Rattle.aprof_top.specs.declared.ending.Verdict.TheVariants.{BadCommand, BadImage, BadSchedule, TooLarge, Ran}
+use Rattle.aprof_top.specs.declared.ending.Verdict.TheVariants.{BadCommand, BadImage, BadSchedule, TooLarge, Ran, Summarized}
 use Rattle.aprof_top.specs.declared.loaded.Loaded as declared
 use Rattle.aprof_top.specs.declared.product.Product.{Product}
 use Rattle.aprof_top.specs.declared.product.Store.{Store}
 use Rattle.aprof_top.specs.Loading.{AreLoaded, LoadsEnd}
 use Rattle.aprof_top.specs.Loads.{Loaded, loaded_of, loaded_paths, shared_count, with_inputs}
-use Rattle.aprof_top.specs.Outcome.{IsRun, Outcome, refusal}
+use Rattle.aprof_top.specs.Outcome.{IsDemo, IsRun, Outcome, refusal}
 use Rattle.aprof_top.specs.Run.{shown_from}
+use Rattle.aprof_top.specs.Verdicts.{IsOfRun}
 
 -- The program has these files of the command.
 pub record Keeps (options : RunOptions) (loaded : Loaded) (kept : declared.Loaded) : Type 0 where
@@ -48,7 +49,7 @@ store_of store = (store.path.now, store.bytes.items)
 -- the outcome that a product is
 abbrev pub outcome_of : Product → Outcome
 outcome_of product = record {
-  verdict = Ran product.finish;
+  verdict = product.verdict;
   out = product.out.items;
   err = product.err.items;
   stores = map store_of product.stores.items;
@@ -74,14 +75,15 @@ ImageRuns options image turns files stdin (Err (ending.Decided BadCommand)) = �
 ImageRuns options image turns files stdin (Err (ending.Decided (BadImage e))) = ⊥
 ImageRuns options image turns files stdin (Err (ending.Decided (BadSchedule line))) = ⊥
 ImageRuns options image turns files stdin (Err (ending.Decided (Ran finish))) = ⊥
+ImageRuns options image turns files stdin (Err (ending.Decided Summarized)) = ⊥
 ImageRuns options image turns files stdin (Err (ending.CannotRead path)) = ⊥
 ImageRuns options image turns files stdin (Err ending.CannotWrite) = ⊥
 ImageRuns options image turns files stdin (Err ending.CannotPut) = ⊥
 
--- The product is the outcome of a run of these files, and stores something.
+-- The product is the outcome of a run of these files.
 pub record RunsTo (options : RunOptions) (loaded : Loaded) (product : Product) : Type 0 where
   pub is_run : IsRun options loaded (outcome_of product)
-  pub stores : 0 < length product.stores.items
+  pub ran : IsOfRun product.verdict
 
 -- how the run of a command's files ends: with its outcome, or for want of memory
 abbrev pub FilesRun : RunOptions → Loaded → Result Product Ending → Type 0
@@ -91,3 +93,12 @@ FilesRun options loaded (Err ending.OutOfMemory) = Unit {0}
 FilesRun options loaded (Err (ending.CannotRead path)) = ⊥
 FilesRun options loaded (Err ending.CannotWrite) = ⊥
 FilesRun options loaded (Err ending.CannotPut) = ⊥
+
+-- how the demo ends: with its outcome, or for want of memory
+abbrev pub DemoRuns : ℕ → Result Product Ending → Type 0
+DemoRuns number (Ok product) = IsDemo number (outcome_of product) × IsOfRun product.verdict
+DemoRuns number (Err ending.OutOfMemory) = Unit {0}
+DemoRuns number (Err (ending.Decided verdict)) = ⊥
+DemoRuns number (Err (ending.CannotRead path)) = ⊥
+DemoRuns number (Err ending.CannotWrite) = ⊥
+DemoRuns number (Err ending.CannotPut) = ⊥

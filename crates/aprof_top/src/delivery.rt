@@ -7,7 +7,7 @@ ghost use Rattle.aprof_top.specs.Ending.{CountsStay};
 ghost use Rattle.aprof_top.specs.Outside.{outside};
 ghost use Rattle.aprof_top.specs.Products.{outcome_of, store_of};
 
-use crate::ending::{Ending, Verdict};
+use crate::ending::Ending;
 use crate::product::{Product, Store};
 use host_io::{Files, PutError, Sink, StoreError};
 
@@ -61,7 +61,7 @@ pub(crate) fn deliver<F: Files, O: Sink, E: Sink>(
         Err(PutError::Memory) => return Ending::OutOfMemory,
     }
     match store_all(product.stores.as_slice(), files) {
-        Ok(()) => Ending::Decided(Verdict::Ran(product.finish)),
+        Ok(()) => Ending::Decided(product.verdict),
         Err(StoreError::Failed) => Ending::CannotWrite,
         Err(StoreError::Memory) => Ending::OutOfMemory,
     }

@@ -19,6 +19,7 @@ pub(crate) enum Verdict {
     BadSchedule(u64),
     TooLarge,
     Ran(Finish),
+    Summarized,
 }
 
 /// How a command ended.
@@ -77,6 +78,7 @@ fn verdict_status(verdict: Verdict) -> u8
         Verdict::BadSchedule(_) => 9,
         Verdict::TooLarge => 11,
         Verdict::Ran(finish) => finish_status(finish),
+        Verdict::Summarized => 0,
     }
 }
 

@@ -2,11 +2,13 @@
 #![tactic(auto)]
 
 mod delivery;
+mod demo;
 mod ending;
 mod loaded;
 mod loads;
 mod product;
 mod report;
+mod summary;
 mod texts;
 mod top;
 

@@ -1,5 +1,5 @@
 //! What the run of a guest leaves.
-ghost use Rattle.std.specs.Prelude.{◌≡◌, ◌≢◌, ◌<◌, length, map, option_map, reverse, Some, None, IfOk, IfErr, OnOk};
+ghost use Rattle.std.specs.Prelude.{◌≡◌, ◌≢◌, map, option_map, reverse, Some, None, IfOk, IfErr, OnOk};
 ghost use Rattle.command_line.specs.Options.{arguments};
 ghost use Rattle.command_line.specs.Read.{AreInRange, options_in};
 ghost use Rattle.trace_model.specs.Depth.{pending};
@@ -13,7 +13,7 @@ ghost use Rattle.guest_run.specs.Shown.{IsShown, Shown};
 ghost use Rattle.aprof_top.specs.Loads as loads;
 ghost use Rattle.aprof_top.specs.Outcome.{recording_stores, run_outcome};
 ghost use Rattle.aprof_top.specs.Products.{FilesRun, ImageRuns, Keeps, outcome_of, store_of};
-ghost use Rattle.aprof_top.specs.Run.{shown_from};
+ghost use Rattle.aprof_top.specs.Verdicts.{IsOfRun};
 
 use crate::ending::{Ending, Verdict};
 use crate::loaded::Loaded;
@@ -23,7 +23,7 @@ use elf_image::{ElfError, Image, read_image};
 use guest_calls::Inputs;
 use guest_machine::{Machine, SetupError};
 use guest_run::{Run, run_guest};
-use guest_words::Finish;
+use profile_report::write_report;
 use std::alloc::{AllocError, Global};
 use thread_sched::{Recording, Sched, Schedule, ScheduleError};
 
@@ -34,10 +34,10 @@ pub(crate) struct Store<'a> {
     pub(crate) bytes: Vec<u8>,
 }
 
-/// What a run leaves: the guest's output on its descriptors 1 and 2, and the files to store, in order.
+/// What a run comes to: the verdict, what goes to the sinks, and the files to store, in order.
 #[derive(Drop)]
 pub(crate) struct Product<'a> {
-    pub(crate) finish: Finish,
+    pub(crate) verdict: Verdict,
     pub(crate) out: Vec<u8>,
     pub(crate) err: Vec<u8>,
     pub(crate) stores: Vec<Store<'a>>,
@@ -60,8 +60,8 @@ fn first_machine(
     Machine::new(alloc, image, words.as_slice(), inputs, stdin)
 }
 
-// The run of an executable, which begins with these input files and this standard input.
-fn run_image(
+/// The run of an executable, which begins with these input files and this standard input.
+pub(crate) fn run_image(
     alloc: Global,
     command: &RunCommand<'_>,
     image: &Image,
@@ -108,16 +108,17 @@ fn product_of<'a>(
     requires steps { run.steps ≡ steps (reverse run.events.list) }
     requires pending { run.pending ≡ pending (reverse run.events.list) }
     ensures outcome { IfOk result (λ product. (shown : Shown) → IsShown shown run → outcome_of product ≡ run_outcome (options_in command.now) image.now shown) }
-    ensures stores { IfOk result (λ product. 0 < length product.stores.items) }
+    ensures ran { IfOk result (λ product. IsOfRun product.verdict) }
 {
     let mut stores = recording_stores(alloc, command.recording, &run.recording)?;
-    let bytes = report_of(alloc, image, &run)?;
+    let report = report_of(alloc, image, &run)?;
+    let bytes = write_report(alloc, &report)?;
     stores.push(Store {
         path: command.report,
         bytes,
     })?;
     Ok(Product {
-        finish: run.finish,
+        verdict: Verdict::Ran(run.finish),
         out: run.out,
         err: run.err,
         stores,

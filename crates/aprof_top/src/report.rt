@@ -5,14 +5,13 @@ ghost use Rattle.trace_model.specs.Depth.{pending};
 ghost use Rattle.trace_model.specs.Profile.{steps};
 ghost use Rattle.trace_model.specs.WellFormed.{IsLight};
 ghost use Rattle.cost_points.specs.Tally.{tally_of};
-ghost use Rattle.profile_report.specs.ReportText.{report_text};
 ghost use Rattle.aprof_top.specs.Report.{named, report_of};
 
 use cost_points::Table;
 use elf_image::Image;
 use guest_run::Run;
 use guest_words::{Addr, Name};
-use profile_report::{Report, Routine, write_report};
+use profile_report::{Report, Routine};
 use std::alloc::{AllocError, Global};
 use trace_model::{Done, slow_done};
 
@@ -56,20 +55,19 @@ fn named_routines(alloc: Global, image: &Image, table: &Table) -> Result<Vec<Rou
     Ok(routines)
 }
 
-/// The text of the report of a run of an executable.
-pub(crate) fn report_of(alloc: Global, image: &Image, run: &Run) -> Result<Vec<u8>, AllocError>
+/// The report of a run of an executable.
+pub(crate) fn report_of(alloc: Global, image: &Image, run: &Run) -> Result<Report, AllocError>
     requires light { IsLight (reverse run.now.events.list) }
     requires steps { run.now.steps ≡ steps (reverse run.now.events.list) }
     requires pending { run.now.pending ≡ pending (reverse run.now.events.list) }
-    ensures { IfOk result (λ text. text.items ≡ report_text (report_of image.now run.now.finish (reverse run.now.events.list))) }
+    ensures { IfOk result (λ report. report ≡ report_of image.now run.now.finish (reverse run.now.events.list)) }
 {
     let done = slow_done(alloc, run.events.list())?;
     let table = table_of(alloc, done.as_slice())?;
-    let report = Report {
+    Ok(Report {
         finish: run.finish,
         steps: run.steps,
         pending: run.pending,
         routines: named_routines(alloc, image, &table)?,
-    };
-    write_report(alloc, &report)
+    })
 }

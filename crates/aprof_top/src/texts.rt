@@ -62,5 +62,6 @@ pub(crate) fn verdict_text(alloc: Global, verdict: Verdict) -> Result<Vec<u8>, A
         Verdict::BadSchedule(line) => schedule_text(alloc, line),
         Verdict::TooLarge => Vec::from_slice(alloc, b"aprof: too large\n"),
         Verdict::Ran(finish) => finish_text(alloc, finish),
+        Verdict::Summarized => Ok(Vec::new(alloc)),
     }
 }

@@ -1,18 +1,20 @@
 //! The top call.
-ghost use Rattle.std.specs.Prelude.{◌≡◌, ◌⊎◌, map, string_bytes};
+ghost use Rattle.std.specs.Prelude.{◌≡◌, ◌⊎◌, ◌≤◌, map, string_bytes};
 ghost use Rattle.aprof_top.specs.Answers.{Answers, CannotRead, CannotWrite, IsWritten, OutOfMemory};
-ghost use Rattle.aprof_top.specs.Ending.{CommandEnds, CountsStay, OptionsEnd};
+ghost use Rattle.aprof_top.specs.Ending.{AskedEnds, CommandEnds, CountsStay};
 ghost use Rattle.aprof_top.specs.Outside.{outside, NothingRose};
 ghost use Rattle.aprof_top.specs.Products.{CommandLoads};
 ghost use Rattle.host_io.specs.Files.{NoCountFalls};
+ghost use Rattle.command_line.specs.Options.Asked.{Run, Demo};
 ghost use Rattle.command_line.specs.Read.{AreInRange, options_in};
 
 use crate::delivery::deliver;
+use crate::demo::run_demo;
 use crate::ending::{Ending, Verdict, tell};
 use crate::loaded::Loaded;
 use crate::loads::{load_files, loaded_paths, shared_count};
 use crate::product::run_files;
-use command_line::{CommandError, RunCommand, read_command};
+use command_line::{Command, CommandError, RunCommand, read_command};
 use host_io::{Files, Sink};
 use std::alloc::Global;
 
@@ -56,7 +58,7 @@ fn run_command<'a, F: Files, O: Sink, E: Sink>(
     ensures counts { CountsStay
         (outside (F.state files.old) (O.state out.old) (E.state err.old))
         (outside (F.state files.new) (O.state out.new) (E.state err.new)) }
-    ensures ends { OptionsEnd (options_in command.now)
+    ensures ends { AskedEnds (Run (options_in command.now))
         (outside (F.state files.old) (O.state out.old) (E.state err.old))
         (outside (F.state files.new) (O.state out.new) (E.state err.new)) result }
 {
@@ -65,6 +67,28 @@ fn run_command<'a, F: Files, O: Sink, E: Sink>(
         Err(ending) => return ending,
     };
     match run_files(alloc, command, loaded) {
+        Ok(product) => deliver(&product, files, out, err),
+        Err(ending) => ending,
+    }
+}
+
+// Runs the demo, and puts its summary.
+fn show_demo<F: Files, O: Sink, E: Sink>(
+    alloc: Global,
+    number: u32,
+    files: &mut F,
+    out: &mut O,
+    err: &mut E,
+) -> Ending<'static>
+    requires { (1 ≤ number) × (number ≤ 40000) }
+    ensures counts { CountsStay
+        (outside (F.state files.old) (O.state out.old) (E.state err.old))
+        (outside (F.state files.new) (O.state out.new) (E.state err.new)) }
+    ensures ends { AskedEnds (Demo number)
+        (outside (F.state files.old) (O.state out.old) (E.state err.old))
+        (outside (F.state files.new) (O.state out.new) (E.state err.new)) result }
+{
+    match run_demo(alloc, number) {
         Ok(product) => deliver(&product, files, out, err),
         Err(ending) => ending,
     }
@@ -86,7 +110,8 @@ fn run_words<'a, F: Files, O: Sink, E: Sink>(
         (outside (F.state files.new) (O.state out.new) (E.state err.new)) result }
 {
     match read_command(alloc, words) {
-        Ok(command) => run_command(alloc, &command, files, out, err),
+        Ok(Command::Run(command)) => run_command(alloc, &command, files, out, err),
+        Ok(Command::Demo(number)) => show_demo(alloc, number, files, out, err),
         Err(CommandError::Refused) => Ending::Decided(Verdict::BadCommand),
         Err(CommandError::Memory) => Ending::OutOfMemory,
     }

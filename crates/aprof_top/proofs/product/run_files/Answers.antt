@@ -28,4 +28,4 @@ returns-in-Ok-product_of c = λ files keeps.
     let accepted = image_accepted files c.args.loaded c.as_slice.result.now keeps.image c.as_slice.ensures.value c.in-Ok.ensures.accepted in
     let read = c.in-Ok-read.ensures.found in
     RunsTo-run options files accepted c.in-Ok-read.schedule read.0 (subst (λ text. IsText text c.in-Ok-read.schedule) (c.as_slice-2.ensures.value ∙ keeps.schedule) read.1)
-    c.in-Ok.image (c.in-Ok.ensures.image ∙ ap image_of (c.as_slice.ensures.value ∙ keeps.image)) c.args.loaded.inputs c.args.loaded.stdin.items keeps.inputs_are keeps.stdin c.in-Ok-run_image.run' c.in-Ok-run_image.ensures c.in-Ok-product_of.product c.in-Ok-product_of.ensures.outcome c.in-Ok-product_of.ensures.stores
+    c.in-Ok.image (c.in-Ok.ensures.image ∙ ap image_of (c.as_slice.ensures.value ∙ keeps.image)) c.args.loaded.inputs c.args.loaded.stdin.items keeps.inputs_are keeps.stdin c.in-Ok-run_image.run' c.in-Ok-run_image.ensures c.in-Ok-product_of.product c.in-Ok-product_of.ensures.outcome c.in-Ok-product_of.ensures.ran

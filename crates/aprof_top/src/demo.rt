@@ -1,0 +1,59 @@
+//! The demo: a guest of its own, whose report is summed up.
+ghost use Rattle.std.specs.Prelude.{◌≡◌, ◌≤◌};
+ghost use Rattle.command_line.specs.Read.{options_in};
+ghost use Rattle.aprof_top.specs.Outcome.{demo_options};
+ghost use Rattle.aprof_top.specs.Products.{DemoRuns};
+
+use crate::ending::{Ending, Verdict};
+use crate::product::{Product, run_image};
+use crate::report::report_of;
+use crate::summary::summary;
+use command_line::RunCommand;
+use demo_guest::demo_image;
+use elf_image::read_image;
+use guest_calls::Inputs;
+use std::alloc::Global;
+use thread_sched::Schedule;
+
+// What the demo is run with: no files, and all defaults.
+fn demo_command(alloc: Global) -> RunCommand<'static>
+    ensures { options_in result ≡ demo_options }
+{
+    RunCommand {
+        report: "",
+        stdin: None,
+        schedule: None,
+        recording: None,
+        quantum: 10_000,
+        budget: 1_000_000_000,
+        image: "demo",
+        words: Vec::new(alloc),
+    }
+}
+
+/// Runs the demo of this number, and sums its report up.
+pub(crate) fn run_demo(alloc: Global, number: u32) -> Result<Product<'static>, Ending<'static>>
+    requires { (1 ≤ number) × (number ≤ 40000) }
+    ensures { DemoRuns number result }
+{
+    let file = demo_image(alloc, number)?;
+    // It passes all tests, so it is refused only for want of memory.
+    let Ok(image) = read_image(alloc, file.as_slice()) else {
+        return Err(Ending::OutOfMemory);
+    };
+    let command = demo_command(alloc);
+    let schedule = Schedule::empty(alloc)?;
+    let inputs = Inputs::new(alloc)?;
+    let run = match run_image(alloc, &command, &image, schedule, inputs, Vec::new(alloc)) {
+        Ok(run) => run,
+        Err(ending) => return Err(ending),
+    };
+    let report = report_of(alloc, &image, &run)?;
+    let out = summary(alloc, number, &report)?;
+    Ok(Product {
+        verdict: Verdict::Summarized,
+        out,
+        err: Vec::new(alloc),
+        stores: Vec::new(alloc),
+    })
+}
