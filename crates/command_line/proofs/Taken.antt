@@ -11,7 +11,7 @@ use Rattle.clap.specs.Walk.{answers_to, finished, nothing_held, rows_after, sett
 use Rattle.clap.specs.Words.{Row, Rule, Text, built, first_of, subcommand_of, takes}
 use Rattle.clap.specs.Facts.{explicit_source}
 use Rattle.std.specs.Str.{bytes_eq}
-use Rattle.command_line.specs.App.{the_app, top_app, run_app}
+use Rattle.command_line.specs.App.{the_app, top_app, run_app, demo_app}
 use Rattle.command_line.specs.Options.{budget_of, options_of, options_of_rows, options_with, quantum_of}
 use Rattle.command_line.specs.Taken.{HasBadNumber, TakenWordsFailByNumbers}
 use Rattle.command_line.proofs.Filled.{AllKeep, IsKept, is_appended, is_filled, is_own, is_set, kept_keeps, row_for, settle_keeps, walk_keeps}
@@ -44,16 +44,16 @@ enters_only a s (Some met) subs p q =
     (met.1, found.0, found.1)
 
 subs_are : (built the_app).subs ≡ run_shape ∷ []
-unfolding the_app top_app run_app clap_on_literals
+unfolding the_app top_app run_app demo_app clap_on_literals
 subs_are = refl
 
 run_is_named : run_shape.name ≡ codes "run"
-unfolding the_app top_app run_app clap_on_literals
+unfolding the_app top_app run_app demo_app clap_on_literals
 run_is_named = refl
 
 -- the subcommand has to be there
 top_requires : (rows : List Row) (has : Bool) → is_valid (built the_app).top rows has ≡ true → has ≡ true
-unfolding the_app top_app run_app clap_on_literals
+unfolding the_app top_app run_app demo_app clap_on_literals
 top_requires rows true h = refl
 top_requires rows false h = let no : false ≡ true = h in cc
 
@@ -64,7 +64,7 @@ two_given false i h = let no : false ≡ true = h in cc
 
 -- and `-o` and the image
 run_requires : (rows : List Row) → is_valid run_shape rows false ≡ true → (is_given (codes "output") rows ≡ true) × (is_given (codes "image") rows ≡ true)
-unfolding the_app top_app run_app clap_on_literals
+unfolding the_app top_app run_app demo_app clap_on_literals
 run_requires rows h = two_given (is_given (codes "output") rows) (is_given (codes "image") rows) h
 
 -- Words that are taken enter `run`, whose words pass.
@@ -104,7 +104,7 @@ all_keep id [] same k = tt
 all_keep id (a ∷ rest) same k = (kept_keeps id a same k.0, all_keep id rest same k.1)
 
 output_keeps : AllKeep (codes "output") rules
-unfolding the_app top_app run_app clap_on_literals
+unfolding the_app top_app run_app demo_app clap_on_literals
 output_keeps = all_keep (codes "output") rules refl (
   is_set refl refl,
   (
@@ -123,7 +123,7 @@ output_keeps = all_keep (codes "output") rules refl (
 )
 
 image_keeps : AllKeep (codes "image") rules
-unfolding the_app top_app run_app clap_on_literals
+unfolding the_app top_app run_app demo_app clap_on_literals
 image_keeps = all_keep (codes "image") rules refl (
   is_set refl refl,
   (
