@@ -1,10 +1,9 @@
 -- What is read of the rows of plain words.
-use Rattle.std.proofs.Common.{◌≡◌, ℕ, Bool, true, false, refl, ap, ap₂, ◌∙◌, List, [], ◌∷◌, ◌++◌, Option, Some, None, codes, cond}
+use Rattle.std.proofs.Common.{◌≡◌, ℕ, Bool, true, false, refl, ap, ap₂, ◌∙◌, List, [], ◌∷◌, ◌++◌, Option, Some, None, codes}
 use Rattle.std.specs.Prelude.{option_map, unwrap_or}
 use Rattle.std.specs.Str.{bytes_eq}
-use Rattle.clap.specs.Words.{Row, Text, all_of, first_of, subcommand_of}
-use Rattle.command_line.specs.App.{the_app}
-use Rattle.command_line.specs.Options.{Asked, Run, budget_of, options_of_rows, options_with, quantum_of}
+use Rattle.clap.specs.Words.{Row, Text, all_of, first_of}
+use Rattle.command_line.specs.Options.{Run, budget_of, options_of_rows, options_with, quantum_of}
 use Rattle.command_line.specs.Plain.{Choice, PlainOptionsAreRead, given, id_of, run_words}
 use Rattle.command_line.proofs.Refusals.{asked_is, read_of}
 use Rattle.command_line.proofs.PlainWords.{plain_subcommand}

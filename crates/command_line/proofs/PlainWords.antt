@@ -18,7 +18,7 @@ use Rattle.command_line.proofs.Steps.{rules, run_shape, stand}
 
 -- ---- no argument has a default
 
-abbrev NoDefaults : List Rule → Type 0
+abbrev pub NoDefaults : List Rule → Type 0
 NoDefaults [] = Unit {0}
 NoDefaults (a ∷ rest) = (a.defaults ≡ []) × NoDefaults rest
 
@@ -26,7 +26,7 @@ if_none : (b : Bool) (a : Rule) (rows : List Row) → a.defaults ≡ [] → cond
 if_none true a rows e = refl
 if_none false a rows e = rw e refl
 
-no_defaults : (as_rules : List Rule) (rows : List Row) → NoDefaults as_rules → fold with_default rows as_rules ≡ rows
+pub no_defaults : (as_rules : List Rule) (rows : List Row) → NoDefaults as_rules → fold with_default rows as_rules ≡ rows
 no_defaults [] rows h = refl
 no_defaults (a ∷ rest) rows h =
     ap (λ x. fold with_default x rest) (if_none (has_row a.id rows) a rows h.0) ∙ no_defaults rest rows h.1
@@ -108,10 +108,10 @@ run_passes choices image words plain chosen =
 
 -- ---- the subcommand
 
-abbrev top_rules : List Rule
+abbrev pub top_rules : List Rule
 top_rules = (built the_app).top.rules
 
-abbrev names : Names
+abbrev pub names : Names
 names = names_of (built the_app)
 
 -- the walk stopped at `run`, with these words after it
@@ -149,7 +149,7 @@ unfolding the_app top_app run_app demo_app clap_on_literals
 enters_run rest = refl
 
 -- what holds after the walk of the top command, by what was met and whether it has matches
-abbrev top_ends : Walk → Bool → Bool
+abbrev pub top_ends : Walk → Bool → Bool
 top_ends w has_subcommand = settle_passes top_rules (built the_app).top.args_override_self w.held
     && (list_all default_passes top_rules && is_valid (built the_app).top (finished top_rules w.held) has_subcommand)
 
@@ -171,7 +171,7 @@ built_takes_run rest h =
     (ap (λ (w : Walk). top_ends w (is_some (entered (built the_app) w.stopped))) walk
     ∙ (ap (λ (o : Option (Text × List Row)). top_ends (at_run rest) (is_some o)) (enters_run rest) ∙ top_valid rest)))
 
-after_program : (program : Text) (words : List Text) → argument_words the_app (program ∷ words) ≡ words
+pub after_program : (program : Text) (words : List Text) → argument_words the_app (program ∷ words) ≡ words
 unfolding the_app top_app run_app demo_app
 after_program program words = refl
 

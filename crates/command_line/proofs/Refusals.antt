@@ -1,5 +1,5 @@
 -- What the words ask for, by what was seen of them.
-use Rattle.std.proofs.Common.{◌≡◌, Bool, true, false, refl, ap, sym, ◌∙◌, List, Option, Some, None, ℕ, cond, inl, inr}
+use Rattle.std.proofs.Common.{◌≡◌, Bool, true, false, refl, ap, sym, ◌∙◌, List, Option, None, ℕ, cond, inl, inr}
 use Rattle.std.specs.Prelude.{option_and_then}
 use Rattle.clap.specs.Words.{Row, Text, subcommand_of, takes}
 use Rattle.command_line.specs.App.{the_app}

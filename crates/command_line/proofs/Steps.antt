@@ -21,6 +21,10 @@ run_shape = unwrap_or (slice_get (built the_app).subs 0) (new_shape [])
 abbrev pub rules : List Rule
 rules = run_shape.rules
 
+-- `demo` as `clap` builds it
+abbrev pub demo_shape : Shape
+demo_shape = unwrap_or (slice_get (built the_app).subs 1) (new_shape [])
+
 -- an argument whose values are being read
 abbrev pub Pending : Type 0
 Pending = Option (Text × List Text)
