@@ -4,6 +4,7 @@ pub mod Fixed
 pub mod Filled
 pub mod Numerals
 pub mod PlainArguments
+pub mod PlainDemo
 pub mod PlainOptions
 pub mod PlainWords
 pub mod Refusals

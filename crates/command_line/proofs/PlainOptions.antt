@@ -1,11 +1,11 @@
 -- What is read of the rows of plain words.
-use Rattle.std.proofs.Common.{◌≡◌, ℕ, Bool, true, false, refl, ap, ap₂, ◌∙◌, List, [], ◌∷◌, ◌++◌, Option, Some, None, codes, cond}
-use Rattle.std.specs.Prelude.{option_and_then, unwrap_or}
+use Rattle.std.proofs.Common.{◌≡◌, ℕ, Bool, true, false, refl, ap, ap₂, ◌∙◌, List, [], ◌∷◌, ◌++◌, Option, Some, None, codes}
+use Rattle.std.specs.Prelude.{option_map, unwrap_or}
 use Rattle.std.specs.Str.{bytes_eq}
-use Rattle.clap.specs.Words.{Row, Text, all_of, first_of, subcommand_of}
-use Rattle.command_line.specs.App.{the_app}
-use Rattle.command_line.specs.Options.{budget_of, options_of, options_of_rows, options_with, quantum_of}
+use Rattle.clap.specs.Words.{Row, Text, all_of, first_of}
+use Rattle.command_line.specs.Options.{Run, budget_of, options_of_rows, options_with, quantum_of}
 use Rattle.command_line.specs.Plain.{Choice, PlainOptionsAreRead, given, id_of, run_words}
+use Rattle.command_line.proofs.Refusals.{asked_is, read_of}
 use Rattle.command_line.proofs.PlainWords.{plain_subcommand}
 use Rattle.command_line.proofs.Rows.{IsNoChoice, choice_row, choice_rows, image_is_none, plain_rows, tail_rows, word_is_none}
 
@@ -92,13 +92,12 @@ options_are rows turn_steps run_steps report_path image stdin schedule recording
     }))
 
 pub plain_options : PlainOptionsAreRead
-unfolding options_of
 plain_options program choices image words plain zeros report_path turn_steps run_steps r q b =
     let all = run_words program choices image words in
     let tail = tail_rows image words in
-    ap (λ b. cond b None (option_and_then (λ found. options_of_rows found.1) (subcommand_of the_app all))) zeros
-    ∙ (ap (option_and_then (λ found. options_of_rows found.1)) (plain_subcommand program choices image words plain)
-    ∙ options_are (plain_rows choices image words) turn_steps run_steps report_path image
+    asked_is all zeros
+    ∙ (ap read_of (plain_subcommand program choices image words plain)
+    ∙ ap (option_map Run) (options_are (plain_rows choices image words) turn_steps run_steps report_path image
     (given (codes "stdin") choices) (given (codes "schedule") choices) (given (codes "record") choices) words
     (ap quantum_of (first_given (codes "quantum") choices tail (no_quantum image words)) ∙ q)
     (ap budget_of (first_given (codes "budget") choices tail (no_budget image words)) ∙ b)
@@ -107,4 +106,4 @@ plain_options program choices image words plain zeros report_path turn_steps run
     (first_given (codes "stdin") choices tail (no_stdin image words))
     (first_given (codes "schedule") choices tail (no_schedule image words))
     (first_given (codes "record") choices tail (no_recording image words))
-    (ap (λ (o : Option (List Text)). unwrap_or o []) (all_after (codes "word") choices tail word_is_none) ∙ words_read image words))
+    (ap (λ (o : Option (List Text)). unwrap_or o []) (all_after (codes "word") choices tail word_is_none) ∙ words_read image words)))

@@ -9,7 +9,7 @@ use Rattle.clap.specs.Takes.{built_takes, default_passes, entered_passes, is_giv
 use Rattle.clap.specs.Walk.{Names, Walk, default_rows, finished, has_row, idle, nothing_held, reading_by, rows_after, settled_rows, walk_from, walked, with_default}
 use Rattle.clap.specs.Words.{Row, Rule, Text, built, subcommand_of}
 use Rattle.clap.proofs.OnLiterals.{clap_on_literals}
-use Rattle.command_line.specs.App.{the_app, top_app, run_app}
+use Rattle.command_line.specs.App.{the_app, top_app, run_app, demo_app}
 use Rattle.command_line.specs.Plain.{ArePlain, Choice, PlainWordsAreTaken, budget, choice_words, is_chosen, quantum, recording, report, run_words, schedule, stdin}
 use Rattle.command_line.proofs.Choices.{ends_run}
 use Rattle.command_line.proofs.Fixed.{the_app_is_simple}
@@ -18,7 +18,7 @@ use Rattle.command_line.proofs.Steps.{rules, run_shape, stand}
 
 -- ---- no argument has a default
 
-abbrev NoDefaults : List Rule → Type 0
+abbrev pub NoDefaults : List Rule → Type 0
 NoDefaults [] = Unit {0}
 NoDefaults (a ∷ rest) = (a.defaults ≡ []) × NoDefaults rest
 
@@ -26,13 +26,13 @@ if_none : (b : Bool) (a : Rule) (rows : List Row) → a.defaults ≡ [] → cond
 if_none true a rows e = refl
 if_none false a rows e = rw e refl
 
-no_defaults : (as_rules : List Rule) (rows : List Row) → NoDefaults as_rules → fold with_default rows as_rules ≡ rows
+pub no_defaults : (as_rules : List Rule) (rows : List Row) → NoDefaults as_rules → fold with_default rows as_rules ≡ rows
 no_defaults [] rows h = refl
 no_defaults (a ∷ rest) rows h =
     ap (λ x. fold with_default x rest) (if_none (has_row a.id rows) a rows h.0) ∙ no_defaults rest rows h.1
 
 pub finished_rows : (rows : List Row) → fold with_default rows rules ≡ rows
-unfolding the_app top_app run_app clap_on_literals
+unfolding the_app top_app run_app demo_app clap_on_literals
 finished_rows rows = no_defaults rules rows (refl, (refl, (refl, (refl, (refl, (refl, (refl, (refl, tt))))))))
 
 -- ---- what is required is there
@@ -63,7 +63,7 @@ given_after id (c ∷ cs) rest h g = rw (h c) (given_after id cs rest h g)
 
 run_valid : (rows : List Row) → is_given (codes "output") rows ≡ true → is_given (codes "image") rows ≡ true
     → is_valid run_shape rows false ≡ true
-unfolding the_app top_app run_app clap_on_literals
+unfolding the_app top_app run_app demo_app clap_on_literals
 run_valid rows h k = rw (h, k) refl
 
 -- ---- `run` and its words
@@ -76,11 +76,11 @@ run_rows choices image words plain =
     ∙ (ap (λ rows. fold with_default rows rules) end.settles.rows_are ∙ finished_rows (plain_rows choices image words))
 
 no_override : run_shape.args_override_self ≡ false
-unfolding the_app top_app run_app
+unfolding the_app top_app run_app demo_app
 no_override = refl
 
 defaults_pass : list_all default_passes rules ≡ true
-unfolding the_app top_app run_app clap_on_literals
+unfolding the_app top_app run_app demo_app clap_on_literals
 defaults_pass = refl
 
 level_from : (words : List Text) (w : Walk) → fold (walked rules []) (stand [] None idle 1) words ≡ w
@@ -108,10 +108,10 @@ run_passes choices image words plain chosen =
 
 -- ---- the subcommand
 
-abbrev top_rules : List Rule
+abbrev pub top_rules : List Rule
 top_rules = (built the_app).top.rules
 
-abbrev names : Names
+abbrev pub names : Names
 names = names_of (built the_app)
 
 -- the walk stopped at `run`, with these words after it
@@ -119,11 +119,11 @@ abbrev at_run : List Text → Walk
 at_run words = record (walk_from nothing_held) { stopped = Some (codes "run", words) }
 
 stops_at_run : walked top_rules names (walk_from nothing_held) (codes "run") ≡ at_run []
-unfolding the_app top_app run_app clap_on_literals
+unfolding the_app top_app run_app demo_app clap_on_literals
 stops_at_run = refl
 
 turn_at_run : turn_passes (built the_app).top names (walk_from nothing_held) (codes "run") ≡ true
-unfolding the_app top_app run_app clap_on_literals
+unfolding the_app top_app run_app demo_app clap_on_literals
 turn_at_run = refl
 
 stays_at_run : (rest before : List Text) → fold (walked top_rules names) (at_run before) rest ≡ at_run (before ++ rest)
@@ -145,21 +145,21 @@ top_passes rest =
     ap₂ ◌&&◌ turn_at_run (ap (λ w. walk_passes (built the_app).top names w rest) stops_at_run ∙ passes_at_run rest [])
 
 enters_run : (rest : List Text) → entered (built the_app) (Some (codes "run", rest)) ≡ Some (codes "run", rows_after rules [] rest)
-unfolding the_app top_app run_app clap_on_literals
+unfolding the_app top_app run_app demo_app clap_on_literals
 enters_run rest = refl
 
 -- what holds after the walk of the top command, by what was met and whether it has matches
-abbrev top_ends : Walk → Bool → Bool
+abbrev pub top_ends : Walk → Bool → Bool
 top_ends w has_subcommand = settle_passes top_rules (built the_app).top.args_override_self w.held
     && (list_all default_passes top_rules && is_valid (built the_app).top (finished top_rules w.held) has_subcommand)
 
 top_valid : (rest : List Text) → top_ends (at_run rest) true ≡ true
-unfolding the_app top_app run_app clap_on_literals
+unfolding the_app top_app run_app demo_app clap_on_literals
 top_valid rest = refl
 
 enters_passes : (rest : List Text) → level_passes run_shape [] nothing_held rest false ≡ true
     → entered_passes (built the_app) (Some (codes "run", rest)) ≡ true
-unfolding the_app top_app run_app clap_on_literals
+unfolding the_app top_app run_app demo_app clap_on_literals
 enters_passes rest h = h
 
 built_takes_run : (rest : List Text) → level_passes run_shape [] nothing_held rest false ≡ true
@@ -171,8 +171,8 @@ built_takes_run rest h =
     (ap (λ (w : Walk). top_ends w (is_some (entered (built the_app) w.stopped))) walk
     ∙ (ap (λ (o : Option (Text × List Row)). top_ends (at_run rest) (is_some o)) (enters_run rest) ∙ top_valid rest)))
 
-after_program : (program : Text) (words : List Text) → argument_words the_app (program ∷ words) ≡ words
-unfolding the_app top_app run_app
+pub after_program : (program : Text) (words : List Text) → argument_words the_app (program ∷ words) ≡ words
+unfolding the_app top_app run_app demo_app
 after_program program words = refl
 
 pub plain_words : PlainWordsAreTaken

@@ -10,7 +10,7 @@ use Rattle.clap.specs.Takes.{settle_passes, turn_passes, walk_passes}
 use Rattle.clap.specs.Walk.{Waiting, Walk, has_row, idle, option, positional, settled_rows, walked}
 use Rattle.clap.specs.Words.{Row, Rule, Shape, Text, built}
 use Rattle.clap.proofs.OnLiterals.{clap_on_literals}
-use Rattle.command_line.specs.App.{the_app, top_app, run_app}
+use Rattle.command_line.specs.App.{the_app, top_app, run_app, demo_app}
 use Rattle.command_line.specs.Plain.{is_plain_word}
 use Rattle.command_line.proofs.Rows.{new_row, new_row_kept, plain_row}
 
@@ -20,6 +20,10 @@ run_shape = unwrap_or (slice_get (built the_app).subs 0) (new_shape [])
 
 abbrev pub rules : List Rule
 rules = run_shape.rules
+
+-- `demo` as `clap` builds it
+abbrev pub demo_shape : Shape
+demo_shape = unwrap_or (slice_get (built the_app).subs 1) (new_shape [])
 
 -- an argument whose values are being read
 abbrev pub Pending : Type 0
@@ -87,7 +91,7 @@ pub record TakesValue (flag id : Text) : Type 0 where
       → Settles rows (Some (id, word ∷ [])) (rows ++ plain_row id (word ∷ []) ∷ [])
 
 pub takes_stdin : TakesValue (codes "--stdin") (codes "stdin")
-unfolding the_app top_app run_app clap_on_literals
+unfolding the_app top_app run_app demo_app clap_on_literals
 takes_stdin = record {
   flag_word = λ rows p. refl;
   flag_turn = λ rows p. and_true _;
@@ -97,7 +101,7 @@ takes_stdin = record {
 }
 
 pub takes_quantum : TakesValue (codes "--quantum") (codes "quantum")
-unfolding the_app top_app run_app clap_on_literals
+unfolding the_app top_app run_app demo_app clap_on_literals
 takes_quantum = record {
   flag_word = λ rows p. refl;
   flag_turn = λ rows p. and_true _;
@@ -107,7 +111,7 @@ takes_quantum = record {
 }
 
 pub takes_schedule : TakesValue (codes "--schedule") (codes "schedule")
-unfolding the_app top_app run_app clap_on_literals
+unfolding the_app top_app run_app demo_app clap_on_literals
 takes_schedule = record {
   flag_word = λ rows p. refl;
   flag_turn = λ rows p. and_true _;
@@ -117,7 +121,7 @@ takes_schedule = record {
 }
 
 pub takes_recording : TakesValue (codes "--record") (codes "record")
-unfolding the_app top_app run_app clap_on_literals
+unfolding the_app top_app run_app demo_app clap_on_literals
 takes_recording = record {
   flag_word = λ rows p. refl;
   flag_turn = λ rows p. and_true _;
@@ -127,7 +131,7 @@ takes_recording = record {
 }
 
 pub takes_budget : TakesValue (codes "--budget") (codes "budget")
-unfolding the_app top_app run_app clap_on_literals
+unfolding the_app top_app run_app demo_app clap_on_literals
 takes_budget = record {
   flag_word = λ rows p. refl;
   flag_turn = λ rows p. and_true _;
@@ -137,7 +141,7 @@ takes_budget = record {
 }
 
 pub takes_output : TakesValue (codes "-o") (codes "output")
-unfolding the_app top_app run_app clap_on_literals
+unfolding the_app top_app run_app demo_app clap_on_literals
 takes_output = record {
   flag_word = λ rows p. refl;
   flag_turn = λ rows p. and_true _;
@@ -150,19 +154,19 @@ takes_output = record {
 
 pub image_word : (rows : List Row) (p : Pending) (word : Text) → IsNoFlag word
     → walked rules [] (stand rows p idle 1) word ≡ stand (settled_rows rules p rows) (Some (codes "image", word ∷ [])) idle 2
-unfolding the_app top_app run_app clap_on_literals
+unfolding the_app top_app run_app demo_app clap_on_literals
 image_word rows None word h = rw (h.no_dashes, h.no_long, h.no_short) refl
 image_word rows (Some q) word h = rw (h.no_dashes, h.no_long, h.no_short, and_false (bytes_eq q.0 (codes "image"))) refl
 
 pub image_turn : (rows : List Row) (p : Pending) (word : Text) → IsNoFlag word
     → turn rows p idle 1 word ≡ may_settle rows p
-unfolding the_app top_app run_app clap_on_literals
+unfolding the_app top_app run_app demo_app clap_on_literals
 image_turn rows None word h = rw (h.no_dashes, h.no_long, h.no_short) refl
 image_turn rows (Some q) word h = rw (h.no_dashes, h.no_long, h.no_short, and_false (bytes_eq q.0 (codes "image"))) refl
 
 pub image_settles : (rows : List Row) (image : Text) → has_row (codes "image") rows ≡ false
     → Settles rows (Some (codes "image", image ∷ [])) (rows ++ plain_row (codes "image") (image ∷ []) ∷ [])
-unfolding the_app top_app run_app clap_on_literals
+unfolding the_app top_app run_app demo_app clap_on_literals
 image_settles rows image h = record { rows_are = new_row (codes "image") (image ∷ []) rows h; passes = rw h refl }
 
 -- ---- the further words
@@ -170,29 +174,29 @@ image_settles rows image h = record { rows_are = new_row (codes "image") (image 
 pub first_word : (rows : List Row) (image word : Text) → IsNoFlag word
     → walked rules [] (stand rows (Some (codes "image", image ∷ [])) idle 2) word
     ≡ stand (settled_rows rules (Some (codes "image", image ∷ [])) rows) (Some (codes "word", word ∷ [])) positional 2
-unfolding the_app top_app run_app clap_on_literals
+unfolding the_app top_app run_app demo_app clap_on_literals
 first_word rows image word h = rw (h.no_dashes, h.no_long, h.no_short) refl
 
 pub first_turn : (rows : List Row) (image word : Text) → IsNoFlag word
     → turn rows (Some (codes "image", image ∷ [])) idle 2 word ≡ may_settle rows (Some (codes "image", image ∷ []))
-unfolding the_app top_app run_app clap_on_literals
+unfolding the_app top_app run_app demo_app clap_on_literals
 first_turn rows image word h = rw (h.no_dashes, h.no_long, h.no_short) refl
 
 pub further_word : (rows : List Row) (words : List Text) (word : Text) → IsNoFlag word
     → walked rules [] (stand rows (Some (codes "word", words)) positional 2) word
     ≡ stand rows (Some (codes "word", words ++ word ∷ [])) positional 2
-unfolding the_app top_app run_app clap_on_literals
+unfolding the_app top_app run_app demo_app clap_on_literals
 further_word rows words word h = rw (h.no_dashes, h.no_long, h.no_short) refl
 
 pub further_turn : (rows : List Row) (words : List Text) (word : Text) → IsNoFlag word
     → turn rows (Some (codes "word", words)) positional 2 word ≡ true
-unfolding the_app top_app run_app clap_on_literals
+unfolding the_app top_app run_app demo_app clap_on_literals
 further_turn rows words word h = rw (h.no_dashes, h.no_long, h.no_short) refl
 
 pub words_settle : (rows : List Row) (word : Text) (words : List Text) → has_row (codes "word") rows ≡ false
     → length (word ∷ words) < 2 ^ 64
     → Settles rows (Some (codes "word", word ∷ words)) (rows ++ plain_row (codes "word") (word ∷ words) ∷ [])
-unfolding the_app top_app run_app clap_on_literals
+unfolding the_app top_app run_app demo_app clap_on_literals
 words_settle rows word words h lt =
     let few : nat_le (length (word ∷ words)) usize_max ≡ true = grind (arith, nat_tests) in
     let some : nat_le 0 (length (word ∷ words)) ≡ true = grind (arith, nat_tests) in

@@ -1,59 +1,80 @@
 -- What words that are taken have.
 use Rattle.std.proofs.Common.{◌≡◌, Bool, true, false, refl, ap, ap₂, sym, ◌∙◌, ◌&&◌, ◌⊎◌, inl, inr, List, [], ◌∷◌, Option, Some, None, is_some, codes, cond}
-use Rattle.std.specs.Prelude.{ℕ, find, option_and_then, option_map, slice_get}
+use Rattle.std.specs.Prelude.{ℕ, find, fold, option_and_then, option_map, slice_get}
 use Rattle.std.specs.List.{list_all}
 use Rattle.std.specs.Option.{option_map_or}
 use Rattle.clap.proofs.OnLiterals.{clap_on_literals}
 use Rattle.clap.proofs.WalkLemmas.{both}
 use Rattle.clap.specs.Simple.{App, Shape, argument_words, entered, is_simple, label_of, names_of, rows_at}
 use Rattle.clap.specs.Takes.{built_takes, default_passes, entered_passes, is_given, is_valid, level_passes, settle_passes, walk_passes}
-use Rattle.clap.specs.Walk.{answers_to, finished, nothing_held, rows_after, settled, walk, walk_from}
+use Rattle.clap.specs.Walk.{answers_to, finished, nothing_held, rows_after, settled, walk, walk_from, with_default}
 use Rattle.clap.specs.Words.{Row, Rule, Text, built, first_of, subcommand_of, takes}
 use Rattle.clap.specs.Facts.{explicit_source}
 use Rattle.std.specs.Str.{bytes_eq}
-use Rattle.command_line.specs.App.{the_app, top_app, run_app}
-use Rattle.command_line.specs.Options.{budget_of, options_of, options_of_rows, options_with, quantum_of}
-use Rattle.command_line.specs.Taken.{HasBadNumber, TakenWordsFailByNumbers}
+use Rattle.command_line.specs.App.{the_app, top_app, run_app, demo_app}
+use Rattle.command_line.specs.Options.{Demo, Run, RunOptions, budget_of, demo_of, demo_of_rows, options_of_rows, options_with, quantum_of}
+use Rattle.command_line.specs.Taken.{HasBadDemo, HasBadNumber, TakenWordsFailByNumbers}
 use Rattle.command_line.proofs.Filled.{AllKeep, IsKept, is_appended, is_filled, is_own, is_set, kept_keeps, row_for, settle_keeps, walk_keeps}
-use Rattle.command_line.proofs.PlainWords.{finished_rows}
-use Rattle.command_line.proofs.Steps.{rules, run_shape}
+use Rattle.command_line.proofs.PlainWords.{finished_rows, no_defaults}
+use Rattle.command_line.proofs.Refusals.{asked_is, read_of}
+use Rattle.command_line.proofs.Steps.{demo_shape, rules, run_shape}
 
-find_in_one : (test : Shape → Bool) (s : Shape) → (find test (s ∷ []) ≡ Some s) ⊎ (find test (s ∷ []) ≡ None)
-find_in_one test s = go (test s) refl
+find_in_two : (test : Shape → Bool) (s t : Shape)
+    → (find test (s ∷ t ∷ []) ≡ Some s) ⊎ ((find test (s ∷ t ∷ []) ≡ Some t) ⊎ (find test (s ∷ t ∷ []) ≡ None))
+find_in_two test s t = go (test s) (test t) refl refl
   where
-    go : (b : Bool) → test s ≡ b → (find test (s ∷ []) ≡ Some s) ⊎ (find test (s ∷ []) ≡ None)
-    go true e = inl (ap (λ c. cond c (Some s) None) e)
-    go false e = inr (ap (λ c. cond c (Some s) None) e)
+    go : (a b : Bool) → test s ≡ a → test t ≡ b
+        → (find test (s ∷ t ∷ []) ≡ Some s) ⊎ ((find test (s ∷ t ∷ []) ≡ Some t) ⊎ (find test (s ∷ t ∷ []) ≡ None))
+    go true b e f = inl (ap (λ c. cond c (Some s) (cond (test t) (Some t) None)) e)
+    go false true e f = inr (inl (ap (λ c. cond c (Some s) (cond (test t) (Some t) None)) e ∙ ap (λ c. cond c (Some t) None) f))
+    go false false e f = inr (inr (ap (λ c. cond c (Some s) (cond (test t) (Some t) None)) e ∙ ap (λ c. cond c (Some t) None) f))
 
--- what holds of the subcommand that was found
-found_only : (o : Option Shape) (s : Shape) (rest : List Text) → (o ≡ Some s) ⊎ (o ≡ None)
-    → option_map_or (λ t. level_passes t [] nothing_held rest false) o true ≡ true → is_some (option_map (λ t. rows_at t rest) o) ≡ true
-    → (option_map (λ t. rows_at t rest) o ≡ Some (rows_at s rest)) × (level_passes s [] nothing_held rest false ≡ true)
-found_only o s rest (inl e) p q =
-    (ap (option_map (λ t. rows_at t rest)) e, sym (ap (λ (x : Option Shape). option_map_or (λ t. level_passes t [] nothing_held rest false) x true) e) ∙ p)
-found_only o s rest (inr e) p q = let no : false ≡ true = sym (ap (λ (x : Option Shape). is_some (option_map (λ t. rows_at t rest) x)) e) ∙ q in cc
+-- What was found is this subcommand, whose words pass.
+pub record Enters (s : Shape) (found : Option (Text × List Row)) : Type 0 where
+  pub rest : List Text
+  pub found_is : found ≡ Some (rows_at s rest)
+  pub passes : level_passes s [] nothing_held rest false ≡ true
 
--- a command with one subcommand enters that one
-enters_only : (a : App) (s : Shape) (stop : Option (Text × List Text)) → a.subs ≡ s ∷ [] → entered_passes a stop ≡ true → is_some (entered a stop) ≡ true
-    → (rest : List Text) × (entered a stop ≡ Some (rows_at s rest)) × (level_passes s [] nothing_held rest false ≡ true)
-enters_only a s None subs p q = let no : false ≡ true = q in cc
-enters_only a s (Some met) subs p q =
-    let one : (find (λ t. answers_to met.0 (label_of t)) a.subs ≡ Some s) ⊎ (find (λ t. answers_to met.0 (label_of t)) a.subs ≡ None) =
-    rw subs (find_in_one (λ t. answers_to met.0 (label_of t)) s) in
-    let found = found_only (find (λ t. answers_to met.0 (label_of t)) a.subs) s met.1 one p q in
-    (met.1, found.0, found.1)
+enters_found : (o : Option Shape) (s : Shape) (rest : List Text) → o ≡ Some s
+    → option_map_or (λ t. level_passes t [] nothing_held rest false) o true ≡ true → Enters s (option_map (λ t. rows_at t rest) o)
+enters_found o s rest e p = record {
+  rest = rest;
+  found_is = ap (option_map (λ t. rows_at t rest)) e;
+  passes = sym (ap (λ (x : Option Shape). option_map_or (λ t. level_passes t [] nothing_held rest false) x true) e) ∙ p;
+}
 
-subs_are : (built the_app).subs ≡ run_shape ∷ []
-unfolding the_app top_app run_app clap_on_literals
+enters_either : (o : Option Shape) (s t : Shape) (rest : List Text) → (o ≡ Some s) ⊎ ((o ≡ Some t) ⊎ (o ≡ None))
+    → option_map_or (λ u. level_passes u [] nothing_held rest false) o true ≡ true → is_some (option_map (λ u. rows_at u rest) o) ≡ true
+    → Enters s (option_map (λ u. rows_at u rest) o) ⊎ Enters t (option_map (λ u. rows_at u rest) o)
+enters_either o s t rest (inl e) p q = inl (enters_found o s rest e p)
+enters_either o s t rest (inr (inl e)) p q = inr (enters_found o t rest e p)
+enters_either o s t rest (inr (inr e)) p q =
+    let no : false ≡ true = sym (ap (λ (x : Option Shape). is_some (option_map (λ u. rows_at u rest) x)) e) ∙ q in cc
+
+-- a command with two subcommands enters one of them
+enters_one : (a : App) (s t : Shape) (stop : Option (Text × List Text)) → a.subs ≡ s ∷ t ∷ [] → entered_passes a stop ≡ true
+    → is_some (entered a stop) ≡ true → Enters s (entered a stop) ⊎ Enters t (entered a stop)
+enters_one a s t None subs p q = let no : false ≡ true = q in cc
+enters_one a s t (Some met) subs p q =
+    let found = find (λ u. answers_to met.0 (label_of u)) a.subs in
+    let one : (found ≡ Some s) ⊎ ((found ≡ Some t) ⊎ (found ≡ None)) = rw subs (find_in_two (λ u. answers_to met.0 (label_of u)) s t) in
+    enters_either found s t met.1 one p q
+
+subs_are : (built the_app).subs ≡ run_shape ∷ demo_shape ∷ []
+unfolding the_app top_app run_app demo_app clap_on_literals
 subs_are = refl
 
 run_is_named : run_shape.name ≡ codes "run"
-unfolding the_app top_app run_app clap_on_literals
+unfolding the_app top_app run_app demo_app clap_on_literals
 run_is_named = refl
+
+demo_is_named : demo_shape.name ≡ codes "demo"
+unfolding the_app top_app run_app demo_app clap_on_literals
+demo_is_named = refl
 
 -- the subcommand has to be there
 top_requires : (rows : List Row) (has : Bool) → is_valid (built the_app).top rows has ≡ true → has ≡ true
-unfolding the_app top_app run_app clap_on_literals
+unfolding the_app top_app run_app demo_app clap_on_literals
 top_requires rows true h = refl
 top_requires rows false h = let no : false ≡ true = h in cc
 
@@ -64,16 +85,21 @@ two_given false i h = let no : false ≡ true = h in cc
 
 -- and `-o` and the image
 run_requires : (rows : List Row) → is_valid run_shape rows false ≡ true → (is_given (codes "output") rows ≡ true) × (is_given (codes "image") rows ≡ true)
-unfolding the_app top_app run_app clap_on_literals
+unfolding the_app top_app run_app demo_app clap_on_literals
 run_requires rows h = two_given (is_given (codes "output") rows) (is_given (codes "image") rows) h
 
--- Words that are taken enter `run`, whose words pass.
-pub record EntersRun (words : List Text) : Type 0 where
-  pub rest : List Text
-  pub found : subcommand_of the_app words ≡ Some (codes "run", rows_after rules [] rest)
-  pub passes : level_passes run_shape [] nothing_held rest false ≡ true
+one_given : (n : Bool) → (n && true) ≡ true → n ≡ true
+one_given true h = refl
+one_given false h = let no : false ≡ true = h in cc
 
-pub taken_enters : (words : List Text) → takes the_app words ≡ true → EntersRun words
+-- `demo` its number
+demo_requires : (rows : List Row) → is_valid demo_shape rows false ≡ true → is_given (codes "number") rows ≡ true
+unfolding the_app top_app run_app demo_app clap_on_literals
+demo_requires rows h = one_given (is_given (codes "number") rows) h
+
+-- words that are taken enter a subcommand
+taken_enters : (words : List Text) → takes the_app words ≡ true
+    → Enters run_shape (subcommand_of the_app words) ⊎ Enters demo_shape (subcommand_of the_app words)
 taken_enters words h =
     let ws = argument_words the_app words in
     let top = (built the_app).top in
@@ -85,14 +111,9 @@ taken_enters words h =
     let after_walk = (both (walk_passes top (names_of (built the_app)) (walk_from nothing_held) ws) _ two.1).1 in
     let after_settle = (both (settle_passes top.rules top.args_override_self end) _ after_walk).1 in
     let valid = (both (list_all default_passes top.rules) (is_valid top (finished top.rules end) has) after_settle).1 in
-    let only = enters_only (built the_app) run_shape stop subs_are two.0 (top_requires (finished top.rules end) has valid) in
-    record {
-      rest = only.0;
-      found = only.1 ∙ ap (λ (name : Text). Some (name, rows_after rules [] only.0)) run_is_named;
-      passes = only.2;
-    }
+    enters_one (built the_app) run_shape demo_shape stop subs_are two.0 (top_requires (finished top.rules end) has valid)
 
--- ---- the image and the path of the report
+-- ---- the image, the path of the report and the number
 
 -- these rules leave the row of `id` filled: those of other arguments, and its own, that takes one value
 abbrev AreKept : Text → List Rule → Type 0
@@ -104,7 +125,7 @@ all_keep id [] same k = tt
 all_keep id (a ∷ rest) same k = (kept_keeps id a same k.0, all_keep id rest same k.1)
 
 output_keeps : AllKeep (codes "output") rules
-unfolding the_app top_app run_app clap_on_literals
+unfolding the_app top_app run_app demo_app clap_on_literals
 output_keeps = all_keep (codes "output") rules refl (
   is_set refl refl,
   (
@@ -123,7 +144,7 @@ output_keeps = all_keep (codes "output") rules refl (
 )
 
 image_keeps : AllKeep (codes "image") rules
-unfolding the_app top_app run_app clap_on_literals
+unfolding the_app top_app run_app demo_app clap_on_literals
 image_keeps = all_keep (codes "image") rules refl (
   is_set refl refl,
   (
@@ -141,6 +162,10 @@ image_keeps = all_keep (codes "image") rules refl (
   ),
 )
 
+number_keeps : AllKeep (codes "number") demo_shape.rules
+unfolding the_app top_app run_app demo_app clap_on_literals
+number_keeps = all_keep (codes "number") demo_shape.rules refl (is_own refl refl refl, tt)
+
 -- a row that is given and filled has a first value
 first_there : (o : Option Row) → option_map_or (λ r. explicit_source r.source) o false ≡ true
     → option_map_or (λ (r : Row). is_some (slice_get r.values 0)) o true ≡ true
@@ -152,23 +177,31 @@ first_there (Some r) given filled = go (slice_get r.values 0) filled
     go None h = let no : false ≡ true = h in cc
     go (Some text) h = (text, refl)
 
--- what a pass of `run` leaves
-rows_filled : (id : Text) (rest : List Text) → AllKeep id rules → level_passes run_shape [] nothing_held rest false ≡ true
-    → is_filled id (rows_after rules [] rest) ≡ true
-rows_filled id rest all h =
-    let end = (walk rules [] nothing_held rest).held in
-    let one = both (walk_passes run_shape [] (walk_from nothing_held) rest) _ h in
-    let two = both (settle_passes rules run_shape.args_override_self end) _ one.1 in
-    let filled = settle_keeps id rules run_shape.args_override_self all end two.0 (walk_keeps id run_shape all [] rest (walk_from nothing_held) one.0 refl) in
-    ap (is_filled id) (finished_rows (settled rules end).rows) ∙ filled
+-- no argument of the subcommand has a default
+abbrev HasNoDefault : Shape → Type 0
+HasNoDefault s = (rows : List Row) → fold with_default rows s.rules ≡ rows
 
-rows_valid : (rest : List Text) → level_passes run_shape [] nothing_held rest false ≡ true
-    → is_valid run_shape (rows_after rules [] rest) false ≡ true
-rows_valid rest h =
-    let end = (walk rules [] nothing_held rest).held in
-    let one = both (walk_passes run_shape [] (walk_from nothing_held) rest) _ h in
-    let two = both (settle_passes rules run_shape.args_override_self end) _ one.1 in
-    (both (list_all default_passes rules) (is_valid run_shape (finished rules end) false) two.1).1
+demo_has_none : HasNoDefault demo_shape
+unfolding the_app top_app run_app demo_app clap_on_literals
+demo_has_none rows = no_defaults demo_shape.rules rows (refl, tt)
+
+-- what a pass of a subcommand leaves
+rows_filled : (s : Shape) (id : Text) (rest : List Text) → HasNoDefault s → AllKeep id s.rules
+    → level_passes s [] nothing_held rest false ≡ true → is_filled id (rows_after s.rules [] rest) ≡ true
+rows_filled s id rest none all h =
+    let end = (walk s.rules [] nothing_held rest).held in
+    let one = both (walk_passes s [] (walk_from nothing_held) rest) _ h in
+    let two = both (settle_passes s.rules s.args_override_self end) _ one.1 in
+    let filled = settle_keeps id s.rules s.args_override_self all end two.0 (walk_keeps id s all [] rest (walk_from nothing_held) one.0 refl) in
+    ap (is_filled id) (none (settled s.rules end).rows) ∙ filled
+
+rows_valid : (s : Shape) (rest : List Text) → level_passes s [] nothing_held rest false ≡ true
+    → is_valid s (rows_after s.rules [] rest) false ≡ true
+rows_valid s rest h =
+    let end = (walk s.rules [] nothing_held rest).held in
+    let one = both (walk_passes s [] (walk_from nothing_held) rest) _ h in
+    let two = both (settle_passes s.rules s.args_override_self end) _ one.1 in
+    (both (list_all default_passes s.rules) (is_valid s (finished s.rules end) false) two.1).1
 
 -- options are missing only for a number
 bad_number : (rows : List Row) (report image : Text) → first_of (codes "output") rows ≡ Some report → first_of (codes "image") rows ≡ Some image
@@ -184,15 +217,44 @@ bad_number rows report image r i none =
     go (Some q) None h = inr refl
     go (Some q) (Some b) h = cc
 
-pub fails_by_numbers : TakenWordsFailByNumbers
-unfolding options_of
-fails_by_numbers words taken zeros none =
-    let enters = taken_enters words taken in
+no_run : (o : Option RunOptions) → option_map Run o ≡ None → o ≡ None
+no_run None h = refl
+no_run (Some x) h = cc
+
+no_demo : (o : Option ℕ) → option_map Demo o ≡ None → o ≡ None
+no_demo None h = refl
+no_demo (Some x) h = cc
+
+run_fails : (found : Option (Text × List Row)) → Enters run_shape found → read_of found ≡ None
+    → (rows : List Row) × (found ≡ Some (codes "run", rows)) × HasBadNumber rows
+run_fails found enters none =
     let rows = rows_after rules [] enters.rest in
-    let needs = run_requires rows (rows_valid enters.rest enters.passes) in
-    let report = first_there (row_for (codes "output") rows) needs.0 (rows_filled (codes "output") enters.rest output_keeps enters.passes) in
-    let image = first_there (row_for (codes "image") rows) needs.1 (rows_filled (codes "image") enters.rest image_keeps enters.passes) in
-    let read : options_of words ≡ options_of_rows rows =
-    ap (λ b. cond b None (option_and_then (λ found. options_of_rows found.1) (subcommand_of the_app words))) zeros
-    ∙ ap (option_and_then (λ found. options_of_rows found.1)) enters.found in
-    (rows, enters.found, bad_number rows report.0 image.0 report.1 image.1 (sym read ∙ none))
+    let found_is : found ≡ Some (codes "run", rows) = enters.found_is ∙ ap (λ (name : Text). Some (name, rows)) run_is_named in
+    let needs = run_requires rows (rows_valid run_shape enters.rest enters.passes) in
+    let report = first_there (row_for (codes "output") rows) needs.0 (rows_filled run_shape (codes "output") enters.rest finished_rows output_keeps enters.passes) in
+    let image = first_there (row_for (codes "image") rows) needs.1 (rows_filled run_shape (codes "image") enters.rest finished_rows image_keeps enters.passes) in
+    (rows, found_is, bad_number rows report.0 image.0 report.1 image.1 (no_run (options_of_rows rows) (sym (ap read_of found_is) ∙ none)))
+
+demo_fails : (found : Option (Text × List Row)) → Enters demo_shape found → read_of found ≡ None
+    → (rows : List Row) × (found ≡ Some (codes "demo", rows)) × HasBadDemo rows
+demo_fails found enters none =
+    let rows = rows_after demo_shape.rules [] enters.rest in
+    let found_is : found ≡ Some (codes "demo", rows) = enters.found_is ∙ ap (λ (name : Text). Some (name, rows)) demo_is_named in
+    let given = demo_requires rows (rows_valid demo_shape enters.rest enters.passes) in
+    let number = first_there (row_for (codes "number") rows) given (rows_filled demo_shape (codes "number") enters.rest demo_has_none number_keeps enters.passes) in
+    let no_number = no_demo (demo_of_rows rows) (sym (ap read_of found_is) ∙ none) in
+    (rows, found_is, (number.0, number.1, sym (ap (option_and_then demo_of) number.1) ∙ no_number))
+
+pub fails_by_numbers : TakenWordsFailByNumbers
+fails_by_numbers words taken zeros none = go (taken_enters words taken)
+  where
+    found : Option (Text × List Row)
+    found = subcommand_of the_app words
+
+    read_none : read_of found ≡ None
+    read_none = sym (asked_is words zeros) ∙ none
+
+    go : Enters run_shape found ⊎ Enters demo_shape found
+        → (rows : List Row) × (((found ≡ Some (codes "run", rows)) × HasBadNumber rows) ⊎ ((found ≡ Some (codes "demo", rows)) × HasBadDemo rows))
+    go (inl enters) = let fails = run_fails found enters read_none in (fails.0, inl (fails.1, fails.2))
+    go (inr enters) = let fails = demo_fails found enters read_none in (fails.0, inr (fails.1, fails.2))

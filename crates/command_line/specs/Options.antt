@@ -1,5 +1,5 @@
 -- What the words of a command line ask for.
-use Rattle.std.specs.Prelude.{◌≡◌, ◌⊎◌, ℕ, Bool, false, ◌&&◌, ◌==◌, not, nat_eq, nat_le, if◌then◌else◌, List, [], ◌∷◌, length, drop, map, filter, Option, Some, None, option_and_then, unwrap_or, codes}
+use Rattle.std.specs.Prelude.{◌≡◌, ◌⊎◌, ℕ, Bool, false, ◌&&◌, ◌==◌, not, nat_eq, nat_le, if◌then◌else◌, List, [], ◌∷◌, length, drop, map, filter, Option, Some, None, option_and_then, option_map, unwrap_or, codes}
 use Rattle.std.specs.List.{list_all, list_any, starts_with}
 use Rattle.std.specs.Str.{bytes_eq}
 use Rattle.std.specs.Str.Parse.{digits_value}
@@ -101,15 +101,39 @@ options_of_rows rows = options_with rows
     (first_of (codes "output") rows)
     (first_of (codes "image") rows)
 
+-- ---- the demonstrations
+
+-- the number of a demonstration: 1 to 40000
+abbrev pub demo_of : List ℕ → Option ℕ
+demo_of = number_between 1 40000
+
+-- the number that `clap`'s matches say: `None` where it is out of its form or range
+abbrev pub demo_of_rows : List Row → Option ℕ
+demo_of_rows rows = option_and_then demo_of (first_of (codes "number") rows)
+
+-- ---- the words
+
+-- What the words ask for: a run, or the demonstration of a number.
+pub data Asked : Type 0 where
+  Run : RunOptions → Asked
+  Demo : ℕ → Asked
+
+-- what a subcommand asks for, by its name and its matches
+abbrev pub asked_of_rows : List ℕ → List Row → Option Asked
+asked_of_rows name rows =
+    if bytes_eq name (codes "run") then option_map Run (options_of_rows rows)
+    else if bytes_eq name (codes "demo") then option_map Demo (demo_of_rows rows)
+    else None
+
 abbrev pub has_zero : List ℕ → Bool
 has_zero word = list_any (λ byte. byte == 0) word
 
 -- What the words of a command line say, the program's name first: `None` where a word has a zero byte.
-unfoldable pub options_of : List (List ℕ) → Option RunOptions
-options_of words =
+unfoldable pub asked_of : List (List ℕ) → Option Asked
+asked_of words =
     if list_any has_zero words then None
-    else option_and_then (λ found. options_of_rows found.1) (subcommand_of the_app words)
+    else option_and_then (λ found. asked_of_rows found.0 found.1) (subcommand_of the_app words)
 
 -- What the words ask for; where `clap`'s stated test does not take them, a refusal is right too.
-abbrev pub AsksFor : List (List ℕ) → Option RunOptions → Type 0
-AsksFor words asked = (asked ≡ options_of words) ⊎ ((asked ≡ None) × (takes the_app words ≡ false))
+abbrev pub AsksFor : List (List ℕ) → Option Asked → Type 0
+AsksFor words asked = (asked ≡ asked_of words) ⊎ ((asked ≡ None) × (takes the_app words ≡ false))

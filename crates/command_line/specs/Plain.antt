@@ -1,10 +1,10 @@
--- Plain words of `run`, and what is read of them.
+-- Plain words of `run` and of `demo`, and what is read of them.
 use Rattle.std.specs.Prelude.{◌≡◌, ◌<◌, ◌^◌, ◌==◌, ℕ, Bool, true, false, not, length, if◌then◌else◌, List, [], ◌∷◌, ◌++◌, map, Option, Some, None, codes}
 use Rattle.std.specs.List.{list_all, list_any}
 use Rattle.std.specs.Str.{bytes_eq}
 use Rattle.clap.specs.Words.{Text, takes}
 use Rattle.command_line.specs.App.{the_app}
-use Rattle.command_line.specs.Options.{budget_of, has_zero, options_of, quantum_of}
+use Rattle.command_line.specs.Options.{Asked, asked_of, budget_of, demo_of, has_zero, quantum_of}
 
 -- an option of `run` that is given, with its value
 pub data Choice : Type 0 where
@@ -90,7 +90,7 @@ PlainOptionsAreRead = (program : Text) (choices : List Choice) (image : Text) (w
     → (report_path : Text) (turn_steps run_steps : ℕ) → given (codes "output") choices ≡ Some report_path
     → quantum_of (given (codes "quantum") choices) ≡ Some turn_steps
     → budget_of (given (codes "budget") choices) ≡ Some run_steps
-    → options_of (run_words program choices image words) ≡ Some (record {
+    → asked_of (run_words program choices image words) ≡ Some (Asked.Run (record {
       report = report_path;
       stdin = given (codes "stdin") choices;
       schedule = given (codes "schedule") choices;
@@ -99,4 +99,19 @@ PlainOptionsAreRead = (program : Text) (choices : List Choice) (image : Text) (w
       budget = run_steps;
       image = image;
       words = words;
-    })
+    }))
+
+-- ---- `demo`
+
+-- the words of a whole command line: the program's name, `demo` and the number
+abbrev pub demo_words : Text → Text → List Text
+demo_words program number = program ∷ codes "demo" ∷ number ∷ []
+
+-- `demo` and a plain word are taken.
+abbrev pub PlainDemoIsTaken : Type 0
+PlainDemoIsTaken = (program number : Text) → is_plain_word number ≡ true → takes the_app (demo_words program number) ≡ true
+
+-- They ask for the demonstration of the number that the word says.
+abbrev pub PlainDemoIsRead : Type 0
+PlainDemoIsRead = (program text : Text) (number : ℕ) → is_plain_word text ≡ true → list_any has_zero (demo_words program text) ≡ false
+    → demo_of text ≡ Some number → asked_of (demo_words program text) ≡ Some (Asked.Demo number)

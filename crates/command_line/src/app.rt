@@ -2,7 +2,7 @@
 ghost use Rattle.std.specs.Prelude.{◌≡◌, IfOk, false, codes};
 ghost use Rattle.clap.specs.Words.{app_of, rule_of};
 ghost use Rattle.clap.specs.declared.builder.command.Command.TheViews.{out-Command};
-ghost use Rattle.command_line.specs.App.{the_app, top_app, run_app, output_rule, required_rule, value_rule, word_rule};
+ghost use Rattle.command_line.specs.App.{the_app, top_app, run_app, demo_app, output_rule, required_rule, value_rule, word_rule};
 
 use clap::{Arg, ArgAction, Command};
 use std::alloc::{AllocError, Global};
@@ -60,6 +60,15 @@ fn run_subcommand<'a>(alloc: Global) -> Result<Command<'a>, AllocError>
         .arg(further_words(alloc))
 }
 
+// `demo`, with its number.
+#[tactic(auto, unfolding(crate::specs::App::demo_app))]
+fn demo_subcommand<'a>(alloc: Global) -> Result<Command<'a>, AllocError>
+    ensures app { IfOk result (λ c. app_of c ≡ demo_app) }
+    ensures local { IfOk result (λ c. (out-Command c).has_globals ≡ false) }
+{
+    Command::new(alloc, "demo").arg(required_value(alloc, "number"))
+}
+
 // The command without its subcommands.
 #[tactic(auto, unfolding(crate::specs::App::top_app))]
 fn top_command<'a>(alloc: Global) -> Command<'a>
@@ -77,5 +86,7 @@ fn top_command<'a>(alloc: Global) -> Command<'a>
 pub(crate) fn whole_command<'a>(alloc: Global) -> Result<Command<'a>, AllocError>
     ensures { IfOk result (λ c. app_of c ≡ the_app) }
 {
-    top_command(alloc).subcommand(run_subcommand(alloc)?)
+    top_command(alloc)
+        .subcommand(run_subcommand(alloc)?)?
+        .subcommand(demo_subcommand(alloc)?)
 }

@@ -1,5 +1,5 @@
 //! Laws of the words, each the contract of a function with no body.
-ghost use Rattle.command_line.specs.Plain.{PlainOptionsAreRead, PlainWordsAreTaken};
+ghost use Rattle.command_line.specs.Plain.{PlainDemoIsRead, PlainDemoIsTaken, PlainOptionsAreRead, PlainWordsAreTaken};
 ghost use Rattle.command_line.specs.Taken.{TakenWordsFailByNumbers};
 
 /// Plain words are taken: any program name, each option at most once and `-o` among them, in any order, then the image and
@@ -11,6 +11,16 @@ pub fn plain_words_are_taken()
 /// What is read of plain words: the values in the words, and the defaults for what is left out.
 pub fn plain_options_are_read()
     ensures { PlainOptionsAreRead }
+{}
+
+/// `demo` and a plain number are taken, for any program name.
+pub fn plain_demo_is_taken()
+    ensures { PlainDemoIsTaken }
+{}
+
+/// What they ask for: the demonstration of the number that the word says, where that is in its form and range.
+pub fn plain_demo_is_read()
+    ensures { PlainDemoIsRead }
 {}
 
 /// Words that `clap` takes are refused only for a zero byte or a number out of its form or range.

@@ -1,15 +1,20 @@
-//! The words of the command line, `aprof run ...`, read by one fixed `clap` command. What they ask for is `options_of` of
-//! the words, a function of the rows that `clap` states for that command.
+//! The words of the command line, `aprof run ...` or `aprof demo N`, read by one fixed `clap` command. What they ask for is
+//! `asked_of` the words, a function of the rows that `clap` states for that command.
 #![tactic(auto)]
 
 mod app;
+mod commands;
 mod laws;
 mod matches;
 mod numbers;
 mod run_command;
 
-pub use laws::{plain_options_are_read, plain_words_are_taken, taken_words_fail_by_numbers};
-pub use run_command::{CommandError, RunCommand, read_command};
+pub use commands::{Command, CommandError, read_command};
+pub use laws::{
+    plain_demo_is_read, plain_demo_is_taken, plain_options_are_read, plain_words_are_taken,
+    taken_words_fail_by_numbers,
+};
+pub use run_command::RunCommand;
 
 #[cfg(test)]
 mod tests;

@@ -19,6 +19,13 @@ pub(crate) fn matches_of_words<'a>(
     whole_command(alloc)?.try_get_matches_from(words)
 }
 
+/// The name and the matches of the subcommand.
+pub(crate) fn subcommand_of<'m, 'a>(matches: &'m ArgMatches<'a>) -> Option<(&'a str, &'m ArgMatches<'a>)>
+    ensures { option_map (λ p. (p.0.now, rows_of (found_of p.1.now))) result ≡ subcommand_rows_of matches.now }
+{
+    matches.subcommand()
+}
+
 /// The first value of an argument.
 pub(crate) fn text_of<'a>(matches: &ArgMatches<'a>, id: &str) -> Option<&'a str>
     ensures { option_map (λ s. s.now) result ≡ first_of id.now (rows_of (found_of matches.now)) }

@@ -25,9 +25,9 @@ fn is_numeral(text: &str) -> bool
     are_digits(bytes)
 }
 
-// The number that the text says, if that is in the range.
+/// The number that the text says, if that is in the range.
 #[tactic(auto, using(crate::proofs::Numerals::number_read, crate::proofs::Numerals::number_too_long))]
-fn number_between(least: u64, greatest: u64, text: &str) -> Option<u64>
+pub(crate) fn number_between(least: u64, greatest: u64, text: &str) -> Option<u64>
     ensures number { result ≡ number_between least greatest text.now }
     ensures range { IfSome result (λ number. (least ≤ number) × (number ≤ greatest)) }
 {

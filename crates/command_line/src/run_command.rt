@@ -1,18 +1,17 @@
-//! The command `run`, and the words that ask for it.
+//! The command `run`, of the matches that `clap` makes.
 ghost use Rattle.std.specs.Prelude.{◌≡◌, IfOk, IfErr, MatchOption, ◌&&◌, not, map, true, false, Some, None, string_bytes};
 ghost use Rattle.std.specs.List.{list_any};
 ghost use Rattle.std.specs.Str.{bytes_eq};
 ghost use Rattle.clap.specs.Words.{found_of, rows_of};
-ghost use Rattle.command_line.specs.Options.{AsksFor, arguments, has_zero, inputs, is_plain_argument, argument_of, options_of_rows};
+ghost use Rattle.command_line.specs.Options.{arguments, inputs, is_plain_argument, argument_of, options_of_rows};
 ghost use Rattle.command_line.specs.Read.{AreInRange, options_in};
-ghost use Rattle.command_line.specs.declared.run_command.CommandError.TheVariants.{Refused};
+ghost use Rattle.command_line.specs.declared.commands.CommandError.TheVariants.{Refused};
 
-use crate::matches::{matches_of_words, text_of, texts_of};
+use crate::commands::CommandError;
+use crate::matches::{text_of, texts_of};
 use crate::numbers::number_or;
 use clap::ArgMatches;
-use clap::error::ErrorKind;
 use std::alloc::{AllocError, Global};
-use thiserror::Error;
 
 /// The most steps of a turn, where the words don't say.
 const USUAL_QUANTUM: u64 = 10_000;
@@ -25,28 +24,6 @@ const USUAL_BUDGET: u64 = 1_000_000_000;
 
 /// The most that they may say.
 const GREATEST_BUDGET: u64 = 1_000_000_000_000;
-
-/// Why no command is made of the words.
-#[derive(Clone, Copy, Debug, PartialEq, Eq, Error)]
-pub enum CommandError {
-    /// The words are not of the form.
-    #[error("bad command line")]
-    Refused,
-    /// Want of memory.
-    #[error("out of memory")]
-    Memory,
-}
-
-impl From<AllocError> for CommandError {
-    ghost use Rattle.std.specs.Prelude.{◌≡◌};
-    ghost use Rattle.command_line.specs.declared.run_command.CommandError.TheVariants.{Memory};
-
-    ghost from_gives = { λ _ e. e ≡ Memory };
-
-    fn from(_error: AllocError) -> CommandError {
-        CommandError::Memory
-    }
-}
 
 /// What `run` is asked: `options_in` says its options.
 #[derive(Drop)]
@@ -69,22 +46,8 @@ pub struct RunCommand<'a> {
     pub words: Vec<&'a str>,
 }
 
-// Whether a word has a zero byte.
-fn has_zero(word: &str) -> bool
-    ensures { result ≡ has_zero word.now }
-{
-    word.as_bytes().iter().any(|byte| *byte == 0)
-}
-
-// Whether some word has a zero byte.
-fn some_has_zero(words: &[String]) -> bool
-    ensures { result ≡ list_any (λ word. has_zero (string_bytes word)) words.now }
-{
-    words.iter().any(|word| has_zero(word.as_str()))
-}
-
-// The command that the matches of `run` say.
-fn command_of<'a>(alloc: Global, matches: &ArgMatches<'a>) -> Result<RunCommand<'a>, CommandError>
+/// The command that the matches of `run` say.
+pub(crate) fn run_of_matches<'a>(alloc: Global, matches: &ArgMatches<'a>) -> Result<RunCommand<'a>, CommandError>
     ensures asked { IfOk result (λ command. options_of_rows (rows_of (found_of matches.now)) ≡ Some (options_in command)) }
     ensures refused { IfErr result (λ e. e ≡ Refused → options_of_rows (rows_of (found_of matches.now)) ≡ None) }
     ensures ranges { IfOk result (λ command. AreInRange command.quantum command.budget) }
@@ -103,26 +66,6 @@ fn command_of<'a>(alloc: Global, matches: &ArgMatches<'a>) -> Result<RunCommand<
         image: text_of(matches, "image").ok_or(CommandError::Refused)?,
         words: texts_of(alloc, matches, "word")?,
     })
-}
-
-/// Reads the words of the command line, the program's name first.
-pub fn read_command<'a>(alloc: Global, words: &'a [String]) -> Result<RunCommand<'a>, CommandError>
-    ensures asked { IfOk result (λ command. AsksFor (map string_bytes words.entry.now) (Some (options_in command))) }
-    ensures refused { IfErr result (λ e. e ≡ Refused → AsksFor (map string_bytes words.entry.now) None) }
-    ensures ranges { IfOk result (λ command. AreInRange command.quantum command.budget) }
-{
-    if some_has_zero(words) {
-        return Err(CommandError::Refused);
-    }
-    let matches = match matches_of_words(alloc, words) {
-        Ok(matches) => matches,
-        Err(error) if error.kind() == ErrorKind::OutOfMemory => return Err(CommandError::Memory),
-        Err(_) => return Err(CommandError::Refused),
-    };
-    match matches.subcommand() {
-        Some((_, found)) => command_of(alloc, found),
-        None => Err(CommandError::Refused),
-    }
 }
 
 // What follows the `=` that a word begins with.

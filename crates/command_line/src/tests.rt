@@ -1,4 +1,4 @@
-use crate::{CommandError, read_command};
+use crate::{Command, CommandError, RunCommand, read_command};
 use std::alloc::{AllocError, Global};
 use std::test::Fail;
 
@@ -11,12 +11,21 @@ fn words_of(alloc: Global, line: &str) -> Result<Vec<String>, AllocError> {
     Ok(words)
 }
 
-// The quantum and the budget that words ask for, where they are of the form.
+// The numbers that words ask for, the quantum and the budget or that of `demo`, where they are of the form.
 fn numbers_of(alloc: Global, words: &[String]) -> Result<Option<(u64, u64)>, AllocError> {
     match read_command(alloc, words) {
-        Ok(command) => Ok(Some((command.quantum, command.budget))),
+        Ok(Command::Run(command)) => Ok(Some((command.quantum, command.budget))),
+        Ok(Command::Demo(number)) => Ok(Some((0, u64::from(number)))),
         Err(CommandError::Refused) => Ok(None),
         Err(CommandError::Memory) => Err(AllocError),
+    }
+}
+
+// The run that was asked for.
+fn run_of<'a>(read: Result<Command<'a>, CommandError>) -> Option<RunCommand<'a>> {
+    match read {
+        Ok(Command::Run(command)) => Some(command),
+        _ => None,
     }
 }
 
@@ -37,6 +46,9 @@ fn words_of_the_form_are_taken(rt: HostRuntime) -> Result<(), Fail> {
             "aprof run --quantum 00000000000000000007 -o r img",
             (7, 1_000_000_000),
         ),
+        ("aprof demo 8", (0, 8)),
+        ("aprof demo 08", (0, 8)),
+        ("aprof demo 40000", (0, 40_000)),
     ] {
         let words = words_of(rt.alloc(), line)?;
         assert_eq!(rt; numbers_of(rt.alloc(), &words)?, Some(numbers));
@@ -51,7 +63,12 @@ fn other_words_are_refused(rt: HostRuntime) -> Result<(), Fail> {
         "aprof",
         "aprof help",
         "aprof --help",
-        "aprof demo 1",
+        "aprof demo",
+        "aprof demo 0",
+        "aprof demo 40001",
+        "aprof demo 8 9",
+        "aprof demo 8x",
+        "aprof demo -o r 8",
         "aprof run --help",
         "aprof run -h",
         "aprof run img",
@@ -84,7 +101,7 @@ fn a_command_has_arguments_and_inputs(rt: HostRuntime) -> Result<(), Fail> {
     let alloc = rt.alloc();
     let line = "aprof run --schedule s -o r --record t --stdin i img b =a a b =b";
     let words = words_of(alloc, line)?;
-    let command = read_command(alloc, &words).expect(&rt, "words of the form");
+    let command = run_of(read_command(alloc, &words)).expect(&rt, "words of a run");
     assert_eq!(rt; (command.report, command.image), ("r", "img"));
     assert_eq!(rt;
         (command.stdin, command.schedule, command.recording),
