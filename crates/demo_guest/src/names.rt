@@ -51,8 +51,10 @@ fn routine_symbol(alloc: Global, routine: u32, place: u32) -> Result<Symbol, All
 /// Appends the symbols of the routines.
 fn push_routines(alloc: Global, symbols: &mut Vec<Symbol>, routines: u32) -> Result<(), AllocError>
     requires { routines ≤ 40000 }
-    ensures { OnOk result (symbols.new.items ≡ symbols.old.items ++ map (routine_symbol routines) (range_with_len 0 routines)) }
+    ensures { OnOk result (symbols.new.items
+        ≡ symbols.old.items ++ map (routine_symbol routines) (range_with_len 0 routines)) }
 {
+    // Behind the first ten words, two words for each call, and the last three.
     let mut place = 13 + 2 * routines;
     for routine in 0..routines {
         symbols.push(routine_symbol(alloc, routine, place)?)?;
