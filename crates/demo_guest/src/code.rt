@@ -1,5 +1,5 @@
 //! The code of the demo.
-ghost use Rattle.std.specs.Prelude.{◌≡◌, ℕ, ◌≤◌, ◌<◌, ◌+◌, ◌*◌, ◌++◌, ◌∷◌, [], length, map, pos, None, Some, IfOk, OnOk, All};
+ghost use Rattle.std.specs.Prelude.{◌≡◌, ℕ, ◌≤◌, ◌<◌, ◌+◌, ◌*◌, ◌++◌, [], length, map, pos, None, Some, IfOk, OnOk, All};
 ghost use Rattle.std.specs.List.{flat_map, range_with_len};
 ghost use Rattle.rv_isa.specs.Table.{decoded};
 ghost use Rattle.rv_isa.specs.declared.instruction.ImmOp.TheVariants.{Addi};

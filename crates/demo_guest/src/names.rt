@@ -1,8 +1,7 @@
 //! The names of the demo's routines, as symbols.
-ghost use Rattle.std.specs.Prelude.{◌≡◌, ◌≤◌, ◌<◌, ◌+◌, ◌*◌, ◌∷◌, ◌++◌, [], true, IfOk, OnOk, decimal, map};
+ghost use Rattle.std.specs.Prelude.{◌≡◌, ◌≤◌, ◌<◌, ◌+◌, ◌∷◌, ◌++◌, true, IfOk, OnOk, decimal, map};
 ghost use Rattle.std.specs.List.{range_with_len};
 ghost use Rattle.guest_words.specs.Names.{is_name};
-ghost use Rattle.demo_guest.specs.Guest.{reads, routine_place};
 ghost use Rattle.demo_guest.specs.Image.{address, routine_symbol, symbols};
 
 use guest_words::{Name, NameError};
