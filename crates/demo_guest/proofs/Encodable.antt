@@ -3,12 +3,11 @@ use Rattle.std.proofs.Common.{◌≡◌, ℕ, zero, suc, ◌+◌, ◌*◌, ◌<�
 use Rattle.std.specs.Prelude.{pos}
 use Rattle.std.specs.List.{flat_map, range_with_len}
 use Rattle.rv_isa.specs.declared.instruction.Instr.{Instr}
-use Rattle.rv_isa.specs.declared.instruction.Instr.TheVariants.{Jalr, Load}
-use Rattle.rv_isa.specs.declared.instruction.LoadKind.TheVariants.{Lw}
+use Rattle.rv_isa.specs.declared.instruction.Instr.TheVariants.{Jalr}
 use Rattle.rv_isa.specs.Encoding.{IsEncodable, IsImmediate, IsJumpOffset}
 use Rattle.rv_asm.specs.declared.line.Line.{Line}
 use Rattle.rv_asm.specs.Assembled.{instruction_at, offset_between}
-use Rattle.demo_guest.specs.Guest.{call, reads, routine_code, routine_place}
+use Rattle.demo_guest.specs.Guest.{load, call, reads, routine_code, routine_place}
 use Rattle.demo_guest.proofs.Ranges.{words_within}
 use Rattle.demo_guest.proofs.Resolved.{resolved}
 
@@ -34,14 +33,13 @@ calls_encodable n k (suc m) few whole =
 load_near : (k : ℕ) → k < 4 → IsImmediate (pos (4 * k))
 load_near k small = grind arith
 
-pub loads_encodable : (k m : ℕ) → k + m ≤ 4 → AreEncodable (map (λ (i : ℕ). Load Lw 7 6 (pos (4 * i))) (range_with_len k m))
+pub loads_encodable : (k m : ℕ) → k + m ≤ 4 → AreEncodable (map load (range_with_len k m))
 loads_encodable k zero few = tt
 loads_encodable k (suc m) few = (load_near k (omega arith), loads_encodable (k + 1) m (omega (arith, few)))
 
 pub routines_encodable : (xs : List ℕ) → AreEncodable (flat_map routine_code xs)
 routines_encodable [] = tt
 routines_encodable (x ∷ xs) =
-    let load : ℕ → Instr = λ (i : ℕ). Load Lw 7 6 (pos (4 * i)) in
     let back : IsEncodable (Jalr 0 1 (pos 0)) = load_near 0 (omega arith) in
     encodable-append (routine_code x) (flat_map routine_code xs)
     (encodable-append (map load (range_with_len 0 (reads x))) (Jalr 0 1 (pos 0) ∷ []) (loads_encodable 0 (reads x) (omega arith)) (back, tt))

@@ -1,5 +1,5 @@
--- The demo as it is told to the assembler. The label 0 stands for the call of the first routine, 1 for the loop of the new
--- thread, and from 2 on there is one for each routine.
+-- The demo as it is told to the assembler. The label 0 stands for the first call, 1 for the loop of the new thread, and
+-- from 2 on there is one for each routine.
 use Rattle.std.specs.Prelude.{◌≡◌, ℕ, ◌+◌, ◌<◌, pos, List, [], ◌∷◌, ◌++◌, map, take, length, Option, Some, None}
 use Rattle.std.specs.List.{flat_map, range_with_len}
 use Rattle.rv_isa.specs.declared.instruction.Instr.{Instr}
@@ -21,7 +21,8 @@ jump instruction label = record { instruction = instruction; to = Some label }
 -- the first ten words
 abbrev pub start_lines : List Line
 start_lines =
-    map plain (take 6 start) ++ (jump (Branch Ne 10 0 (pos 0)) 0 ∷ plain (Store Sw 0 6 (pos 0)) ∷ plain Ecall ∷ jump (Jal 0 (pos 0)) 1 ∷ [])
+    map plain (take 6 start)
+    ++ (jump (Branch Ne 10 0 (pos 0)) 0 ∷ plain (Store Sw 0 6 (pos 0)) ∷ plain Ecall ∷ jump (Jal 0 (pos 0)) 1 ∷ [])
 
 -- the call of the routine of a label
 abbrev pub call_lines : ℕ → List Line
@@ -37,7 +38,7 @@ lines routines =
     start_lines ++ (flat_map call_lines (range_with_len 2 routines)
     ++ (map plain ending ++ flat_map routine_lines (range_with_len 0 routines)))
 
--- The labels of the first routines stand for where these begin.
+-- the labels of the first routines stand for where these begin
 abbrev pub AreRoutines : ℕ → ℕ → List (Option ℕ) → Type 0
 AreRoutines routines bound places = (k : ℕ) → k < bound → place_of places (2 + k) ≡ Some (routine_place routines k)
 

@@ -1,13 +1,13 @@
 //! The code of the demo.
-ghost use Rattle.std.specs.Prelude.{◌≡◌, ℕ, ◌≤◌, ◌<◌, ◌+◌, ◌*◌, ◌++◌, ◌∷◌, [], length, map, pos, None, Some, IfOk, OnOk, All};
+ghost use Rattle.std.specs.Prelude.{◌≡◌, ℕ, ◌≤◌, ◌<◌, ◌+◌, ◌*◌, ◌++◌, [], length, map, pos, None, Some, IfOk, OnOk, All};
 ghost use Rattle.std.specs.List.{flat_map, range_with_len};
 ghost use Rattle.rv_isa.specs.Table.{decoded};
 ghost use Rattle.rv_isa.specs.declared.instruction.ImmOp.TheVariants.{Addi};
-ghost use Rattle.rv_isa.specs.declared.instruction.Instr.TheVariants.{Immediate, Jal, Load};
-ghost use Rattle.rv_isa.specs.declared.instruction.LoadKind.TheVariants.{Lw};
+ghost use Rattle.rv_isa.specs.declared.instruction.Instr.TheVariants.{Immediate, Jal};
 ghost use Rattle.rv_asm.specs.Assembled.{place_of};
-ghost use Rattle.demo_guest.specs.Guest.{ending, instructions};
-ghost use Rattle.demo_guest.specs.Drafts.{call_lines, lines, plain, routine_lines, start_lines, AreBound, AreRoutines, IsStarted};
+ghost use Rattle.demo_guest.specs.Guest.{ending, instructions, load};
+ghost use Rattle.demo_guest.specs.Drafts.{call_lines, lines, plain, routine_lines, start_lines};
+ghost use Rattle.demo_guest.specs.Drafts.{AreBound, AreRoutines, IsStarted};
 
 use crate::program::{bind, emit, emit_all, finish, jump, label};
 use rv_asm::{Builder, Code, Label};
@@ -110,7 +110,7 @@ fn emit_ending(program: &mut Builder) -> Result<(), AllocError>
 /// The load of one of the words that routines read.
 fn load(word: u32) -> Instr
     requires { word < 4 }
-    ensures load { result ≡ Load Lw 7 6 (pos (4 * word)) }
+    ensures load { result ≡ load word }
 {
     Instr::Load {
         kind: LoadKind::Lw,

@@ -11,7 +11,7 @@ use rv_asm::write_exec;
 use std::alloc::{AllocError, Global};
 use written_images::written_files_are_accepted;
 
-/// The executable of the demo with so many routines.
+/// The executable of the demo with so many routines. Of the 16384 pages of a guest it leaves the 2048 of the stack.
 pub fn demo_image(alloc: Global, routines: u32) -> Result<Vec<u8>, AllocError>
     requires { (1 ≤ routines) × (routines ≤ 40000) }
     ensures file { IfOk result (λ file. IsDemoFile routines file.items) }

@@ -8,3 +8,6 @@ mod names;
 mod program;
 
 pub use demo::demo_image;
+
+#[cfg(test)]
+mod tests;

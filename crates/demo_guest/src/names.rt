@@ -1,8 +1,7 @@
 //! The names of the demo's routines, as symbols.
-ghost use Rattle.std.specs.Prelude.{◌≡◌, ◌≤◌, ◌<◌, ◌+◌, ◌*◌, ◌∷◌, ◌++◌, [], true, IfOk, OnOk, decimal, map};
+ghost use Rattle.std.specs.Prelude.{◌≡◌, ◌≤◌, ◌<◌, ◌+◌, ◌∷◌, ◌++◌, true, IfOk, OnOk, decimal, map};
 ghost use Rattle.std.specs.List.{range_with_len};
 ghost use Rattle.guest_words.specs.Names.{is_name};
-ghost use Rattle.demo_guest.specs.Guest.{reads, routine_place};
 ghost use Rattle.demo_guest.specs.Image.{address, routine_symbol, symbols};
 
 use guest_words::{Name, NameError};
@@ -51,8 +50,10 @@ fn routine_symbol(alloc: Global, routine: u32, place: u32) -> Result<Symbol, All
 /// Appends the symbols of the routines.
 fn push_routines(alloc: Global, symbols: &mut Vec<Symbol>, routines: u32) -> Result<(), AllocError>
     requires { routines ≤ 40000 }
-    ensures { OnOk result (symbols.new.items ≡ symbols.old.items ++ map (routine_symbol routines) (range_with_len 0 routines)) }
+    ensures { OnOk result (symbols.new.items
+        ≡ symbols.old.items ++ map (routine_symbol routines) (range_with_len 0 routines)) }
 {
+    // Behind the first ten words, two words for each call, and the last three.
     let mut place = 13 + 2 * routines;
     for routine in 0..routines {
         symbols.push(routine_symbol(alloc, routine, place)?)?;

@@ -1,5 +1,5 @@
 //! The steps of writing a program, where memory is all that can be wanting.
-ghost use Rattle.std.specs.Prelude.{◌≡◌, ◌≢◌, ◌<◌, ◌≤◌, ◌+◌, ◌++◌, ◌∷◌, [], length, map, true, None, Some, IfOk, OnOk, All, slice_set};
+ghost use Rattle.std.specs.Prelude.{◌≡◌, ◌<◌, ◌≤◌, ◌+◌, ◌++◌, length, map, true, None, IfOk, OnOk, All};
 ghost use Rattle.rv_isa.specs.Encoding.{IsEncodable};
 ghost use Rattle.rv_asm.specs.Assembled.{place_of, AreAssembled};
 ghost use Rattle.rv_asm.specs.Lines.{is_jump};
