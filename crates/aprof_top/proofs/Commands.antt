@@ -2,9 +2,8 @@
 use Rattle.std.proofs.Common.{◌≡◌, ℕ, ◌<◌, Bool, true, false, cond, List, [], Some, None, Err, refl, sym, ap, ◌∙◌, subst, inl, inr, arith, length, slice_get, take}
 use Rattle.std.specs.Prelude.{nat_lt}
 use Rattle.std.proofs.lemmas.Bool.Decides.{nat_tests}
-use Rattle.std.proofs.lemmas.List.{length-map}
 use Rattle.std.proofs.lemmas.Option.{slice_get_within}
-use Rattle.command_line.specs.Options.{Asked, AsksFor, RunOptions, asked_of}
+use Rattle.command_line.specs.Options.{AsksFor, RunOptions, asked_of}
 use Rattle.command_line.specs.Options.Asked.{Run, Demo}
 use Rattle.host_io.specs.Files.{FilesState, FilesUnchanged, NoCountFalls, with_file, with_path}
 use Rattle.host_io.specs.Sink.{SinkState}
@@ -13,7 +12,6 @@ use Rattle.aprof_top.specs.declared.ending.Ending.TheVariants as ending
 use Rattle.aprof_top.specs.declared.ending.Verdict as verdicts
 use Rattle.aprof_top.specs.declared.ending.Verdict.TheVariants as verdict
 use Rattle.aprof_top.specs.declared.loaded.Loaded as kept
-use Rattle.aprof_top.specs.declared.product.Product.{Product}
 use Rattle.aprof_top.specs.Answers.{Decides, Found}
 use Rattle.aprof_top.specs.Delivery.{Delivers, FailsToStore, PutsNothing, PutsOutput, StoresAll, StoresSome}
 use Rattle.aprof_top.specs.Ending.{DoesNothing, AskedEnds, Reaches}
@@ -22,7 +20,7 @@ use Rattle.aprof_top.specs.Loads.{loaded_of, loaded_paths, passes_limit, shared_
 use Rattle.aprof_top.specs.Outcome.{Follows, IsDemo, IsRun, Outcome, refusal, stage}
 use Rattle.aprof_top.specs.Outcome.Stage.{Complete, Loading, PastLimit}
 use Rattle.aprof_top.specs.Outside.{Outside, outside, with_stores}
-use Rattle.aprof_top.specs.Products.{DemoRuns, FilesRun, LoadsAll, outcome_of, store_of}
+use Rattle.aprof_top.specs.Products.{DemoRuns, FilesRun, LoadsAll}
 use Rattle.aprof_top.specs.Verdicts.{IsOfRun}
 use Rattle.aprof_top.proofs.Sinks.{Rose-later, append_known-nothing}
 

@@ -1,5 +1,5 @@
 -- What the run of a command's files comes to.
-use Rattle.std.proofs.Common.{◌≡◌, ℕ, List, [], Option, Some, None, Err, ◌<◌, ◌≤◌, ◌+◌, false, nat_lt, arith, length, reverse, refl, sym, ap, ap₂, ◌∙◌, subst}
+use Rattle.std.proofs.Common.{◌≡◌, ℕ, List, [], Option, Some, None, Err, ◌≤◌, ◌+◌, false, nat_lt, arith, reverse, refl, sym, ap, ap₂, ◌∙◌, subst}
 use Rattle.std.specs.List.{AllByRecursion}
 use Rattle.command_line.specs.Options.{RunOptions, arguments, inputs}
 use Rattle.elf_image.specs.declared.error.ElfError.{ElfError}

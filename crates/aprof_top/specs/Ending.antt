@@ -1,5 +1,5 @@
 -- How a command ended, and what it left: the contracts between the parts of the program.
-use Rattle.std.specs.Prelude.{◌≡◌, ◌⊎◌, ◌<◌, ◌≤◌, ℕ, List, [], length, take, slice_get, Some}
+use Rattle.std.specs.Prelude.{◌≡◌, ◌⊎◌, ◌≤◌, ℕ, List, [], length, take, slice_get, Some}
 use Rattle.std.specs.Io.KnownBytes.{append_known}
 use Rattle.command_line.specs.Options.{Asked, AsksFor}
 use Rattle.host_io.specs.Files.{FailsAt}

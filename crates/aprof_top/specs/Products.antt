@@ -1,5 +1,5 @@
 -- What the parts of a run hand to one another.
-use Rattle.std.specs.Prelude.{◌≡◌, ◌<◌, ℕ, List, [], length, map, reverse, Option, Some, None, Result, Ok, Err}
+use Rattle.std.specs.Prelude.{◌≡◌, ℕ, List, [], length, map, reverse, Option, Some, None, Result, Ok, Err}
 use Rattle.command_line.specs.Options.{RunOptions, arguments, inputs}
 use Rattle.elf_image.specs.Image.{Executable}
 use Rattle.guest_calls.specs.Inputs.{Input}

@@ -1,5 +1,5 @@
 -- The summary of the demo.
-use Rattle.std.specs.Prelude.{ℕ, List, ◌++◌, codes}
+use Rattle.std.specs.Prelude.{ℕ, List, codes}
 use Rattle.profile_report.specs.LineForms.{ended, labelled}
 use Rattle.profile_report.specs.Reported.{Reported}
 
