@@ -10,5 +10,6 @@ pub mod Products
 pub mod Report
 pub mod Run
 pub mod Schedules
+pub mod Summary
 pub mod Texts
 pub mod Verdicts

@@ -7,6 +7,7 @@ mod loaded;
 mod loads;
 mod product;
 mod report;
+mod summary;
 mod texts;
 mod top;
 
