@@ -1,15 +1,80 @@
-//! The summary of the demo.
-ghost use Rattle.std.specs.Prelude.{◌≡◌, IfOk};
-ghost use Rattle.aprof_top.specs.Summary.{summary_text};
+//! The summary of a report.
+ghost use Rattle.std.specs.Prelude.{◌≡◌, ◌+◌, ◌++◌, ◌*◌, ◌<◌, ◌^◌, IfOk, OnOk};
+ghost use Rattle.std.specs.List.{sum_by};
+ghost use Rattle.profile_report.specs.LineForms.{ended, labelled};
+ghost use Rattle.aprof_top.specs.Summary.{FitsTotals, activations, costs, sizes, summary_text};
 
-use profile_report::Report;
+use cost_points::Point;
+use profile_report::{Report, Routine, push_end_line};
 use std::alloc::{AllocError, Global};
 
-/// stub
+/// The totals of routines: how many activations they had, and the sums of these activations' sizes and costs.
+#[derive(Clone, Copy)]
+struct Totals {
+    activations: u128,
+    sizes: u128,
+    costs: u128,
+}
+
+impl Totals {
+    // These totals and those of a routine's points.
+    fn with_points(self, points: &[Point]) -> Totals
+        requires activations { self.activations + sum_by (λ p. p.calls) points.now < 2 ^ 128 }
+        requires sizes { self.sizes + sum_by (λ p. p.size * p.calls) points.now < 2 ^ 128 }
+        requires costs { self.costs + sum_by (λ p. p.sum) points.now < 2 ^ 128 }
+        ensures activations { result.activations ≡ self.activations + sum_by (λ p. p.calls) points.now }
+        ensures sizes { result.sizes ≡ self.sizes + sum_by (λ p. p.size * p.calls) points.now }
+        ensures costs { result.costs ≡ self.costs + sum_by (λ p. p.sum) points.now }
+    {
+        let mut totals = self;
+        for point in points {
+            totals.activations += u128::from(point.calls);
+            totals.sizes += u128::from(point.size) * u128::from(point.calls);
+            totals.costs += point.sum;
+        }
+        totals
+    }
+}
+
+// The totals of routines.
+fn totals_of(routines: &[Routine]) -> Totals
+    requires { FitsTotals routines.now }
+    ensures activations { result.activations ≡ activations routines.now }
+    ensures sizes { result.sizes ≡ sizes routines.now }
+    ensures costs { result.costs ≡ costs routines.now }
+{
+    let mut totals = Totals {
+        activations: 0,
+        sizes: 0,
+        costs: 0,
+    };
+    for routine in routines {
+        totals = totals.with_points(routine.points.as_slice());
+    }
+    totals
+}
+
+// Appends the line of a number after its label.
+fn push_line(alloc: Global, text: &mut Vec<u8>, label: &str, number: u128) -> Result<(), AllocError>
+    ensures { OnOk result (text.new.items ≡ text.old.items ++ ended (labelled label.now number)) }
+{
+    let line = format!(in alloc; "{label}{number}\n")?;
+    text.extend_from_slice(line.as_bytes())
+}
+
+/// The summary of a report: the demo's number, how the run ended, and the totals.
 pub(crate) fn summary(alloc: Global, number: u32, report: &Report) -> Result<Vec<u8>, AllocError>
+    requires { FitsTotals report.now.routines }
     ensures { IfOk result (λ text. text.items ≡ summary_text number report.now) }
 {
-    let _alloc = alloc;
-    let _sum = (number, report.steps);
-    Err(AllocError)
+    let totals = totals_of(report.routines.as_slice());
+    let mut text = Vec::new(alloc);
+    push_line(alloc, &mut text, "demo ", u128::from(number))?;
+    push_end_line(&mut text, report.finish)?;
+    push_line(alloc, &mut text, "steps ", u128::from(report.steps))?;
+    push_line(alloc, &mut text, "routines ", report.routines.len() as u128)?;
+    push_line(alloc, &mut text, "activations ", totals.activations)?;
+    push_line(alloc, &mut text, "sizes ", totals.sizes)?;
+    push_line(alloc, &mut text, "costs ", totals.costs)?;
+    Ok(text)
 }

@@ -11,7 +11,7 @@ mod reader;
 mod report;
 mod writer;
 
-pub use line_text::hex_address;
+pub use line_text::{hex_address, push_end_line};
 pub use reader::{ReportError, a_text_is_of_one_report, read_report};
 pub use report::{Report, Routine};
 pub use writer::write_report;
