@@ -20,6 +20,7 @@ use Rattle.aprof_top.specs.Summary.{FitsTotals, activations, costs, sizes, total
 abbrev only : ℕ → ℕ → ℕ → ℕ
 only n x k = if x == k then n else 0
 
+-- keys above it are not that key
 only_above : (n x : ℕ) (ks : List ℕ) → All (λ k. x < k) ks → sum_by (only n x) ks ≡ 0
 only_above n x [] above = refl
 only_above n x (k ∷ ks) above =
@@ -81,6 +82,7 @@ sum_by-map : {A B : Type 0} (f : B → ℕ) (g : A → B) (xs : List A) → sum_
 sum_by-map f g [] = refl
 sum_by-map f g (x ∷ xs) = sum_by-cons f (g x) (map g xs) ∙ ap (λ b. f (g x) + b) (sum_by-map f g xs) ∙ sym (sum_by-cons (λ x. f (g x)) x xs)
 
+-- a number of each member, summed up by the groups of a key
 module _ {A : Type 0} (key : A → ℕ) (number : A → ℕ) where
   abbrev sum_having : List A → ℕ → ℕ
   sum_having all k = sum_by number (having key k all)
@@ -109,6 +111,7 @@ module _ {A : Type 0} (key : A → ℕ) (number : A → ℕ) where
       ∙ sum_by-same (λ k. of (make k (having key k all))) (sum_having all) (rising (map key all)) each
       ∙ sum_keys all
 
+-- a total of the points is a sum over the activations, where it is so for the activations of one size
 module _ (image : Executable) (of : Point → ℕ) (number : Done → ℕ) (each : (k : ℕ) (members : List Done) → of (point_of k (having (λ d. d.size) k members)) ≡ sum_by number (having (λ d. d.size) k members)) where
   pub total-points : (all : List Done) → total of (map (named image) (points all)) ≡ sum_by number all
   total-points all =
@@ -121,6 +124,7 @@ sum_by-ones : {A : Type 0} (xs : List A) → sum_by (λ x. 1) xs ≡ length xs
 sum_by-ones [] = refl
 sum_by-ones (x ∷ xs) = let rest = sum_by-ones xs in omega (arith, rest, sum_by-cons (λ y. 1) x xs)
 
+-- the members of one size
 sizes-having : (k : ℕ) (members : List Done) → sum_by (λ d. d.size) (having (λ d. d.size) k members) ≡ k * length (having (λ d. d.size) k members)
 sizes-having k [] = grind arith
 sizes-having k (d ∷ members) =
