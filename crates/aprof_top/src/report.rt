@@ -1,11 +1,15 @@
 //! The report of a run.
-ghost use Rattle.std.specs.Prelude.{◌≡◌, ◌<◌, ◌^◌, length, map, option_map, reverse, IfOk};
+ghost use Rattle.std.specs.Prelude.{◌≡◌, ◌<◌, ◌^◌, ◌++◌, ◌∷◌, [], List, length, map, option_map, reverse, IfOk, OnOk};
+ghost use Rattle.std.specs.List.{All};
+ghost use Rattle.trace_model.specs.declared.slow_profile.Done.{Done};
 ghost use Rattle.elf_image.specs.Image.{name_of};
 ghost use Rattle.trace_model.specs.Depth.{pending};
 ghost use Rattle.trace_model.specs.Profile.{steps};
 ghost use Rattle.trace_model.specs.WellFormed.{IsLight};
+ghost use Rattle.cost_points.specs.Points.{points};
 ghost use Rattle.cost_points.specs.Tally.{tally_of};
 ghost use Rattle.aprof_top.specs.Report.{named, report_of};
+ghost use Rattle.aprof_top.specs.Summary.{FitsTotals};
 
 use cost_points::Table;
 use elf_image::Image;
@@ -15,14 +19,26 @@ use profile_report::{Report, Routine};
 use std::alloc::{AllocError, Global};
 use trace_model::{Done, slow_done};
 
+// Adds an ended activation, whose size and cost are numbers of 64 bits.
+fn add_ended(table: &mut Table, ended: Done) -> Result<(), AllocError>
+    requires { table.old.members < 2 ^ 63 }
+    ensures added { (added : List Done) → table.old ≡ tally_of added → OnOk result (table.new ≡ tally_of (added ++ ended ∷ [])) }
+    ensures size { ended.size < 2 ^ 64 }
+    ensures cost { ended.cost < 2 ^ 64 }
+{
+    table.add(ended)
+}
+
 // The points of ended activations.
 fn table_of(alloc: Global, done: &[Done]) -> Result<Table, AllocError>
     requires { length done.now < 2 ^ 63 }
-    ensures { IfOk result (λ table. table ≡ tally_of done.now) }
+    ensures table { IfOk result (λ table. table ≡ tally_of done.now) }
+    ensures sizes { OnOk result (All (λ d. d.size < 2 ^ 64) done.now) }
+    ensures costs { OnOk result (All (λ d. d.cost < 2 ^ 64) done.now) }
 {
     let mut table = Table::new(alloc)?;
     for ended in done {
-        table.add(*ended)?;
+        add_ended(&mut table, *ended)?;
     }
     Ok(table)
 }
@@ -55,19 +71,30 @@ fn named_routines(alloc: Global, image: &Image, table: &Table) -> Result<Vec<Rou
     Ok(routines)
 }
 
-/// The report of a run of an executable.
+// The routines of ended activations, with their names.
+fn routines_of(alloc: Global, image: &Image, done: &[Done]) -> Result<Vec<Routine>, AllocError>
+    requires { length done.now < 2 ^ 63 }
+    ensures routines { IfOk result (λ routines. routines.items ≡ map (named image.now) (points done.now)) }
+    ensures totals { IfOk result (λ routines. FitsTotals routines.items) }
+{
+    let table = table_of(alloc, done)?;
+    named_routines(alloc, image, &table)
+}
+
+/// The report of a run of an executable. Its totals are numbers of 128 bits.
 pub(crate) fn report_of(alloc: Global, image: &Image, run: &Run) -> Result<Report, AllocError>
     requires light { IsLight (reverse run.now.events.list) }
     requires steps { run.now.steps ≡ steps (reverse run.now.events.list) }
     requires pending { run.now.pending ≡ pending (reverse run.now.events.list) }
-    ensures { IfOk result (λ report. report ≡ report_of image.now run.now.finish (reverse run.now.events.list)) }
+    ensures report { IfOk result (λ report. report ≡ report_of image.now run.now.finish (reverse run.now.events.list)) }
+    ensures totals { IfOk result (λ report. FitsTotals report.routines) }
 {
     let done = slow_done(alloc, run.events.list())?;
-    let table = table_of(alloc, done.as_slice())?;
+    let routines = routines_of(alloc, image, done.as_slice())?;
     Ok(Report {
         finish: run.finish,
         steps: run.steps,
         pending: run.pending,
-        routines: named_routines(alloc, image, &table)?,
+        routines,
     })
 }
