@@ -72,7 +72,11 @@ fn demo_of_matches(matches: &ArgMatches) -> Option<u32>
 }
 
 // The command that a subcommand asks for.
-fn command_of<'a>(alloc: Global, name: &str, matches: &ArgMatches<'a>) -> Result<Command<'a>, CommandError>
+fn command_of<'a>(
+    alloc: Global,
+    name: &str,
+    matches: &ArgMatches<'a>,
+) -> Result<Command<'a>, CommandError>
     ensures asked { IfOk result (λ command. asked_of_rows name.now (rows_of (found_of matches.now)) ≡ Some (asked_in command)) }
     ensures refused { IfErr result (λ e. e ≡ Refused → asked_of_rows name.now (rows_of (found_of matches.now)) ≡ None) }
     ensures ranges { IfOk result (λ command. IsInRange command) }

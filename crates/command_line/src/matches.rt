@@ -20,7 +20,9 @@ pub(crate) fn matches_of_words<'a>(
 }
 
 /// The name and the matches of the subcommand.
-pub(crate) fn subcommand_of<'m, 'a>(matches: &'m ArgMatches<'a>) -> Option<(&'a str, &'m ArgMatches<'a>)>
+pub(crate) fn subcommand_of<'m, 'a>(
+    matches: &'m ArgMatches<'a>,
+) -> Option<(&'a str, &'m ArgMatches<'a>)>
     ensures { option_map (λ p. (p.0.now, rows_of (found_of p.1.now))) result ≡ subcommand_rows_of matches.now }
 {
     matches.subcommand()

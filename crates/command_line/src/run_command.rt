@@ -47,7 +47,10 @@ pub struct RunCommand<'a> {
 }
 
 /// The command that the matches of `run` say.
-pub(crate) fn run_of_matches<'a>(alloc: Global, matches: &ArgMatches<'a>) -> Result<RunCommand<'a>, CommandError>
+pub(crate) fn run_of_matches<'a>(
+    alloc: Global,
+    matches: &ArgMatches<'a>,
+) -> Result<RunCommand<'a>, CommandError>
     ensures asked { IfOk result (λ command. options_of_rows (rows_of (found_of matches.now)) ≡ Some (options_in command)) }
     ensures refused { IfErr result (λ e. e ≡ Refused → options_of_rows (rows_of (found_of matches.now)) ≡ None) }
     ensures ranges { IfOk result (λ command. AreInRange command.quantum command.budget) }
