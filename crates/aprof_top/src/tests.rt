@@ -189,6 +189,37 @@ fn each_failure_of_the_outside_is_told(rt: HostRuntime) -> Result<(), Fail> {
     Ok(())
 }
 
+#[test]
+fn the_demo_is_summed_up(rt: HostRuntime) -> Result<(), Fail> {
+    let demos: &[(&str, &str)] = &[
+        (
+            "8",
+            "demo 8\nend exit 0\nsteps 79\nroutines 10\nactivations 10\nsizes 31\ncosts 107\n",
+        ),
+        (
+            "400",
+            "demo 400\nend exit 0\nsteps 3411\nroutines 402\nactivations 402\nsizes 1403\ncosts 4811\n",
+        ),
+    ];
+    for (number, text) in demos {
+        let seen = call(
+            rt.alloc(),
+            &["aprof", "demo", *number],
+            b"",
+            "",
+            (NEVER, NEVER),
+        )?;
+        assert_eq!(rt; seen.status, 0);
+        let left = left_by(rt.alloc(), &seen)?;
+        assert_eq!(rt; left.as_slice(), text.as_bytes());
+    }
+    let seen = call(rt.alloc(), &["aprof", "demo", "8"], b"", "", (NEVER, 0))?;
+    assert_eq!(rt; seen.status, 4);
+    let left = left_by(rt.alloc(), &seen)?;
+    assert!(rt; left.ends_with(b"aprof: cannot write\n"));
+    Ok(())
+}
+
 // Where an allocation is refused, by `rt try --test --fail-alloc N`, the status is that of want of memory.
 #[test]
 fn want_of_memory_has_its_own_status(rt: HostRuntime) {
