@@ -214,15 +214,3 @@ module _ (number : ℕ) (outcome : Outcome) (before after : Outside) (is_demo : 
   AskedEnds-shown ending.CannotWrite ran delivery words asks = record { reached = shown words ending.CannotWrite asks delivery; ran = ran }
   AskedEnds-shown ending.CannotPut ran delivery words asks = record { reached = shown words ending.CannotPut asks delivery; ran = ran }
   AskedEnds-shown ending.OutOfMemory ran delivery words asks = inr (shown words ending.OutOfMemory asks delivery)
-
--- it gave no product
-pub AskedEnds-unshown : (number : ℕ) (same : Outside) (e : declared.Ending) → DemoRuns number (Err e) → AskedEnds (Demo number) same same e
-AskedEnds-unshown number same ending.OutOfMemory runs words asks = inl (record {
-  found = record { asked = Some (Demo number); asks = asks; files = []; held = tt; limit = inl tt };
-  puts = record { out = refl; err = refl };
-  contents = refl;
-})
-AskedEnds-unshown number same (ending.Decided v) runs words asks = absurd runs
-AskedEnds-unshown number same (ending.CannotRead path) runs words asks = absurd runs
-AskedEnds-unshown number same ending.CannotWrite runs words asks = absurd runs
-AskedEnds-unshown number same ending.CannotPut runs words asks = absurd runs

@@ -199,21 +199,6 @@ module _ (shared sum : ℕ) (paths files : List (List ℕ)) (path : List ℕ) (o
       by None is longer = PassesLimit-long (long_file file_limit) (long_file-long file_limit) (subst (λ c. Holds c path (long_file file_limit)) (sym is) tt) met.oversized met.failed_paths
       by (Some known) is longer = by_file known (known path) is refl longer
 
--- no file was loaded yet
-pub IsLoading-none : (shared : ℕ) (paths : List (List ℕ)) (old : FilesState) → IsLoading shared 0 paths [] old old
-IsLoading-none shared paths old = record {
-  held = tt;
-  each = tt;
-  sum_is = nothing shared;
-  small = omega arith;
-  unchanged = record { contents = refl; failed_paths = refl };
-  counts = record { faults = omega arith; oversized = omega arith };
-}
-  where
-    nothing : (count : ℕ) → 0 ≡ shared_length count []
-    nothing zero = refl
-    nothing (suc count) = refl
-
 -- all were loaded
 pub AreLoaded-all : (shared sum : ℕ) (paths files : List (List ℕ)) (old now : FilesState) → IsLoading shared sum paths files old now → AreLoaded shared paths files old now
 AreLoaded-all shared sum paths files old now so_far = record {

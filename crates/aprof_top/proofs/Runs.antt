@@ -122,26 +122,6 @@ FilesRun-unrun options files accepted turns entries text image is inputs' stdin 
 FilesRun-unrun options files accepted turns entries text image is inputs' stdin ending.CannotPut runs = absurd runs
 
 -- ---- the demo
--- its guest can begin, as it has few pages
-demo_begins : (image : Executable) → page_count image.segments ≤ 14336 → setup_refusal image (arguments demo_options) ≡ None
-demo_begins image few = rw (test (page_count image.segments) few) refl
-  where
-    test : (n : ℕ) → n ≤ 14336 → nat_lt page_limit (n + stack_pages) ≡ false
-    test n few = grind (arith, nat_tests, few)
-
--- so it is not refused
-pub DemoRuns-unrun : (number : ℕ) (image : Executable) (turns : List Entry) (inputs' : List Input) (stdin : List ℕ) (e : declared.Ending) → page_count image.segments ≤ 14336 → ImageRuns demo_options image turns inputs' stdin (Err e) → DemoRuns number (Err e)
-DemoRuns-unrun number image turns inputs' stdin ending.OutOfMemory few runs = tt
-DemoRuns-unrun number image turns inputs' stdin (ending.Decided TooLarge) few runs = subst IsRefused (demo_begins image few) runs
-DemoRuns-unrun number image turns inputs' stdin (ending.Decided BadCommand) few runs = runs
-DemoRuns-unrun number image turns inputs' stdin (ending.Decided (BadImage e)) few runs = runs
-DemoRuns-unrun number image turns inputs' stdin (ending.Decided (BadSchedule line)) few runs = runs
-DemoRuns-unrun number image turns inputs' stdin (ending.Decided (Ran finish)) few runs = runs
-DemoRuns-unrun number image turns inputs' stdin (ending.Decided Summarized) few runs = runs
-DemoRuns-unrun number image turns inputs' stdin (ending.CannotRead path) few runs = runs
-DemoRuns-unrun number image turns inputs' stdin ending.CannotWrite few runs = runs
-DemoRuns-unrun number image turns inputs' stdin ending.CannotPut few runs = runs
-
 -- its summary is the outcome
 pub IsDemo-run : (number : ℕ) (file : List ℕ) (image : Executable) (r : Run) (product : Product) → IsDemoFile number file → image ≡ image_of file → IsRunOf demo_options image [] [] [] r → ((shown : Shown) → IsShown shown r → outcome_of product ≡ demo_outcome number image shown) → IsDemo number (outcome_of product)
 unfolding first_state

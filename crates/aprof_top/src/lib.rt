@@ -4,6 +4,7 @@
 mod delivery;
 mod demo;
 mod ending;
+mod laws;
 mod loaded;
 mod loads;
 mod product;
@@ -12,6 +13,7 @@ mod summary;
 mod texts;
 mod top;
 
+pub use laws::a_run_has_one_outcome;
 pub use top::aprof;
 
 #[cfg(test)]

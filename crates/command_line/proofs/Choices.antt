@@ -1,10 +1,11 @@
 -- The walk over the options, the image and the further words.
-use Rattle.std.proofs.Common.{◌≡◌, ◌<◌, ◌^◌, Bool, true, false, refl, ap, ap₂, subst, sym, ◌∙◌, ◌&&◌, ◌||◌, append_assoc, List, [], ◌∷◌, ◌++◌, length, Some, None, codes}
+use Rattle.std.proofs.Common.{◌≡◌, ◌<◌, ◌^◌, true, false, refl, ap, ap₂, subst, sym, ◌∙◌, ◌||◌, append_assoc, List, [], ◌∷◌, ◌++◌, length, Some, None, codes}
 use Rattle.std.proofs.lemmas.List.{append-nil}
 use Rattle.std.proofs.lemmas.List.Sums.{fold-append}
 use Rattle.std.specs.Prelude.{fold, map}
 use Rattle.std.specs.List.{list_all}
 use Rattle.std.specs.Str.{bytes_eq}
+use Rattle.std.proofs.lemmas.Bool.{and_parts, or_parts}
 use Rattle.clap.specs.Takes.{walk_passes}
 use Rattle.clap.specs.Walk.{Waiting, Walk, has_row, idle, option, positional, walked}
 use Rattle.clap.specs.Words.{Row, Text}
@@ -53,19 +54,11 @@ abbrev AllFresh : List Row → List Choice → Type 0
 AllFresh all [] = Unit {0}
 AllFresh all (c ∷ cs) = (has_row (id_of c) all ≡ false) × AllFresh all cs
 
-either_false : (a b : Bool) → (a || b) ≡ false → (a ≡ false) × (b ≡ false)
-either_false true b e = let bad : true ≡ false = e in cc
-either_false false b e = (refl, e)
-
-both_true : (a b : Bool) → (a && b) ≡ true → (a ≡ true) × (b ≡ true)
-both_true true b e = (refl, e)
-both_true false b e = cc
-
 fresh_more : (all : List Row) (c : Choice) (cs : List Choice) → AllFresh all cs → is_chosen (id_of c) cs ≡ false
     → AllFresh (all ++ choice_row c ∷ []) cs
 fresh_more all c [] f h = tt
 fresh_more all c (d ∷ ds) f h =
-    let e = either_false (bytes_eq (id_of c) (id_of d)) (is_chosen (id_of c) ds) h in
+    let e = or_parts (bytes_eq (id_of c) (id_of d)) (is_chosen (id_of c) ds) h in
     (absent_in_both (id_of d) all (choice_row c ∷ []) f.0 (ap₂ ◌||◌ e.0 refl), fresh_more all c ds f.1 e.1)
 
 fresh_at_first : (cs : List Choice) → AllFresh [] cs
@@ -83,7 +76,7 @@ goes_choices [] rows p all h plain once fresh = record {
   settles = subst (Settles rows p) (sym (append-nil all)) h;
 }
 goes_choices (c ∷ cs) rows p all h plain once fresh =
-    let values = both_true (is_plain_word (value_of c)) (list_all is_plain_word (map value_of cs)) plain in
+    let values = and_parts (is_plain_word (value_of c)) (list_all is_plain_word (map value_of cs)) plain in
     let one = goes_choice c rows p all h (plain_is_no_flag (value_of c) values.0) fresh.0 in
     let more = goes_choices cs one.rows2 one.p2 (all ++ choice_row c ∷ []) one.settles values.1 once.1
     (fresh_more all c cs fresh.1 once.0) in
@@ -116,7 +109,7 @@ unfolding walk_passes
 further_words [] rows before h =
     (ap (λ (vs : List Text). stand rows (Some (codes "word", vs)) positional 2) (sym (append-nil before)), refl)
 further_words (w ∷ ws) rows before h =
-    let two = both_true (is_plain_word w) (list_all is_plain_word ws) h in
+    let two = and_parts (is_plain_word w) (list_all is_plain_word ws) h in
     let plain = plain_is_no_flag w two.0 in
     let step = further_word rows before w plain in
     let more = further_words ws rows (before ++ w ∷ []) two.1 in
@@ -139,7 +132,7 @@ ends_words [] rows image h few i w = record {
   settles = image_settles rows image i;
 }
 ends_words (v ∷ vs) rows image h few i w =
-    let two = both_true (is_plain_word v) (list_all is_plain_word vs) h in
+    let two = and_parts (is_plain_word v) (list_all is_plain_word vs) h in
     let plain = plain_is_no_flag v two.0 in
     let row = plain_row (codes "image") (image ∷ []) in
     let all = rows ++ row ∷ [] in

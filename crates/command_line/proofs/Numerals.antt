@@ -1,31 +1,28 @@
 -- Texts of one to twenty digits, and the numbers that they say.
-use Rattle.std.proofs.Common.{◌≡◌, ℕ, Bool, true, false, refl, subst, ◌<◌, ◌^◌, ◌&&◌, List, [], ◌∷◌, length, Some, None, ap, sym, arith, nat_le, cond}
+use Rattle.std.proofs.Common.{◌≡◌, ℕ, Bool, true, false, subst, ◌<◌, ◌^◌, ◌&&◌, List, [], ◌∷◌, length, Some, None, ap, sym, arith, nat_le, cond}
 use Rattle.std.proofs.lemmas.Bool.Decides.{nat_tests}
 use Rattle.std.proofs.lemmas.Str.Parse.{without_leading_plus_none}
 use Rattle.std.specs.Char.{digit_value}
 use Rattle.std.specs.List.{list_all}
 use Rattle.std.specs.Str.Parse.{AllDigits, IsNumeral, digits_value, without_leading_plus}
+use Rattle.std.proofs.lemmas.Bool.{and_parts}
 use Rattle.command_line.specs.Options.{is_digit, is_numeral, number_between}
 
 digit_below : (b : ℕ) → is_digit b ≡ true → digit_value b < 10
 digit_below b h = grind (arith, nat_tests)
 
-both_true : (a b : Bool) → (a && b) ≡ true → (a ≡ true) × (b ≡ true)
-both_true true b h = (refl, h)
-both_true false b h = cc
-
 all_digits : (ds : List ℕ) → list_all is_digit ds ≡ true → AllDigits 10 ds
 all_digits [] h = tt
 all_digits (d ∷ ds) h =
-    let two = both_true (is_digit d) (list_all is_digit ds) h in
+    let two = and_parts (is_digit d) (list_all is_digit ds) h in
     (digit_below d two.0, all_digits ds two.1)
 
 -- a numeral has no plus sign, and is a numeral as `parse` means it
 numeral_is : (text : List ℕ) → is_numeral text ≡ true → IsNumeral 10 text × (without_leading_plus text ≡ text)
 numeral_is [] h = cc
 numeral_is (d ∷ ds) h =
-    let digits = (both_true (nat_le 1 (length (d ∷ ds)) && nat_le (length (d ∷ ds)) 20) (list_all is_digit (d ∷ ds)) h).1 in
-    let first : is_digit d ≡ true = (both_true (is_digit d) (list_all is_digit ds) digits).0 in
+    let digits = (and_parts (nat_le 1 (length (d ∷ ds)) && nat_le (length (d ∷ ds)) 20) (list_all is_digit (d ∷ ds)) h).1 in
+    let first : is_digit d ≡ true = (and_parts (is_digit d) (list_all is_digit ds) digits).0 in
     ((omega arith, all_digits (d ∷ ds) digits), without_leading_plus_none (d ∷ ds) (λ (plus : d ≡ 43). let no : false ≡ true = subst (λ x. is_digit x ≡ true) plus first in cc))
 
 out_of_range : (least greatest number : ℕ) (b : Bool) → greatest < number → (b && nat_le least number && nat_le number greatest) ≡ false

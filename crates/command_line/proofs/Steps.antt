@@ -4,6 +4,7 @@ use Rattle.std.proofs.lemmas.Bool.Decides.{nat_tests}
 use Rattle.std.specs.Prelude.{slice_get}
 use Rattle.std.specs.List.{list_all}
 use Rattle.std.specs.Str.{bytes_eq}
+use Rattle.std.proofs.Math.Bool.{and-false, and-true}
 use Rattle.clap.specs.Lexer.{long_of, short_of, usize_max}
 use Rattle.clap.specs.Simple.{new_shape}
 use Rattle.clap.specs.Takes.{settle_passes, turn_passes, walk_passes}
@@ -65,14 +66,6 @@ pub plain_is_no_flag : (word : Text) → is_plain_word word ≡ true → IsNoFla
 plain_is_no_flag [] h = cc
 plain_is_no_flag (x ∷ xs) h = no_flag x xs (grind (arith, nat_tests))
 
-and_false : (b : Bool) → (b && false) ≡ false
-and_false true = refl
-and_false false = refl
-
-and_true : (b : Bool) → (b && true) ≡ b
-and_true true = refl
-and_true false = refl
-
 all_true : (ws : List Text) → list_all (λ _. true) ws ≡ true
 all_true [] = refl
 all_true (w ∷ ws) = all_true ws
@@ -94,7 +87,7 @@ pub takes_stdin : TakesValue (codes "--stdin") (codes "stdin")
 unfolding the_app top_app run_app demo_app clap_on_literals
 takes_stdin = record {
   flag_word = λ rows p. refl;
-  flag_turn = λ rows p. and_true _;
+  flag_turn = λ rows p. and-true _;
   value_word = λ rows word h. rw (h.no_dashes, h.no_long, h.no_short) refl;
   value_turn = λ rows word h. rw (h.no_dashes, h.no_long, h.no_short) refl;
   settles = λ rows word h. record { rows_are = new_row (codes "stdin") (word ∷ []) rows h; passes = rw h refl };
@@ -104,7 +97,7 @@ pub takes_quantum : TakesValue (codes "--quantum") (codes "quantum")
 unfolding the_app top_app run_app demo_app clap_on_literals
 takes_quantum = record {
   flag_word = λ rows p. refl;
-  flag_turn = λ rows p. and_true _;
+  flag_turn = λ rows p. and-true _;
   value_word = λ rows word h. rw (h.no_dashes, h.no_long, h.no_short) refl;
   value_turn = λ rows word h. rw (h.no_dashes, h.no_long, h.no_short) refl;
   settles = λ rows word h. record { rows_are = new_row (codes "quantum") (word ∷ []) rows h; passes = rw h refl };
@@ -114,7 +107,7 @@ pub takes_schedule : TakesValue (codes "--schedule") (codes "schedule")
 unfolding the_app top_app run_app demo_app clap_on_literals
 takes_schedule = record {
   flag_word = λ rows p. refl;
-  flag_turn = λ rows p. and_true _;
+  flag_turn = λ rows p. and-true _;
   value_word = λ rows word h. rw (h.no_dashes, h.no_long, h.no_short) refl;
   value_turn = λ rows word h. rw (h.no_dashes, h.no_long, h.no_short) refl;
   settles = λ rows word h. record { rows_are = new_row (codes "schedule") (word ∷ []) rows h; passes = rw h refl };
@@ -124,7 +117,7 @@ pub takes_recording : TakesValue (codes "--record") (codes "record")
 unfolding the_app top_app run_app demo_app clap_on_literals
 takes_recording = record {
   flag_word = λ rows p. refl;
-  flag_turn = λ rows p. and_true _;
+  flag_turn = λ rows p. and-true _;
   value_word = λ rows word h. rw (h.no_dashes, h.no_long, h.no_short) refl;
   value_turn = λ rows word h. rw (h.no_dashes, h.no_long, h.no_short) refl;
   settles = λ rows word h. record { rows_are = new_row (codes "record") (word ∷ []) rows h; passes = rw h refl };
@@ -134,7 +127,7 @@ pub takes_budget : TakesValue (codes "--budget") (codes "budget")
 unfolding the_app top_app run_app demo_app clap_on_literals
 takes_budget = record {
   flag_word = λ rows p. refl;
-  flag_turn = λ rows p. and_true _;
+  flag_turn = λ rows p. and-true _;
   value_word = λ rows word h. rw (h.no_dashes, h.no_long, h.no_short) refl;
   value_turn = λ rows word h. rw (h.no_dashes, h.no_long, h.no_short) refl;
   settles = λ rows word h. record { rows_are = new_row (codes "budget") (word ∷ []) rows h; passes = rw h refl };
@@ -144,7 +137,7 @@ pub takes_output : TakesValue (codes "-o") (codes "output")
 unfolding the_app top_app run_app demo_app clap_on_literals
 takes_output = record {
   flag_word = λ rows p. refl;
-  flag_turn = λ rows p. and_true _;
+  flag_turn = λ rows p. and-true _;
   value_word = λ rows word h. rw (h.no_dashes, h.no_long, h.no_short) refl;
   value_turn = λ rows word h. rw (h.no_dashes, h.no_long, h.no_short) refl;
   settles = λ rows word h. record { rows_are = new_row (codes "output") (word ∷ []) rows h; passes = rw h refl };
@@ -156,13 +149,13 @@ pub image_word : (rows : List Row) (p : Pending) (word : Text) → IsNoFlag word
     → walked rules [] (stand rows p idle 1) word ≡ stand (settled_rows rules p rows) (Some (codes "image", word ∷ [])) idle 2
 unfolding the_app top_app run_app demo_app clap_on_literals
 image_word rows None word h = rw (h.no_dashes, h.no_long, h.no_short) refl
-image_word rows (Some q) word h = rw (h.no_dashes, h.no_long, h.no_short, and_false (bytes_eq q.0 (codes "image"))) refl
+image_word rows (Some q) word h = rw (h.no_dashes, h.no_long, h.no_short, and-false (bytes_eq q.0 (codes "image"))) refl
 
 pub image_turn : (rows : List Row) (p : Pending) (word : Text) → IsNoFlag word
     → turn rows p idle 1 word ≡ may_settle rows p
 unfolding the_app top_app run_app demo_app clap_on_literals
 image_turn rows None word h = rw (h.no_dashes, h.no_long, h.no_short) refl
-image_turn rows (Some q) word h = rw (h.no_dashes, h.no_long, h.no_short, and_false (bytes_eq q.0 (codes "image"))) refl
+image_turn rows (Some q) word h = rw (h.no_dashes, h.no_long, h.no_short, and-false (bytes_eq q.0 (codes "image"))) refl
 
 pub image_settles : (rows : List Row) (image : Text) → has_row (codes "image") rows ≡ false
     → Settles rows (Some (codes "image", image ∷ [])) (rows ++ plain_row (codes "image") (image ∷ []) ∷ [])

@@ -89,11 +89,6 @@ without-other (x ∷ xs) gone w new =
     or-false true = refl
     or-false false = refl
 
--- nobody is taken out
-pub without-nobody : (xs : List Waiter) → without xs [] ≡ xs
-without-nobody [] = refl
-without-nobody (x ∷ xs) = ap (λ rest. x ∷ rest) (without-nobody xs)
-
 -- the last of the list is taken out
 without-last : (gone : List Waiter) (w : Waiter) → without (w ∷ []) (gone ++ w ∷ []) ≡ []
 without-last gone w =

@@ -5,6 +5,7 @@ use Rattle.std.specs.Int.{w32, to_le_bytes}
 use Rattle.std.specs.List.{list_any}
 use Rattle.std.proofs.lemmas.Bool.Decides.{nat_tests}
 use Rattle.std.proofs.lemmas.List.Folds.{list_any-append}
+use Rattle.std.proofs.lemmas.Bool.{or_parts}
 use Rattle.guest_memory.specs.Memory.{Memory}
 use Rattle.guest_memory.specs.Reserved.{Reserved}
 use Rattle.rv_exec.specs.Accesses.{can_write}
@@ -17,17 +18,14 @@ use Rattle.guest_calls.specs.Results.{Guest, fill_event, filled_where}
 use Rattle.guest_calls.proofs.PartLists.{behind}
 use Rattle.guest_calls.proofs.Reach.{writable_kept}
 use Rattle.guest_calls.proofs.Rising.{rises_push}
-
-or_false : (a b : Bool) → (a || b) ≡ false → (a ≡ false) × (b ≡ false)
-or_false true b h = absurd (cc)
-or_false false b h = (refl, h)
+use Rattle.guest_calls.proofs.Passed.{asked_reach}
 
 -- where there is room, fewer than 32 threads live
 pub room_left : (k : KernelState) → is_full k ≡ false → length k.threads < 32
-room_left k room = let few = (or_false (nat_le 32 (length k.threads)) (k.last_tid == 4194303) room).0 in grind (arith, nat_tests, few)
+room_left k room = let few = (or_parts (nat_le 32 (length k.threads)) (k.last_tid == 4194303) room).0 in grind (arith, nat_tests, few)
 
 lived_before : (ts : List Thread) (t : Thread) (q : ℕ) → list_any (is_thread q) (ts ++ t ∷ []) ≡ false → list_any (is_thread q) ts ≡ false
-lived_before ts t q gone = (or_false (list_any (is_thread q) ts) (list_any (is_thread q) (t ∷ [])) (sym (list_any-append (is_thread q) ts (t ∷ [])) ∙ gone)).0
+lived_before ts t q gone = (or_parts (list_any (is_thread q) ts) (list_any (is_thread q) (t ∷ [])) (sym (list_any-append (is_thread q) ts (t ∷ [])) ∙ gone)).0
 
 born_state : (k : KernelState) (tid clear_tid : ℕ) → IsState k → tid ≡ k.last_tid + 1 → is_full k ≡ false → IsState (with_thread tid clear_tid k)
 born_state k tid clear_tid is next room = record {
@@ -41,21 +39,6 @@ born_state k tid clear_tid is next room = record {
 pub born_is_state : (k new : KernelState) (tid clear_tid : ℕ) → IsState k → tid ≡ k.last_tid + 1 → is_full k ≡ false → new ≡ with_thread tid clear_tid k → IsState new
 born_is_state k new tid clear_tid is next room after = subst IsState (sym after) (born_state k tid clear_tid is next room)
 
-denied_cases : (asked reach : Bool) → (asked && not reach) ≡ false → asked ≡ true → reach ≡ true
-denied_cases true true h is = refl
-denied_cases true false h is = absurd (cc)
-denied_cases false reach h is = absurd (cc)
-
 -- what is asked for and not denied can be written
 pub not_denied : (m : Memory) (asked : Bool) (at : ℕ) → is_denied m asked at ≡ false → asked ≡ true → can_write m at 4 ≡ true
-not_denied m asked at h is = denied_cases asked (can_write m at 4) h is
-
--- a write keeps what can be written
-pub still_writable : (asked : Bool) (to n : ℕ) (g : Guest) (at count : ℕ) → can_write (filled_where asked to n g).memory at count ≡ can_write g.memory at count
-still_writable true to n g at count = writable_kept g.memory to (to_le_bytes w32 n) at count
-still_writable false to n g at count = refl
-
--- what stands before the guest's events stays there
-pub where_behind : (asked : Bool) (at n : ℕ) (m : Memory) (h : Reserved) (before es : List Event) → filled_where asked at n (record { memory = m; held = h; events = before ++ es }) ≡ behind before (filled_where asked at n (record { memory = m; held = h; events = es }))
-where_behind true at n m h before es = ap (λ (xs : List Event). let g : Guest = record { memory = (filled_where true at n (record { memory = m; held = h; events = es })).memory; held = (filled_where true at n (record { memory = m; held = h; events = es })).held; events = xs } in g) (append_assoc before es (fill_event at 4))
-where_behind false at n m h before es = refl
+not_denied m asked at h is = asked_reach asked (can_write m at 4) h is

@@ -2,11 +2,11 @@
 use Rattle.std.proofs.Common.{◌≡◌, ℕ, zero, suc, ◌<◌, ◌≤◌, ◌+◌, ◌-◌, ◌*◌, ◌/◌, ◌%◌, ◌^◌, Bool, true, false, cond, List, [], ◌∷◌, take, drop, Option, Some, None, arith, refl, ap, sym, subst, ◌∙◌, inl, inr}
 use Rattle.std.specs.Prelude.{not, ◌&&◌, ◌==◌, nat_lt, nat_le, is_some, is_none, unwrap_or}
 use Rattle.std.specs.Option.{option_map_or}
-use Rattle.std.proofs.lemmas.Bool.{cases_lt}
+use Rattle.std.proofs.lemmas.Bool.{and_parts, cases_lt, not-false}
 use Rattle.std.proofs.lemmas.Bool.Decides.{nat_tests}
 use Rattle.guest_words.specs.declared.rights.Rights.{Rights}
 use Rattle.guest_memory.specs.Memory.{Memory, is_among, with_pages, with_rights}
-use Rattle.guest_memory.proofs.WrittenBytes.{among_below, among_yes}
+use Rattle.guest_memory.proofs.WrittenBytes.{among_below, among_past, among_yes}
 use Rattle.guest_calls.specs.declared.descriptor.Descriptor.{Descriptor}
 use Rattle.guest_calls.specs.declared.descriptor.Descriptor.TheVariants.{Closed, StandardInput, Output, InputFile}
 use Rattle.guest_calls.specs.declared.operation.Operation.{Operation}
@@ -29,6 +29,7 @@ use Rattle.guest_calls.specs.Threads.{clear_tid, exit, exit_group, is_cleared, r
 use Rattle.guest_calls.specs.Vectors.{filled_parts, readv, writev}
 use Rattle.guest_calls.proofs.AllCalls.{of_every_call, of_unless}
 use Rattle.guest_calls.proofs.Places.{mapped_each}
+use Rattle.guest_calls.proofs.Passed.{failed, found_from}
 
 -- the pages behind the break are free afterwards where they were before
 abbrev pub KeepsFree : Call → CallResult → Type 0
@@ -143,10 +144,6 @@ unmapped_free m page count b free q low high = free_cond (is_among page count q)
 munmap_free : (c : Call) → KeepsFree c (munmap c)
 munmap_free c = refused_free c (munmap_tests c) (λ x. returns c 0 ▷ unmaps (arg c 0 / 4096) (pages (arg c 1))) (λ passed free. unmapped_free c.memory (arg c 0 / 4096) (pages (arg c 1)) c.kernel.program_break free)
 
-and_true : (a b : Bool) → (a && b) ≡ true → (a ≡ true) × (b ≡ true)
-and_true true b h = (refl, h)
-and_true false b h = absurd (cc)
-
 some_not_none : {T : Type 0} (o : Option T) → o ≡ None → is_some o ≡ true → ⊥
 some_not_none None none some = cc
 some_not_none (Some x) none some = cc
@@ -156,23 +153,14 @@ rights_cond true r o none mapped = absurd (some_not_none o none (mapped refl))
 rights_cond false r o none mapped = none
 
 among_low : (first count q : ℕ) → is_among first count q ≡ true → first ≤ q
-among_low first count q h = let e = (and_true (nat_le first q) (nat_lt q (first + count)) h).0 in grind (arith, nat_tests, e)
+among_low first count q h = let e = (and_parts (nat_le first q) (nat_lt q (first + count)) h).0 in grind (arith, nat_tests, e)
 
 among_high : (first count q : ℕ) → is_among first count q ≡ true → q < first + count
-among_high first count q h = let e = (and_true (nat_le first q) (nat_lt q (first + count)) h).1 in grind (arith, nat_tests, e)
+among_high first count q h = let e = (and_parts (nat_le first q) (nat_lt q (first + count)) h).1 in grind (arith, nat_tests, e)
 
 protected_free : (m : Memory) (page count : ℕ) (r : Rights) (b : ℕ) → are_mapped m page count ≡ true → IsBreakFree m b → IsBreakFree (with_rights m page count r) b
 protected_free m page count r b mapped free q low high =
     rights_cond (is_among page count q) r (m.rights q) (free q low high) (λ inside. mapped_each m page count mapped q (among_low page count q inside) (among_high page count q inside))
-
--- a test that failed
-failed : (b : Bool) (e : ℕ) (o : Option ℕ) → cond b (Some e) o ≡ None → (b ≡ false) × (o ≡ None)
-failed true e o h = absurd (cc)
-failed false e o h = (refl, h)
-
-not_false : (b : Bool) → not b ≡ false → b ≡ true
-not_false true h = refl
-not_false false h = absurd (cc)
 
 mprotect_free : (c : Call) → KeepsFree c (mprotect c)
 mprotect_free c = refused_free c (mprotect_tests c) (λ x. returns c 0 ▷ remaps (λ m. with_rights m (arg c 0 / 4096) (pages (arg c 1)) (rights_of (arg c 2))))
@@ -181,23 +169,13 @@ mprotect_free c = refused_free c (mprotect_tests c) (λ x. returns c 0 ▷ remap
     let two = (failed (arg c 1 == 0) _ _ one).1 in
     let three = (failed (nat_lt (2 ^ 32) (arg c 0 + arg c 1)) _ _ two).1 in
     let four = (failed (not (are_mapped c.memory (arg c 0 / 4096) (pages (arg c 1)))) _ _ three).0 in
-    protected_free c.memory (arg c 0 / 4096) (pages (arg c 1)) (rights_of (arg c 2)) c.kernel.program_break (not_false (are_mapped c.memory (arg c 0 / 4096) (pages (arg c 1))) four) free)
+    protected_free c.memory (arg c 0 / 4096) (pages (arg c 1)) (rights_of (arg c 2)) c.kernel.program_break (not-false (are_mapped c.memory (arg c 0 / 4096) (pages (arg c 1))) four) free)
 
 -- pages that are mapped elsewhere
 mapped_high : (m : Memory) (page count : ℕ) (o : Option Rights) (b : ℕ) → 0x40000 ≤ page → IsBreakFree m b → IsBreakFree (with_pages m page count o) b
 mapped_high m page count o b above free q low high =
     let below : q < page = omega (arith, above, low, high) in
     ap (λ (inside : Bool). cond inside o (m.rights q)) (among_below page count q below) ∙ free q low high
-
-some_is : (b : Bool) (from s : ℕ) (rest : Option ℕ) → cond b (Some from) rest ≡ Some s → (rest ≡ Some s → from ≤ s) → from ≤ s
-some_is true from s rest h later = let e : from ≡ s = grind (arith, h) in omega (arith, e)
-some_is false from s rest h later = later h
-
--- what is found is not below the start, and not past the end
-found_from : (test : ℕ → Bool) (from n s : ℕ) → first_passing test from n ≡ Some s → from ≤ s
-unfolding first_passing
-found_from test from zero s h = absurd (cc)
-found_from test from (suc n) s h = some_is (test from) from s (first_passing test (from + 1) n) h (λ later. let next = found_from test (from + 1) n s later in omega (arith, next))
 
 place_high : (o : Option ℕ) (m : Memory) (count : ℕ) → o ≡ lowest_place m count → is_none o ≡ false → 0x40000 ≤ unwrap_or o 0
 place_high None m count is some = absurd (cc)
@@ -213,9 +191,6 @@ mmap2_free c = refused_free c (mmap2_tests c) (λ x. returns c (unwrap_or (lowes
     let four = (failed (arg c 1 == 0) _ _ three).1 in
     let five = (failed (is_none place) _ _ four).0 in
     mapped_high c.memory (unwrap_or place 0) (pages (arg c 1)) (Some (rights_of (arg c 2))) c.kernel.program_break (place_high place c.memory (pages (arg c 1)) refl five) free)
-
-among_past : (first count n : ℕ) → first + count ≤ n → is_among first count n ≡ false
-among_past first count n high = grind (arith, nat_tests)
 
 -- the pages behind a new break
 grown_free : (m : Memory) (old at : ℕ) (r : Rights) → IsBreakFree m old → IsBreakFree (with_pages (with_pages m (pages old) (pages at - pages old) (Some r)) (pages at) (pages old - pages at) None) at

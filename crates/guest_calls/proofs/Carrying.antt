@@ -31,15 +31,6 @@ first_answer_none (x ∷ xs) ys none =
     let parts = through_cond x.0 x.1 (first_answer xs) None none (λ h. h) in
     ap (λ (b : Bool). cond b (Some x.1) (first_answer (xs ++ ys))) parts.0 ∙ first_answer_none xs ys parts.1
 
-some_cond : (b : Bool) (e answer : ℕ) (o p : Option ℕ) → cond b (Some e) o ≡ Some answer → (o ≡ Some answer → p ≡ Some answer) → cond b (Some e) p ≡ Some answer
-some_cond true e answer o p h next = h
-some_cond false e answer o p h next = next h
-
--- a test that holds gives the answer, whatever tests follow
-pub first_answer_some : (xs ys : List (Bool × ℕ)) (answer : ℕ) → first_answer xs ≡ Some answer → first_answer (xs ++ ys) ≡ Some answer
-first_answer_some [] ys answer h = absurd (cc)
-first_answer_some (x ∷ xs) ys answer h = some_cond x.0 x.1 answer (first_answer xs) (first_answer (xs ++ ys)) h (first_answer_some xs ys answer)
-
 -- readv(2), of the descriptor, the bytes and the cut parts
 abbrev pub readv_of : Call → Descriptor → List ℕ → List Part → CallResult
 readv_of c file bytes into =

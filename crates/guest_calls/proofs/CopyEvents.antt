@@ -4,6 +4,7 @@ use Rattle.std.specs.Prelude.{not, ◌&&◌, ◌==◌, is_none, min, replicate, 
 use Rattle.std.specs.Int.{w64, to_le_bytes}
 use Rattle.std.specs.Option.{option_map_or}
 use Rattle.std.proofs.lemmas.List.{length-take}
+use Rattle.std.proofs.lemmas.Bool.{and_parts, not-false}
 use Rattle.futex_table.specs.Waiting.{all_bits}
 use Rattle.guest_words.specs.Words.{word_count}
 use Rattle.guest_memory.specs.Memory.{Memory, bytes_at}
@@ -28,8 +29,8 @@ use Rattle.guest_calls.specs.Threads.{clear_tid, exit, is_cleared, rt_sigprocmas
 use Rattle.guest_calls.specs.Vectors.{all_in_reach, filled_parts, read_events, readv, readv_bytes, readv_effect, readv_parts, readv_tests, writev, writev_effect, writev_parts, writev_tests}
 use Rattle.guest_calls.proofs.AllCalls.{of_every_call, of_unless}
 use Rattle.guest_calls.proofs.Births.{not_denied}
-use Rattle.guest_calls.proofs.Leaving.{and_true}
 use Rattle.guest_calls.proofs.Reach.{readable_end, writable_end}
+use Rattle.guest_calls.proofs.Passed.{failed, asked_reach, found_from}
 
 abbrev CopiesOnly : Call → CallResult → Type 0
 CopiesOnly c r = AreCopies c.tid r.guest.events
@@ -59,11 +60,6 @@ quiet_copies : (c : Call) (tests : List (Bool × ℕ)) (effect : Unit {0} → Ca
     CopiesOnly c (unless c tests effect)
 quiet_copies c tests effect none = tested c tests effect (λ passed. subst (AreCopies c.tid) (sym none) tt)
 
--- a test that failed, and those after it
-failed : (b : Bool) (e : ℕ) (o : Option ℕ) → cond b (Some e) o ≡ None → (b ≡ false) × (o ≡ None)
-failed true e o h = absurd (cc)
-failed false e o h = (refl, h)
-
 abbrev AreFailed : List (Bool × ℕ) → Type 0
 AreFailed [] = Unit {0}
 AreFailed (t ∷ tests) = (t.0 ≡ false) × AreFailed tests
@@ -72,33 +68,13 @@ all_failed : (tests : List (Bool × ℕ)) → first_answer tests ≡ None → Ar
 all_failed [] passed = tt
 all_failed (t ∷ tests) passed = let one = failed t.0 t.1 (first_answer tests) passed in (one.0, all_failed tests one.1)
 
-not_false : (b : Bool) → not b ≡ false → b ≡ true
-not_false true h = refl
-not_false false h = absurd (cc)
-
--- what is asked for and not out of reach is in reach
-asked_reach : (asked reach : Bool) → (asked && not reach) ≡ false → asked ≡ true → reach ≡ true
-asked_reach true reach h is = not_false reach h
-asked_reach false reach h is = absurd (cc)
-
--- ---- files
-found_from : (test : ℕ → Bool) (from n s : ℕ) → first_passing test from n ≡ Some s → from ≤ s
-unfolding first_passing
-found_from test from zero s h = absurd (cc)
-found_from test from (suc n) s h = by (test from) h (found_from test (from + 1) n s)
-  where
-    by : (b : Bool) → cond b (Some from) (first_passing test (from + 1) n) ≡ Some s →
-        (first_passing test (from + 1) n ≡ Some s → from + 1 ≤ s) → from ≤ s
-    by true h' later = let e : from ≡ s = cc in omega (arith, e)
-    by false h' later = let below = later h' in omega (arith, below)
-
 path_copies : (c : Call) (path : ℕ) (o : Option ℕ) → o ≡ path_end c.memory path →
     option_map_or (λ at. not (can_read c.memory at 1)) o false ≡ false → is_none o ≡ false →
     AreCopies c.tid (read_event c.tid path (unwrap_or o path - path + 1))
 path_copies c path None is reach some = absurd (cc)
 path_copies c path (Some stop) is reach some =
     let from = found_from (ends_path c.memory) path 4096 stop (sym is) in
-    let end = readable_end c.memory stop 1 (not_false (can_read c.memory stop 1) reach) (omega arith) in
+    let end = readable_end c.memory stop 1 (not-false (can_read c.memory stop 1) reach) (omega arith) in
     read_copies c.tid path (stop - path + 1) (λ one. omega (arith, from, end))
 
 openat_copies : (c : Call) → CopiesOnly c (openat c)
@@ -118,7 +94,7 @@ llseek_effect c =
 llseek_copies : (c : Call) → CopiesOnly c (llseek c)
 llseek_copies c = tested c (llseek_tests c) (λ x. llseek_effect c) (λ passed.
     let all : AreFailed (llseek_tests c) = all_failed (llseek_tests c) passed in
-    fill_copies c.tid (arg c 3) 8 (writable_end c.memory (arg c 3) 8 (not_false (writable c (arg c 3) 8) all.1.1.1.1.0)))
+    fill_copies c.tid (arg c 3) 8 (writable_end c.memory (arg c 3) 8 (not-false (writable c (arg c 3) 8) all.1.1.1.1.0)))
 
 abbrev read_bytes : Call → List ℕ
 read_bytes c = take (arg c 2) (bytes_left c.kernel (descriptor c.kernel (arg c 0)))
@@ -134,7 +110,7 @@ read-copies : (c : Call) → CopiesOnly c (read c)
 read-copies c = tested c (read_tests c) (λ x. read_effect c) (λ passed.
     let all : AreFailed (read_tests c) = all_failed (read_tests c) passed in
     let n = length (read_bytes c) in
-    fill_copies c.tid (arg c 1) n (writable_end c.memory (arg c 1) n (not_false (writable c (arg c 1) n) all.1.0)))
+    fill_copies c.tid (arg c 1) n (writable_end c.memory (arg c 1) n (not-false (writable c (arg c 1) n) all.1.0)))
 
 abbrev write_tests : Call → List (Bool × ℕ)
 write_tests c =
@@ -149,14 +125,14 @@ write_copies : (c : Call) → CopiesOnly c (write c)
 write_copies c = tested c (write_tests c) (λ x. write_effect c) (λ passed.
     let all : AreFailed (write_tests c) = all_failed (write_tests c) passed in
     let n = min (arg c 2) write_limit in
-    read_copies c.tid (arg c 1) n (readable_end c.memory (arg c 1) n (not_false (readable c (arg c 1) n) all.1.0)))
+    read_copies c.tid (arg c 1) n (readable_end c.memory (arg c 1) n (not-false (readable c (arg c 1) n) all.1.0)))
 
 -- ---- the calls in parts
 filled_copies : (m : Memory) (tid : ℕ) (ps : List Part) (bytes : List ℕ) (g : Guest) →
     all_in_reach (can_write m) ps ≡ true → AreCopies tid g.events → AreCopies tid (filled_parts ps bytes g).events
 filled_copies m tid [] bytes g reach before = before
 filled_copies m tid (p ∷ ps) bytes g reach before =
-    let both = and_true (can_write m p.at p.size) (all_in_reach (can_write m) ps) reach in
+    let both = and_parts (can_write m p.at p.size) (all_in_reach (can_write m) ps) reach in
     let front = take p.size bytes in
     let short = length-take p.size bytes in
     filled_copies m tid ps (drop p.size bytes) (filled p.at front g) both.1
@@ -167,26 +143,26 @@ parts_copies : (m : Memory) (tid : ℕ) (ps : List Part) → all_in_reach (can_r
     AreCopies tid (read_events tid ps)
 parts_copies m tid [] reach = tt
 parts_copies m tid (p ∷ ps) reach =
-    let both = and_true (can_read m p.at p.size) (all_in_reach (can_read m) ps) reach in
+    let both = and_parts (can_read m p.at p.size) (all_in_reach (can_read m) ps) reach in
     copies_append tid (read_event tid p.at p.size) (read_events tid ps) (read_copies tid p.at p.size (readable_end m p.at p.size both.0)) (parts_copies m tid ps both.1)
 
 -- the table of the parts is read
 table_copies : (c : Call) → not (can_read c.memory (arg c 1) (8 * arg c 2)) ≡ false →
     AreCopies c.tid (read_event c.tid (arg c 1) (8 * arg c 2))
 table_copies c reach =
-    read_copies c.tid (arg c 1) (8 * arg c 2) (readable_end c.memory (arg c 1) (8 * arg c 2) (not_false (can_read c.memory (arg c 1) (8 * arg c 2)) reach))
+    read_copies c.tid (arg c 1) (8 * arg c 2) (readable_end c.memory (arg c 1) (8 * arg c 2) (not-false (can_read c.memory (arg c 1) (8 * arg c 2)) reach))
 
 readv_copies : (c : Call) → CopiesOnly c (readv c)
 readv_copies c = tested c (readv_tests c) (λ x. readv_effect c) (λ passed.
     let all : AreFailed (readv_tests c) = all_failed (readv_tests c) passed in
     filled_copies c.memory c.tid (readv_parts c) (readv_bytes c) (returns c (length (readv_bytes c)) ▷ reads c.tid (arg c 1) (8 * arg c 2)).guest
-    (not_false (all_in_reach (can_write c.memory) (readv_parts c)) all.1.1.1.1.0) (table_copies c all.1.1.0))
+    (not-false (all_in_reach (can_write c.memory) (readv_parts c)) all.1.1.1.1.0) (table_copies c all.1.1.0))
 
 writev_copies : (c : Call) → CopiesOnly c (writev c)
 writev_copies c = tested c (writev_tests c) (λ x. writev_effect c) (λ passed.
     let all : AreFailed (writev_tests c) = all_failed (writev_tests c) passed in
     copies_append c.tid (read_event c.tid (arg c 1) (8 * arg c 2)) (read_events c.tid (writev_parts c)) (table_copies c all.1.1.0)
-    (parts_copies c.memory c.tid (writev_parts c) (not_false (all_in_reach (can_read c.memory) (writev_parts c)) all.1.1.1.1.0)))
+    (parts_copies c.memory c.tid (writev_parts c) (not-false (all_in_reach (can_read c.memory) (writev_parts c)) all.1.1.1.1.0)))
 
 -- ---- threads
 when_copies : (tid : ℕ) (b : Bool) (effect : CallResult → CallResult) (r : CallResult) →
@@ -197,7 +173,7 @@ when_copies tid false effect r plain done = plain
 
 -- the end of a thread is told where the word can be written
 cleared_reach : (others set reach : Bool) → (others && (set && reach)) ≡ true → reach ≡ true
-cleared_reach others set reach h = (and_true set reach (and_true others (set && reach) h).1).1
+cleared_reach others set reach h = (and_parts set reach (and_parts others (set && reach) h).1).1
 
 exit_copies : (c : Call) → CopiesOnly c (exit c)
 exit_copies c = when_copies c.tid (is_cleared c) (λ r. r ▷ fills_word (clear_tid c) 0 ▷ wakes (clear_tid c) 1 all_bits) (returns c 0) tt
@@ -247,7 +223,7 @@ either_copies tid false one other r here there = there
 -- the word that is looked at is read
 word_copies : (c : Call) → (true && not (readable c (futex_at c) 4)) ≡ false →
     AreCopies c.tid (read_event c.tid (futex_at c) 4)
-word_copies c reach = read_copies c.tid (futex_at c) 4 (readable_end c.memory (futex_at c) 4 (not_false (readable c (futex_at c) 4) reach))
+word_copies c reach = read_copies c.tid (futex_at c) 4 (readable_end c.memory (futex_at c) 4 (not-false (readable c (futex_at c) 4) reach))
 
 performed_copies : (o : Operation) (c : Call) → (reads_word o && not (readable c (futex_at c) 4)) ≡ false →
     AreCopies c.tid (performed o c).guest.events

@@ -3,7 +3,7 @@ use Rattle.std.proofs.Common.{◌≡◌, ℕ, zero, suc, ◌<◌, ◌≤◌, ◌
 use Rattle.std.specs.Prelude.{not, ◌&&◌, ◌||◌, ◌==◌}
 use Rattle.std.specs.List.{list_any, find}
 use Rattle.std.specs.Option.{option_map_or}
-use Rattle.std.proofs.lemmas.Bool.{cases_eq, ne_eqb}
+use Rattle.std.proofs.lemmas.Bool.{and_parts, cases_eq, ne_eqb, not-true, or_parts}
 use Rattle.std.proofs.lemmas.Bool.Decides.{nat_tests}
 use Rattle.std.proofs.lemmas.List.{length-map}
 use Rattle.futex_table.specs.Once.{waits}
@@ -19,20 +19,8 @@ use Rattle.guest_calls.specs.Results.{Call, returns, writable, fills_word, when,
 use Rattle.guest_calls.specs.Threads.{with_clear_tid, clear_tid, told_end}
 use Rattle.guest_calls.proofs.Rising.{rises_filter}
 
-pub or_false : (a b : Bool) → (a || b) ≡ false → (a ≡ false) × (b ≡ false)
-or_false true b h = absurd (cc)
-or_false false b h = (refl, h)
-
-pub and_true : (a b : Bool) → (a && b) ≡ true → (a ≡ true) × (b ≡ true)
-and_true true b h = (refl, h)
-and_true false b h = absurd (cc)
-
-not_true : (b : Bool) → not b ≡ true → b ≡ false
-not_true true h = absurd (cc)
-not_true false h = refl
-
 gone_head : (b : Bool) (q : ℕ) (t : Thread) (rest : List Thread) → (b ≡ false → is_thread q t ≡ false) → list_any (is_thread q) (cond b (t ∷ rest) rest) ≡ false → (is_thread q t ≡ false) × (list_any (is_thread q) rest ≡ false)
-gone_head true q t rest apart gone = or_false (is_thread q t) (list_any (is_thread q) rest) gone
+gone_head true q t rest apart gone = or_parts (is_thread q t) (list_any (is_thread q) rest) gone
 gone_head false q t rest apart gone = (apart refl, gone)
 
 apart_of : (b : Bool) (n tid q : ℕ) → (n == tid) ≡ b → not b ≡ false → (q ≡ tid → ⊥) → (n == q) ≡ false
@@ -55,12 +43,12 @@ few_left test [] = omega arith
 few_left test (t ∷ ts) = let h = few_cond (test t) t (filter test ts) (length ts) (few_left test ts) in omega (arith, h)
 
 pub does_not_wait : (k : KernelState) (tid : ℕ) → can_run k tid ≡ true → waits k.waiting tid ≡ false
-does_not_wait k tid can = not_true (waits k.waiting tid) (and_true (lives k tid) (not (waits k.waiting tid)) can).1
+does_not_wait k tid can = not-true (waits k.waiting tid) (and_parts (lives k tid) (not (waits k.waiting tid)) can).1
 
 -- who can run still can where others are woken
 pub woken_can_run : (k new : KernelState) (at most bits tid : ℕ) → new ≡ record k { waiting = after_wake k.waiting at most bits } → can_run k tid ≡ true → can_run new tid ≡ true
 woken_can_run k new at most bits tid is can =
-    let parts = and_true (lives k tid) (not (waits k.waiting tid)) can in
+    let parts = and_parts (lives k tid) (not (waits k.waiting tid)) can in
     let after = waits-filter (λ w. not (waits (woken k.waiting at most bits) w.tid)) k.waiting tid (does_not_wait k tid can) in
     ap (λ (s : KernelState). can_run s tid) is ∙ ap₂ (λ (a b : Bool). a && not b) parts.0 after
 
@@ -85,23 +73,6 @@ woken_state k at most bits is = record {
   files_within = is.files_within;
 }
 
-find_step : (tid : ℕ) (ts : List Thread) (i : ℕ) (d : Thread) → i < length ts → find (is_thread tid) (drop i ts) ≡ cond (is_thread tid (get_or ts i d)) (Some (get_or ts i d)) (find (is_thread tid) (drop (i + 1) ts))
-find_step tid [] i d inside = absurd (omega arith)
-find_step tid (t ∷ ts) zero d inside = refl
-find_step tid (t ∷ ts) (suc i) d inside = let e : suc i + 1 ≡ suc (i + 1) = omega arith in rw e (find_step tid ts i d (omega arith))
-
--- where a zero is written, by a search that has come to a place
-pub clear_tid_found : (tid : ℕ) (ts : List Thread) (i : ℕ) (t : Thread) → i < length ts → t ≡ get_or ts i t → t.tid ≡ tid → option_map_or (λ t. t.clear_tid) (find (is_thread tid) (drop i ts)) 0 ≡ t.clear_tid
-clear_tid_found tid ts i t inside is same =
-    let here : is_thread tid (get_or ts i t) ≡ true = let e : (get_or ts i t).tid ≡ tid = ap (λ (u : Thread). u.tid) (sym is) ∙ same in grind (arith, nat_tests, e) in
-    ap (λ (o : Option Thread). option_map_or (λ u. u.clear_tid) o 0) (find_step tid ts i t inside ∙ ap (λ (b : Bool). cond b (Some (get_or ts i t)) (find (is_thread tid) (drop (i + 1) ts))) here)
-    ∙ ap (λ (u : Thread). u.clear_tid) (sym is)
-
-pub clear_tid_passed : (tid : ℕ) (ts : List Thread) (i : ℕ) (t : Thread) → i < length ts → t ≡ get_or ts i t → (t.tid ≡ tid → ⊥) → find (is_thread tid) (drop i ts) ≡ find (is_thread tid) (drop (i + 1) ts)
-clear_tid_passed tid ts i t inside is differs =
-    let apart : (get_or ts i t).tid ≡ tid → ⊥ = λ e. differs (ap (λ (u : Thread). u.tid) is ∙ e) in
-    find_step tid ts i t inside ∙ ap (λ (b : Bool). cond b (Some (get_or ts i t)) (find (is_thread tid) (drop (i + 1) ts))) (ne_eqb (get_or ts i t).tid tid apart)
-
 pub woken_is_state : (k new : KernelState) (at most bits : ℕ) → IsState k → new ≡ record k { waiting = after_wake k.waiting at most bits } → IsState new
 woken_is_state k new at most bits is after = subst IsState (sym after) (woken_state k at most bits is)
 
@@ -122,7 +93,7 @@ cleared_rises tid at low (t ∷ ts) last h = (
   subst (λ (n : ℕ). RisesTo n (map (with_clear_tid tid at) ts) last) (sym (tid_kept tid at t)) (cleared_rises tid at t.tid ts last h.1),
 )
 
-cleared_lives : (tid at q : ℕ) (ts : List Thread) → list_any (is_thread q) (map (with_clear_tid tid at) ts) ≡ list_any (is_thread q) ts
+pub cleared_lives : (tid at q : ℕ) (ts : List Thread) → list_any (is_thread q) (map (with_clear_tid tid at) ts) ≡ list_any (is_thread q) ts
 cleared_lives tid at q [] = refl
 cleared_lives tid at q (t ∷ ts) = ap₂ (λ (n : ℕ) (b : Bool). (n == q) || b) (tid_kept tid at t) (cleared_lives tid at q ts)
 

@@ -6,6 +6,7 @@ pub mod CopyEvents
 pub mod Leaving
 pub mod Numbers
 pub mod PartLists
+pub mod Passed
 pub mod PathEnds
 pub mod Places
 pub mod Queues

@@ -2,6 +2,7 @@
 use Rattle.std.proofs.Common.{◌≡◌, ℕ, zero, suc, ◌<◌, ◌≤◌, ◌+◌, ◌-◌, ◌*◌, Bool, true, false, List, [], ◌∷◌, ◌++◌, length, take, drop, get_or, arith, refl, ap, ap₂, ◌/◌, None, append_assoc, sym, ◌∙◌}
 use Rattle.std.specs.Prelude.{◌&&◌, min}
 use Rattle.std.proofs.lemmas.List.Sums.{sum_by-cons}
+use Rattle.std.proofs.lemmas.Bool.{and_parts}
 use Rattle.guest_memory.specs.Memory.{Memory, with_bytes}
 use Rattle.guest_memory.specs.Reserved.{Reserved, after_write}
 use Rattle.rv_exec.specs.Accesses.{can_write}
@@ -37,23 +38,14 @@ filled_next ps i d bytes front back g new inside is_front is_back memory held ev
     ap₂ (λ (rest : List ℕ) (x : Guest). filled_parts (drop (i + 1) ps) rest x) is_back (guest_is new.memory _ new.held _ new.events _ memory held events ∙ ap (λ (xs : List ℕ). filled p.at xs g) is_front)
     ∙ ap (λ (qs : List Part). filled_parts qs bytes g) (sym (parts_from ps i d inside))
 
-and_true : (a b : Bool) → (a && b) ≡ true → (a ≡ true) × (b ≡ true)
-and_true true b h = (refl, h)
-and_true false b h = absurd (cc)
-
 reach_kept : (m : Memory) (to : ℕ) (bytes : List ℕ) (ps : List Part) → all_in_reach (can_write (with_bytes m to bytes)) ps ≡ all_in_reach (can_write m) ps
 reach_kept m to bytes [] = refl
 reach_kept m to bytes (p ∷ ps) = ap₂ (λ (a b : Bool). a && b) (writable_kept m to bytes p.at p.size) (reach_kept m to bytes ps)
 
--- the next part is in reach, and so is the rest
-pub next_in_reach : (reach : ℕ → ℕ → Bool) (ps : List Part) (i : ℕ) (d : Part) → i < length ps → all_in_reach reach (drop i ps) ≡ true → reach (get_or ps i d).at (get_or ps i d).size ≡ true
-next_in_reach reach ps i d inside all =
-    (and_true (reach (get_or ps i d).at (get_or ps i d).size) (all_in_reach reach (drop (i + 1) ps)) (ap (λ (qs : List Part). all_in_reach reach qs) (sym (parts_from ps i d inside)) ∙ all)).0
-
 pub rest_in_reach : (m new : Memory) (to : ℕ) (bytes : List ℕ) (ps : List Part) (i : ℕ) (d : Part) → i < length ps → new ≡ with_bytes m to bytes → all_in_reach (can_write m) (drop i ps) ≡ true → all_in_reach (can_write new) (drop (i + 1) ps) ≡ true
 rest_in_reach m new to bytes ps i d inside is all =
     ap (λ (x : Memory). all_in_reach (can_write x) (drop (i + 1) ps)) is ∙ reach_kept m to bytes (drop (i + 1) ps)
-    ∙ (and_true (can_write m (get_or ps i d).at (get_or ps i d).size) (all_in_reach (can_write m) (drop (i + 1) ps)) (ap (λ (qs : List Part). all_in_reach (can_write m) qs) (sym (parts_from ps i d inside)) ∙ all)).1
+    ∙ (and_parts (can_write m (get_or ps i d).at (get_or ps i d).size) (all_in_reach (can_write m) (drop (i + 1) ps)) (ap (λ (qs : List Part). all_in_reach (can_write m) qs) (sym (parts_from ps i d inside)) ∙ all)).1
 
 -- the sum from a place on
 pub total_from : (ps : List Part) (i : ℕ) (d : Part) → i < length ps → total (drop i ps) ≡ (get_or ps i d).size + total (drop (i + 1) ps)

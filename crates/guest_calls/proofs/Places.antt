@@ -1,24 +1,17 @@
 -- Ranges of pages, tested and stated.
 use Rattle.std.proofs.Common.{◌≡◌, ◌↔◌, ℕ, zero, suc, ◌<◌, ◌≤◌, ◌+◌, Bool, true, false, cond, Option, Some, None, arith, refl, ap, ap₂, sym, subst, ◌∙◌, inl, inr}
 use Rattle.std.specs.Prelude.{IsTrue, ◌&&◌, nat_le, is_none, is_some, IfSome, IfNone}
-use Rattle.std.proofs.lemmas.Bool.{cases_eq}
+use Rattle.std.proofs.lemmas.Bool.{and_parts, cases_eq, false_from_ne_true}
 use Rattle.std.proofs.lemmas.Bool.Decides.{nat_tests}
 use Rattle.guest_words.specs.declared.rights.Rights.{Rights}
 use Rattle.guest_memory.specs.Memory.{Memory, AreFree, ArePagesMapped, IsFreeRange}
 use Rattle.guest_calls.specs.Pages.{are_mapped, are_free, is_place, lowest_place}
 use Rattle.guest_calls.specs.Search.{first_passing}
-
-and_true : (a b : Bool) → (a && b) ≡ true → (a ≡ true) × (b ≡ true)
-and_true true b h = (refl, h)
-and_true false b h = absurd (cc)
-
-false_where : (b : Bool) → (b ≡ true → ⊥) → b ≡ false
-false_where true h = absurd (h refl)
-false_where false h = refl
+use Rattle.guest_memory.proofs.HeldWords.{none_from}
 
 same_tests : (a b : Bool) → (a ≡ true → b ≡ true) → (b ≡ true → a ≡ true) → a ≡ b
 same_tests true b there back = sym (there refl)
-same_tests false b there back = sym (false_where b (λ h. let e : false ≡ true = back h in absurd (cc)))
+same_tests false b there back = sym (false_from_ne_true b (λ h. let e : false ≡ true = back h in absurd (cc)))
 
 -- ---- mapped pages
 first_of : (P : ℕ → Type 0) (page count : ℕ) → ((q : ℕ) → page ≤ q → q < page + suc count → P q) → P page
@@ -36,7 +29,7 @@ each_of P page count first rest q low high = elim (cases_eq q page) [
 pub mapped_each : (m : Memory) (page count : ℕ) → are_mapped m page count ≡ true → ArePagesMapped m page count
 mapped_each m page zero h = λ q low high. absurd (omega (arith, low, high))
 mapped_each m page (suc count) h =
-    let parts = and_true (is_some (m.rights page)) (are_mapped m (page + 1) count) h in
+    let parts = and_parts (is_some (m.rights page)) (are_mapped m (page + 1) count) h in
     each_of (λ q. is_some (m.rights q) ≡ true) page count parts.0 (mapped_each m (page + 1) count parts.1)
 
 mapped_all : (m : Memory) (page count : ℕ) → ArePagesMapped m page count → are_mapped m page count ≡ true
@@ -49,16 +42,11 @@ mapped_all m page (suc count) each =
 pub mapped_test : (m : Memory) (page count : ℕ) (b : Bool) → IsTrue b ↔ ArePagesMapped m page count → b ≡ are_mapped m page count
 mapped_test m page count b says = same_tests b (are_mapped m page count) (λ h. mapped_all m page count (says.0 h)) (λ h. says.1 (mapped_each m page count h))
 
--- ---- free pages
-none_of : {T : Type 0} (o : Option T) → is_none o ≡ true → o ≡ None
-none_of None h = refl
-none_of (Some x) h = absurd (cc)
-
 free_each : (m : Memory) (page count : ℕ) → are_free m page count ≡ true → AreFree m page count
 free_each m page zero h = λ q low high. absurd (omega (arith, low, high))
 free_each m page (suc count) h =
-    let parts = and_true (is_none (m.rights page)) (are_free m (page + 1) count) h in
-    each_of (λ q. m.rights q ≡ None) page count (none_of (m.rights page) parts.0) (free_each m (page + 1) count parts.1)
+    let parts = and_parts (is_none (m.rights page)) (are_free m (page + 1) count) h in
+    each_of (λ q. m.rights q ≡ None) page count (none_from (m.rights page) parts.0) (free_each m (page + 1) count parts.1)
 
 free_all : (m : Memory) (page count : ℕ) → AreFree m page count → are_free m page count ≡ true
 free_all m page zero each = refl
@@ -74,7 +62,7 @@ place_of m count page range =
 
 range_of : (m : Memory) (count page : ℕ) → 0x40000 ≤ page → is_place m count page ≡ true → IsFreeRange m count page
 range_of m count page low h =
-    let parts = and_true (nat_le (page + count) 0x7F000) (are_free m page count) h in
+    let parts = and_parts (nat_le (page + count) 0x7F000) (are_free m page count) h in
     let end : page + count ≤ 0x7F000 = let e = parts.0 in grind (arith, nat_tests, e) in
     record { first = low; last = end; free = free_each m page count parts.1 }
 
@@ -102,10 +90,10 @@ pub lowest_is : (m : Memory) (count page : ℕ) → 1 ≤ count → IsFreeRange 
 lowest_is m count page some range lowest =
     let last = range.last in
     found_first (is_place m count) 0x40000 0x3F000 page range.first (omega (arith, some, last)) (place_of m count page range)
-    (λ q above below. false_where (is_place m count q) (λ h. lowest q below (range_of m count q above h)))
+    (λ q above below. false_from_ne_true (is_place m count q) (λ h. lowest q below (range_of m count q above h)))
 
 pub lowest_none : (m : Memory) (count : ℕ) → ((q : ℕ) → IsFreeRange m count q → ⊥) → lowest_place m count ≡ None
-lowest_none m count none = found_none (is_place m count) 0x40000 0x3F000 (λ q above below. false_where (is_place m count q) (λ h. none q (range_of m count q above h)))
+lowest_none m count none = found_none (is_place m count) 0x40000 0x3F000 (λ q above below. false_from_ne_true (is_place m count q) (λ h. none q (range_of m count q above h)))
 
 -- a search of the lowest free range gives the lowest place
 pub lowest_answer : (m : Memory) (count : ℕ) (o : Option ℕ) → 1 ≤ count → IfSome o (λ page. IsFreeRange m count page) → IfSome o (λ page. (q : ℕ) → q < page → ¬ IsFreeRange m count q) → IfNone o ((q : ℕ) → ¬ IsFreeRange m count q) → o ≡ lowest_place m count

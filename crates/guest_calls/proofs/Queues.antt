@@ -2,7 +2,7 @@
 use Rattle.std.proofs.Common.{◌≡◌, ℕ, zero, suc, ◌<◌, ◌≤◌, ◌+◌, Bool, true, false, cond, List, [], ◌∷◌, length, map, filter, take, arith, refl, ap, ap₂, sym, subst, ◌∙◌, inl, inr}
 use Rattle.std.specs.Prelude.{not, ◌||◌, ◌==◌}
 use Rattle.std.specs.List.{list_any}
-use Rattle.std.proofs.lemmas.Bool.{cases_eq}
+use Rattle.std.proofs.lemmas.Bool.{and_parts, cases_eq, eq-eqb, or_parts}
 use Rattle.std.proofs.lemmas.Bool.Decides.{nat_tests}
 use Rattle.std.proofs.lemmas.List.Folds.{list_any-append}
 use Rattle.futex_table.specs.declared.waiter.Waiter.{Waiter}
@@ -12,10 +12,7 @@ use Rattle.futex_table.proofs.Parts.{waits-filter, waits-take}
 use Rattle.guest_calls.specs.declared.thread.Thread.{Thread}
 use Rattle.guest_calls.specs.Invariant.{IsState}
 use Rattle.guest_calls.specs.Kernel.{KernelState, is_thread, lives, can_run}
-use Rattle.guest_calls.proofs.Leaving.{and_true, or_false, does_not_wait, few_left, still_gone}
-
-same_number : (n : ℕ) → (n == n) ≡ true
-same_number n = grind (arith, nat_tests)
+use Rattle.guest_calls.proofs.Leaving.{does_not_wait, few_left, still_gone}
 
 live_head : (b : Bool) (t : Thread) (rest : List Thread) (n : ℕ) → (b ≡ false → length rest < n) → length rest ≤ n → length (cond (not b) (t ∷ rest) rest) < suc n
 live_head true t rest n later all = omega (arith, all)
@@ -37,18 +34,18 @@ bool_cases false P one other = other refl
 no_more_wait : (ws : List Waiter) (ts : List Thread) → IsOnce ws → ((q : ℕ) → list_any (is_thread q) ts ≡ false → waits ws q ≡ false) → length ws ≤ length ts
 no_more_wait [] ts once gone = omega arith
 no_more_wait (w ∷ ws) ts once gone =
-    let live : list_any (is_thread w.tid) ts ≡ true = bool_cases (list_any (is_thread w.tid) ts) (list_any (is_thread w.tid) ts ≡ true) (λ h. h) (λ h. let bad : true ≡ false = ap (λ (b : Bool). b || waits ws w.tid) (sym (same_number w.tid)) ∙ gone w.tid h in absurd (cc)) in
+    let live : list_any (is_thread w.tid) ts ≡ true = bool_cases (list_any (is_thread w.tid) ts) (list_any (is_thread w.tid) ts ≡ true) (λ h. h) (λ h. let bad : true ≡ false = ap (λ (b : Bool). b || waits ws w.tid) (sym (eq-eqb w.tid w.tid refl)) ∙ gone w.tid h in absurd (cc)) in
     let fewer = fewer_without ts w.tid live in
     let rest = no_more_wait ws (filter (λ t. not (is_thread w.tid t)) ts) once.1 (λ q out. elim (cases_eq q w.tid) [
       | inl same ↦ subst (λ (n : ℕ). waits ws n ≡ false) (sym same) once.0
-      | inr differs ↦ (or_false (w.tid == q) (waits ws q) (gone q (still_gone ts w.tid q differs out))).1
+      | inr differs ↦ (or_parts (w.tid == q) (waits ws q) (gone q (still_gone ts w.tid q differs out))).1
     ]) in
     omega (arith, fewer, rest)
 
 -- fewer wait than live, where one can run
 pub fewer_wait : (k : KernelState) (tid : ℕ) → IsState k → IsOnce k.waiting → can_run k tid ≡ true → length k.waiting < length k.threads
 fewer_wait k tid is once can =
-    let live = (and_true (lives k tid) (not (waits k.waiting tid)) can).0 in
+    let live = (and_parts (lives k tid) (not (waits k.waiting tid)) can).0 in
     let fewer = fewer_without k.threads tid live in
     let rest = no_more_wait k.waiting (filter (λ t. not (is_thread tid t)) k.threads) once (λ q out. elim (cases_eq q tid) [
       | inl same ↦ subst (λ (n : ℕ). waits k.waiting n ≡ false) (sym same) (does_not_wait k tid can)
@@ -59,7 +56,7 @@ fewer_wait k tid is once can =
 no_move : (to : ℕ) (ws : List Waiter) (q : ℕ) → waits ws q ≡ false → waits (map (moved_to to) ws) q ≡ false
 no_move to [] q out = refl
 no_move to (w ∷ ws) q out =
-    let parts = or_false (w.tid == q) (waits ws q) out in
+    let parts = or_parts (w.tid == q) (waits ws q) out in
     ap₂ (λ (a b : Bool). a || b) parts.0 (no_move to ws q parts.1)
 
 -- who does not wait does not wait after a requeue
@@ -71,11 +68,6 @@ requeued_out ws at most shift to q out =
     let front : waits (filter (λ w. not (waits moved w.tid)) left) q ≡ false = waits-filter (λ w. not (waits moved w.tid)) left q still in
     let back : waits (map (moved_to to) moved) q ≡ false = no_move to moved q (waits-take shift (filter (waits_at at all_bits) left) q (waits-filter (waits_at at all_bits) left q still)) in
     list_any-append (λ w. w.tid == q) (filter (λ w. not (waits moved w.tid)) left) (map (moved_to to) moved) ∙ ap₂ (λ (a b : Bool). a || b) front back
-
--- nor where another begins to wait
-waited_out : (ws : List Waiter) (at tid bits q : ℕ) → waits ws q ≡ false → (tid == q) ≡ false → waits (after_wait ws at tid bits) q ≡ false
-waited_out ws at tid bits q out apart =
-    list_any-append (λ w. w.tid == q) ws (record { at = at; tid = tid; bits = bits } ∷ []) ∙ ap₂ (λ (a b : Bool). a || (b || false)) out apart
 
 with_waiting : (k : KernelState) (ws : List Waiter) → IsState k → ((q : ℕ) → lives k q ≡ false → waits ws q ≡ false) → IsState (record k { waiting = ws })
 with_waiting k ws is out = record {
@@ -89,18 +81,6 @@ with_waiting k ws is out = record {
 pub requeued_is_state : (k new : KernelState) (at most shift to : ℕ) → IsState k → new ≡ record k { waiting = after_requeue k.waiting at most shift to } → IsState new
 requeued_is_state k new at most shift to is after =
     subst IsState (sym after) (with_waiting k (after_requeue k.waiting at most shift to) is (λ q gone. requeued_out k.waiting at most shift to q (is.waiting_live q gone)))
-
-apart_where : (live : Bool) (tid q : ℕ) → (tid ≡ q → live ≡ true) → live ≡ false → (tid == q) ≡ false
-apart_where live tid q same gone = elim (cases_eq tid q) [
-  | inl e ↦ let bad : false ≡ true = sym gone ∙ same e in absurd (cc)
-  | inr differs ↦ grind (arith, nat_tests, differs)
-]
-
-pub waited_is_state : (k new : KernelState) (at tid bits : ℕ) → IsState k → can_run k tid ≡ true → new ≡ record k { waiting = after_wait k.waiting at tid bits } → IsState new
-waited_is_state k new at tid bits is can after =
-    let live = (and_true (lives k tid) (not (waits k.waiting tid)) can).0 in
-    subst IsState (sym after) (with_waiting k (after_wait k.waiting at tid bits) is (λ q gone.
-    waited_out k.waiting at tid bits q (is.waiting_live q gone) (apart_where (lives k q) tid q (λ e. subst (λ (n : ℕ). lives k n ≡ true) e live) gone)))
 
 length_take_le : (n : ℕ) (ws : List Waiter) → length (take n ws) ≤ length ws
 length_take_le zero ws = omega arith

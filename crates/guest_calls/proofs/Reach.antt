@@ -13,9 +13,10 @@ use Rattle.guest_memory.specs.Reserved.{Reserved, after_write}
 use Rattle.guest_memory.proofs.Accesses.{refusal_each, refusal_skip}
 use Rattle.rv_exec.specs.Accesses.{can_read, can_write}
 use Rattle.rv_exec.proofs.Reach as far
-use Rattle.rv_exec.proofs.Reach.{none_of}
 use Rattle.trace_model.specs.declared.event_kinds.Event.TheVariants.{Read, Fill}
 use Rattle.guest_calls.specs.Results.{fill_event, read_event, words_touched}
+use Rattle.guest_memory.proofs.HeldWords.{none_from}
+use Rattle.guest_memory.proofs.PageChanges.{among_none}
 
 -- bytes that are not refused end at 2 ^ 32 or below
 pub writable_end : (m : Memory) (at n : ℕ) → can_write m at n ≡ true → 1 ≤ n → at + n ≤ 2 ^ 32
@@ -36,15 +37,9 @@ pub read_some : (tid at n : ℕ) → 1 ≤ n → read_event tid at n ≡ Read ti
 read_some tid at zero some = absurd (omega arith)
 read_some tid at (suc n) some = refl
 
-none_among : (first q : ℕ) → is_among first 0 q ≡ false
-none_among first q = elim (cases_lt q first) [
-  | inl low ↦ grind (arith, nat_tests)
-  | inr from ↦ let past : first + 0 ≤ q = omega arith in grind (arith, nat_tests, past)
-]
-
 not_dropped : (first : ℕ) (o : Option ℕ) → cond (option_map_or (is_among first 0) o false) None o ≡ o
 not_dropped first None = refl
-not_dropped first (Some w) = ap (λ (b : Bool). cond b None (Some w)) (none_among first w)
+not_dropped first (Some w) = ap (λ (b : Bool). cond b None (Some w)) (among_none first w)
 
 -- a write of no word drops nothing
 pub untouched : (held : Reserved) (first : ℕ) → after_write held None first 0 ≡ held
@@ -69,4 +64,4 @@ refusal_within m need at n k count none fits =
     ap (λ (j : ℕ). first_refusal m need (at + k) j) e ∙ refusal_skip m need (at + k) count 0 each
 
 pub reads_within : (m : Memory) (at n k count : ℕ) → can_read m at n ≡ true → k + count ≤ n → can_read m (at + k) count ≡ true
-reads_within m at n k count reach fits = ap (λ (o : Option MemError). is_none o) (refusal_within m need.Read at n k count (none_of (first_refusal m need.Read at n) reach) fits)
+reads_within m at n k count reach fits = ap (λ (o : Option MemError). is_none o) (refusal_within m need.Read at n k count (none_from (first_refusal m need.Read at n) reach) fits)

@@ -118,7 +118,7 @@ constant_rows false false false true b233 c = refl
 constant_rows false false false false true c = refl
 constant_rows false false false false false c = refl
 
-skipped : (m n : ℕ) → n ≢ m → (m == n) ≡ false
+pub skipped : (m n : ℕ) → n ≢ m → (m == n) ≡ false
 skipped m n apart = ne_eqb m n (λ e. apart (sym e))
 
 -- the other calls answer a number

@@ -3,7 +3,6 @@ use Rattle.std.proofs.Common.{◌≡◌, ◌≢◌, ℕ, ◌+◌, Bool, true, fa
 use Rattle.std.specs.Prelude.{Result, IfOk, OnErr, ◌==◌}
 use Rattle.std.specs.Option.{option_map_or}
 use Rattle.std.specs.declared.alloc.AllocError.{AllocError}
-use Rattle.std.proofs.lemmas.Bool.{ne_eqb}
 use Rattle.guest_memory.specs.declared.memory.GuestMemory.{GuestMemory}
 use Rattle.guest_memory.specs.declared.reservations.Reservations.{Reservations}
 use Rattle.guest_memory.specs.Guest.{memory_of}
@@ -28,6 +27,7 @@ use Rattle.guest_calls.specs.Threads.{clear_tid, exit, exit_group, is_cleared, r
 use Rattle.guest_calls.specs.Vectors.{readv}
 use Rattle.guest_calls.proofs.AllCalls.{of_numbered, of_unless}
 use Rattle.guest_calls.proofs.Breaks.{every_call_keeps}
+use Rattle.guest_calls.proofs.Rows.{skipped}
 
 pub does_before : (r : CallResult) (answer : Answer) (state : KernelState) (memory : GuestMemory) (held : Reservations) (b b' after : EventList) → b.list ≡ b'.list → Does r answer state memory held b after → Does r answer state memory held b' after
 does_before r answer state memory held b b' after same d = record {
@@ -135,9 +135,6 @@ quiet_table =
     ∷ (96, set_tid_address) ∷ (99, set_robust_list) ∷ (124, sched_yield) ∷ (134, rt_sigaction) ∷ (135, rt_sigprocmask)
     ∷ (172, getpid) ∷ (178, gettid) ∷ (214, brk) ∷ (215, munmap) ∷ (220, clone) ∷ (222, mmap2) ∷ (226, mprotect)
     ∷ (233, madvise) ∷ (422, futex) ∷ []
-
-skipped : (m n : ℕ) → n ≢ m → (m == n) ≡ false
-skipped m n apart = ne_eqb m n (λ e. apart (sym e))
 
 -- every call but write and writev is silent
 pub silent : (c : Call) → number c ≢ 64 → number c ≢ 66 → (call c).out ≡ None

@@ -27,13 +27,11 @@ use Rattle.guest_calls.specs.Threads.{clear_tid, exit, is_cleared, rt_sigprocmas
 use Rattle.guest_calls.specs.Vectors.{all_in_reach, filled_parts, parts, parts_at, read_events, readv, readv_bytes, readv_effect, readv_parts, readv_tests, table_tests, total, writev, writev_count, writev_effect, writev_parts, writev_tests}
 use Rattle.guest_calls.proofs.AllCalls.{of_every_call, of_unless}
 use Rattle.guest_calls.proofs.PartLists.{length_carried, total_carried}
+use Rattle.trace_model.proofs.Bounds.{weight-append}
+use Rattle.guest_calls.proofs.Passed.{failed, found_below}
 
 abbrev pub IsLightResult : Call → CallResult → Type 0
 IsLightResult c r = weight r.guest.events ≤ 65536
-
-pub weight_append : (xs ys : List Event) → weight (xs ++ ys) ≡ weight xs + weight ys
-weight_append [] ys = omega arith
-weight_append (e ∷ xs) ys = let h = weight_append xs ys in omega (arith, h)
 
 -- a read weighs one for itself and at most two words more than its bytes fill
 read_weight : (tid at n : ℕ) → weight (read_event tid at n) ≤ n / 4 + 3
@@ -48,7 +46,7 @@ parts_weight : (tid : ℕ) (ps : List Part) → 4 * weight (read_events tid ps) 
 parts_weight tid [] = omega arith
 parts_weight tid (p ∷ ps) =
     let sum = sum_by-cons (λ (q : Part). q.size) p ps in
-    let both = weight_append (read_event tid p.at p.size) (read_events tid ps) in
+    let both = weight-append (read_event tid p.at p.size) (read_events tid ps) in
     let one = read_weight tid p.at p.size in
     let rest = parts_weight tid ps in
     omega (arith, sum, both, one, rest)
@@ -57,7 +55,7 @@ filled_weight : (ps : List Part) (bytes : List ℕ) (g : Guest) → weight (fill
 filled_weight [] bytes g = omega arith
 filled_weight (p ∷ ps) bytes g =
     let rest = filled_weight ps (drop p.size bytes) (filled p.at (take p.size bytes) g) in
-    let both = weight_append g.events (fill_event p.at (length (take p.size bytes))) in
+    let both = weight-append g.events (fill_event p.at (length (take p.size bytes))) in
     let one = fill_weight p.at (length (take p.size bytes)) in
     omega (arith, rest, both, one)
 
@@ -77,22 +75,9 @@ one_read tid at n few = let h = read_weight tid at n in omega (arith, h, few)
 one_fill : (at n : ℕ) → weight (fill_event at n) ≤ 65536
 one_fill at n = let h = fill_weight at n in omega (arith, h)
 
-some_below : (b : Bool) (from s end : ℕ) (rest : Option ℕ) → cond b (Some from) rest ≡ Some s → from < end → (rest ≡ Some s → s < end) → s < end
-some_below true from s end rest h low later = let e : from ≡ s = grind (arith, h) in omega (arith, e, low)
-some_below false from s end rest h low later = later h
-
-found_below : (test : ℕ → Bool) (from n s : ℕ) → first_passing test from n ≡ Some s → s < from + n
-unfolding first_passing
-found_below test from zero s h = absurd (cc)
-found_below test from (suc n) s h = some_below (test from) from s (from + suc n) (first_passing test (from + 1) n) h (omega arith) (λ later. let next = found_below test (from + 1) n s later in omega (arith, next))
-
 path_short : (o : Option ℕ) (m : Memory) (path : ℕ) → o ≡ path_end m path → unwrap_or o path - path + 1 ≤ 65536
 path_short None m path is = omega arith
 path_short (Some stop) m path is = let h = found_below (ends_path m) path 4096 stop (sym is) in omega (arith, h)
-
-failed : (b : Bool) (e : ℕ) (o : Option ℕ) → cond b (Some e) o ≡ None → (b ≡ false) × (o ≡ None)
-failed true e o h = absurd (cc)
-failed false e o h = (refl, h)
 
 few_of : (n : ℕ) → nat_lt 1024 n ≡ false → n ≤ 1024
 few_of n h = grind (arith, nat_tests, h)
@@ -138,7 +123,7 @@ mprotect_light : (c : Call) → IsLightResult c (mprotect c)
 mprotect_light c = search (light, none_light)
 
 where_weight : (asked : Bool) (at n : ℕ) (g : Guest) → weight (filled_where asked at n g).events ≤ weight g.events + 1
-where_weight true at n g = let both = weight_append g.events (fill_event at 4) in let one = fill_weight at 4 in omega (arith, both, one)
+where_weight true at n g = let both = weight-append g.events (fill_event at 4) in let one = fill_weight at 4 in omega (arith, both, one)
 where_weight false at n g = omega arith
 
 born_light : (a b : Bool) (to at n : ℕ) (g : Guest) → weight g.events ≡ 0 → weight (filled_where b at n (filled_where a to n g)).events ≤ 65536
@@ -173,7 +158,7 @@ readv_events tid at n ps bytes m few long is =
 
 writev_events : (tid at n k : ℕ) (ps : List Part) → n ≤ 1024 → length ps ≡ n → total ps ≤ k → k ≤ 65536 → weight (read_event tid at (8 * n) ++ read_events tid ps) ≤ 65536
 writev_events tid at n k ps few long sum most =
-    let both = weight_append (read_event tid at (8 * n)) (read_events tid ps) in
+    let both = weight-append (read_event tid at (8 * n)) (read_events tid ps) in
     let a = parts_weight tid ps in
     let b = read_weight tid at (8 * n) in
     omega (arith, both, a, b, few, long, sum, most)

@@ -24,6 +24,7 @@ use Rattle.guest_machine.specs.Sound.{AreAligned, IsSound}
 use Rattle.guest_machine.specs.Step.{after_call, call_of, harts_after, life_events, resumed, stepped_by}
 use Rattle.guest_machine.proofs.Calls.{BeginsAligned, call_lawful, tids_after}
 use Rattle.guest_machine.proofs.Registers.{aligned-append, aligned-with_registers, aligned-without, pc_aligned, tids-with_registers}
+use Rattle.rv_exec.proofs.CallerLemmas.{next_aligned}
 
 -- the threads that are left
 without_tids : (harts : List Hart) (tid : ℕ) → map (λ h. h.tid) (without_hart harts tid) ≡ filter (λ n. not (n == tid)) (map (λ h. h.tid) harts)
@@ -44,17 +45,14 @@ after_tids (Born child registers) harts tid r =
     map-append (λ h. h.tid) (with_registers harts tid (resumed r child)) (record { tid = child; cpu = registers } ∷ [])
     ∙ ap (λ ns. ns ++ child ∷ []) (tids-with_registers harts tid (resumed r child))
 
-behind : (pc : ℕ) → pc % 4 ≡ 0 → ((pc + 4) % 2 ^ 32) % 4 ≡ 0
-behind pc even = omega arith
-
 after_aligned : (answer : Answer) (harts : List Hart) (tid : ℕ) → AreAligned harts → BeginsAligned answer → AreAligned (harts_after answer harts tid (registers_of harts tid))
-after_aligned (Back value) harts tid all begins = aligned-with_registers harts tid _ all (behind _ (pc_aligned harts tid all))
-after_aligned Yield harts tid all begins = aligned-with_registers harts tid _ all (behind _ (pc_aligned harts tid all))
-after_aligned Block harts tid all begins = aligned-with_registers harts tid _ all (behind _ (pc_aligned harts tid all))
+after_aligned (Back value) harts tid all begins = aligned-with_registers harts tid _ all (next_aligned _ (pc_aligned harts tid all))
+after_aligned Yield harts tid all begins = aligned-with_registers harts tid _ all (next_aligned _ (pc_aligned harts tid all))
+after_aligned Block harts tid all begins = aligned-with_registers harts tid _ all (next_aligned _ (pc_aligned harts tid all))
 after_aligned ThreadEnd harts tid all begins = aligned-without harts tid all
 after_aligned (ProcessEnd status) harts tid all begins = tt
 after_aligned (Born child registers) harts tid all begins =
-    aligned-append _ _ (aligned-with_registers harts tid _ all (behind _ (pc_aligned harts tid all))) begins
+    aligned-append _ _ (aligned-with_registers harts tid _ all (next_aligned _ (pc_aligned harts tid all))) begins
 
 -- a machine is sound after a call
 pub sound-called : (m : MachineState) (tid : ℕ) → IsSound m → IsState (call (call_of m tid)).kernel → IsBreakFree (call (call_of m tid)).guest.memory (call (call_of m tid)).kernel.program_break → IsSound (after_call m tid (call (call_of m tid))).machine

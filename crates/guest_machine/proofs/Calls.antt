@@ -7,6 +7,7 @@ use Rattle.std.proofs.lemmas.List.{map-append}
 use Rattle.std.proofs.lemmas.Bool.Decides.{nat_tests}
 use Rattle.std.specs.Option.{option_map_or}
 use Rattle.std.specs.Int.{w32, to_le_bytes}
+use Rattle.std.proofs.lemmas.Bool.{eqb-true}
 use Rattle.guest_memory.specs.Memory.{Memory}
 use Rattle.guest_calls.specs.declared.answer.Answer.{Answer}
 use Rattle.guest_calls.specs.declared.answer.Answer.TheVariants.{Back, Yield, Block, ThreadEnd, ProcessEnd, Born}
@@ -28,9 +29,7 @@ use Rattle.guest_calls.specs.Clone.{child_registers, clone, with_thread}
 use Rattle.guest_calls.specs.Futex.{compares, futex, futex_at, futex_by, futex_tests, operation, performed, requeues, waits_for, wakes}
 use Rattle.guest_calls.specs.Table.{call, call_numbered, table}
 use Rattle.guest_machine.specs.Sound.{HoldersLive}
-
-same_number : (n m : ℕ) → (n == m) ≡ true → n ≡ m
-same_number n m is = grind (arith, nat_tests)
+use Rattle.guest_memory.proofs.CallerLemmas.{some_of_rest}
 
 -- the threads after an answer
 abbrev pub tids_after : Answer → ℕ → List ℕ → List ℕ
@@ -99,15 +98,11 @@ quiet_returns c value = record { stays = tt; threads = refl; held = λ q some. s
 quiet_reads : (c : Call) (r : CallResult) (tid at n : ℕ) → IsQuiet c r → IsQuiet c (reads tid at n r)
 quiet_reads c r tid at n quiet = record { stays = quiet.stays; threads = quiet.threads; held = quiet.held }
 
-left : (b : Bool) (o : Option ℕ) → is_some (cond b None o) ≡ true → is_some o ≡ true
-left true o some = absurd (cc)
-left false o some = some
-
 quiet_guest : (c : Call) (r : CallResult) (g : Guest) → IsQuiet c r → ((q : ℕ) → is_some (g.held q) ≡ true → is_some (r.guest.held q) ≡ true) → IsQuiet c (record r { guest = g })
 quiet_guest c r g quiet held = record { stays = quiet.stays; threads = quiet.threads; held = λ q some. quiet.held q (held q some) }
 
 quiet_fills : (c : Call) (r : CallResult) (at : ℕ) (bytes : List ℕ) → IsQuiet c r → IsQuiet c (fills at bytes r)
-quiet_fills c r at bytes quiet = quiet_guest c r (fills at bytes r).guest quiet (λ q some. left _ (r.guest.held q) some)
+quiet_fills c r at bytes quiet = quiet_guest c r (fills at bytes r).guest quiet (λ q some. some_of_rest _ (r.guest.held q) some)
 
 quiet_fills_where : (c : Call) (r : CallResult) (asked : Bool) (at n : ℕ) → IsQuiet c r → IsQuiet c (fills_word_where asked at n r)
 quiet_fills_where c r true at n quiet = quiet_fills c r at (to_le_bytes w32 n) quiet
@@ -236,7 +231,7 @@ lives_other [] tid q lives differs = absurd (cc)
 lives_other (t ∷ threads) tid q lives differs = by_both (t.tid == q) (t.tid == tid) refl refl lives (λ later. lives_other threads tid q later differs)
   where
     by_both : (b d : Bool) → (t.tid == q) ≡ b → (t.tid == tid) ≡ d → list_any (is_thread q) (t ∷ threads) ≡ true → (list_any (is_thread q) threads ≡ true → list_any (is_thread q) (filter (λ t. not (is_thread tid t)) threads) ≡ true) → list_any (is_thread q) (filter (λ t. not (is_thread tid t)) (t ∷ threads)) ≡ true
-    by_both true true is gone any rest = absurd (differs (sym (same_number t.tid q is) ∙ same_number t.tid tid gone))
+    by_both true true is gone any rest = absurd (differs (sym (eqb-true t.tid q is) ∙ eqb-true t.tid tid gone))
     by_both true false is gone any rest = rw (gone, is) refl
     by_both false true is gone any rest = let later : list_any (is_thread q) threads ≡ true = rw is at any in rw gone (rest later)
     by_both false false is gone any rest = let later : list_any (is_thread q) threads ≡ true = rw is at any in rw (gone, is) (rest later)

@@ -64,38 +64,6 @@ sound-core m tid i answer c e sound can = record {
   break_free = λ q low high. ap (λ (rights : _). rights q) (ap (λ p. p.1.memory.rights) e ∙ effect_rights tid i (core_of m tid)) ∙ sound.break_free q low high;
 }
 
--- an instruction that jumps accesses no memory, and each other has at most two accesses
-few_by : (b : Bool) (kind : FaultKind) (target : ℕ) (regs : List ℕ) (c : Core) (tid : ℕ) (accessed : Access) (new : Core) → (Went accessed, new) ≡ on_registers c (checked (nat_eq (target % 4) 0) kind c.registers (λ _. (Went access.Nothing, record { pc = target; regs = regs }))) → nat_eq (target % 4) 0 ≡ b → access_events tid accessed ≡ []
-few_by true kind target regs c tid accessed new e is =
-    let goes : ◌≡◌ {A = Outcome} (Went accessed) (Went access.Nothing) = ap (λ p. p.0) e ∙ ap (λ b. (on_registers c (checked b kind c.registers (λ _. (Went access.Nothing, record { pc = target; regs = regs })))).0) is in
-    let same : accessed ≡ access.Nothing = cc in ap (access_events tid) same
-few_by false kind target regs c tid accessed new e is =
-    let faults : ◌≡◌ {A = Outcome} (Went accessed) (Fault kind) = ap (λ p. p.0) e ∙ ap (λ b. (on_registers c (checked b kind c.registers (λ _. (Went access.Nothing, record { pc = target; regs = regs })))).0) is in
-    absurd (cc)
-
-two_accesses : (tid : ℕ) (accessed : Access) → length (access_events tid accessed) ≤ 2
-two_accesses tid access.Nothing = omega arith
-two_accesses tid (access.Read first count) = omega arith
-two_accesses tid (access.Write first count) = omega arith
-two_accesses tid (access.Both word) = omega arith
-
-two_jumps : (kind : JumpKind) (tid target back : ℕ) → length (jump_events kind tid target back) ≤ 2
-two_jumps jump.Nothing tid target back = omega arith
-two_jumps jump.Push tid target back = omega arith
-two_jumps jump.Pop tid target back = omega arith
-two_jumps jump.PopPush tid target back = omega arith
-
-pub few_events : (m : MachineState) (tid : ℕ) (i : Instr) (accessed : Access) (c : Core) (target back : ℕ) → (Went accessed, c) ≡ effect tid i (core_of m tid) → length (access_events tid accessed) + length (jump_events (kind_of i) tid target back) ≤ 2
-few_events m tid (Jal rd offset) accessed c target back e =
-    let none : access_events tid accessed ≡ [] = few_by _ _ _ _ (core_of m tid) tid accessed c e refl in
-    let jumps = two_jumps (kind_of (Jal rd offset)) tid target back in
-    rw none (omega (arith, jumps))
-few_events m tid (Jalr rd base offset) accessed c target back e =
-    let none : access_events tid accessed ≡ [] = few_by _ _ _ _ (core_of m tid) tid accessed c e refl in
-    let jumps = two_jumps (kind_of (Jalr rd base offset)) tid target back in
-    rw none (omega (arith, jumps))
-few_events m tid i accessed c target back e = let two = two_accesses tid accessed in omega (arith, two)
-
 -- the code of a step gives what the step is
 pub Steps-went : (p p2 : Parts) (tid : ℕ) (i : Instr) (accessed : Access) (c : Core) (old new : List Event) → (Went accessed, c) ≡ effect tid i (core_of (machine_of p) tid) → machine_of p2 ≡ with_core (machine_of p) tid c → p2.called ≡ false → new ≡ old ++ (went (machine_of p) tid i accessed c).events → Steps (executed (machine_of p) tid (Ok i)) stepped.Went p2 old new
 Steps-went p p2 tid i accessed c old new e machine quiet events =

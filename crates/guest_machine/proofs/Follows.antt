@@ -2,7 +2,7 @@
 use Rattle.std.proofs.Common.{◌≡◌, ℕ, ◌+◌, ◌<◌, ◌≤◌, ◌^◌, ◌%◌, Bool, true, false, cond, List, [], ◌∷◌, ◌++◌, map, reverse, append_assoc, refl, sym, ap, ap₂, subst, ◌∙◌, arith, Ok, Err, inl, inr}
 use Rattle.std.specs.Prelude.{◌==◌, ◌&&◌, ◌||◌, not, nat_eq, filter, Result}
 use Rattle.std.specs.List.{list_any}
-use Rattle.std.proofs.lemmas.Bool.{cases_eq}
+use Rattle.std.proofs.lemmas.Bool.{and_parts, cases_eq, eq-eqb}
 use Rattle.std.proofs.lemmas.Bool.Decides.{nat_tests}
 use Rattle.std.proofs.lemmas.List.{reverse-append}
 use Rattle.std.proofs.lemmas.List.Folds.{list_any-append}
@@ -30,7 +30,6 @@ use Rattle.guest_calls.specs.Invariant.{RisesTo}
 use Rattle.guest_calls.specs.Laws.{AreCopies, GivesNumber}
 use Rattle.guest_calls.specs.Table.{call}
 use Rattle.guest_calls.proofs.CopyEvents.{every_call_copies}
-use Rattle.guest_calls.proofs.Leaving.{and_true}
 use Rattle.guest_calls.proofs.Numbers.{every_call_numbers}
 use Rattle.guest_machine.specs.declared.hart.Hart.{Hart}
 use Rattle.guest_machine.specs.Machine.{MachineState, registers_of}
@@ -218,9 +217,6 @@ head_gone n t x gone = elim (cases_eq t n) [
       ap₂ (λ (b c : Bool). not b && (c || x)) is back
 ]
 
-own_number : (n : ℕ) → (n == n) ≡ true
-own_number n = grind (arith, nat_tests)
-
 abbrev ends_of : List Hart → List Event
 ends_of harts = map (λ (h : Hart). End h.tid) harts
 
@@ -232,7 +228,7 @@ ends_follow : (harts : List Hart) (past : List Event) (low last : ℕ) →
     EachFollows (ends_of harts) past × (((t : ℕ) → is_live (grown (ends_of harts) past) t ≡ false) × (greatest_start (grown (ends_of harts) past) ≡ greatest_start past))
 ends_follow [] past low last live rising = (tt, (live, refl))
 ends_follow (h ∷ harts) past low last live rising =
-    let first : is_live past h.tid ≡ true = live h.tid ∙ ap (λ (b : Bool). b || list_any (λ n. n == h.tid) (tids_in harts)) (own_number h.tid) in
+    let first : is_live past h.tid ≡ true = live h.tid ∙ ap (λ (b : Bool). b || list_any (λ n. n == h.tid) (tids_in harts)) (eq-eqb h.tid h.tid refl) in
     let rest = ends_follow harts (End h.tid ∷ past) h.tid last (λ t.
     ap (λ (b : Bool). not (nat_eq t h.tid) && b) (live t)
     ∙ head_gone h.tid t (list_any (λ n. n == t) (tids_in harts)) (λ same. not_among h.tid (tids_in harts) last t rising.1 (omega (arith, same)))) rising.1 in
@@ -382,6 +378,6 @@ step_grows m tid past stands live = executed_follows m tid (next_instruction m t
 
 pub every_step_continues : EveryStepContinues
 every_step_continues m tid past stands can =
-    let live = stands.live tid ∙ (and_true (lives m.kernel tid) (not (waits m.kernel.waiting tid)) can).0 in
+    let live = stands.live tid ∙ (and_parts (lives m.kernel tid) (not (waits m.kernel.waiting tid)) can).0 in
     let grows = step_grows m tid past stands live in
     (grows.0, subst (StandsFor (step m tid).machine) (grown-is (step m tid).events past) grows.1)

@@ -8,7 +8,9 @@ use Rattle.guest_words.specs.declared.rights.Rights.{Rights}
 use Rattle.guest_memory.specs.Memory.{Memory, count_mapped, is_among, mapped_pages, with_bytes, with_pages}
 use Rattle.guest_memory.proofs.Counts.{count_of_change, one}
 use Rattle.guest_memory.proofs.PageChanges.{among_other}
+use Rattle.guest_memory.proofs.Accesses.{none_of}
 use Rattle.std.proofs.lemmas.List.Sums.{sum_by-cons}
+use Rattle.std.proofs.Math.Bool.{or-false}
 use Rattle.elf_image.specs.Image.{Executable, IsPlaced, Segment, is_touched, page_count, touches}
 use Rattle.guest_machine.specs.Setup.{AreRights, mapped_below, pages_of}
 use Rattle.guest_machine.specs.Start.{first_break, image_memory, joined, rights_or_none, segment_rights, stack_page, stack_pages, stack_rights, start_memory, with_segment}
@@ -31,12 +33,8 @@ or_assoc : (a b c : Bool) → ((a || b) || c) ≡ (a || (b || c))
 or_assoc true b c = refl
 or_assoc false b c = refl
 
-or_false : (a : Bool) → a ≡ (a || false)
-or_false true = refl
-or_false false = refl
-
 some_folded : (page : ℕ) (segments : List Segment) (r : Option Rights) → is_some (fold (with_segment page) r segments) ≡ (is_some r || is_touched segments page)
-some_folded page [] r = or_false (is_some r)
+some_folded page [] r = sym (or-false (is_some r))
 some_folded page (s ∷ segments) r =
     some_folded page segments (with_segment page r s)
     ∙ ap (λ b. b || is_touched segments page) (is_some-with page r s)
@@ -81,10 +79,6 @@ pub far_untouched : (segments : List Segment) (page : ℕ) → All IsPlaced segm
 far_untouched [] page placed far = refl
 far_untouched (s ∷ segments) page placed far =
     rw (far_by s page (placed 0 s (omega arith)) far) (far_untouched segments page (λ i d within. placed (suc i) d (omega (arith, within))) far)
-
-none_of : (r : Option Rights) → is_some r ≡ false → r ≡ None
-none_of None isnt = refl
-none_of (Some p) isnt = absurd (cc)
 
 pub far_rights : (segments : List Segment) (page : ℕ) → All IsPlaced segments → 0x40000 ≤ page → segment_rights segments page ≡ None
 far_rights segments page placed far = none_of _ (rights-touched segments page ∙ far_untouched segments page placed far)

@@ -7,6 +7,7 @@ use Rattle.std.proofs.lemmas.List.{length-set, set-set}
 use Rattle.std.proofs.lemmas.Option.{get_or_from_slice_get}
 use Rattle.guest_machine.proofs.Registers.{with_registers-twice}
 use Rattle.std.proofs.lemmas.Bool.Decides.{nat_tests}
+use Rattle.std.proofs.lemmas.Bool.{eq-eqb}
 use Rattle.rv_exec.specs.Registers.{Registers}
 use Rattle.guest_machine.specs.declared.hart.Hart.{Hart}
 use Rattle.guest_machine.specs.Machine.{registers_of, with_registers, no_registers}
@@ -18,16 +19,13 @@ is_of tid h = h.tid == tid
 same_tid : (h : Hart) (tid : ℕ) → (h.tid == tid) ≡ true → h.tid ≡ tid
 same_tid h tid is = grind (arith, nat_tests)
 
-own : (tid : ℕ) → (tid == tid) ≡ true
-own tid = grind (arith, nat_tests)
-
 -- the thread of the first hart
 IsPlace-first : (h : Hart) (harts : List Hart) (tid : ℕ) → (h.tid == tid) ≡ true → IsPlace (h ∷ harts) tid 0
 IsPlace-first h harts tid is = record {
   within = omega arith;
   at = rw is (ap (λ n. Some (record { tid = n; cpu = h.cpu })) (same_tid h tid is));
   after = λ r. rw is refl;
-  read = λ r. rw (is, own tid) refl;
+  read = λ r. rw (is, eq-eqb tid tid refl) refl;
 }
 
 -- the thread of a later one

@@ -2,20 +2,15 @@
 use Rattle.std.proofs.Common.{◌≡◌, ℕ, ◌%◌, List, [], ◌∷◌, ◌++◌, map, Bool, true, false, not, ap, sym, refl, arith}
 use Rattle.std.specs.Prelude.{◌==◌}
 use Rattle.std.proofs.lemmas.Bool.Decides.{nat_tests}
+use Rattle.std.proofs.lemmas.Bool.{eq-eqb, eqb-true}
 use Rattle.rv_exec.specs.Registers.{Registers}
 use Rattle.guest_machine.specs.declared.hart.Hart.{Hart}
 use Rattle.guest_machine.specs.Machine.{registers_of, with_registers, without_hart}
 use Rattle.guest_machine.specs.Sound.{AreAligned}
 
-same_number : (n m : ℕ) → (n == m) ≡ true → n ≡ m
-same_number n m is = grind (arith, nat_tests)
-
-own : (tid : ℕ) → (tid == tid) ≡ true
-own tid = grind (arith, nat_tests)
-
 -- two changes of the same registers are the second
 twice_by : (h : Hart) (harts : List Hart) (tid : ℕ) (r s : Registers) (b : Bool) → (h.tid == tid) ≡ b → with_registers (with_registers harts tid r) tid s ≡ with_registers harts tid s → with_registers (with_registers (h ∷ harts) tid r) tid s ≡ with_registers (h ∷ harts) tid s
-twice_by h harts tid r s true is rest = rw (is, own tid) refl
+twice_by h harts tid r s true is rest = rw (is, eq-eqb tid tid refl) refl
 twice_by h harts tid r s false is rest = rw (is, is) (ap (λ hs. h ∷ hs) rest)
 
 pub with_registers-twice : (harts : List Hart) (tid : ℕ) (r s : Registers) → with_registers (with_registers harts tid r) tid s ≡ with_registers harts tid s
@@ -24,7 +19,7 @@ with_registers-twice (h ∷ harts) tid r s = twice_by h harts tid r s (h.tid == 
 
 -- the threads stay
 tids_by : (h : Hart) (harts : List Hart) (tid : ℕ) (r : Registers) (b : Bool) → (h.tid == tid) ≡ b → map (λ g. g.tid) (with_registers harts tid r) ≡ map (λ g. g.tid) harts → map (λ g. g.tid) (with_registers (h ∷ harts) tid r) ≡ map (λ g. g.tid) (h ∷ harts)
-tids_by h harts tid r true is rest = rw is (ap (λ n. n ∷ map (λ g. g.tid) harts) (sym (same_number h.tid tid is)))
+tids_by h harts tid r true is rest = rw is (ap (λ n. n ∷ map (λ g. g.tid) harts) (sym (eqb-true h.tid tid is)))
 tids_by h harts tid r false is rest = rw is (ap (λ ns. h.tid ∷ ns) rest)
 
 pub tids-with_registers : (harts : List Hart) (tid : ℕ) (r : Registers) → map (λ g. g.tid) (with_registers harts tid r) ≡ map (λ g. g.tid) harts

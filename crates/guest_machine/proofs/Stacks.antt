@@ -69,9 +69,6 @@ words_counted image texts =
     let split : length (places ++ 0 ∷ 0 ∷ auxiliary_vector image) ≡ length places + 16 = length-append places (0 ∷ 0 ∷ auxiliary_vector image) in
     omega (arith, all, split, places_counted (strings_place texts) texts)
 
-pub bytes_after_strings : (texts : List (List ℕ)) → length (strings texts ++ random_bytes) ≡ length (strings texts) + 16
-bytes_after_strings texts = length-append (strings texts) random_bytes
-
 -- the stack is mapped
 pub stack_mapped : (m : Memory) (q : ℕ) → 0x7F800000 ≤ q → q < 0x80000000 → is_some ((with_pages m stack_page stack_pages (Some stack_rights)).rights (q / 4096)) ≡ true
 stack_mapped m q low high = ap (λ b. is_some (cond b (Some stack_rights) (m.rights (q / 4096)))) among

@@ -20,25 +20,18 @@ use Rattle.trace_model.specs.WellFormed.{weight}
 use Rattle.guest_calls.specs.declared.answer.Answer.{Answer}
 use Rattle.guest_calls.specs.declared.answer.Answer.TheVariants.{Back, Yield, Block, ThreadEnd, ProcessEnd, Born}
 use Rattle.guest_calls.specs.Table.{call}
-use Rattle.guest_calls.proofs.Weights.{every_call_light, weight_append}
+use Rattle.guest_calls.proofs.Weights.{every_call_light}
+use Rattle.trace_model.proofs.Bounds.{weight-append}
 use Rattle.guest_machine.specs.declared.hart.Hart.{Hart}
 use Rattle.guest_machine.specs.Laws.{EveryStepIsLight}
 use Rattle.guest_machine.specs.Machine.{MachineState, registers_of, with_registers, without_hart}
 use Rattle.guest_machine.specs.Step.{access_events, after_effect, call_of, core_of, executed, harts_after, jump_events, life_events, next_instruction, pc_of, resumed, step}
+use Rattle.guest_machine.proofs.Holders.{fewer_or_same}
 use Rattle.guest_machine.proofs.Registers.{tids-with_registers}
 
 harts_kept : (harts : List Hart) (tid : ℕ) (r : Registers) → length (with_registers harts tid r) ≡ length harts
 harts_kept harts tid r =
     sym (length-map (with_registers harts tid r) (λ (h : Hart). h.tid)) ∙ ap length (tids-with_registers harts tid r) ∙ length-map harts (λ (h : Hart). h.tid)
-
-harts_left : (harts : List Hart) (tid : ℕ) → length (without_hart harts tid) ≤ length harts
-harts_left [] tid = omega arith
-harts_left (h ∷ harts) tid = by (not (h.tid == tid)) (harts_left harts tid)
-  where
-    by : (b : Bool) → length (without_hart harts tid) ≤ length harts →
-        length (cond b (h ∷ without_hart harts tid) (without_hart harts tid)) ≤ suc (length harts)
-    by true rest = omega (arith, rest)
-    by false rest = omega (arith, rest)
 
 ends_weight : (harts : List Hart) → weight (map (λ (h : Hart). End h.tid) harts) ≡ length harts
 ends_weight [] = refl
@@ -49,7 +42,7 @@ life_weight : (answer : Answer) (harts : List Hart) (tid : ℕ) (r : Registers) 
 life_weight (Back value) harts tid r = omega (arith, harts_kept harts tid (resumed r value))
 life_weight Yield harts tid r = omega (arith, harts_kept harts tid (resumed r 0))
 life_weight Block harts tid r = omega (arith, harts_kept harts tid (resumed r 0))
-life_weight ThreadEnd harts tid r = omega (arith, harts_left harts tid)
+life_weight ThreadEnd harts tid r = omega (arith, fewer_or_same harts tid)
 life_weight (ProcessEnd status) harts tid r = omega (arith, ends_weight harts)
 life_weight (Born child registers) harts tid r =
     let one : length (with_registers harts tid (resumed r child) ++ record { tid = child; cpu = registers } ∷ []) ≡ length (with_registers harts tid (resumed r child)) + 1 = length-append (with_registers harts tid (resumed r child)) (record { tid = child; cpu = registers } ∷ []) in
@@ -71,12 +64,12 @@ effect_weight : (m : MachineState) (tid : ℕ) (i : Instr) (given : Outcome × C
     weight (after_effect m tid i given).events + length (after_effect m tid i given).machine.harts ≤ 65540 + length m.harts
 effect_weight m tid i (outcome.Went accessed, c) few =
     let back = (pc_of m tid + 4) % 2 ^ 32 in
-    let both = weight_append (access_events tid accessed) (jump_events (kind_of i) tid c.registers.pc back) in
+    let both = weight-append (access_events tid accessed) (jump_events (kind_of i) tid c.registers.pc back) in
     omega (arith, both, access_weight tid accessed few, jump_weight (kind_of i) tid c.registers.pc back, harts_kept m.harts tid c.registers)
 effect_weight m tid i (outcome.Fault kind, c) few = omega arith
 effect_weight m tid i (outcome.KernelCall, c) few =
     let r = call (call_of m tid) in
-    let both = weight_append r.guest.events (life_events r.answer m.harts tid) in
+    let both = weight-append r.guest.events (life_events r.answer m.harts tid) in
     omega (arith, both, every_call_light (call_of m tid), life_weight r.answer m.harts tid (registers_of m.harts tid))
 
 executed_weight : (m : MachineState) (tid : ℕ) (found : Result Instr FaultKind) →

@@ -22,14 +22,6 @@ rights_where_some false o some = absurd (cc)
 pub page_rights_some : (m : Memory) (page : ℕ) → is_some (page_rights m page) ≡ true → is_some (m.rights page) ≡ true
 page_rights_some m page some = rights_where_some (nat_lt page 1048576) (m.rights page) some
 
-none_either_way : {T : Type 0} (test : Bool) (o : Option T) → o ≡ None → cond test o None ≡ None
-none_either_way true o none = none
-none_either_way false o none = refl
-
--- a page that is not mapped has no rights
-pub page_rights_none : (m : Memory) (page : ℕ) → m.rights page ≡ None → page_rights m page ≡ None
-page_rights_none m page none = none_either_way (nat_lt page 1048576) (m.rights page) none
-
 -- bytes that are not refused are passed over
 pub refusal_skip : (m : Memory) (need : Need) (at here n : ℕ) → ((k : ℕ) → k < here → byte_refusal m need (at + k) ≡ None) → first_refusal m need at (here + n) ≡ first_refusal m need (at + here) n
 refusal_skip m need at zero n none =

@@ -4,13 +4,6 @@ use Rattle.std.specs.Prelude.{◌==◌}
 use Rattle.std.specs.Option.{is_some}
 use Rattle.std.proofs.lemmas.Bool.{cases_eq, ne_eqb}
 use Rattle.guest_memory.specs.Reserved.{Reserved, HoldAtMost, nothing_reserved, with_word, without_thread}
-use Rattle.guest_words.specs.declared.rights.Rights.{Rights}
-use Rattle.guest_memory.specs.Memory.{ArePagesMapped, Memory, with_pages}
-use Rattle.guest_memory.proofs.WrittenBytes.{among_yes}
-
--- pages are mapped once they are put
-pub with_pages-mapped : (m : Memory) (page count : ℕ) (rights : Rights) → ArePagesMapped (with_pages m page count (Some rights)) page count
-with_pages-mapped m page count rights q low high = ap (λ (b : Bool). is_some (cond b (Some rights) (m.rights q))) (among_yes page count q low high)
 
 -- at first no thread has a reservation
 pub HoldAtMost-new : (held : Reserved) → held ≡ nothing_reserved → HoldAtMost held 0
@@ -37,7 +30,7 @@ HoldAtMost-set old new tid word most before is = record {
   ];
 }
 
-some_of_rest : (b : Bool) (o : Option ℕ) → is_some (cond b None o) ≡ true → is_some o ≡ true
+pub some_of_rest : (b : Bool) (o : Option ℕ) → is_some (cond b None o) ≡ true → is_some o ≡ true
 some_of_rest true o some = absurd (cc)
 some_of_rest false o some = some
 

@@ -3,9 +3,6 @@ use Rattle.std.proofs.Common.{◌≡◌, ◌≢◌, ℕ, ◌+◌, ◌<◌, ◌�
 use Rattle.std.specs.Option.{is_some}
 use Rattle.std.proofs.lemmas.Bool.{cases_eq, cases_lt}
 use Rattle.std.proofs.lemmas.Bool.Decides.{nat_tests}
-use Rattle.std.proofs.Common.{◌^◌, None}
-use Rattle.guest_memory.proofs.Directories.{absent}
-use Rattle.std.proofs.lemmas.List.{get_or_past}
 use Rattle.guest_words.specs.declared.rights.Rights.{Rights}
 use Rattle.guest_memory.specs.Pages.{IsPlaced, page_of, with_page, zeros}
 use Rattle.guest_memory.specs.State.{memory_in, rights_of}
@@ -22,7 +19,7 @@ among_other n q differs = elim (cases_lt q n) [
   | inr from ↦ let past : n + 1 ≤ q = omega arith in grind (arith, nat_tests)
 ]
 
-among_none : (n q : ℕ) → is_among n 0 q ≡ false
+pub among_none : (n q : ℕ) → is_among n 0 q ≡ false
 among_none n q = elim (cases_lt q n) [ inl low ↦ grind (arith, nat_tests) | inr from ↦ grind (arith, nat_tests) ]
 
 among_next : (n k q : ℕ) → q ≢ n → is_among (n + 1) k q ≡ is_among n (k + 1) q
@@ -80,14 +77,8 @@ choice_next n k q o x = elim (cases_eq q n) [
   | inr differs ↦ ap (λ (b : Bool). cond b o (cond (is_among (n + 1) k q) o x)) (among_other n q differs) ∙ ap (λ (b : Bool). cond b o x) (among_next n k q differs)
 ]
 
-pub with_pages-none : (m : Memory) (n : ℕ) (o : Option Rights) → with_pages m n 0 o ≡ m
-with_pages-none m n o = λ i. record { rights = λ q. ap (λ (b : Bool). cond b o (m.rights q)) (among_none n q) i; byte = λ q. ap (λ (b : Bool). cond b 0 (m.byte q)) (among_none n (q / 4096)) i }
-
 pub with_pages-next : (m : Memory) (n k : ℕ) (o : Option Rights) → with_pages (with_pages m (n + 1) k o) n 1 o ≡ with_pages m n (k + 1) o
 with_pages-next m n k o = λ i. record { rights = λ q. choice_next n k q o (m.rights q) i; byte = λ q. choice_next n k (q / 4096) 0 (m.byte q) i }
-
-pub with_rights-none : (m : Memory) (n : ℕ) (r : Rights) → with_rights m n 0 r ≡ m
-with_rights-none m n r = λ i. record { rights = λ q. ap (λ (b : Bool). cond b (Some r) (m.rights q)) (among_none n q) i; byte = m.byte }
 
 pub with_rights-next : (m : Memory) (n k : ℕ) (r : Rights) → with_rights (with_rights m (n + 1) k r) n 1 r ≡ with_rights m n (k + 1) r
 with_rights-next m n k r = λ i. record { rights = λ q. choice_next n k q (Some r) (m.rights q) i; byte = m.byte }
@@ -95,9 +86,3 @@ with_rights-next m n k r = λ i. record { rights = λ q. choice_next n k q (Some
 -- an empty table that is filled with absent pages changes no memory
 pub table_memory : (d : List (List (Rights × List ℕ))) (a : ℕ) → a < length d → length (get_or d a []) ≡ 0 → memory_in (with_table d a) ≡ memory_in d
 table_memory d a lt none = λ i. record { rights = λ n. ap rights_of (page_with_table d a n lt none) i; byte = λ q. ap (λ (p : Rights × List ℕ). get_or p.1 (q % 4096) 0) (page_with_table d a (q / 4096) lt none) i }
-
--- no page past the last number is mapped
-pub space_ends : (d : List (List (Rights × List ℕ))) → length d ≡ 1024 → (n : ℕ) → 1048576 ≤ n → (memory_in d).rights n ≡ None
-space_ends d top n past =
-    let over : length d ≤ n / 2 ^ 10 = omega arith in
-    ap (λ (t : List (Rights × List ℕ)). rights_of (get_or t (n % 1024) absent)) (get_or_past d (n / 2 ^ 10) [] over)

@@ -20,7 +20,7 @@ among_yes first count n low high = grind (arith, nat_tests)
 pub among_below : (first count n : ℕ) → n < first → is_among first count n ≡ false
 among_below first count n low = grind (arith, nat_tests)
 
-among_past : (first count n : ℕ) → first + count ≤ n → is_among first count n ≡ false
+pub among_past : (first count n : ℕ) → first + count ≤ n → is_among first count n ≡ false
 among_past first count n high = grind (arith, nat_tests)
 
 among_moved : (first count n base : ℕ) → is_among (base + first) count (base + n) ≡ is_among first count n

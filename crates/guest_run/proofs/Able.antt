@@ -6,6 +6,7 @@ use Rattle.guest_memory.specs.Memory.{bytes_at, with_rights}
 use Rattle.std.specs.List.{list_any}
 use Rattle.std.specs.Option.{option_map_or}
 use Rattle.std.proofs.lemmas.List.Folds.{list_any-append}
+use Rattle.std.proofs.lemmas.Bool.{and_parts}
 use Rattle.futex_table.specs.Once.{waits}
 use Rattle.futex_table.specs.Waiting.{all_bits, after_requeue}
 use Rattle.guest_words.specs.declared.endings.FaultKind.{FaultKind}
@@ -32,7 +33,7 @@ use Rattle.guest_calls.specs.Clone.{clone_tests, with_thread, child_clear_tid, c
 use Rattle.guest_calls.specs.Futex.{futex_by, futex_tests, futex_at, futex_value, futex_value3, futex_limit, futex_to, operation, performed, waits_for, requeues, count_woken, count_shifted}
 use Rattle.guest_calls.specs.Table.{call, table}
 use Rattle.guest_calls.proofs.AllCalls.{of_every_call, of_unless}
-use Rattle.guest_calls.proofs.Leaving.{and_true, does_not_wait, woken_can_run}
+use Rattle.guest_calls.proofs.Leaving.{cleared_lives, does_not_wait, woken_can_run}
 use Rattle.guest_calls.proofs.Queues.{requeued_out}
 use Rattle.guest_machine.specs.declared.stepped.Stepped.TheVariants.{Went}
 use Rattle.guest_machine.specs.Machine.{MachineState, can_run}
@@ -59,10 +60,6 @@ advanced_able (InputFile input position) fd n k tid = refl
 when_kernel : (b : Bool) (effect : CallResult → CallResult) (r : CallResult) → (effect r).kernel ≡ r.kernel → (when b effect r).kernel ≡ r.kernel
 when_kernel true effect r same = same
 when_kernel false effect r same = refl
-
-when_answer : (b : Bool) (effect : CallResult → CallResult) (r : CallResult) → (effect r).answer ≡ r.answer → (when b effect r).answer ≡ r.answer
-when_answer true effect r same = same
-when_answer false effect r same = refl
 
 abbrev llseek_effect : Call → CallResult
 llseek_effect c =
@@ -108,21 +105,12 @@ clone_effect c =
     ▷ changes (with_thread tid (child_clear_tid flags (arg c 4)))
     ▷ answers (Born tid (child_registers c.registers flags (arg c 1) (arg c 3)))
 
--- ---- the calls on threads
-cleared_lives : (tid at q : ℕ) (ts : List Thread) → list_any (is_thread q) (map (with_clear_tid tid at) ts) ≡ list_any (is_thread q) ts
-cleared_lives tid at q [] = refl
-cleared_lives tid at q (t ∷ ts) = ap₂ (λ (a b : Bool). a || b) (by (is_thread tid t)) (cleared_lives tid at q ts)
-  where
-    by : (b : Bool) → is_thread q (cond b (record t { clear_tid = at }) t) ≡ is_thread q t
-    by true = refl
-    by false = refl
-
 or_true : (b : Bool) → (true || b) ≡ true
 or_true b = refl
 
 born_able : (tid clear : ℕ) (k : KernelState) (q : ℕ) → kernel.can_run k q ≡ true → kernel.can_run (with_thread tid clear k) q ≡ true
 born_able tid clear k q can =
-    let parts = and_true (lives k q) (not (waits k.waiting q)) can in
+    let parts = and_parts (lives k q) (not (waits k.waiting q)) can in
     ap₂ (λ (a b : Bool). a && b)
     (list_any-append (is_thread q) k.threads (record { tid = tid; clear_tid = clear } ∷ []) ∙ ap (λ (b : Bool). b || list_any (is_thread q) (record { tid = tid; clear_tid = clear } ∷ [])) parts.0)
     parts.1
@@ -143,7 +131,7 @@ sigprocmask_able c =
 -- ---- the futexes
 requeued_able : (k : KernelState) (at most shift to tid : ℕ) → kernel.can_run k tid ≡ true → kernel.can_run (record k { waiting = after_requeue k.waiting at most shift to }) tid ≡ true
 requeued_able k at most shift to tid can =
-    let parts = and_true (lives k tid) (not (waits k.waiting tid)) can in
+    let parts = and_parts (lives k tid) (not (waits k.waiting tid)) can in
     ap₂ (λ (a b : Bool). a && not b) parts.0 (requeued_out k.waiting at most shift to tid (does_not_wait k tid can))
 
 either_able : (c : Call) (b : Bool) (one other : CallResult → CallResult) (r : CallResult) → StaysAble c (one r) → StaysAble c (other r) → StaysAble c (either b one other r)

@@ -18,10 +18,6 @@ is_of tid c = c.tid == tid
 same_tid : (c : Caller) (tid : ℕ) → (c.tid == tid) ≡ true → c.tid ≡ tid
 same_tid c tid is = grind (arith, nat_tests)
 
-flipped : (m n : ℕ) (b : Bool) → (m == n) ≡ b → (n == m) ≡ b
-flipped m n true is = grind (arith, nat_tests)
-flipped m n false is = grind (arith, nat_tests)
-
 -- the thread of the first caller
 IsPlace-first : (c : Caller) (callers : List Caller) (tid : ℕ) → (c.tid == tid) ≡ true → IsPlace (c ∷ callers) tid 0
 IsPlace-first c callers tid is = record {
@@ -181,7 +177,3 @@ ended old mid new tid same is t =
     by : (b : Bool) → backs (reverse (cond b [] (calls_of old t))) ≡ cond b [] (backs_of old t)
     by true = refl
     by false = refl
-
-pub depth-backs : (old mid : List Caller) (tid n : ℕ) (before : List OpenCall) → ((t : ℕ) → calls_of mid t ≡ calls_of old t) → before ≡ calls_of mid tid → n ≡ length before → n ≡ length (backs_of old tid)
-depth-backs old mid tid n before same was count =
-    count ∙ ap length (was ∙ same tid) ∙ sym (length-reverse (calls_of old tid)) ∙ sym (length-map (reverse (calls_of old tid)) (λ a. a.back))

@@ -63,13 +63,6 @@ pub Remains-ends : (whole : Shown) (greatest count budget : ℕ) (r new : Runner
 Remains-ends whole greatest count budget r new finish run remains low ended is =
     subst (λ s. IsShown s run) (sym (next whole greatest count budget r remains low ∙ ended.shows (budget - (count + 1)))) is
 
-pub Remains-goes_on : (whole : Shown) (greatest count budget : ℕ) (r new : Runner) → Remains whole greatest count budget r → count < budget → GoesOn r new → new.recorder.made ≤ r.recorder.made + 1 → Remains whole greatest (count + 1) budget new
-Remains-goes_on whole greatest count budget r new remains low goes made = record {
-  going = goes.going;
-  made = omega (arith, made, remains.made);
-  shows = next whole greatest count budget r remains low ∙ goes.shows (budget - (count + 1));
-}
-
 -- the begin
 first-within : (entry greatest : ℕ) → 6 ≤ greatest → is_within (first_past entry) greatest ≡ true
 first-within entry greatest enough =

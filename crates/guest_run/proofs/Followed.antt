@@ -4,6 +4,7 @@ use Rattle.std.specs.Prelude.{◌==◌, nat_lt}
 use Rattle.std.specs.List.{position_or_len}
 use Rattle.std.proofs.lemmas.Bool.Decides.{nat_tests}
 use Rattle.std.proofs.lemmas.List.{length-map, length-take-le}
+use Rattle.std.proofs.lemmas.Bool.{eq-eqb}
 use Rattle.trace_model.specs.declared.event_kinds.Event.{Event}
 use Rattle.trace_model.specs.declared.event_kinds.Event.TheVariants.{Ret}
 use Rattle.trace_model.specs.declared.activations.Activation.{Activation}
@@ -16,9 +17,6 @@ drop-backs : (n : ℕ) (calls : List Activation) → backs (drop n calls) ≡ dr
 drop-backs zero calls = refl
 drop-backs (suc n) [] = refl
 drop-backs (suc n) (call ∷ calls) = drop-backs n calls
-
-own : (tid : ℕ) → (tid == tid) ≡ true
-own tid = grind (arith, nat_tests)
 
 returned-le : (target : ℕ) (bs : List (Option ℕ)) → count_returned target bs ≤ length bs
 returned-le target bs = by (nat_lt k (length bs)) refl
@@ -41,7 +39,7 @@ follows-return old new past tid target opens counts steps greatest room stands =
     let long : length (backs (open_calls past tid)) ≡ length (open_calls past tid) = length-map (open_calls past tid) (λ a. a.back) in
     let within : count_returned target (backs (open_calls past tid)) ≤ length (open_calls past tid) = omega (arith, returned-le target (backs (open_calls past tid)), long) in
     let ended : length (take (cond (tid == tid) (count_returned target (backs (open_calls past tid))) 0) (open_calls past tid)) ≡ n =
-    ap (λ b. length (take (cond b (count_returned target (backs (open_calls past tid))) 0) (open_calls past tid))) (own tid)
+    ap (λ b. length (take (cond b (count_returned target (backs (open_calls past tid))) 0) (open_calls past tid))) (eq-eqb tid tid refl)
     ∙ length-take-le (count_returned target (backs (open_calls past tid))) (open_calls past tid) within ∙ sym m
     in
     let left : new.pending ≡ pending (Ret tid target ∷ past) = omega (arith, counts, stands.pending_are, ended) in (

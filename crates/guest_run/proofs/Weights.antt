@@ -11,7 +11,7 @@ use Rattle.thread_sched.specs.declared.turns.Turn.TheVariants as turn
 use Rattle.elf_image.specs.Image.{Executable}
 use Rattle.guest_calls.specs.Inputs.{Input}
 use Rattle.guest_calls.specs.Kernel.{ready}
-use Rattle.guest_calls.proofs.Weights.{weight_append}
+use Rattle.trace_model.proofs.Bounds.{weight-append}
 use Rattle.guest_machine.specs.Machine.{MachineState}
 use Rattle.guest_machine.specs.Start.{start}
 use Rattle.guest_machine.specs.Step.{step}
@@ -27,7 +27,7 @@ use Rattle.guest_run.specs.Traces.{EveryRunIsLight, most_moves}
 weight_reverse : (xs : List Event) → weight (reverse xs) ≡ weight xs
 weight_reverse [] = refl
 weight_reverse (x ∷ xs) =
-    let whole : weight (reverse (x ∷ xs)) ≡ weight (reverse xs) + weight (x ∷ []) = ap weight (reverse-append (x ∷ []) xs) ∙ weight_append (reverse xs) (x ∷ []) in
+    let whole : weight (reverse (x ∷ xs)) ≡ weight (reverse xs) + weight (x ∷ []) = ap weight (reverse-append (x ∷ []) xs) ∙ weight-append (reverse xs) (x ∷ []) in
     omega (arith, whole, weight_reverse xs)
 
 -- ---- runs
@@ -62,14 +62,14 @@ run_weight (suc more) at = by (chosen guest at) (chosen_in at) (run_weight more)
     paced ih opens to GoesOn =
         let tid = to.turns.last in
         let next = position_after to (step to.state tid).machine (pred to.left) in
-        omega (arith, weight_append (step to.state tid).events (events_of (run_from guest more next).moves), every_step_light to.state tid, ih next)
+        omega (arith, weight-append (step to.state tid).events (events_of (run_from guest more next).moves), every_step_light to.state tid, ih next)
     paced ih opens to TurnOver =
         let tid = to.turns.last in
         let next = position_after to (step to.state tid).machine 0 in
-        omega (arith, weight_append (step to.state tid).events (events_of (run_from guest more next).moves), every_step_light to.state tid, ih next)
+        omega (arith, weight-append (step to.state tid).events (events_of (run_from guest more next).moves), every_step_light to.state tid, ih next)
     paced ih opens to (Ends finish) =
         let tid = to.turns.last in
-        omega (arith, weight_append (step to.state tid).events [], every_step_light to.state tid)
+        omega (arith, weight-append (step to.state tid).events [], every_step_light to.state tid)
 
     by : (c : Chosen MachineState) → IsChosenIn at.state c →
         ((at : Position MachineState) → weight (events_of (run_from guest more at).moves) ≤ 65540 * more + length at.state.harts) →
@@ -94,7 +94,7 @@ cut_weight (e ∷ past) most = by (is_within (e ∷ past) most) (cut_weight past
 whole_weight : (past : List Event) (events : List Event) →
     weight (past_after past events) ≡ weight past + weight events
 whole_weight past events =
-    let both = weight_append (reverse events) past in
+    let both = weight-append (reverse events) past in
     omega (arith, both, weight_reverse events)
 
 -- the whole past of a run

@@ -18,7 +18,7 @@ pub use fields::{le16, le32, put_le32};
 pub use name::{Name, NameError};
 pub use ready::ReadyList;
 pub use rights::Rights;
-pub use text_words::{cut, decimal_number, wide_decimal_number};
+pub use text_words::{cut, decimal_number, first_number, push_decimal, wide_decimal_number};
 pub use threads::Tid;
 
 #[cfg(test)]

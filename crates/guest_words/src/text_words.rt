@@ -1,9 +1,11 @@
-//! Words of a text: a line is cut into words at a separator, and a word is read as a decimal number.
-ghost use Rattle.std.specs.Prelude.{◌≡◌, ◌≢◌, ◌↔◌, ℕ, ◌<◌, ◌^◌, ◌++◌, ◌∷◌, true, Some, IfSome, IfNone, IsTrue, length, slice_index};
+//! Words of a text: a line is cut into words at a separator, and a word is read, and written, as a decimal number.
+ghost use Rattle.std.specs.Prelude.{◌≡◌, ◌≢◌, ◌↔◌, ℕ, ◌<◌, ◌^◌, ◌++◌, ◌∷◌, true, Some, IfSome, IfNone, IsSomeAnd, IsTrue, OnOk, List, length, slice_index};
 ghost use Rattle.std.specs.Fmt.{decimal};
 ghost use Rattle.std.specs.Str.Parse.{IsNumeral, digits_value, without_leading_plus};
 ghost use Rattle.guest_words.specs.Separators.{lacks};
 
+use itoa::Buffer;
+use std::alloc::AllocError;
 use std::str;
 
 /// What stands before the first such byte, and what stands after it.
@@ -62,4 +64,22 @@ pub fn decimal_number(word: &[u8]) -> Option<u64>
     ensures only { (n : ℕ) → n < 2 ^ 64 → word.now ≡ decimal n → result ≡ Some n }
 {
     u64::try_from(wide_decimal_number(word)?).ok()
+}
+
+/// The number before the first space, and what stands behind that.
+pub fn first_number(words: &[u8]) -> Option<(u64, &[u8])>
+    ensures found { IfSome result (λ x. words.now ≡ decimal x.0 ++ 32 ∷ x.1.now) }
+    ensures only { (n : ℕ) (rest : List ℕ) → n < 2 ^ 64 → words.now ≡ decimal n ++ 32 ∷ rest
+        → IsSomeAnd result (λ x. (x.0 ≡ n) × (x.1.now ≡ rest)) }
+{
+    let (word, rest) = cut(words, b' ')?;
+    Some((decimal_number(word)?, rest))
+}
+
+/// Appends a number in decimal.
+pub fn push_decimal(text: &mut Vec<u8>, number: u128) -> Result<(), AllocError>
+    ensures { OnOk result (text.new.items ≡ text.old.items ++ decimal number) }
+{
+    let mut buffer = Buffer::new();
+    text.extend_from_slice(buffer.format(number).as_bytes())
 }

@@ -39,15 +39,6 @@ name : (n : Option (List ℕ)) → FitsName n → lacks 10 (name_word n) ≡ tru
 name None fits = refl
 name (Some bytes) fits = visible bytes (and_parts _ _ fits).1
 
-kind : (k : FaultKind) → kind_number k < 2 ^ 128
-kind Illegal = omega arith
-kind Fetch = omega arith
-kind Load = omega arith
-kind Store = omega arith
-kind JumpAlign = omega arith
-kind AtomicAlign = omega arith
-kind Break = omega arith
-
 point : (p : Point) → FitsPoint p → lacks 10 (point_line p) ≡ true
 point p fits =
     let calls = labelled (codes " ") p.calls in
@@ -60,10 +51,19 @@ point p fits =
     (both (decimal p.size) calls (number p.size (omega (arith, fits.size))) (number p.calls (omega (arith, fits.calls))))
     (number p.least (omega (arith, fits.least)))) (number p.most (omega (arith, fits.most)))) (number p.sum fits.sum)
 
+pub kind_small : (k : FaultKind) → kind_number k < 2 ^ 128
+kind_small Illegal = omega arith
+kind_small Fetch = omega arith
+kind_small Load = omega arith
+kind_small Store = omega arith
+kind_small JumpAlign = omega arith
+kind_small AtomicAlign = omega arith
+kind_small Break = omega arith
+
 pub line_lacks : (l : Line) → FitsLine l → lacks 10 (line_text version_1 l) ≡ true
 line_lacks First fits = refl
 line_lacks (End (Exit s)) fits = number s (omega arith)
-line_lacks (End (Fault k t a)) fits = both (decimal (kind_number k) ++ labelled (codes " ") t ++ codes " ") (hex_address a) (both (decimal (kind_number k) ++ labelled (codes " ") t) (codes " ") (both (decimal (kind_number k)) (labelled (codes " ") t) (number (kind_number k) (kind k)) (number t (omega arith))) refl) (lacks_address 10 a refl)
+line_lacks (End (Fault k t a)) fits = both (decimal (kind_number k) ++ labelled (codes " ") t ++ codes " ") (hex_address a) (both (decimal (kind_number k) ++ labelled (codes " ") t) (codes " ") (both (decimal (kind_number k)) (labelled (codes " ") t) (number (kind_number k) (kind_small k)) (number t (omega arith))) refl) (lacks_address 10 a refl)
 line_lacks (End Budget) fits = refl
 line_lacks (End Deadlock) fits = refl
 line_lacks (End Deep) fits = refl

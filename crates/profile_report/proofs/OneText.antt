@@ -30,7 +30,7 @@ use Rattle.profile_report.proofs.Digits.{lacks_address}
 use Rattle.profile_report.proofs.Digits.{by_digits}
 use Rattle.guest_words.proofs.Found.{same}
 use Rattle.profile_report.proofs.Letters.{alike}
-use Rattle.profile_report.proofs.Newlines.{line_lacks}
+use Rattle.profile_report.proofs.Newlines.{kind_small, line_lacks}
 use Rattle.profile_report.proofs.Written.{lines_of, lines_of-fit, lines_of-lead, lines_of-text}
 
 number_same : (m n : ℕ) → m < 2 ^ 128 → n < 2 ^ 128 → decimal m ≡ decimal n → m ≡ n
@@ -111,15 +111,6 @@ kind_back Store = refl
 kind_back JumpAlign = refl
 kind_back AtomicAlign = refl
 kind_back Break = refl
-
-kind_small : (k : FaultKind) → kind_number k < 2 ^ 128
-kind_small Illegal = omega arith
-kind_small Fetch = omega arith
-kind_small Load = omega arith
-kind_small Store = omega arith
-kind_small JumpAlign = omega arith
-kind_small AtomicAlign = omega arith
-kind_small Break = omega arith
 
 kind_same : (j k : FaultKind) → kind_number j ≡ kind_number k → j ≡ k
 kind_same j k is = sym (kind_back j) ∙ ap kind_at is ∙ kind_back k

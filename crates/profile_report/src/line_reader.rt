@@ -17,7 +17,7 @@ use crate::addresses::address;
 use crate::line::{Line, LineError};
 use cost_points::Point;
 use guest_words::{
-    FaultKind, Finish, Name, NameError, Tid, cut, decimal_number, wide_decimal_number,
+    FaultKind, Finish, Name, NameError, Tid, cut, decimal_number, first_number, wide_decimal_number,
 };
 use std::alloc::Global;
 
@@ -28,16 +28,6 @@ fn behind<'a>(label: &[u8], line: &'a [u8]) -> Option<&'a [u8]>
         → IsSomeAnd result (λ r. r.now ≡ rest) }
 {
     line.strip_prefix(label)
-}
-
-/// The number before the first space, and what stands behind that.
-fn first_number(words: &[u8]) -> Option<(u64, &[u8])>
-    ensures found { IfSome result (λ x. words.now ≡ decimal x.0 ++ 32 ∷ x.1.now) }
-    ensures only { (n : ℕ) (rest : List ℕ) → n < 2 ^ 64 → words.now ≡ decimal n ++ 32 ∷ rest
-        → IsSomeAnd result (λ x. (x.0 ≡ n) × (x.1.now ≡ rest)) }
-{
-    let (word, rest) = cut(words, b' ')?;
-    Some((decimal_number(word)?, rest))
 }
 
 /// Whether a point can be one of activations: the sum is one of as many costs from the least up to the greatest.

@@ -4,24 +4,15 @@ ghost use Rattle.std.specs.Fmt.{decimal};
 ghost use Rattle.profile_report.specs.LineForms.{end_line, ended, fault_words, hex_address, hex_glyph, kind_number, labelled, name_word, point_line, routine_line};
 
 use cost_points::Point;
-use guest_words::{Addr, FaultKind, Finish, Name, Tid};
-use itoa::Buffer;
+use guest_words::{Addr, FaultKind, Finish, Name, Tid, push_decimal};
 use std::alloc::AllocError;
-
-/// Appends a number in decimal.
-fn push_number(text: &mut Vec<u8>, number: u128) -> Result<(), AllocError>
-    ensures { OnOk result (text.new.items ≡ text.old.items ++ decimal number) }
-{
-    let mut buffer = Buffer::new();
-    text.extend_from_slice(buffer.format(number).as_bytes())
-}
 
 /// Appends a number after its label.
 fn push_labelled(text: &mut Vec<u8>, label: &[u8], number: u64) -> Result<(), AllocError>
     ensures { OnOk result (text.new.items ≡ text.old.items ++ labelled label.now number) }
 {
     text.extend_from_slice(label)?;
-    push_number(text, u128::from(number))
+    push_decimal(text, u128::from(number))
 }
 
 /// The glyph of a digit in base 16.
@@ -133,11 +124,11 @@ pub fn push_routine_line(
 pub fn push_point_line(text: &mut Vec<u8>, point: Point) -> Result<(), AllocError>
     ensures { OnOk result (text.new.items ≡ text.old.items ++ ended (point_line point)) }
 {
-    push_number(text, u128::from(point.size))?;
+    push_decimal(text, u128::from(point.size))?;
     push_labelled(text, b" ", point.calls)?;
     push_labelled(text, b" ", point.least)?;
     push_labelled(text, b" ", point.most)?;
     text.extend_from_slice(b" ")?;
-    push_number(text, point.sum)?;
+    push_decimal(text, point.sum)?;
     text.extend_from_slice(b"\n")
 }

@@ -32,7 +32,7 @@ pub record IsLawful (tid : ℕ) (c : Core) (e : Outcome × Core) : Type 0 where
   pub aligned : c.registers.pc % 4 ≡ 0 → e.1.registers.pc % 4 ≡ 0
 
 -- the place behind an instruction, and the target of a jump
-next_aligned : (pc : ℕ) → pc % 4 ≡ 0 → ((pc + 4) % 2 ^ 32) % 4 ≡ 0
+pub next_aligned : (pc : ℕ) → pc % 4 ≡ 0 → ((pc + 4) % 2 ^ 32) % 4 ≡ 0
 next_aligned pc even = omega arith
 
 target_aligned : (target : ℕ) → nat_eq (target % 4) 0 ≡ true → target % 4 ≡ 0

@@ -2,6 +2,7 @@
 use Rattle.std.proofs.Common.{◌≡◌, ℕ, ◌<◌, ◌≤◌, ◌+◌, ◌-◌, ◌/◌, ◌^◌, ◌*◌, ◌&&◌, Bool, true, false, cond, List, Option, Some, None, arith, refl}
 use Rattle.std.specs.Prelude.{◌%◌, nat_eq, nat_lt, is_none}
 use Rattle.std.proofs.lemmas.Bool.Decides.{nat_tests}
+use Rattle.std.proofs.lemmas.Bool.{and_parts}
 use Rattle.guest_words.specs.declared.endings.FaultKind.{FaultKind}
 use Rattle.guest_words.specs.declared.endings.FaultKind.TheVariants as fault
 use Rattle.guest_words.specs.declared.rights.Rights.{Rights}
@@ -24,10 +25,7 @@ use Rattle.rv_exec.specs.Effects.{Core, atomic_at, branched, checked, jumped, mo
 use Rattle.rv_exec.specs.Operations.{is_taken, moved}
 use Rattle.rv_exec.specs.Registers.{Registers}
 use Rattle.rv_exec.specs.Laws.{AccessesFewWords, AccessesMemory, AreFewWords}
-
-pub none_of : {T : Type 0} (o : Option T) → is_none o ≡ true → o ≡ None
-none_of None h = refl
-none_of (Some x) h = absurd (cc)
+use Rattle.guest_memory.proofs.HeldWords.{none_from}
 
 refused_outside : (need : Need) (inside : Bool) (r : Option Rights) → page_refusal need (cond inside r None) ≡ None →
     inside ≡ true
@@ -48,10 +46,10 @@ reach_end m need at n none some =
     omega (arith, low, some)
 
 pub writable_end : (m : Memory) (at n : ℕ) → can_write m at n ≡ true → 1 ≤ n → at + n ≤ 2 ^ 32
-writable_end m at n reach some = reach_end m need.Write at n (none_of (first_refusal m need.Write at n) reach) some
+writable_end m at n reach some = reach_end m need.Write at n (none_from (first_refusal m need.Write at n) reach) some
 
 pub readable_end : (m : Memory) (at n : ℕ) → can_read m at n ≡ true → 1 ≤ n → at + n ≤ 2 ^ 32
-readable_end m at n reach some = reach_end m need.Read at n (none_of (first_refusal m need.Read at n) reach) some
+readable_end m at n reach some = reach_end m need.Read at n (none_from (first_refusal m need.Read at n) reach) some
 
 -- ---- the words of an instruction
 few_words : (at n : ℕ) → 1 ≤ n → n ≤ 4 → at + n ≤ 2 ^ 32 → AreFewWords (at / 4) (word_count at n)
@@ -101,14 +99,10 @@ stored_accesses : (b : Bool) (tid rd at n : ℕ) (c : Core) → at + 4 ≤ 2 ^ 3
 stored_accesses true tid rd at n c fits = one_word at fits
 stored_accesses false tid rd at n c fits = tt
 
-both_true : (a b : Bool) → (a && b) ≡ true → a ≡ true
-both_true true b h = refl
-both_true false b h = absurd (cc)
-
 modified_accesses : (tid : ℕ) (op : AtomicOp) (rd at n : ℕ) (c : Core) → AccessesMemory (modified tid op rd at n c).0
 modified_accesses tid op rd at n c =
     checked_accesses (can_read c.memory at 4 && can_write c.memory at 4) fault.Store c _
-    (λ reach. let end = readable_end c.memory at 4 (both_true (can_read c.memory at 4) (can_write c.memory at 4) reach) (omega arith) in omega (arith, end))
+    (λ reach. let end = readable_end c.memory at 4 ((and_parts (can_read c.memory at 4) (can_write c.memory at 4) reach).0) (omega arith) in omega (arith, end))
 
 atomic_accesses : (tid : ℕ) (op : AtomicOp) (rd at n : ℕ) (c : Core) → AccessesMemory (atomic_at tid op rd at n c).0
 atomic_accesses tid Lr rd at n c = checked_accesses (can_read c.memory at 4) fault.Load c _ (λ reach. one_word at (readable_end c.memory at 4 reach (omega arith)))

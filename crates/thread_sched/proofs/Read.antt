@@ -1,5 +1,5 @@
 -- What holds behind the lines that a reading has taken.
-use Rattle.std.proofs.Common.{◌≡◌, ℕ, true, List, [], ◌∷◌, ◌++◌, length, codes, not, eqb, inl, inr, refl, sym, ap, ap₂, ◌∙◌, subst, arith}
+use Rattle.std.proofs.Common.{◌≡◌, ℕ, suc, ◌+◌, true, List, [], ◌∷◌, ◌++◌, length, codes, not, eqb, inl, inr, refl, sym, ap, ap₂, ◌∙◌, subst, arith}
 use Rattle.std.specs.Fmt.{decimal}
 use Rattle.std.specs.List.{AllByRecursion}
 use Rattle.std.proofs.lemmas.Bool.{and_from}
@@ -10,7 +10,7 @@ use Rattle.std.proofs.lemmas.List.Folds.{list_all-append}
 use Rattle.thread_sched.specs.declared.entry.Entry.{Entry}
 use Rattle.thread_sched.specs.declared.schedule.ScheduleError.{ScheduleError}
 use Rattle.thread_sched.specs.declared.schedule.ScheduleError.TheVariants.{BadLine, Memory}
-use Rattle.thread_sched.specs.ScheduleText.{IsEntry, IsText, RefusesLine, Says, entry_text, schedule_text}
+use Rattle.thread_sched.specs.ScheduleText.{IsBadLine, IsEntry, IsLineBefore, IsNoEntry, IsText, RefusesLine, Says, entry_text, schedule_text}
 use Rattle.guest_words.specs.Separators.{lacks}
 use Rattle.guest_words.proofs.Cuts.{cut_once, lacks_decimal, lacks_not}
 
@@ -127,3 +127,54 @@ read_back (e ∷ es) other fit fits is =
     let found = line_entry (schedule_text (e ∷ es)) (entry_text e) (schedule_text es) other fits (entry_lacks e fit.0) (text_first e es) is in
     let rest : found.1 ≡ es = read_back es found.1 fit.1 (subst (AllByRecursion IsEntry) found.2 fits).1 found.5 in
     found.2 ∙ ap₂ (λ k ks. k ∷ ks) (entry_same e found.0 fit.0 found.3 found.4) rest
+
+-- a text is that of one list of entries
+pub read_once : (text : List ℕ) (es other : List Entry) → AllByRecursion IsEntry es → AllByRecursion IsEntry other → IsText text es → IsText text other → other ≡ es
+read_once text es other fit fits (inl is) also = read_back es other fit fits (subst (λ t. IsText t other) is also)
+read_once text es other fit fits (inr is) (inl also) = sym (read_back other es fits fit (inr (ap (λ t. t ++ 10 ∷ []) (sym also) ∙ is)))
+read_once text es other fit fits (inr is) (inr also) = read_back es other fit fits (inl (sym is ∙ also))
+
+-- a line that is no entry's does not begin a text that begins with an entry
+no_such_line : (bytes rest after : List ℕ) (e : Entry) → IsEntry e → IsLineBefore bytes rest → IsNoEntry bytes → bytes ++ rest ≡ entry_text e ++ 10 ∷ after → ⊥
+no_such_line bytes rest after e fits (lack, inl last) none is =
+    lacks_not 10 (entry_text e) after (subst (λ t. lacks 10 t ≡ true) (sym (append-nil bytes) ∙ ap (λ r. bytes ++ r) (sym last.1) ∙ is) lack)
+no_such_line bytes rest after e fits (lack, inr (more, ended)) none is =
+    none e fits (cut_once 10 bytes (entry_text e) more after lack (entry_lacks e fits) (ap (λ r. bytes ++ r) (sym ended) ∙ is)).0
+
+-- a whole line in front
+first_line : (e : Entry) (es : List Entry) (tail : List ℕ) → schedule_text (e ∷ es) ++ tail ≡ entry_text e ++ 10 ∷ (schedule_text es ++ tail)
+first_line e es tail = ap (λ t. t ++ tail) (text_first e es) ∙ append_assoc (entry_text e) (10 ∷ schedule_text es) tail
+
+-- no two lines are the first that is no entry's
+same_bad_line : (es other : List Entry) (bytes rest bytes' rest' : List ℕ) → AllByRecursion IsEntry es → AllByRecursion IsEntry other
+    → IsLineBefore bytes rest → IsNoEntry bytes → IsLineBefore bytes' rest' → IsNoEntry bytes'
+    → schedule_text es ++ (bytes ++ rest) ≡ schedule_text other ++ (bytes' ++ rest') → length es ≡ length other
+same_bad_line [] [] bytes rest bytes' rest' fit fits line none line' none' is = refl
+same_bad_line [] (o ∷ other) bytes rest bytes' rest' fit fits line none line' none' is =
+    absurd (no_such_line bytes rest (schedule_text other ++ (bytes' ++ rest')) o fits.0 line none (is ∙ first_line o other (bytes' ++ rest')))
+same_bad_line (e ∷ es) [] bytes rest bytes' rest' fit fits line none line' none' is =
+    absurd (no_such_line bytes' rest' (schedule_text es ++ (bytes ++ rest)) e fit.0 line' none' (sym is ∙ first_line e es (bytes ++ rest)))
+same_bad_line (e ∷ es) (o ∷ other) bytes rest bytes' rest' fit fits line none line' none' is =
+    let cut = cut_once 10 (entry_text e) (entry_text o) (schedule_text es ++ (bytes ++ rest)) (schedule_text other ++ (bytes' ++ rest'))
+    (entry_lacks e fit.0) (entry_lacks o fits.0) (sym (first_line e es (bytes ++ rest)) ∙ is ∙ first_line o other (bytes' ++ rest')) in
+    ap suc (same_bad_line es other bytes rest bytes' rest' fit.1 fits.1 line none line' none' cut.1)
+
+pub one_bad_line : (text : List ℕ) (m n : ℕ) → IsBadLine text m → IsBadLine text n → n ≡ m
+one_bad_line text m n a b =
+    b.counted ∙ ap (λ k. k + 1) (same_bad_line b.entries a.entries b.bytes b.rest a.bytes a.rest b.before a.before b.line b.bad a.line a.bad (sym b.whole ∙ a.whole)) ∙ sym a.counted
+
+-- a text with such a line is that of no entries
+never_read : (es more : List Entry) (bytes rest : List ℕ) → AllByRecursion IsEntry es → AllByRecursion IsEntry more → IsLineBefore bytes rest → IsNoEntry bytes
+    → IsText (schedule_text es ++ (bytes ++ rest)) more → ⊥
+never_read [] more bytes rest fit fits (lack, inl last) none is =
+    let found = last_entry bytes more fits lack last.0 (subst (λ t. IsText t more) (ap (λ r. bytes ++ r) last.1 ∙ append-nil bytes) is) in
+    none found.0 found.2 found.3
+never_read [] more bytes rest fit fits (lack, inr (after, ended)) none is =
+    let found = line_entry (bytes ++ rest) bytes after more fits lack (ap (λ r. bytes ++ r) ended) is in
+    none found.0 found.3 found.4
+never_read (e ∷ es) more bytes rest fit fits line none is =
+    let found = line_entry (schedule_text (e ∷ es) ++ (bytes ++ rest)) (entry_text e) (schedule_text es ++ (bytes ++ rest)) more fits (entry_lacks e fit.0) (first_line e es (bytes ++ rest)) is in
+    never_read es found.1 bytes rest fit.1 (subst (AllByRecursion IsEntry) found.2 fits).1 line none found.5
+
+pub never_both : (text : List ℕ) (es : List Entry) (n : ℕ) → AllByRecursion IsEntry es → IsText text es → IsBadLine text n → ⊥
+never_both text es n fit is b = never_read b.entries es b.bytes b.rest b.before fit b.line b.bad (subst (λ t. IsText t es) b.whole is)

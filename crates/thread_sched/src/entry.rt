@@ -5,8 +5,7 @@ ghost use Rattle.std.specs.Option.{SomeIff};
 ghost use Rattle.thread_sched.specs.ScheduleText.{IsEntry, entry_text};
 ghost use Rattle.thread_sched.specs.declared.entry.Entry.{Entry};
 
-use guest_words::{Tid, cut, decimal_number};
-use itoa::Buffer;
+use guest_words::{Tid, decimal_number, first_number, push_decimal};
 use std::alloc::AllocError;
 
 /// One turn: its thread, and how many instructions it has at most, 1 to 10^12.
@@ -35,16 +34,6 @@ fn steps_of(word: &[u8]) -> Option<u64>
     }
 }
 
-/// The number before the first space, and what stands behind that.
-fn first_number(line: &[u8]) -> Option<(u64, &[u8])>
-    ensures found { IfSome result (λ x. line.now ≡ decimal x.0 ++ 32 ∷ x.1.now) }
-    ensures only { (n : ℕ) (rest : List ℕ) → n < 2 ^ 64 → line.now ≡ decimal n ++ 32 ∷ rest
-        → IsSomeAnd result (λ x. (x.0 ≡ n) × (x.1.now ≡ rest)) }
-{
-    let (word, rest) = cut(line, b' ')?;
-    Some((decimal_number(word)?, rest))
-}
-
 /// The entry of a line, without the byte that ends it.
 pub fn entry_of(line: &[u8]) -> Option<Entry>
     ensures found { IfSome result (λ e. IsEntry e × (line.now ≡ entry_text e)) }
@@ -57,19 +46,11 @@ pub fn entry_of(line: &[u8]) -> Option<Entry>
     })
 }
 
-/// Appends a number in decimal.
-fn push_number(text: &mut Vec<u8>, number: u64) -> Result<(), AllocError>
-    ensures { OnOk result (text.new.items ≡ text.old.items ++ decimal number) }
-{
-    let mut buffer = Buffer::new();
-    text.extend_from_slice(buffer.format(number).as_bytes())
-}
-
 /// Appends the line of an entry, without the byte that ends it.
 pub fn push_entry(text: &mut Vec<u8>, entry: Entry) -> Result<(), AllocError>
     ensures { OnOk result (text.new.items ≡ text.old.items ++ entry_text entry) }
 {
-    push_number(text, u64::from(entry.tid.number()))?;
+    push_decimal(text, u128::from(entry.tid.number()))?;
     text.extend_from_slice(b" ")?;
-    push_number(text, entry.most)
+    push_decimal(text, u128::from(entry.most))
 }

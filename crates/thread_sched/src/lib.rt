@@ -3,12 +3,14 @@
 #![tactic(auto)]
 
 mod entry;
+mod laws;
 mod recording;
 mod schedule;
 mod turns;
 
 pub use entry::Entry;
-pub use recording::{Recording, a_recording_is_read_as_its_turns};
+pub use laws::{a_recording_is_read_as_its_turns, a_text_reads_in_one_way};
+pub use recording::Recording;
 pub use schedule::{Schedule, ScheduleError};
 pub use turns::{Sched, Turn};
 

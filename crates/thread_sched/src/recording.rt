@@ -1,7 +1,7 @@
 //! Recordings of turns.
 ghost use Rattle.std.specs.Prelude.{◌≡◌, ◌≤◌, List, [], ◌∷◌, ◌++◌, IfOk, OnErr, OnOk};
 ghost use Rattle.std.specs.List.{AllByRecursion};
-ghost use Rattle.thread_sched.specs.ScheduleText.{IsEntry, IsText, schedule_text};
+ghost use Rattle.thread_sched.specs.ScheduleText.{IsEntry, schedule_text};
 ghost use Rattle.thread_sched.specs.declared.entry.Entry.{Entry};
 
 use crate::Entry;
@@ -64,10 +64,3 @@ impl Recording {
         Ok(text)
     }
 }
-
-/// The text of turns is that of no other turns.
-pub fn a_recording_is_read_as_its_turns()
-    ensures same { (turns other : List Entry) → AllByRecursion IsEntry turns
-        → AllByRecursion IsEntry other → IsText (schedule_text turns) other → other ≡ turns }
-    ensures read { (turns : List Entry) → IsText (schedule_text turns) turns }
-{}

@@ -10,7 +10,7 @@ use Rattle.trace_model.specs.declared.activations.Activation.{Activation}
 use Rattle.trace_model.specs.declared.slow_profile.Done.{Done}
 use Rattle.trace_model.specs.Activations.{begun, count_ending, count_returned, backs, calls_after, open_calls}
 use Rattle.trace_model.specs.Sizes.{since}
-use Rattle.trace_model.specs.WellFormed.{weight, IsLight, IsWellFormed}
+use Rattle.trace_model.specs.WellFormed.{weight}
 use Rattle.trace_model.proofs.Bounds.{weight-drop}
 
 split : {A : Type 0} (n : ℕ) (xs : List A) → reverse xs ≡ reverse (drop n xs) ++ reverse (take n xs)
@@ -95,8 +95,3 @@ ended_more f before items calls k d within e =
     (ap (λ a. map f (take k (reverse calls)) ++ f a ∷ []) (sym (get_or-reverse calls k d within))
     ∙ sym (map-append f (take k (reverse calls)) (get_or (reverse calls) k d ∷ []))
     ∙ ap (map f) (sym (take_more (reverse calls) k d (omega (arith, length-reverse calls)))))
-
--- a well-formed trace is light
-pub well_formed-light : (past : List Event) → IsWellFormed past → IsLight past
-well_formed-light [] h = omega arith
-well_formed-light (e ∷ past) h = h.1

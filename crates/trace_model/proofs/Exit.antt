@@ -1,7 +1,7 @@
 -- The profile of a thread that runs and ends without a call or an access.
-use Rattle.std.proofs.Common.{◌≡◌, ℕ, zero, suc, ◌+◌, ◌-◌, cond, eqb, List, [], ◌∷◌, ◌++◌, length, take, map, replicate, reverse, None, add-one, refl, ap, ◌∙◌, arith}
+use Rattle.std.proofs.Common.{◌≡◌, ℕ, zero, suc, ◌+◌, ◌-◌, cond, eqb, List, [], ◌∷◌, ◌++◌, length, take, map, replicate, None, refl, ap, ◌∙◌, arith}
 use Rattle.std.proofs.lemmas.Bool.{eq-eqb}
-use Rattle.std.proofs.lemmas.List.{append-nil, length-append, length-replicate, replicate_more, reverse-append, take_at}
+use Rattle.std.proofs.lemmas.List.{append-nil, length-append, length-replicate, take_at}
 use Rattle.trace_model.specs.declared.event_kinds.Event.TheVariants.{Step, Start, End}
 use Rattle.trace_model.specs.declared.activations.Activation.{Activation}
 use Rattle.trace_model.specs.Activations.{backs, open_calls}
@@ -68,22 +68,6 @@ exit_done t entry n =
     let one = ending_one (open_calls past t) (root_of entry) t (plain_calls t entry n) in
     ap (λ ds. done past ++ ds) (ap (map (done_of past t)) one ∙ ap (λ d. d ∷ []) (plain_done_of t entry n))
     ∙ ap (λ ds. ds ++ record { tid = t; entry = entry; size = 0; cost = n } ∷ []) (plain_done t entry n)
-
--- the same trace in order of time
-pub reverse-plain : (t entry n : ℕ) → reverse (Start t entry ∷ replicate n (Step t)) ≡ plain_trace t entry n
-reverse-plain t entry n =
-    reverse-append (Start t entry ∷ []) (replicate n (Step t))
-    ∙ ap (λ run. run ++ Start t entry ∷ []) (reverse-same n)
-  where
-    reverse-same : (n : ℕ) → reverse (replicate n (Step t)) ≡ replicate n (Step t)
-    reverse-same zero = refl
-    reverse-same (suc n) =
-        reverse-append (Step t ∷ []) (replicate n (Step t)) ∙ ap (λ run. run ++ Step t ∷ []) (reverse-same n)
-        ∙ replicate_more n (Step t) ∙ ap (λ m. replicate m (Step t)) (add-one n)
-
-pub reverse-exit : (t entry n : ℕ) → reverse (Start t entry ∷ replicate n (Step t) ++ End t ∷ []) ≡ End t ∷ plain_trace t entry n
-reverse-exit t entry n =
-    reverse-append (Start t entry ∷ replicate n (Step t)) (End t ∷ []) ∙ ap (λ past. End t ∷ past) (reverse-plain t entry n)
 
 pub one_activation : (t entry n : ℕ) → IsOneActivation t entry n
 one_activation t entry n = record {

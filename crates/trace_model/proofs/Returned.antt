@@ -1,20 +1,11 @@
 -- How many activations a return ends, by a search from the innermost outwards.
-use Rattle.std.proofs.Common.{inl, inr, ◌≡◌, ℕ, zero, suc, ◌+◌, ◌-◌, ◌<◌, ◌≤◌, true, false, not, cond, eqb, ltb, List, [], ◌∷◌, ◌++◌, length, get_or, reverse, Option, Some, None, refl, sym, ap, ◌∙◌, arith}
+use Rattle.std.proofs.Common.{inl, inr, ◌≡◌, ℕ, ◌+◌, ◌-◌, ◌<◌, ◌≤◌, true, false, not, cond, eqb, ltb, List, [], ◌∷◌, ◌++◌, length, get_or, map, reverse, Option, Some, None, refl, sym, ap, ◌∙◌, arith}
 use Rattle.std.specs.List.{position_or_len}
 use Rattle.std.specs.Option.{option_eq}
 use Rattle.std.proofs.lemmas.Bool.{lt-ltb, le-ltb, cases_eq}
-use Rattle.std.proofs.lemmas.List.{get_or-reverse, length-reverse, length-map, map-append, reverse-append}
+use Rattle.std.proofs.lemmas.List.{get_or-map, get_or-reverse, length-reverse, length-map, map-append, reverse-append}
 use Rattle.std.proofs.lemmas.List.Sums.{prefix_len_is}
-use Rattle.trace_model.specs.declared.activations.Activation.{Activation}
-use Rattle.trace_model.specs.Activations.{backs, is_back, count_returned}
-
-map-reverse : (calls : List Activation) → backs (reverse calls) ≡ reverse (backs calls)
-map-reverse [] = refl
-map-reverse (a ∷ calls) =
-    ap backs (reverse-append (a ∷ []) calls)
-    ∙ map-append (λ a. a.back) (reverse calls) (a ∷ [])
-    ∙ ap (λ b. b ++ a.back ∷ []) (map-reverse calls)
-    ∙ sym (reverse-append (a.back ∷ []) (backs calls))
+use Rattle.trace_model.specs.Activations.{is_back, count_returned}
 
 back_at : (bs : List (Option ℕ)) (target k : ℕ) → k < length bs → is_back target (get_or (reverse bs) k None) ≡ is_back target (get_or bs (length bs - 1 - k) None)
 back_at bs target k h = ap (is_back target) (get_or-reverse bs k None h)
@@ -43,38 +34,43 @@ returned_none bs target none =
     ap (λ m. cond (ltb m (length (reverse bs))) (m + 1) 0) first
     ∙ ap (λ b. cond b (length bs + 1) 0) (le-ltb (length bs) (length (reverse bs)) (omega (arith, length-reverse bs)))
 
-pub count_returned_at : (calls : List Activation) (target i : ℕ) → i < length calls → is_back target (get_or (backs calls) i None) ≡ true →
-    ((j : ℕ) → i + 1 ≤ j → j < length calls → is_back target (get_or (backs calls) j None) ≡ false) →
-    count_returned target (backs (reverse calls)) ≡ length calls - i
-count_returned_at calls target i h found none =
-    let n = length-map calls (λ a. a.back) in
-    ap (count_returned target) (map-reverse calls)
-    ∙ returned_at (backs calls) target i (omega (arith, n)) found (λ j p q. none j p (omega (arith, n)))
-    ∙ ap (λ m. m - i) n
+-- over a list of calls, of which each has its return address
+module _ {A : Type 0} (back : A → Option ℕ) where
+  map-reverse : (calls : List A) → map back (reverse calls) ≡ reverse (map back calls)
+  map-reverse [] = refl
+  map-reverse (a ∷ calls) =
+      ap (map back) (reverse-append (a ∷ []) calls)
+      ∙ map-append back (reverse calls) (a ∷ [])
+      ∙ ap (λ b. b ++ back a ∷ []) (map-reverse calls)
+      ∙ sym (reverse-append (back a ∷ []) (map back calls))
 
-pub count_returned_none : (calls : List Activation) (target : ℕ) →
-    ((j : ℕ) → j < length calls → is_back target (get_or (backs calls) j None) ≡ false) → count_returned target (backs (reverse calls)) ≡ 0
-count_returned_none calls target none =
-    let n = length-map calls (λ a. a.back) in
-    ap (count_returned target) (map-reverse calls)
-    ∙ returned_none (backs calls) target (λ j q. none j (omega (arith, n)))
+  pub count_returned_at : (calls : List A) (target i : ℕ) → i < length calls → is_back target (get_or (map back calls) i None) ≡ true →
+      ((j : ℕ) → i + 1 ≤ j → j < length calls → is_back target (get_or (map back calls) j None) ≡ false) →
+      count_returned target (map back (reverse calls)) ≡ length calls - i
+  count_returned_at calls target i h found none =
+      let n = length-map calls back in
+      ap (count_returned target) (map-reverse calls)
+      ∙ returned_at (map back calls) target i (omega (arith, n)) found (λ j p q. none j p (omega (arith, n)))
+      ∙ ap (λ m. m - i) n
 
-pub get_or-backs : (calls : List Activation) (j : ℕ) (d : Activation) → j < length calls → get_or (backs calls) j None ≡ (get_or calls j d).back
-get_or-backs [] j d h = absurd (omega arith)
-get_or-backs (a ∷ calls) zero d h = refl
-get_or-backs (a ∷ calls) (suc j) d h = get_or-backs calls j d (omega arith)
+  pub count_returned_none : (calls : List A) (target : ℕ) →
+      ((j : ℕ) → j < length calls → is_back target (get_or (map back calls) j None) ≡ false) → count_returned target (map back (reverse calls)) ≡ 0
+  count_returned_none calls target none =
+      let n = length-map calls back in
+      ap (count_returned target) (map-reverse calls)
+      ∙ returned_none (map back calls) target (λ j q. none j (omega (arith, n)))
 
--- one more was passed in the search
-pub passed_more : (calls : List Activation) (target i : ℕ) (d : Activation) → 0 < i → i ≤ length calls →
-    is_back target (get_or calls (i - 1) d).back ≡ false →
-    ((j : ℕ) → i ≤ j → j < length calls → is_back target (get_or (backs calls) j None) ≡ false) →
-    (j : ℕ) → i - 1 ≤ j → j < length calls → is_back target (get_or (backs calls) j None) ≡ false
-passed_more calls target i d positive most here passed j low high =
-    elim (cases_eq j (i - 1)) [
-      | inl e ↦ ap (λ k. is_back target (get_or (backs calls) k None)) e
-          ∙ ap (is_back target) (get_or-backs calls (i - 1) d (omega arith)) ∙ here
-      | inr n ↦ passed j (omega arith) high
-    ]
+  -- one more was passed in the search
+  pub passed_more : (calls : List A) (target i : ℕ) (d : A) → 0 < i → i ≤ length calls →
+      is_back target (back (get_or calls (i - 1) d)) ≡ false →
+      ((j : ℕ) → i ≤ j → j < length calls → is_back target (get_or (map back calls) j None) ≡ false) →
+      (j : ℕ) → i - 1 ≤ j → j < length calls → is_back target (get_or (map back calls) j None) ≡ false
+  passed_more calls target i d positive most here passed j low high =
+      elim (cases_eq j (i - 1)) [
+        | inl e ↦ ap (λ k. is_back target (get_or (map back calls) k None)) e
+            ∙ ap (is_back target) (get_or-map back calls (i - 1) d None (omega arith)) ∙ here
+        | inr n ↦ passed j (omega arith) high
+      ]
 
 -- the test for a return address, as the code makes it
 pub is_back-option_eq : (target : ℕ) (back : Option ℕ) → option_eq eqb back (Some target) ≡ is_back target back

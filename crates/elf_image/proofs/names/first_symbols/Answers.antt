@@ -2,14 +2,11 @@ use Rattle.std.proofs.Common.{◌≡◌, ◌≤◌, ◌++◌, ◌∷◌, [], Lis
 use Rattle.std.specs.List.{All}
 use Rattle.std.specs.Vec.Iter.{into_iter_items}
 use Rattle.std.proofs.lemmas.List.Sorted.{All-permutation}
+use Rattle.std.proofs.lemmas.List.{nil_from_length}
 use Rattle.elf_image.specs.declared.symbols.Symbol.{Symbol}
 use Rattle.elf_image.specs.Symbols.{symbol_of}
 use Rattle.elf_image.proofs.FirstSymbols.{below_next, first_none, symbol_of-same}
 use Rattle.elf_image.proofs.names.first_symbols.Goals as goal
-
-nothing_left : {X : Type 0} (xs : List X) → length xs ≡ 0 → xs ≡ []
-nothing_left [] h = refl
-nothing_left (x ∷ xs) h = absurd (omega arith)
 
 pub loop-symbol-init : goal.loop-symbol-init
 loop-symbol-init c = record {
@@ -36,7 +33,7 @@ pub returns : goal.returns
 returns c =
     let at = c.loop-symbol in
     let none = c.in-None.ensures.steps in
-    let empty : into_iter_items at.symbol-iterator ≡ [] = nothing_left _ (sym at.invariant.left ∙ none.0) in
+    let empty : into_iter_items at.symbol-iterator ≡ [] = nil_from_length _ (sym at.invariant.left ∙ none.0) in
     let whole : at.yielded ≡ c.order_by_value.new.symbols.items =
     sym (append-nil at.yielded) ∙ (ap (λ (ts : List Symbol). at.yielded ++ ts) (sym empty) ∙ (at.invariant.parts ∙ c.into_iter-symbol-iterator.ensures.into_iter_gives.0)) in
     record {

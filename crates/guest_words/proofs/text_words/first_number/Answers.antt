@@ -1,7 +1,7 @@
 use Rattle.std.proofs.Common.{◌∙◌, sym, arith}
 use Rattle.guest_words.proofs.Cuts.{cut_once, lacks_decimal}
 use Rattle.guest_words.proofs.Found.{nothing, same}
-use Rattle.profile_report.proofs.line_reader.first_number.Goals as goal
+use Rattle.guest_words.proofs.text_words.first_number.Goals as goal
 
 pub returns-in_err-decimal_number-clause-only : goal.returns-in_err-decimal_number-clause-only
 returns-in_err-decimal_number-clause-only c n rest fits is =

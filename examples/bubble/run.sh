@@ -1,0 +1,7 @@
+#!/usr/bin/env bash
+# Profiles the guest, and compares the report with report.txt.
+set -eu
+cd "$(dirname "$0")"
+mkdir -p out
+../../aprof run -o out/report.txt bubble
+diff report.txt out/report.txt
