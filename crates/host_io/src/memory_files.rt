@@ -1,4 +1,4 @@
-// Files in memory, which can be made to fail at chosen calls.
+//! Files in memory, which can be made to fail at chosen calls.
 ghost use Rattle.std.specs.Prelude.{◌≡◌, ◌-◌, ◌++◌, ◌∷◌, [], ◌⊎◌, Some, None, IfOk, OnOk, OnErr, IsErrOf};
 ghost use Rattle.host_io.specs.Files.{LoadEnds, StoreEnds, NoCountFalls, with_file};
 ghost use Rattle.host_io.specs.Faults.{counted};
@@ -77,7 +77,7 @@ impl MemoryFiles {
         }
     }
 
-    // Notes that the call failed at this path.
+    /// Notes that the call failed at this path.
     fn note_failure(&mut self, path: &str) -> Result<(), AllocError>
         ensures ok { OnOk result (files_state self.new ≡ with_failure path.now (files_state self.old)) }
         ensures err { OnErr result (files_state self.new ≡ files_state self.old) }

@@ -1,4 +1,4 @@
-// A sink in memory, which can be made to fail at chosen puts.
+//! A sink in memory, which can be made to fail at chosen puts.
 ghost use Rattle.std.specs.Prelude.{◌≡◌, ◌-◌, ◌/◌, ◌<◌, ◌≤◌, ◌++◌, ◌∷◌, ◌⊎◌, [], length, Some, IfOk, OnOk, OnErr, IsErrOf};
 ghost use Rattle.host_io.specs.Sink.{PutEnds};
 ghost use Rattle.host_io.specs.Faults.{counted};

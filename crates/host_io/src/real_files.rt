@@ -1,11 +1,13 @@
-// The files of the system.
-ghost use Rattle.std.specs.Prelude.{◌≡◌, ◌≢◌, ◌<◌, ◌≤◌, length, vec_len, IfOk, IfSome};
+//! The files of the system.
+ghost use Rattle.std.specs.Prelude.{◌≡◌, ◌≢◌, ◌+◌, ◌-◌, ◌^◌, ◌<◌, ◌≤◌, length, min, vec_len, IfOk, IfSome};
+ghost use Rattle.std.specs.IoError.{error_kind};
+ghost use Rattle.std.specs.Io.Take.{take_inner, take_limit};
 ghost use Rattle.host_io.specs.Files.{LoadEnds, StoreEnds, NoCountFalls};
 ghost use Rattle.host_io.specs.After.{after_load, after_store};
 
 use crate::{Files, LoadError, StoreError};
 use std::alloc::Global;
-use std::io::{ErrorKind, Read, Write};
+use std::io::{ErrorKind, Read, Take, Write};
 use std::{fs, io, rt};
 
 /// The files of the system. They tell neither contents nor failed paths.
@@ -19,6 +21,7 @@ pub struct RealFiles<'a, R> {
 impl<'a, R> RealFiles<'a, R> {
     ghost use Rattle.host_io.specs.Real.{real_state};
 
+    /// No call has failed.
     pub fn new(rt: &'a R) -> RealFiles<'a, R>
         ensures { real_state result ≡ record { contents = None; failed_paths = None; faults = 0; oversized = 0 } }
     {
@@ -30,39 +33,61 @@ impl<'a, R> RealFiles<'a, R> {
     }
 }
 
-// Want of memory, in the program or in the system, is no failure.
+/// Why a load fails: want of memory, in the program or in the system, is no failure.
 fn load_error(error: io::Error) -> LoadError
-    ensures { result ≢ LoadError.TooLarge }
+    ensures memory { error_kind error ≡ ErrorKind.OutOfMemory → result ≡ LoadError.Memory }
+    ensures failed { error_kind error ≢ ErrorKind.OutOfMemory → result ≡ LoadError.Failed }
 {
-    match error.kind() {
-        ErrorKind::OutOfMemory => LoadError::Memory,
-        _ => LoadError::Failed,
+    if error.kind() == ErrorKind::OutOfMemory {
+        LoadError::Memory
+    } else {
+        LoadError::Failed
     }
 }
 
-// All bytes that the reader gives to its end, of which no more than `most + 1` are read. An interrupted read is tried
-// again, as std does.
+/// Why a store fails whose file was not opened: want of memory left the file as it was, and is no failure.
+fn opening_error(error: io::Error) -> StoreError
+    ensures memory { error_kind error ≡ ErrorKind.OutOfMemory → result ≡ StoreError.Memory }
+    ensures failed { error_kind error ≢ ErrorKind.OutOfMemory → result ≡ StoreError.Failed }
+{
+    if error.kind() == ErrorKind::OutOfMemory {
+        StoreError::Memory
+    } else {
+        StoreError::Failed
+    }
+}
+
+/// The reader up to one byte behind the limit, by which a longer file shows.
+pub(crate) fn limited<R: Read>(reader: R, most: usize) -> Take<R>
+    ensures limit { take_limit result ≡ min (most + 1) (2 ^ 64 - 1) }
+    ensures inner { take_inner result ≡ reader }
+{
+    reader.take((most as u64).saturating_add(1))
+}
+
+/// All bytes that the reader gives to its end, where they are at most `most`. It stops by itself one byte behind them. An
+/// interrupted read is tried again, as std does.
 pub(crate) fn read_whole<R: Read>(
     alloc: Global,
-    reader: R,
+    mut reader: Take<R>,
     most: usize,
 ) -> Result<Vec<u8>, LoadError>
 where
     R: Drop,
+    requires stops { take_limit reader ≡ min (most + 1) (2 ^ 64 - 1) }
     ensures limit { IfOk result (λ bytes. vec_len bytes ≤ most) }
-    ensures whole { IfOk result (λ bytes. IfSome (R.remaining reader) (λ known. bytes.items ≡ known)) }
-    ensures longer { result ≡ Err LoadError.TooLarge → IfSome (R.remaining reader) (λ known. most < length known) }
+    ensures whole { IfOk result (λ bytes. IfSome (R.remaining (take_inner reader)) (λ known. bytes.items ≡ known)) }
+    ensures longer { result ≡ Err LoadError.TooLarge → IfSome (R.remaining (take_inner reader)) (λ known. most < length known) }
 {
-    let limit = (most as u64).saturating_add(1);
     let mut bytes = Vec::new(alloc);
-    match reader.take(limit).read_to_end(&mut bytes) {
+    match reader.read_to_end(&mut bytes) {
         Err(error) => Err(load_error(error)),
         Ok(_) if bytes.len() > most => Err(LoadError::TooLarge),
         Ok(_) => Ok(bytes),
     }
 }
 
-// The bytes of the file at a path.
+/// The bytes of the file at a path.
 fn load_file<R: rt::Files>(
     system: &R,
     alloc: Global,
@@ -72,18 +97,15 @@ fn load_file<R: rt::Files>(
     ensures { IfOk result (λ bytes. vec_len bytes ≤ most) }
 {
     let file = fs::open(system, path).map_err(load_error)?;
-    read_whole(alloc, file, most)
+    read_whole(alloc, limited(file, most), most)
 }
 
-// Writes a file anew. Want of memory at its opening left the file as it was; after that a part may be written.
+/// Writes a file anew. Behind its opening a part may be written, so that each error is a failure.
 fn store_file<R: rt::Files>(system: &R, path: &str, bytes: &[u8]) -> Result<(), StoreError> {
-    match fs::create(system, path) {
-        Err(error) if error.kind() == ErrorKind::OutOfMemory => Err(StoreError::Memory),
+    let mut file = fs::create(system, path).map_err(opening_error)?;
+    match file.write_all(bytes) {
+        Ok(()) => Ok(()),
         Err(_) => Err(StoreError::Failed),
-        Ok(mut file) => match file.write_all(bytes) {
-            Ok(()) => Ok(()),
-            Err(_) => Err(StoreError::Failed),
-        },
     }
 }
 

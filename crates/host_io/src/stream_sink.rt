@@ -1,4 +1,4 @@
-// A sink over any writer.
+//! A sink over any writer.
 ghost use Rattle.std.specs.Prelude.{◌≡◌, ◌<◌, ◌≤◌, length, None, OnOk};
 ghost use Rattle.std.specs.Io.KnownBytes.{Appends};
 ghost use Rattle.host_io.specs.Sink.{PutEnds};
@@ -18,6 +18,7 @@ pub struct StreamSink<W: Write> {
 impl<W: Write> StreamSink<W> {
     ghost use Rattle.host_io.specs.Real.{stream_state, writer_of};
 
+    /// A sink over the writer.
     pub fn new(inner: W) -> StreamSink<W>
         ensures state { stream_state result ≡ record { bytes = None; faults = 0 } }
         ensures writer { writer_of result ≡ inner }
@@ -26,8 +27,8 @@ impl<W: Write> StreamSink<W> {
     }
 }
 
-// Writes all of a piece and flushes it. An interrupted write is tried again, as std does, and a write that takes
-// nothing is an error.
+/// Writes all of a piece and flushes it. An interrupted write is tried again, as std does, and a write that takes
+/// nothing is an error.
 fn write_out<W: Write>(writer: &mut W, piece: &[u8]) -> io::Result<()>
     ensures { OnOk result (Appends (W.contents writer.old) (W.contents writer.new) piece.now) }
 {

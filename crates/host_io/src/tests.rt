@@ -1,5 +1,5 @@
-// Each public call, and failures of a reader and a writer in mid-stream.
-use crate::real_files::read_whole;
+//! Each public call, and failures of a reader and a writer in mid-stream.
+use crate::real_files::{limited, read_whole};
 use crate::{
     Files, LoadError, MemoryFiles, MemorySink, PutError, RealFiles, Sink, StoreError, StreamSink,
 };
@@ -91,11 +91,14 @@ impl Read for BreakingReader {
 fn a_read_that_fails_in_mid_stream_gives_no_bytes(rt: HostRuntime) -> Result<(), Fail> {
     let alloc = rt.alloc();
     let reader = BreakingReader { calls: 0 };
-    assert_eq!(rt; read_whole(alloc, reader, 9).err(), Some(LoadError::Failed));
+    assert_eq!(rt;
+        read_whole(alloc, limited(reader, 9), 9).err(),
+        Some(LoadError::Failed)
+    );
     // It stops at the limit, so the failure is not met.
     let reader = BreakingReader { calls: 0 };
     assert_eq!(rt;
-        read_whole(alloc, reader, 1).err(),
+        read_whole(alloc, limited(reader, 1), 1).err(),
         Some(LoadError::TooLarge)
     );
     Ok(())
@@ -142,5 +145,82 @@ fn a_write_that_takes_nothing_fails_the_put(rt: HostRuntime) -> Result<(), Fail>
         assert_eq!(rt; sink.put(b"de"), Err(PutError::Failed));
     }
     assert_eq!(rt; bytes.as_slice(), b"abcd".as_slice());
+    Ok(())
+}
+
+// Holds what is written, until it is flushed.
+#[derive(Drop)]
+struct HoldingWriter<'a> {
+    held: Vec<u8>,
+    flushed: &'a mut Vec<u8>,
+}
+
+impl Write for HoldingWriter<'_> {
+    fn write(&mut self, buf: &[u8]) -> io::Result<usize> {
+        self.held.extend_from_slice(buf)?;
+        Ok(buf.len())
+    }
+
+    fn flush(&mut self) -> io::Result<()> {
+        self.flushed.extend_from_slice(&self.held)?;
+        self.held.clear();
+        Ok(())
+    }
+}
+
+#[test]
+fn each_put_is_flushed(rt: HostRuntime) -> Result<(), Fail> {
+    let alloc = rt.alloc();
+    let mut flushed = Vec::new(alloc);
+    {
+        let mut sink = StreamSink::new(HoldingWriter {
+            held: Vec::new(alloc),
+            flushed: &mut flushed,
+        });
+        sink.put(b"ab")?;
+        sink.put(b"c")?;
+    }
+    assert_eq!(rt; flushed.as_slice(), b"abc".as_slice());
+    Ok(())
+}
+
+// Takes one byte a write, and fails at the second write alone.
+#[derive(Drop)]
+struct FaultyWriter<'a> {
+    bytes: &'a mut Vec<u8>,
+    calls: u64,
+}
+
+impl Write for FaultyWriter<'_> {
+    fn write(&mut self, buf: &[u8]) -> io::Result<usize> {
+        self.calls = self.calls.saturating_add(1);
+        if self.calls == 2 {
+            return Err(io::Error::from(ErrorKind::PermissionDenied));
+        }
+        match buf.first() {
+            Some(first) => {
+                self.bytes.push(*first)?;
+                Ok(1)
+            }
+            None => Ok(0),
+        }
+    }
+
+    fn flush(&mut self) -> io::Result<()> {
+        Ok(())
+    }
+}
+
+#[test]
+fn a_failed_put_writes_no_more(rt: HostRuntime) -> Result<(), Fail> {
+    let mut bytes = Vec::new(rt.alloc());
+    {
+        let mut sink = StreamSink::new(FaultyWriter {
+            bytes: &mut bytes,
+            calls: 0,
+        });
+        assert_eq!(rt; sink.put(b"abc"), Err(PutError::Failed));
+    }
+    assert_eq!(rt; bytes.as_slice(), b"a".as_slice());
     Ok(())
 }
