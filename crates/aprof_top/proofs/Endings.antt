@@ -185,7 +185,7 @@ module _ (words : List (List ℕ)) (files files' : FilesState) (out out' err err
         written = written;
         ran = ran;
         first = First-of outcome cannot_write_text (part_on_err outcome fails) 0 (no_text cannot_write_text text.shown text.gained);
-        cause = inr (record { sink = inr (fails.some, rose); contents = fails.unchanged.contents; failed_paths = fails.unchanged.failed_paths });
+        cause = inr (record { sink = inr ((fails.some, rose), refl); contents = fails.unchanged.contents; failed_paths = fails.unchanged.failed_paths });
         whole_text = inr rose;
       }
 

@@ -92,9 +92,9 @@ pub record DoesFirst (outcome : Outcome) (text : List ℕ) (before after : Outsi
 abbrev pub FailsOn : List ℕ → SinkState → SinkState → Type 0
 FailsOn bytes old new = (0 < length bytes) × Rose old.faults new.faults
 
--- A put of the guest's output failed, and nothing was stored.
-pub record PutFails (outcome : Outcome) (before after : Outside) : Type 0 where
-  pub sink : FailsOn outcome.out before.out after.out ⊎ FailsOn outcome.err before.err after.err
+-- A put of the guest's output failed, and nothing was stored. Where it failed on `err`, none of the last text was put.
+pub record PutFails (outcome : Outcome) (text_count : ℕ) (before after : Outside) : Type 0 where
+  pub sink : FailsOn outcome.out before.out after.out ⊎ (FailsOn outcome.err before.err after.err × (text_count ≡ 0))
   pub contents : after.files.contents ≡ before.files.contents
   pub failed_paths : after.files.failed_paths ≡ before.files.failed_paths
 
@@ -106,7 +106,7 @@ pub record CannotWrite (words : List (List ℕ)) (before after : Outside) : Type
   -- it is that of a run, which stores its report, or of the demo
   pub ran : IsOfRun outcome.verdict
   pub first : DoesFirst outcome cannot_write_text before after
-  pub cause : (StoreFails outcome.stores first.count before.files after.files × (take first.out_count outcome.out ≡ outcome.out) × (take first.err_count outcome.err ≡ outcome.err)) ⊎ PutFails outcome before after
+  pub cause : (StoreFails outcome.stores first.count before.files after.files × (take first.out_count outcome.out ≡ outcome.out) × (take first.err_count outcome.err ≡ outcome.err)) ⊎ PutFails outcome first.text_count before after
   pub whole_text : (take first.text_count cannot_write_text ≡ cannot_write_text) ⊎ Rose before.err.faults after.err.faults
 
 -- nothing is put or stored
