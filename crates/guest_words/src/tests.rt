@@ -1,6 +1,6 @@
 use crate::{
-    FaultKind, Name, NameError, ReadyList, Tid, Word, cut, decimal_number, le16, le32, put_le32,
-    wide_decimal_number, words_over,
+    FaultKind, Name, NameError, ReadyList, Tid, Word, cut, decimal_number, first_number, le16,
+    le32, push_decimal, put_le32, wide_decimal_number, words_over,
 };
 use std::test::Fail;
 
@@ -89,4 +89,23 @@ fn words_are_cut_and_read(rt: HostRuntime) {
         assert_eq!(rt; decimal_number(word), number);
     }
     assert_eq!(rt; wide_decimal_number(b"18446744073709551616"), Some(1 << 64));
+}
+
+#[test]
+fn numbers_are_read_before_a_space_and_written(rt: HostRuntime) -> Result<(), Fail> {
+    for (words, found) in [
+        (b"12 x y".as_slice(), Some((12u64, b"x y".as_slice()))),
+        (b"0 ", Some((0, b""))),
+        (b"12", None),
+        (b"012 x", None),
+    ] {
+        assert_eq!(rt; first_number(words), found);
+    }
+    let mut text = Vec::from_slice(rt.alloc(), b"n ")?;
+    push_decimal(&mut text, u128::MAX)?;
+    assert_eq!(rt;
+        text.as_slice(),
+        b"n 340282366920938463463374607431768211455".as_slice()
+    );
+    Ok(())
 }

@@ -152,6 +152,10 @@ fn the_first_line_that_fails_gives_the_refusal(rt: HostRuntime) -> Result<(), Fa
             "aprof 1\nend deep\nsteps 7\nopen 0\nroutine 00010054 -\n1 1 4 3 3\n",
             ReportError::Line { line: 6 },
         ),
+        (
+            "aprof 1\nend deep\nsteps 7\nopen 0\nroutine 00010054 a b\n",
+            ReportError::Line { line: 5 },
+        ),
     ];
     for (text, refusal) in &rows {
         assert_eq!(rt; read_report(alloc, text.as_bytes()).err(), Some(*refusal));
