@@ -23,7 +23,7 @@ use Rattle.guest_run.specs.Run.{run}
 use Rattle.guest_run.specs.Shown.{IsShown, Shown, shown_of}
 use Rattle.guest_run.specs.Traces.{most_moves}
 use Rattle.guest_run.proofs.Weights.{every_run_light}
-use Rattle.thread_sched.specs.TurnRule.{Known}
+use Rattle.thread_sched.specs.TurnRule.{SchedulerState}
 use Rattle.trace_model.specs.WellFormed.{IsLight}
 use Rattle.thread_sched.specs.declared.entry.Entry.{Entry}
 use Rattle.thread_sched.specs.ScheduleText.{IsBadLine, IsEntry, IsText}
@@ -85,7 +85,7 @@ pub image_accepted : (files : Loaded) (k : kept.Loaded) (bytes : List ℕ) → k
 image_accepted files k bytes keeps same accepted = ap first_refusal (sym (same ∙ keeps)) ∙ accepted
 
 -- what is shown of the run of a machine
-pub IsShown-from : (options : RunOptions) (turns : List Entry) (entry from : ℕ) (state machine : MachineState) (known : Known) (r : Run) → from ≡ entry → machine ≡ state → known ≡ scheduler options.quantum turns → IsShown (shown_of (profiled greatest_stamp (first_past from) (run guest known options.budget machine))) r → IsShown (shown_from options turns entry state) r
+pub IsShown-from : (options : RunOptions) (turns : List Entry) (entry from : ℕ) (state machine : MachineState) (known : SchedulerState) (r : Run) → from ≡ entry → machine ≡ state → known ≡ scheduler options.quantum turns → IsShown (shown_of (profiled greatest_stamp (first_past from) (run guest known options.budget machine))) r → IsShown (shown_from options turns entry state) r
 unfolding shown_from
 IsShown-from options turns entry from state machine known r entry_is state_is known_is shows =
     subst (λ e. IsShown (shown_of (profiled greatest_stamp (first_past e) (run guest (scheduler options.quantum turns) options.budget state))) r) entry_is

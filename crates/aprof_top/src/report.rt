@@ -7,7 +7,7 @@ ghost use Rattle.trace_model.specs.Depth.{pending};
 ghost use Rattle.trace_model.specs.Profile.{steps};
 ghost use Rattle.trace_model.specs.WellFormed.{IsLight};
 ghost use Rattle.cost_points.specs.Points.{points};
-ghost use Rattle.cost_points.specs.Tally.{tally_of};
+ghost use Rattle.cost_points.specs.Contents.{contents_of};
 ghost use Rattle.aprof_top.specs.Report.{named, report_of};
 ghost use Rattle.aprof_top.specs.Summary.{FitsTotals};
 
@@ -22,7 +22,7 @@ use trace_model::{Done, slow_done};
 // Adds an ended activation, whose size and cost are numbers of 64 bits.
 fn add_ended(table: &mut Table, ended: Done) -> Result<(), AllocError>
     requires { table.old.members < 2 ^ 63 }
-    ensures added { (added : List Done) → table.old ≡ tally_of added → OnOk result (table.new ≡ tally_of (added ++ ended ∷ [])) }
+    ensures added { (added : List Done) → table.old ≡ contents_of added → OnOk result (table.new ≡ contents_of (added ++ ended ∷ [])) }
     ensures size { ended.size < 2 ^ 64 }
     ensures cost { ended.cost < 2 ^ 64 }
 {
@@ -32,7 +32,7 @@ fn add_ended(table: &mut Table, ended: Done) -> Result<(), AllocError>
 // The points of ended activations.
 fn table_of(alloc: Global, done: &[Done]) -> Result<Table, AllocError>
     requires { length done.now < 2 ^ 63 }
-    ensures table { IfOk result (λ table. table ≡ tally_of done.now) }
+    ensures table { IfOk result (λ table. table ≡ contents_of done.now) }
     ensures sizes { OnOk result (All (λ d. d.size < 2 ^ 64) done.now) }
     ensures costs { OnOk result (All (λ d. d.cost < 2 ^ 64) done.now) }
 {

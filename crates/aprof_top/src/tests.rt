@@ -177,7 +177,12 @@ fn each_failure_of_the_outside_is_told(rt: HostRuntime) -> Result<(), Fail> {
         let left = left_by(rt.alloc(), &seen)?;
         assert_eq!(rt; left.as_slice(), text.as_bytes());
     }
-    // a put of the guest's output fails half way, and nothing is stored
+    Ok(())
+}
+
+// A put of the guest's output fails half way, and nothing is stored.
+#[test]
+fn a_failed_put_stores_nothing(rt: HostRuntime) -> Result<(), Fail> {
     for guest in &GUESTS {
         if guest.left.starts_with("ok") {
             let seen = call_guest(rt.alloc(), guest, (NEVER, 0))?;

@@ -8,10 +8,10 @@ use Rattle.std.proofs.lemmas.List.Elements.{All-nil, All-cons, All-head, All-tai
 use Rattle.trace_model.specs.declared.slow_profile.Done.{Done}
 use Rattle.cost_points.specs.Keys.{insert_rising, rising, IsRising, grouped}
 use Rattle.cost_points.specs.Points.{Routine, least_of, greatest_of, point_of, routine_of, points}
-use Rattle.cost_points.specs.Place.{HasRoom, IsAt}
+use Rattle.cost_points.specs.Search.{HasRoom, IsAt}
 use Rattle.cost_points.specs.Valid.{IsPoint, IsRoutine, IsProfile}
 use Rattle.cost_points.proofs.Grouped.{having, having_some, grouped_is}
-use Rattle.cost_points.proofs.Tallies.{sizes_rise, points_rise}
+use Rattle.cost_points.proofs.Tables.{sizes_rise, points_rise}
 
 -- what holds of all that is made of members of which there is one
 module _ {A B : Type 0} (key : A → ℕ) (make : ℕ → List A → B) (P : B → Type 0) (all : List A) (each : (k : ℕ) → 1 ≤ length (having key k all) → P (make k (having key k all))) where

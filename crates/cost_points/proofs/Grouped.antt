@@ -5,7 +5,7 @@ use Rattle.std.proofs.lemmas.Bool.Decides.{nat_tests, eqb_tells}
 use Rattle.std.proofs.lemmas.List.{append-nil, map-append, take-append-drop, take-map, drop-map, get_or-map, get_or-take, get_or-drop, set_split, set-get_or, length-take-le, length-drop, length-map}
 use Rattle.std.proofs.lemmas.List.Elements.{All-nil, All-head, All-tail, All-weaker, All-from_get_or, filter-append}
 use Rattle.cost_points.specs.Keys.{insert_rising, rising, IsRising, grouped}
-use Rattle.cost_points.specs.Place.{IsAt, IsGap}
+use Rattle.cost_points.specs.Search.{IsAt, IsInsertionPoint}
 use Rattle.cost_points.proofs.Rising.{rising_push, insert-all, all-insert, IsRising-rising, insert_gap, insert_there}
 
 -- functions that agree on a list
@@ -13,13 +13,13 @@ map_agree : {B : Type 0} (f g : ℕ → B) (ks : List ℕ) → All (λ k. f k �
 map_agree f g [] same = refl
 map_agree f g (k ∷ ks) same = ap (λ b. b ∷ map f ks) (All-head (λ j. f j ≡ g j) k ks same) ∙ ap (λ bs. g k ∷ bs) (map_agree f g ks (All-tail (λ j. f j ≡ g j) k ks same))
 
-pub gap_low : (ks : List ℕ) (x i : ℕ) → IsGap ks x i → All (λ k. k < x) (take i ks)
-gap_low ks x i gap = All-from_get_or (λ k. k < x) (take i ks) 0 (λ j h.
+pub insertion_low : (ks : List ℕ) (x i : ℕ) → IsInsertionPoint ks x i → All (λ k. k < x) (take i ks)
+insertion_low ks x i gap = All-from_get_or (λ k. k < x) (take i ks) 0 (λ j h.
     let below : j < i = omega (arith, length-take-le i ks gap.in_range) in
     rw (get_or-take i ks j 0 below) (gap.smaller j below))
 
-pub gap_high : (ks : List ℕ) (x i : ℕ) → IsGap ks x i → All (λ k. x < k) (drop i ks)
-gap_high ks x i gap = All-from_get_or (λ k. x < k) (drop i ks) 0 (λ j h.
+pub insertion_high : (ks : List ℕ) (x i : ℕ) → IsInsertionPoint ks x i → All (λ k. x < k) (drop i ks)
+insertion_high ks x i gap = All-from_get_or (λ k. x < k) (drop i ks) 0 (λ j h.
     let within : i + j < length ks = omega (arith, length-drop i ks, gap.in_range) in
     rw (get_or-drop i ks j 0) (gap.greater (i + j) (omega arith) within))
 
@@ -96,13 +96,13 @@ module _ {A B : Type 0} (key : A → ℕ) (make : ℕ → List A → B) where
       ∙ ap (λ members. map (made all) low ++ make (key d) members ∷ map (made all) high) (having_same key all d (key d) refl)
 
   -- a member with a new key makes a group of its own, in its place
-  pub grouped_gap : (all : List A) (d : A) (i : ℕ) → IsGap (rising (map key all)) (key d) i → grouped key make (all ++ d ∷ []) ≡ insert (grouped key make all) i (make (key d) (d ∷ []))
+  pub grouped_insertion : (all : List A) (d : A) (i : ℕ) → IsInsertionPoint (rising (map key all)) (key d) i → grouped key make (all ++ d ∷ []) ≡ insert (grouped key make all) i (make (key d) (d ∷ []))
   unfolding grouped
-  grouped_gap all d i gap =
+  grouped_insertion all d i gap =
       let x = key d in
       let ks = rising (map key all) in
-      let low : All (λ k. k < x) (take i ks) = gap_low ks x i gap in
-      let high : All (λ k. x < k) (drop i ks) = gap_high ks x i gap in
+      let low : All (λ k. k < x) (take i ks) = insertion_low ks x i gap in
+      let high : All (λ k. x < k) (drop i ks) = insertion_high ks x i gap in
       let absent : All (λ k. k ≢ x) ks = All-from_get_or (λ k. k ≢ x) ks 0 (λ j h e. grind (arith, gap.smaller j, gap.greater j)) in
       ap (map (made (all ++ d ∷ []))) (keys_push all d ∙ ap (insert_rising x) (sym (take-append-drop i ks)) ∙ insert_gap (take i ks) (drop i ks) x low high)
       ∙ parted all d (take i ks) (drop i ks) low high

@@ -1,5 +1,5 @@
 pub mod Rising
 pub mod Grouped
 pub mod Searched
-pub mod Tallies
+pub mod Tables
 pub mod Bounds

@@ -7,7 +7,7 @@ use Rattle.std.proofs.lemmas.List.{get_or-map, length-map}
 use Rattle.std.proofs.lemmas.List.Sorted.{IsNonDecreasingBy-from_default}
 use Rattle.std.proofs.lemmas.Bool.Decides.{nat_tests}
 use Rattle.cost_points.specs.Keys.{IsRising}
-use Rattle.cost_points.specs.Place.{FindsPlace}
+use Rattle.cost_points.specs.Search.{FindsKey}
 
 module _ {X : Type 0} (label : X → ℕ) (d : X) (xs : List X) (up : IsRising (map label xs)) (x : ℕ) where
   labelled : (i : ℕ) → i < length xs → get_or (map label xs) i 0 ≡ label (get_or xs i d)
@@ -26,7 +26,7 @@ module _ {X : Type 0} (label : X → ℕ) (d : X) (xs : List X) (up : IsRising (
       let keys_rise : label (get_or xs i d) ≤ label (get_or xs j d) = grind (arith, labels_rise i j, λ (same : i ≡ j). ap (λ k. label (get_or xs k d)) same) in
       grind (arith, nat_tests))
 
-  pub searched : (r : Result ℕ ℕ) → IsSearchInRange r (length xs) → IsBinarySearchResult (λ y. nat_cmp (label y) x) xs r → FindsPlace (map label xs) x r
+  pub searched : (r : Result ℕ ℕ) → IsSearchInRange r (length xs) → IsBinarySearchResult (λ y. nat_cmp (label y) x) xs r → FindsKey (map label xs) x r
   searched (Ok at) inside equal = record { in_range = omega (arith, long, inside); here = labelled at inside ∙ ranked _ x _ (sym (equal d)) }
   searched (Err at) inside parted = record {
     in_range = omega (arith, long, inside);

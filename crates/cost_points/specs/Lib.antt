@@ -1,5 +1,5 @@
 pub mod Keys
 pub mod Points
-pub mod Place
-pub mod Tally
+pub mod Search
+pub mod Contents
 pub mod Valid

@@ -4,7 +4,7 @@ ghost use Rattle.std.specs.List.{All};
 ghost use Rattle.trace_model.specs.declared.slow_profile.Done.{Done};
 ghost use Rattle.cost_points.specs.Keys.{IsRising};
 ghost use Rattle.cost_points.specs.Points.{routine_of};
-ghost use Rattle.cost_points.specs.Place.{FindsPlace, HasRoom};
+ghost use Rattle.cost_points.specs.Search.{FindsKey, HasRoom};
 
 use crate::Point;
 use guest_words::Addr;
@@ -30,7 +30,7 @@ impl Model for RoutinePoints {
 /// Where the point of the size is, or where it would go.
 fn search(points: &[Point], size: u64) -> Result<usize, usize>
     requires { IsRising (map (λ p. p.size) points.now) }
-    ensures { FindsPlace (map (λ p. p.size) points.now) size result }
+    ensures { FindsKey (map (λ p. p.size) points.now) size result }
 {
     points.binary_search_by_key(&size, |point| point.size)
 }

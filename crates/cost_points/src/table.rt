@@ -2,9 +2,9 @@
 ghost use Rattle.std.specs.Prelude.{◌≡◌, ◌+◌, ◌<◌, ◌^◌, [], ◌∷◌, ◌++◌, List, length, map, slice_get, IfOk, OnOk, OnErr};
 ghost use Rattle.trace_model.specs.declared.slow_profile.Done.{Done};
 ghost use Rattle.cost_points.specs.Keys.{IsRising};
-ghost use Rattle.cost_points.specs.Place.{FindsPlace};
+ghost use Rattle.cost_points.specs.Search.{FindsKey};
 ghost use Rattle.cost_points.specs.Points.{points};
-ghost use Rattle.cost_points.specs.Tally.{IsTally, tally_of};
+ghost use Rattle.cost_points.specs.Contents.{IsContents, contents_of};
 ghost use Rattle.cost_points.specs.Valid.{IsProfile};
 
 use crate::Point;
@@ -24,19 +24,19 @@ pub struct Table {
 }
 
 impl Model for Table {
-    ghost use Rattle.cost_points.specs.Tally.{Tally, IsTally};
+    ghost use Rattle.cost_points.specs.Contents.{TableContents, IsContents};
 
-    ghost Value = { Tally };
+    ghost Value = { TableContents };
 
     ghost view = { λ t. record { members = t.members; routines = t.routines.items } };
 
-    ghost invariant = { λ t. IsTally (record { members = t.members; routines = t.routines.items }) };
+    ghost invariant = { λ t. IsContents (record { members = t.members; routines = t.routines.items }) };
 }
 
 /// Where the routine of the entry is, or where it would go.
 fn search(routines: &[RoutinePoints], entry: Addr) -> Result<usize, usize>
     requires { IsRising (map (λ r. r.entry) routines.now) }
-    ensures { FindsPlace (map (λ r. r.entry) routines.now) entry result }
+    ensures { FindsKey (map (λ r. r.entry) routines.now) entry result }
 {
     routines.binary_search_by_key(&entry, |routine| routine.entry)
 }
@@ -48,7 +48,7 @@ fn add_to(
     routines: &mut Vec<RoutinePoints>,
     ended: Done,
 ) -> Result<(), AllocError>
-    requires tally { IsTally (record { members = members; routines = routines.old.items }) }
+    requires contents { IsContents (record { members = members; routines = routines.old.items }) }
     requires few { members < 2 ^ 63 }
     ensures ok { (added : List Done) → routines.old.items ≡ points added
         → OnOk result (routines.new.items ≡ points (added ++ ended ∷ [])) }
@@ -69,7 +69,7 @@ fn add_to(
 impl Table {
     /// No activation.
     pub fn new(alloc: Global) -> Result<Table, AllocError>
-        ensures { IfOk result (λ t. t ≡ tally_of []) }
+        ensures { IfOk result (λ t. t ≡ contents_of []) }
     {
         Ok(Table {
             alloc,
@@ -81,8 +81,8 @@ impl Table {
     /// One more activation. A refused one changes nothing.
     pub fn add(&mut self, ended: Done) -> Result<(), AllocError>
         requires { self.old.members < 2 ^ 63 }
-        ensures ok { (added : List Done) → self.old ≡ tally_of added
-            → OnOk result (self.new ≡ tally_of (added ++ ended ∷ [])) }
+        ensures ok { (added : List Done) → self.old ≡ contents_of added
+            → OnOk result (self.new ≡ contents_of (added ++ ended ∷ [])) }
         ensures members { OnOk result (self.new.members ≡ self.old.members + 1) }
         ensures err { OnErr result (self.new ≡ self.old) }
     {

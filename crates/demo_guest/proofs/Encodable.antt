@@ -7,7 +7,7 @@ use Rattle.rv_isa.specs.declared.instruction.Instr.TheVariants.{Jalr}
 use Rattle.rv_isa.specs.Encoding.{IsEncodable, IsImmediate, IsJumpOffset}
 use Rattle.rv_asm.specs.declared.line.Line.{Line}
 use Rattle.rv_asm.specs.Assembled.{instruction_at, offset_between}
-use Rattle.demo_guest.specs.Guest.{load, call, reads, routine_code, routine_place}
+use Rattle.demo_guest.specs.Guest.{load, call, reads, routine_code, routine_start}
 use Rattle.demo_guest.proofs.Ranges.{words_within}
 use Rattle.demo_guest.proofs.Resolved.{resolved}
 
@@ -28,7 +28,7 @@ pub calls_encodable : (n k m : ℕ) → n ≤ 40000 → k + m ≡ n → AreEncod
 calls_encodable n k zero few whole = tt
 calls_encodable n k (suc m) few whole =
     let whole-rest : k + 1 + m ≡ n = omega (arith, whole) in
-    (forward (10 + 2 * k) (routine_place n k) (omega (arith, whole)) (omega (arith, whole, few, words_within k)), (tt, calls_encodable n (k + 1) m few whole-rest))
+    (forward (10 + 2 * k) (routine_start n k) (omega (arith, whole)) (omega (arith, whole, few, words_within k)), (tt, calls_encodable n (k + 1) m few whole-rest))
 
 load_near : (k : ℕ) → k < 4 → IsImmediate (pos (4 * k))
 load_near k small = grind arith
@@ -46,12 +46,12 @@ routines_encodable (x ∷ xs) =
     (routines_encodable xs)
 
 -- what stands for a line has a word
-pub encodable_at : (places : List (Option ℕ)) (at : ℕ) (ls : List Line) → AreEncodable (resolved places at ls)
-    → (k : ℕ) → k < length ls → (line : Line) → IsEncodable (instruction_at places (at + k) (get_or ls k line))
-encodable_at places at [] all k inside line = absurd (omega (arith, inside))
-encodable_at places at (l ∷ ls) all zero inside line =
+pub encodable_at : (bindings : List (Option ℕ)) (at : ℕ) (ls : List Line) → AreEncodable (resolved bindings at ls)
+    → (k : ℕ) → k < length ls → (line : Line) → IsEncodable (instruction_at bindings (at + k) (get_or ls k line))
+encodable_at bindings at [] all k inside line = absurd (omega (arith, inside))
+encodable_at bindings at (l ∷ ls) all zero inside line =
     let same : at ≡ at + 0 = omega arith in
-    subst (λ (a : ℕ). IsEncodable (instruction_at places a l)) same all.0
-encodable_at places at (l ∷ ls) all (suc k) inside line =
+    subst (λ (a : ℕ). IsEncodable (instruction_at bindings a l)) same all.0
+encodable_at bindings at (l ∷ ls) all (suc k) inside line =
     let next : at + 1 + k ≡ at + suc k = omega arith in
-    subst (λ (a : ℕ). IsEncodable (instruction_at places a (get_or ls k line))) next (encodable_at places (at + 1) ls all.1 k (omega (arith, inside)) line)
+    subst (λ (a : ℕ). IsEncodable (instruction_at bindings a (get_or ls k line))) next (encodable_at bindings (at + 1) ls all.1 k (omega (arith, inside)) line)

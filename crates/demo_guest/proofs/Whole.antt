@@ -32,16 +32,16 @@ calls_end : (n : ℕ) → 10 + length (flat_map call_lines (range_with_len 2 n))
 calls_end n = omega (arith, calls_size (range_with_len 2 n), length-range_with_len 2 n)
 
 -- what the lines stand for
-pub whole : (n : ℕ) (places : List (Option ℕ)) → AreBound n places → resolved places 0 (lines n) ≡ instructions n
-whole n places bound =
+pub whole : (n : ℕ) (bindings : List (Option ℕ)) → AreBound n bindings → resolved bindings 0 (lines n) ≡ instructions n
+whole n bindings bound =
     let calls : List Line = flat_map call_lines (range_with_len 2 n) in
     let rest : List Line = map plain (behind n) in
     let all : 0 + n ≡ n = omega arith in
-    ap (resolved places 0) (lines_are n)
-    ∙ resolved-append places 0 10 start_lines (calls ++ rest) refl
-    ∙ ap₂ (λ (a b : List Instr). a ++ b) (resolved-start n places bound)
-    (resolved-append places 10 (10 + 2 * n) calls rest (calls_end n)
-    ∙ ap₂ (λ (a b : List Instr). a ++ b) (resolved-calls n places bound.bound 0 n 10 2 all refl refl) (resolved-plain places (10 + 2 * n) (behind n)))
+    ap (resolved bindings 0) (lines_are n)
+    ∙ resolved-append bindings 0 10 start_lines (calls ++ rest) refl
+    ∙ ap₂ (λ (a b : List Instr). a ++ b) (resolved-start n bindings bound)
+    (resolved-append bindings 10 (10 + 2 * n) calls rest (calls_end n)
+    ∙ ap₂ (λ (a b : List Instr). a ++ b) (resolved-calls n bindings bound.bound 0 n 10 2 all refl refl) (resolved-plain bindings (10 + 2 * n) (behind n)))
     ∙ sym (instructions_are n)
 
 start_encodable : AreEncodable start
@@ -61,25 +61,25 @@ encodable n few =
     (encodable-append start (flat_map (call n) (range_with_len 0 n) ++ behind n) start_encodable
     (encodable-append (flat_map (call n) (range_with_len 0 n)) (behind n) (calls_encodable n 0 n few all) (behind_encodable n)))
 
-ready : (n : ℕ) (places : List (Option ℕ)) → AreBound n places → are_ready places (lines n) ≡ true
-ready n places bound =
+ready : (n : ℕ) (bindings : List (Option ℕ)) → AreBound n bindings → are_ready bindings (lines n) ≡ true
+ready n bindings bound =
     let all : 0 + n ≡ n = omega arith in
-    ap (are_ready places) (lines_are n)
-    ∙ ready-append places start_lines (flat_map call_lines (range_with_len 2 n) ++ map plain (behind n)) (start_ready n places bound)
-    (ready-append places (flat_map call_lines (range_with_len 2 n)) (map plain (behind n)) (calls_ready n places bound.bound 0 n 2 all refl) (plain_ready places (behind n)))
+    ap (are_ready bindings) (lines_are n)
+    ∙ ready-append bindings start_lines (flat_map call_lines (range_with_len 2 n) ++ map plain (behind n)) (start_ready n bindings bound)
+    (ready-append bindings (flat_map call_lines (range_with_len 2 n)) (map plain (behind n)) (calls_ready n bindings bound.bound 0 n 2 all refl) (plain_ready bindings (behind n)))
 
-pub accepted : (n : ℕ) (d : Draft) → n ≤ 40000 → d.lines ≡ lines n → AreBound n d.places → IsAccepted d
+pub accepted : (n : ℕ) (d : Draft) → n ≤ 40000 → d.lines ≡ lines n → AreBound n d.bindings → IsAccepted d
 accepted n d few is bound =
-    let code : AreEncodable (resolved d.places 0 d.lines) = subst AreEncodable (sym (ap (resolved d.places 0) is ∙ whole n d.places bound)) (encodable n few) in
+    let code : AreEncodable (resolved d.bindings 0 d.lines) = subst AreEncodable (sym (ap (resolved d.bindings 0) is ∙ whole n d.bindings bound)) (encodable n few) in
     record {
-      bound = ap (first_unbound d.places) is ∙ none_unbound d.places (lines n) (ready n d.places bound);
+      bound = ap (first_unbound d.bindings) is ∙ none_unbound d.bindings (lines n) (ready n d.bindings bound);
       reach = λ at inside line some. (let same : 0 + at ≡ at = omega arith in
-          subst (λ (a : ℕ). IsEncodable (instruction_at d.places a (get_or d.lines at line))) same (encodable_at d.places 0 d.lines code at inside line));
+          subst (λ (a : ℕ). IsEncodable (instruction_at d.bindings a (get_or d.lines at line))) same (encodable_at d.bindings 0 d.lines code at inside line));
     }
 
-pub words_are : (n : ℕ) (d : Draft) (words : List ℕ) → d.lines ≡ lines n → AreBound n d.places → AreAssembled d words → map decoded words ≡ map Some (instructions n)
+pub words_are : (n : ℕ) (d : Draft) (words : List ℕ) → d.lines ≡ lines n → AreBound n d.bindings → AreAssembled d words → map decoded words ≡ map Some (instructions n)
 words_are n d words is bound done =
-    let each : (k : ℕ) → k < length d.lines → (line : Line) → decoded (get_or words k 0) ≡ Some (instruction_at d.places (0 + k) (get_or d.lines k line))
+    let each : (k : ℕ) → k < length d.lines → (line : Line) → decoded (get_or words k 0) ≡ Some (instruction_at d.bindings (0 + k) (get_or d.lines k line))
     = λ k inside line. (let same : k ≡ 0 + k = omega arith in
-    subst (λ (a : ℕ). decoded (get_or words k 0) ≡ Some (instruction_at d.places a (get_or d.lines k line))) same (done.each k inside line).decoded) in
-    all_decoded d.places 0 d.lines words done.count each ∙ ap (map Some) (ap (resolved d.places 0) is ∙ whole n d.places bound)
+    subst (λ (a : ℕ). decoded (get_or words k 0) ≡ Some (instruction_at d.bindings a (get_or d.lines k line))) same (done.each k inside line).decoded) in
+    all_decoded d.bindings 0 d.lines words done.count each ∙ ap (map Some) (ap (resolved d.bindings 0) is ∙ whole n d.bindings bound)

@@ -7,8 +7,8 @@ use Rattle.rv_isa.specs.declared.instruction.Instr.TheVariants.{Jal, Branch, Sto
 use Rattle.rv_isa.specs.declared.instruction.StoreKind.TheVariants.{Sw}
 use Rattle.rv_isa.specs.declared.instruction.Test.TheVariants.{Ne}
 use Rattle.rv_asm.specs.declared.line.Line.{Line}
-use Rattle.rv_asm.specs.Assembled.{place_of}
-use Rattle.demo_guest.specs.Guest.{start, ending, routine_code, routine_place}
+use Rattle.rv_asm.specs.Assembled.{binding_of}
+use Rattle.demo_guest.specs.Guest.{start, ending, routine_code, routine_start}
 
 -- an instruction that needs no label
 abbrev pub plain : Instr → Line
@@ -40,17 +40,17 @@ lines routines =
 
 -- the labels of the first routines stand for where these begin
 abbrev pub AreRoutines : ℕ → ℕ → List (Option ℕ) → Type 0
-AreRoutines routines bound places = (k : ℕ) → k < bound → place_of places (2 + k) ≡ Some (routine_place routines k)
+AreRoutines routines bound bindings = (k : ℕ) → k < bound → binding_of bindings (2 + k) ≡ Some (routine_start routines k)
 
 -- The first two labels were bound, and the others are as they were.
 pub record IsStarted (old new : List (Option ℕ)) : Type 0 where
   pub count : length new ≡ length old
-  pub main : place_of new 0 ≡ Some 10
-  pub worker : place_of new 1 ≡ Some 7
-  pub others : (k : ℕ) → place_of new (2 + k) ≡ place_of old (2 + k)
+  pub main : binding_of new 0 ≡ Some 10
+  pub worker : binding_of new 1 ≡ Some 7
+  pub others : (k : ℕ) → binding_of new (2 + k) ≡ binding_of old (2 + k)
 
--- The labels stand for their places.
-pub record AreBound (routines : ℕ) (places : List (Option ℕ)) : Type 0 where
-  pub main : place_of places 0 ≡ Some 10
-  pub worker : place_of places 1 ≡ Some 7
-  pub bound : AreRoutines routines routines places
+-- The labels stand for their bindings.
+pub record AreBound (routines : ℕ) (bindings : List (Option ℕ)) : Type 0 where
+  pub main : binding_of bindings 0 ≡ Some 10
+  pub worker : binding_of bindings 1 ≡ Some 7
+  pub bound : AreRoutines routines routines bindings

@@ -20,8 +20,8 @@ words_before routine = sum_by (λ k. reads k + 1) (range_with_len 0 routine)
 
 -- the word where a routine begins: behind the first ten words, a call of two words for each routine, three words that end
 -- the guest, and the routines before it
-abbrev pub routine_place : ℕ → ℕ → ℕ
-routine_place routines routine = 13 + 2 * routines + words_before routine
+abbrev pub routine_start : ℕ → ℕ → ℕ
+routine_start routines routine = 13 + 2 * routines + words_before routine
 
 -- A thread is started. Both run on from the sixth word, and the new one writes a word again and again.
 abbrev pub start : List Instr
@@ -31,7 +31,7 @@ start =
 
 -- the call of a routine, of two words, and then the other thread's turn; the first call is the eleventh word
 abbrev pub call : ℕ → ℕ → List Instr
-call routines routine = Jal 1 (offset_between (10 + 2 * routine) (routine_place routines routine)) ∷ Ecall ∷ []
+call routines routine = Jal 1 (offset_between (10 + 2 * routine) (routine_start routines routine)) ∷ Ecall ∷ []
 
 -- the end of all threads, with status 0
 abbrev pub ending : List Instr

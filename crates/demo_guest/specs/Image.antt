@@ -4,15 +4,15 @@ use Rattle.std.specs.List.{range_with_len}
 use Rattle.rv_isa.specs.Table.{decoded}
 use Rattle.rv_asm.specs.declared.executable.Symbol.{Symbol}
 use Rattle.rv_asm.specs.Executable.{executable}
-use Rattle.demo_guest.specs.Guest.{instructions, routine_place}
+use Rattle.demo_guest.specs.Guest.{instructions, routine_start}
 
 -- the address of a word of the code
 abbrev pub address : ℕ → ℕ
-address place = 0x10054 + 4 * place
+address word = 0x10054 + 4 * word
 
 -- the routine is named by r and its number, counted from 1 on
 abbrev pub routine_symbol : ℕ → ℕ → Symbol
-routine_symbol routines routine = record { name = 114 ∷ decimal (routine + 1); at = address (routine_place routines routine) }
+routine_symbol routines routine = record { name = 114 ∷ decimal (routine + 1); at = address (routine_start routines routine) }
 
 -- the first word, where a thread runs on, and the routines
 unfoldable pub symbols : ℕ → List Symbol

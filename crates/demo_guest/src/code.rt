@@ -4,7 +4,7 @@ ghost use Rattle.std.specs.List.{flat_map, range_with_len};
 ghost use Rattle.rv_isa.specs.Table.{decoded};
 ghost use Rattle.rv_isa.specs.declared.instruction.ImmOp.TheVariants.{Addi};
 ghost use Rattle.rv_isa.specs.declared.instruction.Instr.TheVariants.{Immediate, Jal};
-ghost use Rattle.rv_asm.specs.Assembled.{place_of};
+ghost use Rattle.rv_asm.specs.Assembled.{binding_of};
 ghost use Rattle.demo_guest.specs.Guest.{ending, instructions, load};
 ghost use Rattle.demo_guest.specs.Drafts.{call_lines, lines, plain, routine_lines, start_lines};
 ghost use Rattle.demo_guest.specs.Drafts.{AreBound, AreRoutines, IsStarted};
@@ -48,11 +48,11 @@ fn call(rd: u8) -> Instr
 
 /// Appends the start of a thread. The new one runs on in a loop, and the old one at the first call.
 fn emit_start(program: &mut Builder, main: Label, worker: Label) -> Result<(), AllocError>
-    requires labels { (main ≡ 0) × (worker ≡ 1) × (2 ≤ length program.old.places) }
+    requires labels { (main ≡ 0) × (worker ≡ 1) × (2 ≤ length program.old.bindings) }
     requires no_line { program.old.lines ≡ [] }
-    requires unbound { (k : ℕ) → place_of program.old.places k ≡ None }
+    requires unbound { (k : ℕ) → binding_of program.old.bindings k ≡ None }
     ensures lines { OnOk result (program.new.lines ≡ start_lines) }
-    ensures places { OnOk result (IsStarted program.old.places program.new.places) }
+    ensures bindings { OnOk result (IsStarted program.old.bindings program.new.bindings) }
 {
     let start = [
         add(6, 2, -1024),
@@ -87,9 +87,9 @@ fn emit_start(program: &mut Builder, main: Label, worker: Label) -> Result<(), A
 /// Appends a call of the routine of each label. Behind each call it is the other thread's turn.
 fn emit_calls(program: &mut Builder, labels: &[Label]) -> Result<(), AllocError>
     requires room { length program.old.lines + 2 * length labels.now ≤ 4000000 }
-    requires labels { All (λ label. label < length program.old.places) labels.now }
+    requires labels { All (λ label. label < length program.old.bindings) labels.now }
     ensures lines { OnOk result (program.new.lines ≡ program.old.lines ++ flat_map call_lines labels.now) }
-    ensures places { OnOk result (program.new.places ≡ program.old.places) }
+    ensures bindings { OnOk result (program.new.bindings ≡ program.old.bindings) }
 {
     for label in labels {
         jump(program, call(1), *label)?;
@@ -102,7 +102,7 @@ fn emit_calls(program: &mut Builder, labels: &[Label]) -> Result<(), AllocError>
 fn emit_ending(program: &mut Builder) -> Result<(), AllocError>
     requires room { length program.old.lines + 3 ≤ 4000000 }
     ensures lines { OnOk result (program.new.lines ≡ program.old.lines ++ map plain ending) }
-    ensures places { OnOk result (program.new.places ≡ program.old.places) }
+    ensures bindings { OnOk result (program.new.bindings ≡ program.old.bindings) }
 {
     emit_all(program, &[add(10, 0, 0), add(17, 0, 94), Instr::Ecall])
 }
@@ -124,7 +124,7 @@ fn load(word: u32) -> Instr
 fn emit_routine(program: &mut Builder, routine: u32) -> Result<(), AllocError>
     requires room { length program.old.lines + 5 ≤ 4000000 }
     ensures lines { OnOk result (program.new.lines ≡ program.old.lines ++ routine_lines routine) }
-    ensures places { OnOk result (program.new.places ≡ program.old.places) }
+    ensures bindings { OnOk result (program.new.bindings ≡ program.old.bindings) }
 {
     for k in 0..routine % 4 + 1 {
         emit(program, load(k))?;
@@ -142,13 +142,13 @@ fn emit_routines(program: &mut Builder, labels: &[Label]) -> Result<(), AllocErr
     requires few { length labels.now ≤ 40000 }
     requires labels { labels.now ≡ range_with_len 2 (length labels.now) }
     requires begin { length program.old.lines ≡ 13 + 2 * length labels.now }
-    requires places { length program.old.places ≡ 2 + length labels.now }
-    requires unbound { (k : ℕ) → place_of program.old.places (2 + k) ≡ None }
+    requires bindings { length program.old.bindings ≡ 2 + length labels.now }
+    requires unbound { (k : ℕ) → binding_of program.old.bindings (2 + k) ≡ None }
     ensures lines { OnOk result (program.new.lines
         ≡ program.old.lines ++ flat_map routine_lines (range_with_len 0 (length labels.now))) }
-    ensures bound { OnOk result (AreRoutines (length labels.now) (length labels.now) program.new.places) }
-    ensures main { OnOk result (place_of program.new.places 0 ≡ place_of program.old.places 0) }
-    ensures worker { OnOk result (place_of program.new.places 1 ≡ place_of program.old.places 1) }
+    ensures bound { OnOk result (AreRoutines (length labels.now) (length labels.now) program.new.bindings) }
+    ensures main { OnOk result (binding_of program.new.bindings 0 ≡ binding_of program.old.bindings 0) }
+    ensures worker { OnOk result (binding_of program.new.bindings 1 ≡ binding_of program.old.bindings 1) }
 {
     for (routine, label) in labels.iter().enumerate() {
         bind(program, *label);
@@ -164,12 +164,12 @@ fn routine_labels(
     routines: u32,
 ) -> Result<Vec<Label>, AllocError>
     requires few { routines ≤ 40000 }
-    requires two { length program.old.places ≡ 2 }
-    requires unbound { (k : ℕ) → place_of program.old.places k ≡ None }
+    requires two { length program.old.bindings ≡ 2 }
+    requires unbound { (k : ℕ) → binding_of program.old.bindings k ≡ None }
     ensures labels { IfOk result (λ labels. labels.items ≡ range_with_len 2 routines) }
     ensures lines { OnOk result (program.new.lines ≡ program.old.lines) }
-    ensures places { OnOk result (length program.new.places ≡ 2 + routines) }
-    ensures unbound { OnOk result ((k : ℕ) → place_of program.new.places k ≡ None) }
+    ensures bindings { OnOk result (length program.new.bindings ≡ 2 + routines) }
+    ensures unbound { OnOk result ((k : ℕ) → binding_of program.new.bindings k ≡ None) }
 {
     let mut labels = Vec::new(alloc);
     for _ in 0..routines {
@@ -182,7 +182,7 @@ fn routine_labels(
 fn demo_program(alloc: Global, routines: u32) -> Result<Builder, AllocError>
     requires { routines ≤ 40000 }
     ensures lines { IfOk result (λ program. program.lines ≡ lines routines) }
-    ensures places { IfOk result (λ program. AreBound routines program.places) }
+    ensures bindings { IfOk result (λ program. AreBound routines program.bindings) }
 {
     let mut program = Builder::new(alloc)?;
     let main = label(&mut program)?;

@@ -13,12 +13,12 @@ use std::alloc::{AllocError, Global};
 const ENTRY: u32 = 0x1_0054;
 
 /// A symbol whose name is one.
-fn named(alloc: Global, name: &[u8], place: u32) -> Result<Symbol, AllocError>
+fn named(alloc: Global, name: &[u8], word: u32) -> Result<Symbol, AllocError>
     requires name { is_name name.now ≡ true }
-    requires place { place ≤ 4000000 }
-    ensures symbol { IfOk result (λ symbol. symbol ≡ record { name = name.now; at = address place }) }
+    requires word { word ≤ 4000000 }
+    ensures symbol { IfOk result (λ symbol. symbol ≡ record { name = name.now; at = address word }) }
 {
-    let at = ENTRY + 4 * place;
+    let at = ENTRY + 4 * word;
     match Name::new(alloc, name) {
         Ok(name) => Ok(Symbol { name, at }),
         Err(NameError::Memory) => Err(AllocError),
@@ -38,13 +38,13 @@ fn routine_name(alloc: Global, routine: u32) -> Result<Vec<u8>, AllocError>
 }
 
 /// The symbol of a routine that begins at this word.
-fn routine_symbol(alloc: Global, routine: u32, place: u32) -> Result<Symbol, AllocError>
+fn routine_symbol(alloc: Global, routine: u32, word: u32) -> Result<Symbol, AllocError>
     requires routine { routine < 40000 }
-    requires place { place ≤ 4000000 }
-    ensures { IfOk result (λ symbol. symbol ≡ record { name = 114 ∷ decimal (routine + 1); at = address place }) }
+    requires word { word ≤ 4000000 }
+    ensures { IfOk result (λ symbol. symbol ≡ record { name = 114 ∷ decimal (routine + 1); at = address word }) }
 {
     let name = routine_name(alloc, routine)?;
-    named(alloc, &name, place)
+    named(alloc, &name, word)
 }
 
 /// Appends the symbols of the routines.
@@ -54,10 +54,10 @@ fn push_routines(alloc: Global, symbols: &mut Vec<Symbol>, routines: u32) -> Res
         ≡ symbols.old.items ++ map (routine_symbol routines) (range_with_len 0 routines)) }
 {
     // Behind the first ten words, two words for each call, and the last three.
-    let mut place = 13 + 2 * routines;
+    let mut word = 13 + 2 * routines;
     for routine in 0..routines {
-        symbols.push(routine_symbol(alloc, routine, place)?)?;
-        place += routine % 4 + 2;
+        symbols.push(routine_symbol(alloc, routine, word)?)?;
+        word += routine % 4 + 2;
     }
     Ok(())
 }

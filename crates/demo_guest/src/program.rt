@@ -1,10 +1,10 @@
 //! The steps of writing a program, where memory is all that can be wanting.
 ghost use Rattle.std.specs.Prelude.{◌≡◌, ◌<◌, ◌≤◌, ◌+◌, ◌++◌, length, map, true, None, IfOk, OnOk, All};
 ghost use Rattle.rv_isa.specs.Encoding.{IsEncodable};
-ghost use Rattle.rv_asm.specs.Assembled.{place_of, AreAssembled};
+ghost use Rattle.rv_asm.specs.Assembled.{binding_of, AreAssembled};
 ghost use Rattle.rv_asm.specs.Lines.{is_jump};
 ghost use Rattle.rv_asm.specs.Refusals.{IsAccepted};
-ghost use Rattle.rv_asm.specs.Draft.{with_label, with_line, with_place};
+ghost use Rattle.rv_asm.specs.Draft.{with_label, with_line, with_binding};
 ghost use Rattle.demo_guest.specs.Drafts.{jump, plain};
 
 use rv_asm::{AsmError, Builder, Code, Label};
@@ -29,7 +29,7 @@ pub(crate) fn emit_all(program: &mut Builder, instructions: &[Instr]) -> Result<
     requires room { length program.old.lines + length instructions.now ≤ 4000000 }
     requires encodable { All IsEncodable instructions.now }
     ensures lines { OnOk result (program.new.lines ≡ program.old.lines ++ map plain instructions.now) }
-    ensures places { OnOk result (program.new.places ≡ program.old.places) }
+    ensures bindings { OnOk result (program.new.bindings ≡ program.old.bindings) }
 {
     for instruction in instructions {
         emit(program, *instruction)?;
@@ -39,9 +39,9 @@ pub(crate) fn emit_all(program: &mut Builder, instructions: &[Instr]) -> Result<
 
 /// Makes a label.
 pub(crate) fn label(program: &mut Builder) -> Result<Label, AllocError>
-    requires room { length program.old.places < 4000000 }
+    requires room { length program.old.bindings < 4000000 }
     ensures made { OnOk result (program.new ≡ with_label program.old) }
-    ensures number { IfOk result (λ label. label ≡ length program.old.places) }
+    ensures number { IfOk result (λ label. label ≡ length program.old.bindings) }
 {
     match program.label() {
         Ok(label) => Ok(label),
@@ -53,7 +53,7 @@ pub(crate) fn label(program: &mut Builder) -> Result<Label, AllocError>
 /// Appends a jump to a label.
 pub(crate) fn jump(program: &mut Builder, instruction: Instr, to: Label) -> Result<(), AllocError>
     requires room { length program.old.lines < 4000000 }
-    requires label { to < length program.old.places }
+    requires label { to < length program.old.bindings }
     requires jump { is_jump instruction ≡ true }
     ensures line { OnOk result (program.new ≡ with_line program.old (jump instruction to)) }
 {
@@ -66,9 +66,9 @@ pub(crate) fn jump(program: &mut Builder, instruction: Instr, to: Label) -> Resu
 
 /// A label that is not bound stands for the next word from now on.
 pub(crate) fn bind(program: &mut Builder, label: Label)
-    requires label { label < length program.old.places }
-    requires once { place_of program.old.places label ≡ None }
-    ensures bound { program.new ≡ with_place program.old label }
+    requires label { label < length program.old.bindings }
+    requires once { binding_of program.old.bindings label ≡ None }
+    ensures bound { program.new ≡ with_binding program.old label }
 {
     match program.bind(label) {
         Ok(()) => (),

@@ -4,7 +4,7 @@
 //! later call takes memory.
 #![tactic(auto)]
 
-mod parted;
+mod partition;
 mod table;
 mod waiter;
 

@@ -3,7 +3,7 @@ ghost use Rattle.std.specs.Prelude.{◌≡◌, ◌≢◌, ◌<◌, ◌≤◌, []
 ghost use Rattle.futex_table.specs.Once.{waits, IsOnce};
 ghost use Rattle.futex_table.specs.Waiting.{after_wait, woken, after_wake, shifted, after_requeue, after_forget, all_bits};
 
-use crate::parted::{add_moved, leave_out, part};
+use crate::partition::{add_moved, keep_all_but, partition};
 use crate::waiter::Waiter;
 use guest_words::{Addr, Tid};
 use std::alloc::{AllocError, Global};
@@ -77,7 +77,7 @@ impl FutexTable {
         ensures count { result ≡ length (woken self.old at most bits) }
         ensures after { self.new ≡ after_wake self.old at most bits }
     {
-        part(
+        partition(
             self.waiting.as_slice(),
             at,
             bits,
@@ -100,7 +100,7 @@ impl FutexTable {
         ensures after { self.new ≡ after_requeue self.old at most shift to }
     {
         let count = self.wake(at, most, u32::MAX);
-        part(
+        partition(
             self.waiting.as_slice(),
             at,
             u32::MAX,
@@ -120,7 +120,7 @@ impl FutexTable {
     pub fn forget(&mut self, tid: Tid)
         ensures after { self.new ≡ after_forget self.old tid }
     {
-        leave_out(self.waiting.as_slice(), tid, &mut self.kept);
+        keep_all_but(self.waiting.as_slice(), tid, &mut self.kept);
         mem::swap(&mut self.waiting, &mut self.kept);
         self.kept.clear();
     }

@@ -21,14 +21,14 @@ use Rattle.guest_calls.specs.Futex.{count_woken, count_shifted, futex, futex_at,
 use Rattle.futex_table.specs.Waiting.{all_bits}
 use Rattle.guest_calls.specs.Kernel.{KernelState}
 use Rattle.guest_calls.specs.Laws.{EveryCallKeepsTheBreakFree}
-use Rattle.guest_calls.specs.Pages.{IsBreakFree, are_mapped, brk, is_place, lowest_place, mmap2, brk_effect, brk_tests, maps, mmap2_tests, mprotect, mprotect_tests, munmap, munmap_tests, pages, remaps, rights_of, unmaps}
+use Rattle.guest_calls.specs.Pages.{IsBreakFree, are_mapped, brk, fits_at, first_fit, mmap2, brk_effect, brk_tests, maps, mmap2_tests, mprotect, mprotect_tests, munmap, munmap_tests, pages, remaps, rights_of, unmaps}
 use Rattle.guest_calls.specs.Results.{Call, CallResult, Guest, arg, answers, either, filled, filled_where, changes, first_answer, fills_word, fills_word_where, has, returns, reads, unless, when, word, ◌▷◌}
 use Rattle.guest_calls.specs.Search.{first_passing}
 use Rattle.guest_calls.specs.Table.{always, gettid, table}
 use Rattle.guest_calls.specs.Threads.{clear_tid, exit, exit_group, is_cleared, rt_sigprocmask, sched_yield, set_tid_address, told_end}
 use Rattle.guest_calls.specs.Vectors.{filled_parts, readv, writev}
 use Rattle.guest_calls.proofs.AllCalls.{of_every_call, of_unless}
-use Rattle.guest_calls.proofs.Places.{mapped_each}
+use Rattle.guest_calls.proofs.Fits.{mapped_each}
 use Rattle.guest_calls.proofs.Passed.{failed, found_from}
 
 -- the pages behind the break are free afterwards where they were before
@@ -177,20 +177,20 @@ mapped_high m page count o b above free q low high =
     let below : q < page = omega (arith, above, low, high) in
     ap (λ (inside : Bool). cond inside o (m.rights q)) (among_below page count q below) ∙ free q low high
 
-place_high : (o : Option ℕ) (m : Memory) (count : ℕ) → o ≡ lowest_place m count → is_none o ≡ false → 0x40000 ≤ unwrap_or o 0
-place_high None m count is some = absurd (cc)
-place_high (Some page) m count is some = found_from (is_place m count) 0x40000 0x3F000 page (sym is)
+fit_high : (o : Option ℕ) (m : Memory) (count : ℕ) → o ≡ first_fit m count → is_none o ≡ false → 0x40000 ≤ unwrap_or o 0
+fit_high None m count is some = absurd (cc)
+fit_high (Some page) m count is some = found_from (fits_at m count) 0x40000 0x3F000 page (sym is)
 
 mmap2_free : (c : Call) → KeepsFree c (mmap2 c)
-mmap2_free c = refused_free c (mmap2_tests c) (λ x. returns c (unwrap_or (lowest_place c.memory (pages (arg c 1))) 0 * 4096) ▷ maps (unwrap_or (lowest_place c.memory (pages (arg c 1))) 0) (pages (arg c 1)) (rights_of (arg c 2)))
+mmap2_free c = refused_free c (mmap2_tests c) (λ x. returns c (unwrap_or (first_fit c.memory (pages (arg c 1))) 0 * 4096) ▷ maps (unwrap_or (first_fit c.memory (pages (arg c 1))) 0) (pages (arg c 1)) (rights_of (arg c 2)))
     (λ passed free.
-    let place = lowest_place c.memory (pages (arg c 1)) in
+    let first = first_fit c.memory (pages (arg c 1)) in
     let one = (failed (not (arg c 3 % 2 ^ 4 == 2)) _ _ passed).1 in
     let two = (failed (not (has (arg c 3) 0x20)) _ _ one).1 in
     let three = (failed (has (arg c 3) 0x100010) _ _ two).1 in
     let four = (failed (arg c 1 == 0) _ _ three).1 in
-    let five = (failed (is_none place) _ _ four).0 in
-    mapped_high c.memory (unwrap_or place 0) (pages (arg c 1)) (Some (rights_of (arg c 2))) c.kernel.program_break (place_high place c.memory (pages (arg c 1)) refl five) free)
+    let five = (failed (is_none first) _ _ four).0 in
+    mapped_high c.memory (unwrap_or first 0) (pages (arg c 1)) (Some (rights_of (arg c 2))) c.kernel.program_break (fit_high first c.memory (pages (arg c 1)) refl five) free)
 
 -- the pages behind a new break
 grown_free : (m : Memory) (old at : ℕ) (r : Rights) → IsBreakFree m old → IsBreakFree (with_pages (with_pages m (pages old) (pages at - pages old) (Some r)) (pages at) (pages old - pages at) None) at

@@ -8,7 +8,7 @@ use Rattle.std.proofs.lemmas.Bool.Decides.{nat_tests}
 use Rattle.std.proofs.lemmas.List.{length-map}
 use Rattle.futex_table.specs.Once.{waits}
 use Rattle.futex_table.specs.Waiting.{woken, after_wake}
-use Rattle.futex_table.proofs.Parts.{waits-filter}
+use Rattle.futex_table.proofs.Partitions.{waits-filter}
 use Rattle.guest_calls.specs.declared.thread.Thread.{Thread}
 use Rattle.guest_calls.specs.Invariant.{IsState, RisesTo}
 use Rattle.guest_calls.specs.Kernel.{KernelState, is_thread, lives, can_run, other_threads}

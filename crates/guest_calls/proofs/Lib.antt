@@ -8,7 +8,7 @@ pub mod Numbers
 pub mod PartLists
 pub mod Passed
 pub mod PathEnds
-pub mod Places
+pub mod Fits
 pub mod Queues
 pub mod Reach
 pub mod Refusals

@@ -3,13 +3,13 @@ use Rattle.std.proofs.Common.{◌≡◌, ℕ, zero, suc, ◌<◌, ◌≤◌, ◌
 use Rattle.std.specs.Prelude.{not, ◌||◌, ◌==◌, is_none}
 use Rattle.std.specs.Option.{option_or}
 use Rattle.guest_memory.specs.declared.refusal.MemError.{MemError}
-use Rattle.guest_memory.specs.declared.refusal.Need.TheVariants as need
+use Rattle.guest_memory.specs.declared.refusal.Permission.TheVariants as permission
 use Rattle.guest_memory.specs.Memory.{Memory, byte_refusal, bytes_at, first_refusal}
 use Rattle.guest_memory.proofs.Accesses.{refusal_each, refusal_skip}
 use Rattle.guest_memory.proofs.ReadBytes.{length-bytes_at}
 use Rattle.rv_exec.specs.Accesses.{can_read}
 use Rattle.guest_calls.specs.Files.{ends_path, path_end}
-use Rattle.guest_calls.proofs.Places.{found_first, found_none}
+use Rattle.guest_calls.proofs.Fits.{found_first, found_none}
 
 take_front : (xs ys : List ℕ) (n : ℕ) → length xs ≡ n → take n (xs ++ ys) ≡ xs
 take_front [] ys zero e = refl
@@ -29,16 +29,16 @@ byte_none : (o : Option MemError) → is_none (option_or o None) ≡ true → o 
 byte_none None h = refl
 byte_none (Some e) h = absurd (cc)
 
-byte_reads : (m : Memory) (q : ℕ) → ends_path m q ≡ false → byte_refusal m need.Read q ≡ None
-byte_reads m q h = byte_none (byte_refusal m need.Read q) (read_where_none (can_read m q 1) (m.byte q == 0) h)
+byte_reads : (m : Memory) (q : ℕ) → ends_path m q ≡ false → byte_refusal m permission.Read q ≡ None
+byte_reads m q h = byte_none (byte_refusal m permission.Read q) (read_where_none (can_read m q 1) (m.byte q == 0) h)
 
 -- what stands before the end can be read
 pub path_reads : (m : Memory) (path n : ℕ) → ((q : ℕ) → path ≤ q → q < path + n → ends_path m q ≡ false) → can_read m path n ≡ true
 path_reads m path n before =
     let e : n + 0 ≡ n = omega arith in
-    let none : first_refusal m need.Read path n ≡ None =
-    ap (λ (k : ℕ). first_refusal m need.Read path k) (sym e)
-    ∙ refusal_skip m need.Read path n 0 (λ k lt. byte_reads m (path + k) (before (path + k) (omega arith) (omega (arith, lt))))
+    let none : first_refusal m permission.Read path n ≡ None =
+    ap (λ (k : ℕ). first_refusal m permission.Read path k) (sym e)
+    ∙ refusal_skip m permission.Read path n 0 (λ k lt. byte_reads m (path + k) (before (path + k) (omega arith) (omega (arith, lt))))
     in
     ap (λ (o : Option MemError). is_none o) none
 
@@ -55,4 +55,4 @@ none_from (Some e) h = absurd (cc)
 -- one more byte
 pub read_through : (m : Memory) (at n : ℕ) → can_read m at n ≡ true → can_read m (at + n) 1 ≡ true → can_read m at (n + 1) ≡ true
 read_through m at n before last =
-    ap (λ (o : Option MemError). is_none o) (refusal_skip m need.Read at n 1 (refusal_each m need.Read at n (none_from (first_refusal m need.Read at n) before))) ∙ last
+    ap (λ (o : Option MemError). is_none o) (refusal_skip m permission.Read at n 1 (refusal_each m permission.Read at n (none_from (first_refusal m permission.Read at n) before))) ∙ last

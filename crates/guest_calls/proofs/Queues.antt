@@ -8,7 +8,7 @@ use Rattle.std.proofs.lemmas.List.Folds.{list_any-append}
 use Rattle.futex_table.specs.declared.waiter.Waiter.{Waiter}
 use Rattle.futex_table.specs.Once.{waits, IsOnce}
 use Rattle.futex_table.specs.Waiting.{all_bits, after_wait, woken, after_wake, shifted, after_requeue, moved_to, waits_at}
-use Rattle.futex_table.proofs.Parts.{waits-filter, waits-take}
+use Rattle.futex_table.proofs.Partitions.{waits-filter, waits-take}
 use Rattle.guest_calls.specs.declared.thread.Thread.{Thread}
 use Rattle.guest_calls.specs.Invariant.{IsState}
 use Rattle.guest_calls.specs.Kernel.{KernelState, is_thread, lives, can_run}

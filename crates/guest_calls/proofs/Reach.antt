@@ -6,8 +6,8 @@ use Rattle.std.proofs.lemmas.Bool.{cases_lt}
 use Rattle.std.proofs.lemmas.Bool.Decides.{nat_tests}
 use Rattle.guest_words.specs.Words.{word_count}
 use Rattle.guest_memory.specs.declared.refusal.MemError.{MemError}
-use Rattle.guest_memory.specs.declared.refusal.Need.{Need}
-use Rattle.guest_memory.specs.declared.refusal.Need.TheVariants as need
+use Rattle.guest_memory.specs.declared.refusal.Permission.{Permission}
+use Rattle.guest_memory.specs.declared.refusal.Permission.TheVariants as permission
 use Rattle.guest_memory.specs.Memory.{Memory, byte_refusal, first_refusal, with_bytes, is_among}
 use Rattle.guest_memory.specs.Reserved.{Reserved, after_write}
 use Rattle.guest_memory.proofs.Accesses.{refusal_each, refusal_skip}
@@ -46,22 +46,22 @@ pub untouched : (held : Reserved) (first : ℕ) → after_write held None first 
 untouched held first = λ i q. (not_dropped first (held q)) i
 
 -- writes change no right
-pub refusal_kept : (m : Memory) (need : Need) (to : ℕ) (bytes : List ℕ) (at n : ℕ) → first_refusal (with_bytes m to bytes) need at n ≡ first_refusal m need at n
-refusal_kept m need to bytes at zero = refl
-refusal_kept m need to bytes at (suc n) = ap (λ (o : Option MemError). option_or (byte_refusal m need at) o) (refusal_kept m need to bytes (at + 1) n)
+pub refusal_kept : (m : Memory) (permission : Permission) (to : ℕ) (bytes : List ℕ) (at n : ℕ) → first_refusal (with_bytes m to bytes) permission at n ≡ first_refusal m permission at n
+refusal_kept m permission to bytes at zero = refl
+refusal_kept m permission to bytes at (suc n) = ap (λ (o : Option MemError). option_or (byte_refusal m permission at) o) (refusal_kept m permission to bytes (at + 1) n)
 
 pub writable_kept : (m : Memory) (to : ℕ) (bytes : List ℕ) (at n : ℕ) → can_write (with_bytes m to bytes) at n ≡ can_write m at n
-writable_kept m to bytes at n = ap (λ (o : Option MemError). is_none o) (refusal_kept m need.Write to bytes at n)
+writable_kept m to bytes at n = ap (λ (o : Option MemError). is_none o) (refusal_kept m permission.Write to bytes at n)
 
 -- bytes among those that are not refused
-refusal_within : (m : Memory) (need : Need) (at n k count : ℕ) → first_refusal m need at n ≡ None → k + count ≤ n → first_refusal m need (at + k) count ≡ None
-refusal_within m need at n k count none fits =
-    let each : (j : ℕ) → j < count → byte_refusal m need ((at + k) + j) ≡ None = λ j lt.
+refusal_within : (m : Memory) (permission : Permission) (at n k count : ℕ) → first_refusal m permission at n ≡ None → k + count ≤ n → first_refusal m permission (at + k) count ≡ None
+refusal_within m permission at n k count none fits =
+    let each : (j : ℕ) → j < count → byte_refusal m permission ((at + k) + j) ≡ None = λ j lt.
     let e : at + (k + j) ≡ (at + k) + j = omega arith in
-    subst (λ (a : ℕ). byte_refusal m need a ≡ None) e (refusal_each m need at n none (k + j) (omega (arith, lt, fits)))
+    subst (λ (a : ℕ). byte_refusal m permission a ≡ None) e (refusal_each m permission at n none (k + j) (omega (arith, lt, fits)))
     in
     let e : count ≡ count + 0 = omega arith in
-    ap (λ (j : ℕ). first_refusal m need (at + k) j) e ∙ refusal_skip m need (at + k) count 0 each
+    ap (λ (j : ℕ). first_refusal m permission (at + k) j) e ∙ refusal_skip m permission (at + k) count 0 each
 
 pub reads_within : (m : Memory) (at n k count : ℕ) → can_read m at n ≡ true → k + count ≤ n → can_read m (at + k) count ≡ true
-reads_within m at n k count reach fits = ap (λ (o : Option MemError). is_none o) (refusal_within m need.Read at n k count (none_from (first_refusal m need.Read at n) reach) fits)
+reads_within m at n k count reach fits = ap (λ (o : Option MemError). is_none o) (refusal_within m permission.Read at n k count (none_from (first_refusal m permission.Read at n) reach) fits)

@@ -33,7 +33,7 @@ abbrev pub channel : Descriptor → Option ℕ
 channel (Output n) = Some n
 channel _ = None
 
--- the bytes of an input, by its place
+-- the bytes of an input, by its index
 abbrev pub input_bytes : KernelState → ℕ → List ℕ
 input_bytes k input = (slice_index_or k.inputs input (record { name = []; bytes = [] })).bytes
 
@@ -70,9 +70,9 @@ path_end m path = first_passing (ends_path m) path path_limit
 abbrev pub path_name : Memory → ℕ → List ℕ
 path_name m path = bytes_at m path (unwrap_or (path_end m path) path - path)
 
--- the place of the input with the path's name, if there is one
-abbrev pub input_place : Call → ℕ → Option ℕ
-input_place c path = position (is_named (path_name c.memory path)) c.kernel.inputs
+-- the index of the input with the path's name, if there is one
+abbrev pub input_index : Call → ℕ → Option ℕ
+input_index c path = position (is_named (path_name c.memory path)) c.kernel.inputs
 
 -- the least number that is free, if one is
 abbrev pub least_free : KernelState → Option ℕ
@@ -83,7 +83,7 @@ openat_tests c =
     let path = arg c 1 in
     option_map_or (λ at. not (can_read c.memory at 1)) (path_end c.memory path) false ⇒ efault
     or is_none (path_end c.memory path) ⇒ enametoolong
-    or is_none (input_place c path) ⇒ enoent
+    or is_none (input_index c path) ⇒ enoent
     or has (arg c 2) writing_flags ⇒ eacces
     or is_none (least_free c.kernel) ⇒ emfile
 
@@ -94,7 +94,7 @@ openat_effect c =
     let fd = unwrap_or (least_free c.kernel) 0 in
     returns c fd
     ▷ reads c.tid path (unwrap_or (path_end c.memory path) path - path + 1)
-    ▷ sets fd (InputFile (unwrap_or (input_place c path) 0) 0)
+    ▷ sets fd (InputFile (unwrap_or (input_index c path) 0) 0)
 
 abbrev pub openat : Call → CallResult
 openat c = unless c (openat_tests c) λ _. openat_effect c

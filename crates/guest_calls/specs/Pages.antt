@@ -79,12 +79,12 @@ are_free m page zero = true
 are_free m page (suc n) = is_none (m.rights page) && are_free m (page + 1) n
 
 -- so many pages from this one on are free and end at or below 0x7F000000
-abbrev pub is_place : Memory → ℕ → ℕ → Bool
-is_place m count page = nat_le (page + count) 0x7F000 && are_free m page count
+abbrev pub fits_at : Memory → ℕ → ℕ → Bool
+fits_at m count page = nat_le (page + count) 0x7F000 && are_free m page count
 
--- the lowest place for so many pages from 0x40000000 on
-abbrev pub lowest_place : Memory → ℕ → Option ℕ
-lowest_place m count = first_passing (is_place m count) 0x40000 0x3F000
+-- the lowest page from 0x40000000 on at which so many free pages stand
+abbrev pub first_fit : Memory → ℕ → Option ℕ
+first_fit m count = first_passing (fits_at m count) 0x40000 0x3F000
 
 -- MAP_PRIVATE 2 among the four bits of the type, MAP_ANONYMOUS 0x20, MAP_FIXED 0x10 and MAP_FIXED_NOREPLACE 0x100000
 abbrev pub mmap2_tests : Call → List (Bool × ℕ)
@@ -94,13 +94,13 @@ mmap2_tests c =
     or not (has (arg c 3) 0x20) ⇒ enosys
     or has (arg c 3) 0x100010 ⇒ enosys
     or arg c 1 == 0 ⇒ einval
-    or is_none (lowest_place c.memory count) ⇒ enomem
+    or is_none (first_fit c.memory count) ⇒ enomem
     or nat_lt page_limit (mapped_pages c.memory + count) ⇒ enomem
 
 abbrev pub mmap2 : Call → CallResult
 mmap2 c =
     let count = pages (arg c 1) in
-    let page = unwrap_or (lowest_place c.memory count) 0 in
+    let page = unwrap_or (first_fit c.memory count) 0 in
     unless c (mmap2_tests c) λ _. returns c (page * 4096) ▷ maps page count (rights_of (arg c 2))
 
 -- ---- mprotect

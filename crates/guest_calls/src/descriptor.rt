@@ -8,7 +8,7 @@ pub enum Descriptor {
     StandardInput,
     /// Standard output, 1, or standard error, 2.
     Output { channel: u32 },
-    /// The input at a place of the list, and the position in it.
+    /// The input at an index of the list, and the position in it.
     InputFile { input: usize, position: u64 },
 }
 

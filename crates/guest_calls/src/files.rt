@@ -179,7 +179,7 @@ fn offset_of(high: u32, low: u32) -> i64
     (u64::from(high) * 0x1_0000_0000 + u64::from(low)).cast_signed()
 }
 
-/// A place and an offset from it. None where that is below 0 or no signed number.
+/// A position and an offset from it. None where that is below 0 or no signed number.
 fn moved(origin: u64, offset: i64) -> Option<u64>
     requires { origin < 2 ^ 63 }
     ensures some { IfSome result (λ position. position ≡ unsigned_abs (pos origin +ℤ offset)) }

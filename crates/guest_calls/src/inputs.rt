@@ -67,18 +67,18 @@ impl Inputs {
         Ok(())
     }
 
-    /// The place of the file of this name.
-    pub(crate) fn place_of(&self, name: &[u8]) -> Option<usize>
+    /// The index of the file of this name.
+    pub(crate) fn index_of(&self, name: &[u8]) -> Option<usize>
         ensures { result ≡ position (is_named name.now) self.now }
     {
         self.items.iter().position(|i| i.name.as_slice() == name)
     }
 
-    /// The bytes of the file at a place; none where there is no file.
-    pub(crate) fn bytes_at(&self, place: usize) -> &[u8]
-        ensures { result.now ≡ (slice_index_or self.now place (record { name = []; bytes = [] })).bytes }
+    /// The bytes of the file at an index; none where there is no file.
+    pub(crate) fn bytes_at(&self, index: usize) -> &[u8]
+        ensures { result.now ≡ (slice_index_or self.now index (record { name = []; bytes = [] })).bytes }
     {
-        match self.items.get(place) {
+        match self.items.get(index) {
             Some(input) => &input.bytes,
             None => &[],
         }

@@ -6,7 +6,7 @@ ghost use Rattle.guest_memory.specs.Memory.{AreFree, ArePagesMapped, mapped_page
 ghost use Rattle.trace_model.specs.EventList.{EventList};
 ghost use Rattle.guest_calls.specs.Kernel.{KernelState};
 ghost use Rattle.guest_calls.specs.Outcome.{asked, Does};
-ghost use Rattle.guest_calls.specs.Pages.{pages, rights_of, lowest_place, are_mapped, IsBreakFree};
+ghost use Rattle.guest_calls.specs.Pages.{pages, rights_of, first_fit, are_mapped, IsBreakFree};
 ghost use Rattle.guest_calls.specs.Pages as specs;
 
 use crate::Answer;
@@ -113,10 +113,10 @@ pub(crate) fn mprotect(memory: &mut GuestMemory, caller: &Caller) -> Answer
     Answer::Back { value: 0 }
 }
 
-/// The lowest place for so many pages from 0x40000000 on.
-fn lowest_place(memory: &GuestMemory, count: u32) -> Option<u32>
+/// The lowest page from 0x40000000 on at which so many free pages stand.
+fn first_fit(memory: &GuestMemory, count: u32) -> Option<u32>
     requires { 1 ≤ count }
-    ensures value { result ≡ lowest_place (memory_of memory.now) count }
+    ensures value { result ≡ first_fit (memory_of memory.now) count }
     ensures free { IfSome result (λ page. AreFree (memory_of memory.now) page count) }
     ensures end { IfSome result (λ page. page + count ≤ 0x7F000) }
     ensures start { IfSome result (λ page. 0x40000 ≤ page) }
@@ -144,7 +144,7 @@ pub(crate) fn mmap2(memory: &mut GuestMemory, caller: &Caller) -> Result<Answer,
         return Ok(Answer::Back { value: EINVAL });
     }
     let count = pages(bytes);
-    let Some(page) = lowest_place(memory, count) else {
+    let Some(page) = first_fit(memory, count) else {
         return Ok(Answer::Back { value: ENOMEM });
     };
     if memory.mapped() + count > PAGE_LIMIT {

@@ -62,7 +62,7 @@ fn path_end(memory: &GuestMemory, path: Addr) -> Option<u64>
 }
 
 impl State {
-    /// The place of the input that bytes of the guest's memory name.
+    /// The index of the input that bytes of the guest's memory name.
     fn input_named(&self, memory: &GuestMemory, path: Addr, size: usize) -> Option<usize>
         requires few { size ≤ 4096 }
         requires reach { can_read (memory_of memory.now) path size ≡ true }
@@ -70,7 +70,7 @@ impl State {
     {
         let mut buffer = [0u8; PATH_LIMIT];
         copy_to(memory, path, &mut buffer, size);
-        self.inputs.place_of(&buffer[..size])
+        self.inputs.index_of(&buffer[..size])
     }
 
     /// The least number that is free.

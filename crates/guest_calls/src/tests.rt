@@ -1,4 +1,4 @@
-// A guest and its calls: what each of them answers.
+//! A guest and its calls: what each of them answers.
 ghost use Rattle.guest_memory.specs.Guest.{memory_of};
 ghost use Rattle.guest_calls.specs.Pages.{IsBreakFree};
 
@@ -115,7 +115,7 @@ const PAGES: [Row; 26] = [
     (215, [0x10001, 1, 0, 0, 0, 0], -22),
     (215, [0x10000, 0, 0, 0, 0, 0], -22),
     (215, [0xFFFF_F000, 0x1001, 0, 0, 0, 0], -22),
-    // mmap2(2): shared, with a file, at a fixed place; of no byte; no place; too many pages; three pages and one
+    // mmap2(2): shared, with a file, at a fixed address; of no byte; no fit; too many pages; three pages and one
     (222, [0, 0x1000, 3, 0x21, 0, 0], -38),
     (222, [0, 0x1000, 3, 0x2, 0, 0], -38),
     (222, [0, 0x1000, 3, 0x32, 0, 0], -38),
@@ -364,6 +364,10 @@ fn the_end_of_a_child_is_told(rt: HostRuntime) -> Result<(), Fail> {
     Ok(())
 }
 
+fn back(value: u32) -> Answer {
+    Answer::Back { value }
+}
+
 // The threads 2 to 5 wait at 0x10640, the third of them for the bits 5 and the second for the bits 2.
 #[test]
 fn waiters_are_woken_in_order(rt: HostRuntime) -> Result<(), Fail> {
@@ -377,26 +381,16 @@ fn waiters_are_woken_in_order(rt: HostRuntime) -> Result<(), Fail> {
         (4, 422, [0x10640, 9, 0, 0, 0, 5], Answer::Block),
         (5, 422, [0x10640, 0x100, 0, 0, 0, 0], Answer::Block),
         // the bits 2 find the thread 2 first; the bits 8 then find the thread 5 alone
-        (1, 422, [0x10640, 10, 1, 0, 0, 2], Answer::Back { value: 1 }),
+        (1, 422, [0x10640, 10, 1, 0, 0, 2], back(1)),
         (2, 124, [0; 6], Answer::Yield),
-        (1, 422, [0x10640, 10, 9, 0, 0, 8], Answer::Back { value: 1 }),
+        (1, 422, [0x10640, 10, 9, 0, 0, 8], back(1)),
         (5, 124, [0; 6], Answer::Yield),
         // the thread 3 is woken and 4 is moved, behind which 3 waits again
-        (
-            1,
-            422,
-            [0x10640, 3, 1, 1, 0x10644, 0],
-            Answer::Back { value: 1 },
-        ),
-        (1, 422, [0x10640, 1, 9, 0, 0, 0], Answer::Back { value: 0 }),
+        (1, 422, [0x10640, 3, 1, 1, 0x10644, 0], back(1)),
+        (1, 422, [0x10640, 1, 9, 0, 0, 0], back(0)),
         (3, 422, [0x10644, 0, 0, 0, 0, 0], Answer::Block),
         // the thread 4 is woken and 3 is moved
-        (
-            1,
-            422,
-            [0x10644, 4, 1, 9, 0x10640, 0],
-            Answer::Back { value: 2 },
-        ),
+        (1, 422, [0x10644, 4, 1, 9, 0x10640, 0], back(2)),
         (
             4,
             94,

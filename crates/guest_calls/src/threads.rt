@@ -45,7 +45,7 @@ impl State {
         requires { can_run self.old tid ≡ true }
         ensures { self.new ≡ record self.old { threads = other_threads self.old tid } }
     {
-        leave_out(&mut self.threads, tid);
+        remove_thread(&mut self.threads, tid);
     }
 
     /// exit(2)
@@ -137,7 +137,7 @@ impl State {
 }
 
 /// Takes a thread out.
-fn leave_out(threads: &mut Vec<Thread>, tid: Tid)
+fn remove_thread(threads: &mut Vec<Thread>, tid: Tid)
     ensures left { threads.new.items ≡ filter (λ t. not (is_thread tid t)) threads.old.items }
     ensures room { vec_capacity threads.new ≡ vec_capacity threads.old }
 {

@@ -8,7 +8,7 @@ use Rattle.trace_model.specs.declared.event_kinds.Event.TheVariants.{Step}
 use Rattle.guest_words.specs.declared.endings.FaultKind.{FaultKind}
 use Rattle.rv_isa.specs.declared.instruction.Instr.{Instr}
 use Rattle.rv_isa.specs.declared.instruction.Instr.TheVariants.{Jal, Jalr, Ecall}
-use Rattle.rv_exec.specs.Effects.{Core, checked, effect, on_registers}
+use Rattle.rv_exec.specs.Effects.{ExecState, checked, effect, on_registers}
 use Rattle.rv_exec.specs.declared.outcome.Access.{Access}
 use Rattle.rv_exec.specs.declared.outcome.Access.TheVariants as access
 use Rattle.rv_exec.specs.declared.outcome.Outcome.{Outcome}
@@ -23,49 +23,49 @@ use Rattle.guest_machine.specs.Machine.{MachineState, can_run, with_registers}
 use Rattle.guest_machine.specs.Sound.{IsSound, HoldersLive}
 use Rattle.guest_machine.specs.Kept.{Parts, Steps, machine_of}
 use Rattle.guest_machine.specs.declared.stepped.Stepped.TheVariants as stepped
-use Rattle.guest_machine.specs.Step.{StepResult, pc_of, access_events, after_effect, core_of, executed, faulted, jump_events, went, with_core}
+use Rattle.guest_machine.specs.Step.{StepResult, pc_of, access_events, after_effect, exec_state_of, executed, faulted, jump_events, went, with_exec_state}
 use Rattle.guest_machine.proofs.Registers.{aligned-with_registers, pc_aligned, tids-with_registers}
 use Rattle.guest_machine.specs.declared.hart.Hart.{Hart}
-use Rattle.guest_machine.specs.Places.{IsPlace}
-use Rattle.guest_machine.proofs.Places.{same_harts}
+use Rattle.guest_machine.specs.HartIndex.{IsIndex}
+use Rattle.guest_machine.proofs.HartIndices.{same_harts}
 use Rattle.guest_machine.proofs.Holders.{can_run-lives}
 
 -- the step, by what became of the instruction
-pub executed-went : (m : MachineState) (tid : ℕ) (i : Instr) (accessed : Access) (c : Core) → (Went accessed, c) ≡ effect tid i (core_of m tid) → executed m tid (Ok i) ≡ went m tid i accessed c
+pub executed-went : (m : MachineState) (tid : ℕ) (i : Instr) (accessed : Access) (c : ExecState) → (Went accessed, c) ≡ effect tid i (exec_state_of m tid) → executed m tid (Ok i) ≡ went m tid i accessed c
 executed-went m tid i accessed c e = ap (after_effect m tid i) (sym e)
 
-pub executed-fault : (m : MachineState) (tid : ℕ) (i : Instr) (kind : FaultKind) (c : Core) → (Fault kind, c) ≡ effect tid i (core_of m tid) → executed m tid (Ok i) ≡ faulted m tid kind
+pub executed-fault : (m : MachineState) (tid : ℕ) (i : Instr) (kind : FaultKind) (c : ExecState) → (Fault kind, c) ≡ effect tid i (exec_state_of m tid) → executed m tid (Ok i) ≡ faulted m tid kind
 executed-fault m tid i kind c e = ap (after_effect m tid i) (sym e)
 
 -- it is no call of the kernel
-pub executed-no_call : (m : MachineState) (tid : ℕ) (i : Instr) (c : Core) → (KernelCall, c) ≡ effect tid i (core_of m tid) → (i ≡ Ecall → ⊥) → ⊥
-executed-no_call m tid i c e other = other ((effect_calls tid i (core_of m tid)).0 (ap (λ p. p.0) (sym e)))
+pub executed-no_call : (m : MachineState) (tid : ℕ) (i : Instr) (c : ExecState) → (KernelCall, c) ≡ effect tid i (exec_state_of m tid) → (i ≡ Ecall → ⊥) → ⊥
+executed-no_call m tid i c e other = other ((effect_calls tid i (exec_state_of m tid)).0 (ap (λ p. p.0) (sym e)))
 
 -- a fault leaves all as it was
-pub fault-core : (m : MachineState) (tid : ℕ) (i : Instr) (kind : FaultKind) (c : Core) → (Fault kind, c) ≡ effect tid i (core_of m tid) → c ≡ core_of m tid
-fault-core m tid i kind c e = subst (λ (p : Outcome × Core). KeepsUnlessWent p.0 (core_of m tid) p.1) (sym e) (effect_kept tid i (core_of m tid))
+pub fault-state : (m : MachineState) (tid : ℕ) (i : Instr) (kind : FaultKind) (c : ExecState) → (Fault kind, c) ≡ effect tid i (exec_state_of m tid) → c ≡ exec_state_of m tid
+fault-state m tid i kind c e = subst (λ (p : Outcome × ExecState). KeepsUnlessWent p.0 (exec_state_of m tid) p.1) (sym e) (effect_kept tid i (exec_state_of m tid))
 
-holders_by : (m : MachineState) (tid : ℕ) (i : Instr) (answer : Outcome) (c : Core) → (answer, c) ≡ effect tid i (core_of m tid) → HoldersLive m.held m.kernel → lives m.kernel tid ≡ true → HoldersLive c.held m.kernel
+holders_by : (m : MachineState) (tid : ℕ) (i : Instr) (answer : Outcome) (c : ExecState) → (answer, c) ≡ effect tid i (exec_state_of m tid) → HoldersLive m.held m.kernel → lives m.kernel tid ≡ true → HoldersLive c.held m.kernel
 holders_by m tid i answer c e holders live q some = elim (cases_eq q tid) [
   | inl same ↦ ap (lives m.kernel) same ∙ live
   | inr differs ↦
-      let is : (effect tid i (core_of m tid)).1.held q ≡ c.held q = ap (λ p. p.1.held q) (sym e) in
-      let had : is_some ((effect tid i (core_of m tid)).1.held q) ≡ true = ap (λ o. is_some o) is ∙ some in
-      holders q (ap (λ o. is_some o) (sym (effect_others tid i (core_of m tid) q differs had)) ∙ had)
+      let is : (effect tid i (exec_state_of m tid)).1.held q ≡ c.held q = ap (λ p. p.1.held q) (sym e) in
+      let had : is_some ((effect tid i (exec_state_of m tid)).1.held q) ≡ true = ap (λ o. is_some o) is ∙ some in
+      holders q (ap (λ o. is_some o) (sym (effect_others tid i (exec_state_of m tid) q differs had)) ∙ had)
 ]
 
 -- the machine is sound afterwards
-pub sound-core : (m : MachineState) (tid : ℕ) (i : Instr) (answer : Outcome) (c : Core) → (answer, c) ≡ effect tid i (core_of m tid) → IsSound m → can_run m tid ≡ true → IsSound (with_core m tid c)
-sound-core m tid i answer c e sound can = record {
+pub sound-state : (m : MachineState) (tid : ℕ) (i : Instr) (answer : Outcome) (c : ExecState) → (answer, c) ≡ effect tid i (exec_state_of m tid) → IsSound m → can_run m tid ≡ true → IsSound (with_exec_state m tid c)
+sound-state m tid i answer c e sound can = record {
   same_threads = tids-with_registers m.harts tid c.registers ∙ sound.same_threads;
-  aligned = aligned-with_registers m.harts tid c.registers sound.aligned (subst (λ (core : Core). core.registers.pc % 4 ≡ 0) (ap (λ p. p.1) (sym e)) (effect_aligned tid i (core_of m tid) (pc_aligned m.harts tid sound.aligned)));
+  aligned = aligned-with_registers m.harts tid c.registers sound.aligned (subst (λ (after : ExecState). after.registers.pc % 4 ≡ 0) (ap (λ p. p.1) (sym e)) (effect_aligned tid i (exec_state_of m tid) (pc_aligned m.harts tid sound.aligned)));
   state = sound.state;
   holders = holders_by m tid i answer c e sound.holders (can_run-lives m tid can);
-  break_free = λ q low high. ap (λ (rights : _). rights q) (ap (λ p. p.1.memory.rights) e ∙ effect_rights tid i (core_of m tid)) ∙ sound.break_free q low high;
+  break_free = λ q low high. ap (λ (rights : _). rights q) (ap (λ p. p.1.memory.rights) e ∙ effect_rights tid i (exec_state_of m tid)) ∙ sound.break_free q low high;
 }
 
 -- the code of a step gives what the step is
-pub Steps-went : (p p2 : Parts) (tid : ℕ) (i : Instr) (accessed : Access) (c : Core) (old new : List Event) → (Went accessed, c) ≡ effect tid i (core_of (machine_of p) tid) → machine_of p2 ≡ with_core (machine_of p) tid c → p2.called ≡ false → new ≡ old ++ (went (machine_of p) tid i accessed c).events → Steps (executed (machine_of p) tid (Ok i)) stepped.Went p2 old new
+pub Steps-went : (p p2 : Parts) (tid : ℕ) (i : Instr) (accessed : Access) (c : ExecState) (old new : List Event) → (Went accessed, c) ≡ effect tid i (exec_state_of (machine_of p) tid) → machine_of p2 ≡ with_exec_state (machine_of p) tid c → p2.called ≡ false → new ≡ old ++ (went (machine_of p) tid i accessed c).events → Steps (executed (machine_of p) tid (Ok i)) stepped.Went p2 old new
 Steps-went p p2 tid i accessed c old new e machine quiet events =
     subst (λ (r : StepResult). Steps r stepped.Went p2 old new) (sym (executed-went (machine_of p) tid i accessed c e)) (record { went = refl; machine = machine; out = ap (λ called. cond called p2.kernel.out None) quiet; events = events })
 
@@ -80,7 +80,7 @@ went-events old step accesses all tid kind accessed i target pc target2 pc2 one 
     ∙ append_assoc old (Step tid ∷ access_events tid accessed) (jump_events (kind_of i) tid target2 ((pc2 + 4) % 2 ^ 32))
 
 -- registers, memory and reservations as they were leave the machine as it was
-pub unchanged : (m : MachineState) (tid place : ℕ) (c : Core) (harts : List Hart) → IsPlace m.harts tid place → harts ≡ with_registers m.harts tid c.registers → c ≡ core_of m tid → record m { harts = harts; memory = c.memory; held = c.held } ≡ m
-unchanged m tid place c harts is changed same =
-    ap (λ hs. record m { harts = hs; memory = c.memory; held = c.held }) (changed ∙ ap (λ (d : Core). with_registers m.harts tid d.registers) same ∙ same_harts m.harts tid place is)
-    ∙ ap (λ (d : Core). record m { memory = d.memory; held = d.held }) same
+pub unchanged : (m : MachineState) (tid index : ℕ) (c : ExecState) (harts : List Hart) → IsIndex m.harts tid index → harts ≡ with_registers m.harts tid c.registers → c ≡ exec_state_of m tid → record m { harts = harts; memory = c.memory; held = c.held } ≡ m
+unchanged m tid index c harts is changed same =
+    ap (λ hs. record m { harts = hs; memory = c.memory; held = c.held }) (changed ∙ ap (λ (d : ExecState). with_registers m.harts tid d.registers) same ∙ same_harts m.harts tid index is)
+    ∙ ap (λ (d : ExecState). record m { memory = d.memory; held = d.held }) same

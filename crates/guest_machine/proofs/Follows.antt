@@ -9,7 +9,7 @@ use Rattle.std.proofs.lemmas.List.Folds.{list_any-append}
 use Rattle.guest_words.specs.declared.endings.FaultKind.{FaultKind}
 use Rattle.futex_table.specs.Once.{waits}
 use Rattle.rv_isa.specs.declared.instruction.Instr.{Instr}
-use Rattle.rv_exec.specs.Effects.{Core, effect}
+use Rattle.rv_exec.specs.Effects.{ExecState, effect}
 use Rattle.rv_exec.specs.Laws.{AccessesMemory, IsInMemory}
 use Rattle.rv_exec.proofs.Reach.{effect_accesses}
 use Rattle.rv_exec.specs.declared.outcome.Access.{Access}
@@ -34,7 +34,7 @@ use Rattle.guest_calls.proofs.Numbers.{every_call_numbers}
 use Rattle.guest_machine.specs.declared.hart.Hart.{Hart}
 use Rattle.guest_machine.specs.Machine.{MachineState, registers_of}
 use Rattle.guest_machine.specs.Laws.{EachFollows, EveryStepContinues, StandsFor}
-use Rattle.guest_machine.specs.Step.{access_events, after_call, after_effect, call_of, core_of, executed, jump_events, life_events, next_instruction, pc_of, step, with_core}
+use Rattle.guest_machine.specs.Step.{access_events, after_call, after_effect, call_of, exec_state_of, executed, jump_events, life_events, next_instruction, pc_of, step, with_exec_state}
 use Rattle.guest_machine.proofs.Called.{after_tids}
 use Rattle.guest_machine.proofs.Calls.{any_thread, call_lawful, tids_after}
 use Rattle.guest_machine.proofs.Registers.{tids-with_registers}
@@ -332,7 +332,7 @@ with_step : (past : List Event) (tid : ℕ) (tids : List ℕ) (last : ℕ) → L
     Lives (Step tid ∷ past) tids last
 with_step past tid tids last before = record { live = before.live; greatest = before.greatest; rising = before.rising }
 
-effect_follows : (m : MachineState) (tid : ℕ) (i : Instr) (given : Outcome × Core) (past : List Event) →
+effect_follows : (m : MachineState) (tid : ℕ) (i : Instr) (given : Outcome × ExecState) (past : List Event) →
     AccessesMemory given.0 → StandsFor m past → is_live past tid ≡ true →
     Grows (after_effect m tid i given).machine (after_effect m tid i given).events past
 effect_follows m tid i (outcome.Went accessed, c) past few stands live =
@@ -345,7 +345,7 @@ effect_follows m tid i (outcome.Went accessed, c) past few stands live =
     let before = with_step past tid (tids_in m.harts) m.kernel.last_tid (lives_before m past stands) in
     let after = lives_same (Step tid ∷ past) next (tids_in m.harts) m.kernel.last_tid all.1 before in (
       (live, all.0),
-      stands_after (with_core m tid c) next (kept ∙ stands.same_threads) (subst (λ tids. Lives next tids m.kernel.last_tid) (sym kept) after),
+      stands_after (with_exec_state m tid c) next (kept ∙ stands.same_threads) (subst (λ tids. Lives next tids m.kernel.last_tid) (sym kept) after),
     )
 effect_follows m tid i (outcome.Fault kind, c) past few stands live = (tt, stands)
 effect_follows m tid i (outcome.KernelCall, c) past few stands live =
@@ -368,7 +368,7 @@ effect_follows m tid i (outcome.KernelCall, c) past few stands live =
 executed_follows : (m : MachineState) (tid : ℕ) (found : Result Instr FaultKind) (past : List Event) →
     StandsFor m past → is_live past tid ≡ true →
     Grows (executed m tid found).machine (executed m tid found).events past
-executed_follows m tid (Ok i) past stands live = effect_follows m tid i (effect tid i (core_of m tid)) past (effect_accesses tid i (core_of m tid)) stands live
+executed_follows m tid (Ok i) past stands live = effect_follows m tid i (effect tid i (exec_state_of m tid)) past (effect_accesses tid i (exec_state_of m tid)) stands live
 executed_follows m tid (Err kind) past stands live = (tt, stands)
 
 step_grows : (m : MachineState) (tid : ℕ) (past : List Event) → StandsFor m past → is_live past tid ≡ true →

@@ -1,4 +1,4 @@
-pub mod Places
+pub mod HartIndices
 pub mod Registers
 pub mod Holders
 pub mod Executed

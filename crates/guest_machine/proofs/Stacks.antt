@@ -12,7 +12,7 @@ use Rattle.std.proofs.lemmas.Bool.Decides.{nat_tests}
 use Rattle.guest_machine.specs.Setup.{limited_length}
 use Rattle.guest_memory.specs.Memory.{Memory, is_among, with_pages}
 use Rattle.elf_image.specs.Image.{Executable}
-use Rattle.guest_machine.specs.Start.{auxiliary_vector, random_bytes, stack_page, stack_pages, stack_pointer, stack_rights, stack_words, string_places, strings, strings_place}
+use Rattle.guest_machine.specs.Start.{auxiliary_vector, random_bytes, stack_page, stack_pages, stack_pointer, stack_rights, stack_words, string_addresses, strings, strings_address}
 
 -- the strings up to one are no longer than all
 within_texts : (texts : List (List ℕ)) (i : ℕ) (d : List ℕ) → i < length texts → length (strings (take i texts)) + length (slice_index_or texts i d) + 1 ≤ length (strings texts)
@@ -50,7 +50,7 @@ fewer_strings (s ∷ texts) =
     let one : length (s ++ 0 ∷ []) ≡ length s + 1 = length-append s (0 ∷ []) in
     omega (arith, fewer_strings texts, split, one)
 
-places_counted : (at : ℕ) (texts : List (List ℕ)) → length (string_places at texts) ≡ length texts
+places_counted : (at : ℕ) (texts : List (List ℕ)) → length (string_addresses at texts) ≡ length texts
 places_counted at [] = refl
 places_counted at (s ∷ texts) = ap suc (places_counted (at + length s + 1) texts)
 
@@ -64,10 +64,10 @@ bytes_counted (w ∷ words) =
 
 pub words_counted : (image : Executable) (texts : List (List ℕ)) → length (flat_map (λ n. to_le_bytes w32 n) (stack_words image texts)) ≡ 4 * (length texts + 17)
 words_counted image texts =
-    let places = string_places (strings_place texts) texts in
+    let places = string_addresses (strings_address texts) texts in
     let all = bytes_counted (stack_words image texts) in
     let split : length (places ++ 0 ∷ 0 ∷ auxiliary_vector image) ≡ length places + 16 = length-append places (0 ∷ 0 ∷ auxiliary_vector image) in
-    omega (arith, all, split, places_counted (strings_place texts) texts)
+    omega (arith, all, split, places_counted (strings_address texts) texts)
 
 -- the stack is mapped
 pub stack_mapped : (m : Memory) (q : ℕ) → 0x7F800000 ≤ q → q < 0x80000000 → is_some ((with_pages m stack_page stack_pages (Some stack_rights)).rights (q / 4096)) ≡ true

@@ -4,7 +4,7 @@ use Rattle.std.specs.Prelude.{◌==◌, Result, not}
 use Rattle.std.proofs.lemmas.List.{length-append, length-map}
 use Rattle.guest_words.specs.declared.endings.FaultKind.{FaultKind}
 use Rattle.rv_isa.specs.declared.instruction.Instr.{Instr}
-use Rattle.rv_exec.specs.Effects.{Core, effect}
+use Rattle.rv_exec.specs.Effects.{ExecState, effect}
 use Rattle.rv_exec.specs.Laws.{AccessesMemory, IsInMemory}
 use Rattle.rv_exec.specs.Registers.{Registers}
 use Rattle.rv_exec.proofs.Reach.{effect_accesses}
@@ -25,7 +25,7 @@ use Rattle.trace_model.proofs.Bounds.{weight-append}
 use Rattle.guest_machine.specs.declared.hart.Hart.{Hart}
 use Rattle.guest_machine.specs.Laws.{EveryStepIsLight}
 use Rattle.guest_machine.specs.Machine.{MachineState, registers_of, with_registers, without_hart}
-use Rattle.guest_machine.specs.Step.{access_events, after_effect, call_of, core_of, executed, harts_after, jump_events, life_events, next_instruction, pc_of, resumed, step}
+use Rattle.guest_machine.specs.Step.{access_events, after_effect, call_of, exec_state_of, executed, harts_after, jump_events, life_events, next_instruction, pc_of, resumed, step}
 use Rattle.guest_machine.proofs.Holders.{fewer_or_same}
 use Rattle.guest_machine.proofs.Registers.{tids-with_registers}
 
@@ -60,7 +60,7 @@ jump_weight Push tid target back = omega arith
 jump_weight Pop tid target back = omega arith
 jump_weight PopPush tid target back = omega arith
 
-effect_weight : (m : MachineState) (tid : ℕ) (i : Instr) (given : Outcome × Core) → AccessesMemory given.0 →
+effect_weight : (m : MachineState) (tid : ℕ) (i : Instr) (given : Outcome × ExecState) → AccessesMemory given.0 →
     weight (after_effect m tid i given).events + length (after_effect m tid i given).machine.harts ≤ 65540 + length m.harts
 effect_weight m tid i (outcome.Went accessed, c) few =
     let back = (pc_of m tid + 4) % 2 ^ 32 in
@@ -74,7 +74,7 @@ effect_weight m tid i (outcome.KernelCall, c) few =
 
 executed_weight : (m : MachineState) (tid : ℕ) (found : Result Instr FaultKind) →
     weight (executed m tid found).events + length (executed m tid found).machine.harts ≤ 65540 + length m.harts
-executed_weight m tid (Ok i) = effect_weight m tid i (effect tid i (core_of m tid)) (effect_accesses tid i (core_of m tid))
+executed_weight m tid (Ok i) = effect_weight m tid i (effect tid i (exec_state_of m tid)) (effect_accesses tid i (exec_state_of m tid))
 executed_weight m tid (Err kind) = omega arith
 
 pub every_step_light : EveryStepIsLight

@@ -3,7 +3,7 @@ pub mod Start
 pub mod Step
 pub mod Kept
 pub mod Sound
-pub mod Places
+pub mod HartIndex
 pub mod Parts
 pub mod Setup
 pub mod Laws

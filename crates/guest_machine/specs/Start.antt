@@ -59,8 +59,8 @@ abbrev pub stack_rights : Rights
 stack_rights = record { read = true; write = true; exec = false }
 
 -- sixteen bytes stand for random ones
-abbrev pub random_place : ℕ
-random_place = 0x7FFFFFF0
+abbrev pub random_address : ℕ
+random_address = 0x7FFFFFF0
 
 abbrev pub random_bytes : List ℕ
 random_bytes = range_with_len 0 16
@@ -74,33 +74,33 @@ abbrev pub strings_limit : ℕ
 strings_limit = 65536
 
 -- where they stand: one after another, up to the random bytes
-abbrev pub strings_place : List (List ℕ) → ℕ
-strings_place arguments = random_place - length (strings arguments)
+abbrev pub strings_address : List (List ℕ) → ℕ
+strings_address arguments = random_address - length (strings arguments)
 
 -- the address of each, from the first on
-abbrev pub string_places : ℕ → List (List ℕ) → List ℕ
-string_places at [] = []
-string_places at (s ∷ ss) = at ∷ string_places (at + length s + 1) ss
+abbrev pub string_addresses : ℕ → List (List ℕ) → List ℕ
+string_addresses at [] = []
+string_addresses at (s ∷ ss) = at ∷ string_addresses (at + length s + 1) ss
 
 -- AT_PHDR 3, AT_PHENT 4, AT_PHNUM 5, AT_PAGESZ 6, AT_ENTRY 9, AT_RANDOM 25, AT_NULL 0
 abbrev pub auxiliary_vector : Executable → List ℕ
 auxiliary_vector image =
-    3 ∷ image.header_place ∷ 4 ∷ 32 ∷ 5 ∷ image.header_count ∷ 6 ∷ 4096 ∷ 9 ∷ image.entry ∷ 25 ∷ random_place ∷ 0 ∷ 0 ∷ []
+    3 ∷ image.header_place ∷ 4 ∷ 32 ∷ 5 ∷ image.header_count ∷ 6 ∷ 4096 ∷ 9 ∷ image.entry ∷ 25 ∷ random_address ∷ 0 ∷ 0 ∷ []
 
 -- the number of arguments, their addresses and a zero, the end of the empty environment, and the auxiliary vector
 abbrev pub stack_words : Executable → List (List ℕ) → List ℕ
 stack_words image arguments =
-    length arguments ∷ string_places (strings_place arguments) arguments ++ 0 ∷ 0 ∷ auxiliary_vector image
+    length arguments ∷ string_addresses (strings_address arguments) arguments ++ 0 ∷ 0 ∷ auxiliary_vector image
 
 -- these words stand below the strings, at a multiple of 16
 abbrev pub stack_pointer : List (List ℕ) → ℕ
-stack_pointer arguments = (strings_place arguments - 4 * (length arguments + 17)) / 16 * 16
+stack_pointer arguments = (strings_address arguments - 4 * (length arguments + 17)) / 16 * 16
 
 abbrev pub start_memory : Executable → List (List ℕ) → Memory
 start_memory image arguments =
     let stack = with_pages (image_memory image.segments) stack_page stack_pages (Some stack_rights) in
     let words = with_bytes stack (stack_pointer arguments) (flat_map (λ n. to_le_bytes w32 n) (stack_words image arguments)) in
-    with_bytes words (strings_place arguments) (strings arguments ++ random_bytes)
+    with_bytes words (strings_address arguments) (strings arguments ++ random_bytes)
 
 -- ---- the start
 -- thread 1 lives, at the entry, with the stack pointer in x2

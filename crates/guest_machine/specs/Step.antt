@@ -3,12 +3,12 @@ use Rattle.std.specs.Prelude.{ℕ, ◌+◌, ◌%◌, ◌^◌, List, [], ◌∷�
 use Rattle.guest_words.specs.declared.endings.FaultKind.{FaultKind}
 use Rattle.guest_words.specs.declared.endings.FaultKind.TheVariants as fault
 use Rattle.guest_memory.specs.declared.refusal.MemError.{MemError}
-use Rattle.guest_memory.specs.declared.refusal.Need.TheVariants as need
+use Rattle.guest_memory.specs.declared.refusal.Permission.TheVariants as permission
 use Rattle.guest_memory.specs.Memory.{Memory, loaded}
 use Rattle.rv_isa.specs.Table.{decoded}
 use Rattle.rv_isa.specs.declared.instruction.Instr.{Instr}
 use Rattle.rv_exec.specs.Registers.{Registers}
-use Rattle.rv_exec.specs.Effects.{Core, effect}
+use Rattle.rv_exec.specs.Effects.{ExecState, effect}
 use Rattle.rv_exec.specs.declared.outcome.Access.{Access}
 use Rattle.rv_exec.specs.declared.outcome.Access.TheVariants as access
 use Rattle.rv_exec.specs.declared.outcome.Outcome.{Outcome}
@@ -56,20 +56,20 @@ abbrev pub pc_of : MachineState → ℕ → ℕ
 pc_of m tid = (registers_of m.harts tid).pc
 
 -- what an instruction of a thread works on
-abbrev pub core_of : MachineState → ℕ → Core
-core_of m tid = record { registers = registers_of m.harts tid; memory = m.memory; held = m.held }
+abbrev pub exec_state_of : MachineState → ℕ → ExecState
+exec_state_of m tid = record { registers = registers_of m.harts tid; memory = m.memory; held = m.held }
 
-abbrev pub with_core : MachineState → ℕ → Core → MachineState
-with_core m tid c = record m { harts = with_registers m.harts tid c.registers; memory = c.memory; held = c.held }
+abbrev pub with_exec_state : MachineState → ℕ → ExecState → MachineState
+with_exec_state m tid c = record m { harts = with_registers m.harts tid c.registers; memory = c.memory; held = c.held }
 
 -- the instruction at the pc did not run, and nothing changed
 abbrev pub faulted : MachineState → ℕ → FaultKind → StepResult
 faulted m tid kind = record { machine = m; events = []; out = None; outcome = Faulted kind (pc_of m tid) }
 
 -- the instruction went, with these accesses
-abbrev pub went : MachineState → ℕ → Instr → Access → Core → StepResult
+abbrev pub went : MachineState → ℕ → Instr → Access → ExecState → StepResult
 went m tid i accessed c = record {
-  machine = with_core m tid c;
+  machine = with_exec_state m tid c;
   events = Step tid ∷ (access_events tid accessed ++ jump_events (kind_of i) tid c.registers.pc ((pc_of m tid + 4) % 2 ^ 32));
   out = None;
   outcome = Went;
@@ -130,16 +130,16 @@ instruction_in (Ok word) = decoded_or_illegal (decoded word)
 instruction_in (Err refusal) = Err fault.Fetch
 
 abbrev pub instruction_at : Memory → ℕ → Result Instr FaultKind
-instruction_at m at = instruction_in (loaded m need.Execute at 4)
+instruction_at m at = instruction_in (loaded m permission.Execute at 4)
 
 -- by what became of the instruction
-abbrev pub after_effect : MachineState → ℕ → Instr → Outcome × Core → StepResult
+abbrev pub after_effect : MachineState → ℕ → Instr → Outcome × ExecState → StepResult
 after_effect m tid i (outcome.Went accessed, c) = went m tid i accessed c
 after_effect m tid i (outcome.Fault kind, c) = faulted m tid kind
 after_effect m tid i (outcome.KernelCall, c) = after_call m tid (call (call_of m tid))
 
 abbrev pub executed : MachineState → ℕ → Result Instr FaultKind → StepResult
-executed m tid (Ok i) = after_effect m tid i (effect tid i (core_of m tid))
+executed m tid (Ok i) = after_effect m tid i (effect tid i (exec_state_of m tid))
 executed m tid (Err kind) = faulted m tid kind
 
 -- what stands at the pc of a thread

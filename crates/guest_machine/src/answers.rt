@@ -3,7 +3,7 @@ ghost use Rattle.std.specs.Prelude.{◌≡◌, ◌≤◌, ◌<◌, ◌++◌, ℕ
 ghost use Rattle.std.specs.Vec.{vec_capacity};
 ghost use Rattle.rv_exec.specs.Registers.{Registers};
 ghost use Rattle.guest_machine.specs.Machine.{registers_of};
-ghost use Rattle.guest_machine.specs.Places.{IsPlace};
+ghost use Rattle.guest_machine.specs.HartIndex.{IsIndex};
 ghost use Rattle.guest_machine.specs.Step.{harts_after, life_events, stepped_by};
 
 use crate::Stepped;
@@ -16,12 +16,12 @@ use trace_model::{Event, Events};
 /// Lets the threads start, wait or end as the kernel answered the call of one of them.
 pub(crate) fn apply(
     harts: &mut Vec<Hart>,
-    place: usize,
+    index: usize,
     tid: Tid,
     answer: Answer,
     events: &mut Events,
 ) -> Stepped
-    requires place { IsPlace harts.old.items tid place }
+    requires index { IsIndex harts.old.items tid index }
     requires room { 32 ≤ events.old.room }
     requires few { length harts.old.items ≤ 32 }
     requires born { (child : ℕ) (cpu : Registers) → answer ≡ Answer.Born child cpu → length harts.old.items < 32 }
@@ -33,15 +33,15 @@ pub(crate) fn apply(
 {
     match answer {
         Answer::Back { value } => {
-            resume_at(harts, place, tid, value);
+            resume_at(harts, index, tid, value);
             Stepped::Went
         }
         Answer::Yield => {
-            resume_at(harts, place, tid, 0);
+            resume_at(harts, index, tid, 0);
             Stepped::Yielded
         }
         Answer::Block => {
-            resume_at(harts, place, tid, 0);
+            resume_at(harts, index, tid, 0);
             Stepped::Blocked
         }
         Answer::ThreadEnd => {
@@ -58,7 +58,7 @@ pub(crate) fn apply(
             tid: child,
             child: cpu,
         } => {
-            resume_at(harts, place, tid, child.number());
+            resume_at(harts, index, tid, child.number());
             harts.push(Hart { tid: child, cpu }).unwrap();
             events.push(Event::Start {
                 tid: child,

@@ -6,13 +6,13 @@ ghost use Rattle.guest_calls.specs.Table.{call};
 ghost use Rattle.guest_machine.specs.Kept.{IsAsBefore, Steps, machine_of};
 ghost use Rattle.guest_machine.specs.Machine.{can_run};
 ghost use Rattle.guest_machine.specs.Parts.{parts_of};
-ghost use Rattle.guest_machine.specs.Places.{IsPlace};
+ghost use Rattle.guest_machine.specs.HartIndex.{IsIndex};
 ghost use Rattle.guest_machine.specs.Sound.{IsSound};
 ghost use Rattle.guest_machine.specs.Step.{after_call, call_of, executed, instruction_at, next_instruction, step};
 
 use crate::Stepped;
 use crate::answers::apply;
-use crate::hart::{Hart, place_of, run_at};
+use crate::hart::{Hart, index_of, run_at};
 use crate::step_events::{add_access, add_jump};
 use call_tracker::kind;
 use guest_calls::Kernel;
@@ -72,13 +72,13 @@ impl Guest {
     // Carries out an instruction, which is no call of the kernel.
     fn carry_out(
         &mut self,
-        place: usize,
+        index: usize,
         tid: Tid,
         instruction: &Instr,
         events: &mut Events,
     ) -> Stepped
         requires sound { IsSound (machine_of (parts_of self.old)) }
-        requires place { IsPlace self.old.harts.items tid place }
+        requires index { IsIndex self.old.harts.items tid index }
         requires can_run { can_run (machine_of (parts_of self.old)) tid ≡ true }
         requires no_call { instruction.now ≢ Ecall }
         requires room { 4 ≤ events.old.room }
@@ -87,11 +87,11 @@ impl Guest {
         ensures spare { vec_capacity self.new.harts ≡ vec_capacity self.old.harts }
         ensures entry { self.new.entry ≡ self.old.entry }
     {
-        let pc = self.harts[place].cpu.pc;
+        let pc = self.harts[index].cpu.pc;
         let jump = kind(*instruction);
         let outcome = run_at(
             &mut self.harts,
-            place,
+            index,
             &mut self.memory,
             &mut self.held,
             tid,
@@ -100,7 +100,7 @@ impl Guest {
         self.called = false;
         match outcome {
             Outcome::Went { access } => {
-                let target = self.harts[place].cpu.pc;
+                let target = self.harts[index].cpu.pc;
                 events.push(Event::Step { tid });
                 add_access(events, tid, access);
                 add_jump(events, tid, jump, target, pc.wrapping_add(4));
@@ -114,12 +114,12 @@ impl Guest {
     // Calls the kernel, and lets the threads start, wait or end as it answers.
     fn call_kernel(
         &mut self,
-        place: usize,
+        index: usize,
         tid: Tid,
         events: &mut Events,
     ) -> Result<Stepped, AllocError>
         requires sound { IsSound (machine_of (parts_of self.old)) }
-        requires place { IsPlace self.old.harts.items tid place }
+        requires index { IsIndex self.old.harts.items tid index }
         requires can_run { can_run (machine_of (parts_of self.old)) tid ≡ true }
         requires spare { 32 ≤ vec_capacity self.old.harts }
         ensures step { IfOk result (λ stepped. Steps (after_call (machine_of (parts_of self.old)) tid (call (call_of (machine_of (parts_of self.old)) tid))) stepped (parts_of self.new) events.old.list events.new.list) }
@@ -131,14 +131,14 @@ impl Guest {
         let before = events.list().len();
         events.reserve(EVENTS_OF_A_CALL)?;
         events.push(Event::Step { tid });
-        let cpu = self.harts[place].cpu;
+        let cpu = self.harts[index].cpu;
         match self
             .kernel
             .call(&mut self.memory, &mut self.held, tid, &cpu, events)
         {
             Ok(answer) => {
                 self.called = true;
-                Ok(apply(&mut self.harts, place, tid, answer, events))
+                Ok(apply(&mut self.harts, index, tid, answer, events))
             }
             Err(refused) => {
                 events.truncate(before);
@@ -160,17 +160,17 @@ impl Guest {
         ensures spare { 32 ≤ vec_capacity self.new.harts }
         ensures entry { self.new.entry ≡ self.old.entry }
     {
-        let place = place_of(&self.harts, tid);
-        let pc = self.harts[place].cpu.pc;
+        let index = index_of(&self.harts, tid);
+        let pc = self.harts[index].cpu.pc;
         match self.instruction_at(pc) {
             Err(kind) => {
                 self.called = false;
                 Ok(Stepped::Faulted { kind, at: pc })
             }
-            Ok(Instr::Ecall) => self.call_kernel(place, tid, events),
+            Ok(Instr::Ecall) => self.call_kernel(index, tid, events),
             Ok(instruction) => {
                 make_room(events)?;
-                Ok(self.carry_out(place, tid, &instruction, events))
+                Ok(self.carry_out(index, tid, &instruction, events))
             }
         }
     }

@@ -7,7 +7,7 @@ ghost use Rattle.guest_memory.specs.ReservedBy.{reserved_by};
 ghost use Rattle.guest_memory.specs.Reserved.{HoldAtMost, without_thread};
 ghost use Rattle.rv_exec.specs.Effects.{effect};
 ghost use Rattle.guest_machine.specs.Machine.{registers_of, with_registers};
-ghost use Rattle.guest_machine.specs.Places.{IsPlace};
+ghost use Rattle.guest_machine.specs.HartIndex.{IsIndex};
 ghost use Rattle.guest_machine.specs.Step.{resumed};
 
 use guest_memory::{GuestMemory, Reservations};
@@ -22,7 +22,7 @@ pub struct Hart {
     pub cpu: Cpu,
 }
 
-// The first place of the thread, if it has one.
+// The first index of the thread, if it has one.
 fn find(harts: &[Hart], tid: Tid) -> Option<usize>
     ensures { result ≡ position (λ h. h.tid == tid) harts.now }
 {
@@ -30,42 +30,42 @@ fn find(harts: &[Hart], tid: Tid) -> Option<usize>
 }
 
 /// Where the thread stands among the live ones.
-pub(crate) fn place_of(harts: &[Hart], tid: Tid) -> usize
+pub(crate) fn index_of(harts: &[Hart], tid: Tid) -> usize
     requires { list_any (λ h. h.tid == tid) harts.now ≡ true }
-    ensures { IsPlace harts.now tid result }
+    ensures { IsIndex harts.now tid result }
 {
     match find(harts, tid) {
-        Some(place) => place,
+        Some(index) => index,
         None => unreachable!(),
     }
 }
 
-/// Carries out an instruction of the thread at a place.
+/// Carries out an instruction of the thread at an index.
 pub(crate) fn run_at(
     harts: &mut Vec<Hart>,
-    place: usize,
+    index: usize,
     memory: &mut GuestMemory,
     held: &mut Reservations,
     tid: Tid,
     i: Instr,
 ) -> Outcome
-    requires place { IsPlace harts.old.items tid place }
+    requires index { IsIndex harts.old.items tid index }
     requires held { HoldAtMost (without_thread (reserved_by held.old) tid) 31 }
     ensures effect { (result, record { registers = registers_of harts.new.items tid; memory = memory_of memory.new; held = reserved_by held.new })
         ≡ effect tid i (record { registers = registers_of harts.old.items tid; memory = memory_of memory.old; held = reserved_by held.old }) }
     ensures harts { harts.new.items ≡ with_registers harts.old.items tid (registers_of harts.new.items tid) }
-    ensures place { IsPlace harts.new.items tid place }
+    ensures index { IsIndex harts.new.items tid index }
     ensures spare { vec_capacity harts.new ≡ vec_capacity harts.old }
 {
-    execute(&mut harts[place].cpu, memory, held, tid, i)
+    execute(&mut harts[index].cpu, memory, held, tid, i)
 }
 
-/// The thread at a place goes on behind its call, with this answer in a0.
-pub(crate) fn resume_at(harts: &mut [Hart], place: usize, tid: Tid, value: u32)
-    requires { IsPlace harts.old tid place }
+/// The thread at an index goes on behind its call, with this answer in a0.
+pub(crate) fn resume_at(harts: &mut [Hart], index: usize, tid: Tid, value: u32)
+    requires { IsIndex harts.old tid index }
     ensures { harts.new ≡ with_registers harts.old tid (resumed (registers_of harts.old tid) value) }
 {
-    let cpu = &mut harts[place].cpu;
+    let cpu = &mut harts[index].cpu;
     cpu.write(Reg::new(10).unwrap(), value);
     cpu.advance();
 }

@@ -10,7 +10,7 @@ ghost use Rattle.guest_machine.specs.Start.{start, strings};
 use crate::guest::Guest;
 use crate::hart::Hart;
 use crate::image_pages::greatest_end;
-use crate::stack::RANDOM_PLACE;
+use crate::stack::RANDOM_ADDRESS;
 use crate::start_memory::start_memory;
 use elf_image::Image;
 use guest_calls::{Inputs, Kernel};
@@ -51,7 +51,7 @@ impl From<AllocError> for SetupError {
 
 // The words stand below the strings, at a multiple of 16.
 fn stack_pointer(first: Addr, count: usize) -> Addr
-    requires place { 0x70000000 ≤ first }
+    requires high { 0x70000000 ≤ first }
     requires few { count ≤ 65536 }
     ensures { result ≡ (first - 4 * (count + 17)) / 16 * 16 }
 {
@@ -88,7 +88,7 @@ pub(crate) fn first_guest(
     ensures entry { IfOk result (λ guest. guest.entry ≡ image.now.entry) }
     ensures called { IfOk result (λ guest. guest.called ≡ false) }
 {
-    let first = RANDOM_PLACE - text_bytes;
+    let first = RANDOM_ADDRESS - text_bytes;
     let pointer = stack_pointer(first, arguments.len());
     let first_break = greatest_end(image.segments()).div_ceil(4096) * 4096;
     let memory = start_memory(alloc, image, arguments, first, pointer)?;

@@ -2,7 +2,7 @@
 ghost use Rattle.std.specs.Prelude.{◌≡◌, ◌≤◌, ◌<◌, ◌+◌, ◌*◌, ◌^◌, ◌++◌, length, map, flat_map, string_bytes, IfOk, OnOk};
 ghost use Rattle.std.specs.Int.{w32, to_le_bytes};
 ghost use Rattle.guest_machine.specs.Setup.{limited_length};
-ghost use Rattle.guest_machine.specs.Start.{string_places, strings, stack_words, strings_place, random_bytes};
+ghost use Rattle.guest_machine.specs.Start.{string_addresses, strings, stack_words, strings_address, random_bytes};
 
 use elf_image::Image;
 use guest_words::Addr;
@@ -12,7 +12,7 @@ use std::alloc::{AllocError, Global};
 const STRINGS_LIMIT: usize = 65536;
 
 /// Where the sixteen bytes stand that stand for random ones.
-pub(crate) const RANDOM_PLACE: u32 = 0x7FFF_FFF0;
+pub(crate) const RANDOM_ADDRESS: u32 = 0x7FFF_FFF0;
 
 /// How many bytes the argument strings have with their zero bytes; None where they are more than the limit.
 pub(crate) fn strings_length(arguments: &[String]) -> Option<u32>
@@ -60,9 +60,9 @@ fn push_words(words: &mut Vec<u8>, more: &[u32]) -> Result<(), AllocError>
 }
 
 // Adds the addresses of the argument strings, of which the first stands here.
-fn push_places(words: &mut Vec<u8>, first: Addr, arguments: &[String]) -> Result<(), AllocError>
+fn push_addresses(words: &mut Vec<u8>, first: Addr, arguments: &[String]) -> Result<(), AllocError>
     requires { first + length (strings (map string_bytes arguments.now)) < 2 ^ 32 }
-    ensures { OnOk result (words.new.items ≡ words.old.items ++ flat_map (λ n. to_le_bytes w32 n) (string_places first (map string_bytes arguments.now))) }
+    ensures { OnOk result (words.new.items ≡ words.old.items ++ flat_map (λ n. to_le_bytes w32 n) (string_addresses first (map string_bytes arguments.now))) }
 {
     let mut at = first;
     let mut rest = arguments;
@@ -82,14 +82,14 @@ pub(crate) fn word_bytes(
     arguments: &[String],
     first: Addr,
 ) -> Result<Vec<u8>, AllocError>
-    requires place { first ≡ strings_place (map string_bytes arguments.now) }
+    requires address { first ≡ strings_address (map string_bytes arguments.now) }
     requires limit { length (strings (map string_bytes arguments.now)) ≤ 65536 }
     requires count { length arguments.now ≤ 65536 }
     ensures { IfOk result (λ bytes. bytes.items ≡ flat_map (λ n. to_le_bytes w32 n) (stack_words image.now (map string_bytes arguments.now))) }
 {
     let mut words = Vec::new(alloc);
     push_word(&mut words, arguments.len() as u32)?;
-    push_places(&mut words, first, arguments)?;
+    push_addresses(&mut words, first, arguments)?;
     let rest = [
         0,
         0,
@@ -104,7 +104,7 @@ pub(crate) fn word_bytes(
         9,
         image.entry(),
         25,
-        RANDOM_PLACE,
+        RANDOM_ADDRESS,
         0,
         0,
     ];

@@ -3,7 +3,7 @@ ghost use Rattle.std.specs.Prelude.{◌≡◌, ◌≤◌, ◌+◌, Some, length,
 ghost use Rattle.guest_memory.specs.Guest.{memory_of};
 ghost use Rattle.guest_memory.specs.Memory.{AreFree, mapped_pages, with_pages};
 ghost use Rattle.elf_image.specs.Image.{page_count};
-ghost use Rattle.guest_machine.specs.Start.{stack_page, stack_pages, stack_pointer, stack_rights, start_memory, strings, strings_place};
+ghost use Rattle.guest_machine.specs.Start.{stack_page, stack_pages, stack_pointer, stack_rights, start_memory, strings, strings_address};
 
 use crate::image_pages::image_memory;
 use crate::stack::{argument_bytes, word_bytes};
@@ -44,7 +44,7 @@ pub(crate) fn start_memory(
     first: Addr,
     pointer: Addr,
 ) -> Result<GuestMemory, AllocError>
-    requires first { first ≡ strings_place (map string_bytes arguments.now) }
+    requires first { first ≡ strings_address (map string_bytes arguments.now) }
     requires pointer { pointer ≡ stack_pointer (map string_bytes arguments.now) }
     requires limit { length (strings (map string_bytes arguments.now)) ≤ 65536 }
     requires few { page_count image.now.segments + 2048 ≤ 16384 }

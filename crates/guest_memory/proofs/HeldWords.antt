@@ -4,9 +4,9 @@ use Rattle.std.specs.Prelude.{is_none}
 use Rattle.std.specs.Option.{option_map_or}
 use Rattle.std.proofs.lemmas.Bool.{cases_eq, cases_Bool, and_parts, and_from, eq-eqb, ne_eqb}
 use Rattle.guest_memory.specs.Memory.{is_among}
-use Rattle.guest_memory.specs.declared.reservations.Loss.TheVariants.{OfThread, OnWords}
+use Rattle.guest_memory.specs.declared.reservations.Invalidation.TheVariants.{OfThread, OnWords}
 use Rattle.guest_memory.specs.Reserved.{with_word, without_thread, is_by, after_write}
-use Rattle.guest_memory.specs.Holders.{held_in, is_distinct, is_lost}
+use Rattle.guest_memory.specs.Holders.{held_in, is_distinct, is_invalidated}
 
 -- a word, if it passes a test
 abbrev pub pass : (ℕ → Bool) → Option ℕ → Option ℕ
@@ -125,13 +125,13 @@ pass_other : (q tid : ℕ) (o : Option ℕ) → pass (λ w. not (q == tid)) o �
 pass_other q tid None = none_both (q == tid)
 pass_other q tid (Some w) = turned (q == tid) w
 
-pub forgotten : (xs : List (ℕ × ℕ)) (tid : ℕ) → is_distinct xs ≡ true → held_in (kept (is_lost (OfThread tid)) xs) ≡ without_thread (held_in xs) tid
-forgotten xs tid distinct = λ i q. (held_in-kept (is_lost (OfThread tid)) xs q distinct ∙ pass_other q tid (held_in xs q)) i
+pub forgotten : (xs : List (ℕ × ℕ)) (tid : ℕ) → is_distinct xs ≡ true → held_in (kept (is_invalidated (OfThread tid)) xs) ≡ without_thread (held_in xs) tid
+forgotten xs tid distinct = λ i q. (held_in-kept (is_invalidated (OfThread tid)) xs q distinct ∙ pass_other q tid (held_in xs q)) i
 
 -- the losses by a write
 pass_write : (writer : Option ℕ) (first count q : ℕ) (o : Option ℕ) → pass (λ w. not (not (is_by writer q) && is_among first count w)) o ≡ cond (not (is_by writer q) && option_map_or (is_among first count) o false) None o
 pass_write writer first count q None = none_both (not (is_by writer q) && false)
 pass_write writer first count q (Some w) = turned (not (is_by writer q) && is_among first count w) w
 
-pub after_loss : (xs : List (ℕ × ℕ)) (writer : Option ℕ) (first count : ℕ) → is_distinct xs ≡ true → held_in (kept (is_lost (OnWords writer first count)) xs) ≡ after_write (held_in xs) writer first count
-after_loss xs writer first count distinct = λ i q. (held_in-kept (is_lost (OnWords writer first count)) xs q distinct ∙ pass_write writer first count q (held_in xs q)) i
+pub after_loss : (xs : List (ℕ × ℕ)) (writer : Option ℕ) (first count : ℕ) → is_distinct xs ≡ true → held_in (kept (is_invalidated (OnWords writer first count)) xs) ≡ after_write (held_in xs) writer first count
+after_loss xs writer first count distinct = λ i q. (held_in-kept (is_invalidated (OnWords writer first count)) xs q distinct ∙ pass_write writer first count q (held_in xs q)) i

@@ -1,7 +1,7 @@
--- Reservations as a list of threads, each with its word, and which of them are lost.
+-- Reservations as a list of threads, each with its word, and which of them an invalidation drops.
 use Rattle.std.specs.Prelude.{ℕ, Bool, true, not, ◌&&◌, ◌==◌, if◌then◌else◌, List, [], ◌∷◌, Some, None, is_none}
-use Rattle.guest_memory.specs.declared.reservations.Loss.{Loss}
-use Rattle.guest_memory.specs.declared.reservations.Loss.TheVariants.{OfThread, OnWords}
+use Rattle.guest_memory.specs.declared.reservations.Invalidation.{Invalidation}
+use Rattle.guest_memory.specs.declared.reservations.Invalidation.TheVariants.{OfThread, OnWords}
 use Rattle.guest_memory.specs.Memory.{is_among}
 use Rattle.guest_memory.specs.Reserved.{Reserved, is_by}
 
@@ -16,6 +16,6 @@ is_distinct [] = true
 is_distinct (holder ∷ rest) = is_none (held_in rest holder.0) && is_distinct rest
 
 -- whether a holder loses its reservation
-abbrev pub is_lost : Loss → ℕ × ℕ → Bool
-is_lost (OfThread tid) holder = holder.0 == tid
-is_lost (OnWords writer first count) holder = not (is_by writer holder.0) && is_among first count holder.1
+abbrev pub is_invalidated : Invalidation → ℕ × ℕ → Bool
+is_invalidated (OfThread tid) holder = holder.0 == tid
+is_invalidated (OnWords writer first count) holder = not (is_by writer holder.0) && is_among first count holder.1

@@ -4,8 +4,8 @@ use Rattle.std.specs.Option.{option_or, is_some}
 use Rattle.guest_words.specs.declared.rights.Rights.{Rights}
 use Rattle.guest_memory.specs.declared.refusal.MemError.{MemError}
 use Rattle.guest_memory.specs.declared.refusal.MemError.TheVariants as error
-use Rattle.guest_memory.specs.declared.refusal.Need.{Need}
-use Rattle.guest_memory.specs.declared.refusal.Need.TheVariants.{Read, Write, Execute}
+use Rattle.guest_memory.specs.declared.refusal.Permission.{Permission}
+use Rattle.guest_memory.specs.declared.refusal.Permission.TheVariants.{Read, Write, Execute}
 use Rattle.guest_memory.specs.declared.size.Size.{Size}
 use Rattle.guest_memory.specs.declared.size.Size.TheVariants.{One, Two, Four}
 
@@ -21,34 +21,34 @@ abbrev pub is_among : ℕ → ℕ → ℕ → Bool
 is_among first count n = nat_le first n && nat_lt n (first + count)
 
 -- whether rights allow what is done with a byte
-abbrev pub allows : Need → Rights → Bool
+abbrev pub allows : Permission → Rights → Bool
 allows Read r = r.read
 allows Write r = r.write
 allows Execute r = r.exec
 
 -- how it is refused where they don't
-abbrev pub denial : Need → MemError
+abbrev pub denial : Permission → MemError
 denial Read = error.NotReadable
 denial Write = error.NotWritable
 denial Execute = error.NotExecutable
 
 -- why it is refused on a page, if it is
-abbrev pub page_refusal : Need → Option Rights → Option MemError
-page_refusal need None = Some error.Unmapped
-page_refusal need (Some r) = if allows need r then None else Some (denial need)
+abbrev pub page_refusal : Permission → Option Rights → Option MemError
+page_refusal permission None = Some error.Unmapped
+page_refusal permission (Some r) = if allows permission r then None else Some (denial permission)
 
 -- the rights of a page: the last of the 2 ^ 20 pages ends at 2 ^ 32, so none behind it is mapped
 abbrev pub page_rights : Memory → ℕ → Option Rights
 page_rights m page = if nat_lt page 1048576 then m.rights page else None
 
 -- why it is refused on a byte, if it is
-abbrev pub byte_refusal : Memory → Need → ℕ → Option MemError
-byte_refusal m need at = page_refusal need (page_rights m (at / 4096))
+abbrev pub byte_refusal : Memory → Permission → ℕ → Option MemError
+byte_refusal m permission at = page_refusal permission (page_rights m (at / 4096))
 
 -- why it is refused on the first of so many bytes, in rising order, on which it is refused
-abbrev pub first_refusal : Memory → Need → ℕ → ℕ → Option MemError
-first_refusal m need at zero = None
-first_refusal m need at (suc n) = option_or (byte_refusal m need at) (first_refusal m need (at + 1) n)
+abbrev pub first_refusal : Memory → Permission → ℕ → ℕ → Option MemError
+first_refusal m permission at zero = None
+first_refusal m permission at (suc n) = option_or (byte_refusal m permission at) (first_refusal m permission (at + 1) n)
 
 -- so many bytes, from an address on
 abbrev pub bytes_at : Memory → ℕ → ℕ → List ℕ
@@ -77,8 +77,8 @@ unless_refused None value = Ok value
 unless_refused (Some refusal) value = Err refusal
 
 -- what a load of so many bytes answers
-abbrev pub loaded : Memory → Need → ℕ → ℕ → Result ℕ MemError
-loaded m need at n = unless_refused (first_refusal m need at n) (number_at m at n)
+abbrev pub loaded : Memory → Permission → ℕ → ℕ → Result ℕ MemError
+loaded m permission at n = unless_refused (first_refusal m permission at n) (number_at m at n)
 
 -- each of so many bytes is mapped
 abbrev pub AreMapped : Memory → ℕ → ℕ → Type 0

@@ -1,12 +1,12 @@
-// Bytes by address: what may be done with them, and reads and writes of ranges.
+//! Bytes by address: their permissions, and reads and writes of ranges.
 ghost use Rattle.std.specs.Prelude.{◌≡◌, ◌<◌, ◌≤◌, ◌+◌, ◌*◌, ◌^◌, ◌%◌, length, OnOk, OnErr, IfNone};
 ghost use Rattle.guest_memory.specs.Memory.{AreMapped, byte_refusal, first_refusal, number_at, number_from, byte_count, bytes_at, with_bytes, loaded, unless_refused};
-ghost use Rattle.guest_memory.specs.declared.refusal.Need.TheVariants as need;
+ghost use Rattle.guest_memory.specs.declared.refusal.Permission.TheVariants as permission;
 ghost use Rattle.guest_memory.specs.State.{memory_in};
 
 use crate::Size;
 use crate::directory::{Directory, PAGE_SIZE, overwrite};
-use crate::refusal::{MemError, Need};
+use crate::refusal::{MemError, Permission};
 
 impl Directory {
     /// A byte: 0 where it is not mapped.
@@ -18,28 +18,28 @@ impl Directory {
     }
 
     /// Why the byte at an address is refused, if it is.
-    pub fn byte_refusal(&self, need: Need, at: u64) -> Option<MemError>
-        ensures value { result ≡ byte_refusal (memory_in self.now) need at }
+    pub fn byte_refusal(&self, permission: Permission, at: u64) -> Option<MemError>
+        ensures value { result ≡ byte_refusal (memory_in self.now) permission at }
         ensures range { IfNone result (at < 2 ^ 32) }
     {
         let page = self.page(at >> 12);
         if page.1.is_empty() {
             Some(MemError::Unmapped)
-        } else if need.is_allowed(page.0) {
+        } else if permission.is_allowed(page.0) {
             None
         } else {
-            Some(need.denial())
+            Some(permission.denial())
         }
     }
 
     /// Why the first of these bytes that is refused is refused, if one is.
-    pub fn first_refusal(&self, need: Need, at: u64, count: u64) -> Option<MemError>
-        ensures { result ≡ first_refusal (memory_in self.now) need at count }
+    pub fn first_refusal(&self, permission: Permission, at: u64, count: u64) -> Option<MemError>
+        ensures { result ≡ first_refusal (memory_in self.now) permission at count }
     {
         let mut next = at;
         let mut left = count;
         'pages: while left > 0 {
-            let refusal = self.byte_refusal(need, next);
+            let refusal = self.byte_refusal(permission, next);
             if refusal.is_some() {
                 return refusal;
             }
@@ -69,20 +69,20 @@ impl Directory {
     }
 
     /// What a load of so many bytes answers.
-    pub fn loaded(&self, need: Need, at: u64, size: Size) -> Result<u32, MemError>
+    pub fn loaded(&self, permission: Permission, at: u64, size: Size) -> Result<u32, MemError>
         requires { at < 2 ^ 32 }
-        ensures { result ≡ loaded (memory_in self.now) need at (byte_count size) }
+        ensures { result ≡ loaded (memory_in self.now) permission at (byte_count size) }
     {
         let page = self.page(at >> 12);
         let start = at as usize % PAGE_SIZE;
         if start + size.bytes() <= page.1.len() {
-            if need.is_allowed(page.0) {
+            if permission.is_allowed(page.0) {
                 Ok(number_from(page.1, start, size))
             } else {
-                Err(need.denial())
+                Err(permission.denial())
             }
         } else {
-            match self.first_refusal(need, at, size.bytes() as u64) {
+            match self.first_refusal(permission, at, size.bytes() as u64) {
                 Some(refusal) => Err(refusal),
                 None => Ok(self.number(at, size)),
             }
@@ -93,11 +93,11 @@ impl Directory {
     pub fn store_within(&mut self, at: u64, bytes: &[u8]) -> Result<(), MemError>
         requires some { 0 < length bytes.now }
         requires within { at % 4096 + length bytes.now ≤ 4096 }
-        ensures result { result ≡ unless_refused (first_refusal (memory_in self.old) need.Write at (length bytes.now)) tt }
+        ensures result { result ≡ unless_refused (first_refusal (memory_in self.old) permission.Write at (length bytes.now)) tt }
         ensures ok { OnOk result (memory_in self.new ≡ with_bytes (memory_in self.old) at bytes.now) }
         ensures err { OnErr result (memory_in self.new ≡ memory_in self.old) }
     {
-        match self.byte_refusal(Need::Write, at) {
+        match self.byte_refusal(Permission::Write, at) {
             Some(refusal) => Err(refusal),
             None => {
                 self.write(at, bytes);

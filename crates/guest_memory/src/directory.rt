@@ -1,4 +1,4 @@
-// Pages by number, in tables of 1024 pages. An absent table has no page, and an absent page has no byte.
+//! Pages by number, in tables of 1024 pages. An absent table has no page, and an absent page has no byte.
 ghost use Rattle.std.specs.Prelude.{true, None, ◌⊎◌, ◌≡◌, ◌<◌, ◌≤◌, ◌+◌, ◌^◌, ◌/◌, ◌%◌, ℕ, List, [], length, map, replicate, IfOk, OnOk};
 ghost use Rattle.std.specs.Option.{is_some};
 ghost use Rattle.guest_memory.specs.Memory.{no_memory, with_bytes, with_pages, with_rights};
@@ -10,8 +10,8 @@ use guest_words::Rights;
 use std::alloc::{AllocError, Global};
 use std::marker::Model;
 
-/// How many pages a table has, and how many tables there are.
-pub const FAN: usize = 1024;
+/// How many pages a table has, and how many tables the directory has.
+pub const TABLE_ENTRIES: usize = 1024;
 
 /// How many bytes a page has.
 pub const PAGE_SIZE: usize = 4096;
@@ -52,7 +52,7 @@ impl Directory {
     {
         match self.tables.get((number >> 10) as usize) {
             None => (NO_RIGHTS, &[]),
-            Some(table) => match table.get(number as usize % FAN) {
+            Some(table) => match table.get(number as usize % TABLE_ENTRIES) {
                 None => (NO_RIGHTS, &[]),
                 Some(page) => (page.rights, page.bytes.as_slice()),
             },
@@ -67,7 +67,7 @@ impl Directory {
     {
         let number = at >> 12;
         let table = &mut self.tables[(number >> 10) as usize];
-        let page = &mut table[number as usize % FAN];
+        let page = &mut table[number as usize % TABLE_ENTRIES];
         overwrite(&mut page.bytes, at as usize % PAGE_SIZE, bytes);
     }
 
@@ -103,7 +103,7 @@ impl Directory {
         ensures others { (n : ℕ) → IsPlaced self.old n → IsPlaced self.new n }
     {
         let table = &mut self.tables[(number >> 10) as usize];
-        let page = &mut table[number as usize % FAN];
+        let page = &mut table[number as usize % TABLE_ENTRIES];
         *page = Page { rights, bytes };
     }
 
@@ -113,7 +113,7 @@ impl Directory {
         ensures { memory_in self.new ≡ with_rights (memory_in self.old) number 1 rights }
     {
         let table = &mut self.tables[(number >> 10) as usize];
-        let page = &mut table[number as usize % FAN];
+        let page = &mut table[number as usize % TABLE_ENTRIES];
         page.rights = rights;
     }
 }
@@ -137,8 +137,8 @@ pub fn overwrite(old: &mut [u8], start: usize, bytes: &[u8])
 fn empty_rows<T: Drop>(alloc: Global) -> Result<Vec<Vec<T>>, AllocError>
     ensures { IfOk result (λ v. map (λ r. r.items) v.items ≡ replicate 1024 []) }
 {
-    let mut rows = Vec::with_capacity(alloc, FAN)?;
-    'fill: while rows.len() < FAN {
+    let mut rows = Vec::with_capacity(alloc, TABLE_ENTRIES)?;
+    'fill: while rows.len() < TABLE_ENTRIES {
         rows.push(Vec::new(alloc))?;
     }
     Ok(rows)
@@ -148,8 +148,8 @@ fn empty_rows<T: Drop>(alloc: Global) -> Result<Vec<Vec<T>>, AllocError>
 fn absent_pages(alloc: Global) -> Result<Vec<Page>, AllocError>
     ensures { IfOk result (λ v. map {B = Rights × List ℕ} (λ p. (p.rights, p.bytes.items)) v.items ≡ replicate 1024 (no_rights, [])) }
 {
-    let mut pages = Vec::with_capacity(alloc, FAN)?;
-    'fill: while pages.len() < FAN {
+    let mut pages = Vec::with_capacity(alloc, TABLE_ENTRIES)?;
+    'fill: while pages.len() < TABLE_ENTRIES {
         pages.push(Page {
             rights: NO_RIGHTS,
             bytes: Vec::new(alloc),

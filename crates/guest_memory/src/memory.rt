@@ -1,4 +1,4 @@
-// The memory of a guest: calls on pages and on bytes.
+//! The memory of a guest: calls on pages and on bytes.
 #![tactic(auto, unfolding(crate::specs::Guest::memory_of))]
 
 ghost use Rattle.std.specs.Prelude.{◌≡◌, ◌<◌, ◌≤◌, ◌+◌, ◌%◌, ℕ, length, take, IfOk, IfSome, IfNone, OnOk, OnErr, IsTrue, ◌↔◌, true, None};
@@ -6,12 +6,12 @@ ghost use Rattle.std.specs.Int.{to_le_bytes, w32};
 ghost use Rattle.std.specs.Option.{is_none};
 ghost use Rattle.guest_memory.specs.Memory.{IsFreeRange, AreFree, AreMapped, ArePagesMapped, MapEnds, no_memory, with_pages, with_rights, byte_count, bytes_at, first_refusal, loaded, mapped_pages, unless_refused, with_bytes};
 ghost use Rattle.guest_memory.specs.State.{memory_in};
-ghost use Rattle.guest_memory.specs.declared.refusal.Need.TheVariants as need;
+ghost use Rattle.guest_memory.specs.declared.refusal.Permission.TheVariants as permission;
 
 use crate::Size;
 use crate::directory::{Directory, PAGE_SIZE};
 use crate::page_ranges::zero_pages;
-use crate::refusal::{MemError, Need};
+use crate::refusal::{MemError, Permission};
 use guest_words::{Addr, Rights};
 use std::alloc::{AllocError, Global};
 
@@ -141,41 +141,41 @@ impl GuestMemory {
 
     /// The number that so many readable bytes give, the lowest byte first.
     pub fn load(&self, at: Addr, size: Size) -> Result<u32, MemError>
-        ensures { result ≡ loaded (memory_of self.now) need.Read at (byte_count size) }
+        ensures { result ≡ loaded (memory_of self.now) permission.Read at (byte_count size) }
     {
-        self.directory.loaded(Need::Read, u64::from(at), size)
+        self.directory.loaded(Permission::Read, u64::from(at), size)
     }
 
     /// The word of an instruction, where each of its bytes can be run.
     pub fn fetch(&self, at: Addr) -> Result<u32, MemError>
         requires { at % 4 ≡ 0 }
-        ensures { result ≡ loaded (memory_of self.now) need.Execute at 4 }
+        ensures { result ≡ loaded (memory_of self.now) permission.Execute at 4 }
     {
         self.directory
-            .loaded(Need::Execute, u64::from(at), Size::Four)
+            .loaded(Permission::Execute, u64::from(at), Size::Four)
     }
 
     /// Whether each of so many bytes can be read.
     pub fn can_read(&self, at: Addr, bytes: u64) -> bool
-        ensures { result ≡ is_none (first_refusal (memory_of self.now) need.Read at bytes) }
+        ensures { result ≡ is_none (first_refusal (memory_of self.now) permission.Read at bytes) }
     {
         self.directory
-            .first_refusal(Need::Read, u64::from(at), bytes)
+            .first_refusal(Permission::Read, u64::from(at), bytes)
             .is_none()
     }
 
     /// Whether each of so many bytes can be written.
     pub fn can_write(&self, at: Addr, bytes: u64) -> bool
-        ensures { result ≡ is_none (first_refusal (memory_of self.now) need.Write at bytes) }
+        ensures { result ≡ is_none (first_refusal (memory_of self.now) permission.Write at bytes) }
     {
         self.directory
-            .first_refusal(Need::Write, u64::from(at), bytes)
+            .first_refusal(Permission::Write, u64::from(at), bytes)
             .is_none()
     }
 
     /// Writes the lowest bytes of a value, the lowest first, where each of them can be written.
     pub fn store(&mut self, at: Addr, size: Size, value: u32) -> Result<(), MemError>
-        ensures result { result ≡ unless_refused (first_refusal (memory_of self.old) need.Write at (byte_count size)) tt }
+        ensures result { result ≡ unless_refused (first_refusal (memory_of self.old) permission.Write at (byte_count size)) tt }
         ensures ok { OnOk result (memory_of self.new ≡ with_bytes (memory_of self.old) at (take (byte_count size) (to_le_bytes w32 value))) }
         ensures err { OnErr result (memory_of self.new ≡ memory_of self.old) }
     {
@@ -190,13 +190,13 @@ impl GuestMemory {
 
     /// Writes bytes, where each of them can be written.
     pub fn copy_in(&mut self, at: Addr, bytes: &[u8]) -> Result<(), MemError>
-        ensures result { result ≡ unless_refused (first_refusal (memory_of self.old) need.Write at (length bytes.now)) tt }
+        ensures result { result ≡ unless_refused (first_refusal (memory_of self.old) permission.Write at (length bytes.now)) tt }
         ensures ok { OnOk result (memory_of self.new ≡ with_bytes (memory_of self.old) at bytes.now) }
         ensures err { OnErr result (memory_of self.new ≡ memory_of self.old) }
     {
         let first = u64::from(at);
         let count = bytes.len() as u64;
-        match self.directory.first_refusal(Need::Write, first, count) {
+        match self.directory.first_refusal(Permission::Write, first, count) {
             Some(refusal) => Err(refusal),
             None => {
                 self.directory.write_all(first, bytes);
@@ -207,13 +207,13 @@ impl GuestMemory {
 
     /// Reads bytes, where each of them can be read.
     pub fn copy_out(&self, at: Addr, into: &mut [u8]) -> Result<(), MemError>
-        ensures result { result ≡ unless_refused (first_refusal (memory_of self.now) need.Read at (length into.old)) tt }
+        ensures result { result ≡ unless_refused (first_refusal (memory_of self.now) permission.Read at (length into.old)) tt }
         ensures ok { OnOk result (into.new ≡ bytes_at (memory_of self.now) at (length into.old)) }
         ensures err { OnErr result (into.new ≡ into.old) }
     {
         let from = u64::from(at);
         let count = into.len() as u64;
-        match self.directory.first_refusal(Need::Read, from, count) {
+        match self.directory.first_refusal(Permission::Read, from, count) {
             Some(refusal) => Err(refusal),
             None => {
                 self.directory.read_all(from, into);

@@ -1,4 +1,4 @@
-// Changes of ranges of pages.
+//! Changes of ranges of pages.
 ghost use Rattle.std.specs.Prelude.{◌≡◌, ◌≤◌, ◌+◌, ◌^◌, IfOk, OnOk, All, Some, None, vec_len};
 ghost use Rattle.std.specs.Option.{is_some};
 ghost use Rattle.guest_memory.specs.Memory.{AreFree, ArePagesMapped, mapped_pages, with_pages, with_rights};

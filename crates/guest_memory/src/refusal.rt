@@ -1,4 +1,4 @@
-// What is done with a byte, and why it is refused.
+//! The permission that an access to a byte needs, and why it is refused.
 ghost use Rattle.std.specs.Prelude.{◌≡◌};
 ghost use Rattle.guest_memory.specs.Memory.{allows, denial};
 
@@ -33,23 +33,23 @@ impl From<AllocError> for MemError {
     }
 }
 
-/// What is done with a byte.
+/// What an access to a byte has to be allowed.
 #[derive(Clone, Copy, PartialEq, Eq, Debug)]
-pub enum Need {
+pub enum Permission {
     Read,
     Write,
     Execute,
 }
 
-impl Need {
-    /// Whether these rights allow it.
+impl Permission {
+    /// Whether these rights give it.
     pub fn is_allowed(self, rights: Rights) -> bool
         ensures { result ≡ allows self rights }
     {
         match self {
-            Need::Read => rights.read,
-            Need::Write => rights.write,
-            Need::Execute => rights.exec,
+            Permission::Read => rights.read,
+            Permission::Write => rights.write,
+            Permission::Execute => rights.exec,
         }
     }
 
@@ -58,9 +58,9 @@ impl Need {
         ensures { result ≡ denial self }
     {
         match self {
-            Need::Read => MemError::NotReadable,
-            Need::Write => MemError::NotWritable,
-            Need::Execute => MemError::NotExecutable,
+            Permission::Read => MemError::NotReadable,
+            Permission::Write => MemError::NotWritable,
+            Permission::Execute => MemError::NotExecutable,
         }
     }
 }

@@ -1,6 +1,6 @@
-// The words that threads have reserved.
+//! The words that threads have reserved.
 ghost use Rattle.std.specs.Prelude.{◌≡◌, ◌<◌, ◌≤◌, true, not, take, length, filter};
-ghost use Rattle.guest_memory.specs.Holders.{held_in, is_distinct, is_lost};
+ghost use Rattle.guest_memory.specs.Holders.{held_in, is_distinct, is_invalidated};
 ghost use Rattle.guest_memory.specs.Memory.{is_among};
 ghost use Rattle.guest_memory.specs.Reserved.{HoldAtMost, nothing_reserved, with_word, without_thread, holds, after_write};
 
@@ -56,39 +56,39 @@ impl Reservations {
     pub fn written(&mut self, by: Option<Tid>, first: Word, count: u32)
         ensures { reserved_by self.new ≡ after_write (reserved_by self.old) by first count }
     {
-        self.lose(Loss::OnWords(by, first, count));
+        self.invalidate(Invalidation::OnWords(by, first, count));
     }
 
     /// Drops the thread's reservation, if it has one.
     pub fn forget(&mut self, tid: Tid)
         ensures { reserved_by self.new ≡ without_thread (reserved_by self.old) tid }
     {
-        self.lose(Loss::OfThread(tid));
+        self.invalidate(Invalidation::OfThread(tid));
     }
 
-    // Drops what is lost.
-    fn lose(&mut self, loss: Loss)
-        ensures { take self.new.count self.new.holders ≡ filter (λ h. not (is_lost loss h)) (take self.old.count self.old.holders) }
+    // Drops the reservations that are invalidated.
+    fn invalidate(&mut self, invalidation: Invalidation)
+        ensures { take self.new.count self.new.holders ≡ filter (λ h. not (is_invalidated invalidation h)) (take self.old.count self.old.holders) }
     {
-        self.count = keep_front(&mut self.holders[..self.count], &loss);
+        self.count = retain_valid(&mut self.holders[..self.count], &invalidation);
     }
 }
 
-// Which reservations are lost: a thread's, or those on words of all threads other than the writer.
+// Which reservations go: a thread's, or those on words of all threads other than the writer.
 #[derive(Clone, Copy)]
-enum Loss {
+enum Invalidation {
     OfThread(Tid),
     OnWords(Option<Tid>, Word, u32),
 }
 
-impl Loss {
+impl Invalidation {
     // Whether a thread with this word is among them.
     fn is_of(&self, tid: Tid, word: Word) -> bool
-        ensures { result ≡ is_lost self.now (tid, word) }
+        ensures { result ≡ is_invalidated self.now (tid, word) }
     {
         match *self {
-            Loss::OfThread(loser) => tid == loser,
-            Loss::OnWords(by, first, count) => by != Some(tid) && is_among(word, first, count),
+            Invalidation::OfThread(holder) => tid == holder,
+            Invalidation::OnWords(by, first, count) => by != Some(tid) && is_among(word, first, count),
         }
     }
 }
@@ -113,15 +113,15 @@ fn is_held(holders: &[(Tid, Word)], tid: Tid, word: Word) -> bool
     false
 }
 
-// Moves the holders that lose nothing to the front, in their order, and says how many they are.
-fn keep_front(holders: &mut [(Tid, Word)], loss: &Loss) -> usize
-    ensures kept { take result holders.new ≡ filter (λ h. not (is_lost loss.now h)) holders.old }
+// Moves the holders that keep their reservation to the front, in their order, and says how many they are.
+fn retain_valid(holders: &mut [(Tid, Word)], invalidation: &Invalidation) -> usize
+    ensures kept { take result holders.new ≡ filter (λ h. not (is_invalidated invalidation.now h)) holders.old }
     ensures few { result ≤ length holders.old }
 {
     let mut kept = 0;
     for place in 0..holders.len() {
         let holder = holders[place];
-        let goes = loss.is_of(holder.0, holder.1);
+        let goes = invalidation.is_of(holder.0, holder.1);
         if !goes {
             holders[kept] = holder;
             kept += 1;

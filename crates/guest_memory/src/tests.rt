@@ -1,4 +1,4 @@
-// Worked cases of loads, stores and mappings, and of reservations.
+//! Worked cases of loads, stores and mappings, and of reservations.
 use crate::{GuestMemory, MemError, Reservations, Size};
 use guest_words::{Rights, Tid, Word};
 use std::test::Fail;

@@ -11,7 +11,7 @@ use Rattle.futex_table.specs.Once.{waits}
 use Rattle.futex_table.specs.Waiting.{all_bits, after_requeue}
 use Rattle.guest_words.specs.declared.endings.FaultKind.{FaultKind}
 use Rattle.rv_isa.specs.declared.instruction.Instr.{Instr}
-use Rattle.rv_exec.specs.Effects.{Core, effect}
+use Rattle.rv_exec.specs.Effects.{ExecState, effect}
 use Rattle.rv_exec.specs.declared.outcome.Outcome.{Outcome}
 use Rattle.rv_exec.specs.declared.outcome.Outcome.TheVariants as outcome
 use Rattle.guest_calls.specs.declared.answer.Answer.{Answer}
@@ -27,7 +27,7 @@ use Rattle.guest_calls.specs.Kernel.{KernelState, is_thread, lives, has_others, 
 use Rattle.guest_calls.specs.Results.{Call, CallResult, arg, returns, unless, ◌⇒◌, ◌or◌, ◌▷◌, sets, fills_word_where, puts, readable, has, either, when, answers, changes, reads, fills, word, writable}
 use Rattle.guest_calls.specs.Files.{advanced, bytes_left, channel, is_closed, is_source, openat_effect, openat_tests, llseek_tests, target, with_position, write_limit}
 use Rattle.guest_calls.specs.Vectors.{readv_tests, readv_bytes, readv_effect, writev_tests, writev_effect}
-use Rattle.guest_calls.specs.Pages.{brk_tests, brk_effect, munmap_tests, unmaps, pages, maps, remaps, rights_of, lowest_place, mmap2_tests, mprotect_tests}
+use Rattle.guest_calls.specs.Pages.{brk_tests, brk_effect, munmap_tests, unmaps, pages, maps, remaps, rights_of, first_fit, mmap2_tests, mprotect_tests}
 use Rattle.guest_calls.specs.Threads.{exit, rt_sigprocmask, with_clear_tid, status}
 use Rattle.guest_calls.specs.Clone.{clone_tests, with_thread, child_clear_tid, child_registers, sets_child, sets_parent}
 use Rattle.guest_calls.specs.Futex.{futex_by, futex_tests, futex_at, futex_value, futex_value3, futex_limit, futex_to, operation, performed, waits_for, requeues, count_woken, count_shifted}
@@ -37,7 +37,7 @@ use Rattle.guest_calls.proofs.Leaving.{cleared_lives, does_not_wait, woken_can_r
 use Rattle.guest_calls.proofs.Queues.{requeued_out}
 use Rattle.guest_machine.specs.declared.stepped.Stepped.TheVariants.{Went}
 use Rattle.guest_machine.specs.Machine.{MachineState, can_run}
-use Rattle.guest_machine.specs.Step.{after_effect, call_of, core_of, executed, next_instruction, step, stepped_by}
+use Rattle.guest_machine.specs.Step.{after_effect, call_of, exec_state_of, executed, next_instruction, step, stepped_by}
 
 -- by this answer the thread goes on, and it can run
 abbrev GoesOnAble : ℕ → KernelState → Answer → Type 0
@@ -89,7 +89,7 @@ write_effect c =
 abbrev mmap2_effect : Call → CallResult
 mmap2_effect c =
     let count = pages (arg c 1) in
-    let page = unwrap_or (lowest_place c.memory count) 0 in
+    let page = unwrap_or (first_fit c.memory count) 0 in
     returns c (page * 4096) ▷ maps page count (rights_of (arg c 2))
 
 abbrev mprotect_effect : Call → CallResult
@@ -230,13 +230,13 @@ every_call_able = of_every_call StaysAble (
 ) (λ c can goes. can)
 
 -- ---- every step
-effect_able : (m : MachineState) (tid : ℕ) (i : Instr) (given : Outcome × Core) → can_run m tid ≡ true → (after_effect m tid i given).outcome ≡ Went → can_run (after_effect m tid i given).machine tid ≡ true
+effect_able : (m : MachineState) (tid : ℕ) (i : Instr) (given : Outcome × ExecState) → can_run m tid ≡ true → (after_effect m tid i given).outcome ≡ Went → can_run (after_effect m tid i given).machine tid ≡ true
 effect_able m tid i (outcome.Went accessed, c) can goes = can
 effect_able m tid i (outcome.Fault kind, c) can goes = absurd (cc)
 effect_able m tid i (outcome.KernelCall, c) can goes = every_call_able (call_of m tid) can goes
 
 executed_able : (m : MachineState) (tid : ℕ) (found : Result Instr FaultKind) → can_run m tid ≡ true → (executed m tid found).outcome ≡ Went → can_run (executed m tid found).machine tid ≡ true
-executed_able m tid (Ok i) can goes = effect_able m tid i (effect tid i (core_of m tid)) can goes
+executed_able m tid (Ok i) can goes = effect_able m tid i (effect tid i (exec_state_of m tid)) can goes
 executed_able m tid (Err kind) can goes = absurd (cc)
 
 pub step_able : (m : MachineState) (tid : ℕ) → can_run m tid ≡ true → (step m tid).outcome ≡ Went → can_run (step m tid).machine tid ≡ true

@@ -16,10 +16,10 @@ use Rattle.thread_sched.specs.TurnRule.{turn_of}
 use Rattle.guest_machine.specs.declared.stepped.Stepped.{Stepped}
 use Rattle.guest_machine.specs.declared.stepped.Stepped.TheVariants.{Went, Yielded, Blocked, Ended, Finished, Faulted}
 use Rattle.guest_machine.specs.Step.{step}
-use Rattle.guest_run.specs.declared.pace.Pace.{Pace}
-use Rattle.guest_run.specs.declared.pace.Pace.TheVariants.{GoesOn, TurnOver, Ends}
-use Rattle.guest_run.specs.Machine.{Machine, guest, pace_of}
-use Rattle.guest_run.specs.Run.{Move, WrittenRun, Position, Chosen, by_turn, chosen_by, chosen, with_move, by_pace, move_of, go_on, run_from, run, start, events_of, current, recording}
+use Rattle.guest_run.specs.declared.turn_status.TurnStatus.{TurnStatus}
+use Rattle.guest_run.specs.declared.turn_status.TurnStatus.TheVariants.{GoesOn, TurnOver, Ends}
+use Rattle.guest_run.specs.Machine.{Machine, guest, turn_status_of}
+use Rattle.guest_run.specs.Run.{Move, WrittenRun, Position, Chosen, by_turn, chosen_by, chosen, with_move, by_turn_status, move_of, go_on, run_from, run, start, events_of, current, recording}
 use Rattle.guest_run.specs.Run.Chosen.{Moves, Stops}
 use Rattle.guest_run.specs.Profiled.{past_after, moves_kept, profiled}
 use Rattle.guest_run.specs.Laws.{StaysWithin, NeverEndsForBudget, SpendsBudget, RecordsTurns, IsPrefix, ProfilesPart}
@@ -30,23 +30,23 @@ use Rattle.guest_run.proofs.Replayed.{current-over}
 pub record Steps {State : Type 0} (machine : Machine State) (Holds : ℕ → WrittenRun → Type 0) : Type 0 where
   pub spent : Holds 0 (record { moves = []; finish = Budget })
   pub stops : (more : ℕ) (at : Position State) (finish : Finish) → chosen machine at ≡ Stops finish → Holds (suc more) (record { moves = []; finish = finish })
-  pub ends : (more : ℕ) (opens : Bool) (state : State) (tid : ℕ) (finish : Finish) → (machine.step state tid).pace ≡ Ends finish →
+  pub ends : (more : ℕ) (opens : Bool) (state : State) (tid : ℕ) (finish : Finish) → (machine.step state tid).turn_status ≡ Ends finish →
       Holds (suc more) (record { moves = move_of opens tid (machine.step state tid) ∷ []; finish = finish })
-  pub moves : (more : ℕ) (opens : Bool) (state : State) (tid : ℕ) (run : WrittenRun) → ((finish : Finish) → (machine.step state tid).pace ≡ Ends finish → ⊥) → Holds more run → Holds (suc more) (with_move (move_of opens tid (machine.step state tid)) run)
+  pub moves : (more : ℕ) (opens : Bool) (state : State) (tid : ℕ) (run : WrittenRun) → ((finish : Finish) → (machine.step state tid).turn_status ≡ Ends finish → ⊥) → Holds more run → Holds (suc more) (with_move (move_of opens tid (machine.step state tid)) run)
 
 pub each_run : {State : Type 0} (machine : Machine State) (Holds : ℕ → WrittenRun → Type 0) → Steps machine Holds → (fuel : ℕ) (at : Position State) → Holds fuel (run_from machine fuel at)
 unfolding run_from
 each_run machine Holds steps zero at = steps.spent
 each_run {State} machine Holds steps (suc more) at = by (chosen machine at) refl (each_run machine Holds steps more)
   where
-    paced : ((at : Position State) → Holds more (run_from machine more at)) → (opens : Bool) (to : Position State) (pace : Pace) → (machine.step to.state to.turns.last).pace ≡ pace →
-        Holds (suc more) (by_pace (run_from machine more) (move_of opens to.turns.last (machine.step to.state to.turns.last)) to (machine.step to.state to.turns.last).state pace)
-    paced ih opens to GoesOn e = steps.moves more opens to.state to.turns.last _ (λ finish over. absurd (let no : GoesOn ≡ Ends finish = sym e ∙ over in cc)) (ih _)
-    paced ih opens to TurnOver e = steps.moves more opens to.state to.turns.last _ (λ finish over. absurd (let no : TurnOver ≡ Ends finish = sym e ∙ over in cc)) (ih _)
-    paced ih opens to (Ends finish) e = steps.ends more opens to.state to.turns.last finish e
+    by_status : ((at : Position State) → Holds more (run_from machine more at)) → (opens : Bool) (to : Position State) (turn_status : TurnStatus) → (machine.step to.state to.turns.last).turn_status ≡ turn_status →
+        Holds (suc more) (by_turn_status (run_from machine more) (move_of opens to.turns.last (machine.step to.state to.turns.last)) to (machine.step to.state to.turns.last).state turn_status)
+    by_status ih opens to GoesOn e = steps.moves more opens to.state to.turns.last _ (λ finish over. absurd (let no : GoesOn ≡ Ends finish = sym e ∙ over in cc)) (ih _)
+    by_status ih opens to TurnOver e = steps.moves more opens to.state to.turns.last _ (λ finish over. absurd (let no : TurnOver ≡ Ends finish = sym e ∙ over in cc)) (ih _)
+    by_status ih opens to (Ends finish) e = steps.ends more opens to.state to.turns.last finish e
 
     by : (c : Chosen State) → chosen machine at ≡ c → ((at : Position State) → Holds more (run_from machine more at)) → Holds (suc more) (go_on machine (run_from machine more) c)
-    by (Moves opens to) e ih = paced ih opens to (machine.step to.state to.turns.last).pace refl
+    by (Moves opens to) e ih = by_status ih opens to (machine.step to.state to.turns.last).turn_status refl
     by (Stops finish) e ih = steps.stops more at finish e
 
 moves-within : {State : Type 0} (machine : Machine State) (fuel : ℕ) (at : Position State) → length (run_from machine fuel at).moves ≤ fuel
@@ -83,16 +83,16 @@ spends {State} machine never turns budget state =
       moves = λ more opens state tid run goes ih ended. ap suc (ih ended);
     }) budget (start turns state)
 
-paces-other : (tid : ℕ) (outcome : Stepped) → pace_of tid outcome ≡ Ends Budget → ⊥
-paces-other tid Went e = cc
-paces-other tid Yielded e = cc
-paces-other tid Blocked e = cc
-paces-other tid Ended e = cc
-paces-other tid (Finished status) e = cc
-paces-other tid (Faulted kind at) e = cc
+status-other : (tid : ℕ) (outcome : Stepped) → turn_status_of tid outcome ≡ Ends Budget → ⊥
+status-other tid Went e = cc
+status-other tid Yielded e = cc
+status-other tid Blocked e = cc
+status-other tid Ended e = cc
+status-other tid (Finished status) e = cc
+status-other tid (Faulted kind at) e = cc
 
 pub spends_budget : SpendsBudget guest
-spends_budget = spends guest (λ m tid e. paces-other tid (step m tid).outcome e)
+spends_budget = spends guest (λ m tid e. status-other tid (step m tid).outcome e)
 
 -- the turns that begin in these moves
 abbrev IsTurn : ℕ → Entry → Type 0

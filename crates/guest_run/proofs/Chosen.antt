@@ -10,7 +10,7 @@ use Rattle.guest_calls.specs.declared.thread.Thread.{Thread}
 use Rattle.guest_calls.specs.Kernel.{KernelState, can_run, is_thread, ready}
 use Rattle.thread_sched.specs.declared.entry.Entry.{Entry}
 use Rattle.thread_sched.specs.declared.turns.Turn.TheVariants.{Run, Mismatch}
-use Rattle.thread_sched.specs.TurnRule.{Known, able, above, least, lesser, next_thread, scheduled, turn_if, turn_of}
+use Rattle.thread_sched.specs.TurnRule.{SchedulerState, able, above, least, lesser, next_thread, scheduled, turn_if, turn_of}
 
 -- the thread is in the list
 abbrev pub Has : List ℕ → ℕ → Type 0
@@ -53,7 +53,7 @@ Run-tid : (t most u most' : ℕ) → Run t most ≡ Run u most' → t ≡ u
 Run-tid t most u most' e = cc
 
 -- the thread of a turn is one of those that can run
-pub Has-turn : (k : Known) (live : List (ℕ × Bool)) (t most : ℕ) → turn_of k live ≡ Run t most → Has (able live) t
+pub Has-turn : (k : SchedulerState) (live : List (ℕ × Bool)) (t most : ℕ) → turn_of k live ≡ Run t most → Has (able live) t
 Has-turn k live t most e = by (next_thread k.last (able live)) refl e
   where
     scheduled-has : (next : ℕ) → Has (able live) next → (es : List Entry) → scheduled k (able live) next es ≡ Run t most → Has (able live) t
@@ -88,7 +88,7 @@ ready-can waiting (x ∷ threads) t h = by (not (waiting x.tid)) refl (ready-can
     ]
     by false is ih h = later (ih h)
 
-pub turn-can : (k : Known) (kernel : KernelState) (t most : ℕ) → turn_of k (ready kernel) ≡ Run t most → can_run kernel t ≡ true
+pub turn-can : (k : SchedulerState) (kernel : KernelState) (t most : ℕ) → turn_of k (ready kernel) ≡ Run t most → can_run kernel t ≡ true
 turn-can k kernel t most e =
     let parts = ready-can (λ u. waits kernel.waiting u) kernel.threads t (Has-turn k (ready kernel) t most e) in
     ap₂ (λ (a b : Bool). a && b) parts.0 parts.1

@@ -8,7 +8,7 @@ use Rattle.guest_words.specs.declared.endings.Finish.{Finish}
 use Rattle.guest_words.specs.declared.endings.Finish.TheVariants.{Exit, Fault, Deadlock, Schedule}
 use Rattle.futex_table.specs.Waiting.{all_bits}
 use Rattle.rv_isa.specs.declared.instruction.Instr.{Instr}
-use Rattle.rv_exec.specs.Effects.{Core, effect}
+use Rattle.rv_exec.specs.Effects.{ExecState, effect}
 use Rattle.rv_exec.specs.declared.outcome.Access.{Access}
 use Rattle.rv_exec.specs.declared.outcome.Access.TheVariants as access
 use Rattle.rv_exec.specs.declared.outcome.Outcome.{Outcome}
@@ -44,9 +44,9 @@ use Rattle.guest_machine.specs.declared.hart.Hart.{Hart}
 use Rattle.guest_machine.specs.declared.stepped.Stepped.{Stepped}
 use Rattle.guest_machine.specs.declared.stepped.Stepped.TheVariants.{Went, Yielded, Blocked, Ended, Finished, Faulted}
 use Rattle.guest_machine.specs.Machine.{MachineState}
-use Rattle.guest_machine.specs.Step.{access_events, pc_of, jump_events, after_effect, call_of, core_of, executed, life_events, next_instruction, step, stepped_by}
-use Rattle.guest_run.specs.declared.pace.Pace.TheVariants.{Ends}
-use Rattle.guest_run.specs.Machine.{guest, pace_of}
+use Rattle.guest_machine.specs.Step.{access_events, pc_of, jump_events, after_effect, call_of, exec_state_of, executed, life_events, next_instruction, step, stepped_by}
+use Rattle.guest_run.specs.declared.turn_status.TurnStatus.TheVariants.{Ends}
+use Rattle.guest_run.specs.Machine.{guest, turn_status_of}
 use Rattle.guest_run.specs.Run.{WrittenRun, Position, by_turn, chosen, chosen_by, events_of, run, run_from, start}
 use Rattle.guest_run.specs.Run.Chosen.{Stops}
 use Rattle.guest_run.specs.Profiled.{past_after, profiled}
@@ -211,7 +211,7 @@ life_stepless ThreadEnd harts tid = refl
 life_stepless (ProcessEnd status) harts tid = omega (arith, ends_stepless harts)
 life_stepless (Born child registers) harts tid = refl
 
-effect_counts : (m : MachineState) (tid : ℕ) (i : Instr) (given : Outcome × Core) → steps (after_effect m tid i given).events + faulted (after_effect m tid i given).outcome ≡ 1
+effect_counts : (m : MachineState) (tid : ℕ) (i : Instr) (given : Outcome × ExecState) → steps (after_effect m tid i given).events + faulted (after_effect m tid i given).outcome ≡ 1
 unfolding faulted
 effect_counts m tid i (outcome.Went accessed, c) =
     let back = (pc_of m tid + 4) % 2 ^ 32 in
@@ -225,7 +225,7 @@ effect_counts m tid i (outcome.KernelCall, c) =
 
 executed_counts : (m : MachineState) (tid : ℕ) (found : Result Instr FaultKind) → steps (executed m tid found).events + faulted (executed m tid found).outcome ≡ 1
 unfolding faulted
-executed_counts m tid (Ok i) = effect_counts m tid i (effect tid i (core_of m tid))
+executed_counts m tid (Ok i) = effect_counts m tid i (effect tid i (exec_state_of m tid))
 executed_counts m tid (Err kind) = refl
 
 step_counts : (m : MachineState) (tid : ℕ) → steps (step m tid).events + faulted (step m tid).outcome ≡ 1
@@ -233,7 +233,7 @@ unfolding step
 step_counts m tid = executed_counts m tid (next_instruction m tid)
 
 -- ---- runs
-ends_faulted : (tid : ℕ) (outcome : Stepped) (finish : Finish) → pace_of tid outcome ≡ Ends finish → faults finish ≡ faulted outcome
+ends_faulted : (tid : ℕ) (outcome : Stepped) (finish : Finish) → turn_status_of tid outcome ≡ Ends finish → faults finish ≡ faulted outcome
 unfolding faulted
 ends_faulted tid Went finish e = absurd (cc)
 ends_faulted tid Yielded finish e = absurd (cc)
@@ -242,7 +242,7 @@ ends_faulted tid Ended finish e = absurd (cc)
 ends_faulted tid (Finished status) finish e = let same : Exit status ≡ finish = cc in ap faults (sym same)
 ends_faulted tid (Faulted kind at) finish e = let same : Fault kind tid at ≡ finish = cc in ap faults (sym same)
 
-goes_faulted : (tid : ℕ) (outcome : Stepped) → ((finish : Finish) → pace_of tid outcome ≡ Ends finish → ⊥) → faulted outcome ≡ 0
+goes_faulted : (tid : ℕ) (outcome : Stepped) → ((finish : Finish) → turn_status_of tid outcome ≡ Ends finish → ⊥) → faulted outcome ≡ 0
 unfolding faulted
 goes_faulted tid Went goes = refl
 goes_faulted tid Yielded goes = refl

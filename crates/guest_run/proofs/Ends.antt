@@ -8,7 +8,7 @@ use Rattle.trace_model.specs.declared.event_kinds.Event.{Event}
 use Rattle.trace_model.specs.Depth.{cut, is_within, pending}
 use Rattle.trace_model.specs.Profile.{steps}
 use Rattle.thread_sched.specs.declared.entry.Entry.{Entry}
-use Rattle.thread_sched.specs.TurnRule.{Known}
+use Rattle.thread_sched.specs.TurnRule.{SchedulerState}
 use Rattle.guest_machine.specs.Kept.{Parts, machine_of}
 use Rattle.guest_machine.specs.Machine.{MachineState}
 use Rattle.guest_run.specs.declared.run.Run.{Run}
@@ -16,7 +16,7 @@ use Rattle.guest_run.specs.declared.run.Runner.{Runner}
 use Rattle.guest_run.specs.Kept.{IsNew, Told}
 use Rattle.guest_run.specs.Machine.{guest}
 use Rattle.guest_run.specs.Going.{GoesOn, Ended, IsGoing, left, shown}
-use Rattle.guest_run.specs.Place.{recorded, with_present}
+use Rattle.guest_run.specs.CurrentTurn.{recorded, with_present}
 use Rattle.guest_run.specs.Profiled.{first_past, past_after, profiled}
 use Rattle.guest_run.specs.Run.{Move, WrittenRun, Position, bytes_on, current, events_of, recording, run, run_from}
 use Rattle.guest_run.specs.Shown.{IsShown, Shown, shown_of}
@@ -71,7 +71,7 @@ first-within entry greatest enough =
 no-turn : (tid made : ℕ) (moves : List Move) → made ≡ 0 → with_present tid made (current moves) (recording moves) ≡ recording moves
 no-turn tid made moves none = ap (λ n. with_present tid n (current moves) (recording moves)) none
 
-pub Remains-first : (machine : Parts) (turns : Known) (greatest budget : ℕ) (r : Runner) → 6 ≤ greatest → IsNew machine greatest r.traced → r.place.turns ≡ turns → r.place.left ≡ 0 → r.recorder.turns ≡ [] → r.recorder.made ≡ 0 →
+pub Remains-first : (machine : Parts) (turns : SchedulerState) (greatest budget : ℕ) (r : Runner) → 6 ≤ greatest → IsNew machine greatest r.traced → r.turn.scheduler ≡ turns → r.turn.left ≡ 0 → r.recorder.turns ≡ [] → r.recorder.made ≡ 0 →
     Remains (shown_of (profiled greatest (first_past machine.entry) (run guest turns budget (machine_of machine)))) greatest 0 budget r
 Remains-first machine turns greatest budget r enough new turns_is over no_turns none_made = record {
   going = record {
@@ -93,8 +93,8 @@ Remains-first machine turns greatest budget r enough new turns_is over no_turns 
     same =
         ap (λ m. run (watched m guest) turns budget (first_past machine.entry, machine_of machine)) (sym new.greatest_is)
         ∙ ap (λ (s : List Event × MachineState). run (watched r.traced.depth.greatest guest) turns budget s) at
-        ∙ ap (λ (k : Known). run (watched r.traced.depth.greatest guest) k budget (reverse r.traced.events.list, machine_of r.traced.machine)) (sym turns_is)
-        ∙ ap (λ n. let q : Position (List Event × MachineState) = record { state = (reverse r.traced.events.list, machine_of r.traced.machine); turns = r.place.turns; left = n } in run_from (watched r.traced.depth.greatest guest) budget q) (sym over)
+        ∙ ap (λ (k : SchedulerState). run (watched r.traced.depth.greatest guest) k budget (reverse r.traced.events.list, machine_of r.traced.machine)) (sym turns_is)
+        ∙ ap (λ n. let q : Position (List Event × MachineState) = record { state = (reverse r.traced.events.list, machine_of r.traced.machine); turns = r.turn.scheduler; left = n } in run_from (watched r.traced.depth.greatest guest) budget q) (sym over)
 
     by : (w : WrittenRun) → shown_of (with_cut greatest (first_past machine.entry) w) ≡ shown r w
     by w =

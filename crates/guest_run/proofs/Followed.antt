@@ -29,11 +29,11 @@ returned-le target bs = by (nat_lt k (length bs)) refl
     by false is = omega arith
 
 pub follows-return : (old new : Depth) (past : List Event) (tid target : ℕ) →
-    ((t : ℕ) → backs_of new.callers.items t ≡ cond (tid == t) (drop (count_returned target (backs_of old.callers.items tid)) (backs_of old.callers.items t)) (backs_of old.callers.items t)) →
-    new.pending ≡ old.pending - count_returned target (backs_of old.callers.items tid) → new.steps ≡ old.steps → new.greatest ≡ old.greatest →
+    ((t : ℕ) → backs_of new.threads.items t ≡ cond (tid == t) (drop (count_returned target (backs_of old.threads.items tid)) (backs_of old.threads.items t)) (backs_of old.threads.items t)) →
+    new.pending ≡ old.pending - count_returned target (backs_of old.threads.items tid) → new.steps ≡ old.steps → new.greatest ≡ old.greatest →
     3 * (old.pending + 1) ≤ old.greatest → StandsFor old past → Follows true (Ret tid target) past new
 follows-return old new past tid target opens counts steps greatest room stands =
-    let n = count_returned target (backs_of old.callers.items tid) in
+    let n = count_returned target (backs_of old.threads.items tid) in
     let bs = stands.open_calls_are tid in
     let m : n ≡ count_returned target (backs (open_calls past tid)) = ap (count_returned target) bs in
     let long : length (backs (open_calls past tid)) ≡ length (open_calls past tid) = length-map (open_calls past tid) (λ a. a.back) in
@@ -52,10 +52,10 @@ follows-return old new past tid target opens counts steps greatest room stands =
     )
   where
     by : (t : ℕ) (b : Bool) → (tid == t) ≡ b →
-        cond b (drop (count_returned target (backs_of old.callers.items tid)) (backs_of old.callers.items t)) (backs_of old.callers.items t) ≡ backs (drop (cond b (count_returned target (backs (open_calls past t))) 0) (open_calls past t))
+        cond b (drop (count_returned target (backs_of old.threads.items tid)) (backs_of old.threads.items t)) (backs_of old.threads.items t) ≡ backs (drop (cond b (count_returned target (backs (open_calls past t))) 0) (open_calls past t))
     by t true is =
         let same : tid ≡ t = grind (arith, nat_tests, is) in
-        ap (λ u. drop (count_returned target (backs_of old.callers.items u)) (backs_of old.callers.items t)) same
+        ap (λ u. drop (count_returned target (backs_of old.threads.items u)) (backs_of old.threads.items t)) same
         ∙ ap (λ bs. drop (count_returned target bs) bs) (stands.open_calls_are t)
         ∙ sym (drop-backs (count_returned target (backs (open_calls past t))) (open_calls past t))
     by t false is = stands.open_calls_are t

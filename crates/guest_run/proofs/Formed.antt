@@ -19,10 +19,10 @@ use Rattle.guest_machine.specs.Machine.{MachineState, can_run}
 use Rattle.guest_machine.specs.Start.{start}
 use Rattle.guest_machine.specs.Step.{step}
 use Rattle.guest_machine.proofs.Follows.{every_step_continues}
-use Rattle.guest_run.specs.declared.pace.Pace.{Pace}
-use Rattle.guest_run.specs.declared.pace.Pace.TheVariants.{GoesOn, TurnOver, Ends}
-use Rattle.guest_run.specs.Machine.{guest, pace_of}
-use Rattle.guest_run.specs.Run.{Position, Chosen, by_pace, by_turn, chosen, chosen_by, events_of, go_on, move_of, position_after, run, run_from}
+use Rattle.guest_run.specs.declared.turn_status.TurnStatus.{TurnStatus}
+use Rattle.guest_run.specs.declared.turn_status.TurnStatus.TheVariants.{GoesOn, TurnOver, Ends}
+use Rattle.guest_run.specs.Machine.{guest, turn_status_of}
+use Rattle.guest_run.specs.Run.{Position, Chosen, by_turn_status, by_turn, chosen, chosen_by, events_of, go_on, move_of, position_after, run, run_from}
 use Rattle.guest_run.specs.Run.Chosen.{Moves, Stops}
 use Rattle.guest_run.specs.Profiled.{first_past, past_after, profiled}
 use Rattle.guest_run.specs.Traces.{EveryRunIsWellFormed}
@@ -61,7 +61,7 @@ chosen_able at able = by at.left able
     by zero able' = turned (turn_of at.turns (ready at.state.kernel)) refl
     by (suc more) able' = (refl, able' (omega arith))
 
-goes_went : (tid : ℕ) (outcome : Stepped) → pace_of tid outcome ≡ GoesOn → outcome ≡ Went
+goes_went : (tid : ℕ) (outcome : Stepped) → turn_status_of tid outcome ≡ GoesOn → outcome ≡ Went
 goes_went tid Went e = refl
 goes_went tid Yielded e = absurd (cc)
 goes_went tid Blocked e = absurd (cc)
@@ -78,23 +78,23 @@ unfolding run_from
 run_follows zero at past stands able = tt
 run_follows (suc more) at past stands able = by (chosen guest at) (chosen_able at able) (run_follows more)
   where
-    paced : RunFollows more → (opens : Bool) (to : Position MachineState) (pace : Pace) → StandsFor to.state past →
+    by_status : RunFollows more → (opens : Bool) (to : Position MachineState) (turn_status : TurnStatus) → StandsFor to.state past →
         can_run to.state to.turns.last ≡ true →
-        pace_of to.turns.last (step to.state to.turns.last).outcome ≡ pace →
-        EachFollows (events_of (by_pace (run_from guest more) (move_of opens to.turns.last (guest.step to.state to.turns.last)) to (step to.state to.turns.last).machine pace).moves) past
-    paced ih opens to GoesOn stands' can paces =
+        turn_status_of to.turns.last (step to.state to.turns.last).outcome ≡ turn_status →
+        EachFollows (events_of (by_turn_status (run_from guest more) (move_of opens to.turns.last (guest.step to.state to.turns.last)) to (step to.state to.turns.last).machine turn_status).moves) past
+    by_status ih opens to GoesOn stands' can statuses =
         let tid = to.turns.last in
         let first = every_step_continues to.state tid past stands' can in
         let next = position_after to (step to.state tid).machine (pred to.left) in
         follows-append (step to.state tid).events (events_of (run_from guest more next).moves) past first.0
-        (ih next (past_after past (step to.state tid).events) first.1 (λ some. step_able to.state tid can (goes_went tid (step to.state tid).outcome paces)))
-    paced ih opens to TurnOver stands' can paces =
+        (ih next (past_after past (step to.state tid).events) first.1 (λ some. step_able to.state tid can (goes_went tid (step to.state tid).outcome statuses)))
+    by_status ih opens to TurnOver stands' can statuses =
         let tid = to.turns.last in
         let first = every_step_continues to.state tid past stands' can in
         let next = position_after to (step to.state tid).machine 0 in
         follows-append (step to.state tid).events (events_of (run_from guest more next).moves) past first.0
         (ih next (past_after past (step to.state tid).events) first.1 (λ some. absurd (omega (arith, some))))
-    paced ih opens to (Ends finish) stands' can paces =
+    by_status ih opens to (Ends finish) stands' can statuses =
         let tid = to.turns.last in
         let first = every_step_continues to.state tid past stands' can in
         follows-append (step to.state tid).events [] past first.0 tt
@@ -102,7 +102,7 @@ run_follows (suc more) at past stands able = by (chosen guest at) (chosen_able a
     by : (c : Chosen MachineState) → IsChosenAble at.state c → RunFollows more →
         EachFollows (events_of (go_on guest (run_from guest more) c).moves) past
     by (Moves opens to) is ih =
-        paced ih opens to (guest.step to.state to.turns.last).pace (subst (λ m. StandsFor m past) (sym is.0) stands)
+        by_status ih opens to (guest.step to.state to.turns.last).turn_status (subst (λ m. StandsFor m past) (sym is.0) stands)
         (ap (λ m. can_run m to.turns.last) is.0 ∙ is.1) refl
     by (Stops finish) is ih = tt
 

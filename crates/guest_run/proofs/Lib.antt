@@ -2,7 +2,7 @@ pub mod Able
 pub mod Chosen
 pub mod Pasts
 pub mod Watched
-pub mod Callers
+pub mod OpenThreads
 pub mod Followed
 pub mod Steps
 pub mod Advances

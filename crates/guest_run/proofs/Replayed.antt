@@ -5,11 +5,11 @@ use Rattle.std.specs.List.{list_any}
 use Rattle.thread_sched.specs.declared.entry.Entry.{Entry}
 use Rattle.thread_sched.specs.declared.turns.Turn.{Turn}
 use Rattle.thread_sched.specs.declared.turns.Turn.TheVariants as turn
-use Rattle.thread_sched.specs.TurnRule.{Known, able, behind, next_thread, turn_if, turn_of}
-use Rattle.guest_run.specs.declared.pace.Pace.{Pace}
-use Rattle.guest_run.specs.declared.pace.Pace.TheVariants.{GoesOn, TurnOver, Ends}
+use Rattle.thread_sched.specs.TurnRule.{SchedulerState, able, behind, next_thread, turn_if, turn_of}
+use Rattle.guest_run.specs.declared.turn_status.TurnStatus.{TurnStatus}
+use Rattle.guest_run.specs.declared.turn_status.TurnStatus.TheVariants.{GoesOn, TurnOver, Ends}
 use Rattle.guest_run.specs.Machine.{Progress, Machine, guest}
-use Rattle.guest_run.specs.Run.{Move, Position, Chosen, by_turn, chosen_by, chosen, position_after, with_move, by_pace, move_of, after_step, go_on, run_from, run, start, current, recording}
+use Rattle.guest_run.specs.Run.{Move, Position, Chosen, by_turn, chosen_by, chosen, position_after, with_move, by_turn_status, move_of, after_step, go_on, run_from, run, start, current, recording}
 use Rattle.guest_run.specs.Run.Chosen.{Moves, Stops}
 use Rattle.guest_run.specs.Profiled.{Profiled, profiled}
 use Rattle.guest_run.specs.Watched.{watched, with_cut}
@@ -18,11 +18,11 @@ use Rattle.guest_run.proofs.Chosen.{Has-turn}
 use Rattle.guest_run.proofs.Watched.{profiled_is_watched}
 
 -- a scheduler of another quantum, with these entries from this line on
-abbrev with_entries : ℕ → ℕ → Known → List Entry → Known
+abbrev with_entries : ℕ → ℕ → SchedulerState → List Entry → SchedulerState
 with_entries other line turns entries = record { quantum = other; last = turns.last; line = line; entries = entries }
 
 -- where a thread has the turn, it also has it by an entry that names it, for as long as the entry says
-turn_of-by_entry : (k : Known) (other line : ℕ) (rest : List Entry) (live : List (ℕ × Bool)) (t most n : ℕ) →
+turn_of-by_entry : (k : SchedulerState) (other line : ℕ) (rest : List Entry) (live : List (ℕ × Bool)) (t most n : ℕ) →
     turn_of k live ≡ turn.Run t most → turn_of (with_entries other line k (record { tid = t; most = n } ∷ rest)) live ≡ turn.Run t n
 turn_of-by_entry k other line rest live t most n e = by (next_thread k.last (able live)) e
   where
@@ -32,7 +32,7 @@ turn_of-by_entry k other line rest live t most n e = by (next_thread k.last (abl
     by (Some next) first = ap (λ b. cond b (turn.Run t n) (turn.Mismatch line)) (Has-turn k live t most e)
 
 -- where no thread can run, none can under another schedule
-turn_of-deadlock : (k : Known) (other line : ℕ) (live : List (ℕ × Bool)) → turn_of k live ≡ turn.Deadlock → turn_of (with_entries other line k []) live ≡ turn.Deadlock
+turn_of-deadlock : (k : SchedulerState) (other line : ℕ) (live : List (ℕ × Bool)) → turn_of k live ≡ turn.Deadlock → turn_of (with_entries other line k []) live ≡ turn.Deadlock
 turn_of-deadlock k other line live e = by (next_thread k.last (able live)) k.entries e
   where
     named : (b : Bool) (entry : Entry) → cond b (turn.Run entry.tid entry.most) (turn.Mismatch k.line) ≡ turn.Deadlock → ⊥
@@ -97,8 +97,8 @@ current-over {State} machine (suc more) at over =
     ap (λ left. current (go_on machine (run_from machine more) (chosen_by machine at left)).moves) over
     ∙ turned (turn_of at.turns (machine.ready (machine.wake at.state)))
   where
-    moved : (to : Position State) (p : Progress State) (pace : Pace) →
-        current (by_pace (run_from machine more) (move_of true to.turns.last p) to p.state pace).moves ≡ 0
+    moved : (to : Position State) (p : Progress State) (turn_status : TurnStatus) →
+        current (by_turn_status (run_from machine more) (move_of true to.turns.last p) to p.state turn_status).moves ≡ 0
     moved to p GoesOn = refl
     moved to p TurnOver = refl
     moved to p (Ends finish) = refl
@@ -117,27 +117,27 @@ Follows {State} machine other fuel =
     run_from machine fuel (replay_at other line at (run_from machine fuel at).moves) ≡ run_from machine fuel at
 
 -- after the move
-follows-pace : {State : Type 0} (machine : Machine State) (other more : ℕ) → Follows machine other more →
+follows-status : {State : Type 0} (machine : Machine State) (other more : ℕ) → Follows machine other more →
     (at : Position State) (opens : Bool) (to : Position State) → ChosenAlike machine other at (Moves opens to) →
-    (line : ℕ) (p : Progress State) → machine.step to.state to.turns.last ≡ p → (pace : Pace) → p.pace ≡ pace →
-    let whole = by_pace (run_from machine more) (move_of opens to.turns.last p) to p.state pace in
+    (line : ℕ) (p : Progress State) → machine.step to.state to.turns.last ≡ p → (turn_status : TurnStatus) → p.turn_status ≡ turn_status →
+    let whole = by_turn_status (run_from machine more) (move_of opens to.turns.last p) to p.state turn_status in
     IsNoMismatch whole.finish →
     go_on machine (run_from machine more) (chosen machine (replay_at other line at whole.moves)) ≡ whole
 unfolding Follows
-follows-pace {State} machine other more ih at opens to alike line p same pace e fine = by pace e fine
+follows-status {State} machine other more ih at opens to alike line p same turn_status e fine = by turn_status e fine
   where
-    stepping : (tail : List Move) (pace : Pace) → p.pace ≡ pace →
+    stepping : (tail : List Move) (turn_status : TurnStatus) → p.turn_status ≡ turn_status →
         go_on machine (run_from machine more) (chosen machine (replay_at other line at (move_of opens to.turns.last p ∷ tail)))
-        ≡ by_pace (run_from machine more) (move_of opens to.turns.last p) (replay_to other opens line to tail) p.state pace
-    stepping tail pace e =
+        ≡ by_turn_status (run_from machine more) (move_of opens to.turns.last p) (replay_to other opens line to tail) p.state turn_status
+    stepping tail turn_status e =
         ap (go_on machine (run_from machine more)) (chosen-replay machine other at opens to alike line p tail)
         ∙ ap (after_step (run_from machine more) opens (replay_to other opens line to tail)) same
-        ∙ ap (by_pace (run_from machine more) (move_of opens to.turns.last p) (replay_to other opens line to tail) p.state) e
+        ∙ ap (by_turn_status (run_from machine more) (move_of opens to.turns.last p) (replay_to other opens line to tail) p.state) e
 
-    by : (pace : Pace) → p.pace ≡ pace →
-        IsNoMismatch (by_pace (run_from machine more) (move_of opens to.turns.last p) to p.state pace).finish →
-        go_on machine (run_from machine more) (chosen machine (replay_at other line at (by_pace (run_from machine more) (move_of opens to.turns.last p) to p.state pace).moves))
-        ≡ by_pace (run_from machine more) (move_of opens to.turns.last p) to p.state pace
+    by : (turn_status : TurnStatus) → p.turn_status ≡ turn_status →
+        IsNoMismatch (by_turn_status (run_from machine more) (move_of opens to.turns.last p) to p.state turn_status).finish →
+        go_on machine (run_from machine more) (chosen machine (replay_at other line at (by_turn_status (run_from machine more) (move_of opens to.turns.last p) to p.state turn_status).moves))
+        ≡ by_turn_status (run_from machine more) (move_of opens to.turns.last p) to p.state turn_status
     by GoesOn e fine =
         let next = position_after to p.state (pred to.left) in
         stepping (run_from machine more next).moves GoesOn e
@@ -158,7 +158,7 @@ follows-chosen : {State : Type 0} (machine : Machine State) (other more : ℕ) �
     go_on machine (run_from machine more) (chosen machine (replay_at other line at whole.moves)) ≡ whole
 unfolding ChosenAlike
 follows-chosen machine other more ih at (Moves opens to) alike line fine =
-    follows-pace machine other more ih at opens to alike line (machine.step to.state to.turns.last) refl _ refl fine
+    follows-status machine other more ih at opens to alike line (machine.step to.state to.turns.last) refl _ refl fine
 follows-chosen machine other more ih at (Stops finish) alike line fine =
     ap (go_on machine (run_from machine more)) (alike fine line)
 

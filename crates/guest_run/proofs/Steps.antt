@@ -7,11 +7,11 @@ use Rattle.trace_model.specs.Depth.{cut, is_within}
 use Rattle.guest_machine.specs.declared.stepped.Stepped.{Stepped}
 use Rattle.guest_machine.specs.Kept.{Parts, Steps, machine_of, out_of}
 use Rattle.guest_machine.specs.Step.{StepResult}
-use Rattle.guest_run.specs.declared.pace.Pace.{Pace}
-use Rattle.guest_run.specs.declared.pace.Pace.TheVariants.{Ends}
+use Rattle.guest_run.specs.declared.turn_status.TurnStatus.{TurnStatus}
+use Rattle.guest_run.specs.declared.turn_status.TurnStatus.TheVariants.{Ends}
 use Rattle.guest_run.specs.declared.traced.Traced.{Traced}
 use Rattle.guest_run.specs.Kept.{Adds, AddsOut, Told}
-use Rattle.guest_run.specs.Machine.{pace_of, progress_of}
+use Rattle.guest_run.specs.Machine.{turn_status_of, progress_of}
 use Rattle.guest_run.specs.Run.{sent}
 use Rattle.guest_run.specs.Watched.{watched_step}
 use Rattle.guest_run.proofs.Pasts.{cut-at, cut-within}
@@ -47,15 +47,15 @@ module _ (r : StepResult) (tid : ℕ) (stepped : Stepped) (old mid new : Traced)
         told = subst (λ es. Told last.depth (reverse es)) (sym events) told;
         out = ap (λ v. v.items) out_is ∙ out-kept;
         err = ap (λ v. v.items) err_is ∙ err-kept;
-        went = sym (ap (λ b. cond b (pace_of tid r.outcome) (Ends Deep)) (ap (λ past. is_within past most) (sym past-whole) ∙ at.1));
+        went = sym (ap (λ b. cond b (turn_status_of tid r.outcome) (Ends Deep)) (ap (λ past. is_within past most) (sym past-whole) ∙ at.1));
         entry = ap (λ (p : Parts). p.entry) (machine_is ∙ is.kept.machine_is) ∙ is.entry;
         greatest_is = greatest;
       }
 
-  pub Adds-whole : (pace : Pace) (last : Traced) → last.machine ≡ new.machine → last.out ≡ new.out → last.err ≡ new.err → last.events.list ≡ all →
-      last.depth.greatest ≡ old.depth.greatest → Told last.depth (reverse all) → pace ≡ pace_of tid stepped →
-      Adds (watched_step old.depth.greatest (reverse old.events.list) (progress_of tid r)) pace old last
-  Adds-whole pace last machine_is out_is err_is events greatest told paced =
+  pub Adds-whole : (turn_status : TurnStatus) (last : Traced) → last.machine ≡ new.machine → last.out ≡ new.out → last.err ≡ new.err → last.events.list ≡ all →
+      last.depth.greatest ≡ old.depth.greatest → Told last.depth (reverse all) → turn_status ≡ turn_status_of tid stepped →
+      Adds (watched_step old.depth.greatest (reverse old.events.list) (progress_of tid r)) turn_status old last
+  Adds-whole turn_status last machine_is out_is err_is events greatest told status_is =
       let most = old.depth.greatest in
       let within : is_within (reverse r.events ++ reverse old.events.list) most ≡ true =
       ap (λ past. is_within past most) (sym past-whole) ∙ ap (λ m. is_within (reverse all) m) (sym greatest) ∙ told.within
@@ -66,7 +66,7 @@ module _ (r : StepResult) (tid : ℕ) (stepped : Stepped) (old mid new : Traced)
         told = subst (λ es. Told last.depth (reverse es)) (sym events) told;
         out = ap (λ v. v.items) out_is ∙ out-kept;
         err = ap (λ v. v.items) err_is ∙ err-kept;
-        went = paced ∙ ap (pace_of tid) is.steps.went ∙ sym (ap (λ b. cond b (pace_of tid r.outcome) (Ends Deep)) within);
+        went = status_is ∙ ap (turn_status_of tid) is.steps.went ∙ sym (ap (λ b. cond b (turn_status_of tid r.outcome) (Ends Deep)) within);
         entry = ap (λ (p : Parts). p.entry) (machine_is ∙ is.kept.machine_is) ∙ is.entry;
         greatest_is = greatest;
       }

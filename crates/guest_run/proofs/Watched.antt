@@ -7,11 +7,11 @@ use Rattle.trace_model.specs.declared.event_kinds.Event.{Event}
 use Rattle.trace_model.specs.Depth.{cut, is_within}
 use Rattle.thread_sched.specs.declared.turns.Turn.{Turn}
 use Rattle.thread_sched.specs.declared.turns.Turn.TheVariants as turn
-use Rattle.thread_sched.specs.TurnRule.{Known, turn_of}
-use Rattle.guest_run.specs.declared.pace.Pace.{Pace}
-use Rattle.guest_run.specs.declared.pace.Pace.TheVariants.{GoesOn, TurnOver, Ends}
+use Rattle.thread_sched.specs.TurnRule.{SchedulerState, turn_of}
+use Rattle.guest_run.specs.declared.turn_status.TurnStatus.{TurnStatus}
+use Rattle.guest_run.specs.declared.turn_status.TurnStatus.TheVariants.{GoesOn, TurnOver, Ends}
 use Rattle.guest_run.specs.Machine.{Progress, Machine}
-use Rattle.guest_run.specs.Run.{Move, WrittenRun, Position, Chosen, by_turn, chosen_by, chosen, position_after, with_move, by_pace, move_of, after_step, go_on, run_from, run, start, events_of}
+use Rattle.guest_run.specs.Run.{Move, WrittenRun, Position, Chosen, by_turn, chosen_by, chosen, position_after, with_move, by_turn_status, move_of, after_step, go_on, run_from, run, start, events_of}
 use Rattle.guest_run.specs.Run.Chosen.{Moves, Stops}
 use Rattle.guest_run.specs.Profiled.{past_after, moves_kept, Profiled, profiled}
 use Rattle.guest_run.specs.Watched.{watched_step, watched, with_cut}
@@ -102,11 +102,11 @@ keeps-step : {State : Type 0} (most : ℕ) (machine : Machine State) (more : ℕ
     kept most past (after_step (run_from machine more) opens to p)
     ≡ after_step (run_from (watched most machine) more) opens (with_past past to) (watched_step most past p)
 unfolding KeepsWatched
-keeps-step {State} most machine more ih past opens to p = by (is_within (past_after past p.events) most) refl p.pace
+keeps-step {State} most machine more ih past opens to p = by (is_within (past_after past p.events) most) refl p.turn_status
   where
-    by : (b : Bool) → is_within (past_after past p.events) most ≡ b → (pace : Pace) →
-        kept most past (by_pace (run_from machine more) (move_of opens to.turns.last p) to p.state pace)
-        ≡ by_pace (run_from (watched most machine) more) (move_of opens to.turns.last p) (with_past past to) (past_after past p.events, p.state) (cond b pace (Ends Deep))
+    by : (b : Bool) → is_within (past_after past p.events) most ≡ b → (turn_status : TurnStatus) →
+        kept most past (by_turn_status (run_from machine more) (move_of opens to.turns.last p) to p.state turn_status)
+        ≡ by_turn_status (run_from (watched most machine) more) (move_of opens to.turns.last p) (with_past past to) (past_after past p.events, p.state) (cond b turn_status (Ends Deep))
     by true passed GoesOn =
         kept-move most past (move_of opens to.turns.last p) _ passed
         ∙ ap (with_move (move_of opens to.turns.last p)) (ih (past_after past p.events) (position_after to p.state (pred to.left)) passed)
@@ -134,7 +134,7 @@ keeps-watched most machine (suc more) = λ past at passed.
     keeps-chosen most machine more (keeps-watched most machine more) past passed (chosen machine at)
     ∙ ap (go_on (watched most machine) (run_from (watched most machine) more)) (sym (chosen-watched most machine past at))
 
-pub profiled_is_watched : {State : Type 0} (machine : Machine State) (most : ℕ) (past : List Event) (turns : Known) (budget : ℕ) (state : State) → is_within past most ≡ true →
+pub profiled_is_watched : {State : Type 0} (machine : Machine State) (most : ℕ) (past : List Event) (turns : SchedulerState) (budget : ℕ) (state : State) → is_within past most ≡ true →
     profiled most past (run machine turns budget state) ≡ with_cut most past (run (watched most machine) turns budget (past, state))
 unfolding KeepsWatched
 profiled_is_watched machine most past turns budget state passed =

@@ -5,7 +5,7 @@ use Rattle.std.proofs.lemmas.List.{reverse-append}
 use Rattle.trace_model.specs.declared.event_kinds.Event.{Event}
 use Rattle.trace_model.specs.Depth.{cut, is_within}
 use Rattle.trace_model.specs.WellFormed.{weight, weight_of}
-use Rattle.thread_sched.specs.TurnRule.{Known, turn_of}
+use Rattle.thread_sched.specs.TurnRule.{SchedulerState, turn_of}
 use Rattle.thread_sched.specs.declared.turns.Turn.{Turn}
 use Rattle.thread_sched.specs.declared.turns.Turn.TheVariants as turn
 use Rattle.elf_image.specs.Image.{Executable}
@@ -16,10 +16,10 @@ use Rattle.guest_machine.specs.Machine.{MachineState}
 use Rattle.guest_machine.specs.Start.{start}
 use Rattle.guest_machine.specs.Step.{step}
 use Rattle.guest_machine.proofs.Weights.{every_step_light}
-use Rattle.guest_run.specs.declared.pace.Pace.{Pace}
-use Rattle.guest_run.specs.declared.pace.Pace.TheVariants.{GoesOn, TurnOver, Ends}
+use Rattle.guest_run.specs.declared.turn_status.TurnStatus.{TurnStatus}
+use Rattle.guest_run.specs.declared.turn_status.TurnStatus.TheVariants.{GoesOn, TurnOver, Ends}
 use Rattle.guest_run.specs.Machine.{guest}
-use Rattle.guest_run.specs.Run.{Position, Chosen, by_pace, by_turn, chosen, chosen_by, events_of, go_on, move_of, position_after, run, run_from}
+use Rattle.guest_run.specs.Run.{Position, Chosen, by_turn_status, by_turn, chosen, chosen_by, events_of, go_on, move_of, position_after, run, run_from}
 use Rattle.guest_run.specs.Run.Chosen.{Moves, Stops}
 use Rattle.guest_run.specs.Profiled.{first_past, past_after, profiled}
 use Rattle.guest_run.specs.Traces.{EveryRunIsLight, most_moves}
@@ -55,19 +55,19 @@ unfolding run_from
 run_weight zero at = omega arith
 run_weight (suc more) at = by (chosen guest at) (chosen_in at) (run_weight more)
   where
-    paced : ((at : Position MachineState) → weight (events_of (run_from guest more at).moves) ≤ 65540 * more + length at.state.harts) →
-        (opens : Bool) (to : Position MachineState) (pace : Pace) →
+    by_status : ((at : Position MachineState) → weight (events_of (run_from guest more at).moves) ≤ 65540 * more + length at.state.harts) →
+        (opens : Bool) (to : Position MachineState) (turn_status : TurnStatus) →
         let tid = to.turns.last in
-        weight (events_of (by_pace (run_from guest more) (move_of opens tid (guest.step to.state tid)) to (step to.state tid).machine pace).moves) ≤ 65540 * suc more + length to.state.harts
-    paced ih opens to GoesOn =
+        weight (events_of (by_turn_status (run_from guest more) (move_of opens tid (guest.step to.state tid)) to (step to.state tid).machine turn_status).moves) ≤ 65540 * suc more + length to.state.harts
+    by_status ih opens to GoesOn =
         let tid = to.turns.last in
         let next = position_after to (step to.state tid).machine (pred to.left) in
         omega (arith, weight-append (step to.state tid).events (events_of (run_from guest more next).moves), every_step_light to.state tid, ih next)
-    paced ih opens to TurnOver =
+    by_status ih opens to TurnOver =
         let tid = to.turns.last in
         let next = position_after to (step to.state tid).machine 0 in
         omega (arith, weight-append (step to.state tid).events (events_of (run_from guest more next).moves), every_step_light to.state tid, ih next)
-    paced ih opens to (Ends finish) =
+    by_status ih opens to (Ends finish) =
         let tid = to.turns.last in
         omega (arith, weight-append (step to.state tid).events [], every_step_light to.state tid)
 
@@ -75,7 +75,7 @@ run_weight (suc more) at = by (chosen guest at) (chosen_in at) (run_weight more)
         ((at : Position MachineState) → weight (events_of (run_from guest more at).moves) ≤ 65540 * more + length at.state.harts) →
         weight (events_of (go_on guest (run_from guest more) c).moves) ≤ 65540 * suc more + length at.state.harts
     by (Moves opens to) same ih =
-        let here = paced ih opens to (guest.step to.state to.turns.last).pace in
+        let here = by_status ih opens to (guest.step to.state to.turns.last).turn_status in
         let few : length to.state.harts ≡ length at.state.harts = ap (λ (m : MachineState). length m.harts) same in
         omega (arith, here, few)
     by (Stops finish) same ih = omega arith
@@ -99,7 +99,7 @@ whole_weight past events =
 
 -- the whole past of a run
 pub whole_light : (image : Executable) (arguments : List (List ℕ)) (inputs : List Input) (stdin : List ℕ)
-    (turns : Known) (budget : ℕ) → budget ≤ most_moves →
+    (turns : SchedulerState) (budget : ℕ) → budget ≤ most_moves →
     weight (past_after (first_past image.entry) (events_of (run guest turns budget (start image arguments inputs stdin)).moves)) < 2 ^ 62
 unfolding start
 whole_light image arguments inputs stdin turns budget few =

@@ -8,7 +8,7 @@ use Rattle.guest_machine.specs.Kept.{machine_of}
 use Rattle.guest_run.specs.declared.run.Runner.{Runner}
 use Rattle.guest_run.specs.Kept.{Told}
 use Rattle.guest_run.specs.Machine.{guest}
-use Rattle.guest_run.specs.Place.{IsUnderWay, position, recorded}
+use Rattle.guest_run.specs.CurrentTurn.{IsUnderWay, position, recorded}
 use Rattle.guest_run.specs.Profiled.{past_after}
 use Rattle.guest_run.specs.Run.{WrittenRun, Position, bytes_on, events_of, run_from}
 use Rattle.guest_run.specs.Shown.{Shown}
@@ -26,7 +26,7 @@ shown r run = record {
 
 -- where the watched machine stands
 abbrev pub position_of : Runner → Position (List Event × MachineState)
-position_of r = position (reverse r.traced.events.list, machine_of r.traced.machine) r.place
+position_of r = position (reverse r.traced.events.list, machine_of r.traced.machine) r.turn
 
 -- so many more moves of the watched machine
 abbrev pub left : ℕ → Runner → WrittenRun
@@ -35,8 +35,8 @@ left n r = run_from (watched r.traced.depth.greatest guest) n (position_of r)
 -- what the program keeps is true, and the thread whose turn goes on can run, as it made a move of it
 pub record IsGoing (r : Runner) : Type 0 where
   pub told : Told r.traced.depth (reverse r.traced.events.list)
-  pub way : 0 < r.place.left → IsUnderWay (machine_of r.traced.machine) r.place
-  pub made : 0 < r.place.left → 0 < r.recorder.made
+  pub way : 0 < r.turn.left → IsUnderWay (machine_of r.traced.machine) r.turn
+  pub made : 0 < r.turn.left → 0 < r.recorder.made
 
 -- the run goes on, or it ended so, by a move
 pub record GoesOn (old new : Runner) : Type 0 where

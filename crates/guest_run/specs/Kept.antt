@@ -4,7 +4,7 @@ use Rattle.trace_model.specs.declared.event_kinds.Event.{Event}
 use Rattle.trace_model.specs.Depth.{cut, is_within}
 use Rattle.guest_machine.specs.Machine.{MachineState}
 use Rattle.guest_machine.specs.Kept.{Parts, machine_of, out_of}
-use Rattle.guest_run.specs.declared.pace.Pace.{Pace}
+use Rattle.guest_run.specs.declared.turn_status.TurnStatus.{TurnStatus}
 use Rattle.guest_run.specs.declared.depth.Depth.{Depth}
 use Rattle.guest_run.specs.declared.traced.Traced.{Traced}
 use Rattle.guest_run.specs.Machine.{Progress}
@@ -34,13 +34,13 @@ pub record AddsOut (old new : Traced) : Type 0 where
   pub out : new.out.items ≡ old.out.items ++ sent 1 (out_of old.machine)
   pub err : new.err.items ≡ old.err.items ++ sent 2 (out_of old.machine)
 
--- the state, the past, the bytes and the pace of a step of the watched machine are what is kept now
-pub record Adds (p : Progress (List Event × MachineState)) (pace : Pace) (old new : Traced) : Type 0 where
+-- the state, the past, the bytes and the status of a step of the watched machine are what is kept now
+pub record Adds (p : Progress (List Event × MachineState)) (turn_status : TurnStatus) (old new : Traced) : Type 0 where
   pub state : machine_of new.machine ≡ p.state.1
   pub past : reverse new.events.list ≡ cut p.state.0 old.depth.greatest
   pub told : Told new.depth (reverse new.events.list)
   pub out : new.out.items ≡ old.out.items ++ sent 1 p.out
   pub err : new.err.items ≡ old.err.items ++ sent 2 p.out
-  pub went : pace ≡ p.pace
+  pub went : turn_status ≡ p.turn_status
   pub entry : new.machine.entry ≡ old.machine.entry
   pub greatest_is : new.depth.greatest ≡ old.depth.greatest

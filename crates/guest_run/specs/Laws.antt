@@ -7,15 +7,15 @@ use Rattle.trace_model.specs.declared.event_kinds.Event.{Event}
 use Rattle.trace_model.specs.Depth.{is_within}
 use Rattle.trace_model.specs.Profile.{steps}
 use Rattle.thread_sched.specs.declared.entry.Entry.{Entry}
-use Rattle.thread_sched.specs.TurnRule.{Known}
+use Rattle.thread_sched.specs.TurnRule.{SchedulerState}
 use Rattle.guest_machine.specs.Machine.{MachineState}
-use Rattle.guest_run.specs.declared.pace.Pace.TheVariants.{Ends}
+use Rattle.guest_run.specs.declared.turn_status.TurnStatus.TheVariants.{Ends}
 use Rattle.guest_run.specs.Machine.{Machine, guest}
 use Rattle.guest_run.specs.Run.{WrittenRun, events_of, recording, run}
 use Rattle.guest_run.specs.Profiled.{past_after, profiled}
 
 -- what a scheduler knows before the first turn
-abbrev pub scheduler : ℕ → List Entry → Known
+abbrev pub scheduler : ℕ → List Entry → SchedulerState
 scheduler quantum schedule = record { quantum = quantum; last = 0; line = 1; entries = schedule }
 
 -- the run did not end at an entry of its schedule
@@ -46,16 +46,16 @@ ReplaysProfiled =
 
 -- A run has at most as many moves as its budget.
 abbrev pub StaysWithin : {State : Type 0} → Machine State → Type 0
-StaysWithin {State} machine = (turns : Known) (budget : ℕ) (state : State) → length (run machine turns budget state).moves ≤ budget
+StaysWithin {State} machine = (turns : SchedulerState) (budget : ℕ) (state : State) → length (run machine turns budget state).moves ≤ budget
 
 -- No step of the machine ends a run for the budget.
 abbrev pub NeverEndsForBudget : {State : Type 0} → Machine State → Type 0
-NeverEndsForBudget {State} machine = (state : State) (tid : ℕ) → (machine.step state tid).pace ≡ Ends Budget → ⊥
+NeverEndsForBudget {State} machine = (state : State) (tid : ℕ) → (machine.step state tid).turn_status ≡ Ends Budget → ⊥
 
 -- A run that ends for its budget has made as many moves.
 abbrev pub SpendsBudget : {State : Type 0} → Machine State → Type 0
 SpendsBudget {State} machine =
-    (turns : Known) (budget : ℕ) (state : State) →
+    (turns : SchedulerState) (budget : ℕ) (state : State) →
     (run machine turns budget state).finish ≡ Budget → length (run machine turns budget state).moves ≡ budget
 
 -- Each turn of a recording has a move and at most as many as the budget, and all together have the moves of the run.
@@ -65,7 +65,7 @@ pub record TurnsHaveMoves (recorded : List Entry) (moves budget : ℕ) : Type 0 
 
 abbrev pub RecordsTurns : {State : Type 0} → Machine State → Type 0
 RecordsTurns {State} machine =
-    (turns : Known) (budget : ℕ) (state : State) →
+    (turns : SchedulerState) (budget : ℕ) (state : State) →
     let whole = run machine turns budget state in
     TurnsHaveMoves (recording whole.moves) (length whole.moves) budget
 
@@ -96,12 +96,12 @@ faults (Schedule line) = 0
 -- A run of the guest has a step for each move, but for the one that faults.
 abbrev pub CountsSteps : Type 0
 CountsSteps =
-    (turns : Known) (budget : ℕ) (state : MachineState) →
+    (turns : SchedulerState) (budget : ℕ) (state : MachineState) →
     let whole = run guest turns budget state in
     steps (reverse (events_of whole.moves)) + faults whole.finish ≡ length whole.moves
 
 -- So what is profiled of it has at most as many steps as its budget, beside those of the past before it.
 abbrev pub StepsWithin : Type 0
 StepsWithin =
-    (most : ℕ) (past : List Event) (turns : Known) (budget : ℕ) (state : MachineState) →
+    (most : ℕ) (past : List Event) (turns : SchedulerState) (budget : ℕ) (state : MachineState) →
     steps (profiled most past (run guest turns budget state)).past ≤ steps past + budget

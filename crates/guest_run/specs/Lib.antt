@@ -4,7 +4,7 @@ pub mod Profiled
 pub mod Watched
 pub mod Kept
 pub mod Open
-pub mod Place
+pub mod CurrentTurn
 pub mod Shown
 pub mod Going
 pub mod Laws

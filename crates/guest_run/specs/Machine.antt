@@ -7,24 +7,24 @@ use Rattle.guest_machine.specs.declared.stepped.Stepped.{Stepped}
 use Rattle.guest_machine.specs.declared.stepped.Stepped.TheVariants.{Went, Yielded, Blocked, Ended, Finished, Faulted}
 use Rattle.guest_machine.specs.Machine.{MachineState}
 use Rattle.guest_machine.specs.Step.{StepResult, step}
-use Rattle.guest_run.specs.declared.pace.Pace.{Pace}
-use Rattle.guest_run.specs.declared.pace.Pace.TheVariants.{GoesOn, TurnOver, Ends}
+use Rattle.guest_run.specs.declared.turn_status.TurnStatus.{TurnStatus}
+use Rattle.guest_run.specs.declared.turn_status.TurnStatus.TheVariants.{GoesOn, TurnOver, Ends}
 
 -- a turn is over early where its thread yields, waits or ends
-abbrev pub pace_of : ℕ → Stepped → Pace
-pace_of tid Went = GoesOn
-pace_of tid Yielded = TurnOver
-pace_of tid Blocked = TurnOver
-pace_of tid Ended = TurnOver
-pace_of tid (Finished status) = Ends (Exit status)
-pace_of tid (Faulted kind at) = Ends (Fault kind tid at)
+abbrev pub turn_status_of : ℕ → Stepped → TurnStatus
+turn_status_of tid Went = GoesOn
+turn_status_of tid Yielded = TurnOver
+turn_status_of tid Blocked = TurnOver
+turn_status_of tid Ended = TurnOver
+turn_status_of tid (Finished status) = Ends (Exit status)
+turn_status_of tid (Faulted kind at) = Ends (Fault kind tid at)
 
--- What one step gives: the state after it, its events in order, the bytes that go out with their channel, and its pace.
+-- What one step gives: the state after it, its events in order, the bytes that go out with their channel, and what it means for its turn.
 pub record Progress (State : Type 0) : Type 0 where
   pub state : State
   pub events : List Event
   pub out : Option (ℕ × List ℕ)
-  pub pace : Pace
+  pub turn_status : TurnStatus
 
 -- A machine: the step of a thread, the live threads with whether each can run, and what is woken before the next turn is
 -- chosen.
@@ -34,7 +34,7 @@ pub record Machine (State : Type 0) : Type 0 where
   pub wake : State → State
 
 abbrev pub progress_of : ℕ → StepResult → Progress MachineState
-progress_of tid r = record { state = r.machine; events = r.events; out = r.out; pace = pace_of tid r.outcome }
+progress_of tid r = record { state = r.machine; events = r.events; out = r.out; turn_status = turn_status_of tid r.outcome }
 
 -- The guest, whose threads no clock wakes.
 abbrev pub guest : Machine MachineState

@@ -7,27 +7,27 @@ use Rattle.trace_model.specs.Depth.{pending}
 use Rattle.trace_model.specs.Profile.{steps}
 use Rattle.call_tracker.specs.declared.open_calls.OpenCall.{OpenCall}
 use Rattle.call_tracker.specs.Calls as calls
-use Rattle.guest_run.specs.declared.depth.Caller.{Caller}
+use Rattle.guest_run.specs.declared.depth.ThreadCalls.{ThreadCalls}
 use Rattle.guest_run.specs.declared.depth.Depth.{Depth}
 
 -- the open calls of a thread, the outermost first
-abbrev pub calls_of : List Caller → ℕ → List OpenCall
+abbrev pub calls_of : List ThreadCalls → ℕ → List OpenCall
 calls_of [] t = []
-calls_of (c ∷ callers) t = if c.tid == t then c.calls.calls else calls_of callers t
+calls_of (c ∷ threads) t = if c.tid == t then c.calls.calls else calls_of threads t
 
 -- their return addresses, the innermost first
-abbrev pub backs_of : List Caller → ℕ → List (Option ℕ)
-backs_of callers t = calls.backs (reverse (calls_of callers t))
+abbrev pub backs_of : List ThreadCalls → ℕ → List (Option ℕ)
+backs_of threads t = calls.backs (reverse (calls_of threads t))
 
--- the thread stands at this place
-pub record IsPlace (callers : List Caller) (tid place : ℕ) : Type 0 where
-  pub within : place < length callers
-  pub here : (d : Caller) → ((slice_index_or callers place d).tid ≡ tid) × ((slice_index_or callers place d).calls.calls ≡ calls_of callers tid)
-  pub after : (c : Caller) → c.tid ≡ tid → (t : ℕ) → calls_of (slice_set callers place c) t ≡ (if tid == t then c.calls.calls else calls_of callers t)
+-- the thread stands at this index
+pub record IsIndex (threads : List ThreadCalls) (tid index : ℕ) : Type 0 where
+  pub within : index < length threads
+  pub here : (d : ThreadCalls) → ((slice_index_or threads index d).tid ≡ tid) × ((slice_index_or threads index d).calls.calls ≡ calls_of threads tid)
+  pub after : (c : ThreadCalls) → c.tid ≡ tid → (t : ℕ) → calls_of (slice_set threads index c) t ≡ (if tid == t then c.calls.calls else calls_of threads t)
 
--- The callers have the open activations of a past, and as many of them and of steps are counted.
+-- The threads have the open activations of a past, and as many of them and of steps are counted.
 pub record StandsFor (d : Depth) (past : List Event) : Type 0 where
-  pub open_calls_are : (t : ℕ) → backs_of d.callers.items t ≡ activations.backs (open_calls past t)
+  pub open_calls_are : (t : ℕ) → backs_of d.threads.items t ≡ activations.backs (open_calls past t)
   pub pending_are : d.pending ≡ pending past
   pub steps_are : d.steps ≡ steps past
 

@@ -6,9 +6,9 @@ use Rattle.trace_model.specs.declared.event_kinds.Event.{Event}
 use Rattle.thread_sched.specs.declared.entry.Entry.{Entry}
 use Rattle.thread_sched.specs.declared.turns.Turn.{Turn}
 use Rattle.thread_sched.specs.declared.turns.Turn.TheVariants as turn
-use Rattle.thread_sched.specs.TurnRule.{Known, behind, turn_of}
-use Rattle.guest_run.specs.declared.pace.Pace.{Pace}
-use Rattle.guest_run.specs.declared.pace.Pace.TheVariants.{GoesOn, TurnOver, Ends}
+use Rattle.thread_sched.specs.TurnRule.{SchedulerState, behind, turn_of}
+use Rattle.guest_run.specs.declared.turn_status.TurnStatus.{TurnStatus}
+use Rattle.guest_run.specs.declared.turn_status.TurnStatus.TheVariants.{GoesOn, TurnOver, Ends}
 use Rattle.guest_run.specs.Machine.{Progress, Machine}
 
 -- A move: one step of a thread, and whether it is the first of its turn.
@@ -26,7 +26,7 @@ pub record WrittenRun : Type 0 where
 pub record Position (State : Type 0) : Type 0 where
   pub state : State
   -- what the scheduler knows, whose last thread has the present turn
-  pub turns : Known
+  pub turns : SchedulerState
   -- how many moves that turn has left at most, 0 where it is over
   pub left : ℕ
 
@@ -36,14 +36,14 @@ pub data Chosen (State : Type 0) : Type 0 where
   Stops : Finish → Chosen State
 
 -- by the turn rule's answer in a state
-abbrev pub by_turn : {State : Type 0} → Known → State → Turn → Chosen State
+abbrev pub by_turn : {State : Type 0} → SchedulerState → State → Turn → Chosen State
 by_turn turns state (turn.Run tid most) =
     Moves true (record { state = state; turns = behind turns (turn.Run tid most); left = most })
 by_turn turns state turn.Deadlock = Stops Deadlock
 by_turn turns state (turn.Mismatch line) = Stops (Schedule line)
 
 -- the turn rule is asked once all that is due is woken
-abbrev pub asked : {State : Type 0} → Machine State → Known → State → Chosen State
+abbrev pub asked : {State : Type 0} → Machine State → SchedulerState → State → Chosen State
 asked machine turns state = by_turn turns state (turn_of turns (machine.ready state))
 
 -- the turn goes on while it has moves left; else the turn rule is asked
@@ -62,16 +62,16 @@ abbrev pub with_move : Move → WrittenRun → WrittenRun
 with_move move run = record { moves = move ∷ run.moves; finish = run.finish }
 
 -- how a run goes on after a move, by the run from the position after it
-abbrev pub by_pace : {State : Type 0} → (Position State → WrittenRun) → Move → Position State → State → Pace → WrittenRun
-by_pace rest move at state GoesOn = with_move move (rest (position_after at state (pred at.left)))
-by_pace rest move at state TurnOver = with_move move (rest (position_after at state 0))
-by_pace rest move at state (Ends finish) = record { moves = move ∷ []; finish = finish }
+abbrev pub by_turn_status : {State : Type 0} → (Position State → WrittenRun) → Move → Position State → State → TurnStatus → WrittenRun
+by_turn_status rest move at state GoesOn = with_move move (rest (position_after at state (pred at.left)))
+by_turn_status rest move at state TurnOver = with_move move (rest (position_after at state 0))
+by_turn_status rest move at state (Ends finish) = record { moves = move ∷ []; finish = finish }
 
 abbrev pub move_of : {State : Type 0} → Bool → ℕ → Progress State → Move
 move_of opens tid p = record { opens = opens; tid = tid; events = p.events; out = p.out }
 
 abbrev pub after_step : {State : Type 0} → (Position State → WrittenRun) → Bool → Position State → Progress State → WrittenRun
-after_step rest opens at p = by_pace rest (move_of opens at.turns.last p) at p.state p.pace
+after_step rest opens at p = by_turn_status rest (move_of opens at.turns.last p) at p.state p.turn_status
 
 abbrev pub go_on : {State : Type 0} → Machine State → (Position State → WrittenRun) → Chosen State → WrittenRun
 go_on machine rest (Moves opens at) = after_step rest opens at (machine.step at.state at.turns.last)
@@ -83,11 +83,11 @@ run_from machine zero at = record { moves = []; finish = Budget }
 run_from machine (suc more) at = go_on machine (run_from machine more) (chosen machine at)
 
 -- where a run begins: no turn is under way
-abbrev pub start : {State : Type 0} → Known → State → Position State
+abbrev pub start : {State : Type 0} → SchedulerState → State → Position State
 start turns state = record { state = state; turns = turns; left = 0 }
 
 -- The run from a state, by a scheduler and a budget.
-abbrev pub run : {State : Type 0} → Machine State → Known → ℕ → State → WrittenRun
+abbrev pub run : {State : Type 0} → Machine State → SchedulerState → ℕ → State → WrittenRun
 run machine turns budget state = run_from machine budget (start turns state)
 
 -- the events of moves, in order

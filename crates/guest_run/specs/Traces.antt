@@ -2,7 +2,7 @@
 use Rattle.std.specs.Prelude.{ℕ, ◌^◌, ◌≤◌, List}
 use Rattle.trace_model.specs.declared.event_kinds.Event.{Event}
 use Rattle.trace_model.specs.WellFormed.{IsLight, IsWellFormed}
-use Rattle.thread_sched.specs.TurnRule.{Known}
+use Rattle.thread_sched.specs.TurnRule.{SchedulerState}
 use Rattle.elf_image.specs.Image.{Executable}
 use Rattle.guest_calls.specs.Inputs.{Input}
 use Rattle.guest_machine.specs.Start.{start}
@@ -18,7 +18,7 @@ most_moves = 10 ^ 12
 abbrev pub EveryRunIsLight : Type 0
 EveryRunIsLight =
     (image : Executable) (arguments : List (List ℕ)) (inputs : List Input) (stdin : List ℕ)
-    (most : ℕ) (turns : Known) (budget : ℕ) → budget ≤ most_moves
+    (most : ℕ) (turns : SchedulerState) (budget : ℕ) → budget ≤ most_moves
     → IsLight (profiled most (first_past image.entry) (run guest turns budget (start image arguments inputs stdin))).past
 
 -- the whole trace of a run is well formed, and so is what is profiled of it
@@ -30,5 +30,5 @@ pub record AreWellFormed (most : ℕ) (past : List Event) (whole : WrittenRun) :
 abbrev pub EveryRunIsWellFormed : Type 0
 EveryRunIsWellFormed =
     (image : Executable) (arguments : List (List ℕ)) (inputs : List Input) (stdin : List ℕ)
-    (most : ℕ) (turns : Known) (budget : ℕ) → budget ≤ most_moves
+    (most : ℕ) (turns : SchedulerState) (budget : ℕ) → budget ≤ most_moves
     → AreWellFormed most (first_past image.entry) (run guest turns budget (start image arguments inputs stdin))

@@ -3,7 +3,7 @@ use Rattle.std.specs.Prelude.{ℕ, if◌then◌else◌, List}
 use Rattle.guest_words.specs.declared.endings.Finish.TheVariants.{Deep}
 use Rattle.trace_model.specs.declared.event_kinds.Event.{Event}
 use Rattle.trace_model.specs.Depth.{cut, is_within}
-use Rattle.guest_run.specs.declared.pace.Pace.TheVariants.{Ends}
+use Rattle.guest_run.specs.declared.turn_status.TurnStatus.TheVariants.{Ends}
 use Rattle.guest_run.specs.Machine.{Progress, Machine}
 use Rattle.guest_run.specs.Run.{WrittenRun, events_of}
 use Rattle.guest_run.specs.Profiled.{past_after, Profiled}
@@ -15,7 +15,7 @@ watched_step most past p =
       state = (next, p.state);
       events = p.events;
       out = p.out;
-      pace = if is_within next most then p.pace else Ends Deep;
+      turn_status = if is_within next most then p.turn_status else Ends Deep;
     }
 
 abbrev pub watched : {State : Type 0} → ℕ → Machine State → Machine (List Event × State)

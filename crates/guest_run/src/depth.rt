@@ -3,7 +3,7 @@ ghost use Rattle.std.specs.Prelude.{◌≡◌, ◌==◌, ◌+◌, ◌-◌, ◌*�
 ghost use Rattle.std.specs.List.{position};
 ghost use Rattle.trace_model.specs.declared.event_kinds.Event.{Event};
 ghost use Rattle.trace_model.specs.Activations.{count_returned};
-ghost use Rattle.guest_run.specs.Open.{Follows, IsPlace, StandsFor, backs_of, calls_of};
+ghost use Rattle.guest_run.specs.Open.{Follows, IsIndex, StandsFor, backs_of, calls_of};
 
 use call_tracker::OpenCalls;
 use guest_words::{Addr, Tid};
@@ -12,7 +12,7 @@ use trace_model::Event;
 
 /// A thread with its open calls.
 #[derive(Drop)]
-pub(crate) struct Caller {
+pub(crate) struct ThreadCalls {
     pub(crate) tid: Tid,
     pub(crate) calls: OpenCalls,
 }
@@ -22,37 +22,37 @@ pub(crate) struct Caller {
 #[derive(Drop)]
 pub(crate) struct Depth {
     alloc: Global,
-    pub(crate) callers: Vec<Caller>,
+    pub(crate) threads: Vec<ThreadCalls>,
     pub(crate) pending: u64,
     pub(crate) steps: u64,
     pub(crate) greatest: u32,
 }
 
-// Where the thread stands among the callers, if it is one of them.
-fn find(callers: &[Caller], tid: Tid) -> Option<usize>
-    ensures { result ≡ position (λ c. c.tid == tid) callers.now }
+// The index of the thread, if it has open calls.
+fn find(threads: &[ThreadCalls], tid: Tid) -> Option<usize>
+    ensures { result ≡ position (λ c. c.tid == tid) threads.now }
 {
-    callers.iter().position(|caller| caller.tid == tid)
+    threads.iter().position(|thread| thread.tid == tid)
 }
 
-// Where the thread stands among the callers. It comes to them where it is none of them.
-fn place_of(alloc: Global, callers: &mut Vec<Caller>, tid: Tid) -> Result<usize, AllocError>
-    ensures place { IfOk result (IsPlace callers.new.items tid) }
-    ensures same { OnOk result ((t : ℕ) → calls_of callers.new.items t ≡ calls_of callers.old.items t) }
+// The index of the thread, which is added where it is none of them.
+fn index_of(alloc: Global, threads: &mut Vec<ThreadCalls>, tid: Tid) -> Result<usize, AllocError>
+    ensures index { IfOk result (IsIndex threads.new.items tid) }
+    ensures same { OnOk result ((t : ℕ) → calls_of threads.new.items t ≡ calls_of threads.old.items t) }
 {
-    if let Some(place) = find(callers, tid) {
-        return Ok(place);
+    if let Some(index) = find(threads, tid) {
+        return Ok(index);
     }
     let calls = OpenCalls::new(alloc)?;
-    callers.push(Caller { tid, calls })?;
-    Ok(callers.len() - 1)
+    threads.push(ThreadCalls { tid, calls })?;
+    Ok(threads.len() - 1)
 }
 
-// The thread is no caller any more.
-fn take_out(callers: &mut Vec<Caller>, tid: Tid)
-    ensures { callers.new.items ≡ filter (λ c. not (c.tid == tid)) callers.old.items }
+// Takes a thread out.
+fn take_out(threads: &mut Vec<ThreadCalls>, tid: Tid)
+    ensures { threads.new.items ≡ filter (λ c. not (c.tid == tid)) threads.old.items }
 {
-    callers.retain(|caller| caller.tid != tid);
+    threads.retain(|thread| thread.tid != tid);
 }
 
 impl Depth {
@@ -63,7 +63,7 @@ impl Depth {
     {
         Depth {
             alloc,
-            callers: Vec::new(alloc),
+            threads: Vec::new(alloc),
             pending: 0,
             steps: 0,
             greatest,
@@ -73,7 +73,7 @@ impl Depth {
     // An activation begins, where it is not too deep.
     fn begin(&mut self, tid: Tid, entry: Addr, back: Option<Addr>) -> Result<bool, AllocError>
         requires { 3 * (self.old.pending + 1) ≤ self.old.greatest }
-        ensures begun { IfOk result (λ fits. fits ≡ true → (t : ℕ) → backs_of self.new.callers.items t ≡ (if tid == t then back ∷ backs_of self.old.callers.items t else backs_of self.old.callers.items t)) }
+        ensures begun { IfOk result (λ fits. fits ≡ true → (t : ℕ) → backs_of self.new.threads.items t ≡ (if tid == t then back ∷ backs_of self.old.threads.items t else backs_of self.old.threads.items t)) }
         ensures pending { IfOk result (λ fits. fits ≡ true → self.new.pending ≡ self.old.pending + 1) }
         ensures within { IfOk result (λ fits. fits ≡ true → 3 * (self.old.pending + 2) ≤ self.old.greatest) }
         ensures deep { IfOk result (λ fits. fits ≡ false → (self.new ≡ self.old) × (self.old.greatest < 3 * (self.old.pending + 2))) }
@@ -82,34 +82,34 @@ impl Depth {
         if u64::from(self.greatest) < 3 * (self.pending + 2) {
             return Ok(false);
         }
-        let place = place_of(self.alloc, &mut self.callers, tid)?;
-        self.callers[place].calls.push(entry, back)?;
+        let index = index_of(self.alloc, &mut self.threads, tid)?;
+        self.threads[index].calls.push(entry, back)?;
         self.pending += 1;
         Ok(true)
     }
 
     // A return to the target ends some activations.
     fn returned(&mut self, tid: Tid, target: Addr) -> Result<(), AllocError>
-        ensures backs { OnOk result ((t : ℕ) → backs_of self.new.callers.items t ≡ (if tid == t then drop (count_returned target (backs_of self.old.callers.items tid)) (backs_of self.old.callers.items t) else backs_of self.old.callers.items t)) }
-        ensures pending { OnOk result (self.new.pending ≡ self.old.pending - count_returned target (backs_of self.old.callers.items tid)) }
+        ensures backs { OnOk result ((t : ℕ) → backs_of self.new.threads.items t ≡ (if tid == t then drop (count_returned target (backs_of self.old.threads.items tid)) (backs_of self.old.threads.items t) else backs_of self.old.threads.items t)) }
+        ensures pending { OnOk result (self.new.pending ≡ self.old.pending - count_returned target (backs_of self.old.threads.items tid)) }
         ensures rest { (self.new.greatest ≡ self.old.greatest) × (self.new.steps ≡ self.old.steps) }
     {
-        let place = place_of(self.alloc, &mut self.callers, tid)?;
-        let ended = self.callers[place].calls.pop_to(target);
+        let index = index_of(self.alloc, &mut self.threads, tid)?;
+        let ended = self.threads[index].calls.pop_to(target);
         self.pending = self.pending.saturating_sub(ended as u64);
         Ok(())
     }
 
-    // All activations of a thread end, and it is no caller any more.
+    // All activations of a thread end, and it is taken out.
     fn ended(&mut self, tid: Tid) -> Result<(), AllocError>
-        ensures backs { OnOk result ((t : ℕ) → backs_of self.new.callers.items t ≡ (if tid == t then [] else backs_of self.old.callers.items t)) }
-        ensures pending { OnOk result (self.new.pending ≡ self.old.pending - length (backs_of self.old.callers.items tid)) }
+        ensures backs { OnOk result ((t : ℕ) → backs_of self.new.threads.items t ≡ (if tid == t then [] else backs_of self.old.threads.items t)) }
+        ensures pending { OnOk result (self.new.pending ≡ self.old.pending - length (backs_of self.old.threads.items tid)) }
         ensures rest { (self.new.greatest ≡ self.old.greatest) × (self.new.steps ≡ self.old.steps) }
     {
-        let place = place_of(self.alloc, &mut self.callers, tid)?;
-        let ended = self.callers[place].calls.depth();
+        let index = index_of(self.alloc, &mut self.threads, tid)?;
+        let ended = self.threads[index].calls.depth();
         self.pending = self.pending.saturating_sub(ended as u64);
-        take_out(&mut self.callers, tid);
+        take_out(&mut self.threads, tid);
         Ok(())
     }
 

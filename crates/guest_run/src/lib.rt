@@ -7,13 +7,13 @@
 
 mod depth;
 mod laws;
-mod pace;
+mod turn_status;
 mod run;
 mod traced;
 mod turns;
 
 pub use laws::{runs_replay, runs_stay_within, traces_are_well_formed};
-pub use pace::Pace;
+pub use turn_status::TurnStatus;
 pub use run::{Run, run_guest};
 
 #[cfg(test)]

@@ -1,6 +1,6 @@
 //! The run.
 ghost use Rattle.std.specs.Prelude.{◌≡◌, ◌≤◌, ◌<◌, ◌+◌, ◌^◌, ℕ, [], reverse, IfOk};
-ghost use Rattle.thread_sched.specs.TurnRule.{Known};
+ghost use Rattle.thread_sched.specs.TurnRule.{SchedulerState};
 ghost use Rattle.guest_machine.specs.Kept.{machine_of};
 ghost use Rattle.guest_run.specs.Going.{Advances, IsGoing, shown};
 ghost use Rattle.guest_run.specs.Kept.{Told};
@@ -9,9 +9,9 @@ ghost use Rattle.guest_run.specs.Machine.{guest};
 ghost use Rattle.guest_run.specs.Profiled.{first_past, profiled};
 ghost use Rattle.guest_run.specs.Run.{run};
 
-use crate::Pace;
+use crate::TurnStatus;
 use crate::traced::Traced;
-use crate::turns::{Choice, Place, Recorder};
+use crate::turns::{Choice, CurrentTurn, Recorder};
 use guest_machine::Machine;
 use guest_words::Finish;
 use std::alloc::{AllocError, Global};
@@ -37,7 +37,7 @@ pub struct Run {
 #[derive(Drop)]
 pub(crate) struct Runner {
     pub(crate) traced: Traced,
-    pub(crate) place: Place,
+    pub(crate) turn: CurrentTurn,
     pub(crate) recorder: Recorder,
 }
 
@@ -49,20 +49,20 @@ impl Runner {
         ensures advances { IfOk result (Advances self.old self.new) }
         ensures made { IfOk result (λ end. self.new.recorder.made ≤ self.old.recorder.made + 1) }
     {
-        let opens = match self.place.choose(&self.traced.machine) {
+        let opens = match self.turn.choose(&self.traced.machine) {
             Choice::Stops { finish } => return Ok(Some(finish)),
             Choice::Moves { opens } => opens,
         };
-        let tid = self.place.tid;
+        let tid = self.turn.tid;
         self.recorder.add(opens, tid)?;
         match self.traced.step(tid)? {
-            Pace::Ends { finish } => Ok(Some(finish)),
-            Pace::TurnOver => {
-                self.place.left = 0;
+            TurnStatus::Ends { finish } => Ok(Some(finish)),
+            TurnStatus::TurnOver => {
+                self.turn.left = 0;
                 Ok(None)
             }
-            Pace::GoesOn => {
-                self.place.left = self.place.left.saturating_sub(1);
+            TurnStatus::GoesOn => {
+                self.turn.left = self.turn.left.saturating_sub(1);
                 Ok(None)
             }
         }
@@ -102,7 +102,7 @@ pub fn run_guest(
 {
     let mut runner = Runner {
         traced: Traced::new(alloc, machine, greatest)?,
-        place: Place::new(turns),
+        turn: CurrentTurn::new(turns),
         recorder: Recorder::new(alloc)?,
     };
     for count in 0..budget {

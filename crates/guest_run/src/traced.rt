@@ -7,9 +7,9 @@ ghost use Rattle.guest_run.specs.Machine.{guest};
 ghost use Rattle.guest_run.specs.Kept.{Adds, AddsOut, IsNew, Told};
 ghost use Rattle.guest_run.specs.Watched.{watched_step};
 
-use crate::Pace;
+use crate::TurnStatus;
 use crate::depth::Depth;
-use crate::pace::pace_of;
+use crate::turn_status::turn_status_of;
 use guest_machine::Machine;
 use guest_words::{Finish, Tid};
 use std::alloc::{AllocError, Global};
@@ -25,7 +25,7 @@ pub(crate) struct Traced {
     pub(crate) depth: Depth,
 }
 
-// Takes the events from a place on, and says where the first of them stands by which an activation is too deep.
+// Takes the events from an index on, and says where the first of them stands by which an activation is too deep.
 fn follow(depth: &mut Depth, events: &[Event], before: usize) -> Result<Option<usize>, AllocError>
     requires before { before ≤ length events.now }
     requires told { Told depth.old (reverse (take before events.now)) }
@@ -78,20 +78,20 @@ impl Traced {
     }
 
     /// Runs one step of a thread that can run, and keeps its events up to the first by which an activation is too deep.
-    pub(crate) fn step(&mut self, tid: Tid) -> Result<Pace, AllocError>
+    pub(crate) fn step(&mut self, tid: Tid) -> Result<TurnStatus, AllocError>
         requires can_run { can_run (machine_of self.old.machine) tid ≡ true }
         requires told { Told self.old.depth (reverse self.old.events.list) }
-        ensures { IfOk result (λ pace. Adds (watched_step self.old.depth.greatest (reverse self.old.events.list) (guest.step (machine_of self.old.machine) tid)) pace self.old self.new) }
+        ensures { IfOk result (λ turn_status. Adds (watched_step self.old.depth.greatest (reverse self.old.events.list) (guest.step (machine_of self.old.machine) tid)) turn_status self.old self.new) }
     {
         let before = self.events.list().len();
         let stepped = self.machine.step(tid, &mut self.events)?;
         self.keep_output()?;
         if let Some(end) = follow(&mut self.depth, self.events.list(), before)? {
             self.events.truncate(end);
-            return Ok(Pace::Ends {
+            return Ok(TurnStatus::Ends {
                 finish: Finish::Deep,
             });
         }
-        Ok(pace_of(tid, stepped))
+        Ok(turn_status_of(tid, stepped))
     }
 }

@@ -1,10 +1,10 @@
 //! Who moves next, and the recording so far.
 ghost use Rattle.std.specs.Prelude.{◌≡◌, ◌≤◌, ◌+◌, ◌<◌, [], ◌∷◌, List, true, false, IfOk};
-ghost use Rattle.thread_sched.specs.TurnRule.{Known};
+ghost use Rattle.thread_sched.specs.TurnRule.{SchedulerState};
 ghost use Rattle.guest_machine.specs.Kept.{machine_of};
 ghost use Rattle.guest_machine.specs.Machine.{can_run};
 ghost use Rattle.guest_run.specs.Machine.{guest};
-ghost use Rattle.guest_run.specs.Place.{IsUnderWay, chosen_of, position, recorded};
+ghost use Rattle.guest_run.specs.CurrentTurn.{IsUnderWay, chosen_of, position, recorded};
 ghost use Rattle.guest_run.specs.Run.{Move, chosen};
 
 use guest_machine::Machine;
@@ -12,29 +12,28 @@ use guest_words::{Finish, ReadyList, Tid};
 use std::alloc::{AllocError, Global};
 use thread_sched::{Recording, Sched, Turn};
 
-/// Where a run stands, beside its machine: the scheduler, the thread that has the present turn, and how many moves that
-/// turn has left at most, 0 where it is over.
+/// The present turn: the scheduler that gave it, its thread, and how many moves it has left at most, 0 where it is over.
 #[derive(Drop)]
-pub(crate) struct Place {
-    pub(crate) turns: Sched,
+pub(crate) struct CurrentTurn {
+    pub(crate) scheduler: Sched,
     pub(crate) tid: Tid,
     pub(crate) left: u64,
 }
 
-/// Who moves next: the thread of the place, in a new turn or not, or no one.
+/// Who moves next: the thread of the turn, which is a new one or not, or no one.
 #[derive(Clone, Copy)]
 pub(crate) enum Choice {
     Moves { opens: bool },
     Stops { finish: Finish },
 }
 
-impl Place {
+impl CurrentTurn {
     /// Before the first turn.
-    pub(crate) fn new(turns: Sched) -> Place
-        ensures { (result.turns ≡ turns) × (result.left ≡ 0) }
+    pub(crate) fn new(scheduler: Sched) -> CurrentTurn
+        ensures { (result.scheduler ≡ scheduler) × (result.left ≡ 0) }
     {
-        Place {
-            turns,
+        CurrentTurn {
+            scheduler,
             tid: Tid::FIRST,
             left: 0,
         }
@@ -49,7 +48,7 @@ impl Place {
     {
         let mut live = ReadyList::new();
         machine.ready_into(&mut live);
-        match self.turns.next(&live) {
+        match self.scheduler.next(&live) {
             Turn::Run { tid, most } => {
                 self.tid = tid;
                 self.left = most;

@@ -1,7 +1,7 @@
 -- The aligned words of four bytes that bytes of memory overlap.
 use Rattle.std.specs.Prelude.{◌≡◌, ℕ, ◌+◌, ◌/◌, ◌-◌, ◌<◌, ◌≤◌}
 
--- how many words the bytes overlap; no byte overlaps none
+-- how many words the bytes overlap, where there is at least one byte
 abbrev pub word_count : ℕ → ℕ → ℕ
 word_count first bytes = (first + bytes + 3) / 4 - first / 4
 

@@ -6,8 +6,8 @@ use Rattle.std.proofs.lemmas.List.{append_assoc, append-nil, length-append, leng
 use Rattle.std.proofs.lemmas.List.Concat.{flat_map-append}
 use Rattle.profile_report.specs.declared.line.Line.{Line}
 use Rattle.profile_report.specs.declared.line.Line.TheVariants.{First}
-use Rattle.profile_report.specs.declared.place.Place.{Place}
-use Rattle.profile_report.specs.declared.place.Place.TheVariants.{AtVersion, Over}
+use Rattle.profile_report.specs.declared.parse_state.ParseState.{ParseState}
+use Rattle.profile_report.specs.declared.parse_state.ParseState.TheVariants.{AtVersion, Over}
 use Rattle.profile_report.specs.Grammar.{FitsLine, line_text, may_stand, rises, next}
 use Rattle.profile_report.specs.LineForms.{ended}
 use Rattle.profile_report.specs.Reading.{led, lines_text, is_over, IsRefused, Leads, RefusesLine, RefusesRest}
@@ -20,13 +20,13 @@ use Rattle.guest_words.proofs.Cuts.{cut_once, lacks_not}
 use Rattle.guest_words.proofs.Found.{nothing, same}
 use Rattle.profile_report.proofs.Newlines.{line_lacks}
 
--- Lines are read that lead to the place, and any lines that make up the text begin with them.
-pub record Behind (text : List ℕ) (number : ℕ) (place : Place) (rest : List ℕ) : Type 0 where
+-- Lines are read that lead to the state, and any lines that make up the text begin with them.
+pub record Behind (text : List ℕ) (number : ℕ) (state : ParseState) (rest : List ℕ) : Type 0 where
   pub lines : List Line
   pub fit : AllByRecursion FitsLine lines
   pub many : length lines + 1 ≡ number
   pub whole : text ≡ lines_text version_1 lines ++ rest
-  pub lead : led AtVersion lines ≡ Some place
+  pub lead : led AtVersion lines ≡ Some state
   pub follow : (all : List Line) → AllByRecursion FitsLine all → text ≡ lines_text version_1 all → (more : List Line) × (all ≡ lines ++ more) × (rest ≡ lines_text version_1 more)
 
 -- at first nothing is read
@@ -44,19 +44,19 @@ fit_push (x ∷ xs) y h fits = (h.0, fit_push xs y h.1 fits)
 apart : false ≡ true → ⊥
 apart e = cc
 
-pub chosen : (b : Bool) (o : Option Place) (q : Place) → cond b o None ≡ Some q → (b ≡ true) × (o ≡ Some q)
+pub chosen : (b : Bool) (o : Option ParseState) (q : ParseState) → cond b o None ≡ Some q → (b ≡ true) × (o ≡ Some q)
 chosen true o q h = (refl, h)
 chosen false o q h = absurd (nothing None q refl h)
 
--- lines that lead to a place, and then more
-pub led_append : (p q : Place) (xs ys : List Line) → led p xs ≡ Some q → led p (xs ++ ys) ≡ led q ys
+-- lines that lead to a state, and then more
+pub led_append : (p q : ParseState) (xs ys : List Line) → led p xs ≡ Some q → led p (xs ++ ys) ≡ led q ys
 led_append p q [] ys h = ap (λ r. led r ys) (same (Some p) p q refl h)
 led_append p q (x ∷ xs) ys h =
     let on = chosen (may_stand p x && rises p x) (led (next p x) xs) q h in
     cond-true (may_stand p x && rises p x) (led (next p x) (xs ++ ys)) None on.0 ∙ led_append (next p x) q xs ys on.1
 
 -- the first of lines that lead somewhere may stand there
-pub led_first : (p q : Place) (x : Line) (xs : List Line) → led p (x ∷ xs) ≡ Some q → (may_stand p x ≡ true) × (rises p x ≡ true)
+pub led_first : (p q : ParseState) (x : Line) (xs : List Line) → led p (x ∷ xs) ≡ Some q → (may_stand p x ≡ true) × (rises p x ≡ true)
 led_first p q x xs h = and_parts (may_stand p x) (rises p x) (chosen (may_stand p x && rises p x) (led (next p x) xs) q h).0
 
 -- the text of lines begins with the first
@@ -82,9 +82,9 @@ no_line [] h = refl
 no_line (l ∷ ls) h = absurd (lacks_not 10 (line_text version_1 l) (lines_text version_1 ls) (subst (λ t. lacks 10 t ≡ true) (lines_first l ls) h))
 
 -- one more line is read
-pub behind_more : (text : List ℕ) (number : ℕ) (place : Place) (rest bytes after : List ℕ) (p : Place) → Behind text number place rest
-    → lacks 10 bytes ≡ true → rest ≡ bytes ++ 10 ∷ after → Leads version_1 place bytes p → Behind text (number + 1) p after
-behind_more text number place rest bytes after p b lack is l =
+pub behind_more : (text : List ℕ) (number : ℕ) (state : ParseState) (rest bytes after : List ℕ) (p : ParseState) → Behind text number state rest
+    → lacks 10 bytes ≡ true → rest ≡ bytes ++ 10 ∷ after → Leads version_1 state bytes p → Behind text (number + 1) p after
+behind_more text number state rest bytes after p b lack is l =
     let line = l.0 in
     let says = l.1 in
     record {
@@ -92,7 +92,7 @@ behind_more text number place rest bytes after p b lack is l =
       fit = fit_push b.lines line b.fit says.fits;
       many = omega (arith, length_push b.lines line, b.many);
       whole = b.whole ∙ ap (λ r. lines_text version_1 b.lines ++ r) (is ∙ ap (λ t. t ++ 10 ∷ after) says.text) ∙ push_text b.lines line after;
-      lead = led_append AtVersion place b.lines (line ∷ []) b.lead ∙ cond-true _ (Some (next place line)) None (and_from _ _ l.2 l.3) ∙ ap Some (sym l.4);
+      lead = led_append AtVersion state b.lines (line ∷ []) b.lead ∙ cond-true _ (Some (next state line)) None (and_from _ _ l.2 l.3) ∙ ap Some (sym l.4);
       follow = λ all fit whole.
           let m = b.follow all fit whole in
           let found = next_line m.0 bytes after (fit_later b.lines m.0 (subst (AllByRecursion FitsLine) m.1 fit)) lack (sym m.2 ∙ is) in
@@ -101,58 +101,58 @@ behind_more text number place rest bytes after p b lack is l =
     }
 
 -- Where no whole line is left, any lines that make up the text are those that were read.
-pub behind_all : (text : List ℕ) (number : ℕ) (place : Place) (rest : List ℕ) (b : Behind text number place rest) (all : List Line) (end : Place) → AllByRecursion FitsLine all → text ≡ lines_text version_1 all
-    → led AtVersion all ≡ Some end → lacks 10 rest ≡ true → (place ≡ end) × (rest ≡ [])
-behind_all text number place rest b all end fit whole lead lack =
+pub behind_all : (text : List ℕ) (number : ℕ) (state : ParseState) (rest : List ℕ) (b : Behind text number state rest) (all : List Line) (end : ParseState) → AllByRecursion FitsLine all → text ≡ lines_text version_1 all
+    → led AtVersion all ≡ Some end → lacks 10 rest ≡ true → (state ≡ end) × (rest ≡ [])
+behind_all text number state rest b all end fit whole lead lack =
     let m = b.follow all fit whole in
     let none = no_line m.0 (subst (λ t. lacks 10 t ≡ true) m.2 lack) in
     let same_lines : all ≡ b.lines = m.1 ∙ ap (λ ls. b.lines ++ ls) none ∙ append-nil b.lines in
-    (same (led AtVersion b.lines) place end b.lead (ap (led AtVersion) (sym same_lines) ∙ lead), m.2 ∙ ap (lines_text version_1) none)
+    (same (led AtVersion b.lines) state end b.lead (ap (led AtVersion) (sym same_lines) ∙ lead), m.2 ∙ ap (lines_text version_1) none)
 
 -- Where a whole line is left, any lines that make up the text and lead somewhere go on with one that may stand there.
-pub behind_next : (text : List ℕ) (number : ℕ) (place : Place) (rest bytes after : List ℕ) (b : Behind text number place rest) (all : List Line) (end : Place) → AllByRecursion FitsLine all → text ≡ lines_text version_1 all
+pub behind_next : (text : List ℕ) (number : ℕ) (state : ParseState) (rest bytes after : List ℕ) (b : Behind text number state rest) (all : List Line) (end : ParseState) → AllByRecursion FitsLine all → text ≡ lines_text version_1 all
     → led AtVersion all ≡ Some end → lacks 10 bytes ≡ true → rest ≡ bytes ++ 10 ∷ after
-    → (l : Line) × FitsLine l × (bytes ≡ line_text version_1 l) × (may_stand place l ≡ true) × (rises place l ≡ true)
-behind_next text number place rest bytes after b all end fit whole lead lack is =
+    → (l : Line) × FitsLine l × (bytes ≡ line_text version_1 l) × (may_stand state l ≡ true) × (rises state l ≡ true)
+behind_next text number state rest bytes after b all end fit whole lead lack is =
     let m = b.follow all fit whole in
     let found = next_line m.0 bytes after (fit_later b.lines m.0 (subst (AllByRecursion FitsLine) m.1 fit)) lack (sym m.2 ∙ is) in
-    let onward = sym (led_append AtVersion place b.lines m.0 b.lead) ∙ ap (led AtVersion) (sym m.1) ∙ lead in
-    let may = led_first place end found.0 found.1 (ap (led place) (sym found.2) ∙ onward) in
+    let onward = sym (led_append AtVersion state b.lines m.0 b.lead) ∙ ap (led AtVersion) (sym m.1) ∙ lead in
+    let may = led_first state end found.0 found.1 (ap (led state) (sym found.2) ∙ onward) in
     (found.0, found.3, found.4, may.0, may.1)
 
 -- the refusal of a line, and of a rest that has none
-pub refused_line : (text : List ℕ) (number : ℕ) (place : Place) (rest bytes after : List ℕ) (e : ReportError) (b : Behind text number place rest) → lacks 10 bytes ≡ true → rest ≡ bytes ++ 10 ∷ after
-    → RefusesLine version_1 number place bytes e → IsRefused version_1 text e
-refused_line text number place rest bytes after e b lack is why = (
+pub refused_line : (text : List ℕ) (number : ℕ) (state : ParseState) (rest bytes after : List ℕ) (e : ReportError) (b : Behind text number state rest) → lacks 10 bytes ≡ true → rest ≡ bytes ++ 10 ∷ after
+    → RefusesLine version_1 number state bytes e → IsRefused version_1 text e
+refused_line text number state rest bytes after e b lack is why = (
   length b.lines,
-  place,
+  state,
   rest,
   record { lines = b.lines; fit = b.fit; many = refl; whole = b.whole; lead = b.lead },
-  inl (bytes, after, lack, is, subst (λ n. RefusesLine version_1 n place bytes e) (sym b.many) why),
+  inl (bytes, after, lack, is, subst (λ n. RefusesLine version_1 n state bytes e) (sym b.many) why),
 )
 
 -- Only want of memory refuses a line that may stand where it stands.
-pub allowed : (number : ℕ) (place : Place) (bytes : List ℕ) (e : ReportError) (l : Line) → FitsLine l → bytes ≡ line_text version_1 l → may_stand place l ≡ true → rises place l ≡ true
-    → RefusesLine version_1 number place bytes e → e ≡ errors.Memory
-allowed number place bytes errors.Version l fits text may rise why = absurd (why.1 (text ∙ ap (line_text version_1) (first l (subst (λ p. may_stand p l ≡ true) why.0 may))))
+pub allowed : (number : ℕ) (state : ParseState) (bytes : List ℕ) (e : ReportError) (l : Line) → FitsLine l → bytes ≡ line_text version_1 l → may_stand state l ≡ true → rises state l ≡ true
+    → RefusesLine version_1 number state bytes e → e ≡ errors.Memory
+allowed number state bytes errors.Version l fits text may rise why = absurd (why.1 (text ∙ ap (line_text version_1) (first l (subst (λ p. may_stand p l ≡ true) why.0 may))))
   where
     first : (k : Line) → may_stand AtVersion k ≡ true → k ≡ First
     first First h = refl
     first k h = absurd (apart h)
-allowed number place bytes (errors.Line n) l fits text may rise why = absurd (apart (sym (why.2 l fits text) ∙ may))
-allowed number place bytes (errors.Order n) l fits text may rise why =
+allowed number state bytes (errors.Line n) l fits text may rise why = absurd (apart (sym (why.2 l fits text) ∙ may))
+allowed number state bytes (errors.Order n) l fits text may rise why =
     let one : l ≡ why.1.0 = why.1.1.alone l fits text in
-    absurd (apart (sym why.1.3 ∙ ap (rises place) (sym one) ∙ rise))
-allowed number place bytes errors.Short l fits text may rise why = absurd why
-allowed number place bytes errors.Memory l fits text may rise why = refl
+    absurd (apart (sym why.1.3 ∙ ap (rises state) (sym one) ∙ rise))
+allowed number state bytes errors.Short l fits text may rise why = absurd why
+allowed number state bytes errors.Memory l fits text may rise why = refl
 
 -- Only want of memory refuses a report that is over.
-pub allowed_rest : (number : ℕ) (place : Place) (rest : List ℕ) (e : ReportError) (r : Reported) → place ≡ Over r → rest ≡ [] → RefusesRest number place rest e → e ≡ errors.Memory
-allowed_rest number place rest errors.Version r over none why = absurd why
-allowed_rest number place rest (errors.Line n) r over none why = absurd (why.2 none)
-allowed_rest number place rest (errors.Order n) r over none why = absurd why
-allowed_rest number place rest errors.Short r over none why = absurd (apart (sym why ∙ ap is_over over))
-allowed_rest number place rest errors.Memory r over none why = refl
+pub allowed_rest : (number : ℕ) (state : ParseState) (rest : List ℕ) (e : ReportError) (r : Reported) → state ≡ Over r → rest ≡ [] → RefusesRest number state rest e → e ≡ errors.Memory
+allowed_rest number state rest errors.Version r over none why = absurd why
+allowed_rest number state rest (errors.Line n) r over none why = absurd (why.2 none)
+allowed_rest number state rest (errors.Order n) r over none why = absurd why
+allowed_rest number state rest errors.Short r over none why = absurd (apart (sym why ∙ ap is_over over))
+allowed_rest number state rest errors.Memory r over none why = refl
 
 -- a report that is over is one
 pub over_one : (q r : Reported) → Over q ≡ Over r → q ≡ r

@@ -23,7 +23,7 @@ use Rattle.profile_report.specs.Reported.{Reported}
 use Rattle.profile_report.specs.ReportText.{report_text, version_1}
 use Rattle.guest_words.specs.Separators.{lacks}
 use Rattle.profile_report.specs.Valid.{IsValid}
-use Rattle.profile_report.specs.declared.place.Place.TheVariants.{AtVersion, Over}
+use Rattle.profile_report.specs.declared.parse_state.ParseState.TheVariants.{AtVersion, Over}
 use Rattle.profile_report.proofs.Behind.{lines_first, next_line, no_line, over_one}
 use Rattle.guest_words.proofs.Cuts.{cut_once, lacks_decimal}
 use Rattle.profile_report.proofs.Digits.{lacks_address}
@@ -62,14 +62,14 @@ digit_of glyph = cond (leb glyph 57) (glyph - 48) (glyph - 87)
 digit_back : (d : ℕ) → d < 16 → digit_of (hex_glyph d) ≡ d
 digit_back d below = eqb-true _ d (agree_below_at (λ n. eqb (digit_of (hex_glyph n)) n) (λ n. true) 16 d refl below)
 
-abbrev place : List ℕ → ℕ → ℕ
-place glyphs i = digit_of (get_or glyphs i 0)
+abbrev digit : List ℕ → ℕ → ℕ
+digit glyphs i = digit_of (get_or glyphs i 0)
 
 -- the number of eight digits in base 16
 abbrev value : List ℕ → ℕ
 value glyphs =
-    place glyphs 0 * 0x1000_0000 + place glyphs 1 * 0x100_0000 + place glyphs 2 * 0x10_0000 + place glyphs 3 * 0x1_0000
-    + place glyphs 4 * 0x1000 + place glyphs 5 * 0x100 + place glyphs 6 * 0x10 + place glyphs 7
+    digit glyphs 0 * 0x1000_0000 + digit glyphs 1 * 0x100_0000 + digit glyphs 2 * 0x10_0000 + digit glyphs 3 * 0x1_0000
+    + digit glyphs 4 * 0x1000 + digit glyphs 5 * 0x100 + digit glyphs 6 * 0x10 + digit glyphs 7
 
 value_back : (at : ℕ) → at < 2 ^ 32 → value (hex_address at) ≡ at
 unfolding hex_address

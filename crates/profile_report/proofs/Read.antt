@@ -8,8 +8,8 @@ use Rattle.cost_points.specs.declared.point.Point.{Point}
 use Rattle.cost_points.specs.Keys.{IsRising}
 use Rattle.profile_report.specs.declared.line.Line.{Line}
 use Rattle.profile_report.specs.declared.line.Line.TheVariants.{First, End, Steps, Open, OfRoutine, OfPoint, Done}
-use Rattle.profile_report.specs.declared.place.Place.{Place}
-use Rattle.profile_report.specs.declared.place.Place.TheVariants.{AtVersion, AtEnd, AtSteps, AtOpen, AtRoutines, Over}
+use Rattle.profile_report.specs.declared.parse_state.ParseState.{ParseState}
+use Rattle.profile_report.specs.declared.parse_state.ParseState.TheVariants.{AtVersion, AtEnd, AtSteps, AtOpen, AtRoutines, Over}
 use Rattle.profile_report.specs.Fits.{FitsEnd, FitsName, FitsPoint}
 use Rattle.profile_report.specs.Grammar.{FitsLine, line_text, closed, has_points, is_above, last_entry, may_stand, rises, next}
 use Rattle.profile_report.specs.LineForms.{ended, point_line, routine_line}
@@ -28,8 +28,8 @@ text l = ended (line_text version_1 l)
 abbrev head_text : Reported → List ℕ
 head_text r = text First ++ text (End r.finish) ++ text (Steps r.steps) ++ text (Open r.pending)
 
--- the text that leads to a place
-abbrev written : Place → List ℕ
+-- the text that leads to a state
+abbrev written : ParseState → List ℕ
 written AtVersion = []
 written AtEnd = text First
 written (AtSteps f) = text First ++ text (End f)
@@ -50,8 +50,8 @@ record FitsSoFar (q : Reported) (begun : Option ReportedRoutine) : Type 0 where
   routines : AllByRecursion IsValidRoutine q.routines
   last : FitsBegun q begun
 
--- what holds at a place
-abbrev Fits : Place → Type 0
+-- what holds in a state
+abbrev Fits : ParseState → Type 0
 Fits AtVersion = Unit {0}
 Fits AtEnd = Unit {0}
 Fits (AtSteps f) = FitsEnd f
@@ -59,7 +59,7 @@ Fits (AtOpen f n) = FitsEnd f × (n < 2 ^ 64)
 Fits (AtRoutines q begun) = FitsSoFar q begun
 Fits (Over r) = IsValid r
 
-abbrev Onward : Place → Line → Type 0
+abbrev Onward : ParseState → Line → Type 0
 Onward p l = Fits (next p l) × (written (next p l) ≡ written p ++ text l)
 
 impossible : false ≡ true → ⊥
@@ -113,7 +113,7 @@ point_more head rs r p =
     ∙ longer head before first (flat_map line r.points) (line p)
     ∙ ap (λ t. head ++ t ++ line p) (sym (flat_map-append (routine_text version_1) rs (r ∷ [])))
 
-onward : (p : Place) (l : Line) → Fits p → FitsLine l → may_stand p l ≡ true → rises p l ≡ true → Onward p l
+onward : (p : ParseState) (l : Line) → Fits p → FitsLine l → may_stand p l ≡ true → rises p l ≡ true → Onward p l
 onward AtVersion First h fits may rise = (tt, refl)
 onward AtEnd (End f) h fits may rise = (fits, refl)
 onward (AtSteps f) (Steps n) h fits may rise = ((h, fits), refl)
@@ -167,7 +167,7 @@ onward (AtRoutines q (Some r)) (Done n) h fits may rise =
 onward p l h fits may rise = absurd (impossible may)
 
 -- Lines that lead to the end of a report are its text, and the report is valid.
-leads_valid : (p : Place) (ls : List Line) (r : Reported) → Fits p → AllByRecursion FitsLine ls → led p ls ≡ Some (Over r) → IsValid r × (written p ++ lines_text version_1 ls ≡ report_text r)
+leads_valid : (p : ParseState) (ls : List Line) (r : Reported) → Fits p → AllByRecursion FitsLine ls → led p ls ≡ Some (Over r) → IsValid r × (written p ++ lines_text version_1 ls ≡ report_text r)
 leads_valid p [] r h fit lead =
     let end : p ≡ Over r = same (Some p) p (Over r) refl lead in
     (subst Fits end h, append-nil (written p) ∙ ap written end)
@@ -179,7 +179,7 @@ leads_valid p (l ∷ ls) r h fit lead =
     (rest.0, sym (append_assoc (written p) (text l) (lines_text version_1 ls)) ∙ ap (λ t. t ++ lines_text version_1 ls) (sym o.1) ∙ rest.1)
 
 -- A text that is read to the end of a report is its text.
-pub read_found : (all : List ℕ) (number : ℕ) (place : Place) (rest : List ℕ) → Behind all number place rest → (r : Reported) → place ≡ Over r → rest ≡ [] → IsValid r × (all ≡ report_text r)
-read_found all number place rest b r over none =
+pub read_found : (all : List ℕ) (number : ℕ) (state : ParseState) (rest : List ℕ) → Behind all number state rest → (r : Reported) → state ≡ Over r → rest ≡ [] → IsValid r × (all ≡ report_text r)
+read_found all number state rest b r over none =
     let law = leads_valid AtVersion b.lines r tt b.fit (b.lead ∙ ap Some over) in
     (law.0, b.whole ∙ ap (λ t. lines_text version_1 b.lines ++ t) none ∙ append-nil (lines_text version_1 b.lines) ∙ law.1)

@@ -8,7 +8,7 @@ use Rattle.std.proofs.lemmas.List.Concat.{flat_map-append}
 use Rattle.cost_points.specs.declared.point.Point.{Point}
 use Rattle.profile_report.specs.declared.line.Line.{Line}
 use Rattle.profile_report.specs.declared.line.Line.TheVariants.{First, End, Steps, Open, OfRoutine, OfPoint, Done}
-use Rattle.profile_report.specs.declared.place.Place.TheVariants.{AtVersion, AtRoutines, Over}
+use Rattle.profile_report.specs.declared.parse_state.ParseState.TheVariants.{AtVersion, AtRoutines, Over}
 use Rattle.profile_report.specs.Fits.{FitsPoint}
 use Rattle.profile_report.specs.Grammar.{FitsLine, line_text, closed, count_of, has_points, last_entry, last_size}
 use Rattle.profile_report.specs.LineForms.{ended, point_line, routine_line}

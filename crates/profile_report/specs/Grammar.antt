@@ -3,8 +3,8 @@ use Rattle.std.specs.Prelude.{ℕ, ◌+◌, ◌-◌, ◌<◌, ◌^◌, Bool, tru
 use Rattle.std.specs.Option.{option_map}
 use Rattle.profile_report.specs.declared.line.Line.{Line}
 use Rattle.profile_report.specs.declared.line.Line.TheVariants.{First, End, Steps, Open, OfRoutine, OfPoint, Done}
-use Rattle.profile_report.specs.declared.place.Place.{Place}
-use Rattle.profile_report.specs.declared.place.Place.TheVariants.{AtVersion, AtEnd, AtSteps, AtOpen, AtRoutines, Over}
+use Rattle.profile_report.specs.declared.parse_state.ParseState.{ParseState}
+use Rattle.profile_report.specs.declared.parse_state.ParseState.TheVariants.{AtVersion, AtEnd, AtSteps, AtOpen, AtRoutines, Over}
 use Rattle.profile_report.specs.Reported.{ReportedRoutine, Reported}
 use Rattle.profile_report.specs.Fits.{FitsEnd, FitsName, FitsPoint}
 use Rattle.profile_report.specs.LineForms.{labelled, end_line, routine_line}
@@ -51,7 +51,7 @@ count_of r None = length r.routines
 count_of r (Some routine) = length r.routines + 1
 
 -- Which line may come next. A point comes behind a routine's line, and a routine or the end behind a point.
-abbrev pub may_stand : Place → Line → Bool
+abbrev pub may_stand : ParseState → Line → Bool
 may_stand AtVersion First = true
 may_stand AtEnd (End finish) = true
 may_stand (AtSteps f) (Steps steps) = true
@@ -59,7 +59,7 @@ may_stand (AtOpen f n) (Open pending) = true
 may_stand (AtRoutines r begun) (OfRoutine entry name) = has_points begun
 may_stand (AtRoutines r begun) (OfPoint p) = is_some begun
 may_stand (AtRoutines r begun) (Done routines) = has_points begun && (routines == count_of r begun)
-may_stand place line = false
+may_stand state line = false
 
 -- the entry of the routine that began last
 abbrev pub last_entry : Option ReportedRoutine → Option ℕ
@@ -77,13 +77,13 @@ is_above None n = true
 is_above (Some last) n = nat_lt last n
 
 -- the line keeps the order: entries rise, and sizes rise within a routine
-abbrev pub rises : Place → Line → Bool
+abbrev pub rises : ParseState → Line → Bool
 rises (AtRoutines r begun) (OfRoutine entry name) = is_above (last_entry begun) entry
 rises (AtRoutines r begun) (OfPoint p) = is_above (last_size begun) p.size
-rises place line = true
+rises state line = true
 
--- the place behind a line that may stand there
-abbrev pub next : Place → Line → Place
+-- the state behind a line that may come in this one
+abbrev pub next : ParseState → Line → ParseState
 next AtVersion First = AtEnd
 next AtEnd (End finish) = AtSteps finish
 next (AtSteps f) (Steps steps) = AtOpen f steps
@@ -91,4 +91,4 @@ next (AtOpen f n) (Open pending) = AtRoutines (record { finish = f; steps = n; p
 next (AtRoutines r begun) (OfRoutine entry name) = AtRoutines (closed r begun) (Some (record { entry = entry; name = name; points = [] }))
 next (AtRoutines r (Some routine)) (OfPoint p) = AtRoutines r (Some (record routine { points = routine.points ++ p ∷ [] }))
 next (AtRoutines r begun) (Done routines) = Over (closed r begun)
-next place line = place
+next state line = state

@@ -6,7 +6,7 @@ mod addresses;
 mod line;
 mod line_reader;
 mod line_text;
-mod place;
+mod parse_state;
 mod reader;
 mod report;
 mod writer;

@@ -79,7 +79,7 @@ fn push_end(text: &mut Vec<u8>, finish: Finish) -> Result<(), AllocError>
     }
 }
 
-/// Appends the line on how the run ended.
+/// Appends the line on how the run ended. Where it fails for want of memory, a first part of the line may stand.
 pub fn push_end_line(text: &mut Vec<u8>, finish: Finish) -> Result<(), AllocError>
     ensures { OnOk result (text.new.items ≡ text.old.items ++ ended (end_line finish)) }
 {

@@ -4,12 +4,12 @@ ghost use Rattle.profile_report.specs.Reading.{IsMisplaced, IsRefused, Leads, Re
 ghost use Rattle.profile_report.specs.Reported.{Reported};
 ghost use Rattle.profile_report.specs.ReportText.{report_text, version_1};
 ghost use Rattle.profile_report.specs.Valid.{IsValid};
-ghost use Rattle.profile_report.specs.declared.place.Place.TheVariants.{Over};
+ghost use Rattle.profile_report.specs.declared.parse_state.ParseState.TheVariants.{Over};
 
 use crate::Report;
 use crate::line::LineError;
 use crate::line_reader::read_line;
-use crate::place::{Place, may_stand, next, rises};
+use crate::parse_state::{ParseState, may_stand, next, rises};
 use guest_words::cut;
 use std::alloc::{AllocError, Global};
 use thiserror::Error;
@@ -45,43 +45,43 @@ impl From<AllocError> for ReportError {
     }
 }
 
-/// The refusal of a line that may not stand at a place.
-fn misplaced(place: &Place, number: u64) -> ReportError
-    ensures { (bytes : List ℕ) → IsMisplaced version_1 place.now bytes
-        → RefusesLine version_1 number place.now bytes result }
+/// The refusal of a line that may not come in a state.
+fn misplaced(state: &ParseState, number: u64) -> ReportError
+    ensures { (bytes : List ℕ) → IsMisplaced version_1 state.now bytes
+        → RefusesLine version_1 number state.now bytes result }
 {
-    match place {
-        Place::AtVersion => ReportError::Version,
+    match state {
+        ParseState::AtVersion => ReportError::Version,
         _ => ReportError::Line { line: number },
     }
 }
 
-/// The place behind a line of this number.
-fn step(alloc: Global, place: Place, bytes: &[u8], number: u64) -> Result<Place, ReportError>
-    ensures ok { IfOk result (λ after. Leads version_1 place bytes.now after) }
-    ensures err { IfErr result (λ e. RefusesLine version_1 number place bytes.now e) }
+/// The state behind a line of this number.
+fn step(alloc: Global, state: ParseState, bytes: &[u8], number: u64) -> Result<ParseState, ReportError>
+    ensures ok { IfOk result (λ after. Leads version_1 state bytes.now after) }
+    ensures err { IfErr result (λ e. RefusesLine version_1 number state bytes.now e) }
 {
     let line = match read_line(alloc, bytes) {
         Ok(line) => line,
-        Err(LineError::NoForm) => return Err(misplaced(&place, number)),
+        Err(LineError::NoForm) => return Err(misplaced(&state, number)),
         Err(LineError::Memory) => return Err(ReportError::Memory),
     };
-    if !may_stand(&place, &line) {
-        return Err(misplaced(&place, number));
+    if !may_stand(&state, &line) {
+        return Err(misplaced(&state, number));
     }
-    if !rises(&place, &line) {
+    if !rises(&state, &line) {
         return Err(ReportError::Order { line: number });
     }
-    Ok(next(alloc, place, line)?)
+    Ok(next(alloc, state, line)?)
 }
 
 /// The report behind whose lines stands a rest that has no whole line.
-fn finish(place: Place, rest: &[u8], number: u64) -> Result<Report, ReportError>
-    ensures ok { IfOk result (λ r. (place ≡ Over r) × (rest.now ≡ [])) }
-    ensures err { IfErr result (λ e. RefusesRest number place rest.now e) }
+fn finish(state: ParseState, rest: &[u8], number: u64) -> Result<Report, ReportError>
+    ensures ok { IfOk result (λ r. (state ≡ Over r) × (rest.now ≡ [])) }
+    ensures err { IfErr result (λ e. RefusesRest number state rest.now e) }
 {
-    match place {
-        Place::Over(report) => {
+    match state {
+        ParseState::Over(report) => {
             if rest.is_empty() {
                 Ok(report)
             } else {
@@ -99,15 +99,15 @@ pub fn read_report(alloc: Global, text: &[u8]) -> Result<Report, ReportError>
         → MatchResult result (λ x. x ≡ r) (λ e. e ≡ ReportError.Memory) }
     ensures refused { IfErr result (λ e. IsRefused version_1 text.now e) }
 {
-    let mut place = Place::AtVersion;
+    let mut state = ParseState::AtVersion;
     let mut rest = text;
     let mut number = 1;
     while let Some((line, after)) = cut(rest, b'\n') {
-        place = step(alloc, place, line, number)?;
+        state = step(alloc, state, line, number)?;
         rest = after;
         number += 1;
     }
-    finish(place, rest, number)
+    finish(state, rest, number)
 }
 
 /// No two valid reports have one text.

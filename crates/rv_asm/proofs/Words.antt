@@ -29,21 +29,21 @@ same_line : (lines : List Line) (at : ℕ) (x line : Line) → at < length lines
 same_line lines at x line h e = grind (arith, common_steps)
 
 -- one more line and its word
-pub assembled_more : (places : List (Option ℕ)) (lines : List Line) (words : List ℕ) (w at : ℕ) (x : Line)
+pub assembled_more : (bindings : List (Option ℕ)) (lines : List Line) (words : List ℕ) (w at : ℕ) (x : Line)
     → length words ≡ at → at < length lines → x ≡ get_or lines at x
-    → ((k : ℕ) → k < at → (line : Line) → IsWordOf (instruction_at places k (get_or lines k line)) (get_or words k 0))
-    → IsWordOf (instruction_at places at x) w
-    → (k : ℕ) → k < at + 1 → (line : Line) → IsWordOf (instruction_at places k (get_or lines k line)) (get_or (words ++ w ∷ []) k 0)
-assembled_more places lines words w at x long inside is each last =
-    words_more (λ (k v : ℕ). (line : Line) → IsWordOf (instruction_at places k (get_or lines k line)) v) words w at long each
-    (λ line. subst (λ (y : Line). IsWordOf (instruction_at places at y) w) (sym (same_line lines at x line inside is)) last)
+    → ((k : ℕ) → k < at → (line : Line) → IsWordOf (instruction_at bindings k (get_or lines k line)) (get_or words k 0))
+    → IsWordOf (instruction_at bindings at x) w
+    → (k : ℕ) → k < at + 1 → (line : Line) → IsWordOf (instruction_at bindings k (get_or lines k line)) (get_or (words ++ w ∷ []) k 0)
+assembled_more bindings lines words w at x long inside is each last =
+    words_more (λ (k v : ℕ). (line : Line) → IsWordOf (instruction_at bindings k (get_or lines k line)) v) words w at long each
+    (λ line. subst (λ (y : Line). IsWordOf (instruction_at bindings at y) w) (sym (same_line lines at x line inside is)) last)
 
 -- one more line in reach
-pub reach_more : (places : List (Option ℕ)) (lines : List Line) (at : ℕ) (x : Line)
+pub reach_more : (bindings : List (Option ℕ)) (lines : List Line) (at : ℕ) (x : Line)
     → at < length lines → x ≡ get_or lines at x
-    → ((k : ℕ) → k < at → (line : Line) → IsInReach places k (get_or lines k line))
-    → IsEncodable (instruction_at places at x)
-    → (k : ℕ) → k < at + 1 → (line : Line) → IsInReach places k (get_or lines k line)
-reach_more places lines at x inside is before last =
-    below_more (λ (k : ℕ). (line : Line) → IsInReach places k (get_or lines k line)) at before
-    (λ line. subst (λ (y : Line). IsInReach places at y) (sym (same_line lines at x line inside is)) (λ some. last))
+    → ((k : ℕ) → k < at → (line : Line) → IsInReach bindings k (get_or lines k line))
+    → IsEncodable (instruction_at bindings at x)
+    → (k : ℕ) → k < at + 1 → (line : Line) → IsInReach bindings k (get_or lines k line)
+reach_more bindings lines at x inside is before last =
+    below_more (λ (k : ℕ). (line : Line) → IsInReach bindings k (get_or lines k line)) at before
+    (λ line. subst (λ (y : Line). IsInReach bindings at y) (sym (same_line lines at x line inside is)) (λ some. last))

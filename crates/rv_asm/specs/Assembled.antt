@@ -9,8 +9,8 @@ use Rattle.rv_asm.specs.Draft.{Draft}
 use Rattle.rv_asm.specs.Lines.{with_offset}
 
 -- the word that a label stands for, once it is bound
-abbrev pub place_of : List (Option ℕ) → ℕ → Option ℕ
-place_of places label = slice_index_or places label None
+abbrev pub binding_of : List (Option ℕ) → ℕ → Option ℕ
+binding_of bindings label = slice_index_or bindings label None
 
 -- how many bytes lie from one word to another
 abbrev pub offset_between : ℕ → ℕ → ℤ
@@ -18,12 +18,12 @@ offset_between from to = pos (4 * to) -ℤ pos (4 * from)
 
 -- the offset from a word to a label, which is to be bound
 abbrev pub label_offset : List (Option ℕ) → ℕ → ℕ → ℤ
-label_offset places at label = offset_between at (unwrap_or (place_of places label) 0)
+label_offset bindings at label = offset_between at (unwrap_or (binding_of bindings label) 0)
 
 -- the instruction of the line at a word: with the offset of its label, if it has one
 abbrev pub instruction_at : List (Option ℕ) → ℕ → Line → Instr
-instruction_at places at line =
-    option_map_or (λ label. with_offset line.instruction (label_offset places at label)) line.to line.instruction
+instruction_at bindings at line =
+    option_map_or (λ label. with_offset line.instruction (label_offset bindings at label)) line.to line.instruction
 
 -- A word is the one that is written for an instruction: it stands for it, and those of the fences are these of several.
 pub record IsWordOf (instruction : Instr) (word : ℕ) : Type 0 where
@@ -35,4 +35,4 @@ pub record IsWordOf (instruction : Instr) (word : ℕ) : Type 0 where
 pub record AreAssembled (d : Draft) (words : List ℕ) : Type 0 where
   pub count : length words ≡ length d.lines
   pub each : (at : ℕ) → at < length d.lines → (line : Line)
-      → IsWordOf (instruction_at d.places at (slice_index_or d.lines at line)) (slice_index words at)
+      → IsWordOf (instruction_at d.bindings at (slice_index_or d.lines at line)) (slice_index words at)

@@ -6,35 +6,35 @@ use Rattle.rv_asm.specs.declared.line.Line.{Line}
 -- A draft: a line for each word of code, and for each label the word that it stands for, once it is bound.
 pub record Draft : Type 0 where
   pub lines : List Line
-  pub places : List (Option ℕ)
+  pub bindings : List (Option ℕ)
 
 -- no code, and no label
 abbrev pub empty_draft : Draft
-empty_draft = record { lines = []; places = [] }
+empty_draft = record { lines = []; bindings = [] }
 
 -- one more line
 abbrev pub with_line : Draft → Line → Draft
-with_line d line = record { lines = d.lines ++ line ∷ []; places = d.places }
+with_line d line = record { lines = d.lines ++ line ∷ []; bindings = d.bindings }
 
 -- one more label, which is not bound
 abbrev pub with_label : Draft → Draft
-with_label d = record { lines = d.lines; places = d.places ++ None ∷ [] }
+with_label d = record { lines = d.lines; bindings = d.bindings ++ None ∷ [] }
 
 -- the label stands for the next word
-abbrev pub with_place : Draft → ℕ → Draft
-with_place d label = record { lines = d.lines; places = slice_set d.places label (Some (length d.lines)) }
+abbrev pub with_binding : Draft → ℕ → Draft
+with_binding d label = record { lines = d.lines; bindings = slice_set d.bindings label (Some (length d.lines)) }
 
 -- an instruction that needs no label has a word
 abbrev pub IsWritable : Line → Type 0
 IsWritable line = line.to ≡ None → IsEncodable line.instruction
 
 -- a label that is bound stands for a word of the code or for its end
-abbrev pub IsPlace : Option ℕ → Type 0
-IsPlace place = IfSome place (λ at. at ≤ 4000000)
+abbrev pub IsBinding : Option ℕ → Type 0
+IsBinding binding = IfSome binding (λ at. at ≤ 4000000)
 
 -- What every draft keeps.
 pub record IsSound (d : Draft) : Type 0 where
   pub short : length d.lines ≤ 4000000
-  pub few : length d.places ≤ 4000000
+  pub few : length d.bindings ≤ 4000000
   pub writable : All IsWritable d.lines
-  pub placed : All IsPlace d.places
+  pub bound : All IsBinding d.bindings

@@ -6,34 +6,34 @@ use Rattle.rv_asm.specs.declared.error.AsmError.{AsmError}
 use Rattle.rv_asm.specs.declared.error.AsmError.TheVariants.{Unbound, Twice, Reach, Unencodable, Memory}
 use Rattle.rv_asm.specs.declared.line.Line.{Line}
 use Rattle.rv_asm.specs.Draft.{Draft}
-use Rattle.rv_asm.specs.Assembled.{instruction_at, place_of}
+use Rattle.rv_asm.specs.Assembled.{instruction_at, binding_of}
 
 -- whether a line needs no label, or one that is bound
 abbrev pub is_ready : List (Option ℕ) → Option ℕ → Bool
-is_ready places to = option_map_or (λ label. is_some (place_of places label)) to true
+is_ready bindings to = option_map_or (λ label. is_some (binding_of bindings label)) to true
 
 -- the label of the first jump whose label is not bound
 abbrev pub first_unbound : List (Option ℕ) → List Line → Option ℕ
-first_unbound places [] = None
-first_unbound places (line ∷ rest) = if is_ready places line.to then first_unbound places rest else line.to
+first_unbound bindings [] = None
+first_unbound bindings (line ∷ rest) = if is_ready bindings line.to then first_unbound bindings rest else line.to
 
 -- the line at a word is an instruction without a label, or a jump whose offset is in its form's range
 abbrev pub IsInReach : List (Option ℕ) → ℕ → Line → Type 0
-IsInReach places at line = IsSome line.to → IsEncodable (instruction_at places at line)
+IsInReach bindings at line = IsSome line.to → IsEncodable (instruction_at bindings at line)
 
 -- all lines before a word are in reach
 abbrev pub AreInReach : Draft → ℕ → Type 0
-AreInReach d end = (at : ℕ) → at < end → (line : Line) → IsInReach d.places at (slice_index_or d.lines at line)
+AreInReach d end = (at : ℕ) → at < end → (line : Line) → IsInReach d.bindings at (slice_index_or d.lines at line)
 
 -- The word is the first that is out of reach.
 pub record IsFirstOut (d : Draft) (at : ℕ) : Type 0 where
   pub inside : at < length d.lines
   pub before : AreInReach d at
-  pub out : (line : Line) → IsInReach d.places at (slice_index_or d.lines at line) → ⊥
+  pub out : (line : Line) → IsInReach d.bindings at (slice_index_or d.lines at line) → ⊥
 
 -- A draft that is assembled: each label of a jump is bound, and each jump is in reach.
 pub record IsAccepted (d : Draft) : Type 0 where
-  pub bound : first_unbound d.places d.lines ≡ None
+  pub bound : first_unbound d.bindings d.lines ≡ None
   pub reach : AreInReach d (length d.lines)
 
 -- what the refusals of a draft say of it whose labels are all bound
@@ -46,8 +46,8 @@ IsOutOfReach d (Unencodable at) = ⊥
 
 -- What the refusals of a draft say of it. Want of memory may come at any draft.
 abbrev pub IsRefused : Draft → AsmError → Type 0
-IsRefused d (Unbound label) = first_unbound d.places d.lines ≡ Some label
-IsRefused d (Reach at) = (first_unbound d.places d.lines ≡ None) × IsFirstOut d at
+IsRefused d (Unbound label) = first_unbound d.bindings d.lines ≡ Some label
+IsRefused d (Reach at) = (first_unbound d.bindings d.lines ≡ None) × IsFirstOut d at
 IsRefused d Memory = Unit {0}
 IsRefused d (Twice label) = ⊥
 IsRefused d (Unencodable at) = ⊥

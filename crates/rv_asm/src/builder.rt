@@ -1,19 +1,19 @@
 //! Writing a program line by line.
 ghost use Rattle.std.specs.Prelude.{◌≡◌, ◌≢◌, ◌<◌, length, true, false, None, Some, IsSome, IfOk, IfErr, OnOk, OnErr};
 ghost use Rattle.rv_isa.specs.Encoding.{IsEncodable};
-ghost use Rattle.rv_asm.specs.Assembled.{place_of, AreAssembled};
+ghost use Rattle.rv_asm.specs.Assembled.{binding_of, AreAssembled};
 ghost use Rattle.rv_asm.specs.Lines.{is_jump};
 ghost use Rattle.rv_asm.specs.Refusals.{IsAccepted, IsRefused};
-ghost use Rattle.rv_asm.specs.Draft.{empty_draft, with_label, with_line, with_place};
+ghost use Rattle.rv_asm.specs.Draft.{empty_draft, with_label, with_line, with_binding};
 
-use crate::assembly::{append, first_unbound, is_encodable, place_of, words_of};
+use crate::assembly::{append, first_unbound, is_encodable, binding_of, words_of};
 use crate::error::AsmError;
 use crate::line::{Line, is_jump};
 use rv_isa::Instr;
 use std::alloc::{AllocError, Global};
 use std::marker::Model;
 
-/// A place of a program that jumps can go to, by its number among the labels of its builder.
+/// A point of a program that jumps can go to, by its number among the labels of its builder.
 #[derive(Clone, Copy, PartialEq, Eq, Debug)]
 pub struct Label(u32);
 
@@ -32,7 +32,7 @@ impl Model for Label {
 pub struct Builder {
     alloc: Global,
     lines: Vec<Line>,
-    places: Vec<Option<u32>>,
+    bindings: Vec<Option<u32>>,
 }
 
 impl Model for Builder {
@@ -40,9 +40,9 @@ impl Model for Builder {
 
     ghost Value = { Draft };
 
-    ghost view = { λ b. record { lines = b.lines.items; places = b.places.items } };
+    ghost view = { λ b. record { lines = b.lines.items; bindings = b.bindings.items } };
 
-    ghost invariant = { λ b. IsSound (record { lines = b.lines.items; places = b.places.items }) };
+    ghost invariant = { λ b. IsSound (record { lines = b.lines.items; bindings = b.bindings.items }) };
 }
 
 /// The words of a program.
@@ -76,7 +76,7 @@ impl Builder {
         Ok(Builder {
             alloc,
             lines: Vec::new(alloc),
-            places: Vec::new(alloc),
+            bindings: Vec::new(alloc),
         })
     }
 
@@ -109,21 +109,21 @@ impl Builder {
 
     /// Makes a label. Labels are numbered from 0 on.
     pub fn label(&mut self) -> Result<Label, AsmError>
-        requires { length self.old.places < 4000000 }
+        requires { length self.old.bindings < 4000000 }
         ensures made { OnOk result (self.new ≡ with_label self.old) }
-        ensures number { IfOk result (λ label. label ≡ length self.old.places) }
+        ensures number { IfOk result (λ label. label ≡ length self.old.bindings) }
         ensures unchanged { OnErr result (self.new ≡ self.old) }
         ensures refused { IfErr result (λ e. e ≡ AsmError.Memory) }
     {
-        let number = self.places.len() as u32;
-        append(&mut self.places, None)?;
+        let number = self.bindings.len() as u32;
+        append(&mut self.bindings, None)?;
         Ok(Label(number))
     }
 
     /// Appends a jump whose offset will be that of the label. The offset of `i` is not looked at.
     pub fn jump(&mut self, i: Instr, to: Label) -> Result<(), AsmError>
         requires room { length self.old.lines < 4000000 }
-        requires label { to < length self.old.places }
+        requires label { to < length self.old.bindings }
         ensures line { OnOk result (self.new ≡ with_line self.old (record { instruction = i; to = Some to })) }
         ensures jump { OnOk result (is_jump i ≡ true) }
         ensures unchanged { OnErr result (self.new ≡ self.old) }
@@ -143,18 +143,18 @@ impl Builder {
 
     /// The label stands for the next word from now on.
     pub fn bind(&mut self, l: Label) -> Result<(), AsmError>
-        requires { l < length self.old.places }
-        ensures bound { OnOk result (self.new ≡ with_place self.old l) }
-        ensures once { OnOk result (place_of self.old.places l ≡ None) }
+        requires { l < length self.old.bindings }
+        ensures bound { OnOk result (self.new ≡ with_binding self.old l) }
+        ensures once { OnOk result (binding_of self.old.bindings l ≡ None) }
         ensures unchanged { OnErr result (self.new ≡ self.old) }
-        ensures refused { IfErr result (λ e. (e ≡ AsmError.Twice l) × IsSome (place_of self.old.places l)) }
+        ensures refused { IfErr result (λ e. (e ≡ AsmError.Twice l) × IsSome (binding_of self.old.bindings l)) }
     {
         let label = l.0;
-        if place_of(&self.places, label).is_some() {
+        if binding_of(&self.bindings, label).is_some() {
             return Err(AsmError::Twice { label });
         }
         let at = self.len();
-        self.places[label as usize] = Some(at);
+        self.bindings[label as usize] = Some(at);
         Ok(())
     }
 
@@ -164,10 +164,10 @@ impl Builder {
         ensures accepted { OnOk result (IsAccepted self) }
         ensures refused { IfErr result (IsRefused self) }
     {
-        if let Some(label) = first_unbound(&self.lines, &self.places) {
+        if let Some(label) = first_unbound(&self.lines, &self.bindings) {
             return Err(AsmError::Unbound { label });
         }
-        let words = words_of(self.alloc, &self.lines, &self.places)?;
+        let words = words_of(self.alloc, &self.lines, &self.bindings)?;
         Ok(Code { words })
     }
 }

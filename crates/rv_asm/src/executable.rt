@@ -21,7 +21,7 @@ pub struct Symbol {
 const IDENT: [u8; 16] = [0x7f, 0x45, 0x4c, 0x46, 1, 1, 1, 0, 0, 0, 0, 0, 0, 0, 0, 0];
 
 /// The address of the file's first byte, and that of its first word of code.
-const PLACE: u32 = 0x1_0000;
+const ADDRESS: u32 = 0x1_0000;
 
 const ENTRY: u32 = 0x1_0054;
 
@@ -62,8 +62,8 @@ fn push_program_header(file: &mut Vec<u8>, size: u32) -> Result<(), AllocError>
     let header = ProgramHeader {
         p_type: 1,
         p_offset: 0,
-        p_vaddr: PLACE,
-        p_paddr: PLACE,
+        p_vaddr: ADDRESS,
+        p_paddr: ADDRESS,
         p_filesz: size,
         p_memsz: size,
         p_flags: 7,

@@ -59,12 +59,12 @@ pub(crate) fn push_symbols(file: &mut Vec<u8>, symbols: &[Symbol]) -> Result<(),
     Ok(())
 }
 
-/// Appends zeros up to the next multiple of 4 of a place.
-pub(crate) fn push_padding(file: &mut Vec<u8>, place: u32) -> Result<(), AllocError>
-    ensures { OnOk result (file.new.items ≡ file.old.items ++ padding place) }
+/// Appends zeros up to the next multiple of 4 of a offset.
+pub(crate) fn push_padding(file: &mut Vec<u8>, offset: u32) -> Result<(), AllocError>
+    ensures { OnOk result (file.new.items ≡ file.old.items ++ padding offset) }
 {
     let zeros = [0; 4];
-    file.extend_from_slice(&zeros[..((4 - place % 4) % 4) as usize])
+    file.extend_from_slice(&zeros[..((4 - offset % 4) % 4) as usize])
 }
 
 /// Appends the section headers: the empty one, the symbol table's and that of its strings.

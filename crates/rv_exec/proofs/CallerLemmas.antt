@@ -19,12 +19,12 @@ use Rattle.rv_exec.specs.declared.outcome.Outcome.{Outcome}
 use Rattle.rv_exec.specs.declared.outcome.Outcome.TheVariants.{Went, KernelCall, Fault}
 use Rattle.rv_exec.specs.Registers.{Registers}
 use Rattle.rv_exec.specs.Accesses.{can_read, can_write}
-use Rattle.rv_exec.specs.Effects.{Core, advanced, atomic_at, branched, checked, effect, modified, on_registers, store_where, with_registers, with_stored}
+use Rattle.rv_exec.specs.Effects.{ExecState, advanced, atomic_at, branched, checked, effect, modified, on_registers, store_where, with_registers, with_stored}
 use Rattle.rv_exec.specs.Laws.{KeepsAlignment, KeepsRights, KeepsUnlessWent, OnlyEcallCalls, OthersGainNothing, RefusalsChangeNothing}
 
 -- What holds of the effect of an instruction other than ECALL: where it did not go on all is as it was, what another
 -- thread has reserved afterwards it had reserved before, and it is no call of the kernel.
-pub record IsLawful (tid : ℕ) (c : Core) (e : Outcome × Core) : Type 0 where
+pub record IsLawful (tid : ℕ) (c : ExecState) (e : Outcome × ExecState) : Type 0 where
   pub kept : KeepsUnlessWent e.0 c e.1
   pub others : (other : ℕ) → (other ≡ tid → ⊥) → is_some (e.1.held other) ≡ true → e.1.held other ≡ c.held other
   pub no_call : e.0 ≡ KernelCall → ⊥
@@ -38,11 +38,11 @@ next_aligned pc even = omega arith
 target_aligned : (target : ℕ) → nat_eq (target % 4) 0 ≡ true → target % 4 ≡ 0
 target_aligned target is = grind (arith, nat_tests)
 
-fault_lawful : (tid : ℕ) (kind : FaultKind) (c : Core) → IsLawful tid c (Fault kind, c)
+fault_lawful : (tid : ℕ) (kind : FaultKind) (c : ExecState) → IsLawful tid c (Fault kind, c)
 fault_lawful tid kind c = record { kept = refl; others = λ other differs some. refl; no_call = λ e. cc; rights = refl; aligned = λ even. even }
 
 -- an instruction that goes on and leaves the reservations
-went_lawful : (tid : ℕ) (c : Core) (access : Access) (new : Core) → new.held ≡ c.held → new.memory.rights ≡ c.memory.rights → (c.registers.pc % 4 ≡ 0 → new.registers.pc % 4 ≡ 0) → IsLawful tid c (Went access, new)
+went_lawful : (tid : ℕ) (c : ExecState) (access : Access) (new : ExecState) → new.held ≡ c.held → new.memory.rights ≡ c.memory.rights → (c.registers.pc % 4 ≡ 0 → new.registers.pc % 4 ≡ 0) → IsLawful tid c (Went access, new)
 went_lawful tid c access new same rights aligned = record {
   kept = tt;
   others = λ other differs some. ap (λ (h : Reserved). h other) same;
@@ -52,18 +52,18 @@ went_lawful tid c access new same rights aligned = record {
 }
 
 -- an instruction that goes on and takes reservations away
-dropped_lawful : (tid : ℕ) (c : Core) (access : Access) (new : Core) → ((other : ℕ) → (other ≡ tid → ⊥) → is_some (new.held other) ≡ true → new.held other ≡ c.held other) → new.memory.rights ≡ c.memory.rights → (c.registers.pc % 4 ≡ 0 → new.registers.pc % 4 ≡ 0) → IsLawful tid c (Went access, new)
+dropped_lawful : (tid : ℕ) (c : ExecState) (access : Access) (new : ExecState) → ((other : ℕ) → (other ≡ tid → ⊥) → is_some (new.held other) ≡ true → new.held other ≡ c.held other) → new.memory.rights ≡ c.memory.rights → (c.registers.pc % 4 ≡ 0 → new.registers.pc % 4 ≡ 0) → IsLawful tid c (Went access, new)
 dropped_lawful tid c access new others rights aligned = record { kept = tt; others = others; no_call = λ e. cc; rights = rights; aligned = aligned }
 
-checked_lawful : (tid : ℕ) (b : Bool) (kind : FaultKind) (c : Core) (rest : Unit {0} → Outcome × Core) → IsLawful tid c (rest tt) → IsLawful tid c (checked b kind c rest)
+checked_lawful : (tid : ℕ) (b : Bool) (kind : FaultKind) (c : ExecState) (rest : Unit {0} → Outcome × ExecState) → IsLawful tid c (rest tt) → IsLawful tid c (checked b kind c rest)
 checked_lawful tid true kind c rest own = own
 checked_lawful tid false kind c rest own = fault_lawful tid kind c
 
-registers_lawful : (tid : ℕ) (b : Bool) (kind : FaultKind) (c : Core) (access : Access) (r : Registers) → (b ≡ true → c.registers.pc % 4 ≡ 0 → r.pc % 4 ≡ 0) → IsLawful tid c (on_registers c (checked b kind c.registers (λ _. (Went access, r))))
+registers_lawful : (tid : ℕ) (b : Bool) (kind : FaultKind) (c : ExecState) (access : Access) (r : Registers) → (b ≡ true → c.registers.pc % 4 ≡ 0 → r.pc % 4 ≡ 0) → IsLawful tid c (on_registers c (checked b kind c.registers (λ _. (Went access, r))))
 registers_lawful tid true kind c access r aligned = went_lawful tid c access (with_registers r c) refl refl (aligned refl)
 registers_lawful tid false kind c access r aligned = fault_lawful tid kind c
 
-branched_lawful : (tid : ℕ) (b : Bool) (target : ℕ) (c : Core) → IsLawful tid c (on_registers c (branched b target c.registers))
+branched_lawful : (tid : ℕ) (b : Bool) (target : ℕ) (c : ExecState) → IsLawful tid c (on_registers c (branched b target c.registers))
 branched_lawful tid true target c = registers_lawful tid (nat_eq (target % 4) 0) _ c _ _ (λ is even. target_aligned target is)
 branched_lawful tid false target c = went_lawful tid c _ _ refl refl (next_aligned c.registers.pc)
 
@@ -76,26 +76,26 @@ left_twice : (b d : Bool) (o : Option ℕ) → is_some (cond d None (cond b None
 left_twice b true o some = absurd (cc)
 left_twice b false o some = left_of b o some
 
-stored_lawful : (tid : ℕ) (c : Core) (access : Access) (size : Size) (at n : ℕ) (r : Registers) → (c.registers.pc % 4 ≡ 0 → r.pc % 4 ≡ 0) → IsLawful tid c (Went access, with_stored tid size at n (with_registers r c))
+stored_lawful : (tid : ℕ) (c : ExecState) (access : Access) (size : Size) (at n : ℕ) (r : Registers) → (c.registers.pc % 4 ≡ 0 → r.pc % 4 ≡ 0) → IsLawful tid c (Went access, with_stored tid size at n (with_registers r c))
 stored_lawful tid c access size at n r aligned =
     dropped_lawful tid c access _ (λ other differs some. left_of (is_dropped c.held (Some tid) (at / 4) (word_count at (byte_count size)) other) (c.held other) some) refl aligned
 
-stored_behind : (tid : ℕ) (c : Core) (access : Access) (size : Size) (at n : ℕ) → IsLawful tid c (Went access, with_stored tid size at n (with_registers (advanced c.registers) c))
+stored_behind : (tid : ℕ) (c : ExecState) (access : Access) (size : Size) (at n : ℕ) → IsLawful tid c (Went access, with_stored tid size at n (with_registers (advanced c.registers) c))
 stored_behind tid c access size at n = stored_lawful tid c access size at n (advanced c.registers) (next_aligned c.registers.pc)
 
-reserved_lawful : (tid rd at : ℕ) (c : Core) (access : Access) (new : Core) → new.held ≡ with_word c.held tid (at / 4) → new.memory.rights ≡ c.memory.rights → (c.registers.pc % 4 ≡ 0 → new.registers.pc % 4 ≡ 0) → IsLawful tid c (Went access, new)
+reserved_lawful : (tid rd at : ℕ) (c : ExecState) (access : Access) (new : ExecState) → new.held ≡ with_word c.held tid (at / 4) → new.memory.rights ≡ c.memory.rights → (c.registers.pc % 4 ≡ 0 → new.registers.pc % 4 ≡ 0) → IsLawful tid c (Went access, new)
 reserved_lawful tid rd at c access new is rights aligned =
     dropped_lawful tid c access new (λ other differs some. ap (λ (h : Reserved). h other) is ∙ ap (λ (b : Bool). cond b (Some (at / 4)) (c.held other)) (ne_eqb other tid differs)) rights aligned
 
-conditional_lawful : (b : Bool) (tid rd at n : ℕ) (c : Core) → IsLawful tid c (store_where b tid rd at n (record c { held = without_thread c.held tid }))
+conditional_lawful : (b : Bool) (tid rd at n : ℕ) (c : ExecState) → IsLawful tid c (store_where b tid rd at n (record c { held = without_thread c.held tid }))
 conditional_lawful true tid rd at n c =
     dropped_lawful tid c _ _ (λ other differs some. left_twice (other == tid) (is_dropped (without_thread c.held tid) (Some tid) (at / 4) (word_count at 4) other) (c.held other) some) refl (next_aligned c.registers.pc)
 conditional_lawful false tid rd at n c = dropped_lawful tid c _ _ (λ other differs some. left_of (other == tid) (c.held other) some) refl (next_aligned c.registers.pc)
 
-modified_lawful : (tid : ℕ) (op : AtomicOp) (rd at n : ℕ) (c : Core) → IsLawful tid c (modified tid op rd at n c)
+modified_lawful : (tid : ℕ) (op : AtomicOp) (rd at n : ℕ) (c : ExecState) → IsLawful tid c (modified tid op rd at n c)
 modified_lawful tid op rd at n c = checked_lawful tid (can_read c.memory at 4 && can_write c.memory at 4) fault.Store c _ (stored_lawful tid c _ Four at _ _ (next_aligned c.registers.pc))
 
-atomic_at_lawful : (tid : ℕ) (op : AtomicOp) (rd at n : ℕ) (c : Core) → IsLawful tid c (atomic_at tid op rd at n c)
+atomic_at_lawful : (tid : ℕ) (op : AtomicOp) (rd at n : ℕ) (c : ExecState) → IsLawful tid c (atomic_at tid op rd at n c)
 atomic_at_lawful tid Lr rd at n c = checked_lawful tid (can_read c.memory at 4) fault.Load c _ (reserved_lawful tid rd at c _ _ refl refl (next_aligned c.registers.pc))
 atomic_at_lawful tid Sc rd at n c = search (checked_lawful, conditional_lawful)
 atomic_at_lawful tid Swap rd at n c = modified_lawful tid Swap rd at n c
@@ -109,7 +109,7 @@ atomic_at_lawful tid Minu rd at n c = modified_lawful tid Minu rd at n c
 atomic_at_lawful tid Maxu rd at n c = modified_lawful tid Maxu rd at n c
 
 -- each instruction but ECALL
-pub effect_lawful : (tid : ℕ) (i : Instr) (c : Core) → (i ≡ Ecall → ⊥) → IsLawful tid c (effect tid i c)
+pub effect_lawful : (tid : ℕ) (i : Instr) (c : ExecState) → (i ≡ Ecall → ⊥) → IsLawful tid c (effect tid i c)
 effect_lawful tid (Lui rd imm) c other = went_lawful tid c _ _ refl refl (next_aligned c.registers.pc)
 effect_lawful tid (Auipc rd imm) c other = went_lawful tid c _ _ refl refl (next_aligned c.registers.pc)
 effect_lawful tid (Jal rd offset) c other = registers_lawful tid _ _ c _ _ (λ is even. target_aligned _ is)
@@ -146,14 +146,14 @@ pub effect_aligned : KeepsAlignment
 effect_aligned tid Ecall c even = even
 effect_aligned tid i c even = (effect_lawful tid i c (λ e. cc)).aligned even
 
-held_before : (tid : ℕ) (i : Instr) (old new : Core) (answer : Outcome) (other : ℕ) → (answer, new) ≡ effect tid i old → (other ≡ tid → ⊥) → is_some (new.held other) ≡ true → is_some (old.held other) ≡ true
+held_before : (tid : ℕ) (i : Instr) (old new : ExecState) (answer : Outcome) (other : ℕ) → (answer, new) ≡ effect tid i old → (other ≡ tid → ⊥) → is_some (new.held other) ≡ true → is_some (old.held other) ≡ true
 held_before tid i old new answer other does differs some =
-    let is : (effect tid i old).1.held other ≡ new.held other = ap (λ (e : Outcome × Core). e.1.held other) (sym does) in
+    let is : (effect tid i old).1.held other ≡ new.held other = ap (λ (e : Outcome × ExecState). e.1.held other) (sym does) in
     let left : is_some ((effect tid i old).1.held other) ≡ true = ap (λ (o : Option ℕ). is_some o) is ∙ some in
     ap (λ (o : Option ℕ). is_some o) (sym (effect_others tid i old other differs left)) ∙ left
 
 -- one more instruction, one more thread with a reservation at most
-pub HoldAtMost-executed : (tid : ℕ) (i : Instr) (old new : Core) (answer : Outcome) (most : ℕ) → (answer, new) ≡ effect tid i old → HoldAtMost old.held most → HoldAtMost new.held (most + 1)
+pub HoldAtMost-executed : (tid : ℕ) (i : Instr) (old new : ExecState) (answer : Outcome) (most : ℕ) → (answer, new) ≡ effect tid i old → HoldAtMost old.held most → HoldAtMost new.held (most + 1)
 HoldAtMost-executed tid i old new answer most does before = record {
   holders = tid ∷ before.holders;
   few = omega (arith, before.few);

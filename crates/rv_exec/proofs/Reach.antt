@@ -7,8 +7,8 @@ use Rattle.guest_words.specs.declared.endings.FaultKind.{FaultKind}
 use Rattle.guest_words.specs.declared.endings.FaultKind.TheVariants as fault
 use Rattle.guest_words.specs.declared.rights.Rights.{Rights}
 use Rattle.guest_words.specs.Words.{word_count}
-use Rattle.guest_memory.specs.declared.refusal.Need.{Need}
-use Rattle.guest_memory.specs.declared.refusal.Need.TheVariants as need
+use Rattle.guest_memory.specs.declared.refusal.Permission.{Permission}
+use Rattle.guest_memory.specs.declared.refusal.Permission.TheVariants as permission
 use Rattle.guest_memory.specs.declared.size.Size.{Size}
 use Rattle.guest_memory.specs.declared.size.Size.TheVariants.{One, Two, Four}
 use Rattle.guest_memory.specs.Memory.{Memory, byte_count, byte_refusal, first_refusal, page_refusal}
@@ -21,35 +21,35 @@ use Rattle.rv_exec.specs.declared.outcome.Access.TheVariants as access
 use Rattle.rv_exec.specs.declared.outcome.Outcome.{Outcome}
 use Rattle.rv_exec.specs.declared.outcome.Outcome.TheVariants as outcome
 use Rattle.rv_exec.specs.Accesses.{can_read, can_write, load_size, store_size}
-use Rattle.rv_exec.specs.Effects.{Core, atomic_at, branched, checked, jumped, modified, next, store_where, written, x}
-use Rattle.rv_exec.specs.Operations.{is_taken, moved}
+use Rattle.rv_exec.specs.Effects.{ExecState, atomic_at, branched, checked, jumped, modified, next, store_where, written, x}
+use Rattle.rv_exec.specs.Operations.{is_taken, add_offset}
 use Rattle.rv_exec.specs.Registers.{Registers}
 use Rattle.rv_exec.specs.Laws.{AccessesFewWords, AccessesMemory, AreFewWords}
 use Rattle.guest_memory.proofs.HeldWords.{none_from}
 
-refused_outside : (need : Need) (inside : Bool) (r : Option Rights) → page_refusal need (cond inside r None) ≡ None →
+refused_outside : (permission : Permission) (inside : Bool) (r : Option Rights) → page_refusal permission (cond inside r None) ≡ None →
     inside ≡ true
-refused_outside need true r h = refl
-refused_outside need false r h = absurd (cc)
+refused_outside permission true r h = refl
+refused_outside permission false r h = absurd (cc)
 
 -- a byte that is not refused lies below 2 ^ 32
-below_end : (m : Memory) (need : Need) (at : ℕ) → byte_refusal m need at ≡ None → at < 2 ^ 32
-below_end m need at none =
-    let inside : nat_lt (at / 4096) 1048576 ≡ true = refused_outside need (nat_lt (at / 4096) 1048576) (m.rights (at / 4096)) none in
+below_end : (m : Memory) (permission : Permission) (at : ℕ) → byte_refusal m permission at ≡ None → at < 2 ^ 32
+below_end m permission at none =
+    let inside : nat_lt (at / 4096) 1048576 ≡ true = refused_outside permission (nat_lt (at / 4096) 1048576) (m.rights (at / 4096)) none in
     grind (arith, nat_tests, inside)
 
 -- bytes that are not refused end at 2 ^ 32 or below
-reach_end : (m : Memory) (need : Need) (at n : ℕ) → first_refusal m need at n ≡ None → 1 ≤ n → at + n ≤ 2 ^ 32
-reach_end m need at n none some =
-    let last : byte_refusal m need (at + (n - 1)) ≡ None = refusal_each m need at n none (n - 1) (omega arith) in
-    let low : at + (n - 1) < 2 ^ 32 = below_end m need (at + (n - 1)) last in
+reach_end : (m : Memory) (permission : Permission) (at n : ℕ) → first_refusal m permission at n ≡ None → 1 ≤ n → at + n ≤ 2 ^ 32
+reach_end m permission at n none some =
+    let last : byte_refusal m permission (at + (n - 1)) ≡ None = refusal_each m permission at n none (n - 1) (omega arith) in
+    let low : at + (n - 1) < 2 ^ 32 = below_end m permission (at + (n - 1)) last in
     omega (arith, low, some)
 
 pub writable_end : (m : Memory) (at n : ℕ) → can_write m at n ≡ true → 1 ≤ n → at + n ≤ 2 ^ 32
-writable_end m at n reach some = reach_end m need.Write at n (none_from (first_refusal m need.Write at n) reach) some
+writable_end m at n reach some = reach_end m permission.Write at n (none_from (first_refusal m permission.Write at n) reach) some
 
 pub readable_end : (m : Memory) (at n : ℕ) → can_read m at n ≡ true → 1 ≤ n → at + n ≤ 2 ^ 32
-readable_end m at n reach some = reach_end m need.Read at n (none_from (first_refusal m need.Read at n) reach) some
+readable_end m at n reach some = reach_end m permission.Read at n (none_from (first_refusal m permission.Read at n) reach) some
 
 -- ---- the words of an instruction
 few_words : (at n : ℕ) → 1 ≤ n → n ≤ 4 → at + n ≤ 2 ^ 32 → AreFewWords (at / 4) (word_count at n)
@@ -94,17 +94,17 @@ branched_accesses : (b : Bool) (target : ℕ) (r : Registers) → AccessesMemory
 branched_accesses true target r = jumped_accesses target r.regs r
 branched_accesses false target r = tt
 
-stored_accesses : (b : Bool) (tid rd at n : ℕ) (c : Core) → at + 4 ≤ 2 ^ 32 →
+stored_accesses : (b : Bool) (tid rd at n : ℕ) (c : ExecState) → at + 4 ≤ 2 ^ 32 →
     AccessesMemory (store_where b tid rd at n c).0
 stored_accesses true tid rd at n c fits = one_word at fits
 stored_accesses false tid rd at n c fits = tt
 
-modified_accesses : (tid : ℕ) (op : AtomicOp) (rd at n : ℕ) (c : Core) → AccessesMemory (modified tid op rd at n c).0
+modified_accesses : (tid : ℕ) (op : AtomicOp) (rd at n : ℕ) (c : ExecState) → AccessesMemory (modified tid op rd at n c).0
 modified_accesses tid op rd at n c =
     checked_accesses (can_read c.memory at 4 && can_write c.memory at 4) fault.Store c _
     (λ reach. let end = readable_end c.memory at 4 ((and_parts (can_read c.memory at 4) (can_write c.memory at 4) reach).0) (omega arith) in omega (arith, end))
 
-atomic_accesses : (tid : ℕ) (op : AtomicOp) (rd at n : ℕ) (c : Core) → AccessesMemory (atomic_at tid op rd at n c).0
+atomic_accesses : (tid : ℕ) (op : AtomicOp) (rd at n : ℕ) (c : ExecState) → AccessesMemory (atomic_at tid op rd at n c).0
 atomic_accesses tid Lr rd at n c = checked_accesses (can_read c.memory at 4) fault.Load c _ (λ reach. one_word at (readable_end c.memory at 4 reach (omega arith)))
 atomic_accesses tid Sc rd at n c =
     checked_accesses (can_write c.memory at 4) fault.Store c _
@@ -123,14 +123,14 @@ atomic_accesses tid Maxu rd at n c = modified_accesses tid Maxu rd at n c
 pub effect_accesses : AccessesFewWords
 effect_accesses tid (Lui rd imm) c = tt
 effect_accesses tid (Auipc rd imm) c = tt
-effect_accesses tid (Jal rd offset) c = jumped_accesses (moved c.registers.pc offset) (written c.registers rd (next c.registers)) c.registers
-effect_accesses tid (Jalr rd base offset) c = jumped_accesses (moved (x c base) offset / 2 * 2) (written c.registers rd (next c.registers)) c.registers
-effect_accesses tid (Branch test left right offset) c = branched_accesses (is_taken test (x c left) (x c right)) (moved c.registers.pc offset) c.registers
+effect_accesses tid (Jal rd offset) c = jumped_accesses (add_offset c.registers.pc offset) (written c.registers rd (next c.registers)) c.registers
+effect_accesses tid (Jalr rd base offset) c = jumped_accesses (add_offset (x c base) offset / 2 * 2) (written c.registers rd (next c.registers)) c.registers
+effect_accesses tid (Branch test left right offset) c = branched_accesses (is_taken test (x c left) (x c right)) (add_offset c.registers.pc offset) c.registers
 effect_accesses tid (Load kind rd base offset) c =
-    let at = moved (x c base) offset in
+    let at = add_offset (x c base) offset in
     checked_accesses (can_read c.memory at (byte_count (load_size kind))) fault.Load c.registers _ (λ reach. words_read c.memory at (load_size kind) reach)
 effect_accesses tid (Store kind from base offset) c =
-    let at = moved (x c base) offset in
+    let at = add_offset (x c base) offset in
     checked_accesses (can_write c.memory at (byte_count (store_size kind))) fault.Store c _ (λ reach. words_written c.memory at (store_size kind) reach)
 effect_accesses tid (Immediate op rd left imm) c = tt
 effect_accesses tid (Register op rd left right) c = tt

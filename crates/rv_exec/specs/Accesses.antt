@@ -10,18 +10,18 @@ use Rattle.rv_isa.specs.declared.instruction.AtomicOp.{AtomicOp}
 use Rattle.rv_isa.specs.declared.instruction.AtomicOp.TheVariants.{Lr, Sc, Swap, Add, Xor, And, Or, Min, Max, Minu, Maxu}
 use Rattle.guest_memory.specs.declared.size.Size.{Size}
 use Rattle.guest_memory.specs.declared.size.Size.TheVariants.{One, Two, Four}
-use Rattle.guest_memory.specs.declared.refusal.Need.TheVariants as need
+use Rattle.guest_memory.specs.declared.refusal.Permission.TheVariants as permission
 use Rattle.guest_memory.specs.Memory.{Memory, byte_count, first_refusal}
 use Rattle.rv_isa.specs.Fields.{twos_complement}
-use Rattle.rv_exec.specs.Operations.{low, signed}
+use Rattle.rv_exec.specs.Operations.{low_32_bits, signed}
 
 -- whether each of so many bytes can be read
 abbrev pub can_read : Memory → ℕ → ℕ → Bool
-can_read m at n = is_none (first_refusal m need.Read at n)
+can_read m at n = is_none (first_refusal m permission.Read at n)
 
 -- whether each of them can be written
 abbrev pub can_write : Memory → ℕ → ℕ → Bool
-can_write m at n = is_none (first_refusal m need.Write at n)
+can_write m at n = is_none (first_refusal m permission.Write at n)
 
 -- how many bytes a load reads
 abbrev pub load_size : LoadKind → Size
@@ -33,8 +33,8 @@ load_size Lhu = Two
 
 -- what a load writes: LB and LH extend the sign, LBU and LHU extend with zeros
 abbrev pub extended : LoadKind → ℕ → ℕ
-extended Lb n = low (twos_complement (2 ^ 7) (n % 2 ^ 8))
-extended Lh n = low (twos_complement (2 ^ 15) (n % 2 ^ 16))
+extended Lb n = low_32_bits (twos_complement (2 ^ 7) (n % 2 ^ 8))
+extended Lh n = low_32_bits (twos_complement (2 ^ 15) (n % 2 ^ 16))
 extended Lw n = n
 extended Lbu n = n
 extended Lhu n = n

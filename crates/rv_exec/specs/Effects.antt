@@ -19,21 +19,21 @@ use Rattle.guest_memory.specs.ReservedBy.{reserved_by}
 use Rattle.guest_memory.specs.Memory.{Memory, byte_count, number_at, with_bytes}
 use Rattle.guest_memory.specs.Reserved.{Reserved, with_word, without_thread, holds, after_write}
 use Rattle.rv_exec.specs.Registers.{Registers}
-use Rattle.rv_exec.specs.Operations.{register_result, immediate_result, is_taken, moved}
+use Rattle.rv_exec.specs.Operations.{register_result, immediate_result, is_taken, add_offset}
 use Rattle.rv_exec.specs.Accesses.{can_read, can_write, load_size, extended, store_size, low_bytes, atomic_result}
 use Rattle.rv_exec.specs.declared.outcome.Access.TheVariants as access
 use Rattle.rv_exec.specs.declared.outcome.Outcome.{Outcome}
 use Rattle.rv_exec.specs.declared.outcome.Outcome.TheVariants.{Went, KernelCall, Fault}
 
 -- what a thread's instruction works on
-pub record Core : Type 0 where
+pub record ExecState : Type 0 where
   pub registers : Registers
   pub memory : Memory
   pub held : Reserved
 
 -- what registers, memory and reservations of the code mean
-abbrev pub core_of : Registers → GuestMemory → Reservations → Core
-core_of r memory held = record { registers = r; memory = memory_of memory; held = reserved_by held }
+abbrev pub exec_state_of : Registers → GuestMemory → Reservations → ExecState
+exec_state_of r memory held = record { registers = r; memory = memory_of memory; held = reserved_by held }
 
 -- ---- registers
 -- what a register holds
@@ -64,6 +64,10 @@ checked true kind s rest = rest tt
 checked false kind s rest = (Fault kind, s)
 
 -- ---- instructions that touch registers alone
+-- nothing but the next instruction
+abbrev pub passed : Registers → Outcome × Registers
+passed r = (Went access.Nothing, advanced r)
+
 -- rd gets what was computed
 abbrev pub computed : ℕ → ℕ → Registers → Outcome × Registers
 computed rd n r = (Went access.Nothing, put rd n r)
@@ -81,7 +85,7 @@ linked rd target r = jumped target (written r rd (next r)) r
 -- a jump where the test holds; else the thread goes on behind the branch
 abbrev pub branched : Bool → ℕ → Registers → Outcome × Registers
 branched true target r = jumped target r.regs r
-branched false target r = (Went access.Nothing, advanced r)
+branched false target r = passed r
 
 -- ---- loads and stores
 -- rd gets the bytes' number, extended
@@ -92,7 +96,7 @@ loads kind rd at m r =
     λ _. (Went (access.Read (at / 4) (word_count at n)), put rd (extended kind (number_at m at n)) r)
 
 -- the bytes are written, which drops the reservations of the other threads on their words
-abbrev pub with_stored : ℕ → Size → ℕ → ℕ → Core → Core
+abbrev pub with_stored : ℕ → Size → ℕ → ℕ → ExecState → ExecState
 with_stored tid size at n c = record {
   registers = c.registers;
   memory = with_bytes c.memory at (low_bytes size n);
@@ -100,11 +104,11 @@ with_stored tid size at n c = record {
 }
 
 -- these registers, and memory and reservations as they are
-abbrev pub with_registers : Registers → Core → Core
+abbrev pub with_registers : Registers → ExecState → ExecState
 with_registers r c = record c { registers = r }
 
 -- the register's lowest bytes are stored
-abbrev pub stores : ℕ → StoreKind → ℕ → ℕ → Core → Outcome × Core
+abbrev pub stores : ℕ → StoreKind → ℕ → ℕ → ExecState → Outcome × ExecState
 stores tid kind at n c =
     let size = store_size kind in
     checked (can_write c.memory at (byte_count size)) fault.Store c
@@ -115,7 +119,7 @@ stores tid kind at n c =
 
 -- ---- atomic operations
 -- rd gets the word, which is reserved for the thread
-abbrev pub load_reserved : ℕ → ℕ → ℕ → Core → Outcome × Core
+abbrev pub load_reserved : ℕ → ℕ → ℕ → ExecState → Outcome × ExecState
 load_reserved tid rd at c =
     checked (can_read c.memory at 4) fault.Load c
     λ _. (
@@ -124,19 +128,19 @@ load_reserved tid rd at c =
     )
 
 -- where the thread's reservation is the word, it is stored and rd gets 0; else rd gets 1
-abbrev pub store_where : Bool → ℕ → ℕ → ℕ → ℕ → Core → Outcome × Core
+abbrev pub store_where : Bool → ℕ → ℕ → ℕ → ℕ → ExecState → Outcome × ExecState
 store_where true tid rd at n c =
     (Went (access.Write (at / 4) 1), with_stored tid Four at n (with_registers (put rd 0 c.registers) c))
 store_where false tid rd at n c = (Went access.Nothing, with_registers (put rd 1 c.registers) c)
 
 -- the reservation is tested where the word can be written, and the thread has none afterwards
-abbrev pub store_conditional : ℕ → ℕ → ℕ → ℕ → Core → Outcome × Core
+abbrev pub store_conditional : ℕ → ℕ → ℕ → ℕ → ExecState → Outcome × ExecState
 store_conditional tid rd at n c =
     checked (can_write c.memory at 4) fault.Store c
     λ _. store_where (holds c.held tid (at / 4)) tid rd at n (record c { held = without_thread c.held tid })
 
 -- rd gets the old word, and the word becomes the operation's result
-abbrev pub modified : ℕ → AtomicOp → ℕ → ℕ → ℕ → Core → Outcome × Core
+abbrev pub modified : ℕ → AtomicOp → ℕ → ℕ → ℕ → ExecState → Outcome × ExecState
 modified tid op rd at n c =
     checked (can_read c.memory at 4 && can_write c.memory at 4) fault.Store c
     λ _. let old = number_at c.memory at 4 in (
@@ -145,39 +149,46 @@ modified tid op rd at n c =
     )
 
 -- each of them
-abbrev pub atomic_at : ℕ → AtomicOp → ℕ → ℕ → ℕ → Core → Outcome × Core
+abbrev pub atomic_at : ℕ → AtomicOp → ℕ → ℕ → ℕ → ExecState → Outcome × ExecState
 atomic_at tid Lr rd at n c = load_reserved tid rd at c
 atomic_at tid Sc rd at n c = store_conditional tid rd at n c
 atomic_at tid op rd at n c = modified tid op rd at n c
 
 -- at an address that has to be a multiple of 4
-abbrev pub atomic : ℕ → AtomicOp → ℕ → ℕ → ℕ → Core → Outcome × Core
+abbrev pub atomic : ℕ → AtomicOp → ℕ → ℕ → ℕ → ExecState → Outcome × ExecState
 atomic tid op rd at n c = checked (nat_eq (at % 4) 0) fault.AtomicAlign c λ _. atomic_at tid op rd at n c
 
 -- ---- the table
 -- what a register of the thread holds
-abbrev pub x : Core → ℕ → ℕ
+abbrev pub x : ExecState → ℕ → ℕ
 x c n = value c.registers n
 
 -- an effect on registers alone
-abbrev pub on_registers : Core → Outcome × Registers → Outcome × Core
+abbrev pub on_registers : ExecState → Outcome × Registers → Outcome × ExecState
 on_registers c e = (e.0, with_registers e.1 c)
 
 -- what an instruction of a thread does
-abbrev pub effect : ℕ → Instr → Core → Outcome × Core
+abbrev pub effect : ℕ → Instr → ExecState → Outcome × ExecState
 effect tid (Lui rd imm) c = on_registers c (computed rd (imm * 2 ^ 12 % 2 ^ 32) c.registers)
 effect tid (Auipc rd imm) c = on_registers c (computed rd ((c.registers.pc + imm * 2 ^ 12) % 2 ^ 32) c.registers)
-effect tid (Jal rd offset) c = on_registers c (linked rd (moved c.registers.pc offset) c.registers)
-effect tid (Jalr rd base offset) c = on_registers c (linked rd (moved (x c base) offset / 2 * 2) c.registers)
+effect tid (Jal rd offset) c = on_registers c (linked rd (add_offset c.registers.pc offset) c.registers)
+effect tid (Jalr rd base offset) c = on_registers c (linked rd (add_offset (x c base) offset / 2 * 2) c.registers)
 effect tid (Branch test left right offset) c =
-    on_registers c (branched (is_taken test (x c left) (x c right)) (moved c.registers.pc offset) c.registers)
-effect tid (Load kind rd base offset) c = on_registers c (loads kind rd (moved (x c base) offset) c.memory c.registers)
-effect tid (Store kind from base offset) c = stores tid kind (moved (x c base) offset) (x c from) c
+    on_registers c (branched (is_taken test (x c left) (x c right)) (add_offset c.registers.pc offset) c.registers)
+effect tid (Load kind rd base offset) c = on_registers c (loads kind rd (add_offset (x c base) offset) c.memory c.registers)
+effect tid (Store kind from base offset) c = stores tid kind (add_offset (x c base) offset) (x c from) c
 effect tid (Immediate op rd left imm) c = on_registers c (computed rd (immediate_result op (x c left) imm) c.registers)
 effect tid (Register op rd left right) c =
     on_registers c (computed rd (register_result op (x c left) (x c right)) c.registers)
 effect tid (Atomic op rd base from order) c = atomic tid op rd (x c base) (x c from) c
-effect tid Fence c = (Went access.Nothing, with_registers (advanced c.registers) c)
-effect tid FenceI c = (Went access.Nothing, with_registers (advanced c.registers) c)
+effect tid Fence c = on_registers c (passed c.registers)
+effect tid FenceI c = on_registers c (passed c.registers)
 effect tid Ecall c = (KernelCall, c)
 effect tid Ebreak c = (Fault fault.Break, c)
+
+-- whether it is a load, a store or an atomic operation
+abbrev pub accesses_memory : Instr → Bool
+accesses_memory (Load kind rd base offset) = true
+accesses_memory (Store kind from base offset) = true
+accesses_memory (Atomic op rd base from order) = true
+accesses_memory i = false

@@ -4,7 +4,7 @@ ghost use Rattle.guest_memory.specs.Guest.{memory_of};
 ghost use Rattle.guest_memory.specs.Reserved.{HoldAtMost, without_thread};
 ghost use Rattle.guest_memory.specs.ReservedBy.{reserved_by};
 ghost use Rattle.rv_exec.specs.Accesses.{atomic_result};
-ghost use Rattle.rv_exec.specs.Effects.{core_of, atomic, load_reserved, store_conditional, modified};
+ghost use Rattle.rv_exec.specs.Effects.{exec_state_of, atomic, load_reserved, store_conditional, modified};
 
 use crate::bytes::{read, write};
 use crate::operations::signed;
@@ -25,7 +25,7 @@ pub fn atomic(
     n: u32,
 ) -> Outcome
     requires { HoldAtMost (without_thread (reserved_by held.old) tid) 31 }
-    ensures { (result, core_of cpu.new memory.new held.new) ≡ atomic tid op rd at n (core_of cpu.old memory.old held.old) }
+    ensures { (result, exec_state_of cpu.new memory.new held.new) ≡ atomic tid op rd at n (exec_state_of cpu.old memory.old held.old) }
 {
     if at % 4 != 0 {
         return Outcome::Fault {
@@ -49,7 +49,7 @@ fn load_reserved(
     at: Addr,
 ) -> Outcome
     requires { HoldAtMost (without_thread (reserved_by held.old) tid) 31 }
-    ensures { (result, core_of cpu.new memory.now held.new) ≡ load_reserved tid rd at (core_of cpu.old memory.now held.old) }
+    ensures { (result, exec_state_of cpu.new memory.now held.new) ≡ load_reserved tid rd at (exec_state_of cpu.old memory.now held.old) }
 {
     let Some(old) = read(memory, at, Size::Four) else {
         return Outcome::Fault {
@@ -78,7 +78,7 @@ fn store_conditional(
     n: u32,
 ) -> Outcome
     requires { at % 4 ≡ 0 }
-    ensures { (result, core_of cpu.new memory.new held.new) ≡ store_conditional tid rd at n (core_of cpu.old memory.old held.old) }
+    ensures { (result, exec_state_of cpu.new memory.new held.new) ≡ store_conditional tid rd at n (exec_state_of cpu.old memory.old held.old) }
 {
     let refused = Outcome::Fault {
         kind: FaultKind::Store,
@@ -110,7 +110,7 @@ fn modify(
     at: Addr,
     n: u32,
 ) -> Outcome
-    ensures { (result, core_of cpu.new memory.new held.new) ≡ modified tid op rd at n (core_of cpu.old memory.old held.old) }
+    ensures { (result, exec_state_of cpu.new memory.new held.new) ≡ modified tid op rd at n (exec_state_of cpu.old memory.old held.old) }
 {
     let refused = Outcome::Fault {
         kind: FaultKind::Store,

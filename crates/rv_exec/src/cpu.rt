@@ -26,7 +26,7 @@ impl Model for Cpu {
 
 impl Cpu {
     ghost use Rattle.std.specs.Prelude.{◌≡◌, replicate};
-    ghost use Rattle.rv_exec.specs.Effects.{advanced, computed, jumped, linked, put, value, written};
+    ghost use Rattle.rv_exec.specs.Effects.{advanced, computed, jumped, linked, passed, put, value, written};
 
     /// All registers hold 0.
     pub fn new(pc: Addr) -> Cpu
@@ -58,6 +58,14 @@ impl Cpu {
         ensures registers { self.new ≡ advanced self.old }
     {
         self.pc = self.pc.wrapping_add(4);
+    }
+
+    /// Goes on behind the instruction, which touched no memory.
+    pub(crate) fn pass(&mut self) -> Outcome
+        ensures { (result, self.new) ≡ passed self.old }
+    {
+        self.advance();
+        Outcome::WENT
     }
 
     /// Writes to a register, and goes on behind the instruction.

@@ -1,13 +1,13 @@
 //! One instruction of a thread.
-ghost use Rattle.std.specs.Prelude.{◌≡◌};
+ghost use Rattle.std.specs.Prelude.{◌≡◌, ℕ, false};
 ghost use Rattle.guest_memory.specs.Reserved.{HoldAtMost, without_thread};
 ghost use Rattle.guest_memory.specs.ReservedBy.{reserved_by};
-ghost use Rattle.rv_exec.specs.Effects.{branched, core_of, effect, value};
-ghost use Rattle.rv_exec.specs.Operations.{is_taken, moved};
+ghost use Rattle.rv_exec.specs.Effects.{ExecState, accesses_memory, branched, effect, exec_state_of, value, with_registers};
+ghost use Rattle.rv_exec.specs.Operations.{is_taken, add_offset};
 
 use crate::atomics::atomic;
 use crate::loads_and_stores::{load, store};
-use crate::operations::{immediate_result, is_taken, moved, register_result};
+use crate::operations::{immediate_result, is_taken, add_offset, register_result};
 use crate::{Cpu, Outcome};
 use guest_memory::{GuestMemory, Reservations};
 use guest_words::{FaultKind, Tid};
@@ -22,29 +22,16 @@ pub fn execute(
     i: Instr,
 ) -> Outcome
     requires { HoldAtMost (without_thread (reserved_by held.old) tid) 31 }
-    ensures effect { (result, core_of cpu.new memory.new held.new) ≡ effect tid i (core_of cpu.old memory.old held.old) }
+    ensures effect { (result, exec_state_of cpu.new memory.new held.new) ≡ effect tid i (exec_state_of cpu.old memory.old held.old) }
 {
     match i {
-        Instr::Lui { rd, imm } => cpu.compute(rd, imm << 12),
-        Instr::Auipc { rd, imm } => cpu.compute(rd, cpu.pc.wrapping_add(imm << 12)),
-        Instr::Jal { rd, offset } => cpu.jump_and_link(rd, moved(cpu.pc, offset)),
-        Instr::Jalr { rd, base, offset } => {
-            let target = moved(cpu.value(base), offset);
-            cpu.jump_and_link(rd, target / 2 * 2)
-        }
-        Instr::Branch {
-            test,
-            left,
-            right,
-            offset,
-        } => branch(cpu, test, left, right, offset),
         Instr::Load {
             kind,
             rd,
             base,
             offset,
         } => {
-            let at = moved(cpu.value(base), offset);
+            let at = add_offset(cpu.value(base), offset);
             load(cpu, memory, kind, rd, at)
         }
         Instr::Store {
@@ -53,9 +40,42 @@ pub fn execute(
             base,
             offset,
         } => {
-            let (at, n) = (moved(cpu.value(base), offset), cpu.value(value));
+            let (at, n) = (add_offset(cpu.value(base), offset), cpu.value(value));
             store(cpu, memory, held, tid, kind, at, n)
         }
+        Instr::Atomic {
+            op,
+            rd,
+            base,
+            value,
+            ..
+        } => {
+            let (at, n) = (cpu.value(base), cpu.value(value));
+            atomic(cpu, memory, held, tid, op, rd, at, n)
+        }
+        _ => execute_on_registers(cpu, i),
+    }
+}
+
+/// Carries out an instruction that accesses no memory.
+fn execute_on_registers(cpu: &mut Cpu, i: Instr) -> Outcome
+    requires { accesses_memory i ≡ false }
+    ensures { (tid : ℕ) (c : ExecState) → c.registers ≡ cpu.old → (result, with_registers cpu.new c) ≡ effect tid i c }
+{
+    match i {
+        Instr::Lui { rd, imm } => cpu.compute(rd, imm << 12),
+        Instr::Auipc { rd, imm } => cpu.compute(rd, cpu.pc.wrapping_add(imm << 12)),
+        Instr::Jal { rd, offset } => cpu.jump_and_link(rd, add_offset(cpu.pc, offset)),
+        Instr::Jalr { rd, base, offset } => {
+            let target = add_offset(cpu.value(base), offset);
+            cpu.jump_and_link(rd, target / 2 * 2)
+        }
+        Instr::Branch {
+            test,
+            left,
+            right,
+            offset,
+        } => branch(cpu, test, left, right, offset),
         Instr::Immediate { op, rd, left, imm } => {
             let n = immediate_result(op, cpu.value(left), imm);
             cpu.compute(rd, n)
@@ -69,35 +89,22 @@ pub fn execute(
             let n = register_result(op, cpu.value(left), cpu.value(right));
             cpu.compute(rd, n)
         }
-        Instr::Atomic {
-            op,
-            rd,
-            base,
-            value,
-            ..
-        } => {
-            let (at, n) = (cpu.value(base), cpu.value(value));
-            atomic(cpu, memory, held, tid, op, rd, at, n)
-        }
-        Instr::Fence | Instr::FenceI => {
-            cpu.advance();
-            Outcome::WENT
-        }
+        Instr::Fence | Instr::FenceI => cpu.pass(),
         Instr::Ecall => Outcome::KernelCall,
         Instr::Ebreak => Outcome::Fault {
             kind: FaultKind::Break,
         },
+        Instr::Load { .. } | Instr::Store { .. } | Instr::Atomic { .. } => unreachable!(),
     }
 }
 
 /// A branch, which goes to a target where the test holds.
 fn branch(cpu: &mut Cpu, test: Test, left: Reg, right: Reg, offset: i32) -> Outcome
-    ensures { (result, cpu.new) ≡ branched (is_taken test (value cpu.old left) (value cpu.old right)) (moved cpu.old.pc offset) cpu.old }
+    ensures { (result, cpu.new) ≡ branched (is_taken test (value cpu.old left) (value cpu.old right)) (add_offset cpu.old.pc offset) cpu.old }
 {
     if is_taken(test, cpu.value(left), cpu.value(right)) {
-        cpu.jump(moved(cpu.pc, offset))
+        cpu.jump(add_offset(cpu.pc, offset))
     } else {
-        cpu.advance();
-        Outcome::WENT
+        cpu.pass()
     }
 }

@@ -3,8 +3,8 @@ ghost use Rattle.std.specs.Prelude.{◌≡◌, ◌<◌, ◌≤◌, ◌*◌, ◌^
 ghost use Rattle.rv_isa.specs.Fields.{twos_complement};
 ghost use Rattle.guest_memory.specs.Guest.{memory_of};
 ghost use Rattle.rv_exec.specs.Accesses.{load_size, extended, store_size};
-ghost use Rattle.rv_exec.specs.Effects.{core_of, loads, stores};
-ghost use Rattle.rv_exec.specs.Operations.{low};
+ghost use Rattle.rv_exec.specs.Effects.{exec_state_of, loads, stores};
+ghost use Rattle.rv_exec.specs.Operations.{low_32_bits};
 
 use crate::bytes::{read, words, write};
 use crate::{Access, Cpu, Outcome};
@@ -38,7 +38,7 @@ fn extended(kind: LoadKind, n: u32) -> u32
 fn sign_extended(n: u32, sign: u32) -> u32
     requires narrow { sign ≤ 2 ^ 15 }
     requires fits { n < 2 * sign }
-    ensures { result ≡ low (twos_complement sign n) }
+    ensures { result ≡ low_32_bits (twos_complement sign n) }
 {
     if n < sign {
         n
@@ -85,7 +85,7 @@ pub fn store(
     at: Addr,
     n: u32,
 ) -> Outcome
-    ensures { (result, core_of cpu.new memory.new held.new) ≡ stores tid kind at n (core_of cpu.old memory.old held.old) }
+    ensures { (result, exec_state_of cpu.new memory.new held.new) ≡ stores tid kind at n (exec_state_of cpu.old memory.old held.old) }
 {
     let Some((first, count)) = write(memory, held, tid, at, store_size(kind), n) else {
         return Outcome::Fault {

@@ -1,6 +1,6 @@
 //! The operations on two registers.
 ghost use Rattle.std.specs.Prelude.{◌≡◌};
-ghost use Rattle.rv_exec.specs.Operations.{register_result, immediate_result, is_taken, moved, signed};
+ghost use Rattle.rv_exec.specs.Operations.{register_result, immediate_result, is_taken, add_offset, signed};
 ghost use Rattle.rv_isa.specs.declared.instruction.RegOp.{RegOp};
 
 use rv_isa::{ImmOp, RegOp, Test};
@@ -100,8 +100,8 @@ pub fn is_taken(test: Test, left: u32, right: u32) -> bool
 }
 
 /// An address and a signed offset, modulo 2 ^ 32.
-pub fn moved(at: u32, offset: i32) -> u32
-    ensures { result ≡ moved at offset }
+pub fn add_offset(at: u32, offset: i32) -> u32
+    ensures { result ≡ add_offset at offset }
 {
     at.wrapping_add_signed(offset)
 }

@@ -73,7 +73,7 @@ fn accesses(
         instr,
         x5,
         x6,
-        outcome: Outcome::Went { access },
+        outcome: went(access),
         x7,
         pc: PC + 4,
         words,
@@ -93,6 +93,10 @@ fn stays(instr: Instr, x5: u32, x6: u32, outcome: Outcome) -> Row {
         words: WORDS,
         holders: BOTH,
     }
+}
+
+fn went(access: Access) -> Outcome {
+    Outcome::Went { access }
 }
 
 fn faults(instr: Instr, x5: u32, kind: FaultKind) -> Row {
@@ -131,6 +135,22 @@ fn modifies(op: AtomicOp, x6: u32, word: u32) -> Row {
         [WORDS[0], word],
         [true, false],
     )
+}
+
+fn lui(rd: Reg, imm: u32) -> Instr {
+    Instr::Lui { rd, imm }
+}
+
+fn auipc(rd: Reg, imm: u32) -> Instr {
+    Instr::Auipc { rd, imm }
+}
+
+fn jal(rd: Reg, offset: i32) -> Instr {
+    Instr::Jal { rd, offset }
+}
+
+fn jalr(rd: Reg, base: Reg, offset: i32) -> Instr {
+    Instr::Jalr { rd, base, offset }
 }
 
 fn branch(test: Test, offset: i32) -> Instr {
@@ -227,9 +247,9 @@ fn shown(memory: &mut GuestMemory, row: Row) -> Result<Row, MemError> {
     })
 }
 
-// The pages 0 to 2 can be read and written, page 3 only read and page 4 only written.
-#[test]
-fn each_form_does_what_the_manual_says(rt: HostRuntime) -> Result<(), Fail> {
+// All that each instruction of the rows does. The pages 0 to 2 can be read and written, page 3 only read and page 4 only
+// written.
+fn assert_all(rt: HostRuntime, rows: &[Row]) -> Result<(), Fail> {
     let mut memory = GuestMemory::new(rt.alloc())?;
     assert!(rt; memory.is_free(0, 5));
     let rights = |read, write| Rights {
@@ -242,223 +262,187 @@ fn each_form_does_what_the_manual_says(rt: HostRuntime) -> Result<(), Fail> {
     memory.protect(3, 1, rights(true, false));
     assert!(rt; memory.is_mapped(4, 1));
     memory.protect(4, 1, rights(false, true));
-    for row in [
-        gives(
-            Instr::Lui {
-                rd: x(7),
-                imm: 0x80000,
-            },
-            0,
-            0,
-            0x8000_0000,
-        ),
-        gives(
-            Instr::Auipc {
-                rd: x(7),
-                imm: 0xFFFFF,
-            },
-            0,
-            0,
-            0xF000,
-        ),
-        goes(
-            Instr::Jal {
-                rd: x(7),
-                offset: 12,
-            },
-            0,
-            0,
-            PC + 4,
-            PC + 12,
-        ),
-        goes(
-            Instr::Jal {
-                rd: x(0),
-                offset: -8,
-            },
-            0,
-            0,
-            X7,
-            PC - 8,
-        ),
-        faults(
-            Instr::Jal {
-                rd: x(7),
-                offset: 2,
-            },
-            0,
-            FaultKind::JumpAlign,
-        ),
-        goes(
-            Instr::Jalr {
-                rd: x(7),
-                base: x(7),
-                offset: 4,
-            },
-            0,
-            0,
-            PC + 4,
-            0x20004,
-        ),
-        faults(
-            Instr::Jalr {
-                rd: x(7),
-                base: x(5),
-                offset: 1,
-            },
-            2,
-            FaultKind::JumpAlign,
-        ),
-        goes(branch(Test::Eq, 36), 5, 5, X7, PC + 36),
-        goes(branch(Test::Eq, 2), 5, 6, X7, PC + 4),
-        faults(branch(Test::Eq, 2), 0, FaultKind::JumpAlign),
-        goes(branch(Test::Ne, -4), 5, 6, X7, PC - 4),
-        goes(branch(Test::Lt, 36), 0xFFFF_FFFF, 1, X7, PC + 36),
-        goes(branch(Test::Ge, 36), 0xFFFF_FFFF, 1, X7, PC + 4),
-        goes(branch(Test::Ltu, 36), 0xFFFF_FFFF, 1, X7, PC + 4),
-        goes(branch(Test::Geu, 36), 0xFFFF_FFFF, 1, X7, PC + 36),
-        gives(with_immediate(ImmOp::Addi, -2), 1, 0, 0xFFFF_FFFF),
-        gives(with_immediate(ImmOp::Slti, 0), 0xFFFF_FFFF, 0, 1),
-        gives(with_immediate(ImmOp::Sltiu, -1), 1, 0, 1),
-        gives(with_immediate(ImmOp::Xori, -1), 0xF0F0_F0F0, 0, 0x0F0F_0F0F),
-        gives(with_immediate(ImmOp::Ori, 0xF0), 0xF, 0, 0xFF),
-        gives(with_immediate(ImmOp::Andi, -256), 0xFF12, 0, 0xFF00),
-        gives(with_immediate(ImmOp::Slli, 31), 3, 0, 0x8000_0000),
-        gives(with_immediate(ImmOp::Srli, 4), 0x8000_0000, 0, 0x0800_0000),
-        gives(with_immediate(ImmOp::Srai, 4), 0x8000_0000, 0, 0xF800_0000),
-        gives(on_registers(RegOp::Add), 0xFFFF_FFFF, 2, 1),
-        gives(on_registers(RegOp::Sub), 1, 2, 0xFFFF_FFFF),
-        gives(on_registers(RegOp::Sll), 3, 33, 6),
-        gives(on_registers(RegOp::Slt), 0x8000_0000, 0, 1),
-        gives(on_registers(RegOp::Sltu), 0x8000_0000, 0, 0),
-        gives(on_registers(RegOp::Xor), 6, 3, 5),
-        gives(on_registers(RegOp::Srl), 0x8000_0000, 36, 0x0800_0000),
-        gives(on_registers(RegOp::Sra), 0x8000_0000, 36, 0xF800_0000),
-        gives(on_registers(RegOp::Or), 6, 3, 7),
-        gives(on_registers(RegOp::And), 6, 3, 2),
-        gives(on_registers(RegOp::Mul), 0xFFFF_FFFF, 0xFFFF_FFFF, 1),
-        gives(on_registers(RegOp::Mulh), 0xFFFF_FFFF, 0xFFFF_FFFF, 0),
-        gives(
-            on_registers(RegOp::Mulhsu),
-            0xFFFF_FFFF,
-            0xFFFF_FFFF,
-            0xFFFF_FFFF,
-        ),
-        gives(on_registers(RegOp::Mulhsu), 2, 0xFFFF_FFFF, 1),
-        gives(
-            on_registers(RegOp::Mulhu),
-            0xFFFF_FFFF,
-            0xFFFF_FFFF,
-            0xFFFF_FFFE,
-        ),
-        gives(on_registers(RegOp::Div), 7, 0, 0xFFFF_FFFF),
-        gives(
-            on_registers(RegOp::Div),
-            0x8000_0000,
-            0xFFFF_FFFF,
-            0x8000_0000,
-        ),
-        gives(on_registers(RegOp::Div), 0xFFFF_FFF9, 2, 0xFFFF_FFFD),
-        gives(on_registers(RegOp::Divu), 7, 0, 0xFFFF_FFFF),
-        gives(on_registers(RegOp::Divu), 0xFFFF_FFF9, 2, 0x7FFF_FFFC),
-        gives(on_registers(RegOp::Rem), 7, 0, 7),
-        gives(on_registers(RegOp::Rem), 0x8000_0000, 0xFFFF_FFFF, 0),
-        gives(on_registers(RegOp::Rem), 0xFFFF_FFF9, 2, 0xFFFF_FFFF),
-        gives(on_registers(RegOp::Remu), 7, 0, 7),
-        gives(on_registers(RegOp::Remu), 0xFFFF_FFF9, 2, 1),
-        gives(Instr::Fence, 0, 0, X7),
-        gives(Instr::FenceI, 0, 0, X7),
-        stays(Instr::Ecall, 0, 0, Outcome::KernelCall),
-        faults(Instr::Ebreak, 0, FaultKind::Break),
-        reads(load(LoadKind::Lb, -3), 0x2000, 0xFFFF_FF80, 0x1FFD, 1),
-        reads(load(LoadKind::Lbu, -3), 0x2000, 0x80, 0x1FFD, 1),
-        reads(load(LoadKind::Lh, -2), 0x2000, 0xFFFF_FFFE, 0x1FFE, 1),
-        reads(load(LoadKind::Lhu, -2), 0x2000, 0xFFFE, 0x1FFE, 1),
-        reads(load(LoadKind::Lh, -1), 0x2000, 0x05FF, 0x1FFF, 2),
-        reads(load(LoadKind::Lw, -2), 0x2000, 0x0005_FFFE, 0x1FFE, 2),
-        reads(load(LoadKind::Lw, 8), 0xFFFF_FFFC, 0, 4, 1),
-        faults(load(LoadKind::Lw, 0), 0x3FFE, FaultKind::Load),
-        faults(load(LoadKind::Lbu, -1), 0, FaultKind::Load),
-        writes(
-            store(StoreKind::Sb, 3),
-            0x2000,
-            0x1234,
-            0x2000,
-            1,
-            [0xFFFE_8001, 0x3400_0005],
-        ),
-        writes(
-            store(StoreKind::Sh, -1),
-            0x2000,
-            0x1234,
-            0x1FFC,
-            2,
-            [0x34FE_8001, 0x8000_0012],
-        ),
-        writes(
-            store(StoreKind::Sw, -2),
-            0x2000,
-            0x1234_5678,
-            0x1FFC,
-            2,
-            [0x5678_8001, 0x8000_1234],
-        ),
-        faults(store(StoreKind::Sw, 0), 0x2FFE, FaultKind::Store),
-        faults(store(StoreKind::Sb, 0), 0x5000, FaultKind::Store),
-        reads(atomic(AtomicOp::Lr), 0x2000, 0x8000_0005, 0x2000, 1),
-        accesses(
-            atomic(AtomicOp::Lr),
-            0x1FFC,
-            0,
-            0xFFFE_8001,
-            Access::Read {
-                first: Word::of(0x1FFC),
-                count: 1,
-            },
-            WORDS,
-            [false, true],
-        ),
-        faults(atomic(AtomicOp::Lr), 0x4000, FaultKind::Load),
-        faults(atomic(AtomicOp::Lr), 0x5001, FaultKind::AtomicAlign),
-        accesses(
-            atomic(AtomicOp::Sc),
-            0x2000,
-            9,
-            0,
-            Access::Write {
-                first: Word::of(0x2000),
-                count: 1,
-            },
-            [0xFFFE_8001, 9],
-            [false, false],
-        ),
-        accesses(
-            atomic(AtomicOp::Sc),
-            0x1FFC,
-            9,
-            1,
-            Access::Nothing,
-            WORDS,
-            [false, true],
-        ),
-        faults(atomic(AtomicOp::Sc), 0x3000, FaultKind::Store),
-        faults(atomic(AtomicOp::Sc), 0x2002, FaultKind::AtomicAlign),
-        modifies(AtomicOp::Swap, 1, 1),
-        modifies(AtomicOp::Add, 0x8000_0000, 5),
-        modifies(AtomicOp::Xor, 5, 0x8000_0000),
-        modifies(AtomicOp::And, 7, 5),
-        modifies(AtomicOp::Or, 0x10, 0x8000_0015),
-        modifies(AtomicOp::Min, 1, 0x8000_0005),
-        modifies(AtomicOp::Max, 1, 1),
-        modifies(AtomicOp::Minu, 1, 1),
-        modifies(AtomicOp::Maxu, 1, 0x8000_0005),
-        faults(atomic(AtomicOp::Swap), 0x3000, FaultKind::Store),
-        faults(atomic(AtomicOp::Add), 0x4000, FaultKind::Store),
-        faults(atomic(AtomicOp::Maxu), 0x2001, FaultKind::AtomicAlign),
-    ] {
-        assert_eq!(rt; shown(&mut memory, row)?, row);
+    for row in rows {
+        assert_eq!(rt; shown(&mut memory, *row)?, *row);
     }
     Ok(())
+}
+
+#[test]
+fn jumps_and_upper_immediates(rt: HostRuntime) -> Result<(), Fail> {
+    assert_all(
+        rt,
+        &[
+            gives(lui(x(7), 0x80000), 0, 0, 0x8000_0000),
+            gives(auipc(x(7), 0xFFFFF), 0, 0, 0xF000),
+            goes(jal(x(7), 12), 0, 0, PC + 4, PC + 12),
+            goes(jal(x(0), -8), 0, 0, X7, PC - 8),
+            faults(jal(x(7), 2), 0, FaultKind::JumpAlign),
+            goes(jalr(x(7), x(7), 4), 0, 0, PC + 4, 0x20004),
+            faults(jalr(x(7), x(5), 1), 2, FaultKind::JumpAlign),
+        ],
+    )
+}
+
+#[test]
+fn branches(rt: HostRuntime) -> Result<(), Fail> {
+    assert_all(
+        rt,
+        &[
+            goes(branch(Test::Eq, 36), 5, 5, X7, PC + 36),
+            goes(branch(Test::Eq, 2), 5, 6, X7, PC + 4),
+            faults(branch(Test::Eq, 2), 0, FaultKind::JumpAlign),
+            goes(branch(Test::Ne, -4), 5, 6, X7, PC - 4),
+            goes(branch(Test::Lt, 36), 0xFFFF_FFFF, 1, X7, PC + 36),
+            goes(branch(Test::Ge, 36), 0xFFFF_FFFF, 1, X7, PC + 4),
+            goes(branch(Test::Ltu, 36), 0xFFFF_FFFF, 1, X7, PC + 4),
+            goes(branch(Test::Geu, 36), 0xFFFF_FFFF, 1, X7, PC + 36),
+        ],
+    )
+}
+
+#[test]
+fn operations_on_an_immediate(rt: HostRuntime) -> Result<(), Fail> {
+    assert_all(
+        rt,
+        &[
+            gives(with_immediate(ImmOp::Addi, -2), 1, 0, 0xFFFF_FFFF),
+            gives(with_immediate(ImmOp::Slti, 0), 0xFFFF_FFFF, 0, 1),
+            gives(with_immediate(ImmOp::Sltiu, -1), 1, 0, 1),
+            gives(with_immediate(ImmOp::Xori, -1), 0xF0F0_F0F0, 0, 0x0F0F_0F0F),
+            gives(with_immediate(ImmOp::Ori, 0xF0), 0xF, 0, 0xFF),
+            gives(with_immediate(ImmOp::Andi, -256), 0xFF12, 0, 0xFF00),
+            gives(with_immediate(ImmOp::Slli, 31), 3, 0, 0x8000_0000),
+            gives(with_immediate(ImmOp::Srli, 4), 0x8000_0000, 0, 0x0800_0000),
+            gives(with_immediate(ImmOp::Srai, 4), 0x8000_0000, 0, 0xF800_0000),
+        ],
+    )
+}
+
+#[test]
+fn operations_of_the_base_set(rt: HostRuntime) -> Result<(), Fail> {
+    assert_all(
+        rt,
+        &[
+            gives(on_registers(RegOp::Add), 0xFFFF_FFFF, 2, 1),
+            gives(on_registers(RegOp::Sub), 1, 2, 0xFFFF_FFFF),
+            gives(on_registers(RegOp::Sll), 3, 33, 6),
+            gives(on_registers(RegOp::Slt), 0x8000_0000, 0, 1),
+            gives(on_registers(RegOp::Sltu), 0x8000_0000, 0, 0),
+            gives(on_registers(RegOp::Xor), 6, 3, 5),
+            gives(on_registers(RegOp::Srl), 0x8000_0000, 36, 0x0800_0000),
+            gives(on_registers(RegOp::Sra), 0x8000_0000, 36, 0xF800_0000),
+            gives(on_registers(RegOp::Or), 6, 3, 7),
+            gives(on_registers(RegOp::And), 6, 3, 2),
+        ],
+    )
+}
+
+#[test]
+fn multiplications_and_divisions(rt: HostRuntime) -> Result<(), Fail> {
+    assert_all(
+        rt,
+        &[
+            gives(on_registers(RegOp::Mul), 0xFFFF_FFFF, 0xFFFF_FFFF, 1),
+            gives(on_registers(RegOp::Mulh), 0xFFFF_FFFF, 0xFFFF_FFFF, 0),
+            gives(on_registers(RegOp::Mulhsu), 0xFFFF_FFFF, 0xFFFF_FFFF, 0xFFFF_FFFF),
+            gives(on_registers(RegOp::Mulhsu), 2, 0xFFFF_FFFF, 1),
+            gives(on_registers(RegOp::Mulhu), 0xFFFF_FFFF, 0xFFFF_FFFF, 0xFFFF_FFFE),
+            gives(on_registers(RegOp::Div), 7, 0, 0xFFFF_FFFF),
+            gives(on_registers(RegOp::Div), 0x8000_0000, 0xFFFF_FFFF, 0x8000_0000),
+            gives(on_registers(RegOp::Div), 0xFFFF_FFF9, 2, 0xFFFF_FFFD),
+            gives(on_registers(RegOp::Divu), 7, 0, 0xFFFF_FFFF),
+            gives(on_registers(RegOp::Divu), 0xFFFF_FFF9, 2, 0x7FFF_FFFC),
+            gives(on_registers(RegOp::Rem), 7, 0, 7),
+            gives(on_registers(RegOp::Rem), 0x8000_0000, 0xFFFF_FFFF, 0),
+            gives(on_registers(RegOp::Rem), 0xFFFF_FFF9, 2, 0xFFFF_FFFF),
+            gives(on_registers(RegOp::Remu), 7, 0, 7),
+            gives(on_registers(RegOp::Remu), 0xFFFF_FFF9, 2, 1),
+        ],
+    )
+}
+
+#[test]
+fn fences_and_system(rt: HostRuntime) -> Result<(), Fail> {
+    assert_all(
+        rt,
+        &[
+            gives(Instr::Fence, 0, 0, X7),
+            gives(Instr::FenceI, 0, 0, X7),
+            stays(Instr::Ecall, 0, 0, Outcome::KernelCall),
+            faults(Instr::Ebreak, 0, FaultKind::Break),
+        ],
+    )
+}
+
+#[test]
+fn loads(rt: HostRuntime) -> Result<(), Fail> {
+    assert_all(
+        rt,
+        &[
+            reads(load(LoadKind::Lb, -3), 0x2000, 0xFFFF_FF80, 0x1FFD, 1),
+            reads(load(LoadKind::Lbu, -3), 0x2000, 0x80, 0x1FFD, 1),
+            reads(load(LoadKind::Lh, -2), 0x2000, 0xFFFF_FFFE, 0x1FFE, 1),
+            reads(load(LoadKind::Lhu, -2), 0x2000, 0xFFFE, 0x1FFE, 1),
+            reads(load(LoadKind::Lh, -1), 0x2000, 0x05FF, 0x1FFF, 2),
+            reads(load(LoadKind::Lw, -2), 0x2000, 0x0005_FFFE, 0x1FFE, 2),
+            reads(load(LoadKind::Lw, 8), 0xFFFF_FFFC, 0, 4, 1),
+            faults(load(LoadKind::Lw, 0), 0x3FFE, FaultKind::Load),
+            faults(load(LoadKind::Lbu, -1), 0, FaultKind::Load),
+        ],
+    )
+}
+
+#[test]
+fn stores(rt: HostRuntime) -> Result<(), Fail> {
+    assert_all(
+        rt,
+        &[
+            writes(store(StoreKind::Sb, 3), 0x2000, 0x1234, 0x2000, 1, [0xFFFE_8001, 0x3400_0005]),
+            writes(store(StoreKind::Sh, -1), 0x2000, 0x1234, 0x1FFC, 2, [0x34FE_8001, 0x8000_0012]),
+            writes(store(StoreKind::Sw, -2), 0x2000, 0x1234_5678, 0x1FFC, 2, [0x5678_8001, 0x8000_1234]),
+            faults(store(StoreKind::Sw, 0), 0x2FFE, FaultKind::Store),
+            faults(store(StoreKind::Sb, 0), 0x5000, FaultKind::Store),
+        ],
+    )
+}
+
+#[test]
+fn reservations_and_conditional_stores(rt: HostRuntime) -> Result<(), Fail> {
+    assert_all(
+        rt,
+        &[
+            reads(atomic(AtomicOp::Lr), 0x2000, 0x8000_0005, 0x2000, 1),
+            accesses(atomic(AtomicOp::Lr), 0x1FFC, 0, 0xFFFE_8001, Access::Read { first: Word::of(0x1FFC), count: 1, }, WORDS, [false, true]),
+            faults(atomic(AtomicOp::Lr), 0x4000, FaultKind::Load),
+            faults(atomic(AtomicOp::Lr), 0x5001, FaultKind::AtomicAlign),
+            accesses(atomic(AtomicOp::Sc), 0x2000, 9, 0, Access::Write { first: Word::of(0x2000), count: 1, }, [0xFFFE_8001, 9], [false, false]),
+            accesses(atomic(AtomicOp::Sc), 0x1FFC, 9, 1, Access::Nothing, WORDS, [false, true]),
+            faults(atomic(AtomicOp::Sc), 0x3000, FaultKind::Store),
+            faults(atomic(AtomicOp::Sc), 0x2002, FaultKind::AtomicAlign),
+        ],
+    )
+}
+
+#[test]
+fn read_and_write_at_once(rt: HostRuntime) -> Result<(), Fail> {
+    assert_all(
+        rt,
+        &[
+            modifies(AtomicOp::Swap, 1, 1),
+            modifies(AtomicOp::Add, 0x8000_0000, 5),
+            modifies(AtomicOp::Xor, 5, 0x8000_0000),
+            modifies(AtomicOp::And, 7, 5),
+            modifies(AtomicOp::Or, 0x10, 0x8000_0015),
+            modifies(AtomicOp::Min, 1, 0x8000_0005),
+            modifies(AtomicOp::Max, 1, 1),
+            modifies(AtomicOp::Minu, 1, 1),
+            modifies(AtomicOp::Maxu, 1, 0x8000_0005),
+            faults(atomic(AtomicOp::Swap), 0x3000, FaultKind::Store),
+            faults(atomic(AtomicOp::Add), 0x4000, FaultKind::Store),
+            faults(atomic(AtomicOp::Maxu), 0x2001, FaultKind::AtomicAlign),
+        ],
+    )
 }
 
 // An instruction, after which at most one more thread has a reservation.
@@ -491,41 +475,16 @@ fn a_foreign_store_takes_the_reservation(rt: HostRuntime) -> Result<(), Fail> {
     let mut cpu = Cpu::new(PC);
     cpu.write(x(5), 0x2000);
     cpu.write(x(6), 0x42);
-    let loaded = step(
-        &mut cpu,
-        &mut memory,
-        &mut held,
-        Tid::FIRST,
-        atomic(AtomicOp::Lr),
-    );
     let first = Word::of(0x2000);
-    assert_eq!(rt;
-        loaded,
-        Outcome::Went {
-            access: Access::Read { first, count: 1 }
-        }
-    );
+    let reserve = atomic(AtomicOp::Lr);
+    let loaded = step(&mut cpu, &mut memory, &mut held, Tid::FIRST, reserve);
+    assert_eq!(rt; loaded, went(Access::Read { first, count: 1 }));
     let mut foreign = cpu;
-    let stored = step(
-        &mut foreign,
-        &mut memory,
-        &mut held,
-        other,
-        store(StoreKind::Sb, 3),
-    );
-    assert_eq!(rt;
-        stored,
-        Outcome::Went {
-            access: Access::Write { first, count: 1 }
-        }
-    );
-    let failed = step(
-        &mut cpu,
-        &mut memory,
-        &mut held,
-        Tid::FIRST,
-        atomic(AtomicOp::Sc),
-    );
+    let byte = store(StoreKind::Sb, 3);
+    let stored = step(&mut foreign, &mut memory, &mut held, other, byte);
+    assert_eq!(rt; stored, went(Access::Write { first, count: 1 }));
+    let conditional = atomic(AtomicOp::Sc);
+    let failed = step(&mut cpu, &mut memory, &mut held, Tid::FIRST, conditional);
     assert_eq!(rt; failed, Outcome::WENT);
     assert_eq!(rt; cpu.value(x(7)), 1);
     assert_eq!(rt; memory.load(0x2000, Size::Four), Ok(0x4200_0000));

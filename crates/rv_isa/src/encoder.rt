@@ -55,10 +55,25 @@ pub fn encode(i: Instr) -> Option<u32>
             value,
             order,
         } => atomic(op, rd, base, value, order),
+        Instr::Fence | Instr::FenceI | Instr::Ecall | Instr::Ebreak => fixed_word(i),
+    }
+}
+
+/// The word of an instruction that has no fields.
+#[tactic(auto, using(crate::proofs::Rows::unparted))]
+fn fixed_word(i: Instr) -> Option<u32>
+    ensures decoded { IfSome result (λ word. decoded word ≡ Some i) }
+    ensures fence { i ≡ Instr.Fence → result ≡ Some 0x0FF0000F }
+    ensures fence_i { i ≡ Instr.FenceI → result ≡ Some 0x0000100F }
+    ensures ecall { i ≡ Instr.Ecall → IsSome result }
+    ensures ebreak { i ≡ Instr.Ebreak → IsSome result }
+{
+    match i {
         Instr::Fence => Some(0x0FF0_000F),
         Instr::FenceI => Some(0x0000_100F),
         Instr::Ecall => Some(0x0000_0073),
         Instr::Ebreak => Some(0x0010_0073),
+        _ => None,
     }
 }
 

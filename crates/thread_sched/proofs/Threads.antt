@@ -8,7 +8,7 @@ use Rattle.std.proofs.lemmas.List.Elements.{filter-append}
 use Rattle.std.proofs.lemmas.List.Folds.{list_any-append}
 use Rattle.thread_sched.specs.declared.entry.Entry.{Entry}
 use Rattle.thread_sched.specs.declared.turns.Turn.TheVariants.{Run, Mismatch}
-use Rattle.thread_sched.specs.TurnRule.{Known, able, above, least, lesser, next_line, scheduled}
+use Rattle.thread_sched.specs.TurnRule.{SchedulerState, able, above, least, lesser, next_line, scheduled}
 use Rattle.guest_words.proofs.Found.{nothing, same}
 
 -- the element at a place, behind those before it and before those behind it
@@ -89,18 +89,18 @@ entry_next items read used e is inside here =
     drop_more items used e within ∙ ap (λ x. x ∷ drop (used + 1) items) (ap (λ es. get_or es used e) (sym is) ∙ sym here)
 
 -- the turn by the next entry
-pub by_entry : (k : Known) (tids : List ℕ) (next : ℕ) (e : Entry) (es : List Entry) (can : Bool) → k.entries ≡ e ∷ es → can ≡ list_any (λ tid. eqb tid e.tid) tids
+pub by_entry : (k : SchedulerState) (tids : List ℕ) (next : ℕ) (e : Entry) (es : List Entry) (can : Bool) → k.entries ≡ e ∷ es → can ≡ list_any (λ tid. eqb tid e.tid) tids
     → cond can (Run e.tid e.most) (Mismatch k.line) ≡ scheduled k tids next k.entries
 by_entry k tids next e es can is any = sym (ap (scheduled k tids next) is ∙ ap (λ b. cond b (Run e.tid e.most) (Mismatch k.line)) (sym any))
 
-abbrev known : ℕ → ℕ → ℕ → List Entry → Known
+abbrev known : ℕ → ℕ → ℕ → List Entry → SchedulerState
 known quantum last line entries = record { quantum = quantum; last = last; line = line; entries = entries }
 
 -- what is known behind a turn by an entry
-pub entry_used : (k : Known) (quantum last used tid n : ℕ) (items : List Entry) → known quantum last (used + 1) (drop used items) ≡ k → n ≡ tid → used < length items
+pub entry_used : (k : SchedulerState) (quantum last used tid n : ℕ) (items : List Entry) → known quantum last (used + 1) (drop used items) ≡ k → n ≡ tid → used < length items
     → known quantum n (used + 1 + 1) (drop (used + 1) items) ≡ known k.quantum tid (next_line k.line k.entries) (drop 1 k.entries)
 entry_used k quantum last used tid n items is same_tid inside =
-    subst (λ (j : Known). known quantum n (used + 1 + 1) (drop (used + 1) items) ≡ known j.quantum tid (next_line j.line j.entries) (drop 1 j.entries)) is
+    subst (λ (j : SchedulerState). known quantum n (used + 1 + 1) (drop (used + 1) items) ≡ known j.quantum tid (next_line j.line j.entries) (drop 1 j.entries)) is
     (ap (λ m. known quantum m (used + 1 + 1) (drop (used + 1) items)) same_tid
     ∙ ap (λ l. known quantum tid l (drop (used + 1) items)) (sym (line_more (used + 1) (drop used items) (omega (arith, length-drop used items))))
     ∙ ap (λ es. known quantum tid (next_line (used + 1) (drop used items)) es) (sym (drop-drop 1 used items)))

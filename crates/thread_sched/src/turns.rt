@@ -86,9 +86,9 @@ pub struct Sched {
 
 impl Model for Sched {
     ghost use Rattle.std.specs.Prelude.{◌+◌, ◌≤◌, drop, length};
-    ghost use Rattle.thread_sched.specs.TurnRule.{Known};
+    ghost use Rattle.thread_sched.specs.TurnRule.{SchedulerState};
 
-    ghost Value = { Known };
+    ghost Value = { SchedulerState };
 
     ghost view = { λ s. record { quantum = s.quantum; last = s.last; line = s.used + 1; entries = drop s.used s.entries.items } };
 

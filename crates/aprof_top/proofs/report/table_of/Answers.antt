@@ -3,7 +3,7 @@ use Rattle.std.specs.List.{All}
 use Rattle.std.proofs.lemmas.List.{take_all, take_more}
 use Rattle.std.proofs.lemmas.List.Elements.{All-push}
 use Rattle.trace_model.specs.declared.slow_profile.Done.{Done}
-use Rattle.cost_points.specs.Tally.{tally_of}
+use Rattle.cost_points.specs.Contents.{contents_of}
 use Rattle.aprof_top.proofs.report.table_of.Goals as goal
 
 one_more : (done : List Done) (i : ℕ) (d : Done) → i < length done → d ≡ get_or done i d → take (i + 1) done ≡ take i done ++ d ∷ []
@@ -18,7 +18,7 @@ loop-ended-preserved c =
     let i = c.loop-ended.ended-index in
     let ended = c.ended-item.result in
     let inside : i < length done = c.loop-ended-test.true in (
-      c.in_ok-add_ended.ensures.added (take i done) c.loop-ended.invariant.0 ∙ ap tally_of (sym (one_more done i ended inside c.ended-item.is)),
+      c.in_ok-add_ended.ensures.added (take i done) c.loop-ended.invariant.0 ∙ ap contents_of (sym (one_more done i ended inside c.ended-item.is)),
       all_more (λ d. d.size < 2 ^ 64) done i ended inside c.ended-item.is c.loop-ended.invariant.1 c.add_ended.ensures.size,
       all_more (λ d. d.cost < 2 ^ 64) done i ended inside c.ended-item.is c.loop-ended.invariant.2 c.add_ended.ensures.cost,
     )

@@ -4,9 +4,9 @@ use Rattle.demo_guest.proofs.code.code.Goals as goal
 
 pub finish-requires : goal.finish-requires
 finish-requires c = record {
-  accepted = accepted c.args.routines c.in_ok-demo_program.field-0 c.requires c.in_ok-demo_program.ensures.lines c.in_ok-demo_program.ensures.places;
+  accepted = accepted c.args.routines c.in_ok-demo_program.field-0 c.requires c.in_ok-demo_program.ensures.lines c.in_ok-demo_program.ensures.bindings;
 }
 
 pub returns : goal.returns
 returns c = IfOk-weaker c.finish.result _ _ (λ words done.
-    words_are c.args.routines c.in_ok-demo_program.field-0 words c.in_ok-demo_program.ensures.lines c.in_ok-demo_program.ensures.places done) c.finish.ensures.words
+    words_are c.args.routines c.in_ok-demo_program.field-0 words c.in_ok-demo_program.ensures.lines c.in_ok-demo_program.ensures.bindings done) c.finish.ensures.words

@@ -2,7 +2,7 @@ use Rattle.std.proofs.Common.{◌≡◌, ℕ, ◌+◌, ◌*◌, ◌<◌, ◌++�
 use Rattle.std.specs.List.{flat_map, range_with_len}
 use Rattle.std.proofs.lemmas.List.FromFn.{length-range_with_len}
 use Rattle.rv_asm.specs.declared.line.Line.{Line}
-use Rattle.rv_asm.specs.Assembled.{place_of}
+use Rattle.rv_asm.specs.Assembled.{binding_of}
 use Rattle.demo_guest.specs.Guest.{ending}
 use Rattle.demo_guest.specs.Drafts.{call_lines, lines, plain, routine_lines, start_lines, AreRoutines}
 use Rattle.demo_guest.proofs.Labels.{labels_within}
@@ -26,7 +26,7 @@ pub emit_calls-requires-clause-labels : goal.emit_calls-requires-clause-labels
 emit_calls-requires-clause-labels c = λ k d inside.
     (let labels : c.deref.result.now ≡ range_with_len 2 c.args.routines = c.deref.ensures.value ∙ c.in_ok-labels.ensures.labels in
     let within : get_or (range_with_len 2 c.args.routines) k d < 2 + c.args.routines = labels_within c.args.routines k d (subst (λ (ls : List ℕ). k < length ls) labels inside) in
-    omega (arith, within, ap (λ (ls : List ℕ). get_or ls k d) labels, c.in_ok-emit_start.ensures.places.count, c.in_ok-labels.ensures.places))
+    omega (arith, within, ap (λ (ls : List ℕ). get_or ls k d) labels, c.in_ok-emit_start.ensures.bindings.count, c.in_ok-labels.ensures.bindings))
 
 pub emit_ending-requires : goal.emit_ending-requires
 emit_ending-requires c =
@@ -63,16 +63,16 @@ emit_routines-requires-clause-begin c =
       length-append c.emit_calls.new.program.lines (map plain ending),
     )
 
-pub emit_routines-requires-clause-places : goal.emit_routines-requires-clause-places
-emit_routines-requires-clause-places c =
+pub emit_routines-requires-clause-bindings : goal.emit_routines-requires-clause-bindings
+emit_routines-requires-clause-bindings c =
     let labels-2 : c.deref-2.result.now ≡ range_with_len 2 c.args.routines = c.deref-2.ensures.value ∙ c.in_ok-labels.ensures.labels in
     omega (
       arith,
       count c.deref-2.result.now c.args.routines labels-2,
-      ap length c.in_ok-emit_ending.ensures.places,
-      ap length c.in_ok-emit_calls.ensures.places,
-      c.in_ok-emit_start.ensures.places.count,
-      c.in_ok-labels.ensures.places,
+      ap length c.in_ok-emit_ending.ensures.bindings,
+      ap length c.in_ok-emit_calls.ensures.bindings,
+      c.in_ok-emit_start.ensures.bindings.count,
+      c.in_ok-labels.ensures.bindings,
     )
 
 -- the parts one after another are the whole code
@@ -96,12 +96,12 @@ returns-clause-lines c =
     c.emit_ending.new.program.lines c.emit_routines.new.program.lines labels labels-2 c.in_ok-emit_start.ensures.lines
     c.in_ok-emit_calls.ensures.lines c.in_ok-emit_ending.ensures.lines c.in_ok-emit_routines.ensures.lines
 
-pub returns-clause-places : goal.returns-clause-places
-returns-clause-places c =
+pub returns-clause-bindings : goal.returns-clause-bindings
+returns-clause-bindings c =
     let labels-2 : c.deref-2.result.now ≡ range_with_len 2 c.args.routines = c.deref-2.ensures.value ∙ c.in_ok-labels.ensures.labels in
-    let stay : c.emit_ending.new.program.places ≡ c.emit_start.new.program.places = c.in_ok-emit_ending.ensures.places ∙ c.in_ok-emit_calls.ensures.places in
+    let stay : c.emit_ending.new.program.bindings ≡ c.emit_start.new.program.bindings = c.in_ok-emit_ending.ensures.bindings ∙ c.in_ok-emit_calls.ensures.bindings in
     record {
-      main = c.in_ok-emit_routines.ensures.main ∙ ap (λ (p : List (Option ℕ)). place_of p 0) stay ∙ c.in_ok-emit_start.ensures.places.main;
-      worker = c.in_ok-emit_routines.ensures.worker ∙ ap (λ (p : List (Option ℕ)). place_of p 1) stay ∙ c.in_ok-emit_start.ensures.places.worker;
-      bound = subst (λ (m : ℕ). AreRoutines m m c.emit_routines.new.program.places) (count c.deref-2.result.now c.args.routines labels-2) c.in_ok-emit_routines.ensures.bound;
+      main = c.in_ok-emit_routines.ensures.main ∙ ap (λ (p : List (Option ℕ)). binding_of p 0) stay ∙ c.in_ok-emit_start.ensures.bindings.main;
+      worker = c.in_ok-emit_routines.ensures.worker ∙ ap (λ (p : List (Option ℕ)). binding_of p 1) stay ∙ c.in_ok-emit_start.ensures.bindings.worker;
+      bound = subst (λ (m : ℕ). AreRoutines m m c.emit_routines.new.program.bindings) (count c.deref-2.result.now c.args.routines labels-2) c.in_ok-emit_routines.ensures.bound;
     }

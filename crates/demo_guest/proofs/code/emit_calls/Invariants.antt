@@ -8,5 +8,5 @@ abbrev pub invariant-loop-label : goal.invariant-loop-label
 invariant-loop-label l = record {
   lines : l.program.lines ≡ l.initial.program.lines ++ flat_map call_lines (take l.label-index l.labels);
   size : length l.program.lines ≡ length l.initial.program.lines + 2 * l.label-index;
-  places : l.program.places ≡ l.initial.program.places;
+  bindings : l.program.bindings ≡ l.initial.program.bindings;
 }

@@ -19,5 +19,5 @@ loop-k-preserved c =
           ∙ append_assoc c.args.program.now.lines loads (plain (load k) ∷ [])
           ∙ ap (λ (ls : List Line). c.args.program.now.lines ++ ls) (sym (loads_more k));
       size = omega (arith, ap length line, length-append c.loop-k.program.lines (plain (load k) ∷ []), c.loop-k.invariant.size);
-      places = ap (λ (d : Draft). d.places) c.in_ok-emit.ensures.line ∙ c.loop-k.invariant.places;
+      bindings = ap (λ (d : Draft). d.bindings) c.in_ok-emit.ensures.line ∙ c.loop-k.invariant.bindings;
     }

@@ -9,5 +9,5 @@ abbrev pub invariant-loop-k : goal.invariant-loop-k
 invariant-loop-k l = record {
   lines : l.program.lines ≡ l.initial.program.lines ++ map plain (map load (range_with_len 0 l.k));
   size : length l.program.lines ≡ length l.initial.program.lines + l.k;
-  places : l.program.places ≡ l.initial.program.places;
+  bindings : l.program.bindings ≡ l.initial.program.bindings;
 }

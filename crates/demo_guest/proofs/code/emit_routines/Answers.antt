@@ -2,7 +2,7 @@ use Rattle.std.proofs.Common.{◌≡◌, ℕ, ◌+◌, ◌<◌, ◌++◌, length
 use Rattle.std.specs.List.{flat_map, range_with_len}
 use Rattle.rv_asm.specs.Draft.{Draft}
 use Rattle.rv_asm.specs.declared.line.Line.{Line}
-use Rattle.demo_guest.specs.Guest.{routine_place}
+use Rattle.demo_guest.specs.Guest.{routine_start}
 use Rattle.demo_guest.specs.Drafts.{routine_lines}
 use Rattle.demo_guest.proofs.Labels.{label_number, bound_more, first_stays, second_stays, unbound_rest}
 use Rattle.demo_guest.proofs.Lines.{lines_size}
@@ -13,7 +13,7 @@ pub loop-routine-init : goal.loop-routine-init
 loop-routine-init c = record {
   lines = sym (append-nil c.args.program.now.lines);
   size = omega (arith, c.requires.begin, words_none);
-  count = c.requires.places;
+  count = c.requires.bindings;
   bound = λ k h. absurd (omega arith);
   unbound = λ k h. c.requires.unbound k;
   main = refl;
@@ -39,11 +39,11 @@ loop-routine-preserved c =
     let k : ℕ = c.loop-routine.routine in
     let n : ℕ = length c.args.labels.now in
     let is : c.index-labels-routine.result ≡ 2 + k = label_number _ _ _ c.requires.labels c.loop-routine-test.true c.index-labels-routine.is in
-    let inside : 2 + k < length c.loop-routine.program.places = omega (arith, c.loop-routine.invariant.count, c.loop-routine-test.true) in
-    let bound : c.bind.new.program.places ≡ set c.loop-routine.program.places (2 + k) (Some (routine_place n k))
-    = ap (λ (d : Draft). d.places) c.bind.ensures.bound ∙ ap₂ (λ (l : ℕ) (p : ℕ). set c.loop-routine.program.places l (Some p)) is c.loop-routine.invariant.size in
-    let places : c.emit_routine.new.program.places ≡ set c.loop-routine.program.places (2 + k) (Some (routine_place n k))
-    = c.in_ok-emit_routine.ensures.places ∙ bound in
+    let inside : 2 + k < length c.loop-routine.program.bindings = omega (arith, c.loop-routine.invariant.count, c.loop-routine-test.true) in
+    let bound : c.bind.new.program.bindings ≡ set c.loop-routine.program.bindings (2 + k) (Some (routine_start n k))
+    = ap (λ (d : Draft). d.bindings) c.bind.ensures.bound ∙ ap₂ (λ (l : ℕ) (p : ℕ). set c.loop-routine.program.bindings l (Some p)) is c.loop-routine.invariant.size in
+    let bindings : c.emit_routine.new.program.bindings ≡ set c.loop-routine.program.bindings (2 + k) (Some (routine_start n k))
+    = c.in_ok-emit_routine.ensures.bindings ∙ bound in
     let lines : c.emit_routine.new.program.lines ≡ c.loop-routine.program.lines ++ routine_lines k
     = c.in_ok-emit_routine.ensures.lines ∙ ap (λ (d : Draft). d.lines ++ routine_lines k) c.bind.ensures.bound in
     let all : c.emit_routine.new.program.lines ≡ c.args.program.now.lines ++ flat_map routine_lines (range_with_len 0 (k + 1))
@@ -53,9 +53,9 @@ loop-routine-preserved c =
     record {
       lines = all;
       size = omega (arith, ap length lines, length-append c.loop-routine.program.lines (routine_lines k), lines_size k, words_more k, c.loop-routine.invariant.size);
-      count = omega (arith, ap length places, length-set c.loop-routine.program.places (2 + k) (Some (routine_place n k)), c.loop-routine.invariant.count);
-      bound = rw places (bound_more n k c.loop-routine.program.places inside c.loop-routine.invariant.bound);
-      unbound = rw places (unbound_rest n k c.loop-routine.program.places inside c.loop-routine.invariant.unbound);
-      main = rw places (first_stays n k c.loop-routine.program.places inside ∙ c.loop-routine.invariant.main);
-      worker = rw places (second_stays n k c.loop-routine.program.places inside ∙ c.loop-routine.invariant.worker);
+      count = omega (arith, ap length bindings, length-set c.loop-routine.program.bindings (2 + k) (Some (routine_start n k)), c.loop-routine.invariant.count);
+      bound = rw bindings (bound_more n k c.loop-routine.program.bindings inside c.loop-routine.invariant.bound);
+      unbound = rw bindings (unbound_rest n k c.loop-routine.program.bindings inside c.loop-routine.invariant.unbound);
+      main = rw bindings (first_stays n k c.loop-routine.program.bindings inside ∙ c.loop-routine.invariant.main);
+      worker = rw bindings (second_stays n k c.loop-routine.program.bindings inside ∙ c.loop-routine.invariant.worker);
     }

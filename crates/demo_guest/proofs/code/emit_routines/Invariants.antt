@@ -1,7 +1,7 @@
 use Rattle.std.proofs.Common.{◌≡◌, ℕ, ◌+◌, ◌≤◌, ◌++◌, length, None}
 use Rattle.std.specs.List.{flat_map, range_with_len}
-use Rattle.rv_asm.specs.Assembled.{place_of}
-use Rattle.demo_guest.specs.Guest.{routine_place}
+use Rattle.rv_asm.specs.Assembled.{binding_of}
+use Rattle.demo_guest.specs.Guest.{routine_start}
 use Rattle.demo_guest.specs.Drafts.{routine_lines, AreRoutines}
 use Rattle.demo_guest.proofs.code.emit_routines.Given as goal
 
@@ -9,10 +9,10 @@ use Rattle.demo_guest.proofs.code.emit_routines.Given as goal
 abbrev pub invariant-loop-routine : goal.invariant-loop-routine
 invariant-loop-routine l = record {
   lines : l.program.lines ≡ l.initial.program.lines ++ flat_map routine_lines (range_with_len 0 l.routine);
-  size : length l.program.lines ≡ routine_place (length l.labels) l.routine;
-  count : length l.program.places ≡ 2 + length l.labels;
-  bound : AreRoutines (length l.labels) l.routine l.program.places;
-  unbound : (k : ℕ) → l.routine ≤ k → place_of l.program.places (2 + k) ≡ None;
-  main : place_of l.program.places 0 ≡ place_of l.initial.program.places 0;
-  worker : place_of l.program.places 1 ≡ place_of l.initial.program.places 1;
+  size : length l.program.lines ≡ routine_start (length l.labels) l.routine;
+  count : length l.program.bindings ≡ 2 + length l.labels;
+  bound : AreRoutines (length l.labels) l.routine l.program.bindings;
+  unbound : (k : ℕ) → l.routine ≤ k → binding_of l.program.bindings (2 + k) ≡ None;
+  main : binding_of l.program.bindings 0 ≡ binding_of l.initial.program.bindings 0;
+  worker : binding_of l.program.bindings 1 ≡ binding_of l.initial.program.bindings 1;
 }

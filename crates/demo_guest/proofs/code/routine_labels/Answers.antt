@@ -6,11 +6,11 @@ use Rattle.demo_guest.proofs.code.routine_labels.Goals as goal
 
 pub loop-preserved : goal.loop-preserved
 loop-preserved c =
-    let places : c.label.new.program.places ≡ c.loop.program.places ++ None ∷ [] = ap (λ (d : Draft). d.places) c.in_ok-label.ensures.made in
-    let number : c.in_ok-label.field-0 ≡ 2 + c.loop.counter = c.in_ok-label.ensures.number ∙ c.loop.invariant.places in
+    let bindings : c.label.new.program.bindings ≡ c.loop.program.bindings ++ None ∷ [] = ap (λ (d : Draft). d.bindings) c.in_ok-label.ensures.made in
+    let number : c.in_ok-label.field-0 ≡ 2 + c.loop.counter = c.in_ok-label.ensures.number ∙ c.loop.invariant.bindings in
     record {
       labels = c.in_ok-push.ensures.items ∙ ap₂ (λ (ls : List ℕ) (l : ℕ). ls ++ l ∷ []) c.loop.invariant.labels number ∙ sym (range_more 2 c.loop.counter);
       lines = ap (λ (d : Draft). d.lines) c.in_ok-label.ensures.made ∙ c.loop.invariant.lines;
-      places = omega (arith, ap length places, length-append c.loop.program.places (None ∷ []), c.loop.invariant.places);
-      unbound = rw places (none_more c.loop.program.places c.loop.invariant.unbound);
+      bindings = omega (arith, ap length bindings, length-append c.loop.program.bindings (None ∷ []), c.loop.invariant.bindings);
+      unbound = rw bindings (none_more c.loop.program.bindings c.loop.invariant.unbound);
     }

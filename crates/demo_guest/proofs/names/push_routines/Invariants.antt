@@ -1,6 +1,6 @@
 use Rattle.std.proofs.Common.{◌≡◌, ◌++◌, map}
 use Rattle.std.specs.List.{range_with_len}
-use Rattle.demo_guest.specs.Guest.{routine_place}
+use Rattle.demo_guest.specs.Guest.{routine_start}
 use Rattle.demo_guest.specs.Image.{routine_symbol}
 use Rattle.demo_guest.proofs.names.push_routines.Given as goal
 
@@ -8,5 +8,5 @@ use Rattle.demo_guest.proofs.names.push_routines.Given as goal
 abbrev pub invariant-loop-routine : goal.invariant-loop-routine
 invariant-loop-routine l = record {
   symbols : l.symbols.items ≡ l.initial.symbols.items ++ map (routine_symbol l.routines) (range_with_len 0 l.routine);
-  place : l.place ≡ routine_place l.routines l.routine;
+  word : l.word ≡ routine_start l.routines l.routine;
 }

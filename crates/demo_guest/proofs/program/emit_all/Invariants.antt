@@ -6,5 +6,5 @@ use Rattle.demo_guest.proofs.program.emit_all.Given as goal
 abbrev pub invariant-loop-instruction : goal.invariant-loop-instruction
 invariant-loop-instruction l = record {
   lines : l.program.lines ≡ l.initial.program.lines ++ map plain (take l.instruction-index l.instructions);
-  places : l.program.places ≡ l.initial.program.places;
+  bindings : l.program.bindings ≡ l.initial.program.bindings;
 }

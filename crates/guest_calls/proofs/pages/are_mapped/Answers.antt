@@ -1,5 +1,5 @@
 use Rattle.guest_memory.specs.Guest.{memory_of}
-use Rattle.guest_calls.proofs.Places.{mapped_test}
+use Rattle.guest_calls.proofs.Fits.{mapped_test}
 use Rattle.guest_calls.proofs.pages.are_mapped.Goals as goal
 
 pub returns-clause-value : goal.returns-clause-value

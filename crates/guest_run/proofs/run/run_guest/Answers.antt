@@ -13,7 +13,7 @@ use Rattle.guest_run.proofs.run.run_guest.Goals as goal
 
 pub loop-count-init : goal.loop-count-init
 loop-count-init c =
-    let r : Runner = record { traced = c.in_ok-new.field-0; place = c.new-2.result; recorder = c.in_ok-new-2.field-0 } in
+    let r : Runner = record { traced = c.in_ok-new.field-0; turn = c.new-2.result; recorder = c.in_ok-new-2.field-0 } in
     Remains-first c.args.machine c.args.turns c.args.greatest c.args.budget r c.requires.greatest c.in_ok-new.ensures c.new-2.ensures.0 c.new-2.ensures.1 c.in_ok-new-2.ensures.0 c.in_ok-new-2.ensures.1
 
 pub returns-in-Some : goal.returns-in-Some

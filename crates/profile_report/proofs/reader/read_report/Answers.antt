@@ -2,7 +2,7 @@ use Rattle.std.proofs.Common.{◌≡◌, ◌∷◌, length, ap, ◌∙◌, sym, 
 use Rattle.std.specs.Result.{MatchResult, IfErr}
 use Rattle.std.proofs.lemmas.List.{length-append}
 use Rattle.std.proofs.lemmas.Result.{IfErr-weaker, IfOk-weaker, MatchResult-from_both, err_from_is_err_and}
-use Rattle.profile_report.specs.declared.place.Place.TheVariants.{Over}
+use Rattle.profile_report.specs.declared.parse_state.ParseState.TheVariants.{Over}
 use Rattle.profile_report.specs.declared.reader.ReportError.TheVariants as errors
 use Rattle.profile_report.specs.Reading.{IsRefused}
 use Rattle.profile_report.specs.ReportText.{report_text, version_1}
@@ -16,21 +16,21 @@ pub loop-line-preserved : goal.loop-line-preserved
 loop-line-preserved c =
     let parts = c.in-Some.ensures.parts in
     record {
-      behind = behind_more _ _ _ _ _ _ _ c.loop-line.invariant.behind parts.0 parts.1 c.in_ok-place.ensures.ok;
+      behind = behind_more _ _ _ _ _ _ _ c.loop-line.invariant.behind parts.0 parts.1 c.in_ok-state.ensures.ok;
       few = omega (arith, ap length parts.1, length-append c.in-Some.line.now (10 ∷ c.in-Some.after.now), c.loop-line.invariant.few);
     }
 
-pub returns-in_err-place-clause-refused : goal.returns-in_err-place-clause-refused
-returns-in_err-place-clause-refused c =
+pub returns-in_err-state-clause-refused : goal.returns-in_err-state-clause-refused
+returns-in_err-state-clause-refused c =
     let given = err_from_is_err_and c.from_residual.result c.from_residual.ensures.1 in
-    let refused = refused_line _ _ _ _ _ _ _ c.loop-line.invariant.behind c.in-Some.ensures.parts.0 c.in-Some.ensures.parts.1 c.in_err-place.ensures.err in
+    let refused = refused_line _ _ _ _ _ _ _ c.loop-line.invariant.behind c.in-Some.ensures.parts.0 c.in-Some.ensures.parts.1 c.in_err-state.ensures.err in
     subst (λ r. IfErr r (λ e. IsRefused version_1 c.args.text.now e)) (sym given.1) (subst (λ e. IsRefused version_1 c.args.text.now e) (sym given.2) refused)
 
-pub returns-in_err-place-clause-only : goal.returns-in_err-place-clause-only
-returns-in_err-place-clause-only c r valid is =
+pub returns-in_err-state-clause-only : goal.returns-in_err-state-clause-only
+returns-in_err-state-clause-only c r valid is =
     let given = err_from_is_err_and c.from_residual.result c.from_residual.ensures.1 in
     let next = behind_next _ _ _ _ _ _ c.loop-line.invariant.behind (lines_of r) (Over r) (lines_of-fit r valid) (is ∙ sym (lines_of-text r)) (lines_of-lead r valid) c.in-Some.ensures.parts.0 c.in-Some.ensures.parts.1 in
-    let memory = allowed _ _ _ _ next.0 next.1 next.2 next.3 next.4 c.in_err-place.ensures.err in
+    let memory = allowed _ _ _ _ next.0 next.1 next.2 next.3 next.4 c.in_err-state.ensures.err in
     subst (λ q. MatchResult q (λ x. x ≡ r) (λ e. e ≡ errors.Memory)) (sym given.1) (given.2 ∙ memory)
 
 pub returns-clause-only : goal.returns-clause-only

@@ -5,7 +5,7 @@ use Rattle.profile_report.proofs.reader.read_report.Given as goal
 -- The lines before the rest are read, and there are no more of them than bytes.
 abbrev pub invariant-loop-line : goal.invariant-loop-line
 invariant-loop-line l = record {
-  behind : Behind l.text l.number l.place l.rest;
+  behind : Behind l.text l.number l.state l.rest;
   few : l.number + length l.rest ≤ length l.text + 1;
 }
 

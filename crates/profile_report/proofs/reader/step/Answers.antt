@@ -13,7 +13,7 @@ returns-in-Err-NoForm-clause-err c = c.misplaced.ensures c.args.bytes.now (λ li
 pub returns-then-not-may_stand-clause-err : goal.returns-then-not-may_stand-clause-err
 returns-then-not-may_stand-clause-err c = c.misplaced-then-not-may_stand.ensures c.args.bytes.now (λ line fits is.
     let one = MatchResult-at_ok (λ x. x ≡ line) (λ e. e ≡ Memory) _ c.in-Ok.is (c.read_line.ensures.only line fits is) in
-    ap (may_stand c.args.place) (sym one) ∙ sym c.may_stand.ensures ∙ c.if-not-may_stand.true)
+    ap (may_stand c.args.state) (sym one) ∙ sym c.may_stand.ensures ∙ c.if-not-may_stand.true)
 
 pub returns-then-not-rises-clause-err : goal.returns-then-not-rises-clause-err
 returns-then-not-rises-clause-err c = (

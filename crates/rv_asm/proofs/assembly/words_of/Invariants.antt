@@ -8,6 +8,6 @@ use Rattle.rv_asm.proofs.assembly.words_of.Given as goal
 abbrev pub invariant-loop-at : goal.invariant-loop-at
 invariant-loop-at l = record {
   count : length l.words.items ≡ l.at;
-  each : (k : ℕ) → k < l.at → (line : Line) → IsWordOf (instruction_at l.places k (get_or l.lines k line)) (get_or l.words.items k 0);
-  reach : (k : ℕ) → k < l.at → (line : Line) → IsInReach l.places k (get_or l.lines k line);
+  each : (k : ℕ) → k < l.at → (line : Line) → IsWordOf (instruction_at l.bindings k (get_or l.lines k line)) (get_or l.words.items k 0);
+  reach : (k : ℕ) → k < l.at → (line : Line) → IsInReach l.bindings k (get_or l.lines k line);
 }

@@ -5,5 +5,5 @@ use Rattle.rv_asm.proofs.tests.branch_over.Given as goal
 abbrev pub invariant-loop : goal.invariant-loop
 invariant-loop l = record {
   lines : length l.program.lines ≡ 1 + l.counter;
-  label : l.there < length l.program.places;
+  label : l.there < length l.program.bindings;
 }

@@ -1,7 +1,7 @@
 use Rattle.std.proofs.Common.{ap, ◌∙◌, subst}
 use Rattle.std.proofs.Common.{map}
-use Rattle.cost_points.specs.Place.{IsAt, IsGap}
-use Rattle.cost_points.proofs.Tallies.{routine_same, sized_at, sized_gap}
+use Rattle.cost_points.specs.Search.{IsAt, IsInsertionPoint}
+use Rattle.cost_points.proofs.Tables.{routine_same, sized_at, sized_insertion}
 use Rattle.cost_points.proofs.routine.RoutinePoints.add.Goals as goal
 
 pub returns-in-Ok-clause-ok : goal.returns-in-Ok-clause-ok
@@ -14,6 +14,6 @@ returns-in-Ok-clause-ok c members is =
 pub returns-in_ok-insert-in-Err-clause-ok : goal.returns-in_ok-insert-in-Err-clause-ok
 returns-in_ok-insert-in-Err-clause-ok c members is =
     let whole = c.self.view_is in
-    let place = subst (λ ps. IsGap (map (λ p. p.size) ps) c.args.ended.size c.in-Err.at) c.deref.ensures.value c.in-Err.ensures in
+    let place = subst (λ ps. IsInsertionPoint (map (λ p. p.size) ps) c.args.ended.size c.in-Err.at) c.deref.ensures.value c.in-Err.ensures in
     routine_same _ _ _ _ (ap (λ r. r.entry) whole)
-    (c.in_ok-insert-in-Err.ensures.items ∙ sized_gap members c.args.ended c.self.inside.points.items c.in-Err.at c.of_one.result (ap (λ r. r.points) (whole ∙ is)) place c.of_one.ensures)
+    (c.in_ok-insert-in-Err.ensures.items ∙ sized_insertion members c.args.ended c.self.inside.points.items c.in-Err.at c.of_one.result (ap (λ r. r.points) (whole ∙ is)) place c.of_one.ensures)

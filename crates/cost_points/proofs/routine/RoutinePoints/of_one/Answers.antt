@@ -1,6 +1,6 @@
 use Rattle.std.proofs.Common.{[], ◌∷◌, ◌++◌, refl, ap, ◌∙◌, List}
 use Rattle.cost_points.specs.declared.point.Point.{Point}
-use Rattle.cost_points.proofs.Tallies.{routine_same, sized_one}
+use Rattle.cost_points.proofs.Tables.{routine_same, sized_one}
 use Rattle.cost_points.proofs.routine.RoutinePoints.of_one.Goals as goal
 
 pub returns : goal.returns

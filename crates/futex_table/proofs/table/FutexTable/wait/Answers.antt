@@ -1,7 +1,7 @@
 use Rattle.std.proofs.Common.{◌≡◌, ◌<◌, ◌+◌, ap, sym, ◌∙◌, subst, length, arith, false}
 use Rattle.std.proofs.lemmas.List.{length-append}
 use Rattle.futex_table.specs.Once.{IsOnce, waits}
-use Rattle.futex_table.proofs.Parts.{IsOnce-push}
+use Rattle.futex_table.proofs.Partitions.{IsOnce-push}
 use Rattle.futex_table.proofs.table.FutexTable.wait.Goals as goal
 
 pub invariant_of-self : goal.invariant_of-self

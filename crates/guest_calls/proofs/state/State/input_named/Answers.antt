@@ -8,7 +8,7 @@ use Rattle.guest_calls.proofs.state.State.input_named.Goals as goal
 
 pub returns : goal.returns
 returns c =
-    c.place_of.ensures
+    c.index_of.ensures
     ∙ ap₂ (λ (name : List ℕ) (inputs : List Input). position (is_named name) inputs)
     (ap (take c.args.size) c.copy_to.ensures ∙ take_copied (memory_of c.args.memory.now) c.args.path c.args.size _)
     (ap (λ (k : KernelState). k.inputs) c.self.view_is)

@@ -11,7 +11,7 @@ use Rattle.guest_machine.specs.Kept.{Steps, machine_of}
 use Rattle.guest_machine.specs.Parts.{parts_of}
 use Rattle.guest_machine.specs.Sound.{IsSound}
 use Rattle.guest_machine.specs.Step.{after_call, call_of}
-use Rattle.guest_machine.proofs.Places.{cpu_at}
+use Rattle.guest_machine.proofs.HartIndices.{cpu_at}
 use Rattle.guest_machine.proofs.Called.{Steps-called, born_room, sound-called}
 use Rattle.guest_machine.proofs.guest.Guest.call_kernel.Goals as goal
 
@@ -19,7 +19,7 @@ pub apply-requires-clause-born : goal.apply-requires-clause-born
 unfolding machine_of
 apply-requires-clause-born c child cpu is =
     let m = machine_of (parts_of c.args.self.now) in
-    let here = ap (λ (h : Hart). h.cpu) c.index.ensures ∙ cpu_at c.args.self.now.harts.items c.args.tid c.args.place _ c.requires.place in
+    let here = ap (λ (h : Hart). h.cpu) c.index.ensures ∙ cpu_at c.args.self.now.harts.items c.args.tid c.args.index _ c.requires.index in
     let same : call (record { tid = c.args.tid; registers = c.index.result.now.cpu; kernel = m.kernel; memory = m.memory; held = m.held }) ≡ call (call_of m c.args.tid) = ap (λ (r : Registers). call (record { tid = c.args.tid; registers = r; kernel = m.kernel; memory = m.memory; held = m.held })) here in
     let does = c.in-Ok.ensures.call.does in
     born_room m c.args.tid child cpu c.requires.sound (subst IsState (does.state_is ∙ ap (λ r. r.kernel) same) c.in-Ok.ensures.state) (sym (ap (λ r. r.answer) same) ∙ sym does.answered ∙ is)
@@ -28,7 +28,7 @@ pub returns-in-Ok-clause-step : goal.returns-in-Ok-clause-step
 unfolding machine_of
 returns-in-Ok-clause-step c =
     let m = machine_of (parts_of c.args.self.now) in
-    let here = ap (λ (h : Hart). h.cpu) c.index.ensures ∙ cpu_at c.args.self.now.harts.items c.args.tid c.args.place _ c.requires.place in
+    let here = ap (λ (h : Hart). h.cpu) c.index.ensures ∙ cpu_at c.args.self.now.harts.items c.args.tid c.args.index _ c.requires.index in
     let same : call (record { tid = c.args.tid; registers = c.index.result.now.cpu; kernel = m.kernel; memory = m.memory; held = m.held }) ≡ call (call_of m c.args.tid) = ap (λ (r : Registers). call (record { tid = c.args.tid; registers = r; kernel = m.kernel; memory = m.memory; held = m.held })) here in
     let does = c.in-Ok.ensures.call.does in
     subst (λ (r : CallResult). Steps (after_call m c.args.tid r) c.apply.result (parts_of (record { harts = c.apply.new.harts; kernel = c.call.new.self; memory = c.call.new.memory; held = c.call.new.held; entry = c.args.self.now.entry; called = true })) c.args.events.now.list c.apply.new.events.list) same
@@ -38,7 +38,7 @@ pub returns-in-Ok-clause-sound : goal.returns-in-Ok-clause-sound
 unfolding machine_of
 returns-in-Ok-clause-sound c =
     let m = machine_of (parts_of c.args.self.now) in
-    let here = ap (λ (h : Hart). h.cpu) c.index.ensures ∙ cpu_at c.args.self.now.harts.items c.args.tid c.args.place _ c.requires.place in
+    let here = ap (λ (h : Hart). h.cpu) c.index.ensures ∙ cpu_at c.args.self.now.harts.items c.args.tid c.args.index _ c.requires.index in
     let same : call (record { tid = c.args.tid; registers = c.index.result.now.cpu; kernel = m.kernel; memory = m.memory; held = m.held }) ≡ call (call_of m c.args.tid) = ap (λ (r : Registers). call (record { tid = c.args.tid; registers = r; kernel = m.kernel; memory = m.memory; held = m.held })) here in
     let does = c.in-Ok.ensures.call.does in
     let state = subst IsState (does.state_is ∙ ap (λ r. r.kernel) same) c.in-Ok.ensures.state in

@@ -17,9 +17,9 @@ returns-then-is_allowed c =
     let rights : c.page-page.result.0 ≡ (page_of c.args.self.now (c.args.at / 4096)).0 = c.page-page.ensures.rights in
     let long : length c.page-page.result.1.now ≡ length (page_of c.args.self.now (c.args.at / 4096)).1 = ap length bytes in
     let fits : c.args.at % 4096 + byte_count c.args.size ≤ length (page_of c.args.self.now (c.args.at / 4096)).1 = omega (arith, c.if-start-bytes.true, c.bytes.ensures) in
-    let allowed : allows c.args.need (page_of c.args.self.now (c.args.at / 4096)).0 ≡ true = ap (allows c.args.need) (sym rights) ∙ (sym c.is_allowed.ensures ∙ c.if-is_allowed.true) in
+    let allowed : allows c.args.permission (page_of c.args.self.now (c.args.at / 4096)).0 ≡ true = ap (allows c.args.permission) (sym rights) ∙ (sym c.is_allowed.ensures ∙ c.if-is_allowed.true) in
     let number : c.number_from.result ≡ number_from (page_of c.args.self.now (c.args.at / 4096)).1 (c.args.at % 4096) (byte_count c.args.size) = c.number_from.ensures ∙ ap (λ (b : List ℕ). number_from b (c.args.at % 4096) (byte_count c.args.size)) bytes in
-    ap Ok number ∙ sym (loads_within c.args.self.now c.args.need c.args.at (byte_count c.args.size) (omega arith) (some_bytes c.args.size) fits c.page-page.ensures.size allowed)
+    ap Ok number ∙ sym (loads_within c.args.self.now c.args.permission c.args.at (byte_count c.args.size) (omega arith) (some_bytes c.args.size) fits c.page-page.ensures.size allowed)
 
 pub returns-else-is_allowed : goal.returns-else-is_allowed
 returns-else-is_allowed c =
@@ -27,6 +27,6 @@ returns-else-is_allowed c =
     let rights : c.page-page.result.0 ≡ (page_of c.args.self.now (c.args.at / 4096)).0 = c.page-page.ensures.rights in
     let long : length c.page-page.result.1.now ≡ length (page_of c.args.self.now (c.args.at / 4096)).1 = ap length bytes in
     let fits : c.args.at % 4096 + byte_count c.args.size ≤ length (page_of c.args.self.now (c.args.at / 4096)).1 = omega (arith, c.if-start-bytes.true, c.bytes.ensures) in
-    let denied : allows c.args.need (page_of c.args.self.now (c.args.at / 4096)).0 ≡ false = ap (allows c.args.need) (sym rights) ∙ (sym c.is_allowed.ensures ∙ c.if-is_allowed.false) in
-    let refusal : c.denial.result ≡ denial c.args.need = c.denial.ensures in
-    ap Err refusal ∙ sym (loads_refused c.args.self.now c.args.need c.args.at (byte_count c.args.size) (omega arith) (some_bytes c.args.size) fits denied)
+    let denied : allows c.args.permission (page_of c.args.self.now (c.args.at / 4096)).0 ≡ false = ap (allows c.args.permission) (sym rights) ∙ (sym c.is_allowed.ensures ∙ c.if-is_allowed.false) in
+    let refusal : c.denial.result ≡ denial c.args.permission = c.denial.ensures in
+    ap Err refusal ∙ sym (loads_refused c.args.self.now c.args.permission c.args.at (byte_count c.args.size) (omega arith) (some_bytes c.args.size) fits denied)

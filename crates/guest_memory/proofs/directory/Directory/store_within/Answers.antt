@@ -1,6 +1,6 @@
 use Rattle.std.proofs.Common.{◌≡◌, ◌∙◌, sym, ap, length, Option, None}
 use Rattle.guest_memory.specs.declared.refusal.MemError.{MemError}
-use Rattle.guest_memory.specs.declared.refusal.Need.TheVariants.{Write}
+use Rattle.guest_memory.specs.declared.refusal.Permission.TheVariants.{Write}
 use Rattle.guest_memory.specs.Memory.{byte_refusal, unless_refused}
 use Rattle.guest_memory.specs.State.{memory_in}
 use Rattle.guest_memory.proofs.Accesses.{refusal_within}

@@ -1,6 +1,6 @@
 use Rattle.std.proofs.Common.{◌∙◌, sym, length}
 use Rattle.guest_memory.specs.State.{memory_in}
-use Rattle.guest_memory.specs.declared.refusal.Need.TheVariants.{Write}
+use Rattle.guest_memory.specs.declared.refusal.Permission.TheVariants.{Write}
 use Rattle.guest_memory.specs.Guest.{memory_of}
 use Rattle.guest_memory.proofs.Accesses.{refusal_mapped}
 use Rattle.guest_memory.proofs.memory.GuestMemory.copy_in.Goals as goal

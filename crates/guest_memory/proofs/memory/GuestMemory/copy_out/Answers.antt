@@ -1,6 +1,6 @@
 use Rattle.std.proofs.Common.{◌∙◌, sym, length}
 use Rattle.guest_memory.specs.State.{memory_in}
-use Rattle.guest_memory.specs.declared.refusal.Need.TheVariants.{Read}
+use Rattle.guest_memory.specs.declared.refusal.Permission.TheVariants.{Read}
 use Rattle.guest_memory.specs.Guest.{memory_of}
 use Rattle.guest_memory.proofs.Accesses.{refusal_mapped}
 use Rattle.guest_memory.proofs.memory.GuestMemory.copy_out.Goals as goal

@@ -8,4 +8,4 @@ pub returns : goal.returns
 unfolding reserved_by
 returns c =
     let old = c.args.self.now in
-    ap held_in c.lose.ensures ∙ forgotten (take old.count old.holders) c.args.tid old.distinct
+    ap held_in c.invalidate.ensures ∙ forgotten (take old.count old.holders) c.args.tid old.distinct

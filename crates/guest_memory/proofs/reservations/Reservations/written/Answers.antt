@@ -8,4 +8,4 @@ pub returns : goal.returns
 unfolding reserved_by
 returns c =
     let old = c.args.self.now in
-    ap held_in c.lose.ensures ∙ after_loss (take old.count old.holders) c.args.by c.args.first c.args.count old.distinct
+    ap held_in c.invalidate.ensures ∙ after_loss (take old.count old.holders) c.args.by c.args.first c.args.count old.distinct

@@ -46,5 +46,5 @@ returns c =
     let most : c.keep_output.new.self.depth.greatest ≡ old.depth.greatest = ap (λ (d : Depth). d.greatest) kept.depth_is in
     let found = subst (λ (es : List Event). Found c.follow.new.depth c.keep_output.new.self.depth.greatest c.in_ok-end.field-0 es) (c.list.ensures ∙ same) c.in_ok-end.ensures.told in
     let here = subst (λ (o : Option ℕ). Found c.follow.new.depth c.keep_output.new.self.depth.greatest o all) c.in_default.is found in
-    Adds-whole r c.args.tid c.in_ok-stepped.stepped old mid c.keep_output.new.self all is c.pace_of.result last refl refl refl same
-    (c.follow.ensures.greatest ∙ most) here c.pace_of.ensures
+    Adds-whole r c.args.tid c.in_ok-stepped.stepped old mid c.keep_output.new.self all is c.turn_status_of.result last refl refl refl same
+    (c.follow.ensures.greatest ∙ most) here c.turn_status_of.ensures

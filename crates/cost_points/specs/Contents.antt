@@ -1,0 +1,21 @@
+-- What a table of points holds.
+use Rattle.std.specs.Prelude.{◌≡◌, ℕ, ◌<◌, ◌^◌, List, length}
+use Rattle.std.specs.List.{All}
+use Rattle.trace_model.specs.declared.slow_profile.Done.{Done}
+use Rattle.cost_points.specs.Points.{Routine, points}
+
+-- How many activations were added, and the routines of these.
+pub record TableContents : Type 0 where
+  pub members : ℕ
+  pub routines : List Routine
+
+-- the contents of a list of ended activations
+abbrev pub contents_of : List Done → TableContents
+contents_of added = record { members = length added; routines = points added }
+
+-- The contents are those of some list, of activations whose costs are numbers of 64 bits.
+pub record IsContents (t : TableContents) : Type 0 where
+  pub added : List Done
+  pub members : t.members ≡ length added
+  pub routines : t.routines ≡ points added
+  pub costs : All (λ d. d.cost < 2 ^ 64) added

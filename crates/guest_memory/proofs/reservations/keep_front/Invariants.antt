@@ -1,7 +1,0 @@
-use Rattle.std.proofs.lemmas.List.Filters.{FiltersInPlace}
-use Rattle.std.proofs.Common.{not}
-use Rattle.guest_memory.specs.Holders.{is_lost}
-use Rattle.guest_memory.proofs.reservations.keep_front.Given as goal
-
-abbrev pub invariant-loop-place : goal.invariant-loop-place
-invariant-loop-place l = FiltersInPlace (λ h. not (is_lost l.loss h)) l.initial.holders l.holders l.kept l.place

@@ -1,0 +1,182 @@
+//! How far a report has been read.
+ghost use Rattle.std.specs.Prelude.{◌≡◌, [], ◌∷◌, ◌++◌, IfOk};
+ghost use Rattle.profile_report.specs.Grammar.{closed, count_of, has_points, is_above, last_entry, last_size, may_stand, next, rises};
+
+use crate::line::Line;
+use crate::{Report, Routine};
+use cost_points::Point;
+use guest_words::{Addr, Finish, Name};
+use std::alloc::{AllocError, Global};
+
+/// What the lines so far said, named for the line that comes next.
+#[derive(Drop)]
+pub enum ParseState {
+    /// The version comes next.
+    AtVersion,
+    /// How the run ended comes next.
+    AtEnd,
+    /// The number of instructions comes next.
+    AtSteps(Finish),
+    /// The number of open activations comes next.
+    AtOpen(Finish, u64),
+    /// Routines and their points come, or the end: the routines that are whole, and the one that began last.
+    AtRoutines(Report, Option<Routine>),
+    /// Nothing comes.
+    Over(Report),
+}
+
+/// Whether the routine that began last has a point, where one began.
+fn has_points(begun: &Option<Routine>) -> bool
+    ensures { result ≡ has_points begun.now }
+{
+    match begun {
+        Some(routine) => !routine.points.is_empty(),
+        None => true,
+    }
+}
+
+/// The number of routines, with the one that began last.
+fn count_of(report: &Report, begun: &Option<Routine>) -> u64
+    ensures { result ≡ count_of report.now begun.now }
+{
+    let whole = report.routines.len() as u64;
+    match begun {
+        Some(_) => whole + 1,
+        None => whole,
+    }
+}
+
+/// Whether a line may come in a state, apart from its order.
+pub fn may_stand(state: &ParseState, line: &Line) -> bool
+    ensures { result ≡ may_stand state.now line.now }
+{
+    match (state, line) {
+        (ParseState::AtVersion, Line::First) => true,
+        (ParseState::AtEnd, Line::End(_)) => true,
+        (ParseState::AtSteps(_), Line::Steps(_)) => true,
+        (ParseState::AtOpen(_, _), Line::Open(_)) => true,
+        (ParseState::AtRoutines(_, begun), Line::OfRoutine(_, _)) => has_points(begun),
+        (ParseState::AtRoutines(_, begun), Line::OfPoint(_)) => begun.is_some(),
+        (ParseState::AtRoutines(report, begun), Line::Done(routines)) => {
+            has_points(begun) && *routines == count_of(report, begun)
+        }
+        _ => false,
+    }
+}
+
+/// The entry of the routine that began last, where one began.
+fn last_entry(begun: &Option<Routine>) -> Option<u64>
+    ensures { result ≡ last_entry begun.now }
+{
+    match begun {
+        Some(routine) => Some(u64::from(routine.entry)),
+        None => None,
+    }
+}
+
+/// The last size of the routine that began last, where it has a point.
+fn last_size(begun: &Option<Routine>) -> Option<u64>
+    ensures { result ≡ last_size begun.now }
+{
+    match begun {
+        Some(routine) => match routine.points.last() {
+            Some(point) => Some(point.size),
+            None => None,
+        },
+        None => None,
+    }
+}
+
+/// Whether a number is above the last one, where there is one.
+fn is_above(last: Option<u64>, number: u64) -> bool
+    ensures { result ≡ is_above last number }
+{
+    match last {
+        Some(last) => last < number,
+        None => true,
+    }
+}
+
+/// Whether a line keeps the order: entries rise, and sizes rise within a routine.
+pub fn rises(state: &ParseState, line: &Line) -> bool
+    ensures { result ≡ rises state.now line.now }
+{
+    match (state, line) {
+        (ParseState::AtRoutines(_, begun), Line::OfRoutine(entry, _)) => {
+            is_above(last_entry(begun), u64::from(*entry))
+        }
+        (ParseState::AtRoutines(_, begun), Line::OfPoint(point)) => is_above(
+            last_size(begun),
+            point.size,
+        ),
+        _ => true,
+    }
+}
+
+/// The report with the routine that began last, where one began.
+fn closed(mut report: Report, begun: Option<Routine>) -> Result<Report, AllocError>
+    ensures { IfOk result (λ r. r ≡ closed report begun) }
+{
+    if let Some(routine) = begun {
+        report.routines.push(routine)?;
+    }
+    Ok(report)
+}
+
+/// A report that has no routine yet.
+fn without_routines(alloc: Global, finish: Finish, steps: u64, pending: u64) -> Report
+    ensures { result ≡ record { finish = finish; steps = steps; pending = pending; routines = [] } }
+{
+    Report {
+        finish,
+        steps,
+        pending,
+        routines: Vec::new(alloc),
+    }
+}
+
+/// A routine that has no point yet.
+fn without_points(alloc: Global, entry: Addr, name: Option<Name>) -> Routine
+    ensures { result ≡ record { entry = entry; name = name; points = [] } }
+{
+    Routine {
+        entry,
+        name,
+        points: Vec::new(alloc),
+    }
+}
+
+/// The routine with one more point.
+fn with_point(mut routine: Routine, point: Point) -> Result<Routine, AllocError>
+    ensures { IfOk result (λ r. r ≡ record routine { points = routine.points ++ point ∷ [] }) }
+{
+    routine.points.push(point)?;
+    Ok(routine)
+}
+
+/// The state behind a line that may come in this one.
+pub fn next(alloc: Global, state: ParseState, line: Line) -> Result<ParseState, AllocError>
+    ensures { IfOk result (λ p. p ≡ next state line) }
+{
+    match (state, line) {
+        (ParseState::AtVersion, Line::First) => Ok(ParseState::AtEnd),
+        (ParseState::AtEnd, Line::End(finish)) => Ok(ParseState::AtSteps(finish)),
+        (ParseState::AtSteps(finish), Line::Steps(steps)) => Ok(ParseState::AtOpen(finish, steps)),
+        (ParseState::AtOpen(finish, steps), Line::Open(pending)) => {
+            let report = without_routines(alloc, finish, steps, pending);
+            Ok(ParseState::AtRoutines(report, None))
+        }
+        (ParseState::AtRoutines(report, begun), Line::OfRoutine(entry, name)) => {
+            let report = closed(report, begun)?;
+            Ok(ParseState::AtRoutines(report, Some(without_points(alloc, entry, name))))
+        }
+        (ParseState::AtRoutines(report, begun), Line::OfPoint(point)) => match begun {
+            Some(routine) => Ok(ParseState::AtRoutines(report, Some(with_point(routine, point)?))),
+            None => Ok(ParseState::AtRoutines(report, None)),
+        },
+        (ParseState::AtRoutines(report, begun), Line::Done(_)) => Ok(ParseState::Over(closed(
+            report, begun,
+        )?)),
+        (state, _) => Ok(state),
+    }
+}
