@@ -5,6 +5,7 @@ use guest_calls::Inputs;
 use guest_machine::Machine;
 use guest_words::{FaultKind, Finish, Tid};
 use std::alloc::Global;
+use std::process::Abort;
 use std::test::Fail;
 use thread_sched::{Sched, Schedule};
 
@@ -68,32 +69,39 @@ fn nested(first: u32) -> [u32; 13] {
 // How a run ends, its steps, the activations that are open at its end, and its recording.
 type Outcome<'a> = (Finish, u64, u64, &'a str);
 
-fn assert_ends(rt: HostRuntime, code: &[u32], schedule: &str, end: Outcome) -> Result<(), Fail> {
+fn assert_ends(
+    rt: &impl Abort,
+    alloc: Global,
+    code: &[u32],
+    schedule: &str,
+    end: Outcome,
+) -> Result<(), Fail> {
     let (finish, steps, pending, recording) = end;
-    let run = run_of(rt.alloc(), code, schedule)?;
+    let run = run_of(alloc, code, schedule)?;
     assert_eq!(rt; run.finish, finish);
     assert_eq!(rt; run.steps, steps);
     assert_eq!(rt; run.pending, pending);
-    assert_eq!(rt; run.recording.text(rt.alloc())?.as_slice(), recording.as_bytes());
+    assert_eq!(rt; run.recording.text(alloc)?.as_slice(), recording.as_bytes());
     Ok(())
 }
 
 #[test]
 fn each_run_ends_by_its_cause(rt: HostRuntime) -> Result<(), Fail> {
+    let alloc = rt.alloc();
     // addi x17,x0,93; addi x10,x0,0; ecall
     let exits = [0x05d0_0893, 0x513, 0x73];
     let exit = Finish::Exit { status: 0 };
-    assert_ends(rt, &exits, "", (exit, 3, 0, "1 3\n"))?;
+    assert_ends(&rt, alloc, &exits, "", (exit, 3, 0, "1 3\n"))?;
     // ebreak
     let fault = Finish::Fault {
         kind: FaultKind::Break,
         tid: Tid::FIRST,
         at: 0x10054,
     };
-    assert_ends(rt, &[0x0010_0073], "", (fault, 0, 1, "1 1\n"))?;
+    assert_ends(&rt, alloc, &[0x0010_0073], "", (fault, 0, 1, "1 1\n"))?;
     // a futex wait at 0x10000 for the word that stands there
     let waits = [0x0001_0537, 0x0005_2603, 0x593, 0x693, 0x1a60_0893, 0x73];
-    assert_ends(rt, &waits, "", (Finish::Deadlock, 6, 1, "1 3\n1 3\n"))?;
+    assert_ends(&rt, alloc, &waits, "", (Finish::Deadlock, 6, 1, "1 3\n1 3\n"))?;
     runs_replay();
     runs_stay_within();
     Ok(())
@@ -101,29 +109,31 @@ fn each_run_ends_by_its_cause(rt: HostRuntime) -> Result<(), Fail> {
 
 #[test]
 fn a_schedule_gives_the_turns(rt: HostRuntime) -> Result<(), Fail> {
+    let alloc = rt.alloc();
     // jal x0,0: a first turn of 999 steps; and an entry of a thread that does not live
     let loops = [0x6f];
     let budget = (Finish::Budget, 1000, 1, "1 999\n1 1\n");
-    assert_ends(rt, &loops, "1 999\n", budget)?;
+    assert_ends(&rt, alloc, &loops, "1 999\n", budget)?;
     let mismatch = (Finish::Schedule { line: 2 }, 2, 1, "1 2\n");
-    assert_ends(rt, &loops, "1 2\n2 5\n", mismatch)?;
+    assert_ends(&rt, alloc, &loops, "1 2\n2 5\n", mismatch)?;
     // a turn ends early where its thread yields: addi x17,x0,124; ecall; jal x0,0
     let yields = [0x07c0_0893, 0x73, 0x6f];
     let early = (Finish::Budget, 1000, 1, "1 2\n1 998\n");
-    assert_ends(rt, &yields, "1 5\n1 998\n", early)
+    assert_ends(&rt, alloc, &yields, "1 5\n1 998\n", early)
 }
 
 // With stamps of eight bits at most 84 activations are open at once.
 #[test]
 fn one_activation_more_is_too_deep(rt: HostRuntime) -> Result<(), Fail> {
+    let alloc = rt.alloc();
     // jal x1,0: each of them is a call
-    assert_ends(rt, &[0xef], "1 84\n", (Finish::Deep, 84, 84, "1 84\n"))?;
+    assert_ends(&rt, alloc, &[0xef], "1 84\n", (Finish::Deep, 84, 84, "1 84\n"))?;
     // the routine calls itself up to 83 open activations of it, and up to one more
     let exit = Finish::Exit { status: 0 };
     let within = nested(0x0530_0513);
-    assert_ends(rt, &within, "1 1000\n", (exit, 668, 0, "1 668\n"))?;
+    assert_ends(&rt, alloc, &within, "1 1000\n", (exit, 668, 0, "1 668\n"))?;
     let deeper = nested(0x0540_0513);
-    assert_ends(rt, &deeper, "1 1000\n", (Finish::Deep, 417, 84, "1 417\n"))
+    assert_ends(&rt, alloc, &deeper, "1 1000\n", (Finish::Deep, 417, 84, "1 417\n"))
 }
 
 #[test]

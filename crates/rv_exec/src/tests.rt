@@ -7,6 +7,8 @@ use super::*;
 use guest_memory::{GuestMemory, MemError, Reservations, Size};
 use guest_words::{Addr, FaultKind, Rights, Tid, Word};
 use rv_isa::{AtomicOp, ImmOp, Instr, LoadKind, Reg, RegOp, StoreKind, Test};
+use std::alloc::Global;
+use std::process::Abort;
 use std::test::Fail;
 
 // Where the instruction stands.
@@ -249,8 +251,8 @@ fn shown(memory: &mut GuestMemory, row: Row) -> Result<Row, MemError> {
 
 // All that each instruction of the rows does. The pages 0 to 2 can be read and written, page 3 only read and page 4 only
 // written.
-fn assert_all(rt: HostRuntime, rows: &[Row]) -> Result<(), Fail> {
-    let mut memory = GuestMemory::new(rt.alloc())?;
+fn assert_all(rt: &impl Abort, alloc: Global, rows: &[Row]) -> Result<(), Fail> {
+    let mut memory = GuestMemory::new(alloc)?;
     assert!(rt; memory.is_free(0, 5));
     let rights = |read, write| Rights {
         read,
@@ -271,7 +273,8 @@ fn assert_all(rt: HostRuntime, rows: &[Row]) -> Result<(), Fail> {
 #[test]
 fn jumps_and_upper_immediates(rt: HostRuntime) -> Result<(), Fail> {
     assert_all(
-        rt,
+        &rt,
+        rt.alloc(),
         &[
             gives(lui(x(7), 0x80000), 0, 0, 0x8000_0000),
             gives(auipc(x(7), 0xFFFFF), 0, 0, 0xF000),
@@ -287,7 +290,8 @@ fn jumps_and_upper_immediates(rt: HostRuntime) -> Result<(), Fail> {
 #[test]
 fn branches(rt: HostRuntime) -> Result<(), Fail> {
     assert_all(
-        rt,
+        &rt,
+        rt.alloc(),
         &[
             goes(branch(Test::Eq, 36), 5, 5, X7, PC + 36),
             goes(branch(Test::Eq, 2), 5, 6, X7, PC + 4),
@@ -304,7 +308,8 @@ fn branches(rt: HostRuntime) -> Result<(), Fail> {
 #[test]
 fn operations_on_an_immediate(rt: HostRuntime) -> Result<(), Fail> {
     assert_all(
-        rt,
+        &rt,
+        rt.alloc(),
         &[
             gives(with_immediate(ImmOp::Addi, -2), 1, 0, 0xFFFF_FFFF),
             gives(with_immediate(ImmOp::Slti, 0), 0xFFFF_FFFF, 0, 1),
@@ -322,7 +327,8 @@ fn operations_on_an_immediate(rt: HostRuntime) -> Result<(), Fail> {
 #[test]
 fn operations_of_the_base_set(rt: HostRuntime) -> Result<(), Fail> {
     assert_all(
-        rt,
+        &rt,
+        rt.alloc(),
         &[
             gives(on_registers(RegOp::Add), 0xFFFF_FFFF, 2, 1),
             gives(on_registers(RegOp::Sub), 1, 2, 0xFFFF_FFFF),
@@ -341,7 +347,8 @@ fn operations_of_the_base_set(rt: HostRuntime) -> Result<(), Fail> {
 #[test]
 fn multiplications_and_divisions(rt: HostRuntime) -> Result<(), Fail> {
     assert_all(
-        rt,
+        &rt,
+        rt.alloc(),
         &[
             gives(on_registers(RegOp::Mul), 0xFFFF_FFFF, 0xFFFF_FFFF, 1),
             gives(on_registers(RegOp::Mulh), 0xFFFF_FFFF, 0xFFFF_FFFF, 0),
@@ -365,7 +372,8 @@ fn multiplications_and_divisions(rt: HostRuntime) -> Result<(), Fail> {
 #[test]
 fn fences_and_system(rt: HostRuntime) -> Result<(), Fail> {
     assert_all(
-        rt,
+        &rt,
+        rt.alloc(),
         &[
             gives(Instr::Fence, 0, 0, X7),
             gives(Instr::FenceI, 0, 0, X7),
@@ -378,7 +386,8 @@ fn fences_and_system(rt: HostRuntime) -> Result<(), Fail> {
 #[test]
 fn loads(rt: HostRuntime) -> Result<(), Fail> {
     assert_all(
-        rt,
+        &rt,
+        rt.alloc(),
         &[
             reads(load(LoadKind::Lb, -3), 0x2000, 0xFFFF_FF80, 0x1FFD, 1),
             reads(load(LoadKind::Lbu, -3), 0x2000, 0x80, 0x1FFD, 1),
@@ -396,7 +405,8 @@ fn loads(rt: HostRuntime) -> Result<(), Fail> {
 #[test]
 fn stores(rt: HostRuntime) -> Result<(), Fail> {
     assert_all(
-        rt,
+        &rt,
+        rt.alloc(),
         &[
             writes(store(StoreKind::Sb, 3), 0x2000, 0x1234, 0x2000, 1, [0xFFFE_8001, 0x3400_0005]),
             writes(store(StoreKind::Sh, -1), 0x2000, 0x1234, 0x1FFC, 2, [0x34FE_8001, 0x8000_0012]),
@@ -410,7 +420,8 @@ fn stores(rt: HostRuntime) -> Result<(), Fail> {
 #[test]
 fn reservations_and_conditional_stores(rt: HostRuntime) -> Result<(), Fail> {
     assert_all(
-        rt,
+        &rt,
+        rt.alloc(),
         &[
             reads(atomic(AtomicOp::Lr), 0x2000, 0x8000_0005, 0x2000, 1),
             accesses(atomic(AtomicOp::Lr), 0x1FFC, 0, 0xFFFE_8001, Access::Read { first: Word::of(0x1FFC), count: 1, }, WORDS, [false, true]),
@@ -427,7 +438,8 @@ fn reservations_and_conditional_stores(rt: HostRuntime) -> Result<(), Fail> {
 #[test]
 fn read_and_write_at_once(rt: HostRuntime) -> Result<(), Fail> {
     assert_all(
-        rt,
+        &rt,
+        rt.alloc(),
         &[
             modifies(AtomicOp::Swap, 1, 1),
             modifies(AtomicOp::Add, 0x8000_0000, 5),

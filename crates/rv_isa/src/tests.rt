@@ -2,6 +2,7 @@
 ghost use Rattle.std.specs.Prelude.{◌≡◌, ◌<◌};
 
 use super::*;
+use std::process::Abort;
 
 fn x(n: u8) -> Reg
     requires { n < 32 }
@@ -77,7 +78,7 @@ fn atomic(op: AtomicOp, rd: Reg, base: Reg, value: Reg, order: u8) -> Instr {
 }
 
 /// Each word, as the assemblers of GNU and LLVM write it, is the instruction's.
-fn assert_all(rt: HostRuntime, assembled: &[(u32, Instr)]) {
+fn assert_all(rt: &impl Abort, assembled: &[(u32, Instr)]) {
     for (word, instruction) in assembled {
         assert_eq!(rt; decode(*word), Some(*instruction), "at {word}");
         assert_eq!(rt; encode(*instruction), Some(*word), "at {word}");
@@ -87,7 +88,7 @@ fn assert_all(rt: HostRuntime, assembled: &[(u32, Instr)]) {
 #[test]
 fn jumps_and_upper_immediates(rt: HostRuntime) {
     assert_all(
-        rt,
+        &rt,
         &[
             (0x0001_0337, lui(x(6), 16)),
             (0xFFFF_F397, auipc(x(7), 0xF_FFFF)),
@@ -110,7 +111,7 @@ fn jumps_and_upper_immediates(rt: HostRuntime) {
 #[test]
 fn loads_and_stores(rt: HostRuntime) {
     assert_all(
-        rt,
+        &rt,
         &[
             (0x800B_0A83, load(LoadKind::Lb, x(21), x(22), -2048)),
             (0x7FFC_1B83, load(LoadKind::Lh, x(23), x(24), 2047)),
@@ -127,7 +128,7 @@ fn loads_and_stores(rt: HostRuntime) {
 #[test]
 fn operations(rt: HostRuntime) {
     assert_all(
-        rt,
+        &rt,
         &[
             (0xFFF1_8113, with_immediate(ImmOp::Addi, x(2), x(3), -1)),
             (0x8002_A213, with_immediate(ImmOp::Slti, x(4), x(5), -2048)),
@@ -163,7 +164,7 @@ fn operations(rt: HostRuntime) {
 #[test]
 fn atomic_operations(rt: HostRuntime) {
     assert_all(
-        rt,
+        &rt,
         &[
             (0x1003_23AF, atomic(AtomicOp::Lr, x(7), x(6), x(0), 0)),
             (0x1803_242F, atomic(AtomicOp::Sc, x(8), x(6), x(0), 0)),
@@ -183,7 +184,7 @@ fn atomic_operations(rt: HostRuntime) {
 #[test]
 fn fences_and_system(rt: HostRuntime) {
     assert_all(
-        rt,
+        &rt,
         &[
             (0x0FF0_000F, Instr::Fence),
             (0x0000_100F, Instr::FenceI),
