@@ -1,22 +1,16 @@
 -- Threads that are born.
-use Rattle.std.proofs.Common.{◌≡◌, ℕ, ◌<◌, ◌+◌, Bool, true, false, List, [], ◌∷◌, ◌++◌, length, arith, refl, ap, sym, subst, append_assoc, length-append, ◌∙◌}
-use Rattle.std.specs.Prelude.{not, ◌&&◌, ◌||◌, ◌==◌, nat_le}
-use Rattle.std.specs.Int.{w32, to_le_bytes}
+use Rattle.std.proofs.Common.{◌≡◌, ℕ, ◌<◌, ◌+◌, Bool, true, false, List, [], ◌∷◌, ◌++◌, length, arith, sym, subst, length-append, ◌∙◌}
+use Rattle.std.specs.Prelude.{◌==◌, nat_le}
 use Rattle.std.specs.List.{list_any}
 use Rattle.std.proofs.lemmas.Bool.Decides.{nat_tests}
 use Rattle.std.proofs.lemmas.List.Folds.{list_any-append}
 use Rattle.std.proofs.lemmas.Bool.{or_parts}
 use Rattle.guest_memory.specs.Memory.{Memory}
-use Rattle.guest_memory.specs.Reserved.{Reserved}
 use Rattle.rv_exec.specs.Accesses.{can_write}
-use Rattle.trace_model.specs.declared.event_kinds.Event.{Event}
 use Rattle.guest_calls.specs.declared.thread.Thread.{Thread}
 use Rattle.guest_calls.specs.Clone.{is_denied, is_full, with_thread}
 use Rattle.guest_calls.specs.Invariant.{IsState}
 use Rattle.guest_calls.specs.Kernel.{KernelState, is_thread}
-use Rattle.guest_calls.specs.Results.{Guest, fill_event, filled_where}
-use Rattle.guest_calls.proofs.PartLists.{behind}
-use Rattle.guest_calls.proofs.Reach.{writable_kept}
 use Rattle.guest_calls.proofs.Rising.{rises_push}
 use Rattle.guest_calls.proofs.Passed.{asked_reach}
 

@@ -1,6 +1,6 @@
 -- The pages behind the break stay free.
-use Rattle.std.proofs.Common.{◌≡◌, ℕ, zero, suc, ◌<◌, ◌≤◌, ◌+◌, ◌-◌, ◌*◌, ◌/◌, ◌%◌, ◌^◌, Bool, true, false, cond, List, [], ◌∷◌, take, drop, Option, Some, None, arith, refl, ap, sym, subst, ◌∙◌, inl, inr}
-use Rattle.std.specs.Prelude.{not, ◌&&◌, ◌==◌, nat_lt, nat_le, is_some, is_none, unwrap_or}
+use Rattle.std.proofs.Common.{◌≡◌, ℕ, ◌<◌, ◌≤◌, ◌+◌, ◌-◌, ◌*◌, ◌/◌, ◌%◌, ◌^◌, Bool, true, false, cond, List, [], ◌∷◌, take, drop, Option, Some, None, arith, refl, ap, sym, subst, ◌∙◌, inl, inr}
+use Rattle.std.specs.Prelude.{not, ◌==◌, nat_lt, nat_le, is_some, is_none, unwrap_or}
 use Rattle.std.specs.Option.{option_map_or}
 use Rattle.std.proofs.lemmas.Bool.{and_parts, cases_lt, not-false}
 use Rattle.std.proofs.lemmas.Bool.Decides.{nat_tests}
@@ -23,7 +23,6 @@ use Rattle.guest_calls.specs.Kernel.{KernelState}
 use Rattle.guest_calls.specs.Laws.{EveryCallKeepsTheBreakFree}
 use Rattle.guest_calls.specs.Pages.{IsBreakFree, are_mapped, brk, fits_at, first_fit, mmap2, brk_effect, brk_tests, maps, mmap2_tests, mprotect, mprotect_tests, munmap, munmap_tests, pages, remaps, rights_of, unmaps}
 use Rattle.guest_calls.specs.Results.{Call, CallResult, Guest, arg, answers, either, filled, filled_where, changes, first_answer, fills_word, fills_word_where, has, returns, reads, unless, when, word, ◌▷◌}
-use Rattle.guest_calls.specs.Search.{first_passing}
 use Rattle.guest_calls.specs.Table.{always, gettid, table}
 use Rattle.guest_calls.specs.Threads.{clear_tid, exit, exit_group, is_cleared, rt_sigprocmask, sched_yield, set_tid_address, told_end}
 use Rattle.guest_calls.specs.Vectors.{filled_parts, readv, writev}

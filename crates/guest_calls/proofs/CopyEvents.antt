@@ -1,5 +1,5 @@
 -- The events of a call are copies for its thread.
-use Rattle.std.proofs.Common.{◌≡◌, ℕ, zero, suc, ◌≤◌, ◌+◌, ◌-◌, ◌*◌, ◌/◌, ◌^◌, Bool, true, false, cond, List, [], ◌∷◌, ◌++◌, length, take, drop, Option, Some, None, arith, refl, sym, subst}
+use Rattle.std.proofs.Common.{◌≡◌, ℕ, zero, suc, ◌≤◌, ◌+◌, ◌-◌, ◌*◌, ◌/◌, ◌^◌, Bool, true, false, List, [], ◌∷◌, ◌++◌, length, take, drop, Option, Some, None, arith, refl, sym, subst}
 use Rattle.std.specs.Prelude.{not, ◌&&◌, ◌==◌, is_none, min, replicate, unsigned_abs, unwrap_or}
 use Rattle.std.specs.Int.{w64, to_le_bytes}
 use Rattle.std.specs.Option.{option_map_or}
@@ -23,7 +23,6 @@ use Rattle.guest_calls.specs.Kernel.{descriptor, has_others}
 use Rattle.guest_calls.specs.Laws.{AreCopies, EveryCallCopies}
 use Rattle.guest_calls.specs.Pages.{brk, mmap2, mprotect, munmap}
 use Rattle.guest_calls.specs.Results.{Call, CallResult, Guest, answers, arg, either, fill_event, filled, filled_where, fills, fills_word, first_answer, has, read_event, readable, reads, returns, unless, when, word, writable, ◌▷◌, sets, changes, puts, fills_word_where, ◌⇒◌, ◌or◌}
-use Rattle.guest_calls.specs.Search.{first_passing}
 use Rattle.guest_calls.specs.Table.{table}
 use Rattle.guest_calls.specs.Threads.{clear_tid, exit, is_cleared, rt_sigprocmask}
 use Rattle.guest_calls.specs.Vectors.{all_in_reach, filled_parts, read_events, readv, readv_bytes, readv_effect, readv_parts, readv_tests, writev, writev_effect, writev_parts, writev_tests}

@@ -3,11 +3,10 @@ use Rattle.std.proofs.Common.{◌≡◌, ℕ, zero, suc, ◌<◌, ◌≤◌, ◌
 use Rattle.std.specs.Prelude.{not, ◌||◌, ◌==◌}
 use Rattle.std.specs.List.{list_any}
 use Rattle.std.proofs.lemmas.Bool.{and_parts, cases_eq, eq-eqb, or_parts}
-use Rattle.std.proofs.lemmas.Bool.Decides.{nat_tests}
 use Rattle.std.proofs.lemmas.List.Folds.{list_any-append}
 use Rattle.futex_table.specs.declared.waiter.Waiter.{Waiter}
 use Rattle.futex_table.specs.Once.{waits, IsOnce}
-use Rattle.futex_table.specs.Waiting.{all_bits, after_wait, woken, after_wake, shifted, after_requeue, moved_to, waits_at}
+use Rattle.futex_table.specs.Waiting.{all_bits, woken, after_wake, shifted, after_requeue, moved_to, waits_at}
 use Rattle.futex_table.proofs.Partitions.{waits-filter, waits-take}
 use Rattle.guest_calls.specs.declared.thread.Thread.{Thread}
 use Rattle.guest_calls.specs.Invariant.{IsState}

@@ -1,12 +1,11 @@
 -- How much the events of a call weigh.
-use Rattle.std.proofs.Common.{◌≡◌, ℕ, zero, suc, ◌<◌, ◌≤◌, ◌+◌, ◌-◌, ◌*◌, ◌/◌, Bool, true, false, cond, List, [], ◌∷◌, ◌++◌, length, take, drop, Option, Some, None, arith, refl, ap, sym, ◌∙◌}
+use Rattle.std.proofs.Common.{◌≡◌, ℕ, zero, suc, ◌≤◌, ◌+◌, ◌-◌, ◌*◌, ◌/◌, Bool, true, false, List, [], ◌∷◌, ◌++◌, length, take, drop, Option, Some, None, arith, refl, ap, sym, ◌∙◌}
 use Rattle.std.specs.Prelude.{not, ◌==◌, nat_lt, is_none, min, unwrap_or}
 use Rattle.std.specs.Option.{option_map_or}
 use Rattle.std.proofs.lemmas.Bool.Decides.{nat_tests}
 use Rattle.std.proofs.lemmas.List.Sums.{sum_by-cons}
 use Rattle.futex_table.specs.Waiting.{all_bits}
 use Rattle.guest_memory.specs.Memory.{Memory}
-use Rattle.trace_model.specs.declared.event_kinds.Event.{Event}
 use Rattle.trace_model.specs.WellFormed.{weight}
 use Rattle.guest_calls.specs.declared.answer.Answer.TheVariants.{Back}
 use Rattle.guest_calls.specs.declared.operation.Operation.{Operation}
@@ -21,7 +20,6 @@ use Rattle.rv_exec.specs.Accesses.{can_read, can_write}
 use Rattle.guest_calls.specs.Laws.{EveryCallIsLight}
 use Rattle.guest_calls.specs.Pages.{brk, mmap2, mprotect, munmap}
 use Rattle.guest_calls.specs.Results.{Call, CallResult, Guest, answers, arg, either, fill_event, filled, filled_where, fills_word, first_answer, read_event, reads, returns, unless, when, word, ◌▷◌}
-use Rattle.guest_calls.specs.Search.{first_passing}
 use Rattle.guest_calls.specs.Table.{table}
 use Rattle.guest_calls.specs.Threads.{clear_tid, exit, is_cleared, rt_sigprocmask}
 use Rattle.guest_calls.specs.Vectors.{all_in_reach, filled_parts, parts, parts_at, read_events, readv, readv_bytes, readv_effect, readv_parts, readv_tests, table_tests, total, writev, writev_count, writev_effect, writev_parts, writev_tests}

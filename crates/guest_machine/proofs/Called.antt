@@ -1,5 +1,5 @@
 -- What a call of the kernel leaves of a machine.
-use Rattle.std.proofs.Common.{◌≡◌, ℕ, ◌+◌, ◌<◌, ◌%◌, ◌^◌, List, [], ◌∷◌, ◌++◌, length, map, Bool, true, false, not, ap, ap₂, append_assoc, sym, refl, ◌∙◌, arith, None, cond}
+use Rattle.std.proofs.Common.{◌≡◌, ℕ, ◌+◌, ◌<◌, List, [], ◌∷◌, ◌++◌, length, map, Bool, true, false, not, ap, ap₂, append_assoc, sym, refl, ◌∙◌, arith, None, cond}
 use Rattle.std.specs.Prelude.{◌==◌, filter}
 use Rattle.std.proofs.lemmas.List.{length-map, length-append, map-append}
 use Rattle.trace_model.specs.declared.event_kinds.Event.{Event}

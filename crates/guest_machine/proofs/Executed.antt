@@ -1,16 +1,15 @@
 -- What an instruction leaves of a machine.
-use Rattle.std.proofs.Common.{◌≡◌, ℕ, ◌+◌, ◌≤◌, ◌%◌, ◌^◌, List, [], ◌∷◌, ◌++◌, length, Bool, true, false, ap, ap₂, append_assoc, sym, refl, ◌∙◌, subst, arith, inl, inr, Ok, cond}
-use Rattle.std.specs.Prelude.{is_some, nat_eq, None}
+use Rattle.std.proofs.Common.{◌≡◌, ℕ, ◌+◌, ◌%◌, ◌^◌, List, [], ◌∷◌, ◌++◌, true, false, ap, ap₂, append_assoc, sym, refl, ◌∙◌, subst, inl, inr, Ok, cond}
+use Rattle.std.specs.Prelude.{is_some, None}
 use Rattle.std.proofs.lemmas.Bool.{cases_eq}
 use Rattle.std.proofs.lemmas.List.{append-nil}
 use Rattle.trace_model.specs.declared.event_kinds.Event.{Event}
 use Rattle.trace_model.specs.declared.event_kinds.Event.TheVariants.{Step}
 use Rattle.guest_words.specs.declared.endings.FaultKind.{FaultKind}
 use Rattle.rv_isa.specs.declared.instruction.Instr.{Instr}
-use Rattle.rv_isa.specs.declared.instruction.Instr.TheVariants.{Jal, Jalr, Ecall}
-use Rattle.rv_exec.specs.Effects.{ExecState, checked, effect, on_registers}
+use Rattle.rv_isa.specs.declared.instruction.Instr.TheVariants.{Ecall}
+use Rattle.rv_exec.specs.Effects.{ExecState, effect}
 use Rattle.rv_exec.specs.declared.outcome.Access.{Access}
-use Rattle.rv_exec.specs.declared.outcome.Access.TheVariants as access
 use Rattle.rv_exec.specs.declared.outcome.Outcome.{Outcome}
 use Rattle.rv_exec.specs.declared.outcome.Outcome.TheVariants.{Went, KernelCall, Fault}
 use Rattle.rv_exec.specs.Laws.{KeepsUnlessWent}
@@ -18,7 +17,6 @@ use Rattle.rv_exec.proofs.CallerLemmas.{effect_aligned, effect_calls, effect_kep
 use Rattle.guest_calls.specs.Kernel.{lives}
 use Rattle.call_tracker.specs.Links.{kind_of}
 use Rattle.call_tracker.specs.declared.jumps.JumpKind.{JumpKind}
-use Rattle.call_tracker.specs.declared.jumps.JumpKind.TheVariants as jump
 use Rattle.guest_machine.specs.Machine.{MachineState, can_run, with_registers}
 use Rattle.guest_machine.specs.Sound.{IsSound, HoldersLive}
 use Rattle.guest_machine.specs.Kept.{Parts, Steps, machine_of}

@@ -1,5 +1,5 @@
 -- Live threads, and those that have a reservation.
-use Rattle.std.proofs.Common.{◌≡◌, ℕ, ◌<◌, ◌≤◌, suc, List, [], ◌∷◌, length, map, Bool, true, false, not, ◌||◌, ◌&&◌, ap, sym, refl, ◌∙◌, arith, Option, cond}
+use Rattle.std.proofs.Common.{◌≡◌, ℕ, ◌<◌, ◌≤◌, suc, List, [], ◌∷◌, length, map, Bool, true, false, not, ◌||◌, ap, sym, refl, ◌∙◌, arith, Option, cond}
 use Rattle.std.specs.Prelude.{◌==◌, is_some}
 use Rattle.std.specs.List.{Contains, list_any}
 use Rattle.std.proofs.lemmas.Bool.Decides.{nat_tests}
@@ -8,7 +8,6 @@ use Rattle.std.proofs.lemmas.Bool.{and_parts, eqb-true}
 use Rattle.guest_memory.specs.Reserved.{HoldAtMost, without_thread}
 use Rattle.guest_memory.proofs.CallerLemmas.{some_of_rest}
 use Rattle.futex_table.specs.Once.{waits}
-use Rattle.guest_calls.specs.declared.thread.Thread.{Thread}
 use Rattle.guest_calls.specs.Kernel.{lives}
 use Rattle.guest_machine.specs.declared.hart.Hart.{Hart}
 use Rattle.guest_machine.specs.Machine.{MachineState, can_run, without_hart}

@@ -12,7 +12,7 @@ use Rattle.std.proofs.lemmas.Bool.Decides.{nat_tests}
 use Rattle.guest_machine.specs.Setup.{limited_length}
 use Rattle.guest_memory.specs.Memory.{Memory, is_among, with_pages}
 use Rattle.elf_image.specs.Image.{Executable}
-use Rattle.guest_machine.specs.Start.{auxiliary_vector, random_bytes, stack_page, stack_pages, stack_pointer, stack_rights, stack_words, string_addresses, strings, strings_address}
+use Rattle.guest_machine.specs.Start.{auxiliary_vector, stack_page, stack_pages, stack_pointer, stack_rights, stack_words, string_addresses, strings, strings_address}
 
 -- the strings up to one are no longer than all
 within_texts : (texts : List (List ℕ)) (i : ℕ) (d : List ℕ) → i < length texts → length (strings (take i texts)) + length (slice_index_or texts i d) + 1 ≤ length (strings texts)

@@ -196,7 +196,10 @@ impl GuestMemory {
     {
         let first = u64::from(at);
         let count = bytes.len() as u64;
-        match self.directory.first_refusal(Permission::Write, first, count) {
+        match self
+            .directory
+            .first_refusal(Permission::Write, first, count)
+        {
             Some(refusal) => Err(refusal),
             None => {
                 self.directory.write_all(first, bytes);

@@ -88,7 +88,8 @@ impl Invalidation {
     {
         match *self {
             Invalidation::OfThread(holder) => tid == holder,
-            Invalidation::OnWords(by, first, count) => by != Some(tid) && is_among(word, first, count),
+            Invalidation::OnWords(by, first, count) => by != Some(tid)
+                && is_among(word, first, count),
         }
     }
 }

@@ -57,7 +57,12 @@ fn misplaced(state: &ParseState, number: u64) -> ReportError
 }
 
 /// The state behind a line of this number.
-fn step(alloc: Global, state: ParseState, bytes: &[u8], number: u64) -> Result<ParseState, ReportError>
+fn step(
+    alloc: Global,
+    state: ParseState,
+    bytes: &[u8],
+    number: u64,
+) -> Result<ParseState, ReportError>
     ensures ok { IfOk result (λ after. Leads version_1 state bytes.now after) }
     ensures err { IfErr result (λ e. RefusesLine version_1 number state bytes.now e) }
 {

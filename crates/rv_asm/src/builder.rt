@@ -6,7 +6,7 @@ ghost use Rattle.rv_asm.specs.Lines.{is_jump};
 ghost use Rattle.rv_asm.specs.Refusals.{IsAccepted, IsRefused};
 ghost use Rattle.rv_asm.specs.Draft.{empty_draft, with_label, with_line, with_binding};
 
-use crate::assembly::{append, first_unbound, is_encodable, binding_of, words_of};
+use crate::assembly::{append, binding_of, first_unbound, is_encodable, words_of};
 use crate::error::AsmError;
 use crate::line::{Line, is_jump};
 use rv_isa::Instr;

@@ -1,6 +1,6 @@
 -- How far bytes reach, and the words that an instruction accesses.
-use Rattle.std.proofs.Common.{◌≡◌, ℕ, ◌<◌, ◌≤◌, ◌+◌, ◌-◌, ◌/◌, ◌^◌, ◌*◌, ◌&&◌, Bool, true, false, cond, List, Option, Some, None, arith, refl}
-use Rattle.std.specs.Prelude.{◌%◌, nat_eq, nat_lt, is_none}
+use Rattle.std.proofs.Common.{◌≡◌, ℕ, ◌<◌, ◌≤◌, ◌+◌, ◌-◌, ◌/◌, ◌^◌, ◌*◌, ◌&&◌, Bool, true, false, cond, List, Option, None, arith, refl}
+use Rattle.std.specs.Prelude.{◌%◌, nat_eq, nat_lt}
 use Rattle.std.proofs.lemmas.Bool.Decides.{nat_tests}
 use Rattle.std.proofs.lemmas.Bool.{and_parts}
 use Rattle.guest_words.specs.declared.endings.FaultKind.{FaultKind}

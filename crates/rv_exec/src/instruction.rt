@@ -7,7 +7,7 @@ ghost use Rattle.rv_exec.specs.Operations.{is_taken, add_offset};
 
 use crate::atomics::atomic;
 use crate::loads_and_stores::{load, store};
-use crate::operations::{immediate_result, is_taken, add_offset, register_result};
+use crate::operations::{add_offset, immediate_result, is_taken, register_result};
 use crate::{Cpu, Outcome};
 use guest_memory::{GuestMemory, Reservations};
 use guest_words::{FaultKind, Tid};

@@ -151,7 +151,10 @@ fn operations(rt: HostRuntime) {
             (0x0128_F833, on_registers(RegOp::And, x(16), x(17), x(18))),
             (0x0294_03B3, on_registers(RegOp::Mul, x(7), x(8), x(9))),
             (0x035A_19B3, on_registers(RegOp::Mulh, x(19), x(20), x(21))),
-            (0x038B_AB33, on_registers(RegOp::Mulhsu, x(22), x(23), x(24))),
+            (
+                0x038B_AB33,
+                on_registers(RegOp::Mulhsu, x(22), x(23), x(24)),
+            ),
             (0x03BD_3CB3, on_registers(RegOp::Mulhu, x(25), x(26), x(27))),
             (0x03EE_CE33, on_registers(RegOp::Div, x(28), x(29), x(30))),
             (0x0220_DFB3, on_registers(RegOp::Divu, x(31), x(1), x(2))),
