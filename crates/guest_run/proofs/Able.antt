@@ -1,6 +1,6 @@
 -- A thread that went on by its step can run.
 use Rattle.std.proofs.Common.{◌≡◌, ℕ, ◌+◌, Bool, true, false, cond, List, [], ◌∷◌, Option, Some, None, refl, ap, ap₂, ◌∙◌, Ok, Err}
-use Rattle.std.specs.Prelude.{◌*◌, ◌/◌, not, ◌&&◌, ◌||◌, ◌==◌, map, min, take, length, replicate, is_none, unwrap_or, unsigned_abs, Result}
+use Rattle.std.specs.Prelude.{◌*◌, ◌/◌, not, ◌&&◌, ◌||◌, ◌==◌, min, take, length, replicate, is_none, unwrap_or, unsigned_abs, Result}
 use Rattle.std.specs.Int.{w64, to_le_bytes}
 use Rattle.guest_memory.specs.Memory.{bytes_at, with_rights}
 use Rattle.std.specs.List.{list_any}
@@ -20,7 +20,6 @@ use Rattle.guest_calls.specs.declared.descriptor.Descriptor.{Descriptor}
 use Rattle.guest_calls.specs.declared.descriptor.Descriptor.TheVariants.{Closed, StandardInput, Output, InputFile}
 use Rattle.guest_calls.specs.declared.operation.Operation.{Operation}
 use Rattle.guest_calls.specs.declared.operation.Operation.TheVariants.{Wait, Wake, Requeue, CmpRequeue, WaitBitset, WakeBitset}
-use Rattle.guest_calls.specs.declared.thread.Thread.{Thread}
 use Rattle.guest_calls.specs.Errors.{eagain, ebadf, efault, enosys}
 use Rattle.guest_calls.specs.Kernel as kernel
 use Rattle.guest_calls.specs.Kernel.{KernelState, is_thread, lives, has_others, descriptor}
@@ -28,7 +27,7 @@ use Rattle.guest_calls.specs.Results.{Call, CallResult, arg, returns, unless, �
 use Rattle.guest_calls.specs.Files.{advanced, bytes_left, channel, is_closed, is_source, openat_effect, openat_tests, llseek_tests, target, with_position, write_limit}
 use Rattle.guest_calls.specs.Vectors.{readv_tests, readv_bytes, readv_effect, writev_tests, writev_effect}
 use Rattle.guest_calls.specs.Pages.{brk_tests, brk_effect, munmap_tests, unmaps, pages, maps, remaps, rights_of, first_fit, mmap2_tests, mprotect_tests}
-use Rattle.guest_calls.specs.Threads.{exit, rt_sigprocmask, with_clear_tid, status}
+use Rattle.guest_calls.specs.Threads.{exit, rt_sigprocmask, status}
 use Rattle.guest_calls.specs.Clone.{clone_tests, with_thread, child_clear_tid, child_registers, sets_child, sets_parent}
 use Rattle.guest_calls.specs.Futex.{futex_by, futex_tests, futex_at, futex_value, futex_value3, futex_limit, futex_to, operation, performed, waits_for, requeues, count_woken, count_shifted}
 use Rattle.guest_calls.specs.Table.{call, table}

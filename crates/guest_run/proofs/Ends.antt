@@ -15,7 +15,7 @@ use Rattle.guest_run.specs.declared.run.Run.{Run}
 use Rattle.guest_run.specs.declared.run.Runner.{Runner}
 use Rattle.guest_run.specs.Kept.{IsNew, Told}
 use Rattle.guest_run.specs.Machine.{guest}
-use Rattle.guest_run.specs.Going.{GoesOn, Ended, IsGoing, left, shown}
+use Rattle.guest_run.specs.Going.{Ended, IsGoing, left, shown}
 use Rattle.guest_run.specs.CurrentTurn.{recorded, with_present}
 use Rattle.guest_run.specs.Profiled.{first_past, past_after, profiled}
 use Rattle.guest_run.specs.Run.{Move, WrittenRun, Position, bytes_on, current, events_of, recording, run, run_from}

@@ -7,14 +7,14 @@
 
 mod depth;
 mod laws;
-mod turn_status;
 mod run;
 mod traced;
+mod turn_status;
 mod turns;
 
 pub use laws::{runs_replay, runs_stay_within, traces_are_well_formed};
-pub use turn_status::TurnStatus;
 pub use run::{Run, run_guest};
+pub use turn_status::TurnStatus;
 
 #[cfg(test)]
 mod tests;

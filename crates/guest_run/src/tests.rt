@@ -101,7 +101,13 @@ fn each_run_ends_by_its_cause(rt: HostRuntime) -> Result<(), Fail> {
     assert_ends(&rt, alloc, &[0x0010_0073], "", (fault, 0, 1, "1 1\n"))?;
     // a futex wait at 0x10000 for the word that stands there
     let waits = [0x0001_0537, 0x0005_2603, 0x593, 0x693, 0x1a60_0893, 0x73];
-    assert_ends(&rt, alloc, &waits, "", (Finish::Deadlock, 6, 1, "1 3\n1 3\n"))?;
+    assert_ends(
+        &rt,
+        alloc,
+        &waits,
+        "",
+        (Finish::Deadlock, 6, 1, "1 3\n1 3\n"),
+    )?;
     runs_replay();
     runs_stay_within();
     Ok(())
@@ -127,13 +133,25 @@ fn a_schedule_gives_the_turns(rt: HostRuntime) -> Result<(), Fail> {
 fn one_activation_more_is_too_deep(rt: HostRuntime) -> Result<(), Fail> {
     let alloc = rt.alloc();
     // jal x1,0: each of them is a call
-    assert_ends(&rt, alloc, &[0xef], "1 84\n", (Finish::Deep, 84, 84, "1 84\n"))?;
+    assert_ends(
+        &rt,
+        alloc,
+        &[0xef],
+        "1 84\n",
+        (Finish::Deep, 84, 84, "1 84\n"),
+    )?;
     // the routine calls itself up to 83 open activations of it, and up to one more
     let exit = Finish::Exit { status: 0 };
     let within = nested(0x0530_0513);
     assert_ends(&rt, alloc, &within, "1 1000\n", (exit, 668, 0, "1 668\n"))?;
     let deeper = nested(0x0540_0513);
-    assert_ends(&rt, alloc, &deeper, "1 1000\n", (Finish::Deep, 417, 84, "1 417\n"))
+    assert_ends(
+        &rt,
+        alloc,
+        &deeper,
+        "1 1000\n",
+        (Finish::Deep, 417, 84, "1 417\n"),
+    )
 }
 
 #[test]
