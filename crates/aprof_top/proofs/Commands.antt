@@ -20,7 +20,7 @@ use Rattle.aprof_top.specs.Loads.{loaded_of, loaded_paths, passes_limit, shared_
 use Rattle.aprof_top.specs.Outcome.{Follows, IsDemo, IsRun, Outcome, refusal, stage}
 use Rattle.aprof_top.specs.Outcome.Stage.{Complete, Loading, PastLimit}
 use Rattle.aprof_top.specs.Outside.{Outside, outside, with_stores}
-use Rattle.aprof_top.specs.Products.{DemoRuns, FilesRun, LoadsAll}
+use Rattle.aprof_top.specs.Products.{FilesRun, LoadsAll}
 use Rattle.aprof_top.specs.Verdicts.{IsOfRun}
 use Rattle.aprof_top.proofs.Sinks.{Rose-later, append_known-nothing}
 

@@ -1,10 +1,10 @@
 -- The files of a run have one outcome.
-use Rattle.std.proofs.Common.{◌≡◌, ℕ, List, Option, Some, None, refl, sym, ap, ◌∙◌}
+use Rattle.std.proofs.Common.{◌≡◌, ℕ, List, Option, Some, None, sym, ap, ◌∙◌}
 use Rattle.thread_sched.proofs.Read.{never_both, one_bad_line, read_once}
 use Rattle.command_line.specs.Options.{RunOptions}
 use Rattle.elf_image.specs.declared.error.ElfError.{ElfError}
 use Rattle.aprof_top.specs.Loads.{Loaded, loaded_of}
-use Rattle.aprof_top.specs.Outcome.{ByImage, Follows, IsScheduled, Outcome, Stage, scheduled_outcome, stage}
+use Rattle.aprof_top.specs.Outcome.{ByImage, Follows, IsScheduled, Outcome, Stage, scheduled_outcome}
 use Rattle.aprof_top.specs.Outcome.Stage.{PastLimit, Loading, Complete}
 use Rattle.aprof_top.specs.Schedules.{Reading, Reads}
 use Rattle.aprof_top.specs.Schedules.Reading.{Turns, BadLine}

@@ -1,13 +1,10 @@
 -- What the run of a command's files comes to.
-use Rattle.std.proofs.Common.{◌≡◌, ℕ, List, [], Option, Some, None, Err, ◌≤◌, ◌+◌, false, nat_lt, arith, reverse, refl, sym, ap, ap₂, ◌∙◌, subst}
+use Rattle.std.proofs.Common.{◌≡◌, ℕ, List, [], Option, Some, None, Err, ◌≤◌, reverse, refl, sym, ap, ap₂, ◌∙◌, subst}
 use Rattle.std.specs.List.{AllByRecursion}
 use Rattle.command_line.specs.Options.{RunOptions, arguments, inputs}
 use Rattle.elf_image.specs.declared.error.ElfError.{ElfError}
-use Rattle.elf_image.specs.Image.{Executable, page_count}
-use Rattle.guest_calls.specs.Pages.{page_limit}
-use Rattle.guest_machine.specs.Start.{stack_pages}
+use Rattle.elf_image.specs.Image.{Executable}
 use Rattle.demo_guest.specs.Image.{IsDemoFile}
-use Rattle.std.proofs.lemmas.Bool.Decides.{nat_tests}
 use Rattle.elf_image.specs.Reading.{image_of}
 use Rattle.elf_image.specs.Tests.{first_refusal}
 use Rattle.guest_calls.specs.Inputs.{Input}
@@ -34,7 +31,7 @@ use Rattle.aprof_top.specs.declared.loaded.Loaded as kept
 use Rattle.aprof_top.specs.declared.product.Product.{Product}
 use Rattle.aprof_top.specs.Loads.{Loaded, with_inputs}
 use Rattle.aprof_top.specs.Outcome.{ByImage, IsDemo, IsRun, demo_options, demo_outcome, IsScheduled, Outcome, begun_outcome, refusal, run_outcome}
-use Rattle.aprof_top.specs.Products.{DemoRuns, FilesRun, ImageRuns, IsRefused, IsRunOf, RunsTo, outcome_of}
+use Rattle.aprof_top.specs.Products.{FilesRun, ImageRuns, IsRefused, IsRunOf, RunsTo, outcome_of}
 use Rattle.aprof_top.specs.Report.{report_of}
 use Rattle.aprof_top.specs.Summary.{summary_text}
 use Rattle.aprof_top.specs.Run.{first_state, greatest_stamp, run_of, shown_from}

@@ -27,7 +27,7 @@ pub(crate) fn by_place(
     Ok(ordered)
 }
 
-/// Whether two of the segments share a byte. By rising place these are neighbours, if there are any.
+/// Whether two of the segments share a byte. Where any two do, two neighbours by rising place do.
 pub(crate) fn has_overlap(ordered: &[ProgramHeader]) -> bool
     requires loadable { (file_size : ℕ) × All (IsLoadable file_size) ordered.now }
     requires rising { IsNonDecreasingBy (λ h. h.p_vaddr) ordered.now }

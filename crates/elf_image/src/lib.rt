@@ -5,7 +5,7 @@
 #![tactic(auto)]
 
 mod error;
-mod header_tests;
+mod header_checks;
 mod headers;
 mod image;
 mod layout;

@@ -21,7 +21,7 @@ fn goes_before(s: &Symbol, t: &Symbol) -> bool
 }
 
 /// One more symbol, whose value is not below those seen.
-fn add(first: &mut Vec<Symbol>, symbol: Symbol) -> Result<(), AllocError>
+fn merge_symbol(first: &mut Vec<Symbol>, symbol: Symbol) -> Result<(), AllocError>
     ensures { (seen : List Symbol) → AreFirst seen first.old.items → All (λ s. s.value ≤ symbol.value) seen
         → OnOk result (AreFirst (seen ++ symbol ∷ []) first.new.items) }
 {
@@ -54,7 +54,7 @@ pub(crate) fn first_symbols(alloc: Global, symbols: Vec<Symbol>) -> Result<Vec<S
     order_by_value(&mut ordered)?;
     let mut first = Vec::new(alloc);
     for symbol in ordered {
-        add(&mut first, symbol)?;
+        merge_symbol(&mut first, symbol)?;
     }
     Ok(first)
 }

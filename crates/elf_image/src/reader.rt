@@ -4,7 +4,7 @@ ghost use Rattle.elf_image.specs.Image.{name_of};
 ghost use Rattle.elf_image.specs.Reading.{image_of, name_at};
 ghost use Rattle.elf_image.specs.Tests.{first_refusal};
 
-use crate::header_tests::check_header;
+use crate::header_checks::check_header;
 use crate::loading::load;
 use crate::names::first_symbols;
 use crate::segments::{check_segments, header_place};

@@ -12,16 +12,17 @@ use crate::{ElfError, Segment};
 use guest_words::{Addr, Rights};
 use std::alloc::{AllocError, Global};
 
-/// The type of a load segment (PT_LOAD).
-const LOAD: u32 = 1;
+/// The type of a load segment.
+const PT_LOAD: u32 = 1;
 
-/// The type of the name of an interpreter (PT_INTERP).
-const INTERPRETER: u32 = 3;
+/// The type of the segment that names an interpreter.
+const PT_INTERP: u32 = 3;
 
-/// The least address of a segment, and the end of the part of memory that is for segments.
-const LOWEST: u32 = 0x1000;
+/// The least address of a segment.
+const LOWEST_ADDRESS: u32 = 0x1000;
 
-const END: u64 = 0x4000_0000;
+/// The end of the part of memory that is for segments.
+const END_OF_SEGMENTS: u64 = 0x4000_0000;
 
 /// All program headers.
 fn program_headers(
@@ -46,7 +47,7 @@ fn program_headers(
 fn keep_loads(headers: &mut Vec<ProgramHeader>)
     ensures { headers.new.items ≡ filter is_load headers.old.items }
 {
-    headers.retain(|h| h.p_type == LOAD);
+    headers.retain(|h| h.p_type == PT_LOAD);
 }
 
 /// Drops the headers of segments that take no memory.
@@ -60,7 +61,7 @@ fn keep_occupied(headers: &mut Vec<ProgramHeader>)
 fn names_interpreter(headers: &[ProgramHeader]) -> bool
     ensures { result ≡ list_any (λ h. h.p_type == 3) headers.now }
 {
-    headers.iter().any(|h| h.p_type == INTERPRETER)
+    headers.iter().any(|h| h.p_type == PT_INTERP)
 }
 
 /// Whether the file part of a segment is larger than the segment.
@@ -81,7 +82,7 @@ fn is_cut_off(headers: &[ProgramHeader], file_size: usize) -> bool
 fn is_misplaced(headers: &[ProgramHeader]) -> bool
     ensures { result ≡ list_any (λ h. nat_lt h.p_vaddr 0x1000 || nat_lt 0x40000000 (h.p_vaddr + h.p_memsz)) headers.now }
 {
-    headers.iter().any(|h| h.p_vaddr < LOWEST || h.p_vaddr as u64 + h.p_memsz as u64 > END)
+    headers.iter().any(|h| h.p_vaddr < LOWEST_ADDRESS || h.p_vaddr as u64 + h.p_memsz as u64 > END_OF_SEGMENTS)
 }
 
 /// The headers of load segments, where none names an interpreter.

@@ -9,24 +9,26 @@ use crate::headers::{FileHeader, SectionHeader, half_at, word_at};
 use guest_words::{Addr, Name, NameError};
 use std::alloc::{AllocError, Global};
 
-/// The type of symbols of routines (STT_FUNC).
-const FUNCTION: u8 = 2;
+/// The type of symbols of routines.
+const STT_FUNC: u8 = 2;
 
-/// The section index of an undefined symbol (SHN_UNDEF).
-const UNDEFINED: u16 = 0;
+/// The section index of an undefined symbol.
+const SHN_UNDEF: u16 = 0;
 
-/// The type of a symbol table (SHT_SYMTAB) and of a string table (SHT_STRTAB).
-const SYMBOL_TABLE: u32 = 2;
+/// The type of a symbol table.
+const SHT_SYMTAB: u32 = 2;
 
-const STRING_TABLE: u32 = 3;
+/// The type of a string table.
+const SHT_STRTAB: u32 = 3;
 
-/// The sizes of a section header (Elf32_Shdr) and of a symbol (Elf32_Sym).
-const SECTION_SIZE: usize = 40;
+/// The size of a section header (Elf32_Shdr).
+const SECTION_HEADER_SIZE: usize = 40;
 
+/// The size of a symbol (Elf32_Sym).
 const SYMBOL_SIZE: usize = 16;
 
 /// The greatest length of a name.
-const LONGEST: usize = 1024;
+const LONGEST_NAME: usize = 1024;
 
 /// A symbol that counts: its value, the rank of its binding (the lowest goes first), and its name.
 #[derive(Drop)]
@@ -62,7 +64,7 @@ fn name_in(alloc: Global, strings: &[u8], offset: usize) -> Result<Option<Name>,
     if offset >= strings.len() {
         return Ok(None);
     }
-    let end = strings.len().min(offset + LONGEST + 1);
+    let end = strings.len().min(offset + LONGEST_NAME + 1);
     let window = &strings[offset..end];
     match first_zero(window) {
         None => Ok(None),
@@ -94,7 +96,7 @@ fn symbol_at(
     ensures { IfOk result (λ symbol. symbol ≡ symbol_at file.now strings.now at) }
 {
     let info = file[at + 12];
-    if info % 16 != FUNCTION || half_at(file, at + 14) == UNDEFINED {
+    if info % 16 != STT_FUNC || half_at(file, at + 14) == SHN_UNDEF {
         return Ok(None);
     }
     let value = word_at(file, at + 4);
@@ -109,7 +111,7 @@ fn symbol_at(
 }
 
 /// One more symbol, if there is one.
-fn keep(symbols: &mut Vec<Symbol>, symbol: Option<Symbol>) -> Result<(), AllocError>
+fn push_some(symbols: &mut Vec<Symbol>, symbol: Option<Symbol>) -> Result<(), AllocError>
     ensures { OnOk result (symbols.new.items ≡ symbols.old.items ++ cons_option symbol []) }
 {
     if let Some(symbol) = symbol {
@@ -134,7 +136,7 @@ fn symbols_in(
     let mut symbols = Vec::new(alloc);
     for i in 0..table.sh_size as usize / SYMBOL_SIZE {
         let symbol = symbol_at(alloc, file, strings, first + SYMBOL_SIZE * i)?;
-        keep(&mut symbols, symbol)?;
+        push_some(&mut symbols, symbol)?;
     }
     Ok(symbols)
 }
@@ -155,7 +157,7 @@ fn section_header(file: &[u8], header: &FileHeader, i: u32) -> SectionHeader
     requires index { i < header.now.e_shnum }
     ensures { result ≡ section_header file.now i }
 {
-    SectionHeader::at(file, header.e_shoff as usize + SECTION_SIZE * i as usize)
+    SectionHeader::at(file, header.e_shoff as usize + SECTION_HEADER_SIZE * i as usize)
 }
 
 /// Whether section headers are of their size, and all in the file.
@@ -163,8 +165,8 @@ fn has_sections(file: &[u8], header: &FileHeader) -> bool
     requires { header.now ≡ file_header file.now }
     ensures { result ≡ has_sections file.now }
 {
-    let end = header.e_shoff as usize + SECTION_SIZE * header.e_shnum as usize;
-    header.e_shentsize as usize == SECTION_SIZE && end <= file.len()
+    let end = header.e_shoff as usize + SECTION_HEADER_SIZE * header.e_shnum as usize;
+    header.e_shentsize as usize == SECTION_HEADER_SIZE && end <= file.len()
 }
 
 /// The first symbol table.
@@ -177,7 +179,7 @@ fn symbol_table(file: &[u8], header: &FileHeader) -> Option<SectionHeader>
     }
     for i in 0..header.e_shnum as u32 {
         let section = section_header(file, header, i);
-        if section.sh_type == SYMBOL_TABLE {
+        if section.sh_type == SHT_SYMTAB {
             return Some(section);
         }
     }
@@ -201,7 +203,7 @@ fn is_readable(file: &[u8], header: &FileHeader, table: &SectionHeader) -> bool
         return false;
     }
     let strings = section_header(file, header, table.sh_link);
-    strings.sh_type == STRING_TABLE && is_in_file(file, table) && is_in_file(file, &strings)
+    strings.sh_type == SHT_STRTAB && is_in_file(file, table) && is_in_file(file, &strings)
 }
 
 /// The symbols of a file that count: none where its first symbol table can't be read.

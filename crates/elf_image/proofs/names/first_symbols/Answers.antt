@@ -26,7 +26,7 @@ loop-symbol-preserved c =
     record {
       parts = append_assoc at.yielded (x ∷ []) _ ∙ rw (← steps) at.invariant.parts;
       left = let was = at.invariant.left in let gone = c.in-Some.ensures.steps.1 in let short = ap length steps in omega arith;
-      best = c.in_ok-add.ensures at.yielded at.invariant.best below;
+      best = c.in_ok-merge_symbol.ensures at.yielded at.invariant.best below;
     }
 
 pub returns : goal.returns

@@ -3,8 +3,8 @@ use Rattle.std.proofs.lemmas.List.{get_or_read_under}
 use Rattle.elf_image.specs.declared.symbols.Symbol.{Symbol}
 use Rattle.elf_image.specs.Symbols.{goes_before}
 use Rattle.elf_image.proofs.FirstSymbols.{first_kept, first_pushed, first_replaced, no_symbol}
-use Rattle.elf_image.proofs.names.add.Goals.{then-len-eq0-via-then-len-eq0, then-len-eq0-via-else-len-eq0+then-index-symbol}
-use Rattle.elf_image.proofs.names.add.Goals as goal
+use Rattle.elf_image.proofs.names.merge_symbol.Goals.{then-len-eq0-via-then-len-eq0, then-len-eq0-via-else-len-eq0+then-index-symbol}
+use Rattle.elf_image.proofs.names.merge_symbol.Goals as goal
 
 pub returns-then-len-eq0 : goal.returns-then-len-eq0
 returns-then-len-eq0 c = λ seen before below.
