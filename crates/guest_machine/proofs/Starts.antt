@@ -1,8 +1,6 @@
 -- The state at the start.
-use Rattle.std.proofs.Common.{◌≡◌, ℕ, ◌+◌, ◌*◌, ◌/◌, List, [], ◌∷◌, ap, refl, ◌∙◌, arith}
+use Rattle.std.proofs.Common.{◌<◌, ◌%◌, ◌≤◌, ◌≡◌, ℕ, ◌+◌, ◌*◌, ◌/◌, List, [], ◌∷◌, ap, refl, ◌∙◌, arith}
 use Rattle.std.specs.Prelude.{replicate, slice_set}
-use Rattle.std.specs.Int.{div_ceil}
-use Rattle.std.proofs.lemmas.Grind.{div_ceil_times}
 use Rattle.elf_image.specs.Image as elf
 use Rattle.elf_image.specs.Image.{Executable}
 use Rattle.guest_memory.specs.Guest.{memory_of}
@@ -44,8 +42,7 @@ start_sound image texts inputs stdin sound state = record {
 }
 
 -- the greatest end, rounded up to a page
-pub break_is : (segments : List elf.Segment) (end page : ℕ) → end ≡ greatest_end segments → page ≡ div_ceil end 4096 → page * 4096 ≡ first_break segments
-break_is segments end page last is =
-    let bounds = div_ceil_times end 4096 (omega arith) in
-    let rounded : page * 4096 ≡ (end + 4095) / 4096 * 4096 = omega (arith, is, bounds.0, bounds.1) in
+pub break_is : (segments : List elf.Segment) (end top : ℕ) → end ≡ greatest_end segments → end ≤ top → top < end + 4096 → top % 4096 ≡ 0 → top ≡ first_break segments
+break_is segments end top last lower upper multiple =
+    let rounded : top ≡ (end + 4095) / 4096 * 4096 = omega (arith, lower, upper, multiple) in
     rounded ∙ ap (λ e. (e + 4095) / 4096 * 4096) last

@@ -14,7 +14,7 @@ use guest_words::Tid;
 use trace_model::{Event, Events};
 
 /// Lets the threads start, wait or end as the kernel answered the call of one of them.
-pub(crate) fn apply(
+pub(crate) fn apply_answer(
     harts: &mut Vec<Hart>,
     index: usize,
     tid: Tid,

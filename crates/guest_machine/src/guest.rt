@@ -11,8 +11,8 @@ ghost use Rattle.guest_machine.specs.Sound.{IsSound};
 ghost use Rattle.guest_machine.specs.Step.{after_call, call_of, executed, instruction_at, next_instruction, step};
 
 use crate::Stepped;
-use crate::answers::apply;
-use crate::hart::{Hart, index_of, run_at};
+use crate::answers::apply_answer;
+use crate::hart::{Hart, index_of, execute_at};
 use crate::step_events::{add_access, add_jump};
 use call_tracker::kind;
 use guest_calls::Kernel;
@@ -23,11 +23,11 @@ use rv_isa::{Instr, decode};
 use std::alloc::AllocError;
 use trace_model::{Event, Events};
 
-/// An instruction has at most so many events: its step, and then at most two accesses, or a return and a call.
+/// The room for the events of an instruction: its step, and at most two accesses, or a return and a call.
 const EVENTS_OF_AN_INSTRUCTION: usize = 4;
 
 /// A call has its step, at most 1025 copies that the kernel makes, and ends at most 32 threads.
-const EVENTS_OF_A_CALL: usize = 1 + 1025 + 32;
+const EVENTS_OF_A_CALL_STEP: usize = 1 + 1025 + 32;
 
 /// The parts of a machine.
 #[derive(Drop)]
@@ -89,7 +89,7 @@ impl Guest {
     {
         let pc = self.harts[index].cpu.pc;
         let jump = kind(*instruction);
-        let outcome = run_at(
+        let outcome = execute_at(
             &mut self.harts,
             index,
             &mut self.memory,
@@ -129,7 +129,7 @@ impl Guest {
         ensures entry { self.new.entry ≡ self.old.entry }
     {
         let before = events.list().len();
-        events.reserve(EVENTS_OF_A_CALL)?;
+        events.reserve(EVENTS_OF_A_CALL_STEP)?;
         events.push(Event::Step { tid });
         let cpu = self.harts[index].cpu;
         match self
@@ -138,7 +138,7 @@ impl Guest {
         {
             Ok(answer) => {
                 self.called = true;
-                Ok(apply(&mut self.harts, index, tid, answer, events))
+                Ok(apply_answer(&mut self.harts, index, tid, answer, events))
             }
             Err(refused) => {
                 events.truncate(before);

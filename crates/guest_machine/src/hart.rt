@@ -41,7 +41,7 @@ pub(crate) fn index_of(harts: &[Hart], tid: Tid) -> usize
 }
 
 /// Carries out an instruction of the thread at an index.
-pub(crate) fn run_at(
+pub(crate) fn execute_at(
     harts: &mut Vec<Hart>,
     index: usize,
     memory: &mut GuestMemory,

@@ -90,7 +90,7 @@ pub(crate) fn first_guest(
 {
     let first = RANDOM_ADDRESS - text_bytes;
     let pointer = stack_pointer(first, arguments.len());
-    let first_break = greatest_end(image.segments()).div_ceil(4096) * 4096;
+    let first_break = greatest_end(image.segments()).next_multiple_of(4096);
     let memory = start_memory(alloc, image, arguments, first, pointer)?;
     let kernel = Kernel::new(alloc, inputs, stdin, first_break)?;
     let mut harts = Vec::with_capacity(alloc, THREADS)?;

@@ -14,6 +14,15 @@ const STRINGS_LIMIT: usize = 65536;
 /// Where the sixteen bytes stand that stand for random ones.
 pub(crate) const RANDOM_ADDRESS: u32 = 0x7FFF_FFF0;
 
+/// The keys of the auxiliary vector, getauxval(3).
+const AT_NULL: u32 = 0;
+const AT_PHDR: u32 = 3;
+const AT_PHENT: u32 = 4;
+const AT_PHNUM: u32 = 5;
+const AT_PAGESZ: u32 = 6;
+const AT_ENTRY: u32 = 9;
+const AT_RANDOM: u32 = 25;
+
 /// How many bytes the argument strings have with their zero bytes; None where they are more than the limit.
 pub(crate) fn strings_length(arguments: &[String]) -> Option<u32>
     ensures { result ≡ limited_length (map string_bytes arguments.now) }
@@ -93,19 +102,19 @@ pub(crate) fn word_bytes(
     let rest = [
         0,
         0,
-        3,
+        AT_PHDR,
         image.header_place(),
-        4,
+        AT_PHENT,
         32,
-        5,
+        AT_PHNUM,
         image.header_count(),
-        6,
+        AT_PAGESZ,
         4096,
-        9,
+        AT_ENTRY,
         image.entry(),
-        25,
+        AT_RANDOM,
         RANDOM_ADDRESS,
-        0,
+        AT_NULL,
         0,
     ];
     push_words(&mut words, &rest)?;

@@ -49,7 +49,7 @@ fn index_of(alloc: Global, threads: &mut Vec<ThreadCalls>, tid: Tid) -> Result<u
 }
 
 // Takes a thread out.
-fn take_out(threads: &mut Vec<ThreadCalls>, tid: Tid)
+fn remove_thread(threads: &mut Vec<ThreadCalls>, tid: Tid)
     ensures { threads.new.items ≡ filter (λ c. not (c.tid == tid)) threads.old.items }
 {
     threads.retain(|thread| thread.tid != tid);
@@ -89,7 +89,7 @@ impl Depth {
     }
 
     // A return to the target ends some activations.
-    fn returned(&mut self, tid: Tid, target: Addr) -> Result<(), AllocError>
+    fn end_returned(&mut self, tid: Tid, target: Addr) -> Result<(), AllocError>
         ensures backs { OnOk result ((t : ℕ) → backs_of self.new.threads.items t ≡ (if tid == t then drop (count_returned target (backs_of self.old.threads.items tid)) (backs_of self.old.threads.items t) else backs_of self.old.threads.items t)) }
         ensures pending { OnOk result (self.new.pending ≡ self.old.pending - count_returned target (backs_of self.old.threads.items tid)) }
         ensures rest { (self.new.greatest ≡ self.old.greatest) × (self.new.steps ≡ self.old.steps) }
@@ -101,7 +101,7 @@ impl Depth {
     }
 
     // All activations of a thread end, and it is taken out.
-    fn ended(&mut self, tid: Tid) -> Result<(), AllocError>
+    fn end_thread(&mut self, tid: Tid) -> Result<(), AllocError>
         ensures backs { OnOk result ((t : ℕ) → backs_of self.new.threads.items t ≡ (if tid == t then [] else backs_of self.old.threads.items t)) }
         ensures pending { OnOk result (self.new.pending ≡ self.old.pending - length (backs_of self.old.threads.items tid)) }
         ensures rest { (self.new.greatest ≡ self.old.greatest) × (self.new.steps ≡ self.old.steps) }
@@ -109,7 +109,7 @@ impl Depth {
         let index = index_of(self.alloc, &mut self.threads, tid)?;
         let ended = self.threads[index].calls.depth();
         self.pending = self.pending.saturating_sub(ended as u64);
-        take_out(&mut self.threads, tid);
+        remove_thread(&mut self.threads, tid);
         Ok(())
     }
 
@@ -124,11 +124,11 @@ impl Depth {
             Event::Call { tid, entry, back } => self.begin(tid, entry, Some(back)),
             Event::Start { tid, entry } => self.begin(tid, entry, None),
             Event::Ret { tid, target } => {
-                self.returned(tid, target)?;
+                self.end_returned(tid, target)?;
                 Ok(true)
             }
             Event::End { tid } => {
-                self.ended(tid)?;
+                self.end_thread(tid)?;
                 Ok(true)
             }
             Event::Step { .. } => {

@@ -26,7 +26,7 @@ pub(crate) struct Traced {
 }
 
 // Takes the events from an index on, and says where the first of them stands by which an activation is too deep.
-fn follow(depth: &mut Depth, events: &[Event], before: usize) -> Result<Option<usize>, AllocError>
+fn first_too_deep(depth: &mut Depth, events: &[Event], before: usize) -> Result<Option<usize>, AllocError>
     requires before { before ≤ length events.now }
     requires told { Told depth.old (reverse (take before events.now)) }
     ensures told { IfOk result (λ deep. MatchOption deep (Told depth.new (reverse events.now)) (λ i. (i < length events.now) × Told depth.new (reverse (take i events.now)) × (is_within (reverse (take (i + 1) events.now)) depth.old.greatest ≡ false))) }
@@ -53,7 +53,7 @@ impl Traced {
             entry: machine.entry(),
         });
         let mut depth = Depth::new(alloc, greatest);
-        follow(&mut depth, events.list(), 0)?;
+        first_too_deep(&mut depth, events.list(), 0)?;
         Ok(Traced {
             machine,
             events,
@@ -86,7 +86,7 @@ impl Traced {
         let before = self.events.list().len();
         let stepped = self.machine.step(tid, &mut self.events)?;
         self.keep_output()?;
-        if let Some(end) = follow(&mut self.depth, self.events.list(), before)? {
+        if let Some(end) = first_too_deep(&mut self.depth, self.events.list(), before)? {
             self.events.truncate(end);
             return Ok(TurnStatus::Ends {
                 finish: Finish::Deep,

@@ -1,4 +1,4 @@
-use Rattle.std.proofs.Common.{◌≡◌, ◌*◌, ◌∙◌, [], ◌∷◌, ◌++◌, ap, arith, length, map, string_bytes, subst, sym, false}
+use Rattle.std.proofs.Common.{◌≡◌, ◌∙◌, [], ◌∷◌, ◌++◌, ap, arith, length, map, string_bytes, subst, sym, false}
 use Rattle.std.proofs.lemmas.List.{length-map}
 use Rattle.guest_machine.specs.Start.{first_break, greatest_end, stack_pointer}
 use Rattle.guest_calls.specs.Kernel.{Kept, started}
@@ -20,7 +20,8 @@ returns-clause-start c =
     let texts = map string_bytes c.args.arguments.now in
     let counted : length texts ≡ length c.args.arguments.now = length-map c.args.arguments.now string_bytes in
     let pointer : c.stack_pointer-pointer.result ≡ stack_pointer texts = omega (arith, c.stack_pointer-pointer.ensures, c.requires.texts, counted) in
-    let break : c.div_ceil-first_break.result * 4096 ≡ first_break c.args.image.now.segments = break_is c.args.image.now.segments c.greatest_end.result c.div_ceil-first_break.result (c.greatest_end.ensures.value ∙ ap greatest_end c.segments.ensures.same) c.div_ceil-first_break.ensures in
+    let top = c.next_multiple_of-first_break in
+    let break : top.result ≡ first_break c.args.image.now.segments = break_is c.args.image.now.segments c.greatest_end.result top.result (c.greatest_end.ensures.value ∙ ap greatest_end c.segments.ensures.same) top.ensures.lower_bound top.ensures.upper_bound top.ensures.multiple in
     let kernel = c.in_ok-kernel.ensures.started in
     start_is c.args.image.now texts c.args.inputs c.args.stdin.items (parts_of (record { harts = c.push.new.self; kernel = c.in_ok-kernel.kernel; memory = c.in_ok-memory.memory; held = c.new-2.result; entry = c.entry-2.result; called = false }))
     (c.in_ok-push.ensures.items ∙ ap (λ hs. hs ++ c.first_hart.result ∷ []) c.in_ok-harts.ensures.items ∙ only_hart c.first_hart.result _ _ _ _ c.first_hart.ensures c.entry.ensures pointer)
@@ -31,6 +32,7 @@ returns-clause-start c =
 pub returns-clause-sound : goal.returns-clause-sound
 returns-clause-sound c =
     let texts = map string_bytes c.args.arguments.now in
-    let break : c.div_ceil-first_break.result * 4096 ≡ first_break c.args.image.now.segments = break_is c.args.image.now.segments c.greatest_end.result c.div_ceil-first_break.result (c.greatest_end.ensures.value ∙ ap greatest_end c.segments.ensures.same) c.div_ceil-first_break.ensures in
+    let top = c.next_multiple_of-first_break in
+    let break : top.result ≡ first_break c.args.image.now.segments = break_is c.args.image.now.segments c.greatest_end.result top.result (c.greatest_end.ensures.value ∙ ap greatest_end c.segments.ensures.same) top.ensures.lower_bound top.ensures.upper_bound top.ensures.multiple in
     let state = subst IsState (ap (λ (k : Kept). k.state) c.in_ok-kernel.ensures.started ∙ ap (started c.args.inputs c.args.stdin.items) break) c.in_ok-kernel.ensures.state in
     subst IsSound (sym (returns-clause-start c)) (start_sound c.args.image.now texts c.args.inputs c.args.stdin.items c.segments.ensures.sound state)

@@ -15,9 +15,9 @@ use Rattle.guest_machine.proofs.HartIndices.{cpu_at}
 use Rattle.guest_machine.proofs.Called.{Steps-called, born_room, sound-called}
 use Rattle.guest_machine.proofs.guest.Guest.call_kernel.Goals as goal
 
-pub apply-requires-clause-born : goal.apply-requires-clause-born
+pub apply_answer-requires-clause-born : goal.apply_answer-requires-clause-born
 unfolding machine_of
-apply-requires-clause-born c child cpu is =
+apply_answer-requires-clause-born c child cpu is =
     let m = machine_of (parts_of c.args.self.now) in
     let here = ap (λ (h : Hart). h.cpu) c.index.ensures ∙ cpu_at c.args.self.now.harts.items c.args.tid c.args.index _ c.requires.index in
     let same : call (record { tid = c.args.tid; registers = c.index.result.now.cpu; kernel = m.kernel; memory = m.memory; held = m.held }) ≡ call (call_of m c.args.tid) = ap (λ (r : Registers). call (record { tid = c.args.tid; registers = r; kernel = m.kernel; memory = m.memory; held = m.held })) here in
@@ -31,8 +31,8 @@ returns-in-Ok-clause-step c =
     let here = ap (λ (h : Hart). h.cpu) c.index.ensures ∙ cpu_at c.args.self.now.harts.items c.args.tid c.args.index _ c.requires.index in
     let same : call (record { tid = c.args.tid; registers = c.index.result.now.cpu; kernel = m.kernel; memory = m.memory; held = m.held }) ≡ call (call_of m c.args.tid) = ap (λ (r : Registers). call (record { tid = c.args.tid; registers = r; kernel = m.kernel; memory = m.memory; held = m.held })) here in
     let does = c.in-Ok.ensures.call.does in
-    subst (λ (r : CallResult). Steps (after_call m c.args.tid r) c.apply.result (parts_of (record { harts = c.apply.new.harts; kernel = c.call.new.self; memory = c.call.new.memory; held = c.call.new.held; entry = c.args.self.now.entry; called = true })) c.args.events.now.list c.apply.new.events.list) same
-    (Steps-called (parts_of c.args.self.now) (parts_of (record { harts = c.apply.new.harts; kernel = c.call.new.self; memory = c.call.new.memory; held = c.call.new.held; entry = c.args.self.now.entry; called = true })) c.args.tid _ c.in-Ok.answer _ c.args.events.now.list _ _ _ does.answered does.state_is c.in-Ok.ensures.call.out does.memory_is does.held_is c.apply.ensures.harts refl c.apply.ensures.outcome (c.push.ensures.list ∙ ap (λ l. l ++ Step c.args.tid ∷ []) c.in_ok-reserve.ensures.list) does.events c.apply.ensures.events)
+    subst (λ (r : CallResult). Steps (after_call m c.args.tid r) c.apply_answer.result (parts_of (record { harts = c.apply_answer.new.harts; kernel = c.call.new.self; memory = c.call.new.memory; held = c.call.new.held; entry = c.args.self.now.entry; called = true })) c.args.events.now.list c.apply_answer.new.events.list) same
+    (Steps-called (parts_of c.args.self.now) (parts_of (record { harts = c.apply_answer.new.harts; kernel = c.call.new.self; memory = c.call.new.memory; held = c.call.new.held; entry = c.args.self.now.entry; called = true })) c.args.tid _ c.in-Ok.answer _ c.args.events.now.list _ _ _ does.answered does.state_is c.in-Ok.ensures.call.out does.memory_is does.held_is c.apply_answer.ensures.harts refl c.apply_answer.ensures.outcome (c.push.ensures.list ∙ ap (λ l. l ++ Step c.args.tid ∷ []) c.in_ok-reserve.ensures.list) does.events c.apply_answer.ensures.events)
 
 pub returns-in-Ok-clause-sound : goal.returns-in-Ok-clause-sound
 unfolding machine_of
@@ -44,5 +44,5 @@ returns-in-Ok-clause-sound c =
     let state = subst IsState (does.state_is ∙ ap (λ r. r.kernel) same) c.in-Ok.ensures.state in
     let free = subst (λ (k : Memory × ℕ). IsBreakFree k.0 k.1) (ap₂ (λ m b. (m, b)) (does.memory_is ∙ ap (λ r. r.guest.memory) same) (ap (λ k. k.program_break) (does.state_is ∙ ap (λ r. r.kernel) same))) c.in-Ok.ensures.break_free in
     let sound = sound-called m c.args.tid c.requires.sound state free in
-    let steps = Steps-called (parts_of c.args.self.now) (parts_of (record { harts = c.apply.new.harts; kernel = c.call.new.self; memory = c.call.new.memory; held = c.call.new.held; entry = c.args.self.now.entry; called = true })) c.args.tid _ c.in-Ok.answer _ c.args.events.now.list _ _ _ does.answered does.state_is c.in-Ok.ensures.call.out does.memory_is does.held_is c.apply.ensures.harts refl c.apply.ensures.outcome (c.push.ensures.list ∙ ap (λ l. l ++ Step c.args.tid ∷ []) c.in_ok-reserve.ensures.list) does.events c.apply.ensures.events in
+    let steps = Steps-called (parts_of c.args.self.now) (parts_of (record { harts = c.apply_answer.new.harts; kernel = c.call.new.self; memory = c.call.new.memory; held = c.call.new.held; entry = c.args.self.now.entry; called = true })) c.args.tid _ c.in-Ok.answer _ c.args.events.now.list _ _ _ does.answered does.state_is c.in-Ok.ensures.call.out does.memory_is does.held_is c.apply_answer.ensures.harts refl c.apply_answer.ensures.outcome (c.push.ensures.list ∙ ap (λ l. l ++ Step c.args.tid ∷ []) c.in_ok-reserve.ensures.list) does.events c.apply_answer.ensures.events in
     subst IsSound (sym (steps.machine ∙ ap (λ r. (after_call m c.args.tid r).machine) same)) sound

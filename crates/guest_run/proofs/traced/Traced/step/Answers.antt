@@ -21,16 +21,16 @@ returns-in-Some c =
     let kept = c.in_ok-keep_output.ensures in
     let r = step (machine_of old.machine) c.args.tid in
     let mid : Traced = record { machine = c.step.new.self; events = c.step.new.events; out = old.out; err = old.err; depth = old.depth } in
-    let last : Traced = record { machine = c.keep_output.new.self.machine; events = c.truncate.new.self; out = c.keep_output.new.self.out; err = c.keep_output.new.self.err; depth = c.follow.new.depth } in
+    let last : Traced = record { machine = c.keep_output.new.self.machine; events = c.truncate.new.self; out = c.keep_output.new.self.out; err = c.keep_output.new.self.err; depth = c.first_too_deep.new.depth } in
     let all = c.step.new.events.list in
     let same : c.keep_output.new.self.events.list ≡ all = ap (λ (e : EventList). e.list) kept.events in
     let is : IsStepped r c.args.tid c.in_ok-stepped.stepped old mid c.keep_output.new.self all =
     record { steps = c.in_ok-stepped.ensures.step; kept = kept; before_out = refl; before_err = refl; entry = c.step.ensures.entry } in
     let most : c.keep_output.new.self.depth.greatest ≡ old.depth.greatest = ap (λ (d : Depth). d.greatest) kept.depth_is in
-    let found = subst (λ (es : List Event). Found c.follow.new.depth c.keep_output.new.self.depth.greatest c.in_ok-end.field-0 es) (c.list.ensures ∙ same) c.in_ok-end.ensures.told in
-    let here = subst (λ (o : Option ℕ). Found c.follow.new.depth c.keep_output.new.self.depth.greatest o all) c.in-Some.is found in
+    let found = subst (λ (es : List Event). Found c.first_too_deep.new.depth c.keep_output.new.self.depth.greatest c.in_ok-end.field-0 es) (c.list.ensures ∙ same) c.in_ok-end.ensures.told in
+    let here = subst (λ (o : Option ℕ). Found c.first_too_deep.new.depth c.keep_output.new.self.depth.greatest o all) c.in-Some.is found in
     Adds-deep r c.args.tid c.in_ok-stepped.stepped old mid c.keep_output.new.self all is c.in-Some.end last here.0 refl refl refl (c.truncate.ensures.list ∙ ap (take c.in-Some.end) same)
-    (c.follow.ensures.greatest ∙ most) here.1 (subst (λ m. is_within (reverse (take (c.in-Some.end + 1) all)) m ≡ false) most here.2)
+    (c.first_too_deep.ensures.greatest ∙ most) here.1 (subst (λ m. is_within (reverse (take (c.in-Some.end + 1) all)) m ≡ false) most here.2)
 
 pub returns : goal.returns
 returns c =
@@ -38,13 +38,13 @@ returns c =
     let kept = c.in_ok-keep_output.ensures in
     let r = step (machine_of old.machine) c.args.tid in
     let mid : Traced = record { machine = c.step.new.self; events = c.step.new.events; out = old.out; err = old.err; depth = old.depth } in
-    let last : Traced = record { machine = c.keep_output.new.self.machine; events = c.keep_output.new.self.events; out = c.keep_output.new.self.out; err = c.keep_output.new.self.err; depth = c.follow.new.depth } in
+    let last : Traced = record { machine = c.keep_output.new.self.machine; events = c.keep_output.new.self.events; out = c.keep_output.new.self.out; err = c.keep_output.new.self.err; depth = c.first_too_deep.new.depth } in
     let all = c.step.new.events.list in
     let same : c.keep_output.new.self.events.list ≡ all = ap (λ (e : EventList). e.list) kept.events in
     let is : IsStepped r c.args.tid c.in_ok-stepped.stepped old mid c.keep_output.new.self all =
     record { steps = c.in_ok-stepped.ensures.step; kept = kept; before_out = refl; before_err = refl; entry = c.step.ensures.entry } in
     let most : c.keep_output.new.self.depth.greatest ≡ old.depth.greatest = ap (λ (d : Depth). d.greatest) kept.depth_is in
-    let found = subst (λ (es : List Event). Found c.follow.new.depth c.keep_output.new.self.depth.greatest c.in_ok-end.field-0 es) (c.list.ensures ∙ same) c.in_ok-end.ensures.told in
-    let here = subst (λ (o : Option ℕ). Found c.follow.new.depth c.keep_output.new.self.depth.greatest o all) c.in_default.is found in
+    let found = subst (λ (es : List Event). Found c.first_too_deep.new.depth c.keep_output.new.self.depth.greatest c.in_ok-end.field-0 es) (c.list.ensures ∙ same) c.in_ok-end.ensures.told in
+    let here = subst (λ (o : Option ℕ). Found c.first_too_deep.new.depth c.keep_output.new.self.depth.greatest o all) c.in_default.is found in
     Adds-whole r c.args.tid c.in_ok-stepped.stepped old mid c.keep_output.new.self all is c.turn_status_of.result last refl refl refl same
-    (c.follow.ensures.greatest ∙ most) here c.turn_status_of.ensures
+    (c.first_too_deep.ensures.greatest ∙ most) here c.turn_status_of.ensures

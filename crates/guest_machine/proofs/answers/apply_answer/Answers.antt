@@ -1,7 +1,7 @@
 use Rattle.std.proofs.Common.{rules, not}
 use Rattle.std.specs.Prelude.{◌==◌}
 use Rattle.std.proofs.lemmas.Fn.{filter_same}
-use Rattle.guest_machine.proofs.answers.apply.Goals as goal
+use Rattle.guest_machine.proofs.answers.apply_answer.Goals as goal
 
 pub returns-in-ThreadEnd-clause-harts : goal.returns-in-ThreadEnd-clause-harts
 returns-in-ThreadEnd-clause-harts c =

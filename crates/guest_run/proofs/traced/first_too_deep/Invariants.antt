@@ -1,6 +1,6 @@
 use Rattle.std.proofs.Common.{◌≡◌, take, reverse}
 use Rattle.guest_run.specs.Kept.{Told}
-use Rattle.guest_run.proofs.traced.follow.Given as goal
+use Rattle.guest_run.proofs.traced.first_too_deep.Given as goal
 
 abbrev pub invariant-loop-i : goal.invariant-loop-i
 invariant-loop-i l = record {

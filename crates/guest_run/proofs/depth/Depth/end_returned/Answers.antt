@@ -1,7 +1,7 @@
 use Rattle.std.proofs.Common.{◌≡◌, ◌∙◌, ap}
 use Rattle.guest_run.specs.declared.depth.ThreadCalls.{ThreadCalls}
 use Rattle.guest_run.proofs.OpenThreads.{returned}
-use Rattle.guest_run.proofs.depth.Depth.returned.Goals as goal
+use Rattle.guest_run.proofs.depth.Depth.end_returned.Goals as goal
 
 pub returns-clause-backs : goal.returns-clause-backs
 returns-clause-backs c =

@@ -1,7 +1,7 @@
 use Rattle.std.proofs.Common.{arith}
 use Rattle.guest_run.proofs.Pasts.{room-within, steps-below}
 use Rattle.std.proofs.Common.{take, reverse}
-use Rattle.guest_run.proofs.traced.follow.Goals as goal
+use Rattle.guest_run.proofs.traced.first_too_deep.Goals as goal
 
 pub add-requires-clause-within : goal.add-requires-clause-within
 add-requires-clause-within c =

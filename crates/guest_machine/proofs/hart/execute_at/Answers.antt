@@ -1,7 +1,7 @@
 use Rattle.std.proofs.Common.{◌≡◌, ◌∙◌, ap}
 use Rattle.guest_machine.specs.declared.hart.Hart.{Hart}
 use Rattle.guest_machine.proofs.HartIndices.{IsIndex-changed, tid_at}
-use Rattle.guest_machine.proofs.hart.run_at.Goals as goal
+use Rattle.guest_machine.proofs.hart.execute_at.Goals as goal
 
 pub returns-clause-index : goal.returns-clause-index
 returns-clause-index c =
