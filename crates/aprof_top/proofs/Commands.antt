@@ -175,7 +175,6 @@ module _ (options : RunOptions) (files loaded : FilesState) (out err : SinkState
       Delivers-since ending.CannotPut fails = record { some = fails.some; out = fails.out; failed = fails.failed; unchanged = unchanged_of fails.unchanged }
       Delivers-since ending.OutOfMemory (inl short) = inl (record {
         out_count = short.out_count;
-        err_count = short.err_count;
         out = short.out;
         err = short.err;
         contents = short.contents ∙ all.are.unchanged.contents;

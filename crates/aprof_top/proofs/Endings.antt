@@ -29,6 +29,10 @@ pub record Part (outcome : Outcome) (before mid : Outside) : Type 0 where
   pub stored : StoresFirst outcome.stores count before.files mid.files
   pub output_first : ((take out_count outcome.out ≡ outcome.out) × (take err_count outcome.err ≡ outcome.err)) ⊎ (mid.files.contents ≡ before.files.contents)
 
+-- where the last text may stand
+abbrev IsBehind : Outcome → ℕ → ℕ → Type 0
+IsBehind outcome err_count text_count = (take err_count outcome.err ≡ []) ⊎ ((take err_count outcome.err ≡ outcome.err) ⊎ (text_count ≡ 0))
+
 -- before the call; after the command; and after the last text, which goes to `err` alone
 module _ (words : List (List ℕ)) (files files' : FilesState) (out out' err err' err'' : SinkState) (counts : CountsStay (outside files out err) (outside files' out' err')) (later : err'.faults ≤ err''.faults) where
   abbrev before : Outside
@@ -129,12 +133,23 @@ module _ (words : List (List ℕ)) (files files' : FilesState) (out out' err err
   part_of ending.CannotWrite outcome (inl fails) = part_failed outcome fails
   part_of ending.CannotWrite outcome (inr fails) = part_on_out outcome fails
   part_of ending.CannotPut outcome fails = part_on_err outcome fails
-  part_of ending.OutOfMemory outcome (inl short) = part_unstored outcome short.out_count short.err_count short.out short.err short.contents
+  part_of ending.OutOfMemory outcome (inl short) = part_unstored outcome short.out_count 0 short.out (short.err ∙ append_known-nothing err.bytes) short.contents
   part_of ending.OutOfMemory outcome (inr short) = part_of_output outcome short.stored.count short.output (inl short.stored.contents)
 
+  -- all of the output on `err` came, or none, but where the put on it failed
+  behind_of : (e : declared.Ending) (outcome : Outcome) (delivery : Delivers outcome before mid e) → (e ≡ ending.CannotPut → ⊥) → (text_count : ℕ) → IsBehind outcome (part_of e outcome delivery).err_count text_count
+  unfolding part_of
+  behind_of (ending.Decided v) outcome (same, done) told text_count = inr (inl (take-length outcome.err))
+  behind_of (ending.CannotRead path) outcome delivery told text_count = absurd delivery
+  behind_of ending.CannotWrite outcome (inl fails) told text_count = inr (inl (take-length outcome.err))
+  behind_of ending.CannotWrite outcome (inr fails) told text_count = inl refl
+  behind_of ending.CannotPut outcome fails told text_count = absurd (told refl)
+  behind_of ending.OutOfMemory outcome (inl short) told text_count = inl refl
+  behind_of ending.OutOfMemory outcome (inr short) told text_count = inr (inl (take-length outcome.err))
+
   -- a first part, with what came of the last text
-  abbrev First-of : (outcome : Outcome) (text : List ℕ) (part : Part outcome before mid) (text_count : ℕ) → err''.bytes ≡ append_known err'.bytes (take text_count text) → DoesFirst outcome text before after
-  First-of outcome text part text_count on_text = record {
+  abbrev First-of : (outcome : Outcome) (text : List ℕ) (part : Part outcome before mid) (text_count : ℕ) → IsBehind outcome part.err_count text_count → err''.bytes ≡ append_known err'.bytes (take text_count text) → DoesFirst outcome text before after
+  First-of outcome text part text_count behind on_text = record {
     out_count = part.out_count;
     err_count = part.err_count;
     text_count = text_count;
@@ -142,6 +157,7 @@ module _ (words : List (List ℕ)) (files files' : FilesState) (out out' err err
     err = on_text ∙ ap (λ known. append_known known (take text_count text)) part.err ∙ append_known-append err.bytes (take part.err_count outcome.err) (take text_count text);
     count = part.count;
     stored = part.stored;
+    text_behind = behind;
     output_first = part.output_first;
   }
 
@@ -161,7 +177,7 @@ module _ (words : List (List ℕ)) (files files' : FilesState) (out out' err err
     outcome = outcome;
     written = written;
     ran = ran;
-    first = First-of outcome cannot_write_text (part_failed outcome fails) text.shown text.gained;
+    first = First-of outcome cannot_write_text (part_failed outcome fails) text.shown (inr (inl (take-length outcome.err))) text.gained;
     cause = inl (fails.stored.fails, take-length outcome.out, take-length outcome.err);
     whole_text = rose_since text.whole;
   }
@@ -170,8 +186,8 @@ module _ (words : List (List ℕ)) (files files' : FilesState) (out out' err err
     outcome = outcome;
     written = written;
     ran = ran;
-    first = First-of outcome cannot_write_text (part_on_out outcome fails) text.shown text.gained;
-    cause = inr (record { sink = inl (fails.some, fails.failed.faults); contents = fails.unchanged.contents; failed_paths = fails.unchanged.failed_paths });
+    first = First-of outcome cannot_write_text (part_on_out outcome fails) text.shown (inl refl) text.gained;
+    cause = inr (record { sink = inl ((fails.some, fails.failed.faults), refl); contents = fails.unchanged.contents; failed_paths = fails.unchanged.failed_paths });
     whole_text = rose_since text.whole;
   }
 
@@ -184,7 +200,7 @@ module _ (words : List (List ℕ)) (files files' : FilesState) (out out' err err
         outcome = outcome;
         written = written;
         ran = ran;
-        first = First-of outcome cannot_write_text (part_on_err outcome fails) 0 (no_text cannot_write_text text.shown text.gained);
+        first = First-of outcome cannot_write_text (part_on_err outcome fails) 0 (inr (inr refl)) (no_text cannot_write_text text.shown text.gained);
         cause = inr (record { sink = inr ((fails.some, rose), refl); contents = fails.unchanged.contents; failed_paths = fails.unchanged.failed_paths });
         whole_text = inr rose;
       }
@@ -217,32 +233,32 @@ module _ (words : List (List ℕ)) (files files' : FilesState) (out out' err err
         found = found_of found;
         outcome = nothing;
         reached = inr (record { out = refl; err = refl; stores = refl });
-        first = First-of nothing out_of_memory_text (part_unstored nothing 0 0 (puts.out ∙ append_known-nothing out.bytes) (puts.err ∙ append_known-nothing err.bytes) contents) shown gained;
+        first = First-of nothing out_of_memory_text (part_unstored nothing 0 0 (puts.out ∙ append_known-nothing out.bytes) (puts.err ∙ append_known-nothing err.bytes) contents) shown (inl refl) gained;
       }
 
   -- want of memory after an outcome was handed out in part
-  OutOfMemory-reached : (e : declared.Ending) → Reaches words before mid e → (shown : ℕ) → err''.bytes ≡ append_known err'.bytes (take shown out_of_memory_text) → OutOfMemory words before after
-  OutOfMemory-reached e reached shown gained = record {
+  OutOfMemory-reached : (e : declared.Ending) → (e ≡ ending.CannotPut → ⊥) → Reaches words before mid e → (shown : ℕ) → err''.bytes ≡ append_known err'.bytes (take shown out_of_memory_text) → OutOfMemory words before after
+  OutOfMemory-reached e told reached shown gained = record {
     found = found_of reached.found;
     outcome = reached.outcome;
     reached = inl reached.written;
-    first = First-of reached.outcome out_of_memory_text (part_of e reached.outcome reached.delivery) shown gained;
+    first = First-of reached.outcome out_of_memory_text (part_of e reached.outcome reached.delivery) shown (behind_of e reached.outcome reached.delivery told shown) gained;
   }
 
   OutOfMemory-within : DoesNothing words before mid ⊎ Reaches words before mid ending.OutOfMemory → (shown : ℕ) → err''.bytes ≡ append_known err'.bytes (take shown out_of_memory_text) → OutOfMemory words before after
   OutOfMemory-within (inl ends) shown gained = OutOfMemory-at_once ends.found shown gained ends.puts ends.contents
-  OutOfMemory-within (inr reached) shown gained = OutOfMemory-reached ending.OutOfMemory reached shown gained
+  OutOfMemory-within (inr reached) shown gained = OutOfMemory-reached ending.OutOfMemory (λ e. absurd (cc)) reached shown gained
 
   -- an ending whose status is that of want of memory has done a first part
   pub OutOfMemory-from_ending : (e : declared.Ending) (status : ℕ) → CommandEnds words before mid e → Told e err' err'' status → status ≡ 10 → OutOfMemory words before after
   OutOfMemory-from_ending (ending.Decided v) status ends told ten =
-      let text = text_of_ten (ending.Decided v) status told ten in OutOfMemory-reached (ending.Decided v) ends text.0 text.1
+      let text = text_of_ten (ending.Decided v) status told ten in OutOfMemory-reached (ending.Decided v) (λ e. absurd (cc)) ends text.0 text.1
   OutOfMemory-from_ending (ending.CannotRead path) status ends told ten =
       let text = text_of_ten (ending.CannotRead path) status told ten in OutOfMemory-at_once ends.found text.0 text.1 ends.puts ends.contents
   OutOfMemory-from_ending ending.CannotWrite status ends told ten =
-      let text = text_of_ten ending.CannotWrite status told ten in OutOfMemory-reached ending.CannotWrite ends.reached text.0 text.1
-  OutOfMemory-from_ending ending.CannotPut status ends told ten =
-      let text = text_of_ten ending.CannotPut status told ten in OutOfMemory-reached ending.CannotPut ends.reached text.0 text.1
+      let text = text_of_ten ending.CannotWrite status told ten in OutOfMemory-reached ending.CannotWrite (λ e. absurd (cc)) ends.reached text.0 text.1
+  OutOfMemory-from_ending ending.CannotPut status ends (inl tells) ten = absurd (omega (arith, ten, tells.same_status))
+  OutOfMemory-from_ending ending.CannotPut status ends (inr none) ten = absurd (none.told refl)
   OutOfMemory-from_ending ending.OutOfMemory status ends told ten =
       let text = text_of_ten ending.OutOfMemory status told ten in OutOfMemory-within ends text.0 text.1
 

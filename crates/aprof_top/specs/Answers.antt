@@ -85,6 +85,8 @@ pub record DoesFirst (outcome : Outcome) (text : List ℕ) (before after : Outsi
   -- how many files were stored
   pub count : ℕ
   pub stored : StoresFirst outcome.stores count before.files after.files
+  -- the last text stands behind all of the output on `err` or none of it
+  pub text_behind : (take err_count outcome.err ≡ []) ⊎ ((take err_count outcome.err ≡ outcome.err) ⊎ (text_count ≡ 0))
   -- nothing is stored before all output came
   pub output_first : ((take out_count outcome.out ≡ outcome.out) × (take err_count outcome.err ≡ outcome.err)) ⊎ (after.files.contents ≡ before.files.contents)
 
@@ -92,9 +94,10 @@ pub record DoesFirst (outcome : Outcome) (text : List ℕ) (before after : Outsi
 abbrev pub FailsOn : List ℕ → SinkState → SinkState → Type 0
 FailsOn bytes old new = (0 < length bytes) × Rose old.faults new.faults
 
--- A put of the guest's output failed, and nothing was stored. Where it failed on `err`, none of the last text was put.
-pub record PutFails (outcome : Outcome) (text_count : ℕ) (before after : Outside) : Type 0 where
-  pub sink : FailsOn outcome.out before.out after.out ⊎ (FailsOn outcome.err before.err after.err × (text_count ≡ 0))
+-- A put of the guest's output failed, and nothing was stored. Where it failed on `out`, none of the output on `err` was
+-- put; and where it failed on `err`, none of the last text.
+pub record PutFails (outcome : Outcome) (err_count text_count : ℕ) (before after : Outside) : Type 0 where
+  pub sink : (FailsOn outcome.out before.out after.out × (take err_count outcome.err ≡ [])) ⊎ (FailsOn outcome.err before.err after.err × (text_count ≡ 0))
   pub contents : after.files.contents ≡ before.files.contents
   pub failed_paths : after.files.failed_paths ≡ before.files.failed_paths
 
@@ -106,7 +109,7 @@ pub record CannotWrite (words : List (List ℕ)) (before after : Outside) : Type
   -- it is that of a run, which stores its report, or of the demo
   pub ran : IsOfRun outcome.verdict
   pub first : DoesFirst outcome cannot_write_text before after
-  pub cause : (StoreFails outcome.stores first.count before.files after.files × (take first.out_count outcome.out ≡ outcome.out) × (take first.err_count outcome.err ≡ outcome.err)) ⊎ PutFails outcome first.text_count before after
+  pub cause : (StoreFails outcome.stores first.count before.files after.files × (take first.out_count outcome.out ≡ outcome.out) × (take first.err_count outcome.err ≡ outcome.err)) ⊎ PutFails outcome first.err_count first.text_count before after
   pub whole_text : (take first.text_count cannot_write_text ≡ cannot_write_text) ⊎ Rose before.err.faults after.err.faults
 
 -- nothing is put or stored

@@ -66,12 +66,11 @@ pub record FailsOnErr (outcome : Outcome) (before after : Outside) : Type 0 wher
   pub failed : FailsToAppend outcome.err before.err after.err
   pub unchanged : FilesUnchanged before.files after.files
 
--- A first part of the output was put, and nothing was stored.
+-- A first part of the output on `out` was put, none on `err`, and nothing was stored.
 pub record StopsShort (outcome : Outcome) (before after : Outside) : Type 0 where
   pub out_count : ℕ
-  pub err_count : ℕ
   pub out : after.out.bytes ≡ append_known before.out.bytes (take out_count outcome.out)
-  pub err : after.err.bytes ≡ append_known before.err.bytes (take err_count outcome.err)
+  pub err : after.err.bytes ≡ before.err.bytes
   pub contents : after.files.contents ≡ before.files.contents
 
 -- All output was put, and the first stores were done.

@@ -1,5 +1,5 @@
 -- How a command ended, and what it left: the contracts between the parts of the program.
-use Rattle.std.specs.Prelude.{◌≡◌, ◌⊎◌, ◌≤◌, ℕ, List, [], length, take, slice_get, Some}
+use Rattle.std.specs.Prelude.{◌≡◌, ◌≢◌, ◌⊎◌, ◌≤◌, ℕ, List, [], length, take, slice_get, Some}
 use Rattle.std.specs.Io.KnownBytes.{append_known}
 use Rattle.command_line.specs.Options.{Asked, AsksFor}
 use Rattle.host_io.specs.Files.{FailsAt}
@@ -73,15 +73,17 @@ pub record TellsEnding (ending : Ending) (old new : SinkState) (status : ℕ) : 
   pub same_status : status ≡ status_of ending
   pub text : Ends [] (last_text_of ending) old new
 
--- The status is that of want of memory, and the sink gained a prefix of its text.
-pub record TellsNoMemory (old new : SinkState) (status : ℕ) : Type 0 where
+-- The status is that of want of memory, and the sink gained a prefix of its text. Of a failed put on `err` nothing is told,
+-- so that wants no memory.
+pub record TellsNoMemory (ending : Ending) (old new : SinkState) (status : ℕ) : Type 0 where
+  pub told : ending ≢ CannotPut
   pub ten : status ≡ 10
   pub shown : ℕ
   pub gained : new.bytes ≡ append_known old.bytes (take shown out_of_memory_text)
 
 -- how an ending is told on a sink
 abbrev pub Told : Ending → SinkState → SinkState → ℕ → Type 0
-Told ending old new status = TellsEnding ending old new status ⊎ TellsNoMemory old new status
+Told ending old new status = TellsEnding ending old new status ⊎ TellsNoMemory ending old new status
 
 -- No count fell.
 pub record CountsStay (before after : Outside) : Type 0 where

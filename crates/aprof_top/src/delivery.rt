@@ -1,5 +1,5 @@
 //! Handing out what a run leaves: its output to the sinks, its recording and its report to the files.
-ghost use Rattle.std.specs.Prelude.{◌≡◌, ◌<◌, ◌≤◌, length, map, IsErrOf};
+ghost use Rattle.std.specs.Prelude.{◌≡◌, ◌<◌, ◌≤◌, length, map, OnErr};
 ghost use Rattle.host_io.specs.Files.{NoCountFalls};
 ghost use Rattle.host_io.specs.Sink.{PutEnds};
 ghost use Rattle.aprof_top.specs.Delivery.{Delivers, StoresEnd};
@@ -15,7 +15,7 @@ use host_io::{Files, PutError, Sink, StoreError};
 pub(crate) fn put_all<S: Sink>(bytes: &[u8], sink: &mut S) -> Result<(), PutError>
     ensures counts { (S.state sink.old).faults ≤ (S.state sink.new).faults }
     ensures ends { PutEnds bytes.now (S.state sink.old) (S.state sink.new) result }
-    ensures some { IsErrOf result PutError.Failed → 0 < length bytes.now }
+    ensures some { OnErr result (0 < length bytes.now) }
 {
     if bytes.is_empty() {
         return Ok(());

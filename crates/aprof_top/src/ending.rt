@@ -1,5 +1,5 @@
 //! How a command ends: its status and its last text.
-ghost use Rattle.std.specs.Prelude.{◌≡◌, ◌≤◌, [], IfOk, OnOk, OnErr};
+ghost use Rattle.std.specs.Prelude.{◌≡◌, ◌≢◌, ◌<◌, ◌≤◌, [], length, IfOk, OnOk, OnErr};
 ghost use Rattle.aprof_top.specs.Ending.{Told, last_text_of, status_of};
 ghost use Rattle.aprof_top.specs.Outside.{Ends};
 ghost use Rattle.aprof_top.specs.Verdicts.{finish_status, verdict_status};
@@ -98,6 +98,7 @@ fn status(ending: &Ending<'_>) -> u8
 fn put_text<E: Sink>(text: &[u8], err: &mut E) -> Result<(), AllocError>
     ensures ok { OnOk result (Ends [] text.now (E.state err.old) (E.state err.new)) }
     ensures err { OnErr result ((E.state err.new).bytes ≡ (E.state err.old).bytes) }
+    ensures some { OnErr result (0 < length text.now) }
     ensures counts { (E.state err.old).faults ≤ (E.state err.new).faults }
 {
     match put_all(text, err) {
@@ -121,7 +122,8 @@ fn tell_by<E: Sink>(ending: &Ending<'_>, text: &[u8], err: &mut E) -> u8
 
 // Puts the last text of an ending, where there was memory for it.
 fn tell_made<E: Sink>(ending: &Ending<'_>, text: Result<Vec<u8>, AllocError>, err: &mut E) -> u8
-    requires { IfOk text (λ text. text.items ≡ last_text_of ending.now) }
+    requires text { IfOk text (λ text. text.items ≡ last_text_of ending.now) }
+    requires told { ending.now ≢ Ending.CannotPut }
     ensures told { Told ending.now (E.state err.old) (E.state err.new) result }
     ensures counts { (E.state err.old).faults ≤ (E.state err.new).faults }
 {

@@ -1,28 +1,30 @@
 -- How many moves a run has, its turns, and what is profiled of it.
-use Rattle.std.proofs.Common.{◌≡◌, ℕ, zero, suc, ◌+◌, ◌≤◌, Bool, true, false, cond, List, [], ◌∷◌, length, reverse, refl, sym, ap, ◌∙◌, arith}
+use Rattle.std.proofs.Common.{◌≡◌, ℕ, zero, suc, ◌+◌, ◌≤◌, Bool, true, false, cond, List, [], ◌∷◌, length, reverse, refl, sym, ap, ◌∙◌, inl, inr, arith}
 use Rattle.std.specs.Prelude.{sum_by}
 use Rattle.std.specs.List.{All}
-use Rattle.std.proofs.lemmas.Bool.{true≢false}
+use Rattle.std.proofs.lemmas.Bool.{cases_Bool, true≢false}
 use Rattle.std.proofs.lemmas.List.Elements.{All-cons, All-nil}
 use Rattle.std.proofs.lemmas.List.Sums.{sum_by-cons}
 use Rattle.guest_words.specs.declared.endings.Finish.{Finish}
-use Rattle.guest_words.specs.declared.endings.Finish.TheVariants.{Budget, Deep}
+use Rattle.guest_words.specs.declared.endings.Finish.TheVariants.{Exit, Fault, Budget, Deadlock, Deep, Schedule}
+use Rattle.guest_words.specs.declared.endings.FaultKind.{FaultKind}
 use Rattle.trace_model.specs.declared.event_kinds.Event.{Event}
 use Rattle.trace_model.specs.Depth.{is_within}
 use Rattle.thread_sched.specs.declared.entry.Entry.{Entry}
 use Rattle.thread_sched.specs.declared.turns.Turn.{Turn}
 use Rattle.thread_sched.specs.declared.turns.Turn.TheVariants as turn
-use Rattle.thread_sched.specs.TurnRule.{turn_of}
+use Rattle.thread_sched.specs.TurnRule.{SchedulerState, turn_of}
 use Rattle.guest_machine.specs.declared.stepped.Stepped.{Stepped}
 use Rattle.guest_machine.specs.declared.stepped.Stepped.TheVariants.{Went, Yielded, Blocked, Ended, Finished, Faulted}
+use Rattle.guest_machine.specs.Machine.{MachineState}
 use Rattle.guest_machine.specs.Step.{step}
 use Rattle.guest_run.specs.declared.turn_status.TurnStatus.{TurnStatus}
 use Rattle.guest_run.specs.declared.turn_status.TurnStatus.TheVariants.{GoesOn, TurnOver, Ends}
 use Rattle.guest_run.specs.Machine.{Machine, guest, turn_status_of}
 use Rattle.guest_run.specs.Run.{Move, WrittenRun, Position, Chosen, by_turn, chosen_by, chosen, with_move, by_turn_status, move_of, go_on, run_from, run, start, events_of, current, recording}
 use Rattle.guest_run.specs.Run.Chosen.{Moves, Stops}
-use Rattle.guest_run.specs.Profiled.{past_after, moves_kept, profiled}
-use Rattle.guest_run.specs.Laws.{StaysWithin, NeverEndsForBudget, SpendsBudget, RecordsTurns, IsPrefix, ProfilesPart}
+use Rattle.guest_run.specs.Profiled.{Profiled, past_after, moves_kept, profiled}
+use Rattle.guest_run.specs.Laws.{EndsDeepExactly, StaysWithin, SpendsBudget, RecordsTurns, IsPrefix, ProfilesPart}
 use Rattle.guest_run.proofs.Pasts.{cut-within, past_after-append, within-earlier}
 use Rattle.guest_run.proofs.Replayed.{current-over}
 
@@ -60,39 +62,56 @@ moves-within {State} machine = each_run machine (λ fuel run. length run.moves �
 pub stays_within : {State : Type 0} (machine : Machine State) → StaysWithin machine
 stays_within machine turns budget state = moves-within machine budget (start turns state)
 
--- a turn rule's answer is no end for the budget
-stops-other : {State : Type 0} (machine : Machine State) (at : Position State) → chosen machine at ≡ Stops Budget → ⊥
+-- the turn rule ends a run for a deadlock or at an entry of the schedule alone
+stops-not : {State : Type 0} (machine : Machine State) (never : Finish) → (never ≡ Deadlock → ⊥) → ((line : ℕ) → never ≡ Schedule line → ⊥) →
+    (at : Position State) → chosen machine at ≡ Stops never → ⊥
 unfolding chosen
-stops-other {State} machine at e = by at.left e
+stops-not {State} machine never no_deadlock no_schedule at e = by at.left e
   where
-    turned : (t : Turn) → by_turn at.turns (machine.wake at.state) t ≡ Stops Budget → ⊥
+    turned : (t : Turn) → by_turn at.turns (machine.wake at.state) t ≡ Stops never → ⊥
     turned (turn.Run tid most) e' = cc
-    turned turn.Deadlock e' = cc
-    turned (turn.Mismatch line) e' = cc
+    turned turn.Deadlock e' = no_deadlock (let is : never ≡ Deadlock = cc in is)
+    turned (turn.Mismatch line) e' = no_schedule line (let is : never ≡ Schedule line = cc in is)
 
-    by : (left : ℕ) → chosen_by machine at left ≡ Stops Budget → ⊥
+    by : (left : ℕ) → chosen_by machine at left ≡ Stops never → ⊥
     by zero e' = turned (turn_of at.turns (machine.ready (machine.wake at.state))) e'
     by (suc more) e' = cc
+
+-- No step of the machine ends a run for the budget.
+abbrev NeverEndsForBudget : {State : Type 0} → Machine State → Type 0
+NeverEndsForBudget {State} machine = (state : State) (tid : ℕ) → (machine.step state tid).turn_status ≡ Ends Budget → ⊥
 
 spends : {State : Type 0} (machine : Machine State) → NeverEndsForBudget machine → SpendsBudget machine
 spends {State} machine never turns budget state =
     each_run machine (λ fuel run. run.finish ≡ Budget → length run.moves ≡ fuel) (record {
       spent = λ e. refl;
-      stops = λ more at finish e ended. absurd (stops-other machine at (e ∙ ap Stops ended));
+      stops = λ more at finish e ended. absurd (stops-not machine Budget (λ e. absurd (cc)) (λ line e. absurd (cc)) at (e ∙ ap Stops ended));
       ends = λ more opens state tid finish e ended. absurd (never state tid (e ∙ ap Ends ended));
       moves = λ more opens state tid run goes ih ended. ap suc (ih ended);
     }) budget (start turns state)
 
-status-other : (tid : ℕ) (outcome : Stepped) → turn_status_of tid outcome ≡ Ends Budget → ⊥
-status-other tid Went e = cc
-status-other tid Yielded e = cc
-status-other tid Blocked e = cc
-status-other tid Ended e = cc
-status-other tid (Finished status) e = cc
-status-other tid (Faulted kind at) e = cc
+-- a step ends a run by an exit or a fault alone
+status-not : (never : Finish) → ((status : ℕ) → never ≡ Exit status → ⊥) → ((kind : FaultKind) (tid at : ℕ) → never ≡ Fault kind tid at → ⊥) →
+    (tid : ℕ) (outcome : Stepped) → turn_status_of tid outcome ≡ Ends never → ⊥
+status-not never no_exit no_fault tid Went e = cc
+status-not never no_exit no_fault tid Yielded e = cc
+status-not never no_exit no_fault tid Blocked e = cc
+status-not never no_exit no_fault tid Ended e = cc
+status-not never no_exit no_fault tid (Finished status) e = no_exit status (let is : never ≡ Exit status = cc in is)
+status-not never no_exit no_fault tid (Faulted kind at) e = no_fault kind tid at (let is : never ≡ Fault kind tid at = cc in is)
 
 pub spends_budget : SpendsBudget guest
-spends_budget = spends guest (λ m tid e. status-other tid (step m tid).outcome e)
+spends_budget = spends guest (λ m tid e. status-not Budget (λ status e. absurd (cc)) (λ kind tid at e. absurd (cc)) tid (step m tid).outcome e)
+
+-- no run of the guest ends for depth by itself
+never_deep : (turns : SchedulerState) (budget : ℕ) (state : MachineState) → (run guest turns budget state).finish ≡ Deep → ⊥
+never_deep turns budget state =
+    each_run guest (λ fuel run. run.finish ≡ Deep → ⊥) (record {
+      spent = λ ended. absurd (let no : Budget ≡ Deep = ended in cc);
+      stops = λ more at finish e ended. stops-not guest Deep (λ e. absurd (cc)) (λ line e. absurd (cc)) at (e ∙ ap Stops ended);
+      ends = λ more opens state tid finish e ended. status-not Deep (λ status e. absurd (cc)) (λ kind tid at e. absurd (cc)) tid (step state tid).outcome (e ∙ ap Ends ended);
+      moves = λ more opens state tid run goes ih. ih;
+    }) budget (start turns state)
 
 -- the turns that begin in these moves
 abbrev IsTurn : ℕ → Entry → Type 0
@@ -166,3 +185,14 @@ profiles_part most past whole =
           ∙ ap (λ b. record { moves = whole.moves; past = all; finish = cond b whole.finish Deep }) h;
       failed = λ h. ap (λ b. cond b whole.finish Deep) h;
     }
+
+pub ends_deep : EndsDeepExactly
+ends_deep most past turns budget state =
+    let whole = run guest turns budget state in
+    let part = profiles_part most past whole in (
+      λ deep. elim (cases_Bool (is_within (past_after past (events_of whole.moves)) most)) [
+        | inl h ↦ absurd (never_deep turns budget state (sym (ap (λ (p : Profiled). p.finish) (part.passed h)) ∙ deep))
+        | inr h ↦ h
+      ],
+      part.failed,
+    )

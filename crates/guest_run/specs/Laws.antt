@@ -1,5 +1,5 @@
 -- The laws of a run by turns.
-use Rattle.std.specs.Prelude.{◌≡◌, ℕ, ◌+◌, ◌≤◌, true, false, List, ◌++◌, length, reverse, sum_by}
+use Rattle.std.specs.Prelude.{◌≡◌, ◌↔◌, ℕ, ◌+◌, ◌≤◌, true, false, List, ◌++◌, length, reverse, sum_by}
 use Rattle.std.specs.List.{All}
 use Rattle.guest_words.specs.declared.endings.Finish.{Finish}
 use Rattle.guest_words.specs.declared.endings.Finish.TheVariants.{Exit, Fault, Budget, Deadlock, Deep, Schedule}
@@ -9,7 +9,6 @@ use Rattle.trace_model.specs.Profile.{steps}
 use Rattle.thread_sched.specs.declared.entry.Entry.{Entry}
 use Rattle.thread_sched.specs.TurnRule.{SchedulerState}
 use Rattle.guest_machine.specs.Machine.{MachineState}
-use Rattle.guest_run.specs.declared.turn_status.TurnStatus.TheVariants.{Ends}
 use Rattle.guest_run.specs.Machine.{Machine, guest}
 use Rattle.guest_run.specs.Run.{WrittenRun, events_of, recording, run}
 use Rattle.guest_run.specs.Profiled.{past_after, profiled}
@@ -48,10 +47,6 @@ ReplaysProfiled =
 abbrev pub StaysWithin : {State : Type 0} → Machine State → Type 0
 StaysWithin {State} machine = (turns : SchedulerState) (budget : ℕ) (state : State) → length (run machine turns budget state).moves ≤ budget
 
--- No step of the machine ends a run for the budget.
-abbrev pub NeverEndsForBudget : {State : Type 0} → Machine State → Type 0
-NeverEndsForBudget {State} machine = (state : State) (tid : ℕ) → (machine.step state tid).turn_status ≡ Ends Budget → ⊥
-
 -- A run that ends for its budget has made as many moves.
 abbrev pub SpendsBudget : {State : Type 0} → Machine State → Type 0
 SpendsBudget {State} machine =
@@ -83,6 +78,14 @@ pub record IsProfileOf (most : ℕ) (past : List Event) (whole : WrittenRun) : T
 
 abbrev pub ProfilesPart : Type 0
 ProfilesPart = (most : ℕ) (past : List Event) (whole : WrittenRun) → IsProfileOf most past whole
+
+-- The profiled run of the guest ends `Deep` exactly where an activation of the whole run is too deep; no run ends so by
+-- itself.
+abbrev pub EndsDeepExactly : Type 0
+EndsDeepExactly =
+    (most : ℕ) (past : List Event) (turns : SchedulerState) (budget : ℕ) (state : MachineState) →
+    let whole = run guest turns budget state in
+    ((profiled most past whole).finish ≡ Deep) ↔ (is_within (past_after past (events_of whole.moves)) most ≡ false)
 
 -- the move that faults
 abbrev pub faults : Finish → ℕ

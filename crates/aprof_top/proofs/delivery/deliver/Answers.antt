@@ -7,9 +7,8 @@ returns-in-Err-Memory-clause-ends g c =
     let same = (rw c.in-Err-Memory.field-0-is at c.in-Err-Memory.ensures).ends in
     inl (record {
       out_count = 0;
-      err_count = 0;
       out = same ∙ append_known-nothing (g.O.Sink.state c.args.out.now).bytes;
-      err = append_known-nothing (g.E.Sink.state c.args.err.now).bytes;
+      err = refl;
       contents = refl;
     })
 
@@ -19,8 +18,7 @@ returns-in-Err-Memory-put_all-clause-ends g c =
     let put = c.in-Ok.ensures.ends in
     inl (record {
       out_count = length c.args.product.now.out.items;
-      err_count = 0;
       out = all_of (g.O.Sink.state c.args.out.now) (g.O.Sink.state c.put_all.new.sink) c.args.product.now.out.items (rw c.as_slice.ensures.value at put);
-      err = same ∙ append_known-nothing (g.E.Sink.state c.args.err.now).bytes;
+      err = same;
       contents = refl;
     })

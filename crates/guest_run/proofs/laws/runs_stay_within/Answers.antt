@@ -1,5 +1,5 @@
 use Rattle.guest_run.specs.Machine.{guest}
-use Rattle.guest_run.proofs.Bounds.{profiles_part, records_turns, spends_budget, stays_within}
+use Rattle.guest_run.proofs.Bounds.{ends_deep, profiles_part, records_turns, spends_budget, stays_within}
 use Rattle.guest_run.proofs.Counted.{counts_steps, steps_within}
 use Rattle.guest_run.proofs.laws.runs_stay_within.Goals as goal
 
@@ -14,6 +14,9 @@ returns-clause-turns c = records_turns guest
 
 pub returns-clause-profiled : goal.returns-clause-profiled
 returns-clause-profiled c = profiles_part
+
+pub returns-clause-deep : goal.returns-clause-deep
+returns-clause-deep c = ends_deep
 
 pub returns-clause-steps : goal.returns-clause-steps
 returns-clause-steps c = counts_steps
