@@ -33,7 +33,7 @@ fn main(rt: HostRuntime) -> ExitCode {
     let words = match command_words(&rt) {
         Ok(words) => words,
         Err(NoWords::Memory) => return ExitCode::from(10),
-        // The top call refuses no words as it does a bad command line.
+        // An empty list of words is refused as a bad command line.
         Err(NoWords::NotText) => Vec::new(alloc),
     };
     let mut files = RealFiles::new(&rt);

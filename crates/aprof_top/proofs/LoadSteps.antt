@@ -6,7 +6,7 @@ use Rattle.std.proofs.lemmas.Bool.Decides.{nat_tests}
 use Rattle.std.proofs.lemmas.List.{length-replicate}
 use Rattle.std.proofs.lemmas.List.Sums.{sum_by-cons}
 use Rattle.host_io.specs.Faults.{Rose}
-use Rattle.host_io.specs.Files.{Contents, FailsAt, FilesState, FilesUnchanged, GivesFile, Holds, HoldsMore, MeetsLimit, NoCountFalls, with_path}
+use Rattle.host_io.specs.Files.{Contents, FailsAt, FilesState, FilesUnchanged, GivesFile, Holds, HoldsMore, ExceedsLimit, NoCountFalls, with_path}
 use Rattle.aprof_top.specs.Limits.{file_limit, inputs_limit}
 use Rattle.aprof_top.specs.Loading.{AreLoaded, FailsToLoad, IsLoading, PassesLimit}
 use Rattle.aprof_top.specs.Loads.{passes_limit, shared_length}
@@ -188,7 +188,7 @@ module _ (shared sum : ℕ) (paths files : List (List ℕ)) (path : List ℕ) (o
   }
 
   -- the file that was met
-  pub PassesLimit-met : MeetsLimit path file_limit mid now → PassesLimit shared paths old now
+  pub PassesLimit-met : ExceedsLimit path file_limit mid now → PassesLimit shared paths old now
   PassesLimit-met met = by old.contents refl (subst (λ known. HoldsMore known path file_limit) so_far.unchanged.contents met.longer)
     where
       by_file : (known : Contents) (o : Option (List ℕ)) → old.contents ≡ Some known → known path ≡ o → IsSomeAnd o (λ bytes. file_limit < length bytes) → PassesLimit shared paths old now

@@ -21,7 +21,7 @@ paths_of (Some (Run options)) = loaded_paths options
 paths_of (Some (Demo number)) = []
 
 -- What a call finds: what its words ask for, and the bytes of the first files that this loads, as far as the contents are
--- told. One of them is longer than the limit only where a load met its limit in this call.
+-- told. One of them is longer than the limit only where a load passed its limit in this call.
 pub record Found (words : List (List ℕ)) (before after : Outside) : Type 0 where
   pub asked : Option Asked
   pub asks : AsksFor words asked
