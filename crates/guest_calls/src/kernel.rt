@@ -1,5 +1,5 @@
 //! The kernel of a guest.
-ghost use Rattle.std.specs.Prelude.{◌≡◌, ◌≤◌, ◌+◌, [], true, None, IfOk, OnErr};
+ghost use Rattle.std.specs.Prelude.{◌≡◌, ◌≤◌, ◌+◌, true, None, IfOk, OnErr};
 ghost use Rattle.std.specs.Option.{option_map};
 ghost use Rattle.guest_memory.specs.Guest.{memory_of};
 ghost use Rattle.guest_calls.specs.Invariant.{IsState};
@@ -124,7 +124,6 @@ impl Kernel {
 
     /// Lists the live threads, rising, each with whether it can run.
     pub fn ready_into(&self, into: &mut ReadyList)
-        requires { into.old ≡ [] }
         ensures ready { into.new ≡ ready self.now.state }
     {
         self.state.ready_into(into);

@@ -1,5 +1,5 @@
 //! What the kernel keeps of a guest.
-ghost use Rattle.std.specs.Prelude.{◌≡◌, [], IfOk};
+ghost use Rattle.std.specs.Prelude.{◌≡◌, IfOk};
 ghost use Rattle.guest_calls.specs.Invariant.{IsState};
 ghost use Rattle.guest_calls.specs.Kernel.{can_run, lives, ready, started};
 
@@ -85,9 +85,9 @@ impl State {
 
     /// The live threads, rising, each with whether it can run.
     pub fn ready_into(&self, into: &mut ReadyList)
-        requires { into.old ≡ [] }
         ensures { into.new ≡ ready self.now }
     {
+        *into = ReadyList::new();
         for t in &self.threads {
             into.push(t.tid, !self.waiting.waits(t.tid));
         }

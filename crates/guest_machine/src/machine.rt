@@ -37,7 +37,7 @@ impl Model for Machine {
 const IMAGE_LIMIT: u32 = 16384 - STACK_PAGES;
 
 impl Machine {
-    ghost use Rattle.std.specs.Prelude.{[], None, map, string_bytes, IfSome, IfNone, IfErr, Err};
+    ghost use Rattle.std.specs.Prelude.{None, map, string_bytes, IfSome, IfNone, IfErr, Err};
     ghost use Rattle.guest_machine.specs.declared.setup.SetupError.TheVariants.{Memory};
     ghost use Rattle.guest_machine.specs.Setup.{setup_refusal};
     ghost use Rattle.guest_machine.specs.Start.{start};
@@ -102,7 +102,6 @@ impl Machine {
 
     /// Lists the live threads, rising, each with whether it can run.
     pub fn ready_into(&self, into: &mut ReadyList)
-        requires { into.old ≡ [] }
         ensures { into.new ≡ ready (machine_of self.now) }
     {
         self.guest.kernel.ready_into(into);

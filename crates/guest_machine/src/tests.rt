@@ -130,6 +130,7 @@ fn a_write_goes_out(rt: HostRuntime) -> Result<(), Fail> {
     assert!(rt; matches!(machine.outgoing(), Some((1, b"\x7fELF"))));
     let mut ready = ReadyList::new();
     machine.ready_into(&mut ready);
+    machine.ready_into(&mut ready);
     assert!(rt; ready.len() == 1);
     Ok(())
 }
