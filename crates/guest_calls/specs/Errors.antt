@@ -4,50 +4,50 @@ use Rattle.std.specs.Prelude.{ℕ, ◌-◌, ◌^◌}
 abbrev pub minus : ℕ → ℕ
 minus n = 2 ^ 32 - n
 
--- no such file
+-- No such file or directory
 abbrev pub enoent : ℕ
 enoent = minus 2
 
--- not a descriptor for this
+-- Bad file descriptor
 abbrev pub ebadf : ℕ
 ebadf = minus 9
 
--- try again
+-- Resource temporarily unavailable
 abbrev pub eagain : ℕ
 eagain = minus 11
 
--- no room for pages
+-- Not enough space/cannot allocate memory
 abbrev pub enomem : ℕ
 enomem = minus 12
 
--- not allowed
+-- Permission denied
 abbrev pub eacces : ℕ
 eacces = minus 13
 
--- bytes out of reach
+-- Bad address
 abbrev pub efault : ℕ
 efault = minus 14
 
--- no such argument
+-- Invalid argument
 abbrev pub einval : ℕ
 einval = minus 22
 
--- too many descriptors
+-- Too many open files
 abbrev pub emfile : ℕ
 emfile = minus 24
 
--- not a terminal
+-- Inappropriate I/O control operation
 abbrev pub enotty : ℕ
 enotty = minus 25
 
--- a seek in a stream
+-- Invalid seek
 abbrev pub espipe : ℕ
 espipe = minus 29
 
--- a path too long
+-- Filename too long
 abbrev pub enametoolong : ℕ
 enametoolong = minus 36
 
--- no such call
+-- Function not implemented
 abbrev pub enosys : ℕ
 enosys = minus 38

@@ -6,7 +6,7 @@ pub fn every_call_is_light()
     ensures light { EveryCallIsLight }
 {}
 
-/// No call maps a page between the break and its limit.
+/// Where no page from the break up to its limit is mapped, none is after the call, from the new break on.
 pub fn every_call_keeps_the_break_free()
     ensures free { EveryCallKeepsTheBreakFree }
 {}

@@ -1,8 +1,7 @@
-//! The calls of the kernel: those of Linux on riscv32 that a static, threaded program makes, each modelled on its manual
-//! page. Any other number answers that there is no such call.
+//! The calls of the kernel: those of the table in specs/Table.antt, each modelled on its Linux manual page, with its number
+//! on riscv32. Any other number answers that there is no such call.
 //!
-//! The kernel is seen as one state and the bytes that the last call wrote. The table of the calls stands in
-//! specs/Table.antt.
+//! The kernel is seen as one state and the bytes that the last call wrote.
 #![tactic(auto)]
 
 mod answer;

@@ -37,7 +37,7 @@ impl Model for Outgoing {
 }
 
 impl Outgoing {
-    /// Nothing goes out.
+    /// A buffer from which nothing goes out.
     pub fn new(alloc: Global) -> Result<Outgoing, AllocError>
         ensures { IfOk result (λ out. out ≡ None) }
     {
@@ -48,7 +48,7 @@ impl Outgoing {
         })
     }
 
-    /// Nothing goes out.
+    /// Drops the bytes of the last call.
     pub fn clear(&mut self)
         ensures { self.new ≡ None }
     {
