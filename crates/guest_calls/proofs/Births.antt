@@ -27,7 +27,7 @@ born_state k tid clear_tid is next room = record {
   few = let n = length-append k.threads (record { tid = tid; clear_tid = clear_tid } ∷ []) in let r = room_left k room in omega (arith, n, r);
   waiting_live = λ q gone. is.waiting_live q (lived_before k.threads (record { tid = tid; clear_tid = clear_tid }) q gone);
   stdin_within = is.stdin_within;
-  files_within = is.files_within;
+  descriptors_sound = is.descriptors_sound;
 }
 
 pub born_is_state : (k new : KernelState) (tid clear_tid : ℕ) → IsState k → tid ≡ k.last_tid + 1 → is_full k ≡ false → new ≡ with_thread tid clear_tid k → IsState new

@@ -60,7 +60,7 @@ left_state k tid is can = record {
     | inr differs ↦ is.waiting_live q (still_gone k.threads tid q differs gone)
   ];
   stdin_within = is.stdin_within;
-  files_within = is.files_within;
+  descriptors_sound = is.descriptors_sound;
 }
 
 woken_state : (k : KernelState) (at most bits : ℕ) → IsState k → IsState (record k { waiting = after_wake k.waiting at most bits })
@@ -69,7 +69,7 @@ woken_state k at most bits is = record {
   few = is.few;
   waiting_live = λ q gone. waits-filter (λ w. not (waits (woken k.waiting at most bits) w.tid)) k.waiting q (is.waiting_live q gone);
   stdin_within = is.stdin_within;
-  files_within = is.files_within;
+  descriptors_sound = is.descriptors_sound;
 }
 
 pub woken_is_state : (k new : KernelState) (at most bits : ℕ) → IsState k → new ≡ record k { waiting = after_wake k.waiting at most bits } → IsState new
@@ -102,7 +102,7 @@ cleared_state k tid at is = record {
   few = simp length-map is.few;
   waiting_live = λ q gone. is.waiting_live q (sym (cleared_lives tid at q k.threads) ∙ gone);
   stdin_within = is.stdin_within;
-  files_within = is.files_within;
+  descriptors_sound = is.descriptors_sound;
 }
 
 pub cleared_is_state : (k new : KernelState) (tid at : ℕ) → IsState k → new ≡ record k { threads = map (with_clear_tid tid at) k.threads } → IsState new

@@ -74,7 +74,7 @@ with_waiting k ws is out = record {
   few = is.few;
   waiting_live = out;
   stdin_within = is.stdin_within;
-  files_within = is.files_within;
+  descriptors_sound = is.descriptors_sound;
 }
 
 pub requeued_is_state : (k new : KernelState) (at most shift to : ℕ) → IsState k → new ≡ record k { waiting = after_requeue k.waiting at most shift to } → IsState new

@@ -2,7 +2,7 @@
 use Rattle.std.specs.Prelude.{◌≡◌, ℕ, ◌<◌, ◌≤◌, ◌^◌, false, List, [], ◌∷◌, length}
 use Rattle.futex_table.specs.Once.{waits}
 use Rattle.guest_calls.specs.declared.descriptor.Descriptor.{Descriptor}
-use Rattle.guest_calls.specs.declared.descriptor.Descriptor.TheVariants.{StandardInput, InputFile}
+use Rattle.guest_calls.specs.declared.descriptor.Descriptor.TheVariants.{StandardInput, Output, InputFile}
 use Rattle.guest_calls.specs.declared.thread.Thread.{Thread}
 use Rattle.guest_calls.specs.Kernel.{KernelState, lives, descriptor}
 
@@ -11,10 +11,11 @@ abbrev pub RisesTo : ℕ → List Thread → ℕ → Type 0
 RisesTo low [] last = low ≤ last
 RisesTo low (t ∷ threads) last = (low < t.tid) × RisesTo t.tid threads last
 
--- the position in an input file can be a signed 64-bit number
-abbrev pub IsWithinFile : Descriptor → Type 0
-IsWithinFile (InputFile input position) = position < 2 ^ 63
-IsWithinFile _ = Unit {0}
+-- a channel of output is 1 or 2, and the position in an input file can be a signed 64-bit number
+abbrev pub IsSoundDescriptor : Descriptor → Type 0
+IsSoundDescriptor (Output n) = (1 ≤ n) × (n ≤ 2)
+IsSoundDescriptor (InputFile input position) = position < 2 ^ 63
+IsSoundDescriptor _ = Unit {0}
 
 -- where the next byte of a descriptor is read
 abbrev pub position_of : KernelState → Descriptor → ℕ
@@ -28,4 +29,4 @@ pub record IsState (k : KernelState) : Type 0 where
   -- who does not live does not wait
   pub waiting_live : (tid : ℕ) → lives k tid ≡ false → waits k.waiting tid ≡ false
   pub stdin_within : k.stdin_position < 2 ^ 63
-  pub files_within : (fd : ℕ) → IsWithinFile (descriptor k fd)
+  pub descriptors_sound : (fd : ℕ) → IsSoundDescriptor (descriptor k fd)

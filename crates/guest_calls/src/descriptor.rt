@@ -13,9 +13,9 @@ pub enum Descriptor {
 }
 
 impl Descriptor {
-    ghost use Rattle.std.specs.Prelude.{◌≡◌, ◌<◌, ◌^◌};
+    ghost use Rattle.std.specs.Prelude.{◌≡◌, ◌<◌, ◌≤◌, ◌^◌, IfSome};
     ghost use Rattle.guest_calls.specs.Files.{is_closed, is_input_file, is_source, channel, with_position};
-    ghost use Rattle.guest_calls.specs.Invariant.{IsWithinFile};
+    ghost use Rattle.guest_calls.specs.Invariant.{IsSoundDescriptor};
 
     /// Whether the number is free.
     pub(crate) fn is_closed(self) -> bool
@@ -43,7 +43,8 @@ impl Descriptor {
 
     /// The channel of output.
     pub(crate) fn channel(self) -> Option<u32>
-        ensures { result ≡ channel self }
+        ensures value { result ≡ channel self }
+        ensures range { IsSoundDescriptor self → IfSome result (λ n. (1 ≤ n) × (n ≤ 2)) }
     {
         match self {
             Descriptor::Output { channel } => Some(channel),
@@ -55,7 +56,7 @@ impl Descriptor {
     pub(crate) fn with_position(self, position: u64) -> Descriptor
         requires { position < 2 ^ 63 }
         ensures value { result ≡ with_position self position }
-        ensures within { IsWithinFile self → IsWithinFile result }
+        ensures within { IsSoundDescriptor self → IsSoundDescriptor result }
     {
         match self {
             Descriptor::InputFile { input, .. } => Descriptor::InputFile { input, position },

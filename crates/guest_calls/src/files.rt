@@ -4,7 +4,7 @@ ghost use Rattle.std.specs.List.{position};
 ghost use Rattle.std.specs.Int.{w64, cast_signed};
 ghost use Rattle.guest_calls.specs.Files.{is_closed, bytes_left, is_out_of_range, least_free, origin};
 ghost use Rattle.guest_calls.specs.Files as specs;
-ghost use Rattle.guest_calls.specs.Invariant.{IsWithinFile, position_of};
+ghost use Rattle.guest_calls.specs.Invariant.{IsSoundDescriptor, position_of};
 ghost use Rattle.guest_calls.specs.Kernel.{descriptor, with_descriptor};
 ghost use Rattle.guest_calls.specs.Outcome.{asked, Does, DoesQuietly};
 
@@ -22,7 +22,7 @@ impl State {
     pub(crate) fn descriptor(&self, fd: u32) -> Descriptor
         ensures value { result ≡ descriptor self.now fd }
         ensures in_range { is_closed result ≡ false → fd < 32 }
-        ensures within { IsWithinFile result }
+        ensures within { IsSoundDescriptor result }
     {
         let _ = &self.last_tid;
         match self.descriptors.get(fd as usize) {
@@ -34,7 +34,7 @@ impl State {
     /// Makes a number stand for something else.
     pub(crate) fn set_descriptor(&mut self, fd: u32, d: Descriptor)
         requires in_range { fd < 32 }
-        requires within { IsWithinFile d }
+        requires within { IsSoundDescriptor d }
         ensures { self.new ≡ with_descriptor self.old fd d }
     {
         self.descriptors[fd as usize] = d;
@@ -42,7 +42,7 @@ impl State {
 
     /// The bytes from the position on.
     pub(crate) fn bytes_left(&self, d: Descriptor) -> &[u8]
-        requires { IsWithinFile d }
+        requires { IsSoundDescriptor d }
         ensures value { result.now ≡ bytes_left self.now d }
         ensures within { position_of self.now d + length result.now < 2 ^ 63 }
     {
@@ -114,7 +114,7 @@ impl State {
 
     /// What an offset is counted from, by `whence`: the start, the position or the end.
     fn origin(&self, file: Descriptor, whence: u32) -> u64
-        requires { IsWithinFile file }
+        requires { IsSoundDescriptor file }
         ensures value { result ≡ origin self.now file whence }
         ensures within { result < 2 ^ 63 }
     {
@@ -127,7 +127,7 @@ impl State {
 
     /// The new position in a file; None where it is out of range.
     fn target(&self, file: Descriptor, offset: i64, whence: u32) -> Option<u64>
-        requires within { IsWithinFile file }
+        requires within { IsSoundDescriptor file }
         ensures some { IfSome result (λ position. position ≡ unsigned_abs (pos (origin self.now file whence) +ℤ offset)) }
         ensures in_range { IfSome result (λ _. is_out_of_range (pos (origin self.now file whence) +ℤ offset) ≡ false) }
         ensures within { IfSome result (λ position. position < 2 ^ 63) }

@@ -1,5 +1,5 @@
 //! The kernel of a guest.
-ghost use Rattle.std.specs.Prelude.{◌≡◌, ◌≤◌, ◌+◌, true, None, IfOk, OnErr};
+ghost use Rattle.std.specs.Prelude.{◌≡◌, ◌≤◌, ◌+◌, true, None, IfOk, IfSome, OnErr};
 ghost use Rattle.std.specs.Option.{option_map};
 ghost use Rattle.guest_memory.specs.Guest.{memory_of};
 ghost use Rattle.guest_calls.specs.Invariant.{IsState};
@@ -118,6 +118,7 @@ impl Kernel {
     /// The channel, 1 or 2, and the bytes of the last call, where it was a write of at least one byte.
     pub fn outgoing(&self) -> Option<(u32, &[u8])>
         ensures out { option_map (λ out. (out.0, out.1.now)) result ≡ self.now.out }
+        ensures channel { IfSome result (λ out. (1 ≤ out.0) × (out.0 ≤ 2)) }
     {
         self.outgoing.bytes()
     }

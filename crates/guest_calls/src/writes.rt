@@ -1,7 +1,8 @@
 //! The calls that write: write(2) and writev(2).
-ghost use Rattle.std.specs.Prelude.{◌≤◌, ◌+◌, IfOk, OnErr};
+ghost use Rattle.std.specs.Prelude.{◌≡◌, ◌≤◌, ◌+◌, is_some, IfOk, OnErr};
 ghost use Rattle.guest_memory.specs.declared.reservations.Reservations.{Reservations};
-ghost use Rattle.guest_calls.specs.Files.{write};
+ghost use Rattle.guest_calls.specs.Files.{channel, write};
+ghost use Rattle.guest_calls.specs.Kernel.{descriptor};
 ghost use Rattle.guest_calls.specs.Outcome.{asked, Gives, IsAsBefore};
 ghost use Rattle.guest_calls.specs.Vectors.{writev};
 
@@ -16,6 +17,13 @@ use std::alloc::AllocError;
 use trace_model::Events;
 
 impl Kernel {
+    /// Whether a descriptor has a channel of output.
+    fn is_output(&self, fd: u32) -> bool
+        ensures { result ≡ is_some (channel (descriptor self.now.state fd)) }
+    {
+        self.state.descriptor(fd).channel().is_some()
+    }
+
     /// write(2)
     pub(crate) fn write(
         &mut self,
@@ -28,16 +36,16 @@ impl Kernel {
         ensures room { events.old.room ≤ events.new.room + 1 }
     {
         self.outgoing.clear();
-        let at = caller.argument(1);
-        let Some(channel) = self.state.descriptor(caller.argument(0)).channel() else {
+        let (fd, at) = (caller.argument(0), caller.argument(1));
+        if !self.is_output(fd) {
             return Answer::Back { value: EBADF };
-        };
+        }
         let count = caller.argument(2).min(WRITE_LIMIT);
         if !memory.can_read(at, u64::from(count)) {
             return Answer::Back { value: EFAULT };
         }
         note_read(memory, events, caller.tid, at, count);
-        self.outgoing.put(channel, memory, at, count);
+        self.outgoing.put(&self.state, fd, memory, at, count);
         Answer::Back { value: count }
     }
 
@@ -53,11 +61,11 @@ impl Kernel {
         ensures refused { (held : Reservations) → OnErr result (IsAsBefore self.old self.new memory.now memory.now held held events.old events.new) }
         ensures room { events.old.room ≤ events.new.room + 1025 }
     {
-        let (at, count) = (caller.argument(1), caller.argument(2));
-        let Some(channel) = self.state.descriptor(caller.argument(0)).channel() else {
+        let (fd, at, count) = (caller.argument(0), caller.argument(1), caller.argument(2));
+        if !self.is_output(fd) {
             self.outgoing.clear();
             return Ok(Answer::Back { value: EBADF });
-        };
+        }
         let parts = match read_table(self.state.alloc, memory, at, count) {
             Ok(parts) => parts,
             Err(TableError::Refused { errno }) => {
@@ -74,7 +82,7 @@ impl Kernel {
         }
         note_read(memory, events, caller.tid, at, 8 * count);
         note_parts(memory, events, caller.tid, &from);
-        self.outgoing.put_parts(channel, memory, &from);
+        self.outgoing.put_parts(&self.state, fd, memory, &from);
         Ok(Answer::Back { value: carried })
     }
 }

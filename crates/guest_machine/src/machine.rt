@@ -73,6 +73,7 @@ impl Machine {
     /// The channel, 1 or 2, and the bytes that the last step wrote, where it was a write of at least one byte.
     pub fn outgoing(&self) -> Option<(u32, &[u8])>
         ensures out { option_map (λ out. (out.0, out.1.now)) result ≡ out_of self.now }
+        ensures channel { IfSome result (λ out. (1 ≤ out.0) × (out.0 ≤ 2)) }
     {
         if self.guest.called {
             self.guest.kernel.outgoing()
