@@ -4,6 +4,7 @@ pub mod Files
 pub mod Futex
 pub mod Inputs
 pub mod Invariant
+pub mod IoVecRefusal
 pub mod Kernel
 pub mod Laws
 pub mod Outcome
@@ -12,6 +13,5 @@ pub mod Results
 pub mod Search
 pub mod State
 pub mod Table
-pub mod Tables
 pub mod Threads
 pub mod Vectors

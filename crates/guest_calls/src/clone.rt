@@ -24,17 +24,17 @@ const NEEDED_FLAGS: u32 = 0x1_0900;
 /// All flags that are taken, and the low eight bits, which are not looked at.
 const KNOWN_FLAGS: u32 = 0x17D_0FFF;
 
-/// CLONE_SETTLS
-const SETS_TLS: u32 = 0x8_0000;
+/// The new thread gets a thread pointer.
+const CLONE_SETTLS: u32 = 0x8_0000;
 
-/// CLONE_PARENT_SETTID
-const SETS_PARENT: u32 = 0x10_0000;
+/// The new thread's number is written where the caller asks for it.
+const CLONE_PARENT_SETTID: u32 = 0x10_0000;
 
-/// CLONE_CHILD_CLEARTID
-const CLEARS_CHILD: u32 = 0x20_0000;
+/// A zero is written when the new thread ends.
+const CLONE_CHILD_CLEARTID: u32 = 0x20_0000;
 
-/// CLONE_CHILD_SETTID
-const SETS_CHILD: u32 = 0x100_0000;
+/// The new thread's number is written where the new thread looks for it.
+const CLONE_CHILD_SETTID: u32 = 0x100_0000;
 
 /// Whether any of the bits is set.
 fn has(flags: u32, bits: u32) -> bool
@@ -44,7 +44,7 @@ fn has(flags: u32, bits: u32) -> bool
 }
 
 /// The registers of a new thread, behind its caller's call.
-fn child_of(cpu: &Cpu, flags: u32, stack: u32, tls: u32) -> Cpu
+fn child_cpu(cpu: &Cpu, flags: u32, stack: u32, tls: u32) -> Cpu
     ensures { result ≡ child_registers cpu.now flags stack tls }
 {
     let mut child = *cpu;
@@ -52,7 +52,7 @@ fn child_of(cpu: &Cpu, flags: u32, stack: u32, tls: u32) -> Cpu
     if stack != 0 {
         child.regs[2] = stack;
     }
-    if has(flags, SETS_TLS) {
+    if has(flags, CLONE_SETTLS) {
         child.regs[4] = tls;
     }
     child.pc = child.pc.wrapping_add(4);
@@ -77,11 +77,15 @@ fn is_denied(memory: &GuestMemory, asked: bool, at: Addr) -> bool
 fn child_clear_tid(flags: u32, child: Addr) -> Addr
     ensures { result ≡ child_clear_tid flags child }
 {
-    if has(flags, CLEARS_CHILD) { child } else { 0 }
+    if has(flags, CLONE_CHILD_CLEARTID) {
+        child
+    } else {
+        0
+    }
 }
 
 /// The kernel writes a word where that is asked for; then each byte can be written.
-fn fill_where(
+fn fill_word_if(
     asked: bool,
     memory: &mut GuestMemory,
     held: &mut Reservations,
@@ -141,19 +145,22 @@ impl State {
         let Some(tid) = self.next_tid() else {
             return Answer::Back { value: EAGAIN };
         };
-        let (to_parent, to_child) = (has(flags, SETS_PARENT), has(flags, SETS_CHILD));
+        let (to_parent, to_child) = (
+            has(flags, CLONE_PARENT_SETTID),
+            has(flags, CLONE_CHILD_SETTID),
+        );
         if is_denied(memory, to_parent, parent) {
             return Answer::Back { value: EFAULT };
         }
         if is_denied(memory, to_child, child) {
             return Answer::Back { value: EFAULT };
         }
-        fill_where(to_parent, memory, held, events, parent, tid.number());
-        fill_where(to_child, memory, held, events, child, tid.number());
+        fill_word_if(to_parent, memory, held, events, parent, tid.number());
+        fill_word_if(to_child, memory, held, events, child, tid.number());
         self.add_thread(tid, child_clear_tid(flags, child));
         Answer::Born {
             tid,
-            child: child_of(&caller.cpu, flags, caller.argument(1), caller.argument(3)),
+            child: child_cpu(&caller.cpu, flags, caller.argument(1), caller.argument(3)),
         }
     }
 }

@@ -133,7 +133,7 @@ impl State {
         ensures within { IfSome result (λ position. position < 2 ^ 63) }
         ensures none { IfNone result (is_out_of_range (pos (origin self.now file whence) +ℤ offset) ≡ true) }
     {
-        moved(self.origin(file, whence), offset)
+        checked_seek(self.origin(file, whence), offset)
     }
 
     /// _llseek(2)
@@ -180,7 +180,7 @@ fn offset_of(high: u32, low: u32) -> i64
 }
 
 /// A position and an offset from it. None where that is below 0 or no signed number.
-fn moved(origin: u64, offset: i64) -> Option<u64>
+fn checked_seek(origin: u64, offset: i64) -> Option<u64>
     requires { origin < 2 ^ 63 }
     ensures some { IfSome result (λ position. position ≡ unsigned_abs (pos origin +ℤ offset)) }
     ensures in_range { IfSome result (λ _. is_out_of_range (pos origin +ℤ offset) ≡ false) }

@@ -25,11 +25,11 @@ use guest_memory::GuestMemory;
 use guest_words::{Addr, Tid};
 use trace_model::Events;
 
-/// FUTEX_CLOCK_REALTIME
-const REALTIME: u32 = 256;
+/// A wait's time is by the realtime clock.
+const FUTEX_CLOCK_REALTIME: u32 = 256;
 
 /// The bits of an operation's number: all but FUTEX_PRIVATE_FLAG and FUTEX_CLOCK_REALTIME.
-const NUMBER_BITS: u32 = u32::MAX - 128 - REALTIME;
+const NUMBER_BITS: u32 = u32::MAX - 128 - FUTEX_CLOCK_REALTIME;
 
 /// The bits of a wait or a wake that names none.
 const ALL_BITS: u32 = u32::MAX;
@@ -41,7 +41,7 @@ fn refusal(memory: &GuestMemory, caller: &Caller, operation: Operation) -> Optio
     ensures bits { IfNone result (has_bitset operation ≡ true → slice_index caller.now.cpu.regs 15 ≢ 0) }
 {
     let at = caller.argument(0);
-    if caller.argument(1) & REALTIME != 0 && !operation.is_wait() {
+    if caller.argument(1) & FUTEX_CLOCK_REALTIME != 0 && !operation.is_wait() {
         return Some(ENOSYS);
     }
     if at % 4 != 0 {
@@ -99,7 +99,7 @@ impl State {
     }
 
     /// FUTEX_WAIT and FUTEX_WAIT_BITSET: the thread waits where the word is the value.
-    fn wait_where(
+    fn futex_wait(
         &mut self,
         memory: &GuestMemory,
         events: &mut Events,
@@ -121,7 +121,7 @@ impl State {
     }
 
     /// FUTEX_WAKE and FUTEX_WAKE_BITSET
-    fn wake_some(&mut self, caller: &Caller, bits: u32) -> Answer
+    fn futex_wake(&mut self, caller: &Caller, bits: u32) -> Answer
         ensures { (memory : GuestMemory) (held : Reservations) (events : EventList) → let c = asked caller.now self.old memory held in Does (returns c (count_woken c bits) ▷ wakes (futex_at c) (futex_value c) bits) result self.new memory held events events }
     {
         let count = self.wake(caller.argument(0), caller.argument(2), bits);
@@ -129,7 +129,7 @@ impl State {
     }
 
     /// FUTEX_REQUEUE
-    fn requeue_some(&mut self, caller: &Caller) -> Answer
+    fn futex_requeue(&mut self, caller: &Caller) -> Answer
         ensures { (memory : GuestMemory) (held : Reservations) (events : EventList) → let c = asked caller.now self.old memory held in Does (performed Requeue c) result self.new memory held events events }
     {
         let (at, most, shift, to) = (
@@ -143,7 +143,7 @@ impl State {
     }
 
     /// FUTEX_CMP_REQUEUE
-    fn requeue_where(
+    fn futex_cmp_requeue(
         &mut self,
         memory: &GuestMemory,
         events: &mut Events,
@@ -188,12 +188,12 @@ impl State {
             return Answer::Back { value: errno };
         }
         match operation {
-            Operation::Wait => self.wait_where(memory, events, caller, ALL_BITS),
-            Operation::WaitBitset => self.wait_where(memory, events, caller, caller.argument(5)),
-            Operation::Wake => self.wake_some(caller, ALL_BITS),
-            Operation::WakeBitset => self.wake_some(caller, caller.argument(5)),
-            Operation::Requeue => self.requeue_some(caller),
-            Operation::CmpRequeue => self.requeue_where(memory, events, caller),
+            Operation::Wait => self.futex_wait(memory, events, caller, ALL_BITS),
+            Operation::WaitBitset => self.futex_wait(memory, events, caller, caller.argument(5)),
+            Operation::Wake => self.futex_wake(caller, ALL_BITS),
+            Operation::WakeBitset => self.futex_wake(caller, caller.argument(5)),
+            Operation::Requeue => self.futex_requeue(caller),
+            Operation::CmpRequeue => self.futex_cmp_requeue(memory, events, caller),
         }
     }
 }

@@ -6,7 +6,7 @@ ghost use Rattle.guest_memory.specs.Memory.{number_at};
 ghost use Rattle.rv_exec.specs.Accesses.{can_read, can_write};
 ghost use Rattle.guest_calls.specs.Outcome.{asked, guest_of, Does, IsUntouched};
 ghost use Rattle.guest_calls.specs.Results.{first_answer};
-ghost use Rattle.guest_calls.specs.Tables.{IsRefusal};
+ghost use Rattle.guest_calls.specs.IoVecRefusal.{IsRefusal};
 ghost use Rattle.guest_calls.specs.Vectors.{part_at, parts_at, table_tests, total, carried, all_in_reach, filled_parts, read_events, bytes_of};
 ghost use Rattle.guest_calls.specs.Vectors as specs;
 
@@ -88,7 +88,7 @@ pub(crate) fn total(parts: &[Part]) -> u64
 }
 
 /// Cuts the parts to their first bytes.
-fn cut_all(parts: &mut [Part], most: usize)
+fn truncate_parts(parts: &mut [Part], most: usize)
     ensures { parts.new ≡ carried most parts.old }
 {
     let mut left = most;
@@ -100,13 +100,13 @@ fn cut_all(parts: &mut [Part], most: usize)
 }
 
 /// The parts, cut to their first bytes.
-pub(crate) fn cut(parts: Vec<Part>, most: usize) -> Vec<Part>
+pub(crate) fn truncated(parts: Vec<Part>, most: usize) -> Vec<Part>
     ensures cut { result.items ≡ carried most parts.items }
     ensures few { total result.items ≤ most }
     ensures count { vec_len result ≡ vec_len parts }
 {
     let mut parts = parts;
-    cut_all(&mut parts, most);
+    truncate_parts(&mut parts, most);
     parts
 }
 
@@ -248,7 +248,7 @@ impl State {
         };
         let bytes = first_bytes(self.bytes_left(file), total(&parts) as u32);
         let carried = bytes.len();
-        let into = cut(parts, carried);
+        let into = truncated(parts, carried);
         if !can_write_parts(memory, &into) {
             return Ok(Answer::Back { value: EFAULT });
         }

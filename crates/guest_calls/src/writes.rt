@@ -10,7 +10,7 @@ use crate::caller::Caller;
 use crate::copies::note_read;
 use crate::errors::{EBADF, EFAULT};
 use crate::outgoing::WRITE_LIMIT;
-use crate::vectors::{TableError, can_read_parts, cut, note_parts, read_table, total};
+use crate::vectors::{TableError, can_read_parts, note_parts, read_table, total, truncated};
 use crate::{Answer, Kernel};
 use guest_memory::GuestMemory;
 use std::alloc::AllocError;
@@ -76,7 +76,7 @@ impl Kernel {
         };
         self.outgoing.clear();
         let carried = (total(&parts) as u32).min(WRITE_LIMIT);
-        let from = cut(parts, carried as usize);
+        let from = truncated(parts, carried as usize);
         if !can_read_parts(memory, &from) {
             return Ok(Answer::Back { value: EFAULT });
         }

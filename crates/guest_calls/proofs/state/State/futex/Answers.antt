@@ -23,7 +23,7 @@ returns-in-Wait-clause-does c = λ held.
     let is : operation made ≡ Some c.in-Some.operation = ap (λ (n : ℕ). operation_numbered (bit_and n 4294966911)) (sym c.argument.ensures) ∙ sym c.numbered.ensures ∙ c.in-Some.is in
     let passed : first_answer (futex_tests c.in-Some.operation made) ≡ None = sym (c.refusal.ensures.value c.args.self.now held) ∙ c.in_default-refusal.is in
     let same = futex_performed made c.in-Some.operation is passed ∙ ap (λ (o : Operation). performed o made) c.in-Wait.is in
-    subst (λ (r : CallResult). Does r c.wait_where.result c.wait_where.new.self c.args.memory.now held c.args.events.now c.wait_where.new.events) (sym same) (c.wait_where.ensures.does held)
+    subst (λ (r : CallResult). Does r c.futex_wait.result c.futex_wait.new.self c.args.memory.now held c.args.events.now c.futex_wait.new.events) (sym same) (c.futex_wait.ensures.does held)
 
 pub returns-in-WaitBitset-clause-does : goal.returns-in-WaitBitset-clause-does
 returns-in-WaitBitset-clause-does c = λ held.
@@ -31,7 +31,7 @@ returns-in-WaitBitset-clause-does c = λ held.
     let is : operation made ≡ Some c.in-Some.operation = ap (λ (n : ℕ). operation_numbered (bit_and n 4294966911)) (sym c.argument.ensures) ∙ sym c.numbered.ensures ∙ c.in-Some.is in
     let passed : first_answer (futex_tests c.in-Some.operation made) ≡ None = sym (c.refusal.ensures.value c.args.self.now held) ∙ c.in_default-refusal.is in
     let same = futex_performed made c.in-Some.operation is passed ∙ ap (λ (o : Operation). performed o made) c.in-WaitBitset.is in
-    subst (λ (r : CallResult). Does r c.wait_where-in-WaitBitset.result c.wait_where-in-WaitBitset.new.self c.args.memory.now held c.args.events.now c.wait_where-in-WaitBitset.new.events) (sym same) (subst (λ (bits : ℕ). Does (returns made 0 ▷ compares made (futex_value made) (waits_for made bits)) c.wait_where-in-WaitBitset.result c.wait_where-in-WaitBitset.new.self c.args.memory.now held c.args.events.now c.wait_where-in-WaitBitset.new.events) c.argument-in-WaitBitset.ensures (c.wait_where-in-WaitBitset.ensures.does held))
+    subst (λ (r : CallResult). Does r c.futex_wait-in-WaitBitset.result c.futex_wait-in-WaitBitset.new.self c.args.memory.now held c.args.events.now c.futex_wait-in-WaitBitset.new.events) (sym same) (subst (λ (bits : ℕ). Does (returns made 0 ▷ compares made (futex_value made) (waits_for made bits)) c.futex_wait-in-WaitBitset.result c.futex_wait-in-WaitBitset.new.self c.args.memory.now held c.args.events.now c.futex_wait-in-WaitBitset.new.events) c.argument-in-WaitBitset.ensures (c.futex_wait-in-WaitBitset.ensures.does held))
 
 pub returns-in-Wake-clause-does : goal.returns-in-Wake-clause-does
 returns-in-Wake-clause-does c = λ held.
@@ -39,7 +39,7 @@ returns-in-Wake-clause-does c = λ held.
     let is : operation made ≡ Some c.in-Some.operation = ap (λ (n : ℕ). operation_numbered (bit_and n 4294966911)) (sym c.argument.ensures) ∙ sym c.numbered.ensures ∙ c.in-Some.is in
     let passed : first_answer (futex_tests c.in-Some.operation made) ≡ None = sym (c.refusal.ensures.value c.args.self.now held) ∙ c.in_default-refusal.is in
     let same = futex_performed made c.in-Some.operation is passed ∙ ap (λ (o : Operation). performed o made) c.in-Wake.is in
-    subst (λ (r : CallResult). Does r c.wake_some.result c.wake_some.new.self c.args.memory.now held c.args.events.now c.args.events.now) (sym same) (c.wake_some.ensures c.args.memory.now held c.args.events.now)
+    subst (λ (r : CallResult). Does r c.futex_wake.result c.futex_wake.new.self c.args.memory.now held c.args.events.now c.args.events.now) (sym same) (c.futex_wake.ensures c.args.memory.now held c.args.events.now)
 
 pub returns-in-WakeBitset-clause-does : goal.returns-in-WakeBitset-clause-does
 returns-in-WakeBitset-clause-does c = λ held.
@@ -47,7 +47,7 @@ returns-in-WakeBitset-clause-does c = λ held.
     let is : operation made ≡ Some c.in-Some.operation = ap (λ (n : ℕ). operation_numbered (bit_and n 4294966911)) (sym c.argument.ensures) ∙ sym c.numbered.ensures ∙ c.in-Some.is in
     let passed : first_answer (futex_tests c.in-Some.operation made) ≡ None = sym (c.refusal.ensures.value c.args.self.now held) ∙ c.in_default-refusal.is in
     let same = futex_performed made c.in-Some.operation is passed ∙ ap (λ (o : Operation). performed o made) c.in-WakeBitset.is in
-    subst (λ (r : CallResult). Does r c.wake_some-in-WakeBitset.result c.wake_some-in-WakeBitset.new.self c.args.memory.now held c.args.events.now c.args.events.now) (sym same) (subst (λ (bits : ℕ). Does (returns made (count_woken made bits) ▷ wakes (futex_at made) (futex_value made) bits) c.wake_some-in-WakeBitset.result c.wake_some-in-WakeBitset.new.self c.args.memory.now held c.args.events.now c.args.events.now) c.argument-in-WakeBitset.ensures (c.wake_some-in-WakeBitset.ensures c.args.memory.now held c.args.events.now))
+    subst (λ (r : CallResult). Does r c.futex_wake-in-WakeBitset.result c.futex_wake-in-WakeBitset.new.self c.args.memory.now held c.args.events.now c.args.events.now) (sym same) (subst (λ (bits : ℕ). Does (returns made (count_woken made bits) ▷ wakes (futex_at made) (futex_value made) bits) c.futex_wake-in-WakeBitset.result c.futex_wake-in-WakeBitset.new.self c.args.memory.now held c.args.events.now c.args.events.now) c.argument-in-WakeBitset.ensures (c.futex_wake-in-WakeBitset.ensures c.args.memory.now held c.args.events.now))
 
 pub returns-in-Requeue-clause-does : goal.returns-in-Requeue-clause-does
 returns-in-Requeue-clause-does c = λ held.
@@ -55,7 +55,7 @@ returns-in-Requeue-clause-does c = λ held.
     let is : operation made ≡ Some c.in-Some.operation = ap (λ (n : ℕ). operation_numbered (bit_and n 4294966911)) (sym c.argument.ensures) ∙ sym c.numbered.ensures ∙ c.in-Some.is in
     let passed : first_answer (futex_tests c.in-Some.operation made) ≡ None = sym (c.refusal.ensures.value c.args.self.now held) ∙ c.in_default-refusal.is in
     let same = futex_performed made c.in-Some.operation is passed ∙ ap (λ (o : Operation). performed o made) c.in-Requeue.is in
-    subst (λ (r : CallResult). Does r c.requeue_some.result c.requeue_some.new.self c.args.memory.now held c.args.events.now c.args.events.now) (sym same) (c.requeue_some.ensures c.args.memory.now held c.args.events.now)
+    subst (λ (r : CallResult). Does r c.futex_requeue.result c.futex_requeue.new.self c.args.memory.now held c.args.events.now c.args.events.now) (sym same) (c.futex_requeue.ensures c.args.memory.now held c.args.events.now)
 
 pub returns-in-CmpRequeue-clause-does : goal.returns-in-CmpRequeue-clause-does
 returns-in-CmpRequeue-clause-does c = λ held.
@@ -63,4 +63,4 @@ returns-in-CmpRequeue-clause-does c = λ held.
     let is : operation made ≡ Some c.in-Some.operation = ap (λ (n : ℕ). operation_numbered (bit_and n 4294966911)) (sym c.argument.ensures) ∙ sym c.numbered.ensures ∙ c.in-Some.is in
     let passed : first_answer (futex_tests c.in-Some.operation made) ≡ None = sym (c.refusal.ensures.value c.args.self.now held) ∙ c.in_default-refusal.is in
     let same = futex_performed made c.in-Some.operation is passed ∙ ap (λ (o : Operation). performed o made) c.in-CmpRequeue.is in
-    subst (λ (r : CallResult). Does r c.requeue_where.result c.requeue_where.new.self c.args.memory.now held c.args.events.now c.requeue_where.new.events) (sym same) (c.requeue_where.ensures.does held)
+    subst (λ (r : CallResult). Does r c.futex_cmp_requeue.result c.futex_cmp_requeue.new.self c.args.memory.now held c.args.events.now c.futex_cmp_requeue.new.events) (sym same) (c.futex_cmp_requeue.ensures.does held)

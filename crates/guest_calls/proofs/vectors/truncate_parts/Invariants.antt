@@ -1,6 +1,6 @@
 use Rattle.std.proofs.Common.{◌≡◌, take, drop, ◌++◌}
 use Rattle.guest_calls.specs.Vectors.{carried}
-use Rattle.guest_calls.proofs.vectors.cut_all.Given as goal
+use Rattle.guest_calls.proofs.vectors.truncate_parts.Given as goal
 
 abbrev pub invariant-loop-p : goal.invariant-loop-p
 invariant-loop-p l = record {
