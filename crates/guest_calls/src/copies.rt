@@ -29,7 +29,7 @@ pub(crate) fn fill(
     ensures events { events.new.list ≡ events.old.list ++ fill_event at (length bytes.now) }
     ensures room { events.old.room ≤ events.new.room + 1 }
 {
-    let _ = memory.copy_in(at, bytes);
+    memory.copy_in(at, bytes).unwrap();
     if !bytes.is_empty() {
         let (first, count) = words_over(at, bytes.len() as u32);
         held.written(None, first, count);
@@ -75,5 +75,5 @@ pub(crate) fn copy_to(memory: &GuestMemory, at: Addr, front: &mut [u8], count: u
     requires reach { can_read (memory_of memory.now) at count ≡ true }
     ensures { front.new ≡ bytes_at (memory_of memory.now) at count ++ drop count front.old }
 {
-    let _ = memory.copy_out(at, &mut front[..count]);
+    memory.copy_out(at, &mut front[..count]).unwrap();
 }

@@ -210,9 +210,5 @@ pub(crate) fn first_bytes(bytes: &[u8], most: u32) -> &[u8]
     ensures few { length result.now ≤ most }
     ensures fewer { length result.now ≤ length bytes.now }
 {
-    if bytes.len() <= most as usize {
-        bytes
-    } else {
-        &bytes[..most as usize]
-    }
+    &bytes[..bytes.len().min(most as usize)]
 }

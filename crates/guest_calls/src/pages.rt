@@ -1,5 +1,5 @@
 //! The calls on pages: brk(2), munmap(2), mmap2(2) and mprotect(2).
-ghost use Rattle.std.specs.Prelude.{◌≡◌, ℕ, ◌≤◌, ◌<◌, ◌+◌, ◌^◌, true, IfOk, IfSome, OnOk, OnErr, Some};
+ghost use Rattle.std.specs.Prelude.{◌≡◌, ℕ, ◌≤◌, ◌<◌, ◌+◌, ◌%◌, ◌^◌, ◌==◌, true, IfOk, IfSome, OnOk, OnErr, Some};
 ghost use Rattle.guest_memory.specs.declared.reservations.Reservations.{Reservations};
 ghost use Rattle.guest_memory.specs.Guest.{memory_of};
 ghost use Rattle.guest_memory.specs.Memory.{AreFree, ArePagesMapped, mapped_pages, with_pages};
@@ -24,6 +24,17 @@ const BREAK_LIMIT: u32 = 0x4000_0000;
 
 /// How many pages can be mapped.
 const PAGE_LIMIT: u32 = 16384;
+
+/// The bits of the flags that hold the type of a mapping.
+const MAP_TYPE: u32 = 0xF;
+
+const MAP_PRIVATE: u32 = 2;
+
+const MAP_FIXED: u32 = 0x10;
+
+const MAP_ANONYMOUS: u32 = 0x20;
+
+const MAP_FIXED_NOREPLACE: u32 = 0x10_0000;
 
 const PROT_READ: u32 = 1;
 
@@ -124,6 +135,14 @@ fn first_fit(memory: &GuestMemory, count: u32) -> Option<u32>
     memory.find_free(count)
 }
 
+/// Whether the flags ask for a private mapping.
+#[tactic(auto, using(std::proofs::lemmas::Nat::and_mask))]
+fn is_private(flags: u32) -> bool
+    ensures { result ≡ (flags % 2 ^ 4 == 2) }
+{
+    flags & MAP_TYPE == MAP_PRIVATE
+}
+
 /// mmap2(2)
 pub(crate) fn mmap2(memory: &mut GuestMemory, caller: &Caller) -> Result<Answer, AllocError>
     ensures does { (state : KernelState) (held : Reservations) (events : EventList) → IfOk result (λ answer. Does (specs.mmap2 (asked caller.now state memory.old held)) answer state memory.new held events events) }
@@ -131,13 +150,13 @@ pub(crate) fn mmap2(memory: &mut GuestMemory, caller: &Caller) -> Result<Answer,
     ensures high { (page : ℕ) → page < 0x40000 → (memory_of memory.new).rights page ≡ (memory_of memory.old).rights page }
 {
     let (bytes, flags) = (caller.argument(1), caller.argument(3));
-    if flags % 16 != 2 {
+    if !is_private(flags) {
         return Ok(Answer::Back { value: ENOSYS });
     }
-    if flags & 0x20 == 0 {
+    if flags & MAP_ANONYMOUS == 0 {
         return Ok(Answer::Back { value: ENOSYS });
     }
-    if flags & 0x10_0010 != 0 {
+    if flags & (MAP_FIXED | MAP_FIXED_NOREPLACE) != 0 {
         return Ok(Answer::Back { value: ENOSYS });
     }
     if bytes == 0 {

@@ -68,7 +68,7 @@ pub(crate) fn parts_at(
     ensures parts { IfOk result (λ parts. parts.items ≡ parts_at (memory_of memory.now) at count) }
     ensures count { IfOk result (λ parts. vec_len parts ≡ count) }
 {
-    let mut parts = Vec::new(alloc);
+    let mut parts = Vec::with_capacity(alloc, count as usize)?;
     for i in 0..count {
         parts.push(part_at(memory, at + 8 * i))?;
     }
