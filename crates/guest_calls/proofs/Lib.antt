@@ -9,6 +9,7 @@ pub mod PartLists
 pub mod Passed
 pub mod PathEnds
 pub mod Fits
+pub mod Found
 pub mod Queues
 pub mod Reach
 pub mod Refusals

@@ -49,10 +49,11 @@ impl Inputs {
     }
 
     /// Whether there is a file of this name.
+    #[tactic(auto, using(crate::proofs::Found::found_where_any))]
     fn has(&self, name: &[u8]) -> bool
         ensures { result ≡ list_any (is_named name.now) self.now }
     {
-        self.items.iter().any(|i| i.name.as_slice() == name)
+        self.index_of(name).is_some()
     }
 
     /// One more file, behind the others. A name that is there keeps its bytes.

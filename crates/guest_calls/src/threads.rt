@@ -149,18 +149,9 @@ fn set_clear_tid(threads: &mut [Thread], tid: Tid, at: Addr)
     ensures { threads.new ≡ map (with_clear_tid tid at) threads.old }
 {
     for t in threads.iter_mut() {
-        *t = with_clear_tid(*t, tid, at);
-    }
-}
-
-/// The thread, where it is the one, with another address for its zero.
-fn with_clear_tid(t: Thread, tid: Tid, at: Addr) -> Thread
-    ensures { result ≡ with_clear_tid tid at t }
-{
-    if t.tid == tid {
-        Thread { tid, clear_tid: at }
-    } else {
-        t
+        if t.tid == tid {
+            t.clear_tid = at;
+        }
     }
 }
 
