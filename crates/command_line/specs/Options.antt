@@ -101,9 +101,9 @@ options_of_rows rows = options_with rows
     (first_of (codes "output") rows)
     (first_of (codes "image") rows)
 
--- ---- the demonstrations
+-- ---- the demos
 
--- the number of a demonstration: 1 to 40000
+-- the number of a demo: 1 to 40000
 abbrev pub demo_of : List ℕ → Option ℕ
 demo_of = number_between 1 40000
 
@@ -113,7 +113,7 @@ demo_of_rows rows = option_and_then demo_of (first_of (codes "number") rows)
 
 -- ---- the words
 
--- What the words ask for: a run, or the demonstration of a number.
+-- What the words ask for: a run, or the demo of a number.
 pub data Asked : Type 0 where
   Run : RunOptions → Asked
   Demo : ℕ → Asked
@@ -128,7 +128,8 @@ asked_of_rows name rows =
 abbrev pub has_zero : List ℕ → Bool
 has_zero word = list_any (λ byte. byte == 0) word
 
--- What the words of a command line say, the program's name first: `None` where a word has a zero byte.
+-- What the words of a command line say, the program's name first: `None` where a word has a zero byte, `clap` states no
+-- subcommand, or a number is out of its form or range.
 unfoldable pub asked_of : List (List ℕ) → Option Asked
 asked_of words =
     if list_any has_zero words then None

@@ -111,7 +111,7 @@ demo_words program number = program ∷ codes "demo" ∷ number ∷ []
 abbrev pub PlainDemoIsTaken : Type 0
 PlainDemoIsTaken = (program number : Text) → is_plain_word number ≡ true → takes the_app (demo_words program number) ≡ true
 
--- They ask for the demonstration of the number that the word says.
+-- They ask for the demo of the number that the word says.
 abbrev pub PlainDemoIsRead : Type 0
 PlainDemoIsRead = (program text : Text) (number : ℕ) → is_plain_word text ≡ true → list_any has_zero (demo_words program text) ≡ false
     → demo_of text ≡ Some number → asked_of (demo_words program text) ≡ Some (Asked.Demo number)

@@ -14,7 +14,7 @@ use clap::error::ErrorKind;
 use std::alloc::{AllocError, Global};
 use thiserror::Error;
 
-/// The greatest number of a demonstration.
+/// The greatest number of a demo.
 const GREATEST_DEMO: u64 = 40_000;
 
 /// Why no command is made of the words.
@@ -44,7 +44,7 @@ impl From<AllocError> for CommandError {
 pub enum Command<'a> {
     /// A guest's run.
     Run(RunCommand<'a>),
-    /// The demonstration of a number.
+    /// The demo of a number.
     Demo(u32),
 }
 

@@ -18,7 +18,7 @@ pub fn plain_demo_is_taken()
     ensures { PlainDemoIsTaken }
 {}
 
-/// What they ask for: the demonstration of the number that the word says, where that is in its form and range.
+/// What they ask for: the demo of the number that the word says, where that is in its form and range.
 pub fn plain_demo_is_read()
     ensures { PlainDemoIsRead }
 {}

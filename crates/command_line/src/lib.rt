@@ -1,5 +1,6 @@
 //! The words of the command line, `aprof run ...` or `aprof demo N`, read by one fixed `clap` command. What they ask for is
-//! `asked_of` the words, a function of the rows that `clap` states for that command.
+//! `asked_of` the words, a function of the rows that `clap` states for that command; where `clap`'s stated test does not
+//! take the words, they may be refused instead.
 #![tactic(auto)]
 
 mod app;

@@ -1,4 +1,4 @@
--- The executable of a code and its symbols: an ELF file of one segment, which holds the headers and the code. Where there
+-- The executable of a program and its symbols: an ELF file of one segment, which holds the headers and the code. Where there
 -- are symbols, a symbol table, its strings and the section headers stand behind it.
 use Rattle.std.specs.Prelude.{ℕ, ◌+◌, ◌-◌, ◌*◌, ◌/◌, ◌==◌, if◌then◌else◌, List, [], ◌∷◌, ◌++◌, length, replicate}
 use Rattle.std.specs.List.{flat_map}

@@ -36,7 +36,7 @@ pub record IsAccepted (d : Draft) : Type 0 where
   pub bound : first_unbound d.bindings d.lines ≡ None
   pub reach : AreInReach d (length d.lines)
 
--- what the refusals of a draft say of it whose labels are all bound
+-- what the refusals of a draft say of a draft whose labels are all bound
 abbrev pub IsOutOfReach : Draft → AsmError → Type 0
 IsOutOfReach d (Reach at) = IsFirstOut d at
 IsOutOfReach d Memory = Unit {0}

@@ -14,7 +14,7 @@ pub enum AsmError {
     /// The offset of the jump at this word is out of the range of its form. No jump before it has such an offset.
     #[error("a jump that is too far")]
     Reach { at: u32 },
-    /// The instruction, which would be this word, has no word, or is no jump with an offset.
+    /// Of `emit`: the instruction has no word. Of `jump`: it is neither JAL nor a branch. It would be this word.
     #[error("an instruction that can't be written")]
     Unencodable { at: u32 },
     /// Want of memory.

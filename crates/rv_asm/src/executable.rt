@@ -20,9 +20,10 @@ pub struct Symbol {
 /// The first bytes of each file (e_ident).
 const IDENT: [u8; 16] = [0x7f, 0x45, 0x4c, 0x46, 1, 1, 1, 0, 0, 0, 0, 0, 0, 0, 0, 0];
 
-/// The address of the file's first byte, and that of its first word of code.
+/// The address where the file's first byte is loaded.
 const ADDRESS: u32 = 0x1_0000;
 
+/// The address of the first word of code, where the program begins to run.
 const ENTRY: u32 = 0x1_0054;
 
 /// The size of the file header and the program header.
@@ -119,7 +120,7 @@ fn named_file(alloc: Global, words: &[u32], symbols: &[Symbol]) -> Result<Vec<u8
     Ok(file)
 }
 
-/// The executable of a code: loaded, its first word stands at 0x10054, where it begins to run. Its symbols name routines.
+/// The executable of a program; its first word is loaded at 0x10054, where it begins to run. The symbols name its routines.
 pub fn write_exec(alloc: Global, code: &Code, symbols: &[Symbol]) -> Result<Vec<u8>, AllocError>
     requires some { 1 ≤ length code.now }
     requires size { length (executable code.now symbols.now) ≤ 16777216 }

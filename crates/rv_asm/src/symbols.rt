@@ -59,7 +59,7 @@ pub(crate) fn push_symbols(file: &mut Vec<u8>, symbols: &[Symbol]) -> Result<(),
     Ok(())
 }
 
-/// Appends zeros up to the next multiple of 4 of a offset.
+/// Appends zeros up to the next multiple of 4 of an offset.
 pub(crate) fn push_padding(file: &mut Vec<u8>, offset: u32) -> Result<(), AllocError>
     ensures { OnOk result (file.new.items ≡ file.old.items ++ padding offset) }
 {

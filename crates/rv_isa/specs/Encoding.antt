@@ -12,7 +12,7 @@ use Rattle.rv_isa.specs.declared.instruction.Instr.TheVariants.{Lui, Auipc, Jal,
 abbrev pub IsWithin : ℤ → ℤ → ℤ → Type 0
 IsWithin low high z = (low ≤ℤ z) × (z ≤ℤ high)
 
--- offsets count in halfwords
+-- an offset is in bytes, and a multiple of two
 abbrev pub IsEven : ℤ → Type 0
 IsEven z = unsigned_abs z % 2 ≡ 0
 

@@ -83,9 +83,9 @@ pub enum AtomicOp {
     Maxu,
 }
 
-/// An instruction. Offsets and immediates are the numbers that the word stands for, sign-extended, in
-/// bytes; those of LUI and AUIPC are the twenty bits as they stand in the word, and the amount of a
-/// shift by a constant is its `imm`. An address is `base` plus `offset`, `left` and `right` are rs1 and
+/// An instruction. Offsets are in bytes; offsets and immediates are sign-extended. The immediates of LUI
+/// and AUIPC are the twenty bits as they stand in the word, and the amount of a shift by a constant is
+/// its `imm`. An address is `base` plus `offset`, `left` and `right` are rs1 and
 /// rs2, `value` is the register that is stored or operated with, and `order` is 2 for the bit `aq` plus
 /// 1 for `rl`.
 #[derive(Clone, Copy, PartialEq, Eq, Debug)]

@@ -76,7 +76,7 @@ unmatched_return =
     Start 1 0x10054 ∷ Step 1 ∷ Call 1 0x10060 0x10058 ∷ Step 1 ∷ Call 1 0x1006c 0x10064 ∷ Step 1 ∷
     Step 1 ∷ Ret 1 0x10068 ∷ Step 1 ∷ Ret 1 0x10058 ∷ Step 1 ∷ Step 1 ∷ End 1 ∷ []
 
--- their profiles, and that the longest ones are well formed
+-- their profiles, and that those of the kernel's fills and of the own write in between are well formed
 pub record WorkedTraces : Type 0 where
   pub smallest : done (reverse smallest_guest) ≡ of_thread 1 0x10054 0 3 ∷ []
   pub repeated : done (reverse repeated_read) ≡ of_thread 1 0x10064 1 3 ∷ of_thread 1 0x10054 1 7 ∷ []
