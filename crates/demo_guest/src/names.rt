@@ -12,7 +12,7 @@ use std::alloc::{AllocError, Global};
 /// The address of the first word of the code.
 const ENTRY: u32 = 0x1_0054;
 
-/// A symbol whose name is one.
+/// The symbol of a word, whose name these bytes are.
 fn named(alloc: Global, name: &[u8], word: u32) -> Result<Symbol, AllocError>
     requires name { is_name name.now ≡ true }
     requires word { word ≤ 4000000 }

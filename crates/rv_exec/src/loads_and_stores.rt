@@ -34,7 +34,7 @@ fn extended(kind: LoadKind, n: u32) -> u32
     }
 }
 
-/// The register whose number the bits stand for in two's complement, where their topmost one weighs `sign`.
+/// The 32 bits of the number that the bits stand for in two's complement, where the topmost one weighs `sign`.
 fn sign_extended(n: u32, sign: u32) -> u32
     requires narrow { sign ≤ 2 ^ 15 }
     requires fits { n < 2 * sign }

@@ -1,4 +1,4 @@
-//! The operations on two registers.
+//! What the operations compute, as in specs/Operations.antt.
 ghost use Rattle.std.specs.Prelude.{◌≡◌};
 ghost use Rattle.rv_exec.specs.Operations.{register_result, immediate_result, is_taken, add_offset, signed};
 ghost use Rattle.rv_isa.specs.declared.instruction.RegOp.{RegOp};

@@ -9,7 +9,7 @@ use Rattle.elf_image.specs.Reading.{names_of}
 use Rattle.rv_asm.specs.declared.executable.Symbol.{Symbol}
 use Rattle.rv_asm.specs.Executable.{code_bytes, code_end, executable}
 
--- A code and symbols of which a file is written: the code has a word, and the file is not too large.
+-- A program and symbols of which a file is written: the program has a word, and the file is not too large.
 pub record IsWritten (words : List ℕ) (symbols : List Symbol) : Type 0 where
   pub some : 1 ≤ length words
   pub size : length (executable words symbols) ≤ 16777216
