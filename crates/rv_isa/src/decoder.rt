@@ -211,15 +211,15 @@ fn register(word: u32) -> Option<Instr>
     ensures instruction { result ≡ decoded word }
 {
     match bits(word, 31, 25) {
-        0x00 => base_register(word),
-        0x20 => alternate_register(word),
+        0x00 => integer_op(word),
+        0x20 => sub_or_sra(word),
         0x01 => multiply(word),
         _ => None,
     }
 }
 
 #[tactic(auto, using(crate::proofs::Rows::base_registers, std::proofs::lemmas::Bool::Decides::nat_tests))]
-fn base_register(word: u32) -> Option<Instr>
+fn integer_op(word: u32) -> Option<Instr>
     requires operation { opcode word ≡ 0x33 }
     requires base { funct7 word ≡ 0x00 }
     ensures instruction { result ≡ decoded word }
@@ -238,7 +238,7 @@ fn base_register(word: u32) -> Option<Instr>
 }
 
 #[tactic(auto, using(crate::proofs::Rows::alternate_registers, std::proofs::lemmas::Bool::Decides::nat_tests))]
-fn alternate_register(word: u32) -> Option<Instr>
+fn sub_or_sra(word: u32) -> Option<Instr>
     requires operation { opcode word ≡ 0x33 }
     requires alternate { funct7 word ≡ 0x20 }
     ensures instruction { result ≡ decoded word }
@@ -299,16 +299,16 @@ fn atomic_word(word: u32) -> Option<Instr>
 {
     match bits(word, 31, 27) {
         0b00010 => load_reserved(word),
-        0b00011 => Some(on_memory(AtomicOp::Sc, word)),
-        0b00001 => Some(on_memory(AtomicOp::Swap, word)),
-        0b00000 => Some(on_memory(AtomicOp::Add, word)),
-        0b00100 => Some(on_memory(AtomicOp::Xor, word)),
-        0b01100 => Some(on_memory(AtomicOp::And, word)),
-        0b01000 => Some(on_memory(AtomicOp::Or, word)),
-        0b10000 => Some(on_memory(AtomicOp::Min, word)),
-        0b10100 => Some(on_memory(AtomicOp::Max, word)),
-        0b11000 => Some(on_memory(AtomicOp::Minu, word)),
-        0b11100 => Some(on_memory(AtomicOp::Maxu, word)),
+        0b00011 => Some(atomic_of(AtomicOp::Sc, word)),
+        0b00001 => Some(atomic_of(AtomicOp::Swap, word)),
+        0b00000 => Some(atomic_of(AtomicOp::Add, word)),
+        0b00100 => Some(atomic_of(AtomicOp::Xor, word)),
+        0b01100 => Some(atomic_of(AtomicOp::And, word)),
+        0b01000 => Some(atomic_of(AtomicOp::Or, word)),
+        0b10000 => Some(atomic_of(AtomicOp::Min, word)),
+        0b10100 => Some(atomic_of(AtomicOp::Max, word)),
+        0b11000 => Some(atomic_of(AtomicOp::Minu, word)),
+        0b11100 => Some(atomic_of(AtomicOp::Maxu, word)),
         _ => None,
     }
 }
@@ -321,12 +321,12 @@ fn load_reserved(word: u32) -> Option<Instr>
     ensures instruction { result ≡ decoded word }
 {
     match bits(word, 24, 20) {
-        0 => Some(on_memory(AtomicOp::Lr, word)),
+        0 => Some(atomic_of(AtomicOp::Lr, word)),
         _ => None,
     }
 }
 
-fn on_memory(op: AtomicOp, word: u32) -> Instr
+fn atomic_of(op: AtomicOp, word: u32) -> Instr
     ensures instruction { result ≡ atomic_type (Instr.Atomic op) word }
 {
     Instr::Atomic {

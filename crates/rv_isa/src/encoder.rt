@@ -91,6 +91,7 @@ fn word_of(funct7: u32, rs2: u32, rs1: u32, funct3: u32, rd: u32, opcode: u32) -
     ((((funct7 << 5 | rs2) << 5 | rs1) << 3 | funct3) << 5 | rd) << 7 | opcode
 }
 
+/// The field of a word that holds the number of a register.
 fn field(register: Reg) -> u32
     ensures number { result ≡ register }
     ensures small { result < 2 ^ 5 }
@@ -332,8 +333,8 @@ fn atomic_funct5(op: AtomicOp) -> u32
     }
 }
 
-/// LR has no value register, so that field of it is x0.
-fn takes(op: AtomicOp, value: Reg) -> bool
+/// Whether the operation can have this value register. LR has none, so that its field is x0.
+fn is_value_of(op: AtomicOp, value: Reg) -> bool
     ensures value { IsTrue result ↔ IsValueOf op value }
 {
     op != AtomicOp::Lr || value.number() == 0
@@ -360,7 +361,7 @@ fn atomic(op: AtomicOp, rd: Reg, base: Reg, value: Reg, order: u8) -> Option<u32
     ensures range { IsSome result ↔ (order < 4) × IsValueOf op value }
     ensures word { IfSome result (λ word. decoded word ≡ Some (Instr.Atomic op rd base value order)) }
 {
-    if order > 3 || !takes(op, value) {
+    if order > 3 || !is_value_of(op, value) {
         return None;
     }
     let funct5 = atomic_funct5(op);
