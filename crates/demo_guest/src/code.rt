@@ -23,7 +23,7 @@ fn x(n: u8) -> Reg
 }
 
 /// The sum of a register and a number.
-fn add(rd: u8, left: u8, imm: i32) -> Instr
+fn addi(rd: u8, left: u8, imm: i32) -> Instr
     requires { (rd < 32) × (left < 32) }
     ensures sum { result ≡ Immediate Addi rd left imm }
 {
@@ -36,7 +36,7 @@ fn add(rd: u8, left: u8, imm: i32) -> Instr
 }
 
 /// A jump to a label, which sets the register of this number to the address behind it.
-fn call(rd: u8) -> Instr
+fn jal(rd: u8) -> Instr
     requires { rd < 32 }
     ensures call { result ≡ Jal rd (pos 0) }
 {
@@ -55,21 +55,21 @@ fn emit_start(program: &mut Builder, main: Label, worker: Label) -> Result<(), A
     ensures bindings { OnOk result (IsStarted program.old.bindings program.new.bindings) }
 {
     let start = [
-        add(6, 2, -1024),
+        addi(6, 2, -1024),
         Instr::Lui { rd: x(10), imm: 17 },
-        add(10, 10, -1792),
-        add(17, 0, 220),
+        addi(10, 10, -1792),
+        addi(17, 0, 220),
         Instr::Ecall,
-        add(17, 0, 124),
+        addi(17, 0, 124),
     ];
     emit_all(program, &start)?;
-    let is_old = Instr::Branch {
+    let bne = Instr::Branch {
         test: Test::Ne,
         left: x(10),
         right: x(0),
         offset: 0,
     };
-    jump(program, is_old, main)?;
+    jump(program, bne, main)?;
     bind(program, worker);
     let write = Instr::Store {
         kind: StoreKind::Sw,
@@ -79,7 +79,7 @@ fn emit_start(program: &mut Builder, main: Label, worker: Label) -> Result<(), A
     };
     emit(program, write)?;
     emit(program, Instr::Ecall)?;
-    jump(program, call(0), worker)?;
+    jump(program, jal(0), worker)?;
     bind(program, main);
     Ok(())
 }
@@ -92,7 +92,7 @@ fn emit_calls(program: &mut Builder, labels: &[Label]) -> Result<(), AllocError>
     ensures bindings { OnOk result (program.new.bindings ≡ program.old.bindings) }
 {
     for label in labels {
-        jump(program, call(1), *label)?;
+        jump(program, jal(1), *label)?;
         emit(program, Instr::Ecall)?;
     }
     Ok(())
@@ -104,7 +104,7 @@ fn emit_ending(program: &mut Builder) -> Result<(), AllocError>
     ensures lines { OnOk result (program.new.lines ≡ program.old.lines ++ map plain ending) }
     ensures bindings { OnOk result (program.new.bindings ≡ program.old.bindings) }
 {
-    emit_all(program, &[add(10, 0, 0), add(17, 0, 94), Instr::Ecall])
+    emit_all(program, &[addi(10, 0, 0), addi(17, 0, 94), Instr::Ecall])
 }
 
 /// The load of one of the words that routines read.
