@@ -15,7 +15,7 @@ use std::alloc::{AllocError, Global};
 use thiserror::Error;
 
 /// The greatest number of a demo.
-const GREATEST_DEMO: u64 = 40_000;
+const MAX_DEMO: u64 = 40_000;
 
 /// Why no command is made of the words.
 #[derive(Clone, Copy, Debug, PartialEq, Eq, Error)]
@@ -67,7 +67,7 @@ fn demo_of_matches(matches: &ArgMatches) -> Option<u32>
     ensures number { result ≡ demo_of_rows (rows_of (found_of matches.now)) }
     ensures range { IfSome result (λ number. (1 ≤ number) × (number ≤ 40000)) }
 {
-    let number = number_between(1, GREATEST_DEMO, text_of(matches, "number")?)?;
+    let number = number_between(1, MAX_DEMO, text_of(matches, "number")?)?;
     Some(number as u32)
 }
 

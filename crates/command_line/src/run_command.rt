@@ -14,16 +14,16 @@ use clap::ArgMatches;
 use std::alloc::{AllocError, Global};
 
 /// The most steps of a turn, where the words don't say.
-const USUAL_QUANTUM: u64 = 10_000;
+const DEFAULT_QUANTUM: u64 = 10_000;
 
 /// The most that they may say.
-const GREATEST_QUANTUM: u64 = 1_000_000_000;
+const MAX_QUANTUM: u64 = 1_000_000_000;
 
 /// The most steps of a run, where the words don't say.
-const USUAL_BUDGET: u64 = 1_000_000_000;
+const DEFAULT_BUDGET: u64 = 1_000_000_000;
 
 /// The most that they may say.
-const GREATEST_BUDGET: u64 = 1_000_000_000_000;
+const MAX_BUDGET: u64 = 1_000_000_000_000;
 
 /// What `run` is asked: `options_in` says its options.
 #[derive(Drop)]
@@ -56,9 +56,9 @@ pub(crate) fn run_of_matches<'a>(
     ensures ranges { IfOk result (λ command. AreInRange command.quantum command.budget) }
 {
     let quantum_text = text_of(matches, "quantum");
-    let quantum = number_or(USUAL_QUANTUM, 1, GREATEST_QUANTUM, quantum_text);
+    let quantum = number_or(DEFAULT_QUANTUM, 1, MAX_QUANTUM, quantum_text);
     let budget_text = text_of(matches, "budget");
-    let budget = number_or(USUAL_BUDGET, 1, GREATEST_BUDGET, budget_text);
+    let budget = number_or(DEFAULT_BUDGET, 1, MAX_BUDGET, budget_text);
     Ok(RunCommand {
         report: text_of(matches, "output").ok_or(CommandError::Refused)?,
         stdin: text_of(matches, "stdin"),
