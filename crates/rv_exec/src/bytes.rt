@@ -15,11 +15,7 @@ pub fn words(at: Addr, size: Size) -> (Word, u32)
     requires { at + byte_count size ≤ 2 ^ 32 }
     ensures { result ≡ (at / 4, word_count at (byte_count size)) }
 {
-    match size {
-        Size::One => words_over(at, 1),
-        Size::Two => words_over(at, 2),
-        Size::Four => words_over(at, 4),
-    }
+    words_over(at, size.bytes() as u32)
 }
 
 /// The number that the bytes give, the lowest byte first. None where one of them can't be read.
