@@ -4,8 +4,7 @@ ghost use Rattle.std.specs.List.{range_with_len};
 ghost use Rattle.guest_words.specs.Names.{is_name};
 ghost use Rattle.demo_guest.specs.Image.{address, routine_symbol, symbols};
 
-use guest_words::{Name, NameError};
-use itoa::Buffer;
+use guest_words::{Name, NameError, push_decimal};
 use rv_asm::Symbol;
 use std::alloc::{AllocError, Global};
 
@@ -31,9 +30,8 @@ fn routine_name(alloc: Global, routine: u32) -> Result<Vec<u8>, AllocError>
     requires { routine < 40000 }
     ensures { IfOk result (λ name. name.items ≡ 114 ∷ decimal (routine + 1)) }
 {
-    let mut buffer = Buffer::new();
     let mut name = Vec::from_slice(alloc, b"r")?;
-    name.extend_from_slice(buffer.format(routine + 1).as_bytes())?;
+    push_decimal(&mut name, u128::from(routine + 1))?;
     Ok(name)
 }
 
