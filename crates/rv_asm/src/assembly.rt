@@ -14,12 +14,7 @@ use std::alloc::{AllocError, Global};
 pub(crate) fn binding_of(bindings: &[Option<u32>], label: u32) -> Option<u32>
     ensures binding { result ≡ binding_of bindings.now label }
 {
-    let label = label as usize;
-    if label < bindings.len() {
-        bindings[label]
-    } else {
-        None
-    }
+    bindings.get(label as usize).copied().flatten()
 }
 
 /// Whether a line needs no label, or one that is bound.
