@@ -80,18 +80,17 @@ fn store_conditional(
     requires { at % 4 ≡ 0 }
     ensures { (result, exec_state_of cpu.new memory.new held.new) ≡ store_conditional tid rd at n (exec_state_of cpu.old memory.old held.old) }
 {
-    let refused = Outcome::Fault {
-        kind: FaultKind::Store,
-    };
     if !memory.can_write(at, 4) {
-        return refused;
+        return Outcome::Fault {
+            kind: FaultKind::Store,
+        };
     }
     if !held.take(tid, Word::of(at)) {
         cpu.put(rd, 1);
         return Outcome::WENT;
     }
     let Some((first, count)) = write(memory, held, tid, at, Size::Four, n) else {
-        return refused;
+        unreachable!();
     };
     cpu.put(rd, 0);
     Outcome::Went {
