@@ -52,7 +52,7 @@ pub enum Command<'a> {
 fn has_zero(word: &str) -> bool
     ensures { result ≡ has_zero word.now }
 {
-    word.as_bytes().iter().any(|byte| *byte == 0)
+    word.as_bytes().contains(&0)
 }
 
 // Whether some word has a zero byte.

@@ -7,7 +7,7 @@ ghost use Rattle.command_line.specs.Options.{is_digit, is_numeral, number_betwee
 fn are_digits(bytes: &[u8]) -> bool
     ensures { result ≡ list_all is_digit bytes.now }
 {
-    bytes.iter().all(|byte| b'0' <= *byte && *byte <= b'9')
+    bytes.iter().all(|byte| byte.is_ascii_digit())
 }
 
 // Whether the text is one to twenty digits.
@@ -16,13 +16,7 @@ fn is_numeral(text: &str) -> bool
     ensures { result ≡ is_numeral text.now }
 {
     let bytes = text.as_bytes();
-    if bytes.is_empty() {
-        return false;
-    }
-    if bytes.len() > 20 {
-        return false;
-    }
-    are_digits(bytes)
+    !bytes.is_empty() && bytes.len() <= 20 && are_digits(bytes)
 }
 
 /// The number that the text says, if that is in the range.
