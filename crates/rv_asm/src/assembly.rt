@@ -69,15 +69,6 @@ fn word_of(instruction: Instr) -> Option<u32>
     encode(instruction)
 }
 
-/// Appends an item.
-pub(crate) fn append<T: Drop>(items: &mut Vec<T>, item: T) -> Result<(), AllocError>
-    ensures ok { OnOk result (items.new.items ≡ items.old.items ++ item ∷ []) }
-    ensures err { OnErr result (items.new.items ≡ items.old.items) }
-{
-    items.push(item)?;
-    Ok(())
-}
-
 /// The words of the lines, where each jump is in reach.
 pub(crate) fn words_of(
     alloc: Global,
@@ -99,7 +90,7 @@ pub(crate) fn words_of(
         let Some(word) = word_of(instruction_at(*line, at, bindings)) else {
             return Err(AsmError::Reach { at });
         };
-        append(&mut words, word)?;
+        words.push(word)?;
     }
     Ok(words)
 }

@@ -6,7 +6,7 @@ ghost use Rattle.rv_asm.specs.Lines.{is_jump};
 ghost use Rattle.rv_asm.specs.Refusals.{IsAccepted, IsRefused};
 ghost use Rattle.rv_asm.specs.Draft.{empty_draft, with_label, with_line, with_binding};
 
-use crate::assembly::{append, binding_of, first_unbound, is_encodable, words_of};
+use crate::assembly::{binding_of, first_unbound, is_encodable, words_of};
 use crate::error::AsmError;
 use crate::line::{Line, is_jump};
 use rv_isa::Instr;
@@ -103,7 +103,7 @@ impl Builder {
             instruction: i,
             to: None,
         };
-        append(&mut self.lines, line)?;
+        self.lines.push(line)?;
         Ok(())
     }
 
@@ -116,7 +116,7 @@ impl Builder {
         ensures refused { IfErr result (λ e. e ≡ AsmError.Memory) }
     {
         let number = self.bindings.len() as u32;
-        append(&mut self.bindings, None)?;
+        self.bindings.push(None)?;
         Ok(Label(number))
     }
 
@@ -137,7 +137,7 @@ impl Builder {
             instruction: i,
             to: Some(to.0),
         };
-        append(&mut self.lines, line)?;
+        self.lines.push(line)?;
         Ok(())
     }
 
