@@ -20,12 +20,11 @@ fn count_returned(target: Addr, calls: &[Activation]) -> usize
     ensures count { result ≡ count_returned target (backs (reverse calls.now)) }
     ensures within { result ≤ length calls.now }
 {
-    for i in (0..calls.len()).rev() {
-        if calls[i].back == Some(target) {
-            return calls.len() - i;
-        }
-    }
-    0
+    calls
+        .iter()
+        .rev()
+        .position(|call| call.back == Some(target))
+        .map_or(0, |k| k + 1)
 }
 
 /// How many of the thread's open activations, the outermost first, the event ends.

@@ -1,22 +1,15 @@
-use Rattle.std.proofs.Common.{◌-◌, sym, ap, ◌∙◌, None, arith}
-use Rattle.std.proofs.lemmas.List.{get_or-map}
+use Rattle.std.proofs.Common.{rules, tests, reverse}
+use Rattle.std.proofs.lemmas.Iterator.Search.{position_from_yields_List}
+use Rattle.std.proofs.lemmas.Iterator.Adapters.{YieldsList-from_rev_slice}
 use Rattle.trace_model.specs.Activations.{is_back}
-use Rattle.trace_model.proofs.Returned.{count_returned_at, count_returned_none, passed_more, is_back-option_eq}
+use Rattle.trace_model.proofs.Returned.{returned_by_position}
 use Rattle.trace_model.specs.declared.activations.Activation.{Activation}
 use Rattle.trace_model.proofs.activations.count_returned.Goals as goal
 
-pub returns-then-eq-clause-count : goal.returns-then-eq-clause-count
-returns-then-eq-clause-count c =
+pub returns-clause-count : goal.returns-clause-count
+returns-clause-count c =
     let calls = c.args.calls.now in
     let target = c.args.target in
-    let i = c.loop-i.i - 1 in
-    let found = ap (is_back target) (get_or-map (λ (a : Activation). a.back) calls i _ None (omega arith)) ∙ sym (is_back-option_eq target _) ∙ sym c.eq.ensures ∙ c.if-eq.true in
-    sym (count_returned_at (λ (a : Activation). a.back) calls target i (omega arith) found (λ j p q. c.loop-i.invariant j (omega arith) q))
-
-pub loop-i-preserved : goal.loop-i-preserved
-loop-i-preserved c =
-    let here = sym (is_back-option_eq c.args.target _) ∙ sym c.eq.ensures ∙ c.if-eq.false in
-    passed_more (λ (a : Activation). a.back) c.args.calls.now c.args.target c.loop-i.i _ c.loop-i-test.true c.loop-i.auto.i here c.loop-i.invariant
-
-pub returns-clause-count : goal.returns-clause-count
-returns-clause-count c = sym (count_returned_none (λ (a : Activation). a.back) c.args.calls.now c.args.target (λ j q. c.loop-i.invariant j (omega arith) q))
+    returned_by_position (λ (a : Activation). a.back) (reverse calls) target _ c.position.result
+    (position_from_yields_List (λ (a : Activation). is_back target a.back) _ _ c.position.result c.position.ensures.ran (YieldsList-from_rev_slice calls cc) (λ x b q k. search (rules, tests)))
+    (search (rules, tests))
