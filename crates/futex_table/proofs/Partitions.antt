@@ -223,10 +223,3 @@ pub IsOnce-shifted : (xs : List Waiter) (at bits most to : ℕ) → IsOnce xs �
 IsOnce-shifted xs at bits most to once =
     let gone = woken xs at most bits in
     IsOnce-append (without xs gone) (map (moved_to to) gone) (IsOnce-without xs gone once) (IsOnce-moved to gone (IsOnce-take most (waiters_at xs at bits) (IsOnce-filter (waits_at at bits) xs once))) (IsApart-without to xs gone)
-
--- Of the first i of the list all but one thread are kept.
-pub record IsLeft (waiting : List Waiter) (tid i : ℕ) (kept : List Waiter) (room : ℕ) : Type 0 where
-  pub kept_is : kept ≡ after_forget (take i waiting) tid
-  pub few : length kept ≤ i
-  pub inside : i ≤ length waiting
-  pub has_room : 32 ≤ room

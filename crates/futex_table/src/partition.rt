@@ -2,10 +2,10 @@
 ghost use Rattle.std.specs.Prelude.{◌≡◌, ◌≤◌, ◌+◌, ◌++◌, [], length, map, vec_len};
 ghost use Rattle.std.specs.Vec.{vec_capacity};
 ghost use Rattle.futex_table.specs.Once.{IsOnce};
-ghost use Rattle.futex_table.specs.Waiting.{waits_at, woken, without, moved_to, after_forget};
+ghost use Rattle.futex_table.specs.Waiting.{waits_at, woken, without, moved_to};
 
 use crate::waiter::Waiter;
-use guest_words::{Addr, Tid};
+use guest_words::Addr;
 
 // Whether the thread waits at the address, with a bit in common.
 fn waits_at(w: &Waiter, at: Addr, bits: u32) -> bool
@@ -58,21 +58,5 @@ pub(crate) fn add_moved(taken: &[Waiter], to: Addr, kept: &mut Vec<Waiter>)
             bits: w.bits,
         };
         kept.push(moved).unwrap();
-    }
-}
-
-/// Adds to `kept` all but one thread.
-pub(crate) fn keep_all_but(waiting: &[Waiter], tid: Tid, kept: &mut Vec<Waiter>)
-    requires few { length waiting.now ≤ 32 }
-    requires none_kept { kept.old.items ≡ [] }
-    requires room { 32 ≤ vec_capacity kept.old }
-    ensures kept { kept.new.items ≡ after_forget waiting.now tid }
-    ensures few { vec_len kept.new ≤ 32 }
-    ensures room { 32 ≤ vec_capacity kept.new }
-{
-    for w in waiting {
-        if w.tid != tid {
-            kept.push(*w).unwrap();
-        }
     }
 }

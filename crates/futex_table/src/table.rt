@@ -3,7 +3,7 @@ ghost use Rattle.std.specs.Prelude.{◌≡◌, ◌≢◌, ◌<◌, ◌≤◌, []
 ghost use Rattle.futex_table.specs.Once.{waits, IsOnce};
 ghost use Rattle.futex_table.specs.Waiting.{after_wait, woken, after_wake, shifted, after_requeue, after_forget, all_bits};
 
-use crate::partition::{add_moved, keep_all_but, partition};
+use crate::partition::{add_moved, partition};
 use crate::waiter::Waiter;
 use guest_words::{Addr, Tid};
 use std::alloc::{AllocError, Global};
@@ -120,9 +120,7 @@ impl FutexTable {
     pub fn forget(&mut self, tid: Tid)
         ensures after { self.new ≡ after_forget self.old tid }
     {
-        keep_all_but(self.waiting.as_slice(), tid, &mut self.kept);
-        mem::swap(&mut self.waiting, &mut self.kept);
-        self.kept.clear();
+        self.waiting.retain(|w| w.tid != tid);
     }
 
     /// No thread waits any more.

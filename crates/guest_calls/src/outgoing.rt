@@ -2,14 +2,12 @@
 ghost use Rattle.std.specs.Prelude.{◌≡◌, ◌≤◌, true, None, IfOk, IfSome};
 ghost use Rattle.guest_memory.specs.Guest.{memory_of};
 ghost use Rattle.guest_memory.specs.Memory.{bytes_at};
-ghost use Rattle.guest_calls.specs.Files.{channel};
-ghost use Rattle.guest_calls.specs.Kernel.{descriptor, output};
+ghost use Rattle.guest_calls.specs.Kernel.{output};
 ghost use Rattle.rv_exec.specs.Accesses.{can_read};
 ghost use Rattle.guest_calls.specs.Vectors.{all_in_reach, bytes_of, total};
-ghost use Rattle.std.specs.Option.{option_and_then, option_map};
+ghost use Rattle.std.specs.Option.{option_map};
 
 use crate::copies::copy_to;
-use crate::state::State;
 use crate::vectors::{Part, copy_parts};
 use guest_memory::GuestMemory;
 use guest_words::Addr;
@@ -69,32 +67,25 @@ impl Outgoing {
         }
     }
 
-    /// Bytes of the guest's memory go out on a descriptor's channel, each of which can be read. Nothing goes out where it has
-    /// none.
-    pub fn put(&mut self, state: &State, fd: u32, memory: &GuestMemory, at: Addr, count: u32)
+    /// Bytes of the guest's memory go out, each of which can be read.
+    pub fn put(&mut self, channel: u32, memory: &GuestMemory, at: Addr, count: u32)
+        requires channel { (1 ≤ channel) × (channel ≤ 2) }
         requires few { count ≤ 65536 }
         requires reach { can_read (memory_of memory.now) at count ≡ true }
-        ensures { self.new ≡ option_and_then (λ n. output n (bytes_at (memory_of memory.now) at count)) (channel (descriptor state.now fd)) }
+        ensures { self.new ≡ output channel (bytes_at (memory_of memory.now) at count) }
     {
-        let Some(channel) = state.descriptor(fd).channel() else {
-            self.count = 0;
-            return;
-        };
         self.channel = channel;
         self.count = count as usize;
         copy_to(memory, at, &mut self.buffer, self.count);
     }
 
-    /// The bytes of the parts go out on a descriptor's channel, each of which can be read. Nothing goes out where it has none.
-    pub fn put_parts(&mut self, state: &State, fd: u32, memory: &GuestMemory, parts: &[Part])
+    /// The bytes of the parts go out, each of which can be read.
+    pub fn put_parts(&mut self, channel: u32, memory: &GuestMemory, parts: &[Part])
+        requires channel { (1 ≤ channel) × (channel ≤ 2) }
         requires few { total parts.now ≤ 65536 }
         requires reach { all_in_reach (can_read (memory_of memory.now)) parts.now ≡ true }
-        ensures { self.new ≡ option_and_then (λ n. output n (bytes_of (memory_of memory.now) parts.now)) (channel (descriptor state.now fd)) }
+        ensures { self.new ≡ output channel (bytes_of (memory_of memory.now) parts.now) }
     {
-        let Some(channel) = state.descriptor(fd).channel() else {
-            self.count = 0;
-            return;
-        };
         self.channel = channel;
         self.count = copy_parts(memory, parts, &mut self.buffer);
     }

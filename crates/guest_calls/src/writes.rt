@@ -1,5 +1,5 @@
 //! The calls that write: write(2) and writev(2).
-ghost use Rattle.std.specs.Prelude.{◌≡◌, ◌≤◌, ◌+◌, is_some, IfOk, OnErr};
+ghost use Rattle.std.specs.Prelude.{◌≡◌, ◌≤◌, ◌+◌, IfOk, IfSome, OnErr};
 ghost use Rattle.guest_memory.specs.declared.reservations.Reservations.{Reservations};
 ghost use Rattle.guest_calls.specs.Files.{channel, write};
 ghost use Rattle.guest_calls.specs.Kernel.{descriptor};
@@ -17,11 +17,12 @@ use std::alloc::AllocError;
 use trace_model::Events;
 
 impl Kernel {
-    /// Whether a descriptor has a channel of output.
-    fn is_output(&self, fd: u32) -> bool
-        ensures { result ≡ is_some (channel (descriptor self.now.state fd)) }
+    /// The channel of output that a descriptor stands for.
+    fn channel_of(&self, fd: u32) -> Option<u32>
+        ensures value { result ≡ channel (descriptor self.now.state fd) }
+        ensures range { IfSome result (λ n. (1 ≤ n) × (n ≤ 2)) }
     {
-        self.state.descriptor(fd).channel().is_some()
+        self.state.descriptor(fd).channel()
     }
 
     /// write(2)
@@ -36,16 +37,16 @@ impl Kernel {
         ensures room { events.old.room ≤ events.new.room + 1 }
     {
         self.outgoing.clear();
-        let (fd, at) = (caller.argument(0), caller.argument(1));
-        if !self.is_output(fd) {
+        let at = caller.argument(1);
+        let Some(channel) = self.channel_of(caller.argument(0)) else {
             return Answer::Back { value: EBADF };
-        }
+        };
         let count = caller.argument(2).min(WRITE_LIMIT);
         if !memory.can_read(at, u64::from(count)) {
             return Answer::Back { value: EFAULT };
         }
         note_read(memory, events, caller.tid, at, count);
-        self.outgoing.put(&self.state, fd, memory, at, count);
+        self.outgoing.put(channel, memory, at, count);
         Answer::Back { value: count }
     }
 
@@ -61,11 +62,11 @@ impl Kernel {
         ensures refused { (held : Reservations) → OnErr result (IsAsBefore self.old self.new memory.now memory.now held held events.old events.new) }
         ensures room { events.old.room ≤ events.new.room + 1025 }
     {
-        let (fd, at, count) = (caller.argument(0), caller.argument(1), caller.argument(2));
-        if !self.is_output(fd) {
+        let (at, count) = (caller.argument(1), caller.argument(2));
+        let Some(channel) = self.channel_of(caller.argument(0)) else {
             self.outgoing.clear();
             return Ok(Answer::Back { value: EBADF });
-        }
+        };
         let parts = match read_table(self.state.alloc, memory, at, count) {
             Ok(parts) => parts,
             Err(TableError::Refused { errno }) => {
@@ -82,7 +83,7 @@ impl Kernel {
         }
         note_read(memory, events, caller.tid, at, 8 * count);
         note_parts(memory, events, caller.tid, &from);
-        self.outgoing.put_parts(&self.state, fd, memory, &from);
+        self.outgoing.put_parts(channel, memory, &from);
         Ok(Answer::Back { value: carried })
     }
 }

@@ -10,7 +10,7 @@ pub enum FaultKind {
     Fetch = 2,
     /// A byte is not mapped, or not readable.
     Load = 3,
-    /// A byte is not mapped, or not writable; for an atomic operation that reads and writes its word, or not readable.
+    /// A byte is not mapped or not writable, or, for an atomic operation that also reads its word, not readable.
     Store = 4,
     /// The target of a jump is no multiple of 4.
     JumpAlign = 5,

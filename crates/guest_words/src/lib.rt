@@ -1,5 +1,5 @@
-//! The words that every crate speaks: addresses and memory words of a 32-bit guest, thread numbers, the faults of the
-//! RISC-V unprivileged specification, how a run ends, names of routines, little-endian fields, short lists of threads, and the
+//! The words that every crate speaks: addresses and memory words of a 32-bit guest, thread numbers, the faults of
+//! an instruction, how a run ends, names of routines, little-endian fields, short lists of threads, and the
 //! words of a text.
 #![tactic(auto)]
 

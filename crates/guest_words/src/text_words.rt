@@ -1,5 +1,5 @@
 //! Words of a text: a line is cut into words at a separator, and a word is read, and written, as a decimal number.
-ghost use Rattle.std.specs.Prelude.{◌≡◌, ◌≢◌, ◌↔◌, ℕ, ◌<◌, ◌^◌, ◌++◌, ◌∷◌, true, Some, IfSome, IfNone, IsSomeAnd, IsTrue, OnOk, List, length, slice_index};
+ghost use Rattle.std.specs.Prelude.{◌≡◌, ◌≢◌, ◌↔◌, ℕ, ◌<◌, ◌^◌, ◌++◌, ◌∷◌, true, Some, IfSome, IfNone, IsSomeAnd, IsTrue, OnErr, OnOk, List, length, slice_index};
 ghost use Rattle.std.specs.Fmt.{decimal};
 ghost use Rattle.std.specs.Str.Parse.{IsNumeral, digits_value, without_leading_plus};
 ghost use Rattle.guest_words.specs.Separators.{lacks};
@@ -78,7 +78,8 @@ pub fn first_number(words: &[u8]) -> Option<(u64, &[u8])>
 
 /// Appends a number in decimal.
 pub fn push_decimal(text: &mut Vec<u8>, number: u128) -> Result<(), AllocError>
-    ensures { OnOk result (text.new.items ≡ text.old.items ++ decimal number) }
+    ensures ok { OnOk result (text.new.items ≡ text.old.items ++ decimal number) }
+    ensures err { OnErr result (text.new.items ≡ text.old.items) }
 {
     let mut buffer = Buffer::new();
     text.extend_from_slice(buffer.format(number).as_bytes())

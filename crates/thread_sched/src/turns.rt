@@ -139,7 +139,7 @@ impl Sched {
         }
     }
 
-    /// The next turn, over the threads that live. A turn that is none leaves the scheduler as it was.
+    /// The next turn, over the threads that live. `Deadlock` and `Mismatch` leave the scheduler as it was.
     pub fn next(&mut self, live: &ReadyList) -> Turn
         ensures turn { result ≡ turn_of self.old live.now }
         ensures behind { self.new ≡ behind self.old result }
