@@ -11,7 +11,7 @@ use Rattle.guest_calls.specs.declared.descriptor.Descriptor.{Descriptor}
 use Rattle.guest_calls.specs.declared.descriptor.Descriptor.TheVariants.{Closed, StandardInput, Output, InputFile}
 use Rattle.guest_calls.specs.declared.operation.Operation.{Operation}
 use Rattle.guest_calls.specs.declared.operation.Operation.TheVariants.{Wait, Wake, Requeue, CmpRequeue, WaitBitset, WakeBitset}
-use Rattle.guest_calls.specs.declared.vectors.Part.{Part}
+use Rattle.guest_calls.specs.declared.vectors.IoVec.{IoVec}
 use Rattle.guest_calls.specs.declared.answer.Answer.{Answer}
 use Rattle.guest_calls.specs.declared.answer.Answer.TheVariants.{Back}
 use Rattle.guest_calls.specs.Clone.{clone}
@@ -61,7 +61,7 @@ advanced_break StandardInput fd n k = refl
 advanced_break (Output channel) fd n k = refl
 advanced_break (InputFile input position) fd n k = refl
 
-parts_rights : (ps : List Part) (bytes : List ℕ) (g : Guest) → (filled_parts ps bytes g).memory.rights ≡ g.memory.rights
+parts_rights : (ps : List IoVec) (bytes : List ℕ) (g : Guest) → (filled_parts ps bytes g).memory.rights ≡ g.memory.rights
 parts_rights [] bytes g = refl
 parts_rights (p ∷ ps) bytes g = parts_rights ps (drop p.size bytes) (filled p.at (take p.size bytes) g)
 

@@ -11,7 +11,7 @@ use Rattle.trace_model.specs.declared.event_kinds.Event.{Event}
 use Rattle.guest_calls.specs.declared.answer.Answer.TheVariants.{Back}
 use Rattle.guest_calls.specs.declared.caller.Caller.{Caller}
 use Rattle.guest_calls.specs.declared.descriptor.Descriptor.{Descriptor}
-use Rattle.guest_calls.specs.declared.vectors.Part.{Part}
+use Rattle.guest_calls.specs.declared.vectors.IoVec.{IoVec}
 use Rattle.guest_calls.specs.Errors.{ebadf, efault}
 use Rattle.guest_calls.specs.Files.{is_source, advanced}
 use Rattle.guest_calls.specs.Kernel.{KernelState}
@@ -32,7 +32,7 @@ first_answer_none (x ∷ xs) ys none =
     ap (λ (b : Bool). cond b (Some x.1) (first_answer (xs ++ ys))) parts.0 ∙ first_answer_none xs ys parts.1
 
 -- readv(2), of the descriptor, the bytes and the cut parts
-abbrev pub readv_of : Call → Descriptor → List ℕ → List Part → CallResult
+abbrev pub readv_of : Call → Descriptor → List ℕ → List IoVec → CallResult
 readv_of c file bytes into =
     unless c (
     not (is_source file) ⇒ ebadf
@@ -45,7 +45,7 @@ readv_of c file bytes into =
     ▷ changes (advanced file (arg c 0) (length bytes))
 
 -- where all tests pass, it carries the bytes
-readv_carries : (c : Call) (file : Descriptor) (bytes : List ℕ) (into : List Part) → is_source file ≡ true → first_answer (table_tests c.memory (arg c 1) (arg c 2)) ≡ None → all_in_reach (can_write c.memory) into ≡ true
+readv_carries : (c : Call) (file : Descriptor) (bytes : List ℕ) (into : List IoVec) → is_source file ≡ true → first_answer (table_tests c.memory (arg c 1) (arg c 2)) ≡ None → all_in_reach (can_write c.memory) into ≡ true
     → readv_of c file bytes into ≡ (returns c (length bytes) ▷ reads c.tid (arg c 1) (8 * arg c 2) ▷ fills_parts into bytes ▷ changes (advanced file (arg c 0) (length bytes)))
 readv_carries c file bytes into source passed reach =
     let last : List (Bool × ℕ) = (not (all_in_reach (can_write c.memory) into), efault) ∷ [] in
@@ -56,7 +56,7 @@ readv_carries c file bytes into source passed reach =
     in
     ap (λ (o : Option ℕ). answered_or o c (λ _. returns c (length bytes) ▷ reads c.tid (arg c 1) (8 * arg c 2) ▷ fills_parts into bytes ▷ changes (advanced file (arg c 0) (length bytes)))) tests
 
-pub readv_does : (caller : Caller) (state new : KernelState) (memory memory' : GuestMemory) (held held' : Reservations) (before middle after : EventList) (file : Descriptor) (bytes : List ℕ) (into : List Part)
+pub readv_does : (caller : Caller) (state new : KernelState) (memory memory' : GuestMemory) (held held' : Reservations) (before middle after : EventList) (file : Descriptor) (bytes : List ℕ) (into : List IoVec)
     → is_source file ≡ true
     → first_answer (table_tests (memory_of memory) (arg (asked caller state memory held) 1) (arg (asked caller state memory held) 2)) ≡ None
     → all_in_reach (can_write (memory_of memory)) into ≡ true

@@ -14,7 +14,7 @@ use Rattle.trace_model.specs.WellFormed.{AreWords}
 use Rattle.guest_calls.specs.declared.answer.Answer.TheVariants.{Back, Born}
 use Rattle.guest_calls.specs.declared.operation.Operation.{Operation}
 use Rattle.guest_calls.specs.declared.operation.Operation.TheVariants.{Wait, Wake, Requeue, CmpRequeue, WaitBitset, WakeBitset}
-use Rattle.guest_calls.specs.declared.vectors.Part.{Part}
+use Rattle.guest_calls.specs.declared.vectors.IoVec.{IoVec}
 use Rattle.guest_calls.specs.Clone.{clone, is_denied, sets_child, sets_parent, clone_tests, with_thread, child_clear_tid, child_registers}
 use Rattle.guest_calls.specs.Errors.{eagain, enosys, ebadf, efault}
 use Rattle.guest_calls.specs.Files.{bytes_left, channel, close, ends_path, is_source, llseek, openat, path_end, read, target, write, openat_tests, openat_effect, llseek_tests, write_limit, with_position, advanced}
@@ -127,7 +127,7 @@ write_copies c = tested c (write_tests c) (λ x. write_effect c) (λ passed.
     read_copies c.tid (arg c 1) n (readable_end c.memory (arg c 1) n (not-false (readable c (arg c 1) n) all.1.0)))
 
 -- ---- the calls in parts
-filled_copies : (m : Memory) (tid : ℕ) (ps : List Part) (bytes : List ℕ) (g : Guest) →
+filled_copies : (m : Memory) (tid : ℕ) (ps : List IoVec) (bytes : List ℕ) (g : Guest) →
     all_in_reach (can_write m) ps ≡ true → AreCopies tid g.events → AreCopies tid (filled_parts ps bytes g).events
 filled_copies m tid [] bytes g reach before = before
 filled_copies m tid (p ∷ ps) bytes g reach before =
@@ -138,7 +138,7 @@ filled_copies m tid (p ∷ ps) bytes g reach before =
     (copies_append tid g.events (fill_event p.at (length front)) before
     (fill_copies tid p.at (length front) (λ some. let end = writable_end m p.at p.size both.0 (omega (arith, short, some)) in omega (arith, short, end))))
 
-parts_copies : (m : Memory) (tid : ℕ) (ps : List Part) → all_in_reach (can_read m) ps ≡ true →
+parts_copies : (m : Memory) (tid : ℕ) (ps : List IoVec) → all_in_reach (can_read m) ps ≡ true →
     AreCopies tid (read_events tid ps)
 parts_copies m tid [] reach = tt
 parts_copies m tid (p ∷ ps) reach =

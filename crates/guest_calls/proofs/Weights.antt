@@ -10,7 +10,7 @@ use Rattle.trace_model.specs.WellFormed.{weight}
 use Rattle.guest_calls.specs.declared.answer.Answer.TheVariants.{Back}
 use Rattle.guest_calls.specs.declared.operation.Operation.{Operation}
 use Rattle.guest_calls.specs.declared.operation.Operation.TheVariants.{Wait, Wake, Requeue, CmpRequeue, WaitBitset, WakeBitset}
-use Rattle.guest_calls.specs.declared.vectors.Part.{Part}
+use Rattle.guest_calls.specs.declared.vectors.IoVec.{IoVec}
 use Rattle.guest_calls.specs.Clone.{clone}
 use Rattle.guest_calls.specs.Errors.{eagain, ebadf, efault, enosys}
 use Rattle.guest_calls.specs.Files.{channel, close, ends_path, is_source, llseek, openat, openat_effect, openat_tests, path_end, read, write}
@@ -40,16 +40,16 @@ fill_weight : (at n : ℕ) → weight (fill_event at n) ≤ 1
 fill_weight at zero = omega arith
 fill_weight at (suc n) = omega arith
 
-parts_weight : (tid : ℕ) (ps : List Part) → 4 * weight (read_events tid ps) ≤ total ps + 12 * length ps
+parts_weight : (tid : ℕ) (ps : List IoVec) → 4 * weight (read_events tid ps) ≤ total ps + 12 * length ps
 parts_weight tid [] = omega arith
 parts_weight tid (p ∷ ps) =
-    let sum = sum_by-cons (λ (q : Part). q.size) p ps in
+    let sum = sum_by-cons (λ (q : IoVec). q.size) p ps in
     let both = weight-append (read_event tid p.at p.size) (read_events tid ps) in
     let one = read_weight tid p.at p.size in
     let rest = parts_weight tid ps in
     omega (arith, sum, both, one, rest)
 
-filled_weight : (ps : List Part) (bytes : List ℕ) (g : Guest) → weight (filled_parts ps bytes g).events ≤ weight g.events + length ps
+filled_weight : (ps : List IoVec) (bytes : List ℕ) (g : Guest) → weight (filled_parts ps bytes g).events ≤ weight g.events + length ps
 filled_weight [] bytes g = omega arith
 filled_weight (p ∷ ps) bytes g =
     let rest = filled_weight ps (drop p.size bytes) (filled p.at (take p.size bytes) g) in
@@ -147,14 +147,14 @@ operation_light None c = none_light
 operation_light (Some o) c = light c (futex_tests o c) (λ x. performed o c) (λ passed. performed_light o c)
 
 -- ---- the calls in parts
-readv_events : (tid at n : ℕ) (ps : List Part) (bytes : List ℕ) (m : Guest) → n ≤ 1024 → length ps ≡ n → m.events ≡ read_event tid at (8 * n) → weight (filled_parts ps bytes m).events ≤ 65536
+readv_events : (tid at n : ℕ) (ps : List IoVec) (bytes : List ℕ) (m : Guest) → n ≤ 1024 → length ps ≡ n → m.events ≡ read_event tid at (8 * n) → weight (filled_parts ps bytes m).events ≤ 65536
 readv_events tid at n ps bytes m few long is =
     let a = filled_weight ps bytes m in
     let b = read_weight tid at (8 * n) in
     let e : weight m.events ≡ weight (read_event tid at (8 * n)) = ap weight is in
     omega (arith, a, b, e, few, long)
 
-writev_events : (tid at n k : ℕ) (ps : List Part) → n ≤ 1024 → length ps ≡ n → total ps ≤ k → k ≤ 65536 → weight (read_event tid at (8 * n) ++ read_events tid ps) ≤ 65536
+writev_events : (tid at n k : ℕ) (ps : List IoVec) → n ≤ 1024 → length ps ≡ n → total ps ≤ k → k ≤ 65536 → weight (read_event tid at (8 * n) ++ read_events tid ps) ≤ 65536
 writev_events tid at n k ps few long sum most =
     let both = weight-append (read_event tid at (8 * n)) (read_events tid ps) in
     let a = parts_weight tid ps in

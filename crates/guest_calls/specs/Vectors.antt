@@ -4,49 +4,49 @@ use Rattle.std.specs.List.{list_all}
 use Rattle.guest_memory.specs.Memory.{Memory, bytes_at, number_at}
 use Rattle.rv_exec.specs.Accesses.{can_read, can_write}
 use Rattle.trace_model.specs.declared.event_kinds.Event.{Event}
-use Rattle.guest_calls.specs.declared.vectors.Part.{Part}
+use Rattle.guest_calls.specs.declared.vectors.IoVec.{IoVec}
 use Rattle.guest_calls.specs.Errors.{ebadf, efault, einval}
 use Rattle.guest_calls.specs.Kernel.{descriptor}
 use Rattle.guest_calls.specs.Files.{is_source, channel, bytes_left, advanced, write_limit}
 use Rattle.guest_calls.specs.Results.{Call, CallResult, arg, returns, unless, ◌⇒◌, ◌or◌, ◌▷◌, Guest, changes, reads, read_event, filled, puts}
 
 -- a part is an address and a length, a word each
-abbrev pub part_at : Memory → ℕ → Part
+abbrev pub part_at : Memory → ℕ → IoVec
 part_at m at = record { at = number_at m at 4; size = number_at m (at + 4) 4 }
 
 -- so many parts, from an address on
-abbrev pub parts_at : Memory → ℕ → ℕ → List Part
+abbrev pub parts_at : Memory → ℕ → ℕ → List IoVec
 parts_at m at zero = []
 parts_at m at (suc n) = part_at m at ∷ parts_at m (at + 8) n
 
-abbrev pub total : List Part → ℕ
+abbrev pub total : List IoVec → ℕ
 total ps = sum_by (λ p. p.size) ps
 
 -- the first n bytes of the parts
-abbrev pub carried : ℕ → List Part → List Part
+abbrev pub carried : ℕ → List IoVec → List IoVec
 carried n [] = []
 carried n (p ∷ ps) = record { at = p.at; size = min n p.size } ∷ carried (n - p.size) ps
 
-abbrev pub all_in_reach : (ℕ → ℕ → Bool) → List Part → Bool
+abbrev pub all_in_reach : (ℕ → ℕ → Bool) → List IoVec → Bool
 all_in_reach reach ps = list_all (λ p. reach p.at p.size) ps
 
 -- the guest after the bytes are copied to the parts, one part after another
-abbrev pub filled_parts : List Part → List ℕ → Guest → Guest
+abbrev pub filled_parts : List IoVec → List ℕ → Guest → Guest
 filled_parts [] bytes g = g
 filled_parts (p ∷ ps) bytes g = filled_parts ps (drop p.size bytes) (filled p.at (take p.size bytes) g)
 
-abbrev pub fills_parts : List Part → List ℕ → CallResult → CallResult
+abbrev pub fills_parts : List IoVec → List ℕ → CallResult → CallResult
 fills_parts ps bytes r = record r { guest = filled_parts ps bytes r.guest }
 
 -- a read of each part that has a byte
-abbrev pub read_events : ℕ → List Part → List Event
+abbrev pub read_events : ℕ → List IoVec → List Event
 read_events tid ps = flat_map (λ p. read_event tid p.at p.size) ps
 
-abbrev pub reads_parts : ℕ → List Part → CallResult → CallResult
+abbrev pub reads_parts : ℕ → List IoVec → CallResult → CallResult
 reads_parts tid ps r = record r { guest = record r.guest { events = r.guest.events ++ read_events tid ps } }
 
 -- the bytes of the parts, one part after another
-abbrev pub bytes_of : Memory → List Part → List ℕ
+abbrev pub bytes_of : Memory → List IoVec → List ℕ
 bytes_of m ps = flat_map (λ p. bytes_at m p.at p.size) ps
 
 abbrev pub part_limit : ℕ
@@ -60,14 +60,14 @@ table_tests m at n =
     or nat_le (2 ^ 31) (total (parts_at m at n)) ⇒ einval
 
 -- the parts of a call, as they stand before it copies any byte
-abbrev pub parts : Call → List Part
+abbrev pub parts : Call → List IoVec
 parts c = parts_at c.memory (arg c 1) (arg c 2)
 
 -- the bytes that readv carries, and where to
 abbrev pub readv_bytes : Call → List ℕ
 readv_bytes c = take (total (parts c)) (bytes_left c.kernel (descriptor c.kernel (arg c 0)))
 
-abbrev pub readv_parts : Call → List Part
+abbrev pub readv_parts : Call → List IoVec
 readv_parts c = carried (length (readv_bytes c)) (parts c)
 
 abbrev pub readv_tests : Call → List (Bool × ℕ)
@@ -91,7 +91,7 @@ readv c = unless c (readv_tests c) λ _. readv_effect c
 abbrev pub writev_count : Call → ℕ
 writev_count c = min (total (parts c)) write_limit
 
-abbrev pub writev_parts : Call → List Part
+abbrev pub writev_parts : Call → List IoVec
 writev_parts c = carried (writev_count c) (parts c)
 
 abbrev pub writev_tests : Call → List (Bool × ℕ)

@@ -8,7 +8,7 @@ ghost use Rattle.guest_calls.specs.Vectors.{all_in_reach, bytes_of, total};
 ghost use Rattle.std.specs.Option.{option_map};
 
 use crate::copies::copy_to;
-use crate::vectors::{Part, copy_parts};
+use crate::vectors::{IoVec, copy_parts};
 use guest_memory::GuestMemory;
 use guest_words::Addr;
 use std::alloc::{AllocError, Global};
@@ -80,7 +80,7 @@ impl Outgoing {
     }
 
     /// The bytes of the parts go out, each of which can be read.
-    pub fn put_parts(&mut self, channel: u32, memory: &GuestMemory, parts: &[Part])
+    pub fn put_parts(&mut self, channel: u32, memory: &GuestMemory, parts: &[IoVec])
         requires channel { (1 ≤ channel) × (channel ≤ 2) }
         requires few { total parts.now ≤ 65536 }
         requires reach { all_in_reach (can_read (memory_of memory.now)) parts.now ≡ true }

@@ -29,7 +29,7 @@ const SUM_LIMIT: u64 = 0x7FFF_FFFF;
 
 /// A part of the bytes that one call carries.
 #[derive(Clone, Copy, Debug, PartialEq, Eq)]
-pub struct Part {
+pub struct IoVec {
     pub at: Addr,
     pub size: u32,
 }
@@ -44,12 +44,12 @@ pub(crate) fn word_at(memory: &GuestMemory, at: Addr) -> u32
 
 /// The part at an address: an address and a length.
 #[tactic(auto, using(crate::proofs::Reach::reads_within))]
-fn part_at(memory: &GuestMemory, at: Addr) -> Part
+fn part_at(memory: &GuestMemory, at: Addr) -> IoVec
     requires reach { can_read (memory_of memory.now) at 8 ≡ true }
     requires end { at + 8 ≤ 2 ^ 32 }
     ensures { result ≡ part_at (memory_of memory.now) at }
 {
-    Part {
+    IoVec {
         at: word_at(memory, at),
         size: word_at(memory, at + 4),
     }
@@ -62,7 +62,7 @@ pub(crate) fn parts_at(
     memory: &GuestMemory,
     at: Addr,
     count: u32,
-) -> Result<Vec<Part>, AllocError>
+) -> Result<Vec<IoVec>, AllocError>
     requires few { count ≤ 1024 }
     requires reach { can_read (memory_of memory.now) at (8 * count) ≡ true }
     ensures parts { IfOk result (λ parts. parts.items ≡ parts_at (memory_of memory.now) at count) }
@@ -76,7 +76,7 @@ pub(crate) fn parts_at(
 }
 
 /// The sum of the lengths.
-pub(crate) fn total(parts: &[Part]) -> u64
+pub(crate) fn total(parts: &[IoVec]) -> u64
     requires { length parts.now ≤ 1024 }
     ensures { result ≡ total parts.now }
 {
@@ -88,7 +88,7 @@ pub(crate) fn total(parts: &[Part]) -> u64
 }
 
 /// Cuts the parts to their first bytes.
-fn truncate_parts(parts: &mut [Part], most: usize)
+fn truncate_parts(parts: &mut [IoVec], most: usize)
     ensures { parts.new ≡ carried most parts.old }
 {
     let mut left = most;
@@ -100,7 +100,7 @@ fn truncate_parts(parts: &mut [Part], most: usize)
 }
 
 /// The parts, cut to their first bytes.
-pub(crate) fn truncated(parts: Vec<Part>, most: usize) -> Vec<Part>
+pub(crate) fn truncated(parts: Vec<IoVec>, most: usize) -> Vec<IoVec>
     ensures cut { result.items ≡ carried most parts.items }
     ensures few { total result.items ≤ most }
     ensures count { vec_len result ≡ vec_len parts }
@@ -111,7 +111,7 @@ pub(crate) fn truncated(parts: Vec<Part>, most: usize) -> Vec<Part>
 }
 
 /// Whether each byte of the parts can be read.
-pub(crate) fn can_read_parts(memory: &GuestMemory, parts: &[Part]) -> bool
+pub(crate) fn can_read_parts(memory: &GuestMemory, parts: &[IoVec]) -> bool
     ensures { result ≡ all_in_reach (can_read (memory_of memory.now)) parts.now }
 {
     parts
@@ -120,7 +120,7 @@ pub(crate) fn can_read_parts(memory: &GuestMemory, parts: &[Part]) -> bool
 }
 
 /// Whether each byte of the parts can be written.
-pub(crate) fn can_write_parts(memory: &GuestMemory, parts: &[Part]) -> bool
+pub(crate) fn can_write_parts(memory: &GuestMemory, parts: &[IoVec]) -> bool
     ensures { result ≡ all_in_reach (can_write (memory_of memory.now)) parts.now }
 {
     parts
@@ -152,7 +152,7 @@ pub(crate) fn read_table(
     memory: &GuestMemory,
     at: Addr,
     count: u32,
-) -> Result<Vec<Part>, TableError>
+) -> Result<Vec<IoVec>, TableError>
     ensures ok { IfOk result (λ parts. parts.items ≡ parts_at (memory_of memory.now) at count) }
     ensures few { IfOk result (λ parts. vec_len parts ≤ 1024) }
     ensures reach { IfOk result (λ _. can_read (memory_of memory.now) at (8 * count) ≡ true) }
@@ -178,7 +178,7 @@ fn fill_parts(
     memory: &mut GuestMemory,
     held: &mut Reservations,
     events: &mut Events,
-    parts: &[Part],
+    parts: &[IoVec],
     bytes: &[u8],
 )
     requires reach { all_in_reach (can_write (memory_of memory.old)) parts.now ≡ true }
@@ -196,7 +196,7 @@ fn fill_parts(
 }
 
 /// The kernel has read the parts for the thread.
-pub(crate) fn note_parts(memory: &GuestMemory, events: &mut Events, tid: Tid, parts: &[Part])
+pub(crate) fn note_parts(memory: &GuestMemory, events: &mut Events, tid: Tid, parts: &[IoVec])
     requires reach { all_in_reach (can_read (memory_of memory.now)) parts.now ≡ true }
     requires room { length parts.now ≤ events.old.room }
     ensures events { events.new.list ≡ events.old.list ++ read_events tid parts.now }
@@ -208,7 +208,7 @@ pub(crate) fn note_parts(memory: &GuestMemory, events: &mut Events, tid: Tid, pa
 }
 
 /// Copies the parts' bytes to the front of others, and says how many there are.
-pub(crate) fn copy_parts(memory: &GuestMemory, parts: &[Part], front: &mut [u8]) -> usize
+pub(crate) fn copy_parts(memory: &GuestMemory, parts: &[IoVec], front: &mut [u8]) -> usize
     requires reach { all_in_reach (can_read (memory_of memory.now)) parts.now ≡ true }
     requires room { total parts.now ≤ length front.old }
     ensures count { result ≡ total parts.now }

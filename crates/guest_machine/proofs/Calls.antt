@@ -16,7 +16,7 @@ use Rattle.guest_calls.specs.declared.descriptor.Descriptor.TheVariants as descr
 use Rattle.guest_calls.specs.declared.operation.Operation.{Operation}
 use Rattle.guest_calls.specs.declared.operation.Operation.TheVariants as op
 use Rattle.guest_calls.specs.declared.thread.Thread.{Thread}
-use Rattle.guest_calls.specs.declared.vectors.Part.{Part}
+use Rattle.guest_calls.specs.declared.vectors.IoVec.{IoVec}
 use Rattle.guest_calls.specs.Kernel.{KernelState, has_others, is_thread, lives, with_descriptor}
 use Rattle.futex_table.specs.Waiting.{all_bits}
 use Rattle.guest_calls.specs.Errors.{eagain, enosys, enotty}
@@ -152,11 +152,11 @@ advanced_tids (descriptor.InputFile input position) fd n k = refl
 quiet_advances : (c : Call) (r : CallResult) (d : Descriptor) (fd n : ℕ) → IsQuiet c r → IsQuiet c (changes (advanced d fd n) r)
 quiet_advances c r d fd n quiet = quiet_changes c r (advanced d fd n) (advanced_tids d fd n r.kernel) quiet
 
-quiet_fills_parts : (c : Call) (ps : List Part) (bytes : List ℕ) (r : CallResult) → IsQuiet c r → IsQuiet c (fills_parts ps bytes r)
+quiet_fills_parts : (c : Call) (ps : List IoVec) (bytes : List ℕ) (r : CallResult) → IsQuiet c r → IsQuiet c (fills_parts ps bytes r)
 quiet_fills_parts c [] bytes r quiet = quiet
 quiet_fills_parts c (p ∷ ps) bytes r quiet = quiet_fills_parts c ps (drop p.size bytes) (fills p.at (take p.size bytes) r) (quiet_fills c r p.at (take p.size bytes) quiet)
 
-quiet_reads_parts : (c : Call) (tid : ℕ) (ps : List Part) (r : CallResult) → IsQuiet c r → IsQuiet c (reads_parts tid ps r)
+quiet_reads_parts : (c : Call) (tid : ℕ) (ps : List IoVec) (r : CallResult) → IsQuiet c r → IsQuiet c (reads_parts tid ps r)
 quiet_reads_parts c tid ps r quiet = record { stays = quiet.stays; threads = quiet.threads; held = quiet.held }
 
 lawful_openat : (c : Call) → IsLawful c (openat c)

@@ -24,7 +24,7 @@ use Rattle.guest_calls.specs.declared.answer.Answer.{Answer}
 use Rattle.guest_calls.specs.declared.answer.Answer.TheVariants.{Back, Yield, Block, ThreadEnd, ProcessEnd, Born}
 use Rattle.guest_calls.specs.declared.operation.Operation.{Operation}
 use Rattle.guest_calls.specs.declared.operation.Operation.TheVariants.{Wait, Wake, Requeue, CmpRequeue, WaitBitset, WakeBitset}
-use Rattle.guest_calls.specs.declared.vectors.Part.{Part}
+use Rattle.guest_calls.specs.declared.vectors.IoVec.{IoVec}
 use Rattle.guest_calls.specs.Errors.{eagain, enosys}
 use Rattle.guest_calls.specs.Results as calls
 use Rattle.guest_calls.specs.Results.{CallResult, Guest, arg, returns, unless, ◌▷◌, either, when, answers, reads, fills_word, fill_event, read_event, filled, filled_where, word}
@@ -85,7 +85,7 @@ fill_stepless at (suc n) = refl
 stepless : (c : calls.Call) (tests : List (Bool × ℕ)) (effect : Unit {0} → CallResult) → steps (effect tt).guest.events ≡ 0 → IsStepless c (unless c tests effect)
 stepless c tests effect done = of_unless IsStepless c tests effect (λ value. refl) (λ passed. done)
 
-filled_stepless : (ps : List Part) (bytes : List ℕ) (g : Guest) → steps (filled_parts ps bytes g).events ≡ steps g.events
+filled_stepless : (ps : List IoVec) (bytes : List ℕ) (g : Guest) → steps (filled_parts ps bytes g).events ≡ steps g.events
 filled_stepless [] bytes g = refl
 filled_stepless (p ∷ ps) bytes g =
     let rest = filled_stepless ps (drop p.size bytes) (filled p.at (take p.size bytes) g) in
@@ -93,7 +93,7 @@ filled_stepless (p ∷ ps) bytes g =
     let one = fill_stepless p.at (length (take p.size bytes)) in
     omega (arith, rest, both, one)
 
-reads_stepless : (tid : ℕ) (ps : List Part) → steps (read_events tid ps) ≡ 0
+reads_stepless : (tid : ℕ) (ps : List IoVec) → steps (read_events tid ps) ≡ 0
 reads_stepless tid [] = refl
 reads_stepless tid (p ∷ ps) =
     let both = steps-append (read_event tid p.at p.size) (read_events tid ps) in

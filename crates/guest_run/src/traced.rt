@@ -71,7 +71,7 @@ impl Traced {
             match channel {
                 1 => self.out.extend_from_slice(bytes)?,
                 2 => self.err.extend_from_slice(bytes)?,
-                _ => {}
+                _ => unreachable!(),
             }
         }
         Ok(())

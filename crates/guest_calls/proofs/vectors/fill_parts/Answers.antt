@@ -1,13 +1,13 @@
 use Rattle.std.proofs.Common.{arith, ◌∙◌}
 use Rattle.guest_memory.specs.Guest.{memory_of}
-use Rattle.guest_calls.specs.declared.vectors.Part.{Part}
+use Rattle.guest_calls.specs.declared.vectors.IoVec.{IoVec}
 use Rattle.guest_calls.specs.Outcome.{guest_of}
 use Rattle.guest_calls.proofs.PartLists.{filled_next, rest_in_reach, total_from}
 use Rattle.guest_calls.proofs.vectors.fill_parts.Goals as goal
 
 pub loop-p-preserved : goal.loop-p-preserved
 loop-p-preserved c =
-    let d : Part = record { at = 0; size = 0 } in
+    let d : IoVec = record { at = 0; size = 0 } in
     let ps = c.args.parts.now in
     let i = c.loop-p.p-index in
     let old = c.loop-p.invariant in

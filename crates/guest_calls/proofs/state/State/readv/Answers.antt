@@ -1,7 +1,7 @@
 use Rattle.std.proofs.Common.{rules, ◌≡◌, ℕ, List, length, take, ap, subst, ◌∙◌}
 use Rattle.guest_calls.specs.declared.answer.Answer.TheVariants.{Back}
 use Rattle.guest_calls.specs.declared.descriptor.Descriptor.{Descriptor}
-use Rattle.guest_calls.specs.declared.vectors.Part.{Part}
+use Rattle.guest_calls.specs.declared.vectors.IoVec.{IoVec}
 use Rattle.guest_calls.specs.Files.{bytes_left}
 use Rattle.guest_calls.specs.Kernel.{descriptor}
 use Rattle.guest_calls.specs.Outcome.{asked, guest_of, Does}
@@ -15,14 +15,14 @@ returns-clause-does c =
     let made : Call = asked c.args.caller.now c.args.self.now c.args.memory.now c.args.held.now in
     let file : Descriptor = c.descriptor-file.result in
     let bytes : List ℕ = c.first_bytes-bytes.result.now in
-    let into : List Part = c.truncated-into.result.items in
+    let into : List IoVec = c.truncated-into.result.items in
     let is_file : file ≡ descriptor c.args.self.now (arg made 0) = search rules in
     let is_bytes : bytes ≡ take (total (parts made)) (bytes_left c.args.self.now (descriptor c.args.self.now (arg made 0))) = search rules in
     let is_into : into ≡ carried (length bytes) (parts made) = search rules in
     let here : Descriptor = descriptor c.args.self.now (arg made 0) in
     let is : readv_of made file bytes into ≡ readv made =
     ap (λ (d : Descriptor). readv_of made d bytes into) is_file
-    ∙ ap (λ (ps : List Part). readv_of made here bytes ps) is_into
+    ∙ ap (λ (ps : List IoVec). readv_of made here bytes ps) is_into
     ∙ ap (λ (bs : List ℕ). readv_of made here bs (carried (length bs) (parts made))) is_bytes
     in
     let filled : guest_of c.fill_parts.new.memory c.fill_parts.new.held c.fill_parts.new.events ≡ filled_parts into bytes (guest_of c.args.memory.now c.args.held.now c.note_read.new.events) = search rules in
