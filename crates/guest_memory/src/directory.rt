@@ -80,8 +80,8 @@ impl Directory {
         })
     }
 
-    /// Makes the place of a page.
-    pub fn reserve_one(&mut self, alloc: Global, number: u32) -> Result<(), AllocError>
+    /// Makes the table in which a page lies.
+    pub fn reserve_table(&mut self, alloc: Global, number: u32) -> Result<(), AllocError>
         requires { number < 2 ^ 20 }
         ensures memory { memory_in self.new ≡ memory_in self.old }
         ensures placed { OnOk result (IsPlaced self.new number) }

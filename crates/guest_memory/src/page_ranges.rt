@@ -17,7 +17,7 @@ impl Directory {
         ensures placed { OnOk result (ArePlaced self.new first count) }
     {
         for k in 0..count {
-            self.reserve_one(alloc, first + k)?;
+            self.reserve_table(alloc, first + k)?;
         }
         Ok(())
     }
