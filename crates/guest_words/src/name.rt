@@ -65,16 +65,7 @@ fn is_visible_text(bytes: &[u8]) -> bool
 fn is_name(bytes: &[u8]) -> bool
     ensures { result ≡ is_name bytes.now }
 {
-    if is_dash(bytes) {
-        return false;
-    }
-    if bytes.is_empty() {
-        return false;
-    }
-    if bytes.len() > 1024 {
-        return false;
-    }
-    is_visible_text(bytes)
+    !is_dash(bytes) && !bytes.is_empty() && bytes.len() <= 1024 && is_visible_text(bytes)
 }
 
 impl Name {

@@ -63,6 +63,7 @@ impl ReadyList {
         requires { i < length self.now }
         ensures { slice_get self.now i ≡ Some result }
     {
+        // Brings the invariant into scope.
         let _ = &self.len;
         self.threads[i]
     }
