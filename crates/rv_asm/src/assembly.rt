@@ -1,5 +1,5 @@
 //! From the lines of a program to its words.
-ghost use Rattle.std.specs.Prelude.{◌≡◌, ◌≤◌, ◌↔◌, ◌++◌, ◌∷◌, [], length, All, IfOk, IfErr, IfSome, IsSome, IsTrue, OnOk, OnErr};
+ghost use Rattle.std.specs.Prelude.{◌≡◌, ◌≤◌, ◌↔◌, length, All, IfOk, IfErr, IfSome, IsSome, IsTrue, OnOk};
 ghost use Rattle.rv_isa.specs.Encoding.{IsEncodable};
 ghost use Rattle.rv_asm.specs.Assembled.{instruction_at, binding_of, AreAssembled, IsWordOf};
 ghost use Rattle.rv_asm.specs.Draft.{IsBinding, IsWritable};
@@ -8,7 +8,7 @@ ghost use Rattle.rv_asm.specs.Refusals.{first_unbound, is_ready, AreInReach, IsO
 use crate::error::AsmError;
 use crate::line::{Line, with_offset};
 use rv_isa::{Instr, encode};
-use std::alloc::{AllocError, Global};
+use std::alloc::Global;
 
 /// The word that a label is bound to, once it is.
 pub(crate) fn binding_of(bindings: &[Option<u32>], label: u32) -> Option<u32>
