@@ -82,7 +82,8 @@ fn is_cut_off(headers: &[ProgramHeader], file_size: usize) -> bool
 fn is_misplaced(headers: &[ProgramHeader]) -> bool
     ensures { result ≡ list_any (λ h. nat_lt h.p_vaddr 0x1000 || nat_lt 0x40000000 (h.p_vaddr + h.p_memsz)) headers.now }
 {
-    headers.iter().any(|h| h.p_vaddr < LOWEST_ADDRESS || h.p_vaddr as u64 + h.p_memsz as u64 > END_OF_SEGMENTS)
+    headers.iter().any(|h| h.p_vaddr < LOWEST_ADDRESS
+        || h.p_vaddr as u64 + h.p_memsz as u64 > END_OF_SEGMENTS)
 }
 
 /// The headers of load segments, where none names an interpreter.

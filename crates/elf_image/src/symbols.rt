@@ -157,7 +157,10 @@ fn section_header(file: &[u8], header: &FileHeader, i: u32) -> SectionHeader
     requires index { i < header.now.e_shnum }
     ensures { result ≡ section_header file.now i }
 {
-    SectionHeader::at(file, header.e_shoff as usize + SECTION_HEADER_SIZE * i as usize)
+    SectionHeader::at(
+        file,
+        header.e_shoff as usize + SECTION_HEADER_SIZE * i as usize,
+    )
 }
 
 /// Whether section headers are of their size, and all in the file.

@@ -12,7 +12,7 @@ ghost use Rattle.guest_machine.specs.Step.{after_call, call_of, executed, instru
 
 use crate::Stepped;
 use crate::answers::apply_answer;
-use crate::hart::{Hart, index_of, execute_at};
+use crate::hart::{Hart, execute_at, index_of};
 use crate::step_events::{add_access, add_jump};
 use call_tracker::kind;
 use guest_calls::Kernel;

@@ -16,11 +16,17 @@ pub(crate) const RANDOM_ADDRESS: u32 = 0x7FFF_FFF0;
 
 /// The keys of the auxiliary vector, getauxval(3).
 const AT_NULL: u32 = 0;
+
 const AT_PHDR: u32 = 3;
+
 const AT_PHENT: u32 = 4;
+
 const AT_PHNUM: u32 = 5;
+
 const AT_PAGESZ: u32 = 6;
+
 const AT_ENTRY: u32 = 9;
+
 const AT_RANDOM: u32 = 25;
 
 /// How many bytes the argument strings have with their zero bytes; None where they are more than the limit.

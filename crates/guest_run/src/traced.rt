@@ -26,7 +26,11 @@ pub(crate) struct Traced {
 }
 
 // Takes the events from an index on, and says where the first of them stands by which an activation is too deep.
-fn first_too_deep(depth: &mut Depth, events: &[Event], before: usize) -> Result<Option<usize>, AllocError>
+fn first_too_deep(
+    depth: &mut Depth,
+    events: &[Event],
+    before: usize,
+) -> Result<Option<usize>, AllocError>
     requires before { before ≤ length events.now }
     requires told { Told depth.old (reverse (take before events.now)) }
     ensures told { IfOk result (λ deep. MatchOption deep (Told depth.new (reverse events.now)) (λ i. (i < length events.now) × Told depth.new (reverse (take i events.now)) × (is_within (reverse (take (i + 1) events.now)) depth.old.greatest ≡ false))) }

@@ -97,6 +97,17 @@ fn stays(instr: Instr, x5: u32, x6: u32, outcome: Outcome) -> Row {
     }
 }
 
+// An access to the word at an address.
+fn read_of(at: Addr) -> Access {
+    let first = Word::of(at);
+    Access::Read { first, count: 1 }
+}
+
+fn write_of(at: Addr) -> Access {
+    let first = Word::of(at);
+    Access::Write { first, count: 1 }
+}
+
 fn went(access: Access) -> Outcome {
     Outcome::Went { access }
 }
@@ -465,10 +476,7 @@ fn reservations_and_conditional_stores(rt: HostRuntime) -> Result<(), Fail> {
                 0x1FFC,
                 0,
                 0xFFFE_8001,
-                Access::Read {
-                    first: Word::of(0x1FFC),
-                    count: 1,
-                },
+                read_of(0x1FFC),
                 WORDS,
                 [false, true],
             ),
@@ -479,10 +487,7 @@ fn reservations_and_conditional_stores(rt: HostRuntime) -> Result<(), Fail> {
                 0x2000,
                 9,
                 0,
-                Access::Write {
-                    first: Word::of(0x2000),
-                    count: 1,
-                },
+                write_of(0x2000),
                 [0xFFFE_8001, 9],
                 [false, false],
             ),
@@ -553,14 +558,13 @@ fn a_foreign_store_takes_the_reservation(rt: HostRuntime) -> Result<(), Fail> {
     let mut cpu = Cpu::new(PC);
     cpu.write(x(5), 0x2000);
     cpu.write(x(6), 0x42);
-    let first = Word::of(0x2000);
     let reserve = atomic(AtomicOp::Lr);
     let loaded = step(&mut cpu, &mut memory, &mut held, Tid::FIRST, reserve);
-    assert_eq!(rt; loaded, went(Access::Read { first, count: 1 }));
+    assert_eq!(rt; loaded, went(read_of(0x2000)));
     let mut foreign = cpu;
     let byte = store(StoreKind::Sb, 3);
     let stored = step(&mut foreign, &mut memory, &mut held, other, byte);
-    assert_eq!(rt; stored, went(Access::Write { first, count: 1 }));
+    assert_eq!(rt; stored, went(write_of(0x2000)));
     let conditional = atomic(AtomicOp::Sc);
     let failed = step(&mut cpu, &mut memory, &mut held, Tid::FIRST, conditional);
     assert_eq!(rt; failed, Outcome::WENT);
