@@ -6,7 +6,7 @@ use Rattle.std.proofs.lemmas.List.Folds.{list_any-append}
 use Rattle.std.proofs.lemmas.Bool.Decides.{nat_tests}
 use Rattle.futex_table.specs.declared.waiter.Waiter.{Waiter}
 use Rattle.futex_table.specs.Once.{waits, IsOnce}
-use Rattle.futex_table.specs.Waiting.{waits_at, waiters_at, without, woken, moved_to, after_forget}
+use Rattle.futex_table.specs.Waiting.{waits_at, waiters_at, without, woken, moved_to}
 
 -- a disjunction that fails, by its sides
 or-left : (a b : Bool) → (a || b) ≡ false → a ≡ false
