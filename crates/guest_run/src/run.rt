@@ -88,7 +88,7 @@ impl Runner {
 }
 
 /// Runs a machine, at most `budget` steps, up to the step by which three stamps for each open activation and three more,
-/// up to the greatest stamp, are too few.
+/// up to the greatest stamp, are too few. The first activation alone takes six.
 pub fn run_guest(
     alloc: Global,
     machine: Machine,

@@ -13,6 +13,14 @@ use guest_memory::{GuestMemory, Reservations, Size};
 use guest_words::{Addr, FaultKind, Tid, Word};
 use rv_isa::{AtomicOp, Reg};
 
+/// What an atomic operation works with: the register that it writes, the address of its word, and the value that it is given.
+#[derive(Clone, Copy)]
+pub struct Operands {
+    pub rd: Reg,
+    pub at: Addr,
+    pub n: u32,
+}
+
 /// An atomic operation with a register's value.
 pub fn atomic(
     cpu: &mut Cpu,
@@ -20,13 +28,12 @@ pub fn atomic(
     held: &mut Reservations,
     tid: Tid,
     op: AtomicOp,
-    rd: Reg,
-    at: Addr,
-    n: u32,
+    operands: Operands,
 ) -> Outcome
     requires { HoldAtMost (without_thread (reserved_by held.old) tid) 31 }
-    ensures { (result, exec_state_of cpu.new memory.new held.new) ≡ atomic tid op rd at n (exec_state_of cpu.old memory.old held.old) }
+    ensures { (result, exec_state_of cpu.new memory.new held.new) ≡ atomic tid op operands.rd operands.at operands.n (exec_state_of cpu.old memory.old held.old) }
 {
+    let Operands { rd, at, n } = operands;
     if at % 4 != 0 {
         return Outcome::Fault {
             kind: FaultKind::AtomicAlign,
@@ -34,8 +41,8 @@ pub fn atomic(
     }
     match op {
         AtomicOp::Lr => load_reserved(cpu, memory, held, tid, rd, at),
-        AtomicOp::Sc => store_conditional(cpu, memory, held, tid, rd, at, n),
-        _ => modify(cpu, memory, held, tid, op, rd, at, n),
+        AtomicOp::Sc => store_conditional(cpu, memory, held, tid, operands),
+        _ => modify(cpu, memory, held, tid, op, operands),
     }
 }
 
@@ -73,13 +80,12 @@ fn store_conditional(
     memory: &mut GuestMemory,
     held: &mut Reservations,
     tid: Tid,
-    rd: Reg,
-    at: Addr,
-    n: u32,
+    operands: Operands,
 ) -> Outcome
-    requires { at % 4 ≡ 0 }
-    ensures { (result, exec_state_of cpu.new memory.new held.new) ≡ store_conditional tid rd at n (exec_state_of cpu.old memory.old held.old) }
+    requires { operands.at % 4 ≡ 0 }
+    ensures { (result, exec_state_of cpu.new memory.new held.new) ≡ store_conditional tid operands.rd operands.at operands.n (exec_state_of cpu.old memory.old held.old) }
 {
+    let Operands { rd, at, n } = operands;
     if !memory.can_write(at, 4) {
         return Outcome::Fault {
             kind: FaultKind::Store,
@@ -105,12 +111,11 @@ fn modify(
     held: &mut Reservations,
     tid: Tid,
     op: AtomicOp,
-    rd: Reg,
-    at: Addr,
-    n: u32,
+    operands: Operands,
 ) -> Outcome
-    ensures { (result, exec_state_of cpu.new memory.new held.new) ≡ modified tid op rd at n (exec_state_of cpu.old memory.old held.old) }
+    ensures { (result, exec_state_of cpu.new memory.new held.new) ≡ modified tid op operands.rd operands.at operands.n (exec_state_of cpu.old memory.old held.old) }
 {
+    let Operands { rd, at, n } = operands;
     let refused = Outcome::Fault {
         kind: FaultKind::Store,
     };

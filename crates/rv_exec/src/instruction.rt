@@ -5,7 +5,7 @@ ghost use Rattle.guest_memory.specs.ReservedBy.{reserved_by};
 ghost use Rattle.rv_exec.specs.Effects.{ExecState, accesses_memory, branched, effect, exec_state_of, value, with_registers};
 ghost use Rattle.rv_exec.specs.Operations.{is_taken, add_offset};
 
-use crate::atomics::atomic;
+use crate::atomics::{Operands, atomic};
 use crate::loads_and_stores::{load, store};
 use crate::operations::{add_offset, immediate_result, is_taken, register_result};
 use crate::{Cpu, Outcome};
@@ -51,7 +51,7 @@ pub fn execute(
             ..
         } => {
             let (at, n) = (cpu.value(base), cpu.value(value));
-            atomic(cpu, memory, held, tid, op, rd, at, n)
+            atomic(cpu, memory, held, tid, op, Operands { rd, at, n })
         }
         _ => execute_on_registers(cpu, i),
     }

@@ -5,3 +5,4 @@ pub mod Known
 pub mod Cut
 pub mod Exit
 pub mod Pending
+pub mod Parts

@@ -3,6 +3,7 @@ pub mod Activations
 pub mod Sizes
 pub mod Profile
 pub mod WellFormed
+pub mod Parts
 pub mod Depth
 pub mod EventList
 pub mod Laws

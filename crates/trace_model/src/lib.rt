@@ -15,7 +15,8 @@ pub use event_kinds::Event;
 pub use event_list::Events;
 pub use laws::{
     an_exit_is_one_activation, cut_is_the_longest_prefix, each_begun_is_done_or_pending,
-    known_is_by_the_latest_touch, pending_is_of_all_threads, worked_traces_are_as_written,
+    known_is_by_the_latest_touch, pending_is_of_all_threads, short_parts_are_light,
+    worked_traces_are_as_written,
 };
 pub use slow_profile::{Done, slow_done};
 
