@@ -3,7 +3,7 @@ use Rattle.std.proofs.Common.{◌≡◌, ℕ, zero, suc, ◌+◌, ◌<◌, min, 
 use Rattle.std.specs.Prelude.{filter, nat_lt, slice_get}
 use Rattle.std.specs.List.{list_any}
 use Rattle.std.proofs.lemmas.Bool.{ltb-true}
-use Rattle.std.proofs.lemmas.List.{append-nil, drop-drop, drop_more, length-drop, map-append}
+use Rattle.std.proofs.lemmas.List.{append-nil, drop-drop, drop_more, length-drop, map-append, take-append-drop}
 use Rattle.std.proofs.lemmas.List.Elements.{filter-append}
 use Rattle.std.proofs.lemmas.List.Folds.{list_any-append}
 use Rattle.thread_sched.specs.declared.entry.Entry.{Entry}
@@ -77,6 +77,20 @@ pub is_able_more : (tid : ℕ) (live : List (ℕ × Bool)) (i : ℕ) (t : ℕ ×
 is_able_more tid live i t found result h so_far is =
     is ∙ ap (λ b. b || (t.1 && eqb t.0 tid)) so_far
     ∙ sym (ap (list_any (λ other. eqb other tid)) (able_more live i t h) ∙ list_any-append (λ other. eqb other tid) (able (take i live)) (if_able t) ∙ ap (λ b. list_any (λ other. eqb other tid) (able (take i live)) || b) (any_if tid t.0 t.1))
+
+-- a thread that can run among the first ones is one of all
+pub is_able_of_first : (tid : ℕ) (live : List (ℕ × Bool)) (n : ℕ) → true ≡ list_any (λ other. eqb other tid) (able (take n live)) → true ≡ list_any (λ other. eqb other tid) (able live)
+is_able_of_first tid live n found =
+    let first = λ (s : ℕ × Bool). s.0 in
+    let can = λ (s : ℕ × Bool). s.1 in
+    let is = λ (other : ℕ). eqb other tid in
+    sym (
+    ap (λ threads. list_any is (able threads)) (sym (take-append-drop n live))
+    ∙ ap (λ threads. list_any is (map first threads)) (filter-append can (take n live) (drop n live))
+    ∙ ap (list_any is) (map-append first (filter can (take n live)) (filter can (drop n live)))
+    ∙ list_any-append is (able (take n live)) (able (drop n live))
+    ∙ ap (λ b. b || list_any is (able (drop n live))) (sym found)
+    )
 
 line_more : (line : ℕ) (es : List Entry) → 0 < length es → next_line line es ≡ line + 1
 line_more line [] some = absurd (omega arith)

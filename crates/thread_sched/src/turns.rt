@@ -58,7 +58,7 @@ fn least_above(last: u32, live: &ReadyList) -> Option<Tid>
     let mut best = None;
     for i in 0..live.len() {
         let (tid, can) = live.at(i);
-        best = with_taken(best, tid, can & (last < tid.number()));
+        best = with_taken(best, tid, can && last < tid.number());
     }
     best
 }
@@ -67,12 +67,13 @@ fn least_above(last: u32, live: &ReadyList) -> Option<Tid>
 fn is_able(tid: Tid, live: &ReadyList) -> bool
     ensures { result ≡ list_any (λ other. other == tid) (able live.now) }
 {
-    let mut found = false;
     for i in 0..live.len() {
         let (other, can) = live.at(i);
-        found = found | (can & (other.number() == tid.number()));
+        if can && other == tid {
+            return true;
+        }
     }
-    found
+    false
 }
 
 /// The scheduler: the quantum, the last thread's number (0 before the first turn), and the entries with how many are used.
