@@ -8,8 +8,8 @@ use Rattle.futex_table.specs.Once.{IsOnce}
 pub record IsTable (t : Inside) : Type 0 where
   pub once : IsOnce t.waiting.items
   pub few : length t.waiting.items ≤ 32
-  pub none_kept : t.kept.items ≡ []
+  pub none_spare : t.spare.items ≡ []
   pub none_taken : t.taken.items ≡ []
   pub room : 32 ≤ vec_capacity t.waiting
-  pub room_kept : 32 ≤ vec_capacity t.kept
+  pub room_spare : 32 ≤ vec_capacity t.spare
   pub room_taken : 32 ≤ vec_capacity t.taken

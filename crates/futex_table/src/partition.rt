@@ -1,4 +1,4 @@
-//! A list of waiters, partitioned into those who are taken out and those who stay.
+//! Waiters who are taken out of the list of those who wait, and who are added to it again.
 ghost use Rattle.std.specs.Prelude.{◌≡◌, ◌≤◌, ◌+◌, ◌++◌, [], length, map, vec_len};
 ghost use Rattle.std.specs.Vec.{vec_capacity};
 ghost use Rattle.futex_table.specs.Once.{IsOnce};
@@ -6,6 +6,7 @@ ghost use Rattle.futex_table.specs.Waiting.{waits_at, woken, without, moved_to};
 
 use crate::waiter::Waiter;
 use guest_words::Addr;
+use std::mem;
 
 // Whether the thread waits at the address, with a bit in common.
 fn waits_at(w: &Waiter, at: Addr, bits: u32) -> bool
@@ -14,42 +15,48 @@ fn waits_at(w: &Waiter, at: Addr, bits: u32) -> bool
     w.at == at && w.bits & bits != 0
 }
 
-/// Adds to `taken` the first `most` who wait at the address and whose bits meet these, and to `kept` all others.
-pub(crate) fn partition(
-    waiting: &[Waiter],
+/// Moves the first `most` who wait at the address and whose bits meet these from `waiting` to `taken`. `spare` is empty
+/// before and after.
+pub(crate) fn take_out(
+    waiting: &mut Vec<Waiter>,
     at: Addr,
     bits: u32,
     most: u32,
-    kept: &mut Vec<Waiter>,
+    spare: &mut Vec<Waiter>,
     taken: &mut Vec<Waiter>,
 )
-    requires once { IsOnce waiting.now }
-    requires few { length waiting.now ≤ 32 }
-    requires none_kept { kept.old.items ≡ [] }
+    requires once { IsOnce waiting.old.items }
+    requires few { vec_len waiting.old ≤ 32 }
+    requires none_spare { spare.old.items ≡ [] }
     requires none_taken { taken.old.items ≡ [] }
-    requires room_kept { 32 ≤ vec_capacity kept.old }
+    requires room { 32 ≤ vec_capacity waiting.old }
+    requires room_spare { 32 ≤ vec_capacity spare.old }
     requires room_taken { 32 ≤ vec_capacity taken.old }
-    ensures taken { taken.new.items ≡ woken waiting.now at most bits }
-    ensures kept { kept.new.items ≡ without waiting.now (woken waiting.now at most bits) }
-    ensures all { vec_len kept.new + vec_len taken.new ≡ length waiting.now }
-    ensures room_kept { 32 ≤ vec_capacity kept.new }
+    ensures taken { taken.new.items ≡ woken waiting.old.items at most bits }
+    ensures waiting { waiting.new.items ≡ without waiting.old.items (woken waiting.old.items at most bits) }
+    ensures all { vec_len waiting.new + vec_len taken.new ≡ vec_len waiting.old }
+    ensures none_spare { spare.new.items ≡ [] }
+    ensures room { 32 ≤ vec_capacity waiting.new }
+    ensures room_spare { 32 ≤ vec_capacity spare.new }
     ensures room_taken { 32 ≤ vec_capacity taken.new }
 {
-    for w in waiting {
+    for w in waiting.iter() {
         if (taken.len() as u32) < most && waits_at(w, at, bits) {
             taken.push(*w).unwrap();
         } else {
-            kept.push(*w).unwrap();
+            spare.push(*w).unwrap();
         }
     }
+    mem::swap(waiting, spare);
+    spare.clear();
 }
 
-/// Adds the taken ones to `kept`, where they now wait at another address.
-pub(crate) fn add_moved(taken: &[Waiter], to: Addr, kept: &mut Vec<Waiter>)
-    requires few { vec_len kept.old + length taken.now ≤ 32 }
-    requires room { 32 ≤ vec_capacity kept.old }
-    ensures added { kept.new.items ≡ kept.old.items ++ map (moved_to to) taken.now }
-    ensures room { 32 ≤ vec_capacity kept.new }
+/// Adds the taken ones behind all who wait, where they now wait at another address.
+pub(crate) fn add_moved(taken: &[Waiter], to: Addr, waiting: &mut Vec<Waiter>)
+    requires few { vec_len waiting.old + length taken.now ≤ 32 }
+    requires room { 32 ≤ vec_capacity waiting.old }
+    ensures added { waiting.new.items ≡ waiting.old.items ++ map (moved_to to) taken.now }
+    ensures room { 32 ≤ vec_capacity waiting.new }
 {
     for w in taken {
         let moved = Waiter {
@@ -57,6 +64,6 @@ pub(crate) fn add_moved(taken: &[Waiter], to: Addr, kept: &mut Vec<Waiter>)
             tid: w.tid,
             bits: w.bits,
         };
-        kept.push(moved).unwrap();
+        waiting.push(moved).unwrap();
     }
 }

@@ -3,12 +3,11 @@ ghost use Rattle.std.specs.Prelude.{◌≡◌, ◌≢◌, ◌<◌, ◌≤◌, []
 ghost use Rattle.futex_table.specs.Once.{waits, IsOnce};
 ghost use Rattle.futex_table.specs.Waiting.{after_wait, woken, after_wake, shifted, after_requeue, after_forget, all_bits};
 
-use crate::partition::{add_moved, partition};
+use crate::partition::{add_moved, take_out};
 use crate::waiter::Waiter;
 use guest_words::{Addr, Tid};
 use std::alloc::{AllocError, Global};
 use std::marker::Model;
-use std::mem;
 
 /// How many threads can wait.
 const ROOM: usize = 32;
@@ -17,8 +16,8 @@ const ROOM: usize = 32;
 #[derive(Drop)]
 pub struct FutexTable {
     waiting: Vec<Waiter>,
-    // Empty between calls: room for the two parts of the list.
-    kept: Vec<Waiter>,
+    // Empty between calls: room for those who stay and for those who are taken out.
+    spare: Vec<Waiter>,
     taken: Vec<Waiter>,
 }
 
@@ -41,7 +40,7 @@ impl FutexTable {
     {
         Ok(FutexTable {
             waiting: Vec::with_capacity(alloc, ROOM)?,
-            kept: Vec::with_capacity(alloc, ROOM)?,
+            spare: Vec::with_capacity(alloc, ROOM)?,
             taken: Vec::with_capacity(alloc, ROOM)?,
         })
     }
@@ -77,17 +76,15 @@ impl FutexTable {
         ensures count { result ≡ length (woken self.old at most bits) }
         ensures after { self.new ≡ after_wake self.old at most bits }
     {
-        partition(
-            self.waiting.as_slice(),
+        take_out(
+            &mut self.waiting,
             at,
             bits,
             most,
-            &mut self.kept,
+            &mut self.spare,
             &mut self.taken,
         );
         let count = self.taken.len() as u32;
-        mem::swap(&mut self.waiting, &mut self.kept);
-        self.kept.clear();
         self.taken.clear();
         count
     }
@@ -100,18 +97,16 @@ impl FutexTable {
         ensures after { self.new ≡ after_requeue self.old at most shift to }
     {
         let count = self.wake(at, most, u32::MAX);
-        partition(
-            self.waiting.as_slice(),
+        take_out(
+            &mut self.waiting,
             at,
             u32::MAX,
             shift,
-            &mut self.kept,
+            &mut self.spare,
             &mut self.taken,
         );
-        add_moved(self.taken.as_slice(), to, &mut self.kept);
+        add_moved(self.taken.as_slice(), to, &mut self.waiting);
         let moved = self.taken.len() as u32;
-        mem::swap(&mut self.waiting, &mut self.kept);
-        self.kept.clear();
         self.taken.clear();
         (count, moved)
     }

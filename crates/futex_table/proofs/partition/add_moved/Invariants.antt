@@ -4,4 +4,4 @@ use Rattle.futex_table.proofs.partition.add_moved.Given as goal
 
 abbrev pub invariant-loop-w : goal.invariant-loop-w
 invariant-loop-w l =
-    IsAdded l.taken l.initial.kept.items l.kept.items l.to l.w-index (vec_capacity l.kept)
+    IsAdded l.taken l.initial.waiting.items l.waiting.items l.to l.w-index (vec_capacity l.waiting)

@@ -12,10 +12,10 @@ invariant_of-self c =
     record {
       once = subst IsOnce (sym kept) (IsOnce-filter (λ w. not (nat_eq w.tid c.args.tid)) c.self.inside.waiting.items old.once);
       few = omega (arith, old.few, c.retain.ensures.bound);
-      none_kept = old.none_kept;
+      none_spare = old.none_spare;
       none_taken = old.none_taken;
       room = omega (arith, old.room, c.retain.ensures.capacity);
-      room_kept = old.room_kept;
+      room_spare = old.room_spare;
       room_taken = old.room_taken;
     }
 

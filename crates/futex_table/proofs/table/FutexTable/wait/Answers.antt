@@ -14,9 +14,9 @@ invariant_of-self c =
     record {
       once = subst IsOnce (sym pushed) (IsOnce-push c.self.inside.waiting.items _ old.once new);
       few = omega arith;
-      none_kept = old.none_kept;
+      none_spare = old.none_spare;
       none_taken = old.none_taken;
       room = omega (arith, old.room, c.push.ensures.capacity);
-      room_kept = old.room_kept;
+      room_spare = old.room_spare;
       room_taken = old.room_taken;
     }
