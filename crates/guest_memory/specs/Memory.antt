@@ -60,11 +60,6 @@ abbrev pub number_at : Memory → ℕ → ℕ → ℕ
 number_at m at zero = 0
 number_at m at (suc n) = m.byte at + 256 * number_at m (at + 1) n
 
--- the number that so many bytes of a list give, from an index on
-abbrev pub number_from : List ℕ → ℕ → ℕ → ℕ
-number_from bytes start zero = 0
-number_from bytes start (suc n) = slice_index bytes start + 256 * number_from bytes (start + 1) n
-
 -- how many bytes a size is
 abbrev pub byte_count : Size → ℕ
 byte_count One = 1

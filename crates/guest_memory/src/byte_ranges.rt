@@ -1,22 +1,16 @@
 //! Bytes by address: their permissions, and reads and writes of ranges.
-ghost use Rattle.std.specs.Prelude.{◌≡◌, ◌<◌, ◌≤◌, ◌+◌, ◌*◌, ◌^◌, ◌%◌, length, OnOk, OnErr, IfNone};
-ghost use Rattle.guest_memory.specs.Memory.{AreMapped, byte_refusal, first_refusal, number_at, number_from, byte_count, bytes_at, with_bytes, loaded, unless_refused};
+ghost use Rattle.std.specs.Prelude.{◌≡◌, ◌<◌, ◌≤◌, ◌+◌, ◌*◌, ◌^◌, ◌%◌, drop, length, OnOk, OnErr, IfNone};
+ghost use Rattle.guest_memory.specs.Memory.{AreMapped, byte_refusal, first_refusal, number_at, byte_count, bytes_at, with_bytes, loaded, unless_refused};
 ghost use Rattle.guest_memory.specs.declared.refusal.Permission.TheVariants as permission;
 ghost use Rattle.guest_memory.specs.State.{memory_in};
+ghost use Rattle.byteorder.specs.Endian.{little_number};
 
 use crate::Size;
 use crate::directory::{Directory, PAGE_SIZE, overwrite};
 use crate::refusal::{MemError, Permission};
+use guest_words::{le16, le32};
 
 impl Directory {
-    /// A byte: 0 where it is not mapped.
-    pub fn byte(&self, at: u64) -> u8
-        ensures { result ≡ (memory_in self.now).byte at }
-    {
-        let page = self.page(at >> 12);
-        page.1.get(at as usize % PAGE_SIZE).copied().unwrap_or(0)
-    }
-
     /// Why the byte at an address is refused, if it is.
     pub fn byte_refusal(&self, permission: Permission, at: u64) -> Option<MemError>
         ensures value { result ≡ byte_refusal (memory_in self.now) permission at }
@@ -50,22 +44,15 @@ impl Directory {
         None
     }
 
-    /// The number that so many bytes give, the lowest byte first.
+    /// The number that so many mapped bytes give, the lowest byte first.
     fn number(&self, at: u64, size: Size) -> u32
-        requires { at < 2 ^ 32 }
+        requires range { at < 2 ^ 32 }
+        requires mapped { AreMapped (memory_in self.now) at (byte_count size) }
         ensures { result ≡ number_at (memory_in self.now) at (byte_count size) }
     {
-        let first = u32::from(self.byte(at));
-        match size {
-            Size::One => first,
-            Size::Two => first + 256 * u32::from(self.byte(at + 1)),
-            Size::Four => {
-                let second = u32::from(self.byte(at + 1));
-                let third = u32::from(self.byte(at + 2));
-                let fourth = u32::from(self.byte(at + 3));
-                first + 256 * (second + 256 * (third + 256 * fourth))
-            }
-        }
+        let mut bytes = [0; 4];
+        self.read_all(at, &mut bytes[..size.bytes()]);
+        number_from(&bytes, 0, size)
     }
 
     /// What a load of so many bytes answers.
@@ -142,17 +129,11 @@ impl Directory {
 // The number that so many bytes of a slice give, the lowest byte first.
 fn number_from(bytes: &[u8], start: usize, size: Size) -> u32
     requires { start + byte_count size ≤ length bytes.now }
-    ensures { result ≡ number_from bytes.now start (byte_count size) }
+    ensures { result ≡ little_number (byte_count size) (drop start bytes.now) }
 {
-    let first = u32::from(bytes[start]);
     match size {
-        Size::One => first,
-        Size::Two => first + 256 * u32::from(bytes[start + 1]),
-        Size::Four => {
-            let second = u32::from(bytes[start + 1]);
-            let third = u32::from(bytes[start + 2]);
-            let fourth = u32::from(bytes[start + 3]);
-            first + 256 * (second + 256 * (third + 256 * fourth))
-        }
+        Size::One => u32::from(bytes[start]),
+        Size::Two => u32::from(le16(bytes, start)),
+        Size::Four => le32(bytes, start),
     }
 }

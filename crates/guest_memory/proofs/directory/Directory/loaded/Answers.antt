@@ -1,5 +1,6 @@
-use Rattle.std.proofs.Common.{◌≡◌, ◌∙◌, ◌<◌, sym, ap, arith, ℕ, Ok, Err, true, false, ◌+◌, ◌≤◌, ◌%◌, ◌/◌, length, List}
-use Rattle.guest_memory.specs.Memory.{byte_count, allows, denial, number_from}
+use Rattle.std.proofs.Common.{◌≡◌, ◌∙◌, ◌<◌, sym, ap, arith, ℕ, Ok, Err, true, false, ◌+◌, ◌≤◌, ◌%◌, ◌/◌, length, drop, List}
+use Rattle.guest_memory.specs.Memory.{byte_count, allows, denial}
+use Rattle.byteorder.specs.Endian.{little_number}
 use Rattle.guest_memory.specs.Pages.{page_of}
 use Rattle.guest_memory.specs.declared.size.Size.{Size}
 use Rattle.guest_memory.specs.declared.size.Size.TheVariants.{One, Two, Four}
@@ -18,7 +19,7 @@ returns-then-is_allowed c =
     let long : length c.page-page.result.1.now ≡ length (page_of c.args.self.now (c.args.at / 4096)).1 = ap length bytes in
     let fits : c.args.at % 4096 + byte_count c.args.size ≤ length (page_of c.args.self.now (c.args.at / 4096)).1 = omega (arith, c.if-start-bytes.true, c.bytes.ensures) in
     let allowed : allows c.args.permission (page_of c.args.self.now (c.args.at / 4096)).0 ≡ true = ap (allows c.args.permission) (sym rights) ∙ (sym c.is_allowed.ensures ∙ c.if-is_allowed.true) in
-    let number : c.number_from.result ≡ number_from (page_of c.args.self.now (c.args.at / 4096)).1 (c.args.at % 4096) (byte_count c.args.size) = c.number_from.ensures ∙ ap (λ (b : List ℕ). number_from b (c.args.at % 4096) (byte_count c.args.size)) bytes in
+    let number : c.number_from.result ≡ little_number (byte_count c.args.size) (drop (c.args.at % 4096) (page_of c.args.self.now (c.args.at / 4096)).1) = c.number_from.ensures ∙ ap (λ (b : List ℕ). little_number (byte_count c.args.size) (drop (c.args.at % 4096) b)) bytes in
     ap Ok number ∙ sym (loads_within c.args.self.now c.args.permission c.args.at (byte_count c.args.size) (omega arith) (some_bytes c.args.size) fits c.page-page.ensures.size allowed)
 
 pub returns-else-is_allowed : goal.returns-else-is_allowed
