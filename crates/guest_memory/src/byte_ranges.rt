@@ -37,7 +37,7 @@ impl Directory {
             if refusal.is_some() {
                 return refusal;
             }
-            let here = left.min(4096 - next % 4096);
+            let here = left.min(PAGE_SIZE as u64 - next % PAGE_SIZE as u64);
             next += here;
             left -= here;
         }

@@ -162,6 +162,6 @@ fn absent_pages(alloc: Global) -> Result<Vec<Page>, AllocError>
 pub fn zero_page(alloc: Global) -> Result<Vec<u8>, AllocError>
     ensures { IfOk result (λ v. v.items ≡ zeros) }
 {
-    let bytes = vec![in alloc; 0u8; 4096]?;
+    let bytes = vec![in alloc; 0u8; PAGE_SIZE]?;
     Ok(bytes)
 }
