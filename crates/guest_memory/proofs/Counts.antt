@@ -1,15 +1,19 @@
 -- How many pages are mapped, after one is changed.
-use Rattle.std.proofs.Common.{◌≡◌, ◌≢◌, ℕ, zero, suc, ◌+◌, ◌-◌, ◌<◌, ◌≤◌, Bool, true, cond, Option, Some, arith, refl, ap, ap₂, ◌∙◌, inl, inr}
+use Rattle.std.proofs.Common.{◌≡◌, ◌≢◌, ℕ, zero, suc, ◌+◌, ◌-◌, ◌<◌, ◌≤◌, Bool, true, cond, Option, None, Some, arith, refl, ap, ap₂, ◌∙◌, inl, inr}
 use Rattle.std.specs.Option.{is_some}
 use Rattle.std.proofs.lemmas.Bool.{cases_eq}
 use Rattle.guest_words.specs.declared.rights.Rights.{Rights}
 use Rattle.guest_memory.specs.Memory.{Memory, is_among, with_pages, with_rights, no_memory, count_mapped, mapped_pages}
-use Rattle.guest_memory.proofs.PageChanges.{among_one, among_other, with_pages-next, with_rights-next}
-use Rattle.guest_memory.proofs.WrittenBytes.{among_below}
+use Rattle.guest_memory.proofs.PageChanges.{among_one, among_other, with_pages-next}
+use Rattle.guest_memory.proofs.WrittenBytes.{among_below, among_past}
 
 -- 1 for a mapped page
 abbrev pub one : Option Rights → ℕ
 one o = cond (is_some o) 1 0
+
+pub one-most : (o : Option Rights) → one o ≤ 1
+one-most None = omega arith
+one-most (Some r) = omega arith
 
 -- the rights after one page is changed
 abbrev pub changed : (ℕ → Option Rights) → ℕ → Option Rights → ℕ → Option Rights
@@ -63,18 +67,10 @@ pages_down m s t first left count o some few before is =
     ∙ with_pages-next m (first + (left - 1)) (count - left) o
     ∙ ap (λ (k : ℕ). with_pages m (first + (left - 1)) k o) more
 
-pub rights_down : (m s t : Memory) (first left count : ℕ) (r : Rights) → 0 < left → left ≤ count → s ≡ with_rights m (first + left) (count - left) r → t ≡ with_rights s (first + (left - 1)) 1 r → t ≡ with_rights m (first + (left - 1)) (count - (left - 1)) r
-rights_down m s t first left count r some few before is =
-    let place : first + left ≡ (first + (left - 1)) + 1 = omega arith in
-    let more : (count - left) + 1 ≡ count - (left - 1) = omega arith in
-    is
-    ∙ ap (λ (v : Memory). with_rights v (first + (left - 1)) 1 r) (before ∙ ap (λ (n : ℕ). with_rights m n (count - left) r) place)
-    ∙ with_rights-next m (first + (left - 1)) (count - left) r
-    ∙ ap (λ (k : ℕ). with_rights m (first + (left - 1)) k r) more
-
 -- below the changed end of a range all is as before
 pub rights_below : (m s : Memory) (first count : ℕ) (o : Option Rights) (n : ℕ) → s ≡ with_pages m first count o → n < first → s.rights n ≡ m.rights n
 rights_below m s first count o n is low = ap (λ (v : Memory). v.rights n) is ∙ ap (λ (b : Bool). cond b o (m.rights n)) (among_below first count n low)
 
-pub rights_below_rights : (m s : Memory) (first count : ℕ) (r : Rights) (n : ℕ) → s ≡ with_rights m first count r → n < first → s.rights n ≡ m.rights n
-rights_below_rights m s first count r n is low = ap (λ (v : Memory). v.rights n) is ∙ ap (λ (b : Bool). cond b (Some r) (m.rights n)) (among_below first count n low)
+-- behind the pages that were given other rights all is as before
+pub rights_past : (m s : Memory) (first count : ℕ) (r : Rights) → s ≡ with_rights m first count r → s.rights (first + count) ≡ m.rights (first + count)
+rights_past m s first count r is = ap (λ (v : Memory). v.rights (first + count)) is ∙ ap (λ (b : Bool). cond b (Some r) (m.rights (first + count))) (among_past first count (first + count) (omega arith))

@@ -8,6 +8,7 @@ use Rattle.guest_memory.specs.Pages.{IsPlaced, page_of, with_page, zeros}
 use Rattle.guest_memory.specs.State.{memory_in, rights_of}
 use Rattle.guest_memory.specs.Memory.{Memory, is_among, with_pages, with_rights, no_memory}
 use Rattle.guest_memory.proofs.Accesses.{rights_some, some_bytes}
+use Rattle.guest_memory.proofs.WrittenBytes.{among_yes}
 use Rattle.guest_memory.proofs.Directories.{with_table, page_with_table, empty_directory, empty_page, page_here, page_there, placed, zeros_at}
 
 pub among_one : (n q : ℕ) → q ≡ n → is_among n 1 q ≡ true
@@ -26,6 +27,12 @@ among_next : (n k q : ℕ) → q ≢ n → is_among (n + 1) k q ≡ is_among n (
 among_next n k q differs = elim (cases_lt q n) [
   | inl low ↦ grind (arith, nat_tests)
   | inr from ↦ let past : n + 1 ≤ q = omega arith in elim (cases_lt q (n + 1 + k)) [ inl high ↦ grind (arith, nat_tests) | inr over ↦ grind (arith, nat_tests) ]
+]
+
+among_last : (n k q : ℕ) → q ≢ n + k → is_among n k q ≡ is_among n (k + 1) q
+among_last n k q differs = elim (cases_lt q (n + k)) [
+  | inl low ↦ grind (arith, nat_tests)
+  | inr from ↦ let past : n + k + 1 ≤ q = omega arith in grind (arith, nat_tests)
 ]
 
 among_first : (n k : ℕ) → is_among n (k + 1) n ≡ true
@@ -80,8 +87,18 @@ choice_next n k q o x = elim (cases_eq q n) [
 pub with_pages-next : (m : Memory) (n k : ℕ) (o : Option Rights) → with_pages (with_pages m (n + 1) k o) n 1 o ≡ with_pages m n (k + 1) o
 with_pages-next m n k o = λ i. record { rights = λ q. choice_next n k q o (m.rights q) i; byte = λ q. choice_next n k (q / 4096) 0 (m.byte q) i }
 
-pub with_rights-next : (m : Memory) (n k : ℕ) (r : Rights) → with_rights (with_rights m (n + 1) k r) n 1 r ≡ with_rights m n (k + 1) r
-with_rights-next m n k r = λ i. record { rights = λ q. choice_next n k q (Some r) (m.rights q) i; byte = m.byte }
+-- a choice in a range, then at the place behind it
+choice_last : {T : Type 0} (n k q : ℕ) (o x : T) → cond (is_among (n + k) 1 q) o (cond (is_among n k q) o x) ≡ cond (is_among n (k + 1) q) o x
+choice_last n k q o x = elim (cases_eq q (n + k)) [
+  | inl same ↦ ap (λ (b : Bool). cond b o (cond (is_among n k q) o x)) (among_one (n + k) q same) ∙ sym (ap (λ (b : Bool). cond b o x) (among_yes n (k + 1) q (omega arith) (omega arith)))
+  | inr differs ↦ ap (λ (b : Bool). cond b o (cond (is_among n k q) o x)) (among_other (n + k) q differs) ∙ ap (λ (b : Bool). cond b o x) (among_last n k q differs)
+]
+
+pub with_pages-last : (m : Memory) (n k : ℕ) (o : Option Rights) → with_pages (with_pages m n k o) (n + k) 1 o ≡ with_pages m n (k + 1) o
+with_pages-last m n k o = λ i. record { rights = λ q. choice_last n k q o (m.rights q) i; byte = λ q. choice_last n k (q / 4096) 0 (m.byte q) i }
+
+pub with_rights-last : (m : Memory) (n k : ℕ) (r : Rights) → with_rights (with_rights m n k r) (n + k) 1 r ≡ with_rights m n (k + 1) r
+with_rights-last m n k r = λ i. record { rights = λ q. choice_last n k q (Some r) (m.rights q) i; byte = m.byte }
 
 -- an empty table that is filled with absent pages changes no memory
 pub table_memory : (d : List (List (Rights × List ℕ))) (a : ℕ) → a < length d → length (get_or d a []) ≡ 0 → memory_in (with_table d a) ≡ memory_in d

@@ -61,11 +61,9 @@ impl Directory {
         ensures memory { memory_in self.new ≡ with_pages (memory_in self.old) first count None }
         ensures count { mapped_pages (memory_in self.new) + result ≡ mapped_pages (memory_in self.old) }
     {
-        let mut left = count;
         let mut taken = 0;
-        'pages: while left > 0 {
-            left -= 1;
-            if self.take(alloc, first + left) {
+        for k in 0..count {
+            if self.take(alloc, first + k) {
                 taken += 1;
             }
         }
@@ -79,10 +77,8 @@ impl Directory {
         ensures memory { memory_in self.new ≡ with_rights (memory_in self.old) first count rights }
         ensures count { mapped_pages (memory_in self.new) ≡ mapped_pages (memory_in self.old) }
     {
-        let mut left = count;
-        'pages: while left > 0 {
-            left -= 1;
-            self.set_rights(first + left, rights);
+        for k in 0..count {
+            self.set_rights(first + k, rights);
         }
     }
 }
