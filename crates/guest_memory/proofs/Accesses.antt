@@ -1,5 +1,5 @@
 -- Refusals and numbers over several bytes.
-use Rattle.std.proofs.Common.{◌≡◌, ℕ, zero, suc, ◌+◌, ◌-◌, ◌*◌, ◌<◌, ◌≤◌, ◌/◌, ◌%◌, Bool, true, false, cond, List, [], ◌∷◌, length, drop, get_or-drop, Option, Some, None, Ok, Err, arith, refl, ap, ap₂, sym, ◌∙◌, subst}
+use Rattle.std.proofs.Common.{◌≡◌, ℕ, zero, suc, ◌+◌, ◌-◌, ◌*◌, ◌<◌, ◌≤◌, ◌/◌, ◌%◌, Bool, true, false, cond, List, [], ◌∷◌, length, take, drop, get_or-take, Option, Some, None, Ok, Err, arith, refl, ap, ap₂, sym, ◌∙◌, subst}
 use Rattle.std.specs.Option.{option_or, is_some}
 use Rattle.std.specs.Prelude.{nat_lt}
 use Rattle.std.proofs.lemmas.Bool.Decides.{nat_tests}
@@ -10,6 +10,7 @@ use Rattle.guest_memory.specs.Pages.{page_of}
 use Rattle.guest_memory.specs.State.{memory_in, rights_of}
 use Rattle.guest_memory.specs.Memory.{Memory, allows, denial, page_refusal, page_rights, byte_refusal, first_refusal, number_at, unless_refused, loaded, AreMapped}
 use Rattle.byteorder.specs.Endian.{little_from, little_number}
+use Rattle.guest_memory.proofs.ReadBytes.{bytes_within}
 
 -- the rights of a page that there is
 pub page_rights_inside : (m : Memory) (page : ℕ) → page < 1048576 → page_rights m page ≡ m.rights page
@@ -87,28 +88,19 @@ pub mapped_where_allowed : (permission : Permission) (r : Option Rights) → pag
 mapped_where_allowed permission None h = absurd (cc)
 mapped_where_allowed permission (Some r) h = refl
 
--- the number from an index on is that of the rest of the list
-little_from-drop : (xs : List ℕ) (start i n : ℕ) → little_from i n (drop start xs) ≡ little_from (start + i) n xs
-little_from-drop xs start i zero = refl
-little_from-drop xs start i (suc n) =
-    let next : start + suc i ≡ suc (start + i) = omega arith in
-    ap₂ (λ (x y : ℕ). x + 256 * y) (get_or-drop start xs i 0) (little_from-drop xs start (suc i) n ∙ ap (λ (k : ℕ). little_from k n xs) next)
-
-little_from-page : (d : List (List (Rights × List ℕ))) (at n : ℕ) → at % 4096 + n ≤ 4096 → little_from (at % 4096) n (page_of d (at / 4096)).1 ≡ number_at (memory_in d) at n
-little_from-page d at zero fits = refl
-little_from-page d at (suc zero) fits = refl
-little_from-page d at (suc (suc n)) fits =
-    let page : (at + 1) / 4096 ≡ at / 4096 = omega arith in
-    let start : (at + 1) % 4096 ≡ suc (at % 4096) = omega arith in
-    let rest = little_from-page d (at + 1) (suc n) (omega arith) in
-    ap (λ (x : ℕ). (memory_in d).byte at + 256 * x)
-    (ap₂ (λ (p s : ℕ). little_from s (suc n) (page_of d p).1) (sym page) (sym start) ∙ rest)
+-- what stands behind its bytes changes no number
+little_from-take : (xs : List ℕ) (i n : ℕ) → little_from i n (take (i + n) xs) ≡ little_from i n xs
+little_from-take xs i zero = refl
+little_from-take xs i (suc n) =
+    let next : i + suc n ≡ suc i + n = omega arith in
+    ap₂ (λ (x y : ℕ). x + 256 * y) (get_or-take (i + suc n) xs i 0 (omega arith)) (ap (λ (k : ℕ). little_from (suc i) n (take k xs)) next ∙ little_from-take xs (suc i) n)
 
 -- within a page it is the number at the address
-pub number_within : (d : List (List (Rights × List ℕ))) (at n : ℕ) → at % 4096 + n ≤ 4096 → little_number n (drop (at % 4096) (page_of d (at / 4096)).1) ≡ number_at (memory_in d) at n
-number_within d at n fits =
-    let start : at % 4096 + 0 ≡ at % 4096 = omega arith in
-    little_from-drop (page_of d (at / 4096)).1 (at % 4096) 0 n ∙ ap (λ (k : ℕ). little_from k n (page_of d (at / 4096)).1) start ∙ little_from-page d at n fits
+number_within : (d : List (List (Rights × List ℕ))) (at n : ℕ) → at % 4096 + n ≤ length (page_of d (at / 4096)).1 → length (page_of d (at / 4096)).1 ≤ 4096 → little_number n (drop (at % 4096) (page_of d (at / 4096)).1) ≡ number_at (memory_in d) at n
+number_within d at n fits full =
+    let bytes : List ℕ = drop (at % 4096) (page_of d (at / 4096)).1 in
+    let all : n ≡ 0 + n = omega arith in
+    sym (ap (λ (k : ℕ). little_number n (take k bytes)) all ∙ little_from-take bytes 0 n) ∙ ap (little_number n) (bytes_within d at n fits full)
 
 -- the rights of a page with a byte
 pub rights_some : (r : Rights) (bytes : List ℕ) → 0 < length bytes → rights_of (r, bytes) ≡ Some r
@@ -128,7 +120,7 @@ refusal_by_rights d permission at range some = ap (page_refusal permission) (pag
 pub loads_within : (d : List (List (Rights × List ℕ))) (permission : Permission) (at n : ℕ) → at / 4096 < 1048576 → 0 < n → at % 4096 + n ≤ length (page_of d (at / 4096)).1 → length (page_of d (at / 4096)).1 ≤ 4096 → allows permission (page_of d (at / 4096)).0 ≡ true → loaded (memory_in d) permission at n ≡ Ok (little_number n (drop (at % 4096) (page_of d (at / 4096)).1))
 loads_within d permission at n range some fits full allowed =
     let free : byte_refusal (memory_in d) permission at ≡ None = refusal_by_rights d permission at range (omega arith) ∙ ap (λ (b : Bool). cond b None (Some (denial permission))) allowed in
-    ap₂ (λ (o : Option MemError) (x : ℕ). unless_refused o x) (refusal_within (memory_in d) permission at n free (omega arith)) (sym (number_within d at n (omega arith)))
+    ap₂ (λ (o : Option MemError) (x : ℕ). unless_refused o x) (refusal_within (memory_in d) permission at n free (omega arith)) (sym (number_within d at n fits full))
 
 -- a load that the page's rights refuse
 pub loads_refused : (d : List (List (Rights × List ℕ))) (permission : Permission) (at n : ℕ) → at / 4096 < 1048576 → 0 < n → at % 4096 + n ≤ length (page_of d (at / 4096)).1 → allows permission (page_of d (at / 4096)).0 ≡ false → loaded (memory_in d) permission at n ≡ Err (denial permission)

@@ -1,6 +1,7 @@
 -- The memory of a guest, and what loads, stores and changes of its pages do.
-use Rattle.std.specs.Prelude.{◌≡◌, ℕ, zero, suc, ◌+◌, ◌*◌, ◌-◌, ◌<◌, ◌≤◌, ◌/◌, Bool, true, ◌&&◌, nat_le, nat_lt, if◌then◌else◌, List, [], ◌∷◌, length, slice_index, Option, Some, None, Result, Ok, Err}
+use Rattle.std.specs.Prelude.{◌≡◌, ℕ, zero, suc, ◌+◌, ◌-◌, ◌<◌, ◌≤◌, ◌/◌, Bool, true, ◌&&◌, nat_le, nat_lt, if◌then◌else◌, List, [], ◌∷◌, length, slice_index, Option, Some, None, Result, Ok, Err}
 use Rattle.std.specs.Option.{option_or, is_some}
+use Rattle.byteorder.specs.Endian.{little_number}
 use Rattle.guest_words.specs.declared.rights.Rights.{Rights}
 use Rattle.guest_memory.specs.declared.refusal.MemError.{MemError}
 use Rattle.guest_memory.specs.declared.refusal.MemError.TheVariants as error
@@ -57,8 +58,7 @@ bytes_at m at (suc n) = m.byte at ∷ bytes_at m (at + 1) n
 
 -- the number that they give, the lowest byte first
 abbrev pub number_at : Memory → ℕ → ℕ → ℕ
-number_at m at zero = 0
-number_at m at (suc n) = m.byte at + 256 * number_at m (at + 1) n
+number_at m at n = little_number n (bytes_at m at n)
 
 -- how many bytes a size is
 abbrev pub byte_count : Size → ℕ
