@@ -12,6 +12,8 @@ use Rattle.aprof_top.specs.declared.ending.Ending.TheVariants as ending
 use Rattle.aprof_top.specs.declared.ending.Verdict as verdicts
 use Rattle.aprof_top.specs.declared.ending.Verdict.TheVariants as verdict
 use Rattle.aprof_top.specs.declared.loaded.Loaded as kept
+use Rattle.aprof_top.specs.declared.refusal.Refusal.{Refusal}
+use Rattle.aprof_top.specs.declared.refusal.Refusal.TheVariants as refused
 use Rattle.aprof_top.specs.Answers.{Decides, Found}
 use Rattle.aprof_top.specs.Delivery.{Delivers, FailsToStore, PutsNothing, PutsOutput, StoresAll, StoresSome}
 use Rattle.aprof_top.specs.Ending.{DoesNothing, AskedEnds, Reaches}
@@ -21,6 +23,7 @@ use Rattle.aprof_top.specs.Outcome.{Follows, IsDemo, IsRun, Outcome, refusal, st
 use Rattle.aprof_top.specs.Outcome.Stage.{Complete, Loading, PastLimit}
 use Rattle.aprof_top.specs.Outside.{Outside, outside, with_stores}
 use Rattle.aprof_top.specs.Products.{FilesRun, LoadsAll}
+use Rattle.aprof_top.specs.Refusals.{ending_of}
 use Rattle.aprof_top.specs.Verdicts.{IsOfRun}
 use Rattle.aprof_top.proofs.Sinks.{Rose-later, append_known-nothing}
 
@@ -121,13 +124,10 @@ module _ (options : RunOptions) (files loaded : FilesState) (out err : SinkState
     decided outcome is_run = subst (λ s. Follows options all.files outcome s) (sym (complete_stage options all.files all.are.few all.all)) is_run
 
     -- the run gave no product
-    pub AskedEnds-unrun : (e : declared.Ending) → FilesRun options (loaded_of options all.files) (Err e) → AskedEnds (Run options) before between e
-    AskedEnds-unrun (ending.Decided v) is_run words asks =
+    pub AskedEnds-unrun : (r : Refusal) → FilesRun options (loaded_of options all.files) (Err r) → AskedEnds (Run options) before between (ending_of r)
+    AskedEnds-unrun (refused.Decided v) is_run words asks =
         Reaches-refusal words before between v (found_all words between asks) (decided (refusal v) is_run) untouched all.are.unchanged
-    AskedEnds-unrun ending.OutOfMemory is_run words asks = inl (record { found = nothing_loaded words asks; puts = untouched; contents = all.are.unchanged.contents })
-    AskedEnds-unrun (ending.CannotRead path) is_run words asks = absurd is_run
-    AskedEnds-unrun ending.CannotWrite is_run words asks = absurd is_run
-    AskedEnds-unrun ending.CannotPut is_run words asks = absurd is_run
+    AskedEnds-unrun refused.OutOfMemory is_run words asks = inl (record { found = nothing_loaded words asks; puts = untouched; contents = all.are.unchanged.contents })
 
     -- its product was handed out
     module _ (outcome : Outcome) (after : Outside) (counts : NoCountFalls files loaded) where

@@ -1,8 +1,7 @@
 -- What the run of a command's files comes to.
-use Rattle.std.proofs.Common.{◌≡◌, ℕ, List, [], Option, Some, None, Err, ◌≤◌, reverse, refl, sym, ap, ap₂, ◌∙◌, subst}
+use Rattle.std.proofs.Common.{◌≡◌, IfSome, Ok, arith, ℕ, List, [], Option, Some, None, Err, ◌≤◌, reverse, refl, sym, ap, ap₂, ◌∙◌, subst}
 use Rattle.std.specs.List.{AllByRecursion}
 use Rattle.command_line.specs.Options.{RunOptions, arguments, inputs}
-use Rattle.elf_image.specs.declared.error.ElfError.{ElfError}
 use Rattle.elf_image.specs.Image.{Executable}
 use Rattle.demo_guest.specs.Image.{IsDemoFile}
 use Rattle.elf_image.specs.Reading.{image_of}
@@ -23,12 +22,16 @@ use Rattle.guest_run.proofs.Weights.{every_run_light}
 use Rattle.thread_sched.specs.TurnRule.{SchedulerState}
 use Rattle.trace_model.specs.WellFormed.{IsLight}
 use Rattle.thread_sched.specs.declared.entry.Entry.{Entry}
+use Rattle.thread_sched.specs.ScheduleText as recordings
 use Rattle.thread_sched.specs.ScheduleText.{IsBadLine, IsEntry, IsText}
-use Rattle.aprof_top.specs.declared.ending.Ending as declared
-use Rattle.aprof_top.specs.declared.ending.Ending.TheVariants as ending
-use Rattle.aprof_top.specs.declared.ending.Verdict.TheVariants.{BadCommand, BadImage, BadSchedule, TooLarge, Ran, Summarized}
+use Rattle.thread_sched.specs.declared.schedule.ScheduleError.{ScheduleError}
+use Rattle.thread_sched.specs.declared.schedule.ScheduleError.TheVariants as unread
+use Rattle.aprof_top.specs.declared.ending.Verdict.TheVariants.{BadSchedule, TooLarge, Summarized}
 use Rattle.aprof_top.specs.declared.loaded.Loaded as kept
 use Rattle.aprof_top.specs.declared.product.Product.{Product}
+use Rattle.aprof_top.specs.declared.refusal.Refusal.{Refusal}
+use Rattle.aprof_top.specs.declared.refusal.Refusal.TheVariants as refused
+use Rattle.aprof_top.specs.Refusals.{of_schedule}
 use Rattle.aprof_top.specs.Loads.{Loaded, with_inputs}
 use Rattle.aprof_top.specs.Outcome.{ByImage, IsDemo, IsRun, demo_options, demo_outcome, IsScheduled, Outcome, begun_outcome, refusal, run_outcome}
 use Rattle.aprof_top.specs.Products.{FilesRun, ImageRuns, IsRefused, IsRunOf, RunsTo, outcome_of}
@@ -39,15 +42,17 @@ use Rattle.aprof_top.specs.Verdicts.{IsOfRun}
 use Rattle.aprof_top.specs.Schedules.Reading.{BadLine, Turns}
 
 module _ (options : RunOptions) (loaded : Loaded) where
-  pub IsRun-bad_image : (e : ElfError) → first_refusal loaded.image ≡ Some e → IsRun options loaded (refusal (BadImage e))
-  IsRun-bad_image e is = subst (λ o. ByImage options loaded (refusal (BadImage e)) o) (sym is) refl
-
   module _ (accepted : first_refusal loaded.image ≡ None) where
     accepts : (outcome : Outcome) → IsScheduled options loaded outcome → IsRun options loaded outcome
     accepts outcome scheduled = subst (λ o. ByImage options loaded outcome o) (sym accepted) scheduled
 
     pub IsRun-bad_line : (line : ℕ) → IsBadLine loaded.schedule line → IsRun options loaded (refusal (BadSchedule line))
     IsRun-bad_line line bad = accepts (refusal (BadSchedule line)) (record { reading = BadLine line; read = bad; answered = refl })
+
+    -- the schedule was not taken
+    pub FilesRun-bad_line : (e : ScheduleError) → recordings.IsRefused loaded.schedule e → FilesRun options loaded (Err (of_schedule e))
+    FilesRun-bad_line (unread.BadLine line) bad = IsRun-bad_line line bad
+    FilesRun-bad_line unread.Memory bad = tt
 
     module _ (turns : List Entry) (entries : AllByRecursion IsEntry turns) (text : IsText loaded.schedule turns) (image : Executable) (is : image ≡ image_of loaded.image) where
       refused_by : (o : Option SetupError) → IsRefused o → refusal TooLarge ≡ begun_outcome options loaded turns o
@@ -69,6 +74,11 @@ module _ (options : RunOptions) (loaded : Loaded) where
             ∙ ap₂ (run_outcome options) is runs
             ∙ ap (begun_outcome options loaded turns) (sym begins ∙ ap (λ i. setup_refusal i (arguments options)) is);
       })
+
+-- the guest can begin
+pub none_refused : {T : Type 0} (o : Option SetupError) (m : T) → IfSome o (λ why. Ok m ≡ Err why) → o ≡ None
+none_refused None m same = refl
+none_refused (Some why) m same = absurd (grind (arith, same))
 
 -- the run of the machine that began so
 pub same_run : (options : RunOptions) (loaded : Loaded) (turns : List Entry) (image : Executable) (files : List Input) (stdin : List ℕ) → image ≡ image_of loaded.image → files ≡ with_inputs [] (inputs options) loaded.inputs → stdin ≡ loaded.stdin → shown_from options turns image.entry (start image (arguments options) files stdin) ≡ run_of options loaded turns
@@ -106,17 +116,10 @@ RunsTo-run options files accepted turns entries text image is inputs' stdin inpu
 }
 
 -- it gave none
-pub FilesRun-unrun : (options : RunOptions) (files : Loaded) (accepted : first_refusal files.image ≡ None) (turns : List Entry) (entries : AllByRecursion IsEntry turns) (text : IsText files.schedule turns) (image : Executable) (is : image ≡ image_of files.image) (inputs' : List Input) (stdin : List ℕ) (e : declared.Ending) → ImageRuns options image turns inputs' stdin (Err e) → FilesRun options files (Err e)
-FilesRun-unrun options files accepted turns entries text image is inputs' stdin ending.OutOfMemory runs = tt
-FilesRun-unrun options files accepted turns entries text image is inputs' stdin (ending.Decided TooLarge) runs = IsRun-unbegun options files accepted turns entries text image is runs
-FilesRun-unrun options files accepted turns entries text image is inputs' stdin (ending.Decided BadCommand) runs = absurd runs
-FilesRun-unrun options files accepted turns entries text image is inputs' stdin (ending.Decided (BadImage e)) runs = absurd runs
-FilesRun-unrun options files accepted turns entries text image is inputs' stdin (ending.Decided (BadSchedule line)) runs = absurd runs
-FilesRun-unrun options files accepted turns entries text image is inputs' stdin (ending.Decided (Ran finish)) runs = absurd runs
-FilesRun-unrun options files accepted turns entries text image is inputs' stdin (ending.Decided Summarized) runs = absurd runs
-FilesRun-unrun options files accepted turns entries text image is inputs' stdin (ending.CannotRead path) runs = absurd runs
-FilesRun-unrun options files accepted turns entries text image is inputs' stdin ending.CannotWrite runs = absurd runs
-FilesRun-unrun options files accepted turns entries text image is inputs' stdin ending.CannotPut runs = absurd runs
+pub FilesRun-unrun : (options : RunOptions) (files : Loaded) (accepted : first_refusal files.image ≡ None) (turns : List Entry) (entries : AllByRecursion IsEntry turns) (text : IsText files.schedule turns) (image : Executable) (is : image ≡ image_of files.image) (inputs' : List Input) (stdin : List ℕ) (r : Refusal) → ImageRuns options image turns inputs' stdin (Err r) → FilesRun options files (Err r)
+FilesRun-unrun options files accepted turns entries text image is inputs' stdin refused.OutOfMemory runs = tt
+FilesRun-unrun options files accepted turns entries text image is inputs' stdin (refused.Decided v) runs =
+    rw runs.0 (IsRun-unbegun options files accepted turns entries text image is runs.1)
 
 -- ---- the demo
 -- its summary is the outcome

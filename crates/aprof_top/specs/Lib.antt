@@ -7,6 +7,7 @@ pub mod Loads
 pub mod Outcome
 pub mod Outside
 pub mod Products
+pub mod Refusals
 pub mod Report
 pub mod Run
 pub mod Schedules

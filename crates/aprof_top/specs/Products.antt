@@ -12,11 +12,12 @@ use Rattle.host_io.specs.Files.{FilesState}
 use Rattle.trace_model.specs.WellFormed.{IsLight}
 use Rattle.thread_sched.specs.declared.entry.Entry.{Entry}
 use Rattle.aprof_top.specs.declared.ending.Ending.{Ending}
-use Rattle.aprof_top.specs.declared.ending.Ending.TheVariants as ending
-use Rattle.aprof_top.specs.declared.ending.Verdict.TheVariants.{BadCommand, BadImage, BadSchedule, TooLarge, Ran, Summarized}
+use Rattle.aprof_top.specs.declared.ending.Verdict.TheVariants.{TooLarge}
 use Rattle.aprof_top.specs.declared.loaded.Loaded as declared
 use Rattle.aprof_top.specs.declared.product.Product.{Product}
 use Rattle.aprof_top.specs.declared.product.Store.{Store}
+use Rattle.aprof_top.specs.declared.refusal.Refusal.{Refusal}
+use Rattle.aprof_top.specs.declared.refusal.Refusal.TheVariants.{Decided, OutOfMemory}
 use Rattle.aprof_top.specs.Loading.{AreLoaded, LoadsEnd}
 use Rattle.aprof_top.specs.Loads.{Loaded, loaded_of, loaded_paths, shared_count, with_inputs}
 use Rattle.aprof_top.specs.Outcome.{IsDemo, IsRun, Outcome, refusal}
@@ -67,18 +68,10 @@ pub record IsRunOf (options : RunOptions) (image : Executable) (turns : List Ent
   pub light : IsLight (reverse run.events.list)
 
 -- how the run of an executable ends
-abbrev pub ImageRuns : RunOptions → Executable → List Entry → List Input → List ℕ → Result Run Ending → Type 0
+abbrev pub ImageRuns : RunOptions → Executable → List Entry → List Input → List ℕ → Result Run Refusal → Type 0
 ImageRuns options image turns files stdin (Ok run) = IsRunOf options image turns files stdin run
-ImageRuns options image turns files stdin (Err ending.OutOfMemory) = Unit {0}
-ImageRuns options image turns files stdin (Err (ending.Decided TooLarge)) = IsRefused (setup_refusal image (arguments options))
-ImageRuns options image turns files stdin (Err (ending.Decided BadCommand)) = ⊥
-ImageRuns options image turns files stdin (Err (ending.Decided (BadImage e))) = ⊥
-ImageRuns options image turns files stdin (Err (ending.Decided (BadSchedule line))) = ⊥
-ImageRuns options image turns files stdin (Err (ending.Decided (Ran finish))) = ⊥
-ImageRuns options image turns files stdin (Err (ending.Decided Summarized)) = ⊥
-ImageRuns options image turns files stdin (Err (ending.CannotRead path)) = ⊥
-ImageRuns options image turns files stdin (Err ending.CannotWrite) = ⊥
-ImageRuns options image turns files stdin (Err ending.CannotPut) = ⊥
+ImageRuns options image turns files stdin (Err (Decided verdict)) = (verdict ≡ TooLarge) × IsRefused (setup_refusal image (arguments options))
+ImageRuns options image turns files stdin (Err OutOfMemory) = Unit {0}
 
 -- The product is the outcome of a run of these files.
 pub record RunsTo (options : RunOptions) (loaded : Loaded) (product : Product) : Type 0 where
@@ -86,19 +79,12 @@ pub record RunsTo (options : RunOptions) (loaded : Loaded) (product : Product) :
   pub ran : IsOfRun product.verdict
 
 -- how the run of a command's files ends: with its outcome, or for want of memory
-abbrev pub FilesRun : RunOptions → Loaded → Result Product Ending → Type 0
+abbrev pub FilesRun : RunOptions → Loaded → Result Product Refusal → Type 0
 FilesRun options loaded (Ok product) = RunsTo options loaded product
-FilesRun options loaded (Err (ending.Decided verdict)) = IsRun options loaded (refusal verdict)
-FilesRun options loaded (Err ending.OutOfMemory) = Unit {0}
-FilesRun options loaded (Err (ending.CannotRead path)) = ⊥
-FilesRun options loaded (Err ending.CannotWrite) = ⊥
-FilesRun options loaded (Err ending.CannotPut) = ⊥
+FilesRun options loaded (Err (Decided verdict)) = IsRun options loaded (refusal verdict)
+FilesRun options loaded (Err OutOfMemory) = Unit {0}
 
 -- how the demo ends: with its outcome, or for want of memory
-abbrev pub DemoRuns : ℕ → Result Product Ending → Type 0
+abbrev pub DemoRuns : ℕ → Result Product Refusal → Type 0
 DemoRuns number (Ok product) = IsDemo number (outcome_of product) × IsOfRun product.verdict
-DemoRuns number (Err ending.OutOfMemory) = Unit {0}
-DemoRuns number (Err (ending.Decided verdict)) = ⊥
-DemoRuns number (Err (ending.CannotRead path)) = ⊥
-DemoRuns number (Err ending.CannotWrite) = ⊥
-DemoRuns number (Err ending.CannotPut) = ⊥
+DemoRuns number (Err refused) = refused ≡ OutOfMemory

@@ -4,8 +4,9 @@ ghost use Rattle.command_line.specs.Read.{options_in};
 ghost use Rattle.aprof_top.specs.Outcome.{demo_options};
 ghost use Rattle.aprof_top.specs.Products.{DemoRuns};
 
-use crate::ending::{Ending, Verdict};
+use crate::ending::Verdict;
 use crate::product::{Product, run_image};
+use crate::refusal::Refusal;
 use crate::report::report_of;
 use crate::summary::summary;
 use command_line::RunCommand;
@@ -32,22 +33,17 @@ fn demo_command(alloc: Global) -> RunCommand<'static>
 }
 
 /// Runs the demo of this number, and sums its report up.
-pub(crate) fn run_demo(alloc: Global, number: u32) -> Result<Product<'static>, Ending<'static>>
+pub(crate) fn run_demo(alloc: Global, number: u32) -> Result<Product<'static>, Refusal>
     requires { (1 ≤ number) × (number ≤ 40000) }
     ensures { DemoRuns number result }
 {
     let file = demo_image(alloc, number)?;
     // It passes all tests, so it is refused only for want of memory.
-    let Ok(image) = read_image(alloc, file.as_slice()) else {
-        return Err(Ending::OutOfMemory);
-    };
+    let image = read_image(alloc, file.as_slice())?;
     let command = demo_command(alloc);
     let schedule = Schedule::empty(alloc)?;
     let inputs = Inputs::new(alloc)?;
-    let run = match run_image(alloc, &command, &image, schedule, inputs, Vec::new(alloc)) {
-        Ok(run) => run,
-        Err(ending) => return Err(ending),
-    };
+    let run = run_image(alloc, &command, &image, schedule, inputs, Vec::new(alloc))?;
     let report = report_of(alloc, &image, &run)?;
     let out = summary(alloc, number, &report)?;
     Ok(Product {

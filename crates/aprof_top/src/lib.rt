@@ -8,6 +8,7 @@ mod laws;
 mod loaded;
 mod loads;
 mod product;
+mod refusal;
 mod report;
 mod summary;
 mod texts;

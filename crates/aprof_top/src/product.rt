@@ -1,31 +1,27 @@
 //! What the run of a guest leaves.
-ghost use Rattle.std.specs.Prelude.{◌≡◌, ◌≢◌, map, option_map, reverse, Some, None, IfOk, IfErr, OnOk};
-ghost use Rattle.command_line.specs.Options.{arguments};
+ghost use Rattle.std.specs.Prelude.{◌≡◌, map, option_map, reverse, IfOk};
 ghost use Rattle.command_line.specs.Read.{AreInRange, options_in};
 ghost use Rattle.trace_model.specs.Depth.{pending};
 ghost use Rattle.trace_model.specs.Profile.{steps};
 ghost use Rattle.trace_model.specs.WellFormed.{IsLight};
-ghost use Rattle.guest_machine.specs.Kept.{machine_of};
-ghost use Rattle.guest_machine.specs.Setup.{setup_refusal};
-ghost use Rattle.guest_machine.specs.Start.{start};
-ghost use Rattle.guest_machine.specs.declared.setup.SetupError.TheVariants.{Memory};
 ghost use Rattle.guest_run.specs.Shown.{IsShown, Shown};
 ghost use Rattle.aprof_top.specs.Loads as loads;
 ghost use Rattle.aprof_top.specs.Outcome.{recording_stores, run_outcome};
 ghost use Rattle.aprof_top.specs.Products.{FilesRun, ImageRuns, Keeps, outcome_of, store_of};
 ghost use Rattle.aprof_top.specs.Verdicts.{IsOfRun};
 
-use crate::ending::{Ending, Verdict};
+use crate::ending::Verdict;
 use crate::loaded::Loaded;
+use crate::refusal::Refusal;
 use crate::report::report_of;
 use command_line::RunCommand;
-use elf_image::{ElfError, Image, read_image};
+use elf_image::{Image, read_image};
 use guest_calls::Inputs;
-use guest_machine::{Machine, SetupError};
+use guest_machine::Machine;
 use guest_run::{Run, run_guest};
 use profile_report::write_report;
 use std::alloc::{AllocError, Global};
-use thread_sched::{Recording, Sched, Schedule, ScheduleError};
+use thread_sched::{Recording, Sched, Schedule};
 
 /// A file to store.
 #[derive(Drop)]
@@ -43,23 +39,6 @@ pub(crate) struct Product<'a> {
     pub(crate) stores: Vec<Store<'a>>,
 }
 
-// The machine of an image, with the command's arguments.
-fn first_machine(
-    alloc: Global,
-    command: &RunCommand<'_>,
-    image: &Image,
-    inputs: Inputs,
-    stdin: Vec<u8>,
-) -> Result<Machine, SetupError>
-    ensures refused { IfErr result (λ e. e ≢ Memory → setup_refusal image.now (arguments (options_in command.now)) ≡ Some e) }
-    ensures accepted { OnOk result (setup_refusal image.now (arguments (options_in command.now)) ≡ None) }
-    ensures start { IfOk result (λ machine. machine_of machine ≡ start image.now (arguments (options_in command.now)) inputs stdin.items) }
-    ensures entry { IfOk result (λ machine. machine.entry ≡ image.now.entry) }
-{
-    let words = command.arguments(alloc)?;
-    Machine::new(alloc, image, words.as_slice(), inputs, stdin)
-}
-
 /// The run of an executable, which begins with these input files and this standard input.
 pub(crate) fn run_image(
     alloc: Global,
@@ -68,15 +47,12 @@ pub(crate) fn run_image(
     schedule: Schedule,
     inputs: Inputs,
     stdin: Vec<u8>,
-) -> Result<Run, Ending<'static>>
+) -> Result<Run, Refusal>
     requires { AreInRange command.now.quantum command.now.budget }
     ensures { ImageRuns (options_in command.now) image.now schedule inputs stdin.items result }
 {
-    let machine = match first_machine(alloc, command, image, inputs, stdin) {
-        Ok(machine) => machine,
-        Err(SetupError::Memory) => return Err(Ending::OutOfMemory),
-        Err(_) => return Err(Ending::Decided(Verdict::TooLarge)),
-    };
+    let words = command.arguments(alloc)?;
+    let machine = Machine::new(alloc, image, words.as_slice(), inputs, stdin)?;
     let turns = Sched::new(command.quantum, schedule);
     Ok(run_guest(alloc, machine, turns, command.budget, u32::MAX)?)
 }
@@ -130,35 +106,19 @@ pub(crate) fn run_files<'a>(
     alloc: Global,
     command: &RunCommand<'a>,
     loaded: Loaded,
-) -> Result<Product<'a>, Ending<'a>>
+) -> Result<Product<'a>, Refusal>
     requires { AreInRange command.now.quantum command.now.budget }
     ensures { (files : loads.Loaded) → Keeps (options_in command.now) files loaded → FilesRun (options_in command.now) files result }
 {
-    let image = match read_image(alloc, loaded.image.as_slice()) {
-        Ok(image) => image,
-        Err(ElfError::Memory) => return Err(Ending::OutOfMemory),
-        Err(error) => return Err(Ending::Decided(Verdict::BadImage(error))),
-    };
-    let schedule = match Schedule::read(alloc, loaded.schedule.as_slice()) {
-        Ok(schedule) => schedule,
-        Err(ScheduleError::Memory) => return Err(Ending::OutOfMemory),
-        Err(ScheduleError::BadLine { line }) => {
-            return Err(Ending::Decided(Verdict::BadSchedule(line)));
-        }
-    };
-    let run = match run_image(
+    let image = read_image(alloc, loaded.image.as_slice())?;
+    let schedule = Schedule::read(alloc, loaded.schedule.as_slice())?;
+    let run = run_image(
         alloc,
         command,
         &image,
         schedule,
         loaded.inputs,
         loaded.stdin,
-    ) {
-        Ok(run) => run,
-        Err(ending) => return Err(ending),
-    };
-    match product_of(alloc, command, &image, run) {
-        Ok(product) => Ok(product),
-        Err(_) => Err(Ending::OutOfMemory),
-    }
+    )?;
+    Ok(product_of(alloc, command, &image, run)?)
 }

@@ -5,6 +5,7 @@ ghost use Rattle.profile_report.specs.LineForms.{ended, labelled};
 ghost use Rattle.aprof_top.specs.Summary.{FitsTotals, activations, costs, sizes, summary_text};
 
 use cost_points::Point;
+use guest_words::push_decimal;
 use profile_report::{Report, Routine, push_end_line};
 use std::alloc::{AllocError, Global};
 
@@ -55,11 +56,12 @@ fn totals_of(routines: &[Routine]) -> Totals
 }
 
 // Appends the line of a number after its label.
-fn push_line(alloc: Global, text: &mut Vec<u8>, label: &str, number: u128) -> Result<(), AllocError>
+fn push_line(text: &mut Vec<u8>, label: &[u8], number: u128) -> Result<(), AllocError>
     ensures { OnOk result (text.new.items ≡ text.old.items ++ ended (labelled label.now number)) }
 {
-    let line = format!(in alloc; "{label}{number}\n")?;
-    text.extend_from_slice(line.as_bytes())
+    text.extend_from_slice(label)?;
+    push_decimal(text, number)?;
+    text.extend_from_slice(b"\n")
 }
 
 /// The summary of a report: the demo's number, how the run ended, and the totals.
@@ -69,12 +71,12 @@ pub(crate) fn summary(alloc: Global, number: u32, report: &Report) -> Result<Vec
 {
     let totals = totals_of(report.routines.as_slice());
     let mut text = Vec::new(alloc);
-    push_line(alloc, &mut text, "demo ", u128::from(number))?;
+    push_line(&mut text, b"demo ", u128::from(number))?;
     push_end_line(&mut text, report.finish)?;
-    push_line(alloc, &mut text, "steps ", u128::from(report.steps))?;
-    push_line(alloc, &mut text, "routines ", report.routines.len() as u128)?;
-    push_line(alloc, &mut text, "activations ", totals.activations)?;
-    push_line(alloc, &mut text, "sizes ", totals.sizes)?;
-    push_line(alloc, &mut text, "costs ", totals.costs)?;
+    push_line(&mut text, b"steps ", u128::from(report.steps))?;
+    push_line(&mut text, b"routines ", report.routines.len() as u128)?;
+    push_line(&mut text, b"activations ", totals.activations)?;
+    push_line(&mut text, b"sizes ", totals.sizes)?;
+    push_line(&mut text, b"costs ", totals.costs)?;
     Ok(text)
 }

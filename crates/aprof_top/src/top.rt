@@ -27,22 +27,12 @@ fn load_command<'a, F: Files>(
     ensures counts { NoCountFalls (F.state files.old) (F.state files.new) }
     ensures ends { CommandLoads (options_in command.now) (F.state files.old) (F.state files.new) result }
 {
-    let names = match command.inputs(alloc) {
-        Ok(names) => names,
-        Err(_) => return Err(Ending::OutOfMemory),
-    };
-    let paths = match loaded_paths(alloc, command, names.as_slice()) {
-        Ok(paths) => paths,
-        Err(_) => return Err(Ending::OutOfMemory),
-    };
+    let names = command.inputs(alloc)?;
+    let paths = loaded_paths(alloc, command, names.as_slice())?;
     let shared = shared_count(command, names.as_slice());
-    let loaded = match load_files(alloc, paths.as_slice(), shared, files) {
-        Ok(loaded) => loaded,
-        Err(ending) => return Err(ending),
-    };
-    match Loaded::new(alloc, command, names.as_slice(), loaded) {
-        Ok(loaded) => Ok(loaded),
-        Err(_) => Err(Ending::OutOfMemory),
+    match load_files(alloc, paths.as_slice(), shared, files) {
+        Ok(loaded) => Ok(Loaded::new(alloc, command, names.as_slice(), loaded)?),
+        Err(ending) => Err(ending),
     }
 }
 
@@ -68,7 +58,7 @@ fn run_command<'a, F: Files, O: Sink, E: Sink>(
     };
     match run_files(alloc, command, loaded) {
         Ok(product) => deliver(&product, files, out, err),
-        Err(ending) => ending,
+        Err(refusal) => Ending::from(refusal),
     }
 }
 
@@ -90,7 +80,7 @@ fn show_demo<F: Files, O: Sink, E: Sink>(
 {
     match run_demo(alloc, number) {
         Ok(product) => deliver(&product, files, out, err),
-        Err(ending) => ending,
+        Err(refusal) => Ending::from(refusal),
     }
 }
 

@@ -7,13 +7,13 @@ use Rattle.aprof_top.proofs.LoadSteps.{AreLoaded-as}
 use Rattle.aprof_top.proofs.Sorting.{text}
 use Rattle.aprof_top.proofs.top.load_command.Goals as goal
 
-pub returns-in-Ok-new-clause-ends : goal.returns-in-Ok-new-clause-ends
-returns-in-Ok-new-clause-ends g c =
+pub returns-in-Ok-clause-ends : goal.returns-in-Ok-clause-ends
+returns-in-Ok-clause-ends g c =
     let options = options_in c.args.command.now in
-    let paths_are = ap (map text) c.as_slice-3.ensures.value ∙ c.in-Ok-loaded_paths.ensures in
+    let paths_are = ap (map text) c.as_slice-3.ensures.value ∙ c.in_ok-paths.ensures in
     record {
-      files = contents_of c.in-Ok-load_files.loaded.items;
-      are = AreLoaded-as _ (shared_count options) _ (loaded_paths options) (contents_of c.in-Ok-load_files.loaded.items) (g.F.Files.state c.args.files.now) (g.F.Files.state c.load_files.new.files) c.shared_count-shared.ensures paths_are c.in-Ok-load_files.ensures.loaded;
-      all = length-map c.in-Ok-load_files.loaded.items _ ∙ c.in-Ok-load_files.ensures.all ∙ sym (length-map c.as_slice-3.result.now text) ∙ ap length paths_are;
-      keeps = c.in-Ok-new.ensures;
+      files = contents_of c.in-Ok.loaded.items;
+      are = AreLoaded-as _ (shared_count options) _ (loaded_paths options) (contents_of c.in-Ok.loaded.items) (g.F.Files.state c.args.files.now) (g.F.Files.state c.load_files.new.files) c.shared_count-shared.ensures paths_are c.in-Ok.ensures.loaded;
+      all = length-map c.in-Ok.loaded.items _ ∙ c.in-Ok.ensures.all ∙ sym (length-map c.as_slice-3.result.now text) ∙ ap length paths_are;
+      keeps = c.in_ok-new-in-Ok.ensures;
     }
