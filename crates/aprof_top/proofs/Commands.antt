@@ -101,16 +101,11 @@ module _ (options : RunOptions) (files loaded : FilesState) (out err : SinkState
     puts = untouched;
     contents = fails.contents;
   }
-  AskedEnds-unloaded (ending.Decided verdict.TooLarge) passes words asks =
-      Reaches-refusal words before between verdict.TooLarge
+  AskedEnds-unloaded (ending.Decided why) (too_large, passes) words asks =
+      Reaches-refusal words before between why
       (record { asked = Some (Run options); asks = asks; files = passes.files; held = passes.held; limit = passes.limit })
-      (subst (λ s. Follows options passes.files (refusal verdict.TooLarge) s) (sym (past_stage options passes.files passes.many)) refl)
+      (subst (λ s. Follows options passes.files (refusal why) s) (sym (past_stage options passes.files passes.many)) (ap refusal too_large))
       untouched passes.unchanged
-  AskedEnds-unloaded (ending.Decided verdict.BadCommand) ends words asks = absurd ends
-  AskedEnds-unloaded (ending.Decided (verdict.BadImage e)) ends words asks = absurd ends
-  AskedEnds-unloaded (ending.Decided (verdict.BadSchedule line)) ends words asks = absurd ends
-  AskedEnds-unloaded (ending.Decided (verdict.Ran finish)) ends words asks = absurd ends
-  AskedEnds-unloaded (ending.Decided verdict.Summarized) ends words asks = absurd ends
   AskedEnds-unloaded ending.CannotWrite ends words asks = absurd ends
   AskedEnds-unloaded ending.CannotPut ends words asks = absurd ends
   AskedEnds-unloaded ending.OutOfMemory same words asks = inl (record { found = nothing_loaded words asks; puts = untouched; contents = same })

@@ -9,7 +9,7 @@ use Rattle.aprof_top.specs.Loads.{passes_limit, shared_length}
 use Rattle.aprof_top.specs.Outside.{AreHeld}
 use Rattle.aprof_top.specs.declared.ending.Ending.{Ending}
 use Rattle.aprof_top.specs.declared.ending.Ending.TheVariants as ending
-use Rattle.aprof_top.specs.declared.ending.Verdict.TheVariants.{BadCommand, BadImage, BadSchedule, TooLarge, Ran, Summarized}
+use Rattle.aprof_top.specs.declared.ending.Verdict.TheVariants.{TooLarge}
 
 -- the bytes of files in memory
 abbrev pub contents_of : List (Vec ℕ Global) → List (List ℕ)
@@ -52,12 +52,7 @@ pub record PassesLimit (shared : ℕ) (paths : List (List ℕ)) (old new : Files
 -- why the loads of a command end it
 abbrev pub LoadsEnd : ℕ → List (List ℕ) → FilesState → FilesState → Ending → Type 0
 LoadsEnd shared paths old new (ending.CannotRead path) = FailsToLoad shared paths path.now old new
-LoadsEnd shared paths old new (ending.Decided TooLarge) = PassesLimit shared paths old new
+LoadsEnd shared paths old new (ending.Decided verdict) = (verdict ≡ TooLarge) × PassesLimit shared paths old new
 LoadsEnd shared paths old new ending.OutOfMemory = new.contents ≡ old.contents
-LoadsEnd shared paths old new (ending.Decided BadCommand) = ⊥
-LoadsEnd shared paths old new (ending.Decided (BadImage e)) = ⊥
-LoadsEnd shared paths old new (ending.Decided (BadSchedule line)) = ⊥
-LoadsEnd shared paths old new (ending.Decided (Ran finish)) = ⊥
-LoadsEnd shared paths old new (ending.Decided Summarized) = ⊥
 LoadsEnd shared paths old new ending.CannotWrite = ⊥
 LoadsEnd shared paths old new ending.CannotPut = ⊥

@@ -3,7 +3,7 @@
 use crate::ending::{Ending, Verdict};
 use elf_image::ElfError;
 use guest_machine::SetupError;
-use std::alloc::{AllocError, AllocFailed};
+use std::alloc::AllocError;
 use thread_sched::ScheduleError;
 
 /// Why a run has no product: the answer is decided before, or memory is wanting.
@@ -20,17 +20,6 @@ impl From<AllocError> for Refusal {
     ghost from_gives = { λ _ r. r ≡ OutOfMemory };
 
     fn from(_error: AllocError) -> Refusal {
-        Refusal::OutOfMemory
-    }
-}
-
-impl<T: Drop> From<AllocFailed<T>> for Refusal {
-    ghost use Rattle.std.specs.Prelude.{◌≡◌};
-    ghost use Rattle.aprof_top.specs.declared.refusal.Refusal.TheVariants.{OutOfMemory};
-
-    ghost from_gives = { λ _ r. r ≡ OutOfMemory };
-
-    fn from(_error: AllocFailed<T>) -> Refusal {
         Refusal::OutOfMemory
     }
 }

@@ -1,4 +1,4 @@
-use Rattle.std.proofs.Common.{◌≡◌, ◌+◌, ◌&&◌, nat_le, cond, map, length, ap, ap₂, sym, subst, ◌∙◌}
+use Rattle.std.proofs.Common.{◌≡◌, ◌+◌, ◌&&◌, nat_le, cond, map, length, ap, ap₂, refl, sym, subst, ◌∙◌}
 use Rattle.std.proofs.lemmas.List.{length-map}
 use Rattle.aprof_top.specs.Loading.{IsLoading}
 use Rattle.aprof_top.specs.Loading.{contents_of}
@@ -15,24 +15,28 @@ returns-in-Err-Failed-clause-ends g c =
     (rw c.in-Err-Failed.field-0-is at c.in-Err-Failed.ensures.ends)
 
 pub returns-in-Err-TooLarge-clause-ends : goal.returns-in-Err-TooLarge-clause-ends
-returns-in-Err-TooLarge-clause-ends g c =
-    PassesLimit-met c.args.shared c.loop-path.sum _ (contents_of c.loop-path.loaded.items) _ (g.F.Files.state c.args.files.now) (g.F.Files.state c.loop-path.files) (g.F.Files.state c.load.new.self)
-    c.loop-path.invariant.so_far
-    (path_at c.args.paths.now c.loop-path.loaded.items c.loop-path.path-index _ c.loop-path.invariant.count c.loop-path-test.true)
-    c.load.ensures.counts c.load.ensures.unchanged
-    (rw c.in-Err-TooLarge.field-0-is at c.in-Err-TooLarge.ensures.ends)
+returns-in-Err-TooLarge-clause-ends g c = (
+  refl,
+  PassesLimit-met c.args.shared c.loop-path.sum _ (contents_of c.loop-path.loaded.items) _ (g.F.Files.state c.args.files.now) (g.F.Files.state c.loop-path.files) (g.F.Files.state c.load.new.self)
+      c.loop-path.invariant.so_far
+      (path_at c.args.paths.now c.loop-path.loaded.items c.loop-path.path-index _ c.loop-path.invariant.count c.loop-path-test.true)
+      c.load.ensures.counts c.load.ensures.unchanged
+      (rw c.in-Err-TooLarge.field-0-is at c.in-Err-TooLarge.ensures.ends),
+)
 
 pub returns-then-sum-gt-INPUTS_LIMIT-clause-ends :
     goal.returns-then-sum-gt-INPUTS_LIMIT-clause-ends
-returns-then-sum-gt-INPUTS_LIMIT-clause-ends g c =
-    PassesLimit-together c.args.shared c.loop-path.sum _ (contents_of c.loop-path.loaded.items) _ (g.F.Files.state c.args.files.now) (g.F.Files.state c.loop-path.files) (g.F.Files.state c.load.new.self)
-    c.loop-path.invariant.so_far
-    (path_at c.args.paths.now c.loop-path.loaded.items c.loop-path.path-index _ c.loop-path.invariant.count c.loop-path-test.true)
-    c.load.ensures.counts c.load.ensures.unchanged
-    c.in-Ok.file.items c.in-Ok.ensures.ends c.with_length-sum.result
-    (let count : c.len.result ≡ length (contents_of c.loop-path.loaded.items) = c.len.ensures ∙ c.loop-path.invariant.len ∙ sym (length-map c.loop-path.loaded.items _ ∙ c.loop-path.invariant.count) in let size : c.len-in-loop-path.result ≡ length c.in-Ok.file.items = c.len-in-loop-path.ensures ∙ c.in-Ok.file.ok.0 in
-    c.with_length-sum.ensures ∙ ap₂ (λ n m. cond (nat_le 1 n && nat_le n c.args.shared) (c.loop-path.sum + m) c.loop-path.sum) count size)
-    c.if-sum-gt-INPUTS_LIMIT.true
+returns-then-sum-gt-INPUTS_LIMIT-clause-ends g c = (
+  refl,
+  PassesLimit-together c.args.shared c.loop-path.sum _ (contents_of c.loop-path.loaded.items) _ (g.F.Files.state c.args.files.now) (g.F.Files.state c.loop-path.files) (g.F.Files.state c.load.new.self)
+      c.loop-path.invariant.so_far
+      (path_at c.args.paths.now c.loop-path.loaded.items c.loop-path.path-index _ c.loop-path.invariant.count c.loop-path-test.true)
+      c.load.ensures.counts c.load.ensures.unchanged
+      c.in-Ok.file.items c.in-Ok.ensures.ends c.with_length-sum.result
+      (let count : c.len.result ≡ length (contents_of c.loop-path.loaded.items) = c.len.ensures ∙ c.loop-path.invariant.len ∙ sym (length-map c.loop-path.loaded.items _ ∙ c.loop-path.invariant.count) in let size : c.len-in-loop-path.result ≡ length c.in-Ok.file.items = c.len-in-loop-path.ensures ∙ c.in-Ok.file.ok.0 in
+      c.with_length-sum.ensures ∙ ap₂ (λ n m. cond (nat_le 1 n && nat_le n c.args.shared) (c.loop-path.sum + m) c.loop-path.sum) count size)
+      c.if-sum-gt-INPUTS_LIMIT.true,
+)
 
 pub loop-path-preserved : goal.loop-path-preserved
 loop-path-preserved g c =
