@@ -1,5 +1,8 @@
 -- What the files of the system and a sink over a writer mean: counts alone, since nothing is known of what they hold.
-use Rattle.std.specs.Prelude.{None}
+use Rattle.std.specs.Prelude.{◌≡◌, ◌≢◌, None, Result, Err}
+use Rattle.std.specs.IoError.{error_kind}
+use Rattle.std.specs.declared.io.Error.{Error}
+use Rattle.std.specs.declared.io.ErrorKind.TheVariants.{OutOfMemory}
 use Rattle.host_io.specs.Files.{FilesState}
 use Rattle.host_io.specs.Sink.{SinkState}
 use Rattle.host_io.specs.declared.real_files.RealFiles.{RealFiles}
@@ -16,3 +19,8 @@ stream_state s = record { bytes = None; faults = s.faults }
 -- the writer of a sink
 abbrev pub writer_of : {W : Type 0} → StreamSink W → W
 writer_of s = s.inner
+
+-- A file is not opened, by this error of the system: want of memory is told apart from every other cause.
+pub record FailsToOpen {T E : Type 0} (error : Error) (memory failed : E) (result : Result T E) : Type 0 where
+  pub wants_memory : error_kind error ≡ OutOfMemory → result ≡ Err memory
+  pub fails : error_kind error ≢ OutOfMemory → result ≡ Err failed

@@ -1,9 +1,11 @@
 //! The files of the system.
-ghost use Rattle.std.specs.Prelude.{◌≡◌, ◌≢◌, ◌+◌, ◌-◌, ◌^◌, ◌<◌, ◌≤◌, length, min, vec_len, IfOk, IfSome};
+ghost use Rattle.std.specs.Prelude.{◌≡◌, ◌≢◌, ◌+◌, ◌-◌, ◌^◌, ◌<◌, ◌≤◌, length, min, vec_len, IfOk, IfErr, IfSome};
 ghost use Rattle.std.specs.IoError.{error_kind};
+ghost use Rattle.std.specs.Io.KnownBytes.{Appends};
 ghost use Rattle.std.specs.Io.Take.{take_inner, take_limit};
 ghost use Rattle.host_io.specs.Files.{LoadEnds, StoreEnds, NoCountFalls};
 ghost use Rattle.host_io.specs.After.{after_load, after_store};
+ghost use Rattle.host_io.specs.Real.{FailsToOpen};
 
 use crate::{Files, LoadError, StoreError};
 use std::alloc::Global;
@@ -87,24 +89,40 @@ where
     }
 }
 
-/// The bytes of the file at a path.
-fn load_file<R: rt::Files>(
-    system: &R,
+/// All bytes of what was opened, where they are at most `most`.
+pub(crate) fn load_opened<R: Read>(
     alloc: Global,
-    path: &str,
+    opened: io::Result<R>,
     most: usize,
 ) -> Result<Vec<u8>, LoadError>
-    ensures { IfOk result (λ bytes. vec_len bytes ≤ most) }
+where
+    R: Drop,
+    ensures limit { IfOk result (λ bytes. vec_len bytes ≤ most) }
+    ensures unopened { IfErr opened (λ e. FailsToOpen e LoadError.Memory LoadError.Failed result) }
+    ensures whole { IfOk opened (λ file. IfOk result (λ bytes. IfSome (R.remaining file) (λ known. bytes.items ≡ known))) }
+    ensures longer { IfOk opened (λ file. result ≡ Err LoadError.TooLarge → IfSome (R.remaining file) (λ known. most < length known)) }
 {
-    let file = fs::open(system, path).map_err(load_error)?;
-    read_whole(alloc, limited(file, most), most)
+    match opened {
+        Ok(file) => read_whole(alloc, limited(file, most), most),
+        Err(error) => Err(load_error(error)),
+    }
 }
 
-/// Writes a file anew. Behind its opening a part may be written, so that each error is a failure.
-fn store_file<R: rt::Files>(system: &R, path: &str, bytes: &[u8]) -> Result<(), StoreError> {
-    let mut file = fs::create(system, path).map_err(opening_error)?;
+/// Writes all bytes to what was opened, and gives it back. Behind its opening a part may be written, so that each error is a
+/// failure.
+pub(crate) fn store_opened<W: Write>(opened: io::Result<W>, bytes: &[u8]) -> Result<W, StoreError>
+where
+    W: Drop,
+    ensures unopened { IfErr opened (λ e. FailsToOpen e StoreError.Memory StoreError.Failed result) }
+    ensures written { IfOk opened (λ file. IfOk result (λ left. Appends (W.contents file) (W.contents left) bytes.now)) }
+    ensures failed { IfOk opened (λ file. IfErr result (λ e. e ≡ StoreError.Failed)) }
+{
+    let mut file = match opened {
+        Ok(file) => file,
+        Err(error) => return Err(opening_error(error)),
+    };
     match file.write_all(bytes) {
-        Ok(()) => Ok(()),
+        Ok(()) => Ok(file),
         Err(_) => Err(StoreError::Failed),
     }
 }
@@ -120,7 +138,7 @@ impl<R: rt::Files> Files for RealFiles<'_, R> {
         ensures ends { LoadEnds path.now most (real_state self.old) (real_state self.new) result }
         ensures state { real_state self.new ≡ after_load path.now result (real_state self.old) }
     {
-        let result = load_file(self.system, alloc, path, most);
+        let result = load_opened(alloc, fs::open(self.system, path), most);
         match &result {
             Err(LoadError::Failed) => self.faults = self.faults.saturating_add(1),
             Err(LoadError::TooLarge) => self.oversized = self.oversized.saturating_add(1),
@@ -134,10 +152,13 @@ impl<R: rt::Files> Files for RealFiles<'_, R> {
         ensures ends { StoreEnds path.now bytes.now (real_state self.old) (real_state self.new) result }
         ensures state { real_state self.new ≡ after_store path.now bytes.now result (real_state self.old) }
     {
-        let result = store_file(self.system, path, bytes);
-        if result == Err(StoreError::Failed) {
-            self.faults = self.faults.saturating_add(1);
+        match store_opened(fs::create(self.system, path), bytes) {
+            Ok(_) => Ok(()),
+            Err(StoreError::Failed) => {
+                self.faults = self.faults.saturating_add(1);
+                Err(StoreError::Failed)
+            }
+            Err(StoreError::Memory) => Err(StoreError::Memory),
         }
-        result
     }
 }

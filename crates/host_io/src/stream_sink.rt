@@ -1,5 +1,5 @@
 //! A sink over any writer.
-ghost use Rattle.std.specs.Prelude.{◌≡◌, ◌<◌, ◌≤◌, length, None, OnOk};
+ghost use Rattle.std.specs.Prelude.{◌≡◌, ◌<◌, ◌≤◌, length, None, IfErr, OnOk};
 ghost use Rattle.std.specs.Io.KnownBytes.{Appends};
 ghost use Rattle.host_io.specs.Sink.{PutEnds};
 ghost use Rattle.host_io.specs.After.{after_put};
@@ -46,6 +46,9 @@ impl<W: Write> Sink for StreamSink<W> {
         ensures counts { (stream_state self.old).faults ≤ (stream_state self.new).faults }
         ensures ends { PutEnds piece.now (stream_state self.old) (stream_state self.new) result }
         ensures state { stream_state self.new ≡ after_put piece.now result (stream_state self.old) }
+
+        // Each error is a failure: a part may be out.
+        ensures failed { IfErr result (λ e. e ≡ PutError.Failed) }
 
         // A writer that knows its bytes has got the piece.
         ensures written { OnOk result (Appends (W.contents (writer_of self.old)) (W.contents (writer_of self.new)) piece.now) }
