@@ -1,10 +1,10 @@
 //! The commands, and the words that ask for them.
-ghost use Rattle.std.specs.Prelude.{◌≡◌, ◌≤◌, IfOk, IfErr, IfSome, map, Some, None, string_bytes};
+ghost use Rattle.std.specs.Prelude.{◌≡◌, ◌≤◌, IfOk, IfErr, IfSome, false, map, Some, None, string_bytes};
 ghost use Rattle.std.specs.List.{list_any};
 ghost use Rattle.clap.specs.Words.{found_of, rows_of};
 ghost use Rattle.command_line.specs.Options.{AsksFor, asked_of_rows, demo_of_rows, has_zero};
 ghost use Rattle.command_line.specs.Read.{IsInRange, asked_in};
-ghost use Rattle.command_line.specs.declared.commands.CommandError.TheVariants.{Refused};
+ghost use Rattle.command_line.specs.declared.commands.CommandError.TheVariants.{Memory, Refused};
 
 use crate::matches::{matches_of_words, subcommand_of, text_of};
 use crate::numbers::number_between;
@@ -95,6 +95,9 @@ fn command_of<'a>(
 pub fn read_command<'a>(alloc: Global, words: &'a [String]) -> Result<Command<'a>, CommandError>
     ensures asked { IfOk result (λ command. AsksFor (map string_bytes words.entry.now) (Some (asked_in command))) }
     ensures refused { IfErr result (λ e. e ≡ Refused → AsksFor (map string_bytes words.entry.now) None) }
+
+    // That a word has a zero byte is seen before any memory is wanted.
+    ensures zero { IfErr result (λ e. e ≡ Memory → list_any has_zero (map string_bytes words.entry.now) ≡ false) }
     ensures ranges { IfOk result (λ command. IsInRange command) }
 {
     if some_has_zero(words) {

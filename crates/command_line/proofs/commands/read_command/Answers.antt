@@ -41,3 +41,12 @@ returns-clause-refused c h =
     let words = map string_bytes c.args.words.now in
     let none : list_any has_zero words ≡ false = sym (list_any-map has_zero string_bytes c.args.words.now) ∙ (sym c.some_has_zero.ensures ∙ c.if-some_has_zero.false) in
     rows_ask words None none (c.in-None.ensures ∙ c.in-Ok.ensures.rows)
+
+pub returns-in-Err-clause-zero : goal.returns-in-Err-clause-zero
+returns-in-Err-clause-zero c memory =
+    sym (list_any-map has_zero string_bytes c.args.words.now) ∙ (sym c.some_has_zero.ensures ∙ c.if-some_has_zero.false)
+
+pub returns-in-Some-clause-zero : goal.returns-in-Some-clause-zero
+returns-in-Some-clause-zero c =
+    let none : list_any has_zero (map string_bytes c.args.words.now) ≡ false = sym (list_any-map has_zero string_bytes c.args.words.now) ∙ (sym c.some_has_zero.ensures ∙ c.if-some_has_zero.false) in
+    IfErr-weaker c.command_of.result _ _ (λ e is memory. none) c.command_of.ensures.refused
