@@ -6,12 +6,11 @@ use Rattle.std.proofs.lemmas.Bool.Decides.{nat_tests}
 use Rattle.std.proofs.lemmas.List.{length-replicate}
 use Rattle.std.proofs.lemmas.List.Sums.{sum_by-cons}
 use Rattle.host_io.specs.Faults.{Rose}
-use Rattle.host_io.specs.Files.{Contents, FailsAt, FilesState, FilesUnchanged, GivesFile, Holds, HoldsMore, ExceedsLimit, NoCountFalls, with_path}
+use Rattle.host_io.specs.Files.{Contents, FailsAt, FilesState, GivesFile, Holds, HoldsMore, ExceedsLimit}
 use Rattle.aprof_top.specs.Limits.{file_limit, inputs_limit}
 use Rattle.aprof_top.specs.Loading.{AreLoaded, FailsToLoad, IsLoading, PassesLimit}
 use Rattle.aprof_top.specs.Loads.{passes_limit, shared_length}
-use Rattle.aprof_top.specs.Outside.{AreHeld}
-use Rattle.aprof_top.proofs.Sinks.{Rose-later}
+use Rattle.aprof_top.specs.Outside.{AreFiles, AreHeld}
 
 abbrev is_long : List ℕ → Bool
 is_long file = nat_lt file_limit (length file)
@@ -116,18 +115,9 @@ unfolding long_file
 long_file-long most = let e = length-replicate {A = ℕ} (most + 1) 0 in omega (arith, e)
 
 -- ---- the steps of the loads
-module _ (shared sum : ℕ) (paths files : List (List ℕ)) (path : List ℕ) (old mid now : FilesState) (so_far : IsLoading shared sum paths files old mid) (next : slice_get paths (length files) ≡ Some path) (counts : NoCountFalls mid now) (contents : now.contents ≡ mid.contents) where
-  counts_since : NoCountFalls old now
-  counts_since = record {
-    faults = omega (arith, so_far.counts.faults, counts.faults);
-    oversized = omega (arith, so_far.counts.oversized, counts.oversized);
-  }
-
-  contents_since : now.contents ≡ old.contents
-  contents_since = contents ∙ so_far.unchanged.contents
-
+module _ (shared sum : ℕ) (paths files : List (List ℕ)) (path : List ℕ) (old mid now : FilesState) (so_far : IsLoading shared sum paths files old mid) (next : slice_get paths (length files) ≡ Some path) where
   held_mid : (file : List ℕ) → Holds mid.contents path file → Holds old.contents path file
-  held_mid file held = subst (λ known. Holds known path file) so_far.unchanged.contents held
+  held_mid file held = subst (λ known. Holds known.contents path file) so_far.same held
 
   -- one more file was loaded
   module _ (file : List ℕ) (gives : GivesFile path file_limit file mid now) (total : ℕ) (total_is : total ≡ cond (nat_le 1 (length files) && nat_le (length files) shared) (sum + length file) sum) where
@@ -140,8 +130,8 @@ module _ (shared sum : ℕ) (paths files : List (List ℕ)) (path : List ℕ) (o
     total_now : total ≡ shared_length shared (files ++ file ∷ [])
     total_now = total_is ∙ ap (λ s. cond (nat_le 1 (length files) && nat_le (length files) shared) (s + length file) s) so_far.sum_is ∙ sym (shared_more shared files file)
 
-    unchanged_now : FilesUnchanged old now
-    unchanged_now = record { contents = contents_since; failed_paths = gives.failed_paths ∙ so_far.unchanged.failed_paths }
+    same_now : now ≡ old
+    same_now = gives.same ∙ so_far.same
 
     pub IsLoading-more : total ≤ inputs_limit → IsLoading shared total paths (files ++ file ∷ []) old now
     IsLoading-more small = record {
@@ -149,8 +139,7 @@ module _ (shared sum : ℕ) (paths files : List (List ℕ)) (path : List ℕ) (o
       each = each_now;
       sum_is = total_now;
       small = small;
-      unchanged = unchanged_now;
-      counts = counts_since;
+      same = same_now;
     }
 
     pub PassesLimit-together : inputs_limit < total → PassesLimit shared paths old now
@@ -159,44 +148,54 @@ module _ (shared sum : ℕ) (paths files : List (List ℕ)) (path : List ℕ) (o
       held = held_now;
       limit = inl each_now;
       many = past_sum shared (files ++ file ∷ []) (subst (λ n. inputs_limit < n) total_now large);
-      unchanged = unchanged_now;
+      unchanged = record { contents = ap (λ f. f.contents) same_now; failed_paths = ap (λ f. f.failed_paths) same_now; faults = ap (λ f. f.faults) same_now };
     }
 
   -- the load failed
-  pub FailsToLoad-next : FailsAt path mid now → FailsToLoad shared paths path old now
-  FailsToLoad-next fails = record {
+  pub FailsToLoad-next : now.contents ≡ mid.contents → FailsAt path mid now → FailsToLoad shared paths path old now
+  FailsToLoad-next contents fails = record {
     files = files;
     held = so_far.held;
     each = so_far.each;
     few = not_past shared files so_far.each (subst (λ n. n ≤ inputs_limit) so_far.sum_is so_far.small);
     next = next;
-    failed = record {
-      faults = Rose-later old.faults mid.faults now.faults so_far.counts.faults fails.faults;
-      failed_paths = fails.failed_paths ∙ ap (with_path path) so_far.unchanged.failed_paths;
-    };
-    contents = contents_since;
+    failed = subst (λ f. FailsAt path f now) so_far.same fails;
+    contents = contents ∙ ap (λ f. f.contents) so_far.same;
   }
 
   -- a file is longer than the limit
-  PassesLimit-long : (file : List ℕ) → file_limit < length file → Holds old.contents path file → Rose mid.oversized now.oversized → now.failed_paths ≡ mid.failed_paths → PassesLimit shared paths old now
+  PassesLimit-long : (file : List ℕ) → file_limit < length file → Holds old.contents path file → Rose old.oversized now.oversized → AreFiles old now → PassesLimit shared paths old now
   PassesLimit-long file long held rose same = record {
     files = files ++ file ∷ [];
     held = held_more old.contents paths files path file so_far.held next held;
-    limit = inr (Rose-later old.oversized mid.oversized now.oversized so_far.counts.oversized rose);
+    limit = inr rose;
     many = past_long shared files file long;
-    unchanged = record { contents = contents_since; failed_paths = same ∙ so_far.unchanged.failed_paths };
+    unchanged = same;
   }
 
   -- the file that was met
-  pub PassesLimit-met : ExceedsLimit path file_limit mid now → PassesLimit shared paths old now
-  PassesLimit-met met = by old.contents refl (subst (λ known. HoldsMore known path file_limit) so_far.unchanged.contents met.longer)
+  pub PassesLimit-met : now.contents ≡ mid.contents → ExceedsLimit path file_limit mid now → PassesLimit shared paths old now
+  PassesLimit-met contents met = by old.contents refl longer
     where
+      rose : Rose old.oversized now.oversized
+      rose = subst (λ f. Rose f.oversized now.oversized) so_far.same met.oversized
+
+      same : AreFiles old now
+      same = record {
+        contents = contents ∙ ap (λ f. f.contents) so_far.same;
+        failed_paths = met.failed_paths ∙ ap (λ f. f.failed_paths) so_far.same;
+        faults = met.faults ∙ ap (λ f. f.faults) so_far.same;
+      }
+
+      longer : HoldsMore old.contents path file_limit
+      longer = subst (λ f. HoldsMore f.contents path file_limit) so_far.same met.longer
+
       by_file : (known : Contents) (o : Option (List ℕ)) → old.contents ≡ Some known → known path ≡ o → IsSomeAnd o (λ bytes. file_limit < length bytes) → PassesLimit shared paths old now
       by_file known None is there longer = absurd longer
-      by_file known (Some bytes) is there longer = PassesLimit-long bytes longer (subst (λ c. Holds c path bytes) (sym is) there) met.oversized met.failed_paths
+      by_file known (Some bytes) is there longer = PassesLimit-long bytes longer (subst (λ c. Holds c path bytes) (sym is) there) rose same
 
       by : (c : Option Contents) → old.contents ≡ c → HoldsMore c path file_limit → PassesLimit shared paths old now
-      by None is longer = PassesLimit-long (long_file file_limit) (long_file-long file_limit) (subst (λ c. Holds c path (long_file file_limit)) (sym is) tt) met.oversized met.failed_paths
+      by None is longer = PassesLimit-long (long_file file_limit) (long_file-long file_limit) (subst (λ c. Holds c path (long_file file_limit)) (sym is) tt) rose same
       by (Some known) is longer = by_file known (known path) is refl longer
 
 -- all were loaded
@@ -205,7 +204,7 @@ AreLoaded-all shared sum paths files old now so_far = record {
   held = so_far.held;
   each = so_far.each;
   few = not_past shared files so_far.each (subst (λ n. n ≤ inputs_limit) so_far.sum_is so_far.small);
-  unchanged = so_far.unchanged;
+  same = so_far.same;
 }
 
 -- the same loads, by another name

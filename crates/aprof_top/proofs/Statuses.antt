@@ -1,11 +1,8 @@
--- Which endings have which status.
-use Rattle.std.proofs.Common.{◌≡◌, ℕ, sym, ◌∙◌, inl, inr, arith}
-use Rattle.host_io.specs.Sink.{SinkState}
+-- Which verdicts have which status.
+use Rattle.std.proofs.Common.{◌≡◌, ℕ, sym, ◌∙◌, arith}
 use Rattle.guest_words.specs.declared.endings.Finish.TheVariants as finish
 use Rattle.aprof_top.specs.Answers.{IsWritten}
-use Rattle.aprof_top.specs.Ending.{TellsEnding, Told, status_of}
 use Rattle.aprof_top.specs.Verdicts.{verdict_status}
-use Rattle.aprof_top.specs.declared.ending.Ending as declared
 use Rattle.aprof_top.specs.declared.ending.Verdict as verdicts
 use Rattle.aprof_top.specs.declared.ending.Verdict.TheVariants as verdict
 
@@ -30,23 +27,3 @@ written_status (verdict.Ran finish.Budget) status is = apart status 6 is (λ e. 
 written_status (verdict.Ran finish.Deadlock) status is = apart status 7 is (λ e. omega (arith, e)) (λ e. omega (arith, e)) (λ e. omega (arith, e))
 written_status (verdict.Ran finish.Deep) status is = apart status 8 is (λ e. omega (arith, e)) (λ e. omega (arith, e)) (λ e. omega (arith, e))
 written_status (verdict.Ran (finish.Schedule line)) status is = apart status 9 is (λ e. omega (arith, e)) (λ e. omega (arith, e)) (λ e. omega (arith, e))
-
--- where memory was not wanting, the ending was told
-pub told_ending : (e : declared.Ending) (old new : SinkState) (status : ℕ) → Told e old new status → (status ≡ 10 → ⊥) → TellsEnding e old new status
-told_ending e old new status (inl tells) had_memory = tells
-told_ending e old new status (inr none) had_memory = absurd (had_memory none.ten)
-
--- the status of an ending that was told where memory was not wanting
-pub own_status : (e : declared.Ending) (old new : SinkState) (status : ℕ) → Told e old new status → (status ≡ 10 → ⊥) → status ≡ status_of e
-own_status e old new status told had_memory = (told_ending e old new status told had_memory).same_status
-
--- an ending with another status than this one
-pub not_this : (e : declared.Ending) (old new : SinkState) (status other : ℕ) → (status_of e ≡ other → ⊥) → (other ≡ 10 → ⊥) → Told e old new status → status ≡ other → ⊥
-not_this e old new status other apart not_ten told is =
-    apart (sym (own_status e old new status told (λ ten. not_ten (sym is ∙ ten))) ∙ is)
-
-pub two_not_ten : ◌≡◌ {A = ℕ} 2 10 → ⊥
-two_not_ten e = omega (arith, e)
-
-pub four_not_ten : ◌≡◌ {A = ℕ} 4 10 → ⊥
-four_not_ten e = omega (arith, e)

@@ -1,16 +1,22 @@
+-- What a reader has to believe: the headline is IsAnswered of Answers, over these.
 pub mod Answers
 pub mod Delivery
-pub mod Ending
+pub mod Ends
+pub mod Found
+pub mod LastText
 pub mod Limits
-pub mod Loading
 pub mod Loads
 pub mod Outcome
 pub mod Outside
-pub mod Products
-pub mod Refusals
 pub mod Report
 pub mod Run
 pub mod Schedules
 pub mod Summary
 pub mod Texts
 pub mod Verdicts
+-- What the private parts owe one another.
+pub mod Ending
+pub mod LastTexts
+pub mod Loading
+pub mod Products
+pub mod Refusals

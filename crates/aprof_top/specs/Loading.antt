@@ -3,10 +3,10 @@ use Rattle.std.specs.Prelude.{◌≡◌, ◌⊎◌, ℕ, ◌≤◌, false, true,
 use Rattle.std.specs.List.{AllByRecursion}
 use Rattle.std.specs.declared.alloc.Global.{Global}
 use Rattle.host_io.specs.Faults.{Rose}
-use Rattle.host_io.specs.Files.{FilesState, FailsAt, FilesUnchanged, NoCountFalls}
+use Rattle.host_io.specs.Files.{FilesState, FailsAt}
 use Rattle.aprof_top.specs.Limits.{file_limit, inputs_limit}
 use Rattle.aprof_top.specs.Loads.{passes_limit, shared_length}
-use Rattle.aprof_top.specs.Outside.{AreHeld}
+use Rattle.aprof_top.specs.Outside.{AreFiles, AreHeld}
 use Rattle.aprof_top.specs.declared.ending.Ending.{Ending}
 use Rattle.aprof_top.specs.declared.ending.Ending.TheVariants as ending
 use Rattle.aprof_top.specs.declared.ending.Verdict.TheVariants.{TooLarge}
@@ -20,7 +20,7 @@ pub record AreLoaded (shared : ℕ) (paths files : List (List ℕ)) (old new : F
   pub held : AreHeld old.contents paths files
   pub each : AllByRecursion (λ file. length file ≤ file_limit) files
   pub few : passes_limit shared files ≡ false
-  pub unchanged : FilesUnchanged old new
+  pub same : new ≡ old
 
 -- So far these files were loaded, and no limit is passed; the files that share one are so long together.
 pub record IsLoading (shared sum : ℕ) (paths files : List (List ℕ)) (old now : FilesState) : Type 0 where
@@ -28,8 +28,7 @@ pub record IsLoading (shared sum : ℕ) (paths files : List (List ℕ)) (old now
   pub each : AllByRecursion (λ file. length file ≤ file_limit) files
   pub sum_is : sum ≡ shared_length shared files
   pub small : sum ≤ inputs_limit
-  pub unchanged : FilesUnchanged old now
-  pub counts : NoCountFalls old now
+  pub same : now ≡ old
 
 -- The load of the next path failed.
 pub record FailsToLoad (shared : ℕ) (paths : List (List ℕ)) (path : List ℕ) (old new : FilesState) : Type 0 where
@@ -47,12 +46,12 @@ pub record PassesLimit (shared : ℕ) (paths : List (List ℕ)) (old new : Files
   pub held : AreHeld old.contents paths files
   pub limit : AllByRecursion (λ file. length file ≤ file_limit) files ⊎ Rose old.oversized new.oversized
   pub many : passes_limit shared files ≡ true
-  pub unchanged : FilesUnchanged old new
+  pub unchanged : AreFiles old new
 
 -- why the loads of a command end it
 abbrev pub LoadsEnd : ℕ → List (List ℕ) → FilesState → FilesState → Ending → Type 0
 LoadsEnd shared paths old new (ending.CannotRead path) = FailsToLoad shared paths path.now old new
 LoadsEnd shared paths old new (ending.Decided verdict) = (verdict ≡ TooLarge) × PassesLimit shared paths old new
-LoadsEnd shared paths old new ending.OutOfMemory = new.contents ≡ old.contents
+LoadsEnd shared paths old new ending.OutOfMemory = new ≡ old
 LoadsEnd shared paths old new ending.CannotWrite = ⊥
 LoadsEnd shared paths old new ending.CannotPut = ⊥

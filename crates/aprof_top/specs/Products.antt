@@ -1,5 +1,5 @@
 -- What the parts of a run hand to one another.
-use Rattle.std.specs.Prelude.{◌≡◌, ℕ, List, [], length, map, reverse, Option, Some, None, Result, Ok, Err}
+use Rattle.std.specs.Prelude.{◌≡◌, ℕ, List, [], length, map, reverse, take, Option, Some, None, Result, Ok, Err}
 use Rattle.command_line.specs.Options.{RunOptions, arguments, inputs}
 use Rattle.elf_image.specs.Image.{Executable}
 use Rattle.guest_calls.specs.Inputs.{Input}
@@ -9,6 +9,8 @@ use Rattle.guest_machine.specs.Start.{start}
 use Rattle.guest_run.specs.declared.run.Run.{Run}
 use Rattle.guest_run.specs.Shown.{IsShown}
 use Rattle.host_io.specs.Files.{FilesState}
+use Rattle.host_io.specs.declared.files.StoreError.{StoreError}
+use Rattle.host_io.specs.declared.files.StoreError.TheVariants.{Failed, Memory}
 use Rattle.trace_model.specs.WellFormed.{IsLight}
 use Rattle.thread_sched.specs.declared.entry.Entry.{Entry}
 use Rattle.aprof_top.specs.declared.ending.Ending.{Ending}
@@ -18,9 +20,11 @@ use Rattle.aprof_top.specs.declared.product.Product.{Product}
 use Rattle.aprof_top.specs.declared.product.Store.{Store}
 use Rattle.aprof_top.specs.declared.refusal.Refusal.{Refusal}
 use Rattle.aprof_top.specs.declared.refusal.Refusal.TheVariants.{Decided, OutOfMemory}
+use Rattle.aprof_top.specs.Delivery.{StoreFails}
 use Rattle.aprof_top.specs.Loading.{AreLoaded, LoadsEnd}
 use Rattle.aprof_top.specs.Loads.{Loaded, loaded_of, loaded_paths, shared_count, with_inputs}
 use Rattle.aprof_top.specs.Outcome.{IsDemo, IsRun, Outcome, refusal}
+use Rattle.aprof_top.specs.Outside.{with_stores}
 use Rattle.aprof_top.specs.Run.{shown_from}
 use Rattle.aprof_top.specs.Verdicts.{IsOfRun}
 
@@ -55,6 +59,12 @@ outcome_of product = record {
   err = product.err.items;
   stores = map store_of product.stores.items;
 }
+
+-- how the stores of a product end: all are done; or one fails, after those before it; or the first are done
+abbrev pub StoresEnd : List (List ℕ × List ℕ) → FilesState → FilesState → Result Unit StoreError → Type 0
+StoresEnd stores old new (Ok done) = new ≡ with_stores stores old
+StoresEnd stores old new (Err Failed) = StoreFails stores old new
+StoresEnd stores old new (Err Memory) = (count : ℕ) × (new ≡ with_stores (take count stores) old)
 
 -- The guest can't begin.
 abbrev pub IsRefused : Option SetupError → Type 0

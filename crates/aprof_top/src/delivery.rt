@@ -1,11 +1,9 @@
 //! Handing out what a run leaves: its output to the sinks, its recording and its report to the files.
-ghost use Rattle.std.specs.Prelude.{◌≡◌, ◌<◌, ◌≤◌, length, map, OnErr};
-ghost use Rattle.host_io.specs.Files.{NoCountFalls};
+ghost use Rattle.std.specs.Prelude.{◌<◌, length, map, OnErr};
 ghost use Rattle.host_io.specs.Sink.{PutEnds};
-ghost use Rattle.aprof_top.specs.Delivery.{Delivers, StoresEnd};
-ghost use Rattle.aprof_top.specs.Ending.{CountsStay};
+ghost use Rattle.aprof_top.specs.Ending.{Delivers};
 ghost use Rattle.aprof_top.specs.Outside.{outside};
-ghost use Rattle.aprof_top.specs.Products.{outcome_of, store_of};
+ghost use Rattle.aprof_top.specs.Products.{StoresEnd, outcome_of, store_of};
 
 use crate::ending::Ending;
 use crate::product::{Product, Store};
@@ -13,7 +11,6 @@ use host_io::{Files, PutError, Sink, StoreError};
 
 /// Puts bytes, where there are any.
 pub(crate) fn put_all<S: Sink>(bytes: &[u8], sink: &mut S) -> Result<(), PutError>
-    ensures counts { (S.state sink.old).faults ≤ (S.state sink.new).faults }
     ensures ends { PutEnds bytes.now (S.state sink.old) (S.state sink.new) result }
     ensures some { OnErr result (0 < length bytes.now) }
 {
@@ -25,8 +22,7 @@ pub(crate) fn put_all<S: Sink>(bytes: &[u8], sink: &mut S) -> Result<(), PutErro
 
 // Stores files, in order.
 fn store_all<F: Files>(stores: &[Store<'_>], files: &mut F) -> Result<(), StoreError>
-    ensures counts { NoCountFalls (F.state files.old) (F.state files.new) }
-    ensures ends { StoresEnd (map store_of stores.now) (F.state files.old) (F.state files.new) result }
+    ensures { StoresEnd (map store_of stores.now) (F.state files.old) (F.state files.new) result }
 {
     for store in stores {
         if let Err(error) = files.store(store.path, store.bytes.as_slice()) {
@@ -43,10 +39,7 @@ pub(crate) fn deliver<F: Files, O: Sink, E: Sink>(
     out: &mut O,
     err: &mut E,
 ) -> Ending<'static>
-    ensures counts { CountsStay
-        (outside (F.state files.old) (O.state out.old) (E.state err.old))
-        (outside (F.state files.new) (O.state out.new) (E.state err.new)) }
-    ensures ends { Delivers (outcome_of product.now)
+    ensures { Delivers (outcome_of product.now)
         (outside (F.state files.old) (O.state out.old) (E.state err.old))
         (outside (F.state files.new) (O.state out.new) (E.state err.new)) result }
 {

@@ -1,11 +1,13 @@
 //! How a command ends: its status and its last text.
-ghost use Rattle.std.specs.Prelude.{◌≡◌, ◌≢◌, ◌<◌, ◌≤◌, [], length, IfOk, OnOk, OnErr};
-ghost use Rattle.aprof_top.specs.Ending.{Told, last_text_of, status_of};
-ghost use Rattle.aprof_top.specs.Outside.{Ends};
+ghost use Rattle.std.specs.Prelude.{◌≡◌, ◌<◌, length, IfOk, OnOk, OnErr};
+ghost use Rattle.aprof_top.specs.Ending.{end_of};
+ghost use Rattle.aprof_top.specs.Ends.{end_status, end_text};
+ghost use Rattle.aprof_top.specs.LastTexts.{bytes_of};
+ghost use Rattle.aprof_top.specs.LastText.{IsMade, IsPut, LastText};
 ghost use Rattle.aprof_top.specs.Verdicts.{finish_status, verdict_status};
 
 use crate::delivery::put_all;
-use crate::texts::{cannot_read_text, verdict_text};
+use crate::texts::{Text, cannot_read_text, verdict_text};
 use elf_image::ElfError;
 use guest_words::Finish;
 use host_io::{PutError, Sink};
@@ -84,7 +86,7 @@ fn verdict_status(verdict: Verdict) -> u8
 
 // The status of an ending.
 fn status(ending: &Ending<'_>) -> u8
-    ensures { result ≡ status_of ending.now }
+    ensures { result ≡ end_status (end_of ending.now) }
 {
     match ending {
         Ending::Decided(verdict) => verdict_status(*verdict),
@@ -96,10 +98,9 @@ fn status(ending: &Ending<'_>) -> u8
 
 // Puts a text, where it is not empty. An `Err` has put nothing.
 fn put_text<E: Sink>(text: &[u8], err: &mut E) -> Result<(), AllocError>
-    ensures ok { OnOk result (Ends [] text.now (E.state err.old) (E.state err.new)) }
-    ensures err { OnErr result ((E.state err.new).bytes ≡ (E.state err.old).bytes) }
+    ensures ok { OnOk result (IsPut text.now (E.state err.old) (E.state err.new)) }
+    ensures err { OnErr result (E.state err.new ≡ E.state err.old) }
     ensures some { OnErr result (0 < length text.now) }
-    ensures counts { (E.state err.old).faults ≤ (E.state err.new).faults }
 {
     match put_all(text, err) {
         Ok(()) => Ok(()),
@@ -108,11 +109,10 @@ fn put_text<E: Sink>(text: &[u8], err: &mut E) -> Result<(), AllocError>
     }
 }
 
-// Puts the last text of an ending, and answers its status.
+// Puts the last text of an ending, and answers its status. No text follows one that is refused.
 fn tell_by<E: Sink>(ending: &Ending<'_>, text: &[u8], err: &mut E) -> u8
-    requires { text.now ≡ last_text_of ending.now }
-    ensures told { Told ending.now (E.state err.old) (E.state err.new) result }
-    ensures counts { (E.state err.old).faults ≤ (E.state err.new).faults }
+    requires { text.now ≡ end_text (end_of ending.now) }
+    ensures { LastText (end_of ending.now) result (E.state err.old) (E.state err.new) }
 {
     match put_text(text, err) {
         Ok(()) => status(ending),
@@ -120,12 +120,11 @@ fn tell_by<E: Sink>(ending: &Ending<'_>, text: &[u8], err: &mut E) -> u8
     }
 }
 
-// Puts the last text of an ending, where there was memory for it.
-fn tell_made<E: Sink>(ending: &Ending<'_>, text: Result<Vec<u8>, AllocError>, err: &mut E) -> u8
-    requires text { IfOk text (λ text. text.items ≡ last_text_of ending.now) }
-    requires told { ending.now ≢ Ending.CannotPut }
-    ensures told { Told ending.now (E.state err.old) (E.state err.new) result }
-    ensures counts { (E.state err.old).faults ≤ (E.state err.new).faults }
+// Puts the last text of an ending, where there was memory to make it.
+fn tell_made<E: Sink>(ending: &Ending<'_>, text: Result<Text, AllocError>, err: &mut E) -> u8
+    requires text { IfOk text (λ text. bytes_of text ≡ end_text (end_of ending.now)) }
+    requires made { OnErr text (IsMade (end_of ending.now)) }
+    ensures { LastText (end_of ending.now) result (E.state err.old) (E.state err.new) }
 {
     match text {
         Ok(text) => tell_by(ending, text.as_slice(), err),
@@ -135,8 +134,7 @@ fn tell_made<E: Sink>(ending: &Ending<'_>, text: Result<Vec<u8>, AllocError>, er
 
 /// Puts the last text of an ending, and answers its status.
 pub(crate) fn tell<E: Sink>(alloc: Global, ending: &Ending<'_>, err: &mut E) -> u8
-    ensures told { Told ending.now (E.state err.old) (E.state err.new) result }
-    ensures counts { (E.state err.old).faults ≤ (E.state err.new).faults }
+    ensures { LastText (end_of ending.now) result (E.state err.old) (E.state err.new) }
 {
     match ending {
         Ending::Decided(verdict) => tell_made(ending, verdict_text(alloc, *verdict), err),

@@ -3,7 +3,6 @@ ghost use Rattle.std.specs.Prelude.{◌≡◌, ◌+◌, ◌≤◌, ◌&&◌, nat
 ghost use Rattle.std.specs.Option.{option_to_list};
 ghost use Rattle.command_line.specs.Options.{inputs};
 ghost use Rattle.command_line.specs.Read.{options_in};
-ghost use Rattle.host_io.specs.Files.{NoCountFalls};
 ghost use Rattle.aprof_top.specs.Loading.{AreLoaded, LoadsEnd, contents_of};
 ghost use Rattle.aprof_top.specs.Loads.{loaded_paths, shared_count};
 
@@ -79,7 +78,6 @@ pub(crate) fn load_files<'a, F: Files>(
     ensures loaded { IfOk result (λ loaded. AreLoaded shared (map (λ path. path.now) paths.now) (contents_of loaded.items) (F.state files.old) (F.state files.new)) }
     ensures all { IfOk result (λ loaded. length loaded.items ≡ length paths.now) }
     ensures ends { IfErr result (λ e. LoadsEnd shared (map (λ path. path.now) paths.now) (F.state files.old) (F.state files.new) e) }
-    ensures counts { NoCountFalls (F.state files.old) (F.state files.new) }
 {
     let mut loaded = VecDeque::new(alloc);
     let mut sum = 0;

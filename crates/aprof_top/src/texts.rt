@@ -1,7 +1,11 @@
-//! The last texts that are not always the same.
-ghost use Rattle.std.specs.Prelude.{◌≡◌, IfOk};
+//! The last texts.
+ghost use Rattle.std.specs.Prelude.{◌≡◌, IfOk, OnErr};
+ghost use Rattle.aprof_top.specs.Ends.End.{CannotRead, Decided};
+ghost use Rattle.aprof_top.specs.LastText.{IsMade};
+ghost use Rattle.aprof_top.specs.LastTexts.{bytes_of};
 ghost use Rattle.aprof_top.specs.Texts.{cannot_read_text, fault_text, finish_text, image_text, schedule_text};
 ghost use Rattle.aprof_top.specs.Verdicts.{verdict_text};
+ghost use Rattle.aprof_top.specs.declared.ending.Verdict.TheVariants.{Ran};
 
 use crate::ending::Verdict;
 use elf_image::ElfError;
@@ -9,27 +13,45 @@ use guest_words::{Addr, FaultKind, Finish, Tid};
 use profile_report::hex_address;
 use std::alloc::{AllocError, Global};
 
-pub(crate) fn cannot_read_text(alloc: Global, path: &str) -> Result<Vec<u8>, AllocError>
-    ensures { IfOk result (λ text. text.items ≡ cannot_read_text path.now) }
-{
-    Ok(format!(in alloc; "aprof: cannot read {path}\n")?.into_bytes())
+/// A last text: always the same, or made with a path or a number in it.
+#[derive(Drop)]
+pub(crate) enum Text {
+    Fixed(&'static [u8]),
+    Made(Vec<u8>),
 }
 
-fn image_text(alloc: Global, error: ElfError) -> Result<Vec<u8>, AllocError>
-    ensures { IfOk result (λ text. text.items ≡ image_text error) }
+impl Text {
+    pub(crate) fn as_slice(&self) -> &[u8]
+        ensures { result.now ≡ bytes_of self.now }
+    {
+        match self {
+            Text::Fixed(bytes) => bytes,
+            Text::Made(bytes) => bytes.as_slice(),
+        }
+    }
+}
+
+pub(crate) fn cannot_read_text(alloc: Global, path: &str) -> Result<Text, AllocError>
+    ensures { IfOk result (λ text. bytes_of text ≡ cannot_read_text path.now) }
+{
+    Ok(Text::Made(format!(in alloc; "aprof: cannot read {path}\n")?.into_bytes()))
+}
+
+fn image_text(alloc: Global, error: ElfError) -> Result<Text, AllocError>
+    ensures { IfOk result (λ text. bytes_of text ≡ image_text error) }
 {
     let number = error.number();
-    Ok(format!(in alloc; "aprof: image {number}\n")?.into_bytes())
+    Ok(Text::Made(format!(in alloc; "aprof: image {number}\n")?.into_bytes()))
 }
 
-fn schedule_text(alloc: Global, line: u64) -> Result<Vec<u8>, AllocError>
-    ensures { IfOk result (λ text. text.items ≡ schedule_text line) }
+fn schedule_text(alloc: Global, line: u64) -> Result<Text, AllocError>
+    ensures { IfOk result (λ text. bytes_of text ≡ schedule_text line) }
 {
-    Ok(format!(in alloc; "aprof: schedule {line}\n")?.into_bytes())
+    Ok(Text::Made(format!(in alloc; "aprof: schedule {line}\n")?.into_bytes()))
 }
 
-fn fault_text(alloc: Global, kind: FaultKind, tid: Tid, at: Addr) -> Result<Vec<u8>, AllocError>
-    ensures { IfOk result (λ text. text.items ≡ fault_text kind tid at) }
+fn fault_text(alloc: Global, kind: FaultKind, tid: Tid, at: Addr) -> Result<Text, AllocError>
+    ensures { IfOk result (λ text. bytes_of text ≡ fault_text kind tid at) }
 {
     let kind = kind as u8;
     let tid = tid.number();
@@ -37,31 +59,33 @@ fn fault_text(alloc: Global, kind: FaultKind, tid: Tid, at: Addr) -> Result<Vec<
     text.extend_from_slice(b" at ")?;
     text.extend_from_slice(&hex_address(at))?;
     text.extend_from_slice(b"\n")?;
-    Ok(text)
+    Ok(Text::Made(text))
 }
 
-fn finish_text(alloc: Global, finish: Finish) -> Result<Vec<u8>, AllocError>
-    ensures { IfOk result (λ text. text.items ≡ finish_text finish) }
+fn finish_text(alloc: Global, finish: Finish) -> Result<Text, AllocError>
+    ensures text { IfOk result (λ text. bytes_of text ≡ finish_text finish) }
+    ensures made { OnErr result (IsMade (Decided (Ran finish))) }
 {
     match finish {
-        Finish::Exit { .. } => Ok(Vec::new(alloc)),
+        Finish::Exit { .. } => Ok(Text::Fixed(b"")),
         Finish::Fault { kind, tid, at } => fault_text(alloc, kind, tid, at),
-        Finish::Budget => Vec::from_slice(alloc, b"aprof: budget\n"),
-        Finish::Deadlock => Vec::from_slice(alloc, b"aprof: deadlock\n"),
-        Finish::Deep => Vec::from_slice(alloc, b"aprof: too deep\n"),
+        Finish::Budget => Ok(Text::Fixed(b"aprof: budget\n")),
+        Finish::Deadlock => Ok(Text::Fixed(b"aprof: deadlock\n")),
+        Finish::Deep => Ok(Text::Fixed(b"aprof: too deep\n")),
         Finish::Schedule { line } => schedule_text(alloc, line),
     }
 }
 
-pub(crate) fn verdict_text(alloc: Global, verdict: Verdict) -> Result<Vec<u8>, AllocError>
-    ensures { IfOk result (λ text. text.items ≡ verdict_text verdict) }
+pub(crate) fn verdict_text(alloc: Global, verdict: Verdict) -> Result<Text, AllocError>
+    ensures text { IfOk result (λ text. bytes_of text ≡ verdict_text verdict) }
+    ensures made { OnErr result (IsMade (Decided verdict)) }
 {
     match verdict {
-        Verdict::BadCommand => Vec::from_slice(alloc, b"aprof: bad command line\n"),
+        Verdict::BadCommand => Ok(Text::Fixed(b"aprof: bad command line\n")),
         Verdict::BadImage(error) => image_text(alloc, error),
         Verdict::BadSchedule(line) => schedule_text(alloc, line),
-        Verdict::TooLarge => Vec::from_slice(alloc, b"aprof: too large\n"),
+        Verdict::TooLarge => Ok(Text::Fixed(b"aprof: too large\n")),
         Verdict::Ran(finish) => finish_text(alloc, finish),
-        Verdict::Summarized => Ok(Vec::new(alloc)),
+        Verdict::Summarized => Ok(Text::Fixed(b"")),
     }
 }

@@ -1,10 +1,10 @@
 //! The top call.
-ghost use Rattle.std.specs.Prelude.{◌≡◌, ◌⊎◌, ◌≤◌, map, string_bytes};
-ghost use Rattle.aprof_top.specs.Answers.{Answers, CannotRead, CannotWrite, IsWritten, OutOfMemory};
-ghost use Rattle.aprof_top.specs.Ending.{AskedEnds, CommandEnds, CountsStay};
-ghost use Rattle.aprof_top.specs.Outside.{outside, NothingRose};
+ghost use Rattle.std.specs.Prelude.{◌≡◌, ◌≤◌, map, string_bytes};
+ghost use Rattle.aprof_top.specs.Answers.{IsAnswered};
+ghost use Rattle.aprof_top.specs.Ending.{AskedEnds, end_of};
+ghost use Rattle.aprof_top.specs.Ends.{Reaches};
+ghost use Rattle.aprof_top.specs.Outside.{outside};
 ghost use Rattle.aprof_top.specs.Products.{CommandLoads};
-ghost use Rattle.host_io.specs.Files.{NoCountFalls};
 ghost use Rattle.command_line.specs.Options.Asked.{Run, Demo};
 ghost use Rattle.command_line.specs.Read.{AreInRange, options_in};
 
@@ -24,8 +24,7 @@ fn load_command<'a, F: Files>(
     command: &RunCommand<'a>,
     files: &mut F,
 ) -> Result<Loaded, Ending<'a>>
-    ensures counts { NoCountFalls (F.state files.old) (F.state files.new) }
-    ensures ends { CommandLoads (options_in command.now) (F.state files.old) (F.state files.new) result }
+    ensures { CommandLoads (options_in command.now) (F.state files.old) (F.state files.new) result }
 {
     let names = command.inputs(alloc)?;
     let paths = loaded_paths(alloc, command, names.as_slice())?;
@@ -45,10 +44,7 @@ fn run_command<'a, F: Files, O: Sink, E: Sink>(
     err: &mut E,
 ) -> Ending<'a>
     requires { AreInRange command.now.quantum command.now.budget }
-    ensures counts { CountsStay
-        (outside (F.state files.old) (O.state out.old) (E.state err.old))
-        (outside (F.state files.new) (O.state out.new) (E.state err.new)) }
-    ensures ends { AskedEnds (Run (options_in command.now))
+    ensures { AskedEnds (Run (options_in command.now))
         (outside (F.state files.old) (O.state out.old) (E.state err.old))
         (outside (F.state files.new) (O.state out.new) (E.state err.new)) result }
 {
@@ -71,10 +67,7 @@ fn show_demo<F: Files, O: Sink, E: Sink>(
     err: &mut E,
 ) -> Ending<'static>
     requires { (1 ≤ number) × (number ≤ 40000) }
-    ensures counts { CountsStay
-        (outside (F.state files.old) (O.state out.old) (E.state err.old))
-        (outside (F.state files.new) (O.state out.new) (E.state err.new)) }
-    ensures ends { AskedEnds (Demo number)
+    ensures { AskedEnds (Demo number)
         (outside (F.state files.old) (O.state out.old) (E.state err.old))
         (outside (F.state files.new) (O.state out.new) (E.state err.new)) result }
 {
@@ -92,12 +85,9 @@ fn run_words<'a, F: Files, O: Sink, E: Sink>(
     out: &mut O,
     err: &mut E,
 ) -> Ending<'a>
-    ensures counts { CountsStay
+    ensures { Reaches (map string_bytes words.now) (end_of result)
         (outside (F.state files.old) (O.state out.old) (E.state err.old))
         (outside (F.state files.new) (O.state out.new) (E.state err.new)) }
-    ensures ends { CommandEnds (map string_bytes words.now)
-        (outside (F.state files.old) (O.state out.old) (E.state err.old))
-        (outside (F.state files.new) (O.state out.new) (E.state err.new)) result }
 {
     match read_command(alloc, words) {
         Ok(Command::Run(command)) => run_command(alloc, &command, files, out, err),
@@ -108,6 +98,14 @@ fn run_words<'a, F: Files, O: Sink, E: Sink>(
 }
 
 /// Runs the program on the words of its command line, its own name first, and answers its status.
+///
+/// Read aloud, as far as the files and the sinks tell what they hold: the words ask for a command, and the files that it
+/// loads decide an outcome, which is the written machine's output and the report of its trace. The status says how the call
+/// ended. Every status but 2, 4 and 10 is the outcome's: all of its output was put and all of its files were stored. At 2 the
+/// load of the next file failed, and nothing was put or stored; at 4 a store or a put of the output failed, and what came
+/// before is a first part of the outcome; at 10 memory was wanting, and no load, store or put had failed, but where the last
+/// text of another status was what wanted memory. Then the last text of that end was put on `err`, where no put had failed.
+/// Where nothing failed and no file was too long the status is the outcome's, or 10.
 pub fn aprof<F: Files, O: Sink, E: Sink>(
     alloc: Global,
     words: &[String],
@@ -115,26 +113,9 @@ pub fn aprof<F: Files, O: Sink, E: Sink>(
     out: &mut O,
     err: &mut E,
 ) -> u8
-    // Every status but 2, 4 and 10 is the written product's, with all that it puts and stores.
-    ensures answers { IsWritten result → Answers (map string_bytes words.now)
-        (outside (F.state files.old) (O.state out.old) (E.state err.old))
-        (outside (F.state files.new) (O.state out.new) (E.state err.new)) result }
-
-    // The others have their causes: a failed load, a failed put or store, want of memory.
-    ensures cannot_read { result ≡ 2 → CannotRead (map string_bytes words.now)
+    ensures { IsAnswered (map string_bytes words.now) result
         (outside (F.state files.old) (O.state out.old) (E.state err.old))
         (outside (F.state files.new) (O.state out.new) (E.state err.new)) }
-    ensures cannot_write { result ≡ 4 → CannotWrite (map string_bytes words.now)
-        (outside (F.state files.old) (O.state out.old) (E.state err.old))
-        (outside (F.state files.new) (O.state out.new) (E.state err.new)) }
-    ensures out_of_memory { result ≡ 10 → OutOfMemory (map string_bytes words.now)
-        (outside (F.state files.old) (O.state out.old) (E.state err.old))
-        (outside (F.state files.new) (O.state out.new) (E.state err.new)) }
-
-    // Where nothing failed it answers as the written product does, but for want of memory.
-    ensures complete { NothingRose
-        (outside (F.state files.old) (O.state out.old) (E.state err.old))
-        (outside (F.state files.new) (O.state out.new) (E.state err.new)) → IsWritten result ⊎ (result ≡ 10) }
 {
     let ending = run_words(alloc, words, files, out, err);
     tell(alloc, &ending, err)

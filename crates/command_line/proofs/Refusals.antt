@@ -1,5 +1,5 @@
 -- What the words ask for, by what was seen of them.
-use Rattle.std.proofs.Common.{◌≡◌, Bool, true, false, refl, ap, sym, ◌∙◌, List, Option, None, ℕ, cond, inl, inr}
+use Rattle.std.proofs.Common.{◌≡◌, Bool, true, false, refl, ap, sym, ◌∙◌, List, Option, Some, None, ℕ, cond, inl, inr}
 use Rattle.std.specs.Prelude.{option_and_then}
 use Rattle.clap.specs.Words.{Row, Text, subcommand_of, takes}
 use Rattle.command_line.specs.App.{the_app}
@@ -29,3 +29,13 @@ untaken_is_refused words h = go (takes the_app words) refl
     go : (b : Bool) → takes the_app words ≡ b → AsksFor words None
     go true e = absurd (h e)
     go false e = inr (refl, e)
+
+-- words that ask for something have no zero byte
+pub no_zero : (words : List (List ℕ)) (asked : Asked) → AsksFor words (Some asked) → list_any has_zero words ≡ false
+unfolding asked_of
+no_zero words asked (inl is) = by (list_any has_zero words) is
+  where
+    by : (b : Bool) → Some asked ≡ cond b None (read_of (subcommand_of the_app words)) → b ≡ false
+    by true same = absurd (cc)
+    by false same = refl
+no_zero words asked (inr (none, untaken)) = absurd (cc)

@@ -1,24 +1,19 @@
-use Rattle.std.proofs.Common.{length, refl, ◌∙◌, inl}
-use Rattle.aprof_top.proofs.Sinks.{all_of, append_known-nothing}
+use Rattle.std.proofs.Common.{length, refl, ap, ◌∙◌, inr}
+use Rattle.host_io.specs.Sink.{appended}
+use Rattle.aprof_top.proofs.Sinks.{takes_all, takes_none}
 use Rattle.aprof_top.proofs.delivery.deliver.Goals as goal
 
-pub returns-in-Err-Memory-clause-ends : goal.returns-in-Err-Memory-clause-ends
-returns-in-Err-Memory-clause-ends g c =
-    let same = (rw c.in-Err-Memory.field-0-is at c.in-Err-Memory.ensures).ends in
-    inl (record {
-      out_count = 0;
-      out = same ∙ append_known-nothing (g.O.Sink.state c.args.out.now).bytes;
-      err = refl;
-      contents = refl;
-    })
-
-pub returns-in-Err-Memory-put_all-clause-ends : goal.returns-in-Err-Memory-put_all-clause-ends
-returns-in-Err-Memory-put_all-clause-ends g c =
-    let same = (rw c.in-Err-Memory-put_all.field-0-is at c.in-Err-Memory-put_all.ensures).ends in
-    let put = c.in-Ok.ensures.ends in
-    inl (record {
-      out_count = length c.args.product.now.out.items;
-      out = all_of (g.O.Sink.state c.args.out.now) (g.O.Sink.state c.put_all.new.sink) c.args.product.now.out.items (rw c.as_slice.ensures.value at put);
-      err = same;
-      contents = refl;
-    })
+pub returns-in-Err-Memory-put_all : goal.returns-in-Err-Memory-put_all
+returns-in-Err-Memory-put_all g c =
+    let product = c.args.product.now in
+    let out = g.O.Sink.state c.args.out.now in
+    let err = g.E.Sink.state c.args.err.now in
+    record {
+      out_count = length product.out.items;
+      out = takes_all product.out.items out (g.O.Sink.state c.put_all.new.sink) (c.in-Ok.ensures.ends ∙ ap (appended out) c.as_slice.ensures.value);
+      err_count = 0;
+      err = takes_none product.err.items err (g.E.Sink.state c.put_all-2.new.sink) ((rw c.in-Err-Memory-put_all.field-0-is at c.in-Err-Memory-put_all.ensures).ends);
+      count = 0;
+      files = refl;
+      output_first = inr refl;
+    }

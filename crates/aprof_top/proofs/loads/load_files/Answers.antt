@@ -11,7 +11,7 @@ returns-in-Err-Failed-clause-ends g c =
     FailsToLoad-next c.args.shared c.loop-path.sum _ (contents_of c.loop-path.loaded.items) _ (g.F.Files.state c.args.files.now) (g.F.Files.state c.loop-path.files) (g.F.Files.state c.load.new.self)
     c.loop-path.invariant.so_far
     (path_at c.args.paths.now c.loop-path.loaded.items c.loop-path.path-index _ c.loop-path.invariant.count c.loop-path-test.true)
-    c.load.ensures.counts c.load.ensures.unchanged
+    c.load.ensures.unchanged
     (rw c.in-Err-Failed.field-0-is at c.in-Err-Failed.ensures.ends)
 
 pub returns-in-Err-TooLarge-clause-ends : goal.returns-in-Err-TooLarge-clause-ends
@@ -20,7 +20,7 @@ returns-in-Err-TooLarge-clause-ends g c = (
   PassesLimit-met c.args.shared c.loop-path.sum _ (contents_of c.loop-path.loaded.items) _ (g.F.Files.state c.args.files.now) (g.F.Files.state c.loop-path.files) (g.F.Files.state c.load.new.self)
       c.loop-path.invariant.so_far
       (path_at c.args.paths.now c.loop-path.loaded.items c.loop-path.path-index _ c.loop-path.invariant.count c.loop-path-test.true)
-      c.load.ensures.counts c.load.ensures.unchanged
+      c.load.ensures.unchanged
       (rw c.in-Err-TooLarge.field-0-is at c.in-Err-TooLarge.ensures.ends),
 )
 
@@ -31,7 +31,6 @@ returns-then-sum-gt-INPUTS_LIMIT-clause-ends g c = (
   PassesLimit-together c.args.shared c.loop-path.sum _ (contents_of c.loop-path.loaded.items) _ (g.F.Files.state c.args.files.now) (g.F.Files.state c.loop-path.files) (g.F.Files.state c.load.new.self)
       c.loop-path.invariant.so_far
       (path_at c.args.paths.now c.loop-path.loaded.items c.loop-path.path-index _ c.loop-path.invariant.count c.loop-path-test.true)
-      c.load.ensures.counts c.load.ensures.unchanged
       c.in-Ok.file.items c.in-Ok.ensures.ends c.with_length-sum.result
       (let count : c.len.result ≡ length (contents_of c.loop-path.loaded.items) = c.len.ensures ∙ c.loop-path.invariant.len ∙ sym (length-map c.loop-path.loaded.items _ ∙ c.loop-path.invariant.count) in let size : c.len-in-loop-path.result ≡ length c.in-Ok.file.items = c.len-in-loop-path.ensures ∙ c.in-Ok.file.ok.0 in
       c.with_length-sum.ensures ∙ ap₂ (λ n m. cond (nat_le 1 n && nat_le n c.args.shared) (c.loop-path.sum + m) c.loop-path.sum) count size)
@@ -50,7 +49,6 @@ loop-path-preserved g c =
           (IsLoading-more c.args.shared c.loop-path.sum _ (contents_of c.loop-path.loaded.items) _ (g.F.Files.state c.args.files.now) (g.F.Files.state c.loop-path.files) (g.F.Files.state c.load.new.self)
           c.loop-path.invariant.so_far
           (path_at c.args.paths.now c.loop-path.loaded.items c.loop-path.path-index _ c.loop-path.invariant.count c.loop-path-test.true)
-          c.load.ensures.counts c.load.ensures.unchanged
           c.in-Ok.file.items c.in-Ok.ensures.ends c.with_length-sum.result
           (c.with_length-sum.ensures ∙ ap₂ (λ n m. cond (nat_le 1 n && nat_le n c.args.shared) (c.loop-path.sum + m) c.loop-path.sum) count size)
           c.if-sum-gt-INPUTS_LIMIT.false);

@@ -7,8 +7,8 @@ use Rattle.aprof_top.proofs.LoadSteps.{AreLoaded-as}
 use Rattle.aprof_top.proofs.Sorting.{text}
 use Rattle.aprof_top.proofs.top.load_command.Goals as goal
 
-pub returns-in-Ok-clause-ends : goal.returns-in-Ok-clause-ends
-returns-in-Ok-clause-ends g c =
+pub returns-in-Ok : goal.returns-in-Ok
+returns-in-Ok g c =
     let options = options_in c.args.command.now in
     let paths_are = ap (map text) c.as_slice-3.ensures.value ∙ c.in_ok-paths.ensures in
     record {
