@@ -3,11 +3,12 @@ use Rattle.std.proofs.Common.{inl, inr, ◌≡◌, ℕ, zero, suc, ◌+◌, ◌-
 use Rattle.std.specs.Prelude.{slice_get}
 use Rattle.std.proofs.Math.Seq.{drop-nil}
 use Rattle.std.proofs.lemmas.Bool.{cases_lt}
-use Rattle.std.proofs.lemmas.List.{reverse-append, length-reverse, length-drop, drop-drop}
+use Rattle.std.proofs.lemmas.List.{reverse-append, reverse-reverse, length-reverse, length-drop, drop-drop, take_all}
 use Rattle.std.proofs.lemmas.Option.{slice_get_within}
 use Rattle.trace_model.specs.declared.event_kinds.Event.{Event}
 use Rattle.trace_model.specs.Sizes.{since}
-use Rattle.trace_model.specs.Positions.{event_at, before}
+use Rattle.trace_model.specs.Positions.{event_at, before, PartsAreInTime}
+use Rattle.trace_model.proofs.Ended.{take-reverse, since-reverse}
 
 reversed : (e : Event) (past : List Event) → reverse (e ∷ past) ≡ reverse past ++ e ∷ []
 reversed e past = reverse-append (e ∷ []) past
@@ -81,3 +82,21 @@ since_none past a h = ap (λ k. take k past) (nothing (length past) a h)
   where
     nothing : (n a : ℕ) → n ≤ a + 1 → n - (a + 1) ≡ 0
     nothing n a h = omega arith
+
+first_in_time : (past : List Event) (q : ℕ) → reverse (before past q) ≡ take q (reverse past)
+first_in_time past q =
+    let n = length past in
+    elim (cases_lt n q) [
+      | inl all ↦ ap reverse (before_all past q (omega (arith, all))) ∙ sym (take_all q (reverse past) (omega (arith, all, length-reverse past)))
+      | inr some ↦ sym (take-reverse (n - q) past) ∙ ap (λ k. take k (reverse past)) (back n q some)
+    ]
+  where
+    back : (n q : ℕ) → q ≤ n → n - (n - q) ≡ q
+    back n q h = omega arith
+
+rest_in_time : (past : List Event) (a : ℕ) → reverse (since past a) ≡ drop (a + 1) (reverse past)
+rest_in_time past a =
+    ap (λ es. reverse (since es a)) (sym (reverse-reverse past)) ∙ ap reverse (since-reverse (reverse past) a) ∙ reverse-reverse (drop (a + 1) (reverse past))
+
+pub in_time : PartsAreInTime
+in_time = record { first = first_in_time; rest = rest_in_time }

@@ -1,5 +1,5 @@
 -- What the recursions say of a trace by the positions of its events, which count from 0 in time.
-use Rattle.std.specs.Prelude.{◌≡◌, ◌≢◌, ◌⊎◌, ◌↔◌, ℕ, ◌+◌, ◌-◌, ◌<◌, false, List, [], ◌∷◌, ◌++◌, length, reverse, drop, map, slice_get, Option, Some, None, All, AllPairs, Contains}
+use Rattle.std.specs.Prelude.{◌≡◌, ◌≢◌, ◌⊎◌, ◌↔◌, ℕ, ◌+◌, ◌-◌, ◌<◌, false, List, [], ◌∷◌, ◌++◌, length, reverse, take, drop, map, slice_get, Option, Some, None, All, AllPairs, Contains}
 use Rattle.trace_model.specs.declared.event_kinds.Event.{Event}
 use Rattle.trace_model.specs.declared.event_kinds.Event.TheVariants.{Step, Read, Call, Ret, Start, End}
 use Rattle.trace_model.specs.declared.activations.Activation.{Activation}
@@ -20,6 +20,11 @@ before past q = drop (length past - q) past
 -- the events between two positions, without those at the two
 abbrev pub between : List Event → ℕ → ℕ → List Event
 between past a q = since (before past q) a
+
+-- in time, the events before a position come first, and those since a position come behind it
+pub record PartsAreInTime : Type 0 where
+  pub first : (past : List Event) (q : ℕ) → reverse (before past q) ≡ take q (reverse past)
+  pub rest : (past : List Event) (a : ℕ) → reverse (since past a) ≡ drop (a + 1) (reverse past)
 
 -- There are exactly n things that are so: they stand in a list, each once.
 pub record IsNumberOf {A : Type 0} (IsSo : A → Type 0) (n : ℕ) : Type 0 where

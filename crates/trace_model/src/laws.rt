@@ -1,7 +1,7 @@
 //! Laws of the definitions: each is the contract of a function that does nothing.
 ghost use Rattle.trace_model.specs.Laws.{CutIsTheLongestPrefix, KnownIsByTheLatestTouch, PendingIsOfAllThreads, EachBegunIsDoneOrPending, ExitIsOneActivation};
 ghost use Rattle.trace_model.specs.Parts.{ShortPartsAreLight};
-ghost use Rattle.trace_model.specs.Positions.{CostCountsSteps, DoneIsByEndings, OpenActivationsArePositions, SizeCountsUnknownReads};
+ghost use Rattle.trace_model.specs.Positions.{CostCountsSteps, DoneIsByEndings, OpenActivationsArePositions, PartsAreInTime, SizeCountsUnknownReads};
 ghost use Rattle.trace_model.specs.WorkedTraces.{WorkedTraces};
 
 /// The cut is the longest prefix of the trace that is within the greatest stamp at each of its prefixes.
@@ -33,6 +33,11 @@ pub fn an_exit_is_one_activation()
 /// 1100 events, which read fewer than 65536 words.
 pub fn short_parts_are_light()
     ensures { ShortPartsAreLight }
+{}
+
+/// The events before a position and since a position are parts of the trace in time.
+pub fn parts_are_in_time()
+    ensures { PartsAreInTime }
 {}
 
 /// The open activations are positions of the trace, which each event changes by its rule.
