@@ -152,7 +152,7 @@ allowed_rest number state rest errors.Version r over none why = absurd why
 allowed_rest number state rest (errors.Line n) r over none why = absurd (why.2 none)
 allowed_rest number state rest (errors.Order n) r over none why = absurd why
 allowed_rest number state rest errors.Short r over none why = absurd (apart (sym why ∙ ap is_over over))
-allowed_rest number state rest errors.Memory r over none why = refl
+allowed_rest number state rest errors.Memory r over none why = absurd why
 
 -- a report that is over is one
 pub over_one : (q r : Reported) → Over q ≡ Over r → q ≡ r

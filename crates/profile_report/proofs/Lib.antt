@@ -7,3 +7,4 @@ pub mod Written
 pub mod Read
 pub mod Digits
 pub mod OneText
+pub mod OneReading

@@ -18,7 +18,7 @@ use Rattle.profile_report.specs.declared.line.Line.TheVariants.{First, End, Step
 use Rattle.profile_report.specs.Fits.{FitsEnd, FitsName, FitsPoint}
 use Rattle.profile_report.specs.Grammar.{FitsLine, line_text}
 use Rattle.profile_report.specs.LineForms.{end_line, fault_words, hex_address, hex_glyph, kind_number, name_word, point_line, routine_line}
-use Rattle.profile_report.specs.Reading.{led, lines_text}
+use Rattle.profile_report.specs.Reading.{led, lines_text, Says}
 use Rattle.profile_report.specs.Reported.{Reported}
 use Rattle.profile_report.specs.ReportText.{report_text, version_1}
 use Rattle.guest_words.specs.Separators.{lacks}
@@ -181,17 +181,17 @@ finish_same (Schedule l) g ff fg is =
     let fits : FitsEnd (Schedule e.0) = subst FitsEnd e.1 fg in
     ap Schedule (number_same l e.0 (omega (arith, ff.1)) (omega (arith, fits.1)) (append_cancel_left (codes "end schedule ") (decimal l) (decimal e.0) (is ∙ ap end_line e.1))) ∙ sym e.1
 
+pub routine_words : (at : ℕ) (k : Option (List ℕ)) → routine_line at k ≡ codes "routine " ++ (hex_address at ++ 32 ∷ name_word k)
+routine_words at k = simp append_assoc
+
 routine_same : (a b : ℕ) (m n : Option (List ℕ)) → FitsLine (OfRoutine a m) → FitsLine (OfRoutine b n) → routine_line a m ≡ routine_line b n → OfRoutine a m ≡ OfRoutine b n
 routine_same a b m n fa fb is =
     let words = append_cancel_left (codes "routine ") _ _ (sym (routine_words a m) ∙ is ∙ routine_words b n) in
     let parts = cut_once 32 (hex_address a) (hex_address b) (name_word m) (name_word n) (lacks_address 32 a refl) (lacks_address 32 b refl) words in
     ap₂ OfRoutine (address_same a b fa.0 fb.0 parts.0) (name_same m n fa.1 fb.1 parts.1)
-  where
-    routine_words : (at : ℕ) (k : Option (List ℕ)) → routine_line at k ≡ codes "routine " ++ (hex_address at ++ 32 ∷ name_word k)
-    routine_words at k = simp append_assoc
 
 -- lines with one text say the same
-line_same : (l k : Line) → FitsLine l → FitsLine k → line_text version_1 l ≡ line_text version_1 k → l ≡ k
+pub line_same : (l k : Line) → FitsLine l → FitsLine k → line_text version_1 l ≡ line_text version_1 k → l ≡ k
 line_same First k fl fk is = sym (alike First k fl fk is)
 line_same (End f) k fl fk is =
     let e = alike (End f) k fl fk is in
@@ -214,6 +214,10 @@ line_same (Done n) k fl fk is =
     let e = alike (Done n) k fl fk is in
     let fits : e.0 < 2 ^ 64 = subst FitsLine e.1 fk in
     ap Done (number_same n e.0 (omega arith) (omega arith) (append_cancel_left (codes "done ") (decimal n) (decimal e.0) (is ∙ ap (line_text version_1) e.1))) ∙ sym e.1
+
+-- bytes that say a line say no other
+pub says_one : (bytes : List ℕ) (l : Line) → FitsLine l → bytes ≡ line_text version_1 l → Says version_1 bytes l
+says_one bytes l fits is = record { fits = fits; text = is; alone = λ k fk also. line_same k l fk fits (sym also ∙ is) }
 
 lines_same : (ls ks : List Line) → AllByRecursion FitsLine ls → AllByRecursion FitsLine ks → lines_text version_1 ls ≡ lines_text version_1 ks → ls ≡ ks
 lines_same [] ks fl fk is = sym (no_line ks (subst (λ t. lacks 10 t ≡ true) is refl))

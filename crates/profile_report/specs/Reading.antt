@@ -1,9 +1,10 @@
 -- Reading a report line by line: how far a text leads, and why it leads no further.
-use Rattle.std.specs.Prelude.{◌≡◌, ◌≢◌, ◌⊎◌, ℕ, ◌+◌, Bool, true, false, ◌&&◌, List, [], ◌∷◌, ◌++◌, length, Option, Some, None, if◌then◌else◌}
+use Rattle.std.specs.Prelude.{◌≡◌, ◌≢◌, ◌⊎◌, ℕ, ◌+◌, Bool, true, false, ◌&&◌, List, [], ◌∷◌, ◌++◌, length, Option, Some, None, is_some, if◌then◌else◌}
 use Rattle.std.specs.List.{flat_map, AllByRecursion}
 use Rattle.profile_report.specs.declared.line.Line.{Line}
+use Rattle.profile_report.specs.declared.line.Line.TheVariants.{OfRoutine}
 use Rattle.profile_report.specs.declared.parse_state.ParseState.{ParseState}
-use Rattle.profile_report.specs.declared.parse_state.ParseState.TheVariants.{AtVersion, Over}
+use Rattle.profile_report.specs.declared.parse_state.ParseState.TheVariants.{AtVersion, AtRoutines, Over}
 use Rattle.profile_report.specs.declared.reader.ReportError.{ReportError}
 use Rattle.profile_report.specs.declared.reader.ReportError.TheVariants as errors
 use Rattle.profile_report.specs.Grammar.{FitsLine, line_text, may_stand, rises, next}
@@ -42,24 +43,37 @@ IsMisplaced v state bytes = (line : Line) → FitsLine line → bytes ≡ line_t
 abbrev pub IsUnordered : Version → ParseState → List ℕ → Type 0
 IsUnordered v state bytes = (line : Line) × Says v bytes line × (may_stand state line ≡ true) × (rises state line ≡ false)
 
+-- the line has a name
+abbrev pub HasName : Line → Type 0
+HasName (OfRoutine entry (Some name)) = Unit {0}
+HasName line = ⊥
+
+-- a routine has begun
+abbrev pub has_begun : ParseState → Bool
+has_begun (AtRoutines r begun) = is_some begun
+has_begun state = false
+
+-- Memory is taken for a name, and behind a line that leads on, for the routine that has begun: it gets a point, or is whole.
+abbrev pub TakesMemory : ParseState → Line → Type 0
+TakesMemory state line = HasName line ⊎ ((may_stand state line ≡ true) × (rises state line ≡ true) × (has_begun state ≡ true))
+
 -- why a whole line of this number is refused in the state
 abbrev pub RefusesLine : Version → ℕ → ParseState → List ℕ → ReportError → Type 0
 RefusesLine v number state bytes errors.Version = (state ≡ AtVersion) × (bytes ≢ v.first_line)
 RefusesLine v number state bytes (errors.Line n) = (n ≡ number) × (state ≢ AtVersion) × IsMisplaced v state bytes
 RefusesLine v number state bytes (errors.Order n) = (n ≡ number) × IsUnordered v state bytes
 RefusesLine v number state bytes errors.Short = ⊥
-RefusesLine v number state bytes errors.Memory = Unit {0}
+RefusesLine v number state bytes errors.Memory = (line : Line) × Says v bytes line × TakesMemory state line
 
 -- the report is over
 abbrev pub is_over : ParseState → Bool
 is_over (Over r) = true
 is_over state = false
 
--- why a rest is refused that has no whole line: the report isn't over, or bytes stand behind it
+-- why a rest is refused that has no whole line: the report isn't over, or bytes stand behind it; no memory is taken
 abbrev pub RefusesRest : ℕ → ParseState → List ℕ → ReportError → Type 0
 RefusesRest number state rest errors.Short = is_over state ≡ false
 RefusesRest number state rest (errors.Line n) = (n ≡ number) × (is_over state ≡ true) × (rest ≢ [])
-RefusesRest number state rest errors.Memory = Unit {0}
 RefusesRest number state rest error = ⊥
 
 -- the rest begins with a whole line that is refused

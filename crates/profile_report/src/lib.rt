@@ -3,6 +3,7 @@
 #![tactic(auto)]
 
 mod addresses;
+mod laws;
 mod line;
 mod line_reader;
 mod line_text;
@@ -11,8 +12,9 @@ mod reader;
 mod report;
 mod writer;
 
+pub use laws::{a_text_is_of_one_report, a_text_reads_in_one_way};
 pub use line_text::{hex_address, push_end_line};
-pub use reader::{ReportError, a_text_is_of_one_report, read_report};
+pub use reader::{ReportError, read_report};
 pub use report::{Report, Routine};
 pub use writer::write_report;
 

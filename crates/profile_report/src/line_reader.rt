@@ -1,5 +1,5 @@
 //! Reading a line: what a line says, where it has one of the forms.
-ghost use Rattle.std.specs.Prelude.{◌≡◌, ℕ, ◌≤◌, ◌<◌, ◌^◌, List, ◌++◌, ◌∷◌, ◌↔◌, codes, Option, Some, IfSome, IsSomeAnd, IsTrue, MatchResult, IfOk};
+ghost use Rattle.std.specs.Prelude.{◌≡◌, ℕ, ◌≤◌, ◌<◌, ◌^◌, List, ◌++◌, ◌∷◌, ◌↔◌, codes, Option, Some, true, IfSome, IsSomeAnd, IsTrue, MatchResult, IfErr, IfOk};
 ghost use Rattle.std.specs.Fmt.{decimal};
 ghost use Rattle.std.specs.Option.{SomeIff};
 ghost use Rattle.guest_words.specs.Names.{is_name};
@@ -11,6 +11,7 @@ ghost use Rattle.profile_report.specs.LineForms.{end_line, fault_words, hex_addr
 ghost use Rattle.profile_report.specs.declared.line.Line.{Line};
 ghost use Rattle.profile_report.specs.Grammar.{FitsLine, IsPlain, line_text};
 ghost use Rattle.profile_report.specs.ReportText.{version_1};
+ghost use Rattle.profile_report.specs.Reading.{HasName};
 ghost use Rattle.profile_report.specs.Fits.{FitsEnd, FitsName, FitsPoint};
 
 use crate::addresses::address;
@@ -164,6 +165,7 @@ fn name_of(alloc: Global, word: &[u8]) -> Result<Option<Name>, LineError>
     ensures found { IfOk result (λ name. FitsName name × (word.now ≡ name_word name)) }
     ensures only { (name : Option (List ℕ)) → FitsName name → word.now ≡ name_word name
         → MatchResult result (λ x. x ≡ name) (λ e. e ≡ LineError.Memory) }
+    ensures memory { IfErr result (λ e. e ≡ LineError.Memory → is_name word.now ≡ true) }
 {
     if word == b"-".as_slice() {
         return Ok(None);
@@ -182,6 +184,8 @@ fn routine_of(alloc: Global, words: &[u8]) -> Result<Line, LineError>
     ensures only { (entry : ℕ) (name : Option (List ℕ)) → FitsLine (Line.OfRoutine entry name)
         → words.now ≡ hex_address entry ++ 32 ∷ name_word name
         → MatchResult result (λ l. l ≡ Line.OfRoutine entry name) (λ e. e ≡ LineError.Memory) }
+    ensures memory { IfErr result (λ e. e ≡ LineError.Memory → (l : Line) × FitsLine l
+        × (codes "routine " ++ words.now ≡ line_text version_1 l) × HasName l) }
 {
     let Some((entry, name)) = cut(words, b' ') else {
         return Err(LineError::NoForm);
@@ -248,6 +252,8 @@ pub fn read_line(alloc: Global, line: &[u8]) -> Result<Line, LineError>
     ensures found { IfOk result (λ l. FitsLine l × (line.now ≡ line_text version_1 l)) }
     ensures only { (l : Line) → FitsLine l → line.now ≡ line_text version_1 l
         → MatchResult result (λ x. x ≡ l) (λ e. e ≡ LineError.Memory) }
+    ensures memory { IfErr result (λ e. e ≡ LineError.Memory → (l : Line) × FitsLine l
+        × (line.now ≡ line_text version_1 l) × HasName l) }
 {
     if let Some(words) = behind(b"routine ", line) {
         return routine_of(alloc, words);

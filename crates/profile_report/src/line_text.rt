@@ -1,5 +1,5 @@
 //! The lines of a report, one function a form.
-ghost use Rattle.std.specs.Prelude.{◌≡◌, ◌++◌, ◌<◌, codes, OnOk};
+ghost use Rattle.std.specs.Prelude.{◌≡◌, ◌++◌, ◌<◌, codes, OnErr, OnOk};
 ghost use Rattle.std.specs.Fmt.{decimal};
 ghost use Rattle.profile_report.specs.LineForms.{end_line, ended, fault_words, hex_address, hex_glyph, kind_number, labelled, name_word, point_line, routine_line};
 
@@ -79,12 +79,15 @@ fn push_end(text: &mut Vec<u8>, finish: Finish) -> Result<(), AllocError>
     }
 }
 
-/// Appends the line on how the run ended. Where it fails for want of memory, a first part of the line may stand.
+/// Appends the line on how the run ended. Where it fails for want of memory, the text stays as it was.
 pub fn push_end_line(text: &mut Vec<u8>, finish: Finish) -> Result<(), AllocError>
-    ensures { OnOk result (text.new.items ≡ text.old.items ++ ended (end_line finish)) }
+    ensures ok { OnOk result (text.new.items ≡ text.old.items ++ ended (end_line finish)) }
+    ensures err { OnErr result (text.new.items ≡ text.old.items) }
 {
-    push_end(text, finish)?;
-    text.extend_from_slice(b"\n")
+    let mut line = Vec::new(*text.allocator());
+    push_end(&mut line, finish)?;
+    line.extend_from_slice(b"\n")?;
+    text.extend_from_slice(&line)
 }
 
 /// Appends the line of a number after its label.

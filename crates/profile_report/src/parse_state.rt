@@ -1,6 +1,7 @@
 //! How far a report has been read.
-ghost use Rattle.std.specs.Prelude.{◌≡◌, [], ◌∷◌, ◌++◌, IfOk};
+ghost use Rattle.std.specs.Prelude.{◌≡◌, true, [], ◌∷◌, ◌++◌, is_some, IfErr, IfOk};
 ghost use Rattle.profile_report.specs.Grammar.{closed, count_of, has_points, is_above, last_entry, last_size, may_stand, next, rises};
+ghost use Rattle.profile_report.specs.Reading.{has_begun};
 
 use crate::line::Line;
 use crate::{Report, Routine};
@@ -115,7 +116,8 @@ pub fn rises(state: &ParseState, line: &Line) -> bool
 
 /// The report with the routine that began last, where one began.
 fn closed(mut report: Report, begun: Option<Routine>) -> Result<Report, AllocError>
-    ensures { IfOk result (λ r. r ≡ closed report begun) }
+    ensures ok { IfOk result (λ r. r ≡ closed report begun) }
+    ensures err { IfErr result (λ _. is_some begun ≡ true) }
 {
     if let Some(routine) = begun {
         report.routines.push(routine)?;
@@ -156,7 +158,8 @@ fn with_point(mut routine: Routine, point: Point) -> Result<Routine, AllocError>
 
 /// The state behind a line that may come in this one.
 pub fn next(alloc: Global, state: ParseState, line: Line) -> Result<ParseState, AllocError>
-    ensures { IfOk result (λ p. p ≡ next state line) }
+    ensures ok { IfOk result (λ p. p ≡ next state line) }
+    ensures err { IfErr result (λ _. has_begun state ≡ true) }
 {
     match (state, line) {
         (ParseState::AtVersion, Line::First) => Ok(ParseState::AtEnd),

@@ -114,8 +114,3 @@ pub fn read_report(alloc: Global, text: &[u8]) -> Result<Report, ReportError>
     }
     finish(state, rest, number)
 }
-
-/// No two valid reports have one text.
-pub fn a_text_is_of_one_report()
-    ensures { (r s : Reported) → IsValid r → IsValid s → report_text r ≡ report_text s → r ≡ s }
-{}

@@ -4,13 +4,13 @@ use Rattle.std.specs.Fmt.{decimal}
 use Rattle.std.specs.List.{AllByRecursion}
 use Rattle.std.proofs.lemmas.Bool.{and_from}
 use Rattle.std.proofs.lemmas.Fmt.{decimal_injective, decimal_nonempty}
-use Rattle.std.proofs.lemmas.List.{append_assoc, append-nil, length-append}
+use Rattle.std.proofs.lemmas.List.{append_assoc, append-nil, length-append, nil_from_length}
 use Rattle.std.proofs.lemmas.List.Concat.{flat_map-append}
 use Rattle.std.proofs.lemmas.List.Folds.{list_all-append}
 use Rattle.thread_sched.specs.declared.entry.Entry.{Entry}
 use Rattle.thread_sched.specs.declared.schedule.ScheduleError.{ScheduleError}
 use Rattle.thread_sched.specs.declared.schedule.ScheduleError.TheVariants.{BadLine, Memory}
-use Rattle.thread_sched.specs.ScheduleText.{IsBadLine, IsEntry, IsLineBefore, IsNoEntry, IsText, RefusesLine, Says, entry_text, schedule_text}
+use Rattle.thread_sched.specs.ScheduleText.{HasEntry, IsBadLine, IsEntry, IsLineBefore, IsNoEntry, IsText, RefusesLine, Says, entry_text, schedule_text}
 use Rattle.guest_words.specs.Separators.{lacks}
 use Rattle.guest_words.proofs.Cuts.{cut_once, lacks_decimal, lacks_not}
 
@@ -178,3 +178,24 @@ never_read (e ∷ es) more bytes rest fit fits line none is =
 
 pub never_both : (text : List ℕ) (es : List Entry) (n : ℕ) → AllByRecursion IsEntry es → IsText text es → IsBadLine text n → ⊥
 never_both text es n fit is b = never_read b.entries es b.bytes b.rest b.before fit b.line b.bad (subst (λ t. IsText t es) b.whole is)
+
+-- a line that is no entry's does not stand where an entry's stands
+other_line : (bytes rest tail : List ℕ) (e : Entry) → IsEntry e → IsLineBefore bytes rest → IsNoEntry bytes → IsLineBefore (entry_text e) tail → bytes ++ rest ≡ entry_text e ++ tail → ⊥
+other_line bytes rest tail e fits line none (lack, inr (more, ended)) is = no_such_line bytes rest more e fits line none (is ∙ ap (λ t. entry_text e ++ t) ended)
+other_line bytes rest tail e fits (lack, inl last) none (lacks_too, inl end) is =
+    none e fits (sym (append-nil bytes) ∙ ap (λ t. bytes ++ t) (sym last.1) ∙ is ∙ ap (λ t. entry_text e ++ t) end.1 ∙ append-nil (entry_text e))
+other_line bytes rest tail e fits (lack, inr (more, ended)) none (lacks_too, inl end) is =
+    let whole = sym (append-nil (entry_text e)) ∙ ap (λ t. entry_text e ++ t) (sym end.1) ∙ sym is ∙ ap (λ t. bytes ++ t) ended in
+    lacks_not 10 bytes more (subst (λ t. lacks 10 t ≡ true) whole (entry_lacks e fits))
+
+bad_first : (es : List Entry) (bytes rest tail : List ℕ) (e : Entry) → AllByRecursion IsEntry es → IsEntry e → IsLineBefore bytes rest → IsNoEntry bytes → IsLineBefore (entry_text e) tail
+    → bytes ++ rest ≡ schedule_text es ++ (entry_text e ++ tail) → ⊥
+bad_first [] bytes rest tail e fit fits line none ends is = other_line bytes rest tail e fits line none ends is
+bad_first (x ∷ es) bytes rest tail e fit fits line none ends is =
+    no_such_line bytes rest (schedule_text es ++ (entry_text e ++ tail)) x fit.0 line none (is ∙ first_line x es (entry_text e ++ tail))
+
+-- a text whose first line is no entry's has no entry
+pub no_memory : (text : List ℕ) → IsBadLine text 1 → HasEntry text → ⊥
+no_memory text b h =
+    let none : b.entries ≡ [] = nil_from_length b.entries (omega (arith, b.counted)) in
+    bad_first h.entries b.bytes b.rest h.rest h.entry h.before h.fits b.line b.bad h.line (ap (λ es. schedule_text es ++ (b.bytes ++ b.rest)) (sym none) ∙ sym b.whole ∙ h.whole)

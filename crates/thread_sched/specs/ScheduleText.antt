@@ -45,18 +45,28 @@ pub record IsBadLine (text : List ℕ) (number : ℕ) : Type 0 where
   pub line : IsLineBefore bytes rest
   pub bad : IsNoEntry bytes
 
--- why a text is no schedule
+-- A line is an entry's, as is each line before it. Only such a line is kept, and may find no memory.
+pub record HasEntry (text : List ℕ) : Type 0 where
+  pub entries : List Entry
+  pub entry : Entry
+  pub rest : List ℕ
+  pub before : AllByRecursion IsEntry entries
+  pub fits : IsEntry entry
+  pub whole : text ≡ schedule_text entries ++ (entry_text entry ++ rest)
+  pub line : IsLineBefore (entry_text entry) rest
+
+-- why a text is no schedule, or is not read
 abbrev pub IsRefused : List ℕ → ScheduleError → Type 0
 IsRefused text (BadLine number) = IsBadLine text number
-IsRefused text Memory = Unit {0}
-
--- why a line of this number is refused
-abbrev pub RefusesLine : ℕ → List ℕ → ScheduleError → Type 0
-RefusesLine number bytes (BadLine n) = (n ≡ number) × IsNoEntry bytes
-RefusesLine number bytes Memory = Unit {0}
+IsRefused text Memory = HasEntry text
 
 -- the bytes are this entry's, and no other's
 pub record Says (bytes : List ℕ) (e : Entry) : Type 0 where
   pub fits : IsEntry e
   pub text : bytes ≡ entry_text e
   pub alone : (other : Entry) → IsEntry other → bytes ≡ entry_text other → other ≡ e
+
+-- why a line of this number is refused
+abbrev pub RefusesLine : ℕ → List ℕ → ScheduleError → Type 0
+RefusesLine number bytes (BadLine n) = (n ≡ number) × IsNoEntry bytes
+RefusesLine number bytes Memory = (e : Entry) × Says bytes e

@@ -6,3 +6,8 @@ pub mod Cut
 pub mod Exit
 pub mod Pending
 pub mod Parts
+pub mod Positions
+pub mod Counted
+pub mod Pairs
+pub mod OpenPositions
+pub mod Endings

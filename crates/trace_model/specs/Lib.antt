@@ -7,4 +7,5 @@ pub mod Parts
 pub mod Depth
 pub mod EventList
 pub mod Laws
+pub mod Positions
 pub mod WorkedTraces

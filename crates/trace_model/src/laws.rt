@@ -1,6 +1,7 @@
 //! Laws of the definitions: each is the contract of a function that does nothing.
 ghost use Rattle.trace_model.specs.Laws.{CutIsTheLongestPrefix, KnownIsByTheLatestTouch, PendingIsOfAllThreads, EachBegunIsDoneOrPending, ExitIsOneActivation};
 ghost use Rattle.trace_model.specs.Parts.{ShortPartsAreLight};
+ghost use Rattle.trace_model.specs.Positions.{CostCountsSteps, DoneIsByEndings, OpenActivationsArePositions, PartsAreInTime, SizeCountsUnknownReads};
 ghost use Rattle.trace_model.specs.WorkedTraces.{WorkedTraces};
 
 /// The cut is the longest prefix of the trace that is within the greatest stamp at each of its prefixes.
@@ -32,6 +33,31 @@ pub fn an_exit_is_one_activation()
 /// 1100 events, which read fewer than 65536 words.
 pub fn short_parts_are_light()
     ensures { ShortPartsAreLight }
+{}
+
+/// The events before a position and since a position are parts of the trace in time.
+pub fn parts_are_in_time()
+    ensures { PartsAreInTime }
+{}
+
+/// The open activations are positions of the trace, which each event changes by its rule.
+pub fn open_activations_are_positions()
+    ensures { OpenActivationsArePositions }
+{}
+
+/// The profile has each activation that ended, in the order of the ends, the innermost first where several end at once.
+pub fn done_is_by_endings()
+    ensures { DoneIsByEndings }
+{}
+
+/// The size of an activation is the number of the words that it reads and does not know.
+pub fn size_counts_unknown_reads()
+    ensures { SizeCountsUnknownReads }
+{}
+
+/// The cost of an activation is the number of the steps of its thread.
+pub fn cost_counts_steps()
+    ensures { CostCountsSteps }
 {}
 
 /// The profiles of short runs, worked out by hand.

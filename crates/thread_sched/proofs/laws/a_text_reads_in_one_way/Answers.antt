@@ -1,4 +1,4 @@
-use Rattle.thread_sched.proofs.Read.{never_both, one_bad_line, read_once}
+use Rattle.thread_sched.proofs.Read.{never_both, no_memory, one_bad_line, read_once}
 use Rattle.thread_sched.proofs.laws.a_text_reads_in_one_way.Goals as goal
 
 pub returns-clause-entries : goal.returns-clause-entries
@@ -9,3 +9,6 @@ returns-clause-line c text m n a b = one_bad_line text m n a b
 
 pub returns-clause-apart : goal.returns-clause-apart
 returns-clause-apart c text entries n fit is bad = never_both text entries n fit is bad
+
+pub returns-clause-memory : goal.returns-clause-memory
+returns-clause-memory c text bad has = no_memory text bad has

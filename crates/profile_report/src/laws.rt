@@ -1,0 +1,20 @@
+//! Laws on the text of reports.
+ghost use Rattle.std.specs.Prelude.{◌≡◌, ◌≢◌, ℕ, List};
+ghost use Rattle.profile_report.specs.Reading.{IsRefused};
+ghost use Rattle.profile_report.specs.Reported.{Reported};
+ghost use Rattle.profile_report.specs.ReportText.{report_text, version_1};
+ghost use Rattle.profile_report.specs.Valid.{IsValid};
+ghost use Rattle.profile_report.specs.declared.reader.ReportError.{ReportError};
+
+/// No two valid reports have one text.
+pub fn a_text_is_of_one_report()
+    ensures { (r s : Reported) → IsValid r → IsValid s → report_text r ≡ report_text s → r ≡ s }
+{}
+
+/// A text reads in one way, as far as there is memory: as the report of which it is the text, or else by one refusal.
+pub fn a_text_reads_in_one_way()
+    ensures refusal { (text : List ℕ) (e f : ReportError) → IsRefused version_1 text e
+        → IsRefused version_1 text f → e ≢ ReportError.Memory → f ≢ ReportError.Memory → f ≡ e }
+    ensures apart { (text : List ℕ) (r : Reported) (e : ReportError) → IsValid r
+        → text ≡ report_text r → IsRefused version_1 text e → e ≡ ReportError.Memory }
+{}
