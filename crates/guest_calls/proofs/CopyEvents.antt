@@ -11,7 +11,7 @@ use Rattle.guest_memory.specs.Memory.{Memory, bytes_at}
 use Rattle.rv_exec.specs.Accesses.{can_read, can_write}
 use Rattle.trace_model.specs.declared.event_kinds.Event.{Event}
 use Rattle.trace_model.specs.WellFormed.{AreWords}
-use Rattle.guest_calls.specs.declared.answer.Answer.TheVariants.{Back, Born}
+use Rattle.guest_calls.specs.declared.answer.Answer.TheVariants.{Back}
 use Rattle.guest_calls.specs.declared.operation.Operation.{Operation}
 use Rattle.guest_calls.specs.declared.operation.Operation.TheVariants.{Wait, Wake, Requeue, CmpRequeue, WaitBitset, WakeBitset}
 use Rattle.guest_calls.specs.declared.vectors.IoVec.{IoVec}
@@ -22,7 +22,7 @@ use Rattle.guest_calls.specs.Futex.{count_shifted, count_woken, futex_at, futex_
 use Rattle.guest_calls.specs.Kernel.{descriptor, has_others}
 use Rattle.guest_calls.specs.Laws.{AreCopies, EveryCallCopies}
 use Rattle.guest_calls.specs.Pages.{brk, mmap2, mprotect, munmap}
-use Rattle.guest_calls.specs.Results.{Call, CallResult, Guest, answers, arg, either, fill_event, filled, filled_where, fills, fills_word, first_answer, has, read_event, readable, reads, returns, unless, when, word, writable, ◌▷◌, sets, changes, puts, fills_word_where, ◌⇒◌, ◌or◌}
+use Rattle.guest_calls.specs.Results.{Call, CallResult, Guest, answers, arg, either, fill_event, filled, filled_where, fills, fills_word, first_answer, has, read_event, readable, reads, returns, unless, when, word, writable, ◌▷◌, sets, changes, puts, ◌⇒◌, ◌or◌}
 use Rattle.guest_calls.specs.Table.{table}
 use Rattle.guest_calls.specs.Threads.{clear_tid, exit, is_cleared, rt_sigprocmask}
 use Rattle.guest_calls.specs.Vectors.{all_in_reach, filled_parts, read_events, readv, readv_bytes, readv_effect, readv_parts, readv_tests, writev, writev_effect, writev_parts, writev_tests}

@@ -15,7 +15,7 @@ use Rattle.rv_exec.specs.Effects.{ExecState, effect}
 use Rattle.rv_exec.specs.declared.outcome.Outcome.{Outcome}
 use Rattle.rv_exec.specs.declared.outcome.Outcome.TheVariants as outcome
 use Rattle.guest_calls.specs.declared.answer.Answer.{Answer}
-use Rattle.guest_calls.specs.declared.answer.Answer.TheVariants.{Back, ThreadEnd, ProcessEnd, Born}
+use Rattle.guest_calls.specs.declared.answer.Answer.TheVariants.{Back, ThreadEnd, ProcessEnd}
 use Rattle.guest_calls.specs.declared.descriptor.Descriptor.{Descriptor}
 use Rattle.guest_calls.specs.declared.descriptor.Descriptor.TheVariants.{Closed, StandardInput, Output, InputFile}
 use Rattle.guest_calls.specs.declared.operation.Operation.{Operation}
@@ -23,7 +23,7 @@ use Rattle.guest_calls.specs.declared.operation.Operation.TheVariants.{Wait, Wak
 use Rattle.guest_calls.specs.Errors.{eagain, ebadf, efault, enosys}
 use Rattle.guest_calls.specs.Kernel as kernel
 use Rattle.guest_calls.specs.Kernel.{KernelState, is_thread, lives, has_others, descriptor}
-use Rattle.guest_calls.specs.Results.{Call, CallResult, arg, returns, unless, ◌⇒◌, ◌or◌, ◌▷◌, sets, fills_word_where, puts, readable, has, either, when, answers, changes, reads, fills, word, writable}
+use Rattle.guest_calls.specs.Results.{Call, CallResult, arg, returns, unless, ◌⇒◌, ◌or◌, ◌▷◌, sets, puts, readable, either, when, answers, changes, reads, fills, word, writable}
 use Rattle.guest_calls.specs.Files.{advanced, bytes_left, channel, is_closed, is_source, openat_effect, openat_tests, llseek_tests, target, with_position, write_limit}
 use Rattle.guest_calls.specs.Vectors.{readv_tests, readv_bytes, readv_effect, writev_tests, writev_effect}
 use Rattle.guest_calls.specs.Pages.{brk_tests, brk_effect, munmap_tests, unmaps, pages, maps, remaps, rights_of, first_fit, mmap2_tests, mprotect_tests}
