@@ -1,5 +1,5 @@
 -- Threads that are born.
-use Rattle.std.proofs.Common.{◌≡◌, ℕ, ◌<◌, ◌+◌, Bool, true, false, List, [], ◌∷◌, ◌++◌, length, arith, sym, subst, length-append, ◌∙◌}
+use Rattle.std.proofs.Common.{◌≡◌, ℕ, ◌<◌, ◌≤◌, ◌+◌, Bool, true, false, List, [], ◌∷◌, ◌++◌, length, arith, sym, subst, length-append, ◌∙◌}
 use Rattle.std.specs.Prelude.{◌==◌, nat_le}
 use Rattle.std.specs.List.{list_any}
 use Rattle.std.proofs.lemmas.Bool.Decides.{nat_tests}
@@ -17,6 +17,10 @@ use Rattle.guest_calls.proofs.Passed.{asked_reach}
 -- where there is room, fewer than 32 threads live
 pub room_left : (k : KernelState) → is_full k ≡ false → length k.threads < 32
 room_left k room = let few = (or_parts (nat_le 32 (length k.threads)) (k.last_tid == 4194303) room).0 in grind (arith, nat_tests, few)
+
+-- and the last number was not given
+pub number_left : (k : KernelState) → is_full k ≡ false → k.last_tid ≤ 4194303 → k.last_tid < 4194303
+number_left k room within = let other = (or_parts (nat_le 32 (length k.threads)) (k.last_tid == 4194303) room).1 in grind (arith, nat_tests, other)
 
 lived_before : (ts : List Thread) (t : Thread) (q : ℕ) → list_any (is_thread q) (ts ++ t ∷ []) ≡ false → list_any (is_thread q) ts ≡ false
 lived_before ts t q gone = (or_parts (list_any (is_thread q) ts) (list_any (is_thread q) (t ∷ [])) (sym (list_any-append (is_thread q) ts (t ∷ [])) ∙ gone)).0

@@ -22,7 +22,7 @@ use Rattle.futex_table.specs.Waiting.{all_bits}
 use Rattle.guest_calls.specs.Kernel.{KernelState}
 use Rattle.guest_calls.specs.Laws.{EveryCallKeepsTheBreakFree}
 use Rattle.guest_calls.specs.Pages.{IsBreakFree, are_mapped, brk, fits_at, first_fit, mmap2, brk_effect, brk_tests, maps, mmap2_tests, mprotect, mprotect_tests, munmap, munmap_tests, pages, remaps, rights_of, unmaps}
-use Rattle.guest_calls.specs.Results.{Call, CallResult, Guest, arg, answers, either, filled, filled_where, changes, first_answer, fills_word, fills_word_where, has, returns, reads, unless, when, word, ◌▷◌}
+use Rattle.guest_calls.specs.Results.{Call, CallResult, Guest, arg, answers, either, filled, filled_where, changes, first_answer, fills_word, fills_word_where, has, returns, reads, unless, when, word, ◌▷◌, forgets}
 use Rattle.guest_calls.specs.Table.{always, gettid, table}
 use Rattle.guest_calls.specs.Threads.{clear_tid, exit, exit_group, is_cleared, rt_sigprocmask, sched_yield, set_tid_address, told_end}
 use Rattle.guest_calls.specs.Vectors.{filled_parts, readv, writev}
@@ -108,7 +108,7 @@ exit_keeps c = record { rights = (told_keeps c).rights; break_is = (told_keeps c
 sigprocmask_keeps : (c : Call) → KeepsPages c (rt_sigprocmask c)
 sigprocmask_keeps c = search (unless_keeps, when_keeps, plain_keeps)
 
-born_keeps : (c : Call) (a b : Bool) (to at n : ℕ) (answer : Answer) (change : KernelState → KernelState) → (change c.kernel).program_break ≡ c.kernel.program_break → KeepsPages c (returns c n ▷ fills_word_where a to n ▷ fills_word_where b at n ▷ changes change ▷ answers answer)
+born_keeps : (c : Call) (a b : Bool) (to at n : ℕ) (answer : Answer) (change : KernelState → KernelState) → (change c.kernel).program_break ≡ c.kernel.program_break → KeepsPages c (returns c n ▷ fills_word_where a to n ▷ fills_word_where b at n ▷ changes change ▷ forgets n ▷ answers answer)
 born_keeps c a b to at n answer change same = record {
   rights = where_rights b at n (filled_where a to n (returns c n).guest) ∙ where_rights a to n (returns c n).guest;
   break_is = same;

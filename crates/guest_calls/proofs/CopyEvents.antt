@@ -11,18 +11,18 @@ use Rattle.guest_memory.specs.Memory.{Memory, bytes_at}
 use Rattle.rv_exec.specs.Accesses.{can_read, can_write}
 use Rattle.trace_model.specs.declared.event_kinds.Event.{Event}
 use Rattle.trace_model.specs.WellFormed.{AreWords}
-use Rattle.guest_calls.specs.declared.answer.Answer.TheVariants.{Back, Born}
+use Rattle.guest_calls.specs.declared.answer.Answer.TheVariants.{Back}
 use Rattle.guest_calls.specs.declared.operation.Operation.{Operation}
 use Rattle.guest_calls.specs.declared.operation.Operation.TheVariants.{Wait, Wake, Requeue, CmpRequeue, WaitBitset, WakeBitset}
 use Rattle.guest_calls.specs.declared.vectors.IoVec.{IoVec}
-use Rattle.guest_calls.specs.Clone.{clone, is_denied, sets_child, sets_parent, clone_tests, with_thread, child_clear_tid, child_registers}
+use Rattle.guest_calls.specs.Clone.{clone, clone_effect, clone_tests, is_denied, sets_child, sets_parent}
 use Rattle.guest_calls.specs.Errors.{eagain, enosys, ebadf, efault}
 use Rattle.guest_calls.specs.Files.{bytes_left, channel, close, ends_path, is_source, llseek, openat, path_end, read, target, write, openat_tests, openat_effect, llseek_tests, write_limit, with_position, advanced}
 use Rattle.guest_calls.specs.Futex.{count_shifted, count_woken, futex_at, futex_by, futex_tests, futex_value, futex_value3, operation, performed, reads_word, requeues, waits_for, wakes}
 use Rattle.guest_calls.specs.Kernel.{descriptor, has_others}
 use Rattle.guest_calls.specs.Laws.{AreCopies, EveryCallCopies}
 use Rattle.guest_calls.specs.Pages.{brk, mmap2, mprotect, munmap}
-use Rattle.guest_calls.specs.Results.{Call, CallResult, Guest, answers, arg, either, fill_event, filled, filled_where, fills, fills_word, first_answer, has, read_event, readable, reads, returns, unless, when, word, writable, ◌▷◌, sets, changes, puts, fills_word_where, ◌⇒◌, ◌or◌}
+use Rattle.guest_calls.specs.Results.{Call, CallResult, Guest, answers, arg, either, fill_event, filled, filled_where, fills, fills_word, first_answer, has, read_event, readable, reads, returns, unless, when, word, writable, ◌▷◌, sets, changes, puts, ◌⇒◌, ◌or◌}
 use Rattle.guest_calls.specs.Table.{table}
 use Rattle.guest_calls.specs.Threads.{clear_tid, exit, is_cleared, rt_sigprocmask}
 use Rattle.guest_calls.specs.Vectors.{all_in_reach, filled_parts, read_events, readv, readv_bytes, readv_effect, readv_parts, readv_tests, writev, writev_effect, writev_parts, writev_tests}
@@ -59,11 +59,11 @@ quiet_copies : (c : Call) (tests : List (Bool × ℕ)) (effect : Unit {0} → Ca
     CopiesOnly c (unless c tests effect)
 quiet_copies c tests effect none = tested c tests effect (λ passed. subst (AreCopies c.tid) (sym none) tt)
 
-abbrev AreFailed : List (Bool × ℕ) → Type 0
+abbrev pub AreFailed : List (Bool × ℕ) → Type 0
 AreFailed [] = Unit {0}
 AreFailed (t ∷ tests) = (t.0 ≡ false) × AreFailed tests
 
-all_failed : (tests : List (Bool × ℕ)) → first_answer tests ≡ None → AreFailed tests
+pub all_failed : (tests : List (Bool × ℕ)) → first_answer tests ≡ None → AreFailed tests
 all_failed [] passed = tt
 all_failed (t ∷ tests) passed = let one = failed t.0 t.1 (first_answer tests) passed in (one.0, all_failed tests one.1)
 
@@ -193,16 +193,6 @@ where_copies tid false at n g before fits = before
 -- a word that is asked for where it is not denied
 asked_end : (m : Memory) (asked : Bool) (at : ℕ) → is_denied m asked at ≡ false → asked ≡ true → at + 4 ≤ 2 ^ 32
 asked_end m asked at allowed is = writable_end m at 4 (not_denied m asked at allowed is) (omega arith)
-
-abbrev clone_effect : Call → CallResult
-clone_effect c =
-    let flags = arg c 0 in
-    let tid = c.kernel.last_tid + 1 in
-    returns c tid
-    ▷ fills_word_where (has flags sets_parent) (arg c 2) tid
-    ▷ fills_word_where (has flags sets_child) (arg c 4) tid
-    ▷ changes (with_thread tid (child_clear_tid flags (arg c 4)))
-    ▷ answers (Born tid (child_registers c.registers flags (arg c 1) (arg c 3)))
 
 clone_copies : (c : Call) → CopiesOnly c (clone c)
 clone_copies c = tested c (clone_tests c) (λ x. clone_effect c) (λ passed.

@@ -8,7 +8,7 @@ use Rattle.guest_calls.specs.declared.descriptor.Descriptor.{Descriptor}
 use Rattle.guest_calls.specs.declared.descriptor.Descriptor.TheVariants.{Closed, StandardInput, Output, InputFile}
 use Rattle.guest_calls.specs.declared.operation.Operation.{Operation}
 use Rattle.guest_calls.specs.declared.operation.Operation.TheVariants.{Wait, Wake, Requeue, CmpRequeue, WaitBitset, WakeBitset}
-use Rattle.guest_calls.specs.Clone.{clone}
+use Rattle.guest_calls.specs.Clone.{clone, clone_effect, clone_tests}
 use Rattle.guest_calls.specs.Errors.{eagain, enosys}
 use Rattle.guest_calls.specs.Files.{advanced, close, llseek, openat, read, write}
 use Rattle.guest_calls.specs.Futex.{count_shifted, count_woken, futex_at, futex_by, futex_tests, futex_value, futex_value3, operation, performed, requeues, waits_for}
@@ -21,6 +21,7 @@ use Rattle.guest_calls.specs.Threads.{clear_tid, exit, is_cleared, rt_sigprocmas
 use Rattle.guest_calls.specs.Futex.{wakes}
 use Rattle.guest_calls.specs.Vectors.{readv, readv_bytes, readv_effect, readv_tests, writev}
 use Rattle.guest_calls.proofs.AllCalls.{of_every_call, of_unless}
+use Rattle.guest_calls.proofs.CopyEvents.{all_failed}
 
 abbrev Numbers : Call → CallResult → Type 0
 Numbers c r = GivesNumber r.answer c.kernel r.kernel
@@ -68,11 +69,8 @@ readv_numbers c = tested c (readv_tests c) (λ x. readv_effect c) (advanced_last
 sigprocmask_numbers : (c : Call) → Numbers c (rt_sigprocmask c)
 sigprocmask_numbers c = search (tested, when_numbers)
 
-number_given : (n m : ℕ) → n ≡ m → (n ≡ m) × (n ≡ n)
-number_given n m same = (same, refl)
-
 clone_numbers : (c : Call) → Numbers c (clone c)
-clone_numbers c = search (tested, number_given)
+clone_numbers c = of_unless Numbers c (clone_tests c) (λ x. clone_effect c) (λ value. refl) (λ passed. (refl, refl, (all_failed (clone_tests c) passed).1.0))
 
 performed_numbers : (o : Operation) (c : Call) → Numbers c (performed o c)
 performed_numbers Wait c = either_numbers c (word c (futex_at c) == futex_value c) (waits_for c all_bits) (answers (Back eagain)) (returns c 0 ▷ reads c.tid (futex_at c) 4) refl refl

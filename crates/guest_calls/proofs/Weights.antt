@@ -1,11 +1,12 @@
--- How much the events of a call weigh.
-use Rattle.std.proofs.Common.{◌≡◌, ℕ, zero, suc, ◌≤◌, ◌+◌, ◌-◌, ◌*◌, ◌/◌, Bool, true, false, List, [], ◌∷◌, ◌++◌, length, take, drop, Option, Some, None, arith, refl, ap, sym, ◌∙◌}
+-- How many events a call has, and how much they weigh.
+use Rattle.std.proofs.Common.{◌≡◌, ℕ, zero, suc, ◌≤◌, ◌+◌, ◌-◌, ◌*◌, ◌/◌, Bool, true, false, List, [], ◌∷◌, ◌++◌, length, length-append, take, drop, Option, Some, None, arith, refl, ap, sym, ◌∙◌}
 use Rattle.std.specs.Prelude.{not, ◌==◌, nat_lt, is_none, min, unwrap_or}
 use Rattle.std.specs.Option.{option_map_or}
 use Rattle.std.proofs.lemmas.Bool.Decides.{nat_tests}
 use Rattle.std.proofs.lemmas.List.Sums.{sum_by-cons}
 use Rattle.futex_table.specs.Waiting.{all_bits}
 use Rattle.guest_memory.specs.Memory.{Memory}
+use Rattle.trace_model.specs.declared.event_kinds.Event.{Event}
 use Rattle.trace_model.specs.WellFormed.{weight}
 use Rattle.guest_calls.specs.declared.answer.Answer.TheVariants.{Back}
 use Rattle.guest_calls.specs.declared.operation.Operation.{Operation}
@@ -17,10 +18,10 @@ use Rattle.guest_calls.specs.Files.{channel, close, ends_path, is_source, llseek
 use Rattle.guest_calls.specs.Futex.{count_shifted, count_woken, futex_at, futex_by, futex_tests, futex_value, futex_value3, operation, performed, requeues, waits_for, wakes}
 use Rattle.guest_calls.specs.Kernel.{descriptor}
 use Rattle.rv_exec.specs.Accesses.{can_read, can_write}
-use Rattle.guest_calls.specs.Laws.{EveryCallIsLight}
+use Rattle.guest_calls.specs.Laws.{EveryCallHasFewEvents, EveryCallIsLight}
 use Rattle.guest_calls.specs.Pages.{brk, mmap2, mprotect, munmap}
 use Rattle.guest_calls.specs.Results.{Call, CallResult, Guest, answers, arg, either, fill_event, filled, filled_where, fills_word, first_answer, read_event, reads, returns, unless, when, word, ◌▷◌}
-use Rattle.guest_calls.specs.Table.{table}
+use Rattle.guest_calls.specs.Table.{call, table}
 use Rattle.guest_calls.specs.Threads.{clear_tid, exit, is_cleared, rt_sigprocmask}
 use Rattle.guest_calls.specs.Vectors.{all_in_reach, filled_parts, parts, parts_at, read_events, readv, readv_bytes, readv_effect, readv_parts, readv_tests, table_tests, total, writev, writev_count, writev_effect, writev_parts, writev_tests}
 use Rattle.guest_calls.proofs.AllCalls.{of_every_call, of_unless}
@@ -28,8 +29,20 @@ use Rattle.guest_calls.proofs.PartLists.{length_carried, total_carried}
 use Rattle.trace_model.proofs.Bounds.{weight-append}
 use Rattle.guest_calls.proofs.Passed.{failed, found_below}
 
-abbrev pub IsLightResult : Call → CallResult → Type 0
-IsLightResult c r = weight r.guest.events ≤ 65536
+record AreLight (events : List Event) : Type 0 where
+  few : length events ≤ 1025
+  light : weight events ≤ 65536
+
+abbrev IsLightResult : Call → CallResult → Type 0
+IsLightResult c r = AreLight r.guest.events
+
+read_few : (tid at n : ℕ) → length (read_event tid at n) ≤ 1
+read_few tid at zero = omega arith
+read_few tid at (suc n) = omega arith
+
+fill_few : (at n : ℕ) → length (fill_event at n) ≤ 1
+fill_few at zero = omega arith
+fill_few at (suc n) = omega arith
 
 -- a read weighs one for itself and at most two words more than its bytes fill
 read_weight : (tid at n : ℕ) → weight (read_event tid at n) ≤ n / 4 + 3
@@ -49,6 +62,19 @@ parts_weight tid (p ∷ ps) =
     let rest = parts_weight tid ps in
     omega (arith, sum, both, one, rest)
 
+reads_few : (tid : ℕ) (ps : List IoVec) → length (read_events tid ps) ≤ length ps
+reads_few tid [] = omega arith
+reads_few tid (p ∷ ps) =
+    let both = length-append (read_event tid p.at p.size) (read_events tid ps) in
+    omega (arith, both, read_few tid p.at p.size, reads_few tid ps)
+
+filled_few : (ps : List IoVec) (bytes : List ℕ) (g : Guest) → length (filled_parts ps bytes g).events ≤ length g.events + length ps
+filled_few [] bytes g = omega arith
+filled_few (p ∷ ps) bytes g =
+    let rest = filled_few ps (drop p.size bytes) (filled p.at (take p.size bytes) g) in
+    let both = length-append g.events (fill_event p.at (length (take p.size bytes))) in
+    omega (arith, rest, both, fill_few p.at (length (take p.size bytes)))
+
 filled_weight : (ps : List IoVec) (bytes : List ℕ) (g : Guest) → weight (filled_parts ps bytes g).events ≤ weight g.events + length ps
 filled_weight [] bytes g = omega arith
 filled_weight (p ∷ ps) bytes g =
@@ -61,17 +87,17 @@ length_parts : (m : Memory) (at n : ℕ) → length (parts_at m at n) ≡ n
 length_parts m at zero = refl
 length_parts m at (suc n) = ap (λ (k : ℕ). suc k) (length_parts m (at + 8) n)
 
-light : (c : Call) (tests : List (Bool × ℕ)) (effect : Unit {0} → CallResult) → (first_answer tests ≡ None → weight (effect tt).guest.events ≤ 65536) → IsLightResult c (unless c tests effect)
-light c tests effect done = of_unless IsLightResult c tests effect (λ value. omega arith) done
+none_light : AreLight []
+none_light = record { few = omega arith; light = omega arith }
 
-none_light : weight [] ≤ 65536
-none_light = omega arith
+light : (c : Call) (tests : List (Bool × ℕ)) (effect : Unit {0} → CallResult) → (first_answer tests ≡ None → AreLight (effect tt).guest.events) → IsLightResult c (unless c tests effect)
+light c tests effect done = of_unless IsLightResult c tests effect (λ value. none_light) done
 
-one_read : (tid at n : ℕ) → n ≤ 65536 → weight (read_event tid at n) ≤ 65536
-one_read tid at n few = let h = read_weight tid at n in omega (arith, h, few)
+one_read : (tid at n : ℕ) → n ≤ 65536 → AreLight (read_event tid at n)
+one_read tid at n few = record { few = omega (arith, read_few tid at n); light = omega (arith, read_weight tid at n, few) }
 
-one_fill : (at n : ℕ) → weight (fill_event at n) ≤ 65536
-one_fill at n = let h = fill_weight at n in omega (arith, h)
+one_fill : (at n : ℕ) → AreLight (fill_event at n)
+one_fill at n = record { few = omega (arith, fill_few at n); light = omega (arith, fill_weight at n) }
 
 path_short : (o : Option ℕ) (m : Memory) (path : ℕ) → o ≡ path_end m path → unwrap_or o path - path + 1 ≤ 65536
 path_short None m path is = omega arith
@@ -98,7 +124,7 @@ min_few n = omega arith
 write_light : (c : Call) → IsLightResult c (write c)
 write_light c = search (light, one_read, min_few)
 
-when_light : (b : Bool) (effect : CallResult → CallResult) (r : CallResult) → weight r.guest.events ≤ 65536 → weight (effect r).guest.events ≤ 65536 → weight (when b effect r).guest.events ≤ 65536
+when_light : (b : Bool) (effect : CallResult → CallResult) (r : CallResult) → AreLight r.guest.events → AreLight (effect r).guest.events → AreLight (when b effect r).guest.events
 when_light true effect r plain done = done
 when_light false effect r plain done = plain
 
@@ -124,17 +150,28 @@ where_weight : (asked : Bool) (at n : ℕ) (g : Guest) → weight (filled_where 
 where_weight true at n g = let both = weight-append g.events (fill_event at 4) in let one = fill_weight at 4 in omega (arith, both, one)
 where_weight false at n g = omega arith
 
-born_light : (a b : Bool) (to at n : ℕ) (g : Guest) → weight g.events ≡ 0 → weight (filled_where b at n (filled_where a to n g)).events ≤ 65536
-born_light a b to at n g none = let one = where_weight a to n g in let two = where_weight b at n (filled_where a to n g) in omega (arith, one, two, none)
+where_few : (asked : Bool) (at n : ℕ) (g : Guest) → length (filled_where asked at n g).events ≤ length g.events + 1
+where_few true at n g = omega (arith, length-append g.events (fill_event at 4), fill_few at 4)
+where_few false at n g = omega arith
+
+born_light : (a b : Bool) (to at n : ℕ) (g : Guest) → g.events ≡ [] → AreLight (filled_where b at n (filled_where a to n g)).events
+born_light a b to at n g none =
+    let first = filled_where a to n g in
+    let events : length g.events ≡ 0 = ap length none in
+    let weights : weight g.events ≡ 0 = ap weight none in
+    record {
+      few = omega (arith, where_few a to n g, where_few b at n first, events);
+      light = omega (arith, where_weight a to n g, where_weight b at n first, weights);
+    }
 
 clone_light : (c : Call) → IsLightResult c (clone c)
 clone_light c = search (light, born_light)
 
-either_light : (b : Bool) (one other : CallResult → CallResult) (r : CallResult) → weight (one r).guest.events ≤ 65536 → weight (other r).guest.events ≤ 65536 → weight (either b one other r).guest.events ≤ 65536
+either_light : (b : Bool) (one other : CallResult → CallResult) (r : CallResult) → AreLight (one r).guest.events → AreLight (other r).guest.events → AreLight (either b one other r).guest.events
 either_light true one other r here there = here
 either_light false one other r here there = there
 
-performed_light : (o : Operation) (c : Call) → weight (performed o c).guest.events ≤ 65536
+performed_light : (o : Operation) (c : Call) → AreLight (performed o c).guest.events
 performed_light Wait c = let h = one_read c.tid (futex_at c) 4 (omega arith) in either_light (word c (futex_at c) == futex_value c) (waits_for c all_bits) (answers (Back eagain)) (returns c 0 ▷ reads c.tid (futex_at c) 4) h h
 performed_light WaitBitset c = let h = one_read c.tid (futex_at c) 4 (omega arith) in either_light (word c (futex_at c) == futex_value c) (waits_for c (futex_value3 c)) (answers (Back eagain)) (returns c 0 ▷ reads c.tid (futex_at c) 4) h h
 performed_light Wake c = none_light
@@ -142,24 +179,29 @@ performed_light WakeBitset c = none_light
 performed_light Requeue c = none_light
 performed_light CmpRequeue c = let h = one_read c.tid (futex_at c) 4 (omega arith) in either_light (word c (futex_at c) == futex_value3 c) (requeues c) (answers (Back eagain)) (returns c (count_woken c all_bits + count_shifted c) ▷ reads c.tid (futex_at c) 4) h h
 
-operation_light : (o : Option Operation) (c : Call) → weight (option_map_or (futex_by c) o (returns c enosys)).guest.events ≤ 65536
+operation_light : (o : Option Operation) (c : Call) → AreLight (option_map_or (futex_by c) o (returns c enosys)).guest.events
 operation_light None c = none_light
 operation_light (Some o) c = light c (futex_tests o c) (λ x. performed o c) (λ passed. performed_light o c)
 
 -- ---- the calls in parts
-readv_events : (tid at n : ℕ) (ps : List IoVec) (bytes : List ℕ) (m : Guest) → n ≤ 1024 → length ps ≡ n → m.events ≡ read_event tid at (8 * n) → weight (filled_parts ps bytes m).events ≤ 65536
+readv_events : (tid at n : ℕ) (ps : List IoVec) (bytes : List ℕ) (m : Guest) → n ≤ 1024 → length ps ≡ n → m.events ≡ read_event tid at (8 * n) → AreLight (filled_parts ps bytes m).events
 readv_events tid at n ps bytes m few long is =
-    let a = filled_weight ps bytes m in
-    let b = read_weight tid at (8 * n) in
-    let e : weight m.events ≡ weight (read_event tid at (8 * n)) = ap weight is in
-    omega (arith, a, b, e, few, long)
+    let count : length m.events ≡ length (read_event tid at (8 * n)) = ap length is in
+    let weighs : weight m.events ≡ weight (read_event tid at (8 * n)) = ap weight is in
+    record {
+      few = omega (arith, filled_few ps bytes m, read_few tid at (8 * n), count, few, long);
+      light = omega (arith, filled_weight ps bytes m, read_weight tid at (8 * n), weighs, few, long);
+    }
 
-writev_events : (tid at n k : ℕ) (ps : List IoVec) → n ≤ 1024 → length ps ≡ n → total ps ≤ k → k ≤ 65536 → weight (read_event tid at (8 * n) ++ read_events tid ps) ≤ 65536
-writev_events tid at n k ps few long sum most =
-    let both = weight-append (read_event tid at (8 * n)) (read_events tid ps) in
-    let a = parts_weight tid ps in
-    let b = read_weight tid at (8 * n) in
-    omega (arith, both, a, b, few, long, sum, most)
+writev_events : (tid at n k : ℕ) (ps : List IoVec) → n ≤ 1024 → length ps ≡ n → total ps ≤ k → k ≤ 65536 → AreLight (read_event tid at (8 * n) ++ read_events tid ps)
+writev_events tid at n k ps few long sum most = record {
+  few =
+      let both = length-append (read_event tid at (8 * n)) (read_events tid ps) in
+      omega (arith, both, read_few tid at (8 * n), reads_few tid ps, few, long);
+  light =
+      let both = weight-append (read_event tid at (8 * n)) (read_events tid ps) in
+      omega (arith, both, parts_weight tid ps, read_weight tid at (8 * n), few, long, sum, most);
+}
 
 few_parts : (first : Bool) (e : ℕ) (c : Call) (rest : List (Bool × ℕ)) → first_answer ((first, e) ∷ (table_tests c.memory (arg c 1) (arg c 2) ++ rest)) ≡ None → arg c 2 ≤ 1024
 few_parts first e c rest passed = let tests = (failed first _ _ passed).1 in few_of (arg c 2) (failed (nat_lt 1024 (arg c 2)) _ _ tests).0
@@ -176,8 +218,14 @@ writev_light c = light c (writev_tests c) (λ x. writev_effect c) (λ passed.
     (few_parts (is_none (channel (descriptor c.kernel (arg c 0)))) ebadf c ((not (all_in_reach (can_read c.memory) (writev_parts c)), efault) ∷ []) passed)
     (length_carried (writev_count c) (parts c) ∙ length_parts c.memory (arg c 1) (arg c 2)) (total_carried (writev_count c) (parts c)) (min_few (total (parts c))))
 
-pub every_call_light : EveryCallIsLight
+every_call : (c : Call) → IsLightResult c (call c)
 unfolding table
-every_call_light = of_every_call IsLightResult
+every_call = of_every_call IsLightResult
     ((λ k. none_light), (openat_light, (close_light, (llseek_light, (read_light, (write_light, (readv_light, (writev_light, (exit_light, ((λ k. none_light), ((λ k. none_light), ((λ k. none_light), ((λ k. none_light), ((λ k. none_light), (sigprocmask_light, ((λ k. none_light), ((λ k. none_light), (brk_light, (munmap_light, (clone_light, (mmap2_light, (mprotect_light, ((λ k. none_light), ((λ k. operation_light (operation k) k), tt))))))))))))))))))))))))
     (λ k. none_light)
+
+pub every_call_light : EveryCallIsLight
+every_call_light c = (every_call c).light
+
+pub every_call_has_few : EveryCallHasFewEvents
+every_call_has_few c = (every_call c).few

@@ -6,7 +6,7 @@ use Rattle.rv_exec.specs.Registers.{Registers}
 use Rattle.guest_calls.specs.declared.answer.Answer.TheVariants.{Born}
 use Rattle.guest_calls.specs.Errors.{eagain, efault, enosys}
 use Rattle.guest_calls.specs.Kernel.{KernelState}
-use Rattle.guest_calls.specs.Results.{Call, CallResult, arg, returns, unless, ◌⇒◌, ◌or◌, ◌▷◌, answers, changes, fills_word_where, has}
+use Rattle.guest_calls.specs.Results.{Call, CallResult, arg, returns, unless, ◌⇒◌, ◌or◌, ◌▷◌, answers, changes, fills_word_where, forgets, has}
 
 -- CLONE_VM 0x100, CLONE_SIGHAND 0x800 and CLONE_THREAD 0x10000: a thread of the same process, and no other child
 abbrev pub needed_flags : ℕ
@@ -75,15 +75,19 @@ clone_tests c =
 abbrev pub child_clear_tid : ℕ → ℕ → ℕ
 child_clear_tid flags child = if has flags clears_child then child else 0
 
-abbrev pub clone : Call → CallResult
-clone c =
+-- the new thread has the next number, and nothing reserved
+abbrev pub clone_effect : Call → CallResult
+clone_effect c =
     let flags = arg c 0 in
     let parent = arg c 2 in
     let child = arg c 4 in
     let tid = c.kernel.last_tid + 1 in
-    unless c (clone_tests c)
-    λ _. returns c tid
+    returns c tid
     ▷ fills_word_where (has flags sets_parent) parent tid
     ▷ fills_word_where (has flags sets_child) child tid
     ▷ changes (with_thread tid (child_clear_tid flags child))
+    ▷ forgets tid
     ▷ answers (Born tid (child_registers c.registers flags (arg c 1) (arg c 3)))
+
+abbrev pub clone : Call → CallResult
+clone c = unless c (clone_tests c) λ _. clone_effect c

@@ -1,10 +1,11 @@
 -- What holds of every call.
-use Rattle.std.specs.Prelude.{◌≡◌, ℕ, ◌≤◌, ◌+◌, List, [], ◌∷◌}
+use Rattle.std.specs.Prelude.{◌≡◌, ℕ, ◌≤◌, ◌+◌, false, List, [], ◌∷◌, length}
 use Rattle.trace_model.specs.declared.event_kinds.Event.{Event}
 use Rattle.trace_model.specs.declared.event_kinds.Event.TheVariants.{Read, Fill}
 use Rattle.trace_model.specs.WellFormed.{AreWords, weight}
 use Rattle.guest_calls.specs.declared.answer.Answer.{Answer}
 use Rattle.guest_calls.specs.declared.answer.Answer.TheVariants.{Born}
+use Rattle.guest_calls.specs.Clone.{is_full}
 use Rattle.guest_calls.specs.Kernel.{KernelState}
 use Rattle.guest_calls.specs.Pages.{IsBreakFree}
 use Rattle.guest_calls.specs.Results.{Call}
@@ -13,6 +14,10 @@ use Rattle.guest_calls.specs.Table.{call}
 -- the copies of one call are few events that read few words
 abbrev pub EveryCallIsLight : Type 0
 EveryCallIsLight = (c : Call) → weight (call c).guest.events ≤ 65536
+
+-- they are at most one for the table of a call in parts, and one for each of at most 1024 parts
+abbrev pub EveryCallHasFewEvents : Type 0
+EveryCallHasFewEvents = (c : Call) → length (call c).guest.events ≤ 1025
 
 -- where no page from the break up to the limit is mapped, none is afterwards
 abbrev pub EveryCallKeepsTheBreakFree : Type 0
@@ -33,9 +38,9 @@ AreCopies tid (e ∷ events) = IsCopy tid e × AreCopies tid events
 abbrev pub EveryCallCopies : Type 0
 EveryCallCopies = (c : Call) → AreCopies c.tid (call c).guest.events
 
--- a new thread has the next number, which is then the last one given; without one that stays
+-- a new thread is one that there was room for, and has the next number, which is then the last one given; without one that stays
 abbrev pub GivesNumber : Answer → KernelState → KernelState → Type 0
-GivesNumber (Born child registers) old new = (child ≡ old.last_tid + 1) × (new.last_tid ≡ child)
+GivesNumber (Born child registers) old new = (child ≡ old.last_tid + 1) × (new.last_tid ≡ child) × (is_full old ≡ false)
 GivesNumber _ old new = new.last_tid ≡ old.last_tid
 
 abbrev pub EveryCallGivesNumber : Type 0

@@ -5,7 +5,7 @@ use Rattle.guest_words.specs.Words.{word_count}
 use Rattle.trace_model.specs.declared.event_kinds.Event.{Event}
 use Rattle.trace_model.specs.declared.event_kinds.Event.TheVariants.{Read, Fill}
 use Rattle.guest_memory.specs.Memory.{Memory, with_bytes, number_at}
-use Rattle.guest_memory.specs.Reserved.{Reserved, after_write}
+use Rattle.guest_memory.specs.Reserved.{Reserved, after_write, without_thread}
 use Rattle.rv_exec.specs.Accesses.{can_read, can_write}
 use Rattle.rv_exec.specs.Registers.{Registers}
 use Rattle.guest_calls.specs.declared.answer.Answer.{Answer}
@@ -142,6 +142,10 @@ filled_where false at n g = g
 
 abbrev pub fills_word_where : Bool → ℕ → ℕ → CallResult → CallResult
 fills_word_where asked at n r = record r { guest = filled_where asked at n r.guest }
+
+-- the thread has nothing reserved, and the others have what they had
+abbrev pub forgets : ℕ → CallResult → CallResult
+forgets tid r = record r { guest = record r.guest { held = without_thread r.guest.held tid } }
 
 -- bytes go out on the channel
 abbrev pub puts : ℕ → List ℕ → CallResult → CallResult

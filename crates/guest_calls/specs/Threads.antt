@@ -2,14 +2,14 @@
 use Rattle.std.specs.Prelude.{ℕ, ◌%◌, ◌^◌, Bool, not, ◌&&◌, ◌==◌, [], map, replicate, if◌then◌else◌}
 use Rattle.std.specs.List.{find}
 use Rattle.std.specs.Option.{option_map_or}
-use Rattle.guest_memory.specs.Reserved.{without_thread, nothing_reserved}
+use Rattle.guest_memory.specs.Reserved.{nothing_reserved}
 use Rattle.futex_table.specs.Waiting.{all_bits}
 use Rattle.guest_calls.specs.declared.answer.Answer.TheVariants.{Yield, ThreadEnd, ProcessEnd}
 use Rattle.guest_calls.specs.declared.thread.Thread.{Thread}
 use Rattle.guest_calls.specs.Errors.{efault}
 use Rattle.guest_calls.specs.Futex.{wakes}
 use Rattle.guest_calls.specs.Kernel.{KernelState, is_thread, has_others, other_threads}
-use Rattle.guest_calls.specs.Results.{Call, CallResult, arg, returns, unless, ◌⇒◌, ◌▷◌, when, answers, changes, fills, fills_word, writable}
+use Rattle.guest_calls.specs.Results.{Call, CallResult, arg, returns, unless, ◌⇒◌, ◌▷◌, when, answers, changes, fills, fills_word, forgets, writable}
 
 -- ---- ends
 -- the exit status
@@ -29,10 +29,7 @@ is_cleared c = has_others c.kernel c.tid && (not (clear_tid c == 0) && writable 
 
 -- the thread lives no more, and its reservation goes
 abbrev pub leaves : ℕ → CallResult → CallResult
-leaves tid r = record r {
-  kernel = record r.kernel { threads = other_threads r.kernel tid };
-  guest = record r.guest { held = without_thread r.guest.held tid };
-}
+leaves tid r = r ▷ changes (λ k. record k { threads = other_threads k tid }) ▷ forgets tid
 
 -- its end is told to those who wait for it
 abbrev pub told_end : Call → CallResult

@@ -158,6 +158,7 @@ impl State {
         fill_word_if(to_parent, memory, held, events, parent, tid.number());
         fill_word_if(to_child, memory, held, events, child, tid.number());
         self.add_thread(tid, child_clear_tid(flags, child));
+        held.forget(tid);
         Answer::Born {
             tid,
             child: child_cpu(&caller.cpu, flags, caller.argument(1), caller.argument(3)),

@@ -20,7 +20,7 @@ use Rattle.guest_calls.specs.declared.vectors.IoVec.{IoVec}
 use Rattle.guest_calls.specs.Kernel.{KernelState, has_others, is_thread, lives, with_descriptor}
 use Rattle.futex_table.specs.Waiting.{all_bits}
 use Rattle.guest_calls.specs.Errors.{eagain, enosys, enotty}
-use Rattle.guest_calls.specs.Results.{Call, CallResult, Guest, answered_or, answers, arg, changes, either, fills, first_answer, puts, reads, returns, fills_word, fills_word_where, number, sets, unless, when, word}
+use Rattle.guest_calls.specs.Results.{Call, CallResult, Guest, answered_or, answers, arg, changes, either, fills, first_answer, forgets, puts, reads, returns, fills_word, fills_word_where, number, sets, unless, when, word}
 use Rattle.guest_calls.specs.Files.{advanced, close, llseek, openat, read, write}
 use Rattle.guest_calls.specs.Vectors.{fills_parts, reads_parts, readv, writev}
 use Rattle.guest_calls.specs.Pages.{brk, mmap2, mprotect, munmap, remaps}
@@ -290,10 +290,11 @@ lives_more (u ∷ threads) t q lives = by_first (u.tid == q) refl lives (lives_m
     by_first true is any rest = rw is refl
     by_first false is any rest = let later : list_any (is_thread q) threads ≡ true = rw is at any in rw is (rest later)
 
-lawful_born : (c : Call) (r : CallResult) (tid clear_tid flags stack tls : ℕ) → IsQuiet c r → IsLawful c (answers (Born tid (child_registers c.registers flags stack tls)) (changes (with_thread tid clear_tid) r))
+lawful_born : (c : Call) (r : CallResult) (tid clear_tid flags stack tls : ℕ) → IsQuiet c r → IsLawful c (answers (Born tid (child_registers c.registers flags stack tls)) (forgets tid (changes (with_thread tid clear_tid) r)))
 lawful_born c r tid clear_tid flags stack tls quiet = record {
   threads = map-append (λ t. t.tid) r.kernel.threads (record { tid = tid; clear_tid = clear_tid } ∷ []) ∙ ap (λ ns. ns ++ tid ∷ []) quiet.threads;
-  holders = λ live q some. lives_more r.kernel.threads _ q (lives_by r.kernel c.kernel q quiet.threads ∙ live q (quiet.held q some));
+  holders = λ live q some.
+      lives_more r.kernel.threads _ q (lives_by r.kernel c.kernel q quiet.threads ∙ live q (quiet.held q (some_of_rest (q == tid) (r.guest.held q) some)));
   begins = λ even. omega arith;
 }
 

@@ -9,3 +9,5 @@ pub mod Stacks
 pub mod Starts
 pub mod Follows
 pub mod Weights
+pub mod StepParts
+pub mod Limits

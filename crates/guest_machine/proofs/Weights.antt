@@ -29,7 +29,7 @@ use Rattle.guest_machine.specs.Step.{access_events, after_effect, call_of, exec_
 use Rattle.guest_machine.proofs.Holders.{fewer_or_same}
 use Rattle.guest_machine.proofs.Registers.{tids-with_registers}
 
-harts_kept : (harts : List Hart) (tid : ℕ) (r : Registers) → length (with_registers harts tid r) ≡ length harts
+pub harts_kept : (harts : List Hart) (tid : ℕ) (r : Registers) → length (with_registers harts tid r) ≡ length harts
 harts_kept harts tid r =
     sym (length-map (with_registers harts tid r) (λ (h : Hart). h.tid)) ∙ ap length (tids-with_registers harts tid r) ∙ length-map harts (λ (h : Hart). h.tid)
 

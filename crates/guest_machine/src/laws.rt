@@ -1,5 +1,5 @@
 //! Laws of a step: each is the contract of a function that does nothing.
-ghost use Rattle.guest_machine.specs.Laws.{EveryStepContinues, EveryStepIsLight};
+ghost use Rattle.guest_machine.specs.Laws.{EveryStepContinues, EveryStepIsLight, EveryStepIsOnePart, EveryStepStaysWithinLimits};
 
 /// A step of a thread that can run, after any past after which exactly the machine's threads live: its events may follow
 /// that past, and after both exactly the threads of the new machine live. The events' weight and the number of threads after
@@ -7,4 +7,12 @@ ghost use Rattle.guest_machine.specs.Laws.{EveryStepContinues, EveryStepIsLight}
 pub fn every_step_is_traced()
     ensures continues { EveryStepContinues }
     ensures light { EveryStepIsLight }
+{}
+
+/// A step of a machine of at most 32 threads, none of which has a number above the greatest: its events are one part of a
+/// trace, fewer than 1100 that read fewer than 65536 words, or none; and after it there are still at most 32 threads, none
+/// with a number above the greatest.
+pub fn every_step_is_short()
+    ensures part { EveryStepIsOnePart }
+    ensures limits { EveryStepStaysWithinLimits }
 {}

@@ -19,7 +19,7 @@ mod step_events;
 mod stepped;
 
 pub use hart::Hart;
-pub use laws::every_step_is_traced;
+pub use laws::{every_step_is_short, every_step_is_traced};
 pub use machine::Machine;
 pub use setup::SetupError;
 pub use stepped::Stepped;

@@ -15,7 +15,7 @@ use Rattle.rv_exec.specs.Effects.{ExecState, effect}
 use Rattle.rv_exec.specs.declared.outcome.Outcome.{Outcome}
 use Rattle.rv_exec.specs.declared.outcome.Outcome.TheVariants as outcome
 use Rattle.guest_calls.specs.declared.answer.Answer.{Answer}
-use Rattle.guest_calls.specs.declared.answer.Answer.TheVariants.{Back, ThreadEnd, ProcessEnd, Born}
+use Rattle.guest_calls.specs.declared.answer.Answer.TheVariants.{Back, ThreadEnd, ProcessEnd}
 use Rattle.guest_calls.specs.declared.descriptor.Descriptor.{Descriptor}
 use Rattle.guest_calls.specs.declared.descriptor.Descriptor.TheVariants.{Closed, StandardInput, Output, InputFile}
 use Rattle.guest_calls.specs.declared.operation.Operation.{Operation}
@@ -23,12 +23,12 @@ use Rattle.guest_calls.specs.declared.operation.Operation.TheVariants.{Wait, Wak
 use Rattle.guest_calls.specs.Errors.{eagain, ebadf, efault, enosys}
 use Rattle.guest_calls.specs.Kernel as kernel
 use Rattle.guest_calls.specs.Kernel.{KernelState, is_thread, lives, has_others, descriptor}
-use Rattle.guest_calls.specs.Results.{Call, CallResult, arg, returns, unless, ◌⇒◌, ◌or◌, ◌▷◌, sets, fills_word_where, puts, readable, has, either, when, answers, changes, reads, fills, word, writable}
+use Rattle.guest_calls.specs.Results.{Call, CallResult, arg, returns, unless, ◌⇒◌, ◌or◌, ◌▷◌, sets, puts, readable, either, when, answers, changes, reads, fills, word, writable}
 use Rattle.guest_calls.specs.Files.{advanced, bytes_left, channel, is_closed, is_source, openat_effect, openat_tests, llseek_tests, target, with_position, write_limit}
 use Rattle.guest_calls.specs.Vectors.{readv_tests, readv_bytes, readv_effect, writev_tests, writev_effect}
 use Rattle.guest_calls.specs.Pages.{brk_tests, brk_effect, munmap_tests, unmaps, pages, maps, remaps, rights_of, first_fit, mmap2_tests, mprotect_tests}
 use Rattle.guest_calls.specs.Threads.{exit, rt_sigprocmask, status}
-use Rattle.guest_calls.specs.Clone.{clone_tests, with_thread, child_clear_tid, child_registers, sets_child, sets_parent}
+use Rattle.guest_calls.specs.Clone.{clone_effect, clone_tests, with_thread, child_clear_tid}
 use Rattle.guest_calls.specs.Futex.{futex_by, futex_tests, futex_at, futex_value, futex_value3, futex_limit, futex_to, operation, performed, waits_for, requeues, count_woken, count_shifted}
 use Rattle.guest_calls.specs.Table.{call, table}
 use Rattle.guest_calls.proofs.AllCalls.{of_every_call, of_unless}
@@ -93,16 +93,6 @@ mmap2_effect c =
 
 abbrev mprotect_effect : Call → CallResult
 mprotect_effect c = returns c 0 ▷ remaps (λ m. with_rights m (arg c 0 / 4096) (pages (arg c 1)) (rights_of (arg c 2)))
-
-abbrev clone_effect : Call → CallResult
-clone_effect c =
-    let flags = arg c 0 in
-    let tid = c.kernel.last_tid + 1 in
-    returns c tid
-    ▷ fills_word_where (has flags sets_parent) (arg c 2) tid
-    ▷ fills_word_where (has flags sets_child) (arg c 4) tid
-    ▷ changes (with_thread tid (child_clear_tid flags (arg c 4)))
-    ▷ answers (Born tid (child_registers c.registers flags (arg c 1) (arg c 3)))
 
 or_true : (b : Bool) → (true || b) ≡ true
 or_true b = refl

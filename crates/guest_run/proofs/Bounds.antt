@@ -1,5 +1,5 @@
 -- How many moves a run has, its turns, and what is profiled of it.
-use Rattle.std.proofs.Common.{◌≡◌, ℕ, zero, suc, ◌+◌, ◌≤◌, Bool, true, false, cond, List, [], ◌∷◌, length, reverse, refl, sym, ap, ◌∙◌, inl, inr, arith}
+use Rattle.std.proofs.Common.{◌≡◌, ℕ, zero, suc, ◌+◌, ◌≤◌, Bool, true, false, cond, List, [], ◌∷◌, ◌++◌, length, length-append, reverse, refl, sym, ap, ◌∙◌, inl, inr, arith}
 use Rattle.std.specs.Prelude.{sum_by}
 use Rattle.std.specs.List.{All}
 use Rattle.std.proofs.lemmas.Bool.{cases_Bool, true≢false}
@@ -24,7 +24,7 @@ use Rattle.guest_run.specs.Machine.{Machine, guest, turn_status_of}
 use Rattle.guest_run.specs.Run.{Move, WrittenRun, Position, Chosen, by_turn, chosen_by, chosen, with_move, by_turn_status, move_of, go_on, run_from, run, start, events_of, current, recording}
 use Rattle.guest_run.specs.Run.Chosen.{Moves, Stops}
 use Rattle.guest_run.specs.Profiled.{Profiled, past_after, moves_kept, profiled}
-use Rattle.guest_run.specs.Laws.{EndsDeepExactly, StaysWithin, SpendsBudget, RecordsTurns, IsPrefix, ProfilesPart}
+use Rattle.guest_run.specs.Laws.{EndsDeepExactly, StaysWithin, SpendsBudget, RecordsProfiledTurns, RecordsTurns, IsPrefix, ProfilesPart}
 use Rattle.guest_run.proofs.Pasts.{cut-within, past_after-append, within-earlier}
 use Rattle.guest_run.proofs.Replayed.{current-over}
 
@@ -117,7 +117,7 @@ never_deep turns budget state =
 abbrev IsTurn : ℕ → Entry → Type 0
 IsTurn budget entry = (1 ≤ entry.most) × (entry.most ≤ budget)
 
-current-le : (moves : List Move) → current moves ≤ length moves
+pub current-le : (moves : List Move) → current moves ≤ length moves
 current-le [] = omega arith
 current-le (move ∷ moves) = by move.opens (current-le moves)
   where
@@ -184,6 +184,36 @@ profiles_part most past whole =
           ∙ ap (λ p. record { moves = whole.moves; past = p; finish = (profiled most past whole).finish }) (cut-within all most h)
           ∙ ap (λ b. record { moves = whole.moves; past = all; finish = cond b whole.finish Deep }) h;
       failed = λ h. ap (λ b. cond b whole.finish Deep) h;
+    }
+
+-- what begins some moves has no more of them before its next turn
+current-prefix : (moves rest : List Move) → current moves ≤ current (moves ++ rest)
+current-prefix [] rest = omega arith
+current-prefix (move ∷ moves) rest = by move.opens (current-prefix moves rest)
+  where
+    by : (b : Bool) → current moves ≤ current (moves ++ rest) → cond b 0 (suc (current moves)) ≤ cond b 0 (suc (current (moves ++ rest)))
+    by true ih = omega arith
+    by false ih = omega (arith, ih)
+
+pub profiled_within : (most : ℕ) (past : List Event) (turns : SchedulerState) (budget : ℕ) (state : MachineState) →
+    length (profiled most past (run guest turns budget state)).moves ≤ budget
+profiled_within most past turns budget state =
+    let whole = run guest turns budget state in
+    let part = profiled most past whole in
+    let begins : IsPrefix part.moves whole.moves = (profiles_part most past whole).moves in
+    let both : length (part.moves ++ begins.0) ≡ length whole.moves = ap length begins.1 in
+    omega (arith, both, length-append part.moves begins.0, stays_within guest turns budget state)
+
+pub records_profiled_turns : RecordsProfiledTurns
+records_profiled_turns most past turns budget state =
+    let whole = run guest turns budget state in
+    let part = profiled most past whole in
+    let begins : IsPrefix part.moves whole.moves = (profiles_part most past whole).moves in
+    let same : current (part.moves ++ begins.0) ≡ current whole.moves = ap current begins.1 in
+    let over : current whole.moves ≡ 0 = current-over guest budget (start turns state) refl in
+    record {
+      each = recording-each budget part.moves (profiled_within most past turns budget state);
+      all = omega (arith, recording-sum part.moves, current-prefix part.moves begins.0, same, over);
     }
 
 pub ends_deep : EndsDeepExactly

@@ -10,5 +10,8 @@ pub mod Ends
 pub mod Replayed
 pub mod Bounds
 pub mod Counted
+pub mod Guarded
+pub mod ShortParts
 pub mod Weights
 pub mod Formed
+pub mod Entries

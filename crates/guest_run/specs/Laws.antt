@@ -64,6 +64,13 @@ RecordsTurns {State} machine =
     let whole = run machine turns budget state in
     TurnsHaveMoves (recording whole.moves) (length whole.moves) budget
 
+-- So it is of what is profiled of a run of the guest.
+abbrev pub RecordsProfiledTurns : Type 0
+RecordsProfiledTurns =
+    (most : ℕ) (past : List Event) (turns : SchedulerState) (budget : ℕ) (state : MachineState) →
+    let part = profiled most past (run guest turns budget state) in
+    TurnsHaveMoves (recording part.moves) (length part.moves) budget
+
 -- the first list is what the second begins with
 abbrev pub IsPrefix : {X : Type 0} → List X → List X → Type 0
 IsPrefix {X} xs ys = (rest : List X) × (xs ++ rest ≡ ys)

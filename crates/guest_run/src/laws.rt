@@ -1,7 +1,7 @@
 //! Laws of a run: each is the contract of a function that does nothing.
-ghost use Rattle.guest_run.specs.Laws.{CountsSteps, EndsDeepExactly, ProfilesPart, RecordsTurns, ReplaysProfiled, ReplaysRun, SpendsBudget, StaysWithin, StepsWithin};
+ghost use Rattle.guest_run.specs.Laws.{CountsSteps, EndsDeepExactly, ProfilesPart, RecordsProfiledTurns, RecordsTurns, ReplaysProfiled, ReplaysRun, SpendsBudget, StaysWithin, StepsWithin};
 ghost use Rattle.guest_run.specs.Machine.{guest};
-ghost use Rattle.guest_run.specs.Traces.{EveryRunIsLight, EveryRunIsWellFormed};
+ghost use Rattle.guest_run.specs.Traces.{EveryRunIsLight, EveryRunIsOfShortParts, EveryRunIsWellFormed, EveryRunRecordsEntries};
 
 /// A run of the guest under the schedule that is its own recording is the same in all its moves and its end, and so is a
 /// profiled run, unless it ended at an entry of its schedule.
@@ -11,22 +11,31 @@ pub fn runs_replay()
 {}
 
 /// The bounds of a run of the guest: it has at most as many moves as its budget, and as many where it ends for the budget;
-/// each turn that it records has a move. What is profiled of it is a first part of it, and ends for depth exactly where an
+/// each turn that it records has a move, and so has each that what is profiled of it records. That is a first part of the run, and ends for depth exactly where an
 /// activation of the whole run is too deep. The run has a step for each move but one that faults; so what is profiled of it
 /// has at most as many steps as the budget.
 pub fn runs_stay_within()
     ensures moves { StaysWithin guest }
     ensures spent { SpendsBudget guest }
     ensures turns { RecordsTurns guest }
+    ensures profiled_turns { RecordsProfiledTurns }
     ensures profiled { ProfilesPart }
     ensures deep { EndsDeepExactly }
     ensures steps { CountsSteps }
     ensures few { StepsWithin }
 {}
 
-/// The trace of a run of the guest from its start, of at most 10^12 moves, is light enough that sizes and costs are 64-bit
-/// numbers, and well formed: each event may come where it does. So is what is profiled of it.
+/// The trace of a run of the guest from its start, cut before each step, has short parts alone. Of at most 10^12 moves, it is
+/// light enough that sizes and costs are 64-bit numbers, and well formed: each event may come where it does. So is what is
+/// profiled of it.
 pub fn traces_are_well_formed()
+    ensures short { EveryRunIsOfShortParts }
     ensures light { EveryRunIsLight }
     ensures formed { EveryRunIsWellFormed }
+{}
+
+/// The recording of a run of the guest from its start, of at most 10^12 moves, is a schedule: each turn is an entry, of a
+/// thread's number and a number of moves that its text can say. So is the recording of what is profiled of the run.
+pub fn recordings_are_schedules()
+    ensures entries { EveryRunRecordsEntries }
 {}

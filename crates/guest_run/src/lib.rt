@@ -12,7 +12,7 @@ mod traced;
 mod turn_status;
 mod turns;
 
-pub use laws::{runs_replay, runs_stay_within, traces_are_well_formed};
+pub use laws::{recordings_are_schedules, runs_replay, runs_stay_within, traces_are_well_formed};
 pub use run::{Run, run_guest};
 pub use turn_status::TurnStatus;
 

@@ -30,7 +30,7 @@ steps_more (Ret a target) past = omega arith
 steps_more (Start a entry) past = omega arith
 steps_more (End a) past = omega arith
 
-part_weight : (part : List Event) → weight part ≡ length part + sum_by count_read part
+pub part_weight : (part : List Event) → weight part ≡ length part + sum_by count_read part
 part_weight [] = refl
 part_weight (e ∷ part) = omega (arith, sum_by-cons count_read e part, weight_is e, part_weight part)
 

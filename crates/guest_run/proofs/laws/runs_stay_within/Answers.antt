@@ -1,5 +1,5 @@
 use Rattle.guest_run.specs.Machine.{guest}
-use Rattle.guest_run.proofs.Bounds.{ends_deep, profiles_part, records_turns, spends_budget, stays_within}
+use Rattle.guest_run.proofs.Bounds.{ends_deep, profiles_part, records_profiled_turns, records_turns, spends_budget, stays_within}
 use Rattle.guest_run.proofs.Counted.{counts_steps, steps_within}
 use Rattle.guest_run.proofs.laws.runs_stay_within.Goals as goal
 
@@ -11,6 +11,9 @@ returns-clause-spent c = spends_budget
 
 pub returns-clause-turns : goal.returns-clause-turns
 returns-clause-turns c = records_turns guest
+
+pub returns-clause-profiled_turns : goal.returns-clause-profiled_turns
+returns-clause-profiled_turns c = records_profiled_turns
 
 pub returns-clause-profiled : goal.returns-clause-profiled
 returns-clause-profiled c = profiles_part

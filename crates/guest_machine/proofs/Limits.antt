@@ -1,0 +1,72 @@
+-- How many threads live after a step, and which numbers they have.
+use Rattle.std.proofs.Common.{◌≡◌, ℕ, ◌+◌, ◌≤◌, List, [], ◌∷◌, ◌++◌, length, length-append, ap, sym, ◌∙◌, arith, Ok, Err}
+use Rattle.std.specs.Prelude.{Result}
+use Rattle.std.proofs.lemmas.List.{length-map}
+use Rattle.guest_words.specs.declared.endings.FaultKind.{FaultKind}
+use Rattle.rv_isa.specs.declared.instruction.Instr.{Instr}
+use Rattle.rv_exec.specs.Effects.{ExecState, effect}
+use Rattle.rv_exec.specs.Registers.{Registers}
+use Rattle.rv_exec.specs.declared.outcome.Outcome.{Outcome}
+use Rattle.rv_exec.specs.declared.outcome.Outcome.TheVariants as outcome
+use Rattle.guest_calls.specs.declared.answer.Answer.{Answer}
+use Rattle.guest_calls.specs.declared.answer.Answer.TheVariants.{Back, Yield, Block, ThreadEnd, ProcessEnd, Born}
+use Rattle.guest_calls.specs.declared.thread.Thread.{Thread}
+use Rattle.guest_calls.specs.Kernel.{KernelState}
+use Rattle.guest_calls.specs.Laws.{GivesNumber}
+use Rattle.guest_calls.specs.Table.{call}
+use Rattle.guest_calls.proofs.Births.{number_left, room_left}
+use Rattle.guest_calls.proofs.Numbers.{every_call_numbers}
+use Rattle.guest_machine.specs.declared.hart.Hart.{Hart}
+use Rattle.guest_machine.specs.Laws.{EveryStepStaysWithinLimits, IsWithinLimits}
+use Rattle.guest_machine.specs.Machine.{MachineState, registers_of, with_registers}
+use Rattle.guest_machine.specs.Step.{after_effect, call_of, exec_state_of, executed, harts_after, next_instruction, resumed, step}
+use Rattle.guest_machine.proofs.Holders.{fewer_or_same}
+use Rattle.guest_machine.proofs.Weights.{harts_kept}
+
+few_after : (answer : Answer) (harts : List Hart) (tid : ℕ) (r : Registers) (old new : KernelState) →
+    GivesNumber answer old new → length harts ≡ length old.threads → length harts ≤ 32 →
+    length (harts_after answer harts tid r) ≤ 32
+few_after (Back value) harts tid r old new given same few = omega (arith, harts_kept harts tid (resumed r value), few)
+few_after Yield harts tid r old new given same few = omega (arith, harts_kept harts tid (resumed r 0), few)
+few_after Block harts tid r old new given same few = omega (arith, harts_kept harts tid (resumed r 0), few)
+few_after ThreadEnd harts tid r old new given same few = omega (arith, fewer_or_same harts tid, few)
+few_after (ProcessEnd status) harts tid r old new given same few = omega arith
+few_after (Born child registers) harts tid r old new given same few =
+    let others = with_registers harts tid (resumed r child) in
+    let one : length (others ++ record { tid = child; cpu = registers } ∷ []) ≡ length others + 1 = length-append others (record { tid = child; cpu = registers } ∷ []) in
+    omega (arith, one, harts_kept harts tid (resumed r child), same, room_left old given.2)
+
+last_after : (answer : Answer) (old new : KernelState) → GivesNumber answer old new → old.last_tid ≤ 4194303 →
+    new.last_tid ≤ 4194303
+last_after (Back value) old new given within = omega (arith, given, within)
+last_after Yield old new given within = omega (arith, given, within)
+last_after Block old new given within = omega (arith, given, within)
+last_after ThreadEnd old new given within = omega (arith, given, within)
+last_after (ProcessEnd status) old new given within = omega (arith, given, within)
+last_after (Born child registers) old new given within = omega (arith, given.0, given.1, number_left old given.2 within)
+
+effect_within : (m : MachineState) (tid : ℕ) (i : Instr) (given : Outcome × ExecState) →
+    length m.harts ≡ length m.kernel.threads → IsWithinLimits m → IsWithinLimits (after_effect m tid i given).machine
+effect_within m tid i (outcome.Went accessed, c) same within = record {
+  few = omega (arith, harts_kept m.harts tid c.registers, within.few);
+  last = within.last;
+}
+effect_within m tid i (outcome.Fault kind, c) same within = within
+effect_within m tid i (outcome.KernelCall, c) same within =
+    let r = call (call_of m tid) in
+    let given = every_call_numbers (call_of m tid) in
+    record {
+      few = few_after r.answer m.harts tid (registers_of m.harts tid) m.kernel r.kernel given same within.few;
+      last = last_after r.answer m.kernel r.kernel given within.last;
+    }
+
+executed_within : (m : MachineState) (tid : ℕ) (found : Result Instr FaultKind) →
+    length m.harts ≡ length m.kernel.threads → IsWithinLimits m → IsWithinLimits (executed m tid found).machine
+executed_within m tid (Ok i) same within = effect_within m tid i (effect tid i (exec_state_of m tid)) same within
+executed_within m tid (Err kind) same within = within
+
+pub every_step_within : EveryStepStaysWithinLimits
+unfolding step
+every_step_within m tid same within =
+    let count : length m.harts ≡ length m.kernel.threads = sym (length-map m.harts (λ (h : Hart). h.tid)) ∙ ap length same ∙ length-map m.kernel.threads (λ (t : Thread). t.tid) in
+    executed_within m tid (next_instruction m tid) count within
