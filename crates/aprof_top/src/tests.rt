@@ -1,7 +1,9 @@
 //! The top call over files and sinks in memory.
 use crate::aprof;
 use crate::failures::{FAILURES, Failing, NOWHERE};
-use crate::worked::{GUESTS, Guest, Left, NOTHING, PLAIN};
+use crate::worked::{
+    CALLS, ENDS, Guest, IMAGES, Left, NOTHING, PLAIN, ROUTINES, SCHEDULES, THREADED, THREADS,
+};
 use crate::worked_code::BOTH_OUTPUTS;
 use host_io::{MemoryFiles, MemorySink};
 use std::alloc::{AllocError, Global};
@@ -85,38 +87,71 @@ fn assert_left(rt: &impl Abort, name: &str, seen: &Seen, left: &Left) {
     assert_eq!(rt; seen.files.bytes("k"), recording, "recording: {name}");
 }
 
-#[test]
-fn worked_guests_leave_what_they_should(rt: HostRuntime) -> Result<(), Fail> {
-    for guest in GUESTS {
-        let seen = call_guest(rt.alloc(), guest, NOWHERE)?;
-        assert_left(&rt, guest.name, &seen, &guest.left);
+// Each of these guests leaves what it should.
+fn run_guests(rt: &impl Abort, alloc: Global, guests: &[Guest]) -> Result<(), AllocError> {
+    for guest in guests {
+        let seen = call_guest(alloc, guest, NOWHERE)?;
+        assert_left(rt, guest.name, &seen, &guest.left);
     }
     Ok(())
 }
 
-// Each guest that was recorded runs again, by just what it stored.
+#[test]
+fn routines_have_their_names_sizes_and_costs(rt: HostRuntime) -> Result<(), Fail> {
+    run_guests(&rt, rt.alloc(), ROUTINES)?;
+    Ok(())
+}
+
+#[test]
+fn calls_of_the_kernel_are_served(rt: HostRuntime) -> Result<(), Fail> {
+    run_guests(&rt, rt.alloc(), CALLS)?;
+    Ok(())
+}
+
+#[test]
+fn faults_budgets_and_deadlocks_end_a_run(rt: HostRuntime) -> Result<(), Fail> {
+    run_guests(&rt, rt.alloc(), ENDS)?;
+    Ok(())
+}
+
+#[test]
+fn threads_see_what_others_write(rt: HostRuntime) -> Result<(), Fail> {
+    run_guests(&rt, rt.alloc(), THREADS)?;
+    Ok(())
+}
+
+#[test]
+fn schedules_give_the_turns(rt: HostRuntime) -> Result<(), Fail> {
+    run_guests(&rt, rt.alloc(), SCHEDULES)?;
+    Ok(())
+}
+
+#[test]
+fn images_are_refused(rt: HostRuntime) -> Result<(), Fail> {
+    run_guests(&rt, rt.alloc(), IMAGES)?;
+    Ok(())
+}
+
+// The threaded program runs again, by just what its first run stored.
 #[test]
 fn a_run_under_its_own_recording_is_the_same(rt: HostRuntime) -> Result<(), Fail> {
-    for guest in GUESTS {
-        if guest.left.recording.is_some() {
-            let seen = call_guest(rt.alloc(), guest, NOWHERE)?;
-            let recording = seen.files.bytes("k").unwrap_or(b"");
-            let image = image_of(rt.alloc(), guest)?;
-            let texts = &[
-                "aprof",
-                "run",
-                "--schedule",
-                "c",
-                "--record",
-                "k",
-                "-o",
-                "r",
-                "img",
-            ];
-            let again = call(rt.alloc(), texts, image.as_slice(), recording, NOWHERE)?;
-            assert_left(&rt, guest.name, &again, &guest.left);
-        }
-    }
+    let first = call_guest(rt.alloc(), &THREADED, NOWHERE)?;
+    let recording = first.files.bytes("k").unwrap_or(b"");
+    let image = image_of(rt.alloc(), &THREADED)?;
+    let texts = &[
+        "aprof",
+        "run",
+        "--schedule",
+        "c",
+        "--record",
+        "k",
+        "-o",
+        "r",
+        "img",
+    ];
+    let second = call(rt.alloc(), texts, image.as_slice(), recording, NOWHERE)?;
+    assert_left(&rt, "the first run", &first, &THREADED.left);
+    assert_left(&rt, "the second run", &second, &THREADED.left);
     Ok(())
 }
 
@@ -189,12 +224,8 @@ fn a_failed_put_stores_nothing(rt: HostRuntime) -> Result<(), Fail> {
         err: "aprof: cannot write\n",
         ..NOTHING
     };
-    for guest in GUESTS {
-        if guest.left.out == "ok\n" {
-            let seen = call_guest(rt.alloc(), guest, failing)?;
-            assert_left(&rt, guest.name, &seen, &left);
-        }
-    }
+    let seen = call_guest(rt.alloc(), &THREADED, failing)?;
+    assert_left(&rt, THREADED.name, &seen, &left);
     Ok(())
 }
 
@@ -229,15 +260,11 @@ fn the_demo_is_summed_up(rt: HostRuntime) -> Result<(), Fail> {
 // Where an allocation is refused, by `rt try --test --fail-alloc N`, the status is that of want of memory.
 #[test]
 fn want_of_memory_has_its_own_status(rt: HostRuntime) {
-    for guest in GUESTS {
-        if guest.left.out == "ok\n" {
-            if let Ok(seen) = call_guest(rt.alloc(), guest, NOWHERE) {
-                assert!(rt; seen.status == 0 || seen.status == 10, "{}", guest.name);
-                if seen.status == 10 {
-                    assert!(rt; b"ok\n".starts_with(seen.out.bytes()));
-                    assert!(rt; b"aprof: out of memory\n".starts_with(seen.err.bytes()));
-                }
-            }
+    if let Ok(seen) = call_guest(rt.alloc(), &THREADED, NOWHERE) {
+        assert!(rt; seen.status == 0 || seen.status == 10);
+        if seen.status == 10 {
+            assert!(rt; b"ok\n".starts_with(seen.out.bytes()));
+            assert!(rt; b"aprof: out of memory\n".starts_with(seen.err.bytes()));
         }
     }
 }

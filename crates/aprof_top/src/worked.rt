@@ -60,7 +60,24 @@ pub(crate) const PLAIN: Guest = Guest {
     left: NOTHING,
 };
 
-pub(crate) const GUESTS: &[Guest] = &[
+/// It is run again by what it records.
+pub(crate) const THREADED: Guest = Guest {
+    name: "a threaded program",
+    options: &["--record", "k"],
+    code: THREADED_PROGRAM,
+    left: Left {
+        out: "ok\n",
+        report: Some(
+            "aprof 1\nend exit 0\nsteps 62\nopen 0\nroutine 00010054 -\n4 1 48 48 48\nroutine 000100bc -\n0 1 14 14 14\ndone 2\n",
+        ),
+        recording: Some("1 32\n2 14\n1 16\n"),
+        ..NOTHING
+    },
+    ..PLAIN
+};
+
+/// Routines, their sizes and their costs.
+pub(crate) const ROUTINES: &[Guest] = &[
     Guest {
         name: "the smallest guest",
         left: Left {
@@ -152,19 +169,10 @@ pub(crate) const GUESTS: &[Guest] = &[
         },
         ..PLAIN
     },
-    Guest {
-        name: "a fault at once",
-        options: &["--record", "k"],
-        code: ILLEGAL,
-        left: Left {
-            status: 5,
-            err: "aprof: fault 1 thread 1 at 00010054\n",
-            report: Some("aprof 1\nend fault 1 1 00010054\nsteps 0\nopen 1\ndone 0\n"),
-            recording: Some("1 1\n"),
-            ..NOTHING
-        },
-        ..PLAIN
-    },
+];
+
+/// Calls of the kernel.
+pub(crate) const CALLS: &[Guest] = &[
     Guest {
         name: "induced by the kernel",
         options: &["--stdin", "s"],
@@ -173,18 +181,6 @@ pub(crate) const GUESTS: &[Guest] = &[
             report: Some(
                 "aprof 1\nend exit 0\nsteps 17\nopen 0\nroutine 00010054 -\n4 1 17 17 17\nroutine 00010074 -\n4 1 9 9 9\ndone 2\n",
             ),
-            ..NOTHING
-        },
-        ..PLAIN
-    },
-    Guest {
-        name: "the budget",
-        options: &["--budget", "5"],
-        code: ENDLESS,
-        left: Left {
-            status: 6,
-            err: "aprof: budget\n",
-            report: Some("aprof 1\nend budget\nsteps 5\nopen 1\ndone 0\n"),
             ..NOTHING
         },
         ..PLAIN
@@ -224,6 +220,50 @@ pub(crate) const GUESTS: &[Guest] = &[
         },
         ..PLAIN
     },
+];
+
+/// Runs that end otherwise than by an exit.
+pub(crate) const ENDS: &[Guest] = &[
+    Guest {
+        name: "a fault at once",
+        options: &["--record", "k"],
+        code: ILLEGAL,
+        left: Left {
+            status: 5,
+            err: "aprof: fault 1 thread 1 at 00010054\n",
+            report: Some("aprof 1\nend fault 1 1 00010054\nsteps 0\nopen 1\ndone 0\n"),
+            recording: Some("1 1\n"),
+            ..NOTHING
+        },
+        ..PLAIN
+    },
+    Guest {
+        name: "the budget",
+        options: &["--budget", "5"],
+        code: ENDLESS,
+        left: Left {
+            status: 6,
+            err: "aprof: budget\n",
+            report: Some("aprof 1\nend budget\nsteps 5\nopen 1\ndone 0\n"),
+            ..NOTHING
+        },
+        ..PLAIN
+    },
+    Guest {
+        name: "deadlock",
+        code: DEADLOCK,
+        left: Left {
+            status: 7,
+            err: "aprof: deadlock\n",
+            report: Some("aprof 1\nend deadlock\nsteps 11\nopen 2\ndone 0\n"),
+            ..NOTHING
+        },
+        ..PLAIN
+    },
+];
+
+/// More than one thread.
+pub(crate) const THREADS: &[Guest] = &[
     Guest {
         name: "another thread, which writes too late",
         code: FOREIGN_WRITE,
@@ -271,17 +311,11 @@ pub(crate) const GUESTS: &[Guest] = &[
         },
         ..PLAIN
     },
-    Guest {
-        name: "deadlock",
-        code: DEADLOCK,
-        left: Left {
-            status: 7,
-            err: "aprof: deadlock\n",
-            report: Some("aprof 1\nend deadlock\nsteps 11\nopen 2\ndone 0\n"),
-            ..NOTHING
-        },
-        ..PLAIN
-    },
+    THREADED,
+];
+
+/// Turns that are recorded, or given by a schedule.
+pub(crate) const SCHEDULES: &[Guest] = &[
     Guest {
         name: "two threads, no schedule",
         options: &["--record", "k"],
@@ -336,20 +370,6 @@ pub(crate) const GUESTS: &[Guest] = &[
         ..PLAIN
     },
     Guest {
-        name: "a threaded program",
-        options: &["--record", "k"],
-        code: THREADED_PROGRAM,
-        left: Left {
-            out: "ok\n",
-            report: Some(
-                "aprof 1\nend exit 0\nsteps 62\nopen 0\nroutine 00010054 -\n4 1 48 48 48\nroutine 000100bc -\n0 1 14 14 14\ndone 2\n",
-            ),
-            recording: Some("1 32\n2 14\n1 16\n"),
-            ..NOTHING
-        },
-        ..PLAIN
-    },
-    Guest {
         name: "a threaded program under its own recording",
         options: &["--schedule", "c", "--record", "k"],
         schedule: "1 32\n2 14\n1 16\n",
@@ -364,6 +384,10 @@ pub(crate) const GUESTS: &[Guest] = &[
         },
         ..PLAIN
     },
+];
+
+/// Images that are refused.
+pub(crate) const IMAGES: &[Guest] = &[
     Guest {
         name: "an image that is too short",
         size: 51,
