@@ -76,15 +76,19 @@ fn call_guest(alloc: Global, guest: &Guest, failing: Failing) -> Result<Seen, Al
     )
 }
 
+fn text_of(bytes: &[u8]) -> &str {
+    str::from_utf8(bytes).unwrap_or("no text")
+}
+
 // The call of this name left just this.
 fn assert_left(rt: &impl Abort, name: &str, seen: &Seen, left: &Left) {
     assert_eq!(rt; seen.status, left.status, "status: {name}");
-    assert_eq!(rt; seen.out.bytes(), left.out.as_bytes(), "out: {name}");
-    assert_eq!(rt; seen.err.bytes(), left.err.as_bytes(), "err: {name}");
-    let report = left.report.map(|text| text.as_bytes());
-    assert_eq!(rt; seen.files.bytes("r"), report, "report: {name}");
-    let recording = left.recording.map(|text| text.as_bytes());
-    assert_eq!(rt; seen.files.bytes("k"), recording, "recording: {name}");
+    assert_eq!(rt; text_of(seen.out.bytes()), left.out, "out: {name}");
+    assert_eq!(rt; text_of(seen.err.bytes()), left.err, "err: {name}");
+    let report = seen.files.bytes("r").map(text_of);
+    assert_eq!(rt; report, left.report, "report: {name}");
+    let recording = seen.files.bytes("k").map(text_of);
+    assert_eq!(rt; recording, left.recording, "recording: {name}");
 }
 
 // Each of these guests leaves what it should.

@@ -401,7 +401,6 @@ pub(crate) const IMAGES: &[Guest] = &[
     Guest {
         name: "an image with flags",
         file_header: FLAGGED_FILE_HEADER,
-        size: 96,
         left: Left {
             status: 3,
             err: "aprof: image 8\n",
