@@ -18,6 +18,12 @@ pub use laws::a_run_has_one_outcome;
 pub use top::aprof;
 
 #[cfg(test)]
+mod failures;
+#[cfg(test)]
 mod tests;
 #[cfg(test)]
 mod worked;
+#[cfg(test)]
+mod worked_code;
+#[cfg(test)]
+mod worked_images;

@@ -1,0 +1,165 @@
+//! Failures of the outside, and what a call leaves then.
+use crate::worked::{Left, NOTHING};
+
+/// The load or store that fails, and the puts that do, each by its number among its like. No call has the number `NEVER`.
+#[derive(Clone, Copy)]
+pub(crate) struct Failing {
+    pub(crate) file: u64,
+    pub(crate) out: u64,
+    pub(crate) err: u64,
+}
+
+/// What fails, and what is left then of a guest that puts `out` and `err` on the sinks of these names.
+pub(crate) struct Failure {
+    pub(crate) name: &'static str,
+    pub(crate) failing: Failing,
+    pub(crate) left: Left,
+}
+
+pub(crate) const NEVER: u64 = 99;
+
+/// Nothing fails.
+pub(crate) const NOWHERE: Failing = Failing {
+    file: NEVER,
+    out: NEVER,
+    err: NEVER,
+};
+
+// Where nothing fails. Of the text of each put the report counts one word.
+const WHOLE: Left = Left {
+    status: 0,
+    out: "out\n",
+    err: "err\n",
+    report: Some(
+        "aprof 1\nend exit 0\nsteps 12\nopen 0\nroutine 00010054 -\n2 1 12 12 12\ndone 1\n",
+    ),
+    recording: Some("1 12\n"),
+};
+
+/// All loads come before the first put, in order, the puts before the first store, and the recording is stored before the
+/// report. A put that fails gets half of its text through.
+pub(crate) const FAILURES: &[Failure] = &[
+    Failure {
+        name: "nothing",
+        failing: NOWHERE,
+        left: WHOLE,
+    },
+    Failure {
+        name: "the load of the image",
+        failing: Failing { file: 0, ..NOWHERE },
+        left: Left {
+            status: 2,
+            err: "aprof: cannot read img\n",
+            ..NOTHING
+        },
+    },
+    Failure {
+        name: "the load of the input file",
+        failing: Failing { file: 1, ..NOWHERE },
+        left: Left {
+            status: 2,
+            err: "aprof: cannot read in.txt\n",
+            ..NOTHING
+        },
+    },
+    Failure {
+        name: "the load of the standard input",
+        failing: Failing { file: 2, ..NOWHERE },
+        left: Left {
+            status: 2,
+            err: "aprof: cannot read s\n",
+            ..NOTHING
+        },
+    },
+    Failure {
+        name: "the load of the schedule",
+        failing: Failing { file: 3, ..NOWHERE },
+        left: Left {
+            status: 2,
+            err: "aprof: cannot read c\n",
+            ..NOTHING
+        },
+    },
+    Failure {
+        name: "the put on out",
+        failing: Failing { out: 0, ..NOWHERE },
+        left: Left {
+            status: 4,
+            out: "ou",
+            err: "aprof: cannot write\n",
+            ..NOTHING
+        },
+    },
+    Failure {
+        name: "the put on err",
+        failing: Failing { err: 0, ..NOWHERE },
+        left: Left {
+            status: 4,
+            out: "out\n",
+            err: "er",
+            ..NOTHING
+        },
+    },
+    Failure {
+        name: "the store of the recording",
+        failing: Failing { file: 4, ..NOWHERE },
+        left: Left {
+            status: 4,
+            err: "err\naprof: cannot write\n",
+            report: None,
+            recording: None,
+            ..WHOLE
+        },
+    },
+    Failure {
+        name: "the store of the report",
+        failing: Failing { file: 5, ..NOWHERE },
+        left: Left {
+            status: 4,
+            err: "err\naprof: cannot write\n",
+            report: None,
+            ..WHOLE
+        },
+    },
+    Failure {
+        name: "the load of the image, and the put of the last text",
+        failing: Failing {
+            file: 0,
+            err: 0,
+            ..NOWHERE
+        },
+        left: Left {
+            status: 2,
+            err: "aprof: cann",
+            ..NOTHING
+        },
+    },
+    Failure {
+        name: "the puts on out and of the last text",
+        failing: Failing {
+            out: 0,
+            err: 0,
+            ..NOWHERE
+        },
+        left: Left {
+            status: 4,
+            out: "ou",
+            err: "aprof: can",
+            ..NOTHING
+        },
+    },
+    Failure {
+        name: "the store of the report, and the put of the last text",
+        failing: Failing {
+            file: 5,
+            err: 1,
+            ..NOWHERE
+        },
+        left: Left {
+            status: 4,
+            err: "err\naprof: can",
+            report: None,
+            ..WHOLE
+        },
+    },
+];
