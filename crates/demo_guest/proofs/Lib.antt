@@ -8,3 +8,4 @@ mod Ready
 mod Resolved
 mod Whole
 mod Sizes
+mod OneFile

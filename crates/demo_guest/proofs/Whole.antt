@@ -1,8 +1,9 @@
 -- The demo's program is accepted, and its words stand for the demo's instructions.
-use Rattle.std.proofs.Common.{rules, ◌≡◌, ℕ, ◌+◌, ◌*◌, ◌≤◌, ◌<◌, List, ◌++◌, length, map, get_or, Some, Option, true, refl, ap, ap₂, subst, sym, ◌∙◌, arith}
-use Rattle.std.specs.List.{flat_map, range_with_len}
+use Rattle.std.proofs.Common.{rules, ◌≡◌, ℕ, ◌+◌, ◌*◌, ◌≤◌, ◌<◌, ◌^◌, List, [], ◌∷◌, suc, None, ◌++◌, length, map, get_or, Some, Option, true, refl, ap, ap₂, subst, sym, ◌∙◌, arith}
+use Rattle.std.specs.List.{AllByRecursion, flat_map, range_with_len}
 use Rattle.std.proofs.lemmas.List.FromFn.{length-range_with_len}
 use Rattle.rv_isa.specs.declared.instruction.Instr.{Instr}
+use Rattle.rv_isa.specs.declared.instruction.Instr.TheVariants.{Ecall}
 use Rattle.rv_isa.specs.Encoding.{IsEncodable}
 use Rattle.rv_isa.specs.Table.{decoded}
 use Rattle.rv_asm.specs.declared.line.Line.{Line}
@@ -83,3 +84,11 @@ words_are n d words is bound done =
     = λ k inside line. (let same : k ≡ 0 + k = omega arith in
     subst (λ (a : ℕ). decoded (get_or words k 0) ≡ Some (instruction_at d.bindings a (get_or d.lines k line))) same (done.each k inside line).decoded) in
     all_decoded d.bindings 0 d.lines words done.count each ∙ ap (map Some) (ap (resolved d.bindings 0) is ∙ whole n d.bindings bound)
+
+fit_at : (words : List ℕ) → ((k : ℕ) → k < length words → get_or words k 0 < 2 ^ 32) → AllByRecursion (λ word. word < 2 ^ 32) words
+fit_at [] each = tt
+fit_at (word ∷ words) each = (each 0 (omega arith), fit_at words (λ k inside. each (suc k) (omega (arith, inside))))
+
+-- the words have 32 bits
+pub words_fit : (d : Draft) (words : List ℕ) → AreAssembled d words → AllByRecursion (λ word. word < 2 ^ 32) words
+words_fit d words done = fit_at words (λ k inside. (done.each k (omega (arith, inside, done.count)) (record { instruction = Ecall; to = None })).fits)

@@ -1,6 +1,6 @@
 -- The executable of the demo.
-use Rattle.std.specs.Prelude.{◌≡◌, ℕ, ◌+◌, ◌*◌, List, ◌∷◌, map, codes, decimal, Some}
-use Rattle.std.specs.List.{range_with_len}
+use Rattle.std.specs.Prelude.{◌≡◌, ℕ, ◌+◌, ◌*◌, ◌<◌, ◌^◌, List, ◌∷◌, map, codes, decimal, Some}
+use Rattle.std.specs.List.{AllByRecursion, range_with_len}
 use Rattle.rv_isa.specs.Table.{decoded}
 use Rattle.rv_asm.specs.declared.executable.Symbol.{Symbol}
 use Rattle.rv_asm.specs.Executable.{executable}
@@ -23,5 +23,10 @@ symbols routines =
 -- A file is the executable of words that stand for the instructions, one for each, with the symbols.
 pub record IsDemoFile (routines : ℕ) (file : List ℕ) : Type 0 where
   pub words : List ℕ
+  pub fit : AllByRecursion (λ word. word < 2 ^ 32) words
   pub instructions : map decoded words ≡ map Some (instructions routines)
   pub written : file ≡ executable words (symbols routines)
+
+-- there is one such file
+abbrev pub OneDemoFile : Type 0
+OneDemoFile = (routines : ℕ) (file other : List ℕ) → IsDemoFile routines file → IsDemoFile routines other → file ≡ other

@@ -1,6 +1,6 @@
 //! The code of the demo.
-ghost use Rattle.std.specs.Prelude.{◌≡◌, ℕ, ◌≤◌, ◌<◌, ◌+◌, ◌*◌, ◌++◌, [], length, map, pos, None, Some, IfOk, OnOk, All};
-ghost use Rattle.std.specs.List.{flat_map, range_with_len};
+ghost use Rattle.std.specs.Prelude.{◌≡◌, ℕ, ◌≤◌, ◌<◌, ◌+◌, ◌*◌, ◌^◌, ◌++◌, [], length, map, pos, None, Some, IfOk, OnOk, All};
+ghost use Rattle.std.specs.List.{AllByRecursion, flat_map, range_with_len};
 ghost use Rattle.rv_isa.specs.Table.{decoded};
 ghost use Rattle.rv_isa.specs.declared.instruction.ImmOp.TheVariants.{Addi};
 ghost use Rattle.rv_isa.specs.declared.instruction.Instr.TheVariants.{Immediate, Jal};
@@ -198,7 +198,8 @@ fn demo_program(alloc: Global, routines: u32) -> Result<Builder, AllocError>
 /// The code of the demo with so many routines.
 pub(crate) fn code(alloc: Global, routines: u32) -> Result<Code, AllocError>
     requires { routines ≤ 40000 }
-    ensures { IfOk result (λ code. map decoded code ≡ map Some (instructions routines)) }
+    ensures words { IfOk result (λ code. map decoded code ≡ map Some (instructions routines)) }
+    ensures fit { IfOk result (λ code. AllByRecursion (λ word. word < 2 ^ 32) code) }
 {
     finish(demo_program(alloc, routines)?)
 }

@@ -3,11 +3,12 @@ ghost use Rattle.std.specs.Prelude.{◌≡◌, ◌≤◌, None, IfOk};
 ghost use Rattle.elf_image.specs.Image.{page_count};
 ghost use Rattle.elf_image.specs.Reading.{image_of};
 ghost use Rattle.elf_image.specs.Tests.{first_refusal};
-ghost use Rattle.demo_guest.specs.Image.{IsDemoFile};
+ghost use Rattle.demo_guest.specs.Image.{IsDemoFile, OneDemoFile};
 
 use crate::code::code;
 use crate::names::symbols;
 use rv_asm::write_exec;
+use rv_isa::one_word_for_an_instruction;
 use std::alloc::{AllocError, Global};
 use written_images::written_files_are_accepted;
 
@@ -22,4 +23,11 @@ pub fn demo_image(alloc: Global, routines: u32) -> Result<Vec<u8>, AllocError>
     let symbols = symbols(alloc, routines)?;
     written_files_are_accepted();
     write_exec(alloc, &code, &symbols)
+}
+
+/// The demo has one executable: the instructions leave no choice of words.
+pub fn a_demo_has_one_file()
+    ensures { OneDemoFile }
+{
+    one_word_for_an_instruction();
 }

@@ -7,7 +7,7 @@ mod demo;
 mod names;
 mod program;
 
-pub use demo::demo_image;
+pub use demo::{a_demo_has_one_file, demo_image};
 
 #[cfg(test)]
 mod tests;

@@ -1,5 +1,5 @@
 -- What the lines of a draft stand for, once all labels are bound.
-use Rattle.std.specs.Prelude.{◌≡◌, ℕ, ◌*◌, ◌<◌, ℤ, pos, ◌-ℤ◌, List, length, slice_index, slice_index_or, Option, Some, None, unwrap_or}
+use Rattle.std.specs.Prelude.{◌≡◌, ℕ, ◌*◌, ◌<◌, ◌^◌, ℤ, pos, ◌-ℤ◌, List, length, slice_index, slice_index_or, Option, Some, None, unwrap_or}
 use Rattle.rv_isa.specs.declared.instruction.Instr.{Instr}
 use Rattle.rv_isa.specs.declared.instruction.Instr.TheVariants.{Fence, FenceI}
 use Rattle.std.specs.Option.{option_map_or}
@@ -25,8 +25,10 @@ abbrev pub instruction_at : List (Option ℕ) → ℕ → Line → Instr
 instruction_at bindings at line =
     option_map_or (λ label. with_offset line.instruction (label_offset bindings at label)) line.to line.instruction
 
--- A word is the one that is written for an instruction: it stands for it, and those of the fences are these of several.
+-- A word of 32 bits is the one that is written for an instruction: it stands for it, and those of the fences are these of
+-- several.
 pub record IsWordOf (instruction : Instr) (word : ℕ) : Type 0 where
+  pub fits : word < 2 ^ 32
   pub decoded : decoded word ≡ Some instruction
   pub fence : instruction ≡ Fence → word ≡ 0x0FF0000F
   pub fence_i : instruction ≡ FenceI → word ≡ 0x0000100F

@@ -1,6 +1,6 @@
 -- The instruction table of RV32IMA and FENCE.I: the RISC-V Instruction Set Manual, Volume I: Unprivileged
 -- Architecture, chapter "RV32/64G Instruction Set Listings", in its order and by its extensions.
-use Rattle.std.specs.Prelude.{◌≡◌, ℕ, ℤ, pos, Bool, false, IsTrue, All, AllPairs, nat_eq, bit_and, Option, Some, None, List, [], ◌∷◌, if◌then◌else◌}
+use Rattle.std.specs.Prelude.{◌≡◌, ◌≢◌, ◌<◌, ◌^◌, ℕ, ℤ, pos, Bool, false, IsTrue, All, AllPairs, nat_eq, bit_and, Option, Some, None, List, [], ◌∷◌, if◌then◌else◌}
 use Rattle.rv_isa.specs.Fields.{rd, rs1, rs2, order, immediate_i, immediate_s, immediate_b, immediate_u, immediate_j}
 use Rattle.rv_isa.specs.declared.instruction.Test.TheVariants.{Eq, Ne, Lt, Ge, Ltu, Geu}
 use Rattle.rv_isa.specs.declared.instruction.LoadKind.TheVariants.{Lb, Lh, Lw, Lbu, Lhu}
@@ -154,3 +154,8 @@ NoRowNoInstruction = (inst : ℕ) → All (λ r. fits inst r ≡ false) table �
 -- a match has no bit that its mask leaves out, so that some word fits the row
 abbrev pub EachRowHasAWord : Type 0
 EachRowHasAWord = All (λ r. IsTrue (fits r.«match» r)) table
+
+-- but for the fences, whose other fields are ignored, no two words stand for one instruction
+abbrev pub OneWordForAnInstruction : Type 0
+OneWordForAnInstruction =
+    (w v : ℕ) (i : Instr) → w < 2 ^ 32 → v < 2 ^ 32 → decoded w ≡ Some i → decoded v ≡ Some i → i ≢ Fence → i ≢ FenceI → w ≡ v
