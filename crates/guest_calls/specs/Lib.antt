@@ -1,10 +1,10 @@
+-- What a reader has to believe.
 pub mod Clone
 pub mod Errors
 pub mod Files
 pub mod Futex
 pub mod Inputs
 pub mod Invariant
-pub mod IoVecRefusal
 pub mod Kernel
 pub mod Laws
 pub mod Outcome
@@ -15,3 +15,5 @@ pub mod State
 pub mod Table
 pub mod Threads
 pub mod Vectors
+-- What the private parts owe one another.
+pub mod IoVecRefusal

@@ -1,9 +1,11 @@
+-- What a reader has to believe.
 pub mod Machine
 pub mod Start
 pub mod Step
 pub mod Kept
 pub mod Sound
-pub mod HartIndex
 pub mod Parts
 pub mod Setup
 pub mod Laws
+-- What the private parts owe one another.
+pub mod HartIndex

@@ -1,4 +1,6 @@
+-- What a reader has to believe.
 pub mod Encoding
 pub mod Fields
-pub mod Formats
 pub mod Table
+-- What the private parts owe one another.
+pub mod Formats
