@@ -11,9 +11,9 @@ pub fn runs_replay()
 {}
 
 /// The bounds of a run of the guest: it has at most as many moves as its budget, and as many where it ends for the budget;
-/// each turn that it records has a move, and so has each that what is profiled of it records. That is a first part of the run, and ends for depth exactly where an
-/// activation of the whole run is too deep. The run has a step for each move but one that faults; so what is profiled of it
-/// has at most as many steps as the budget.
+/// each turn that it records has a move, and so has each turn of what is profiled of it. That is a first part of the run, and
+/// ends for depth exactly where an activation of the whole run is too deep. The run has a step for each move but one that
+/// faults; so what is profiled of it has at most as many steps as the budget.
 pub fn runs_stay_within()
     ensures moves { StaysWithin guest }
     ensures spent { SpendsBudget guest }
