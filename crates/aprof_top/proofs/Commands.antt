@@ -43,7 +43,7 @@ loading_stage options files path few next =
     test : (a b : ℕ) → a < b → nat_lt a b ≡ true
     test a b less = grind (arith, nat_tests, less)
 
-complete_stage : (options : RunOptions) (files : List (List ℕ)) → passes_limit (shared_count options) files ≡ false → length files ≡ length (loaded_paths options) → stage options files ≡ Complete
+pub complete_stage : (options : RunOptions) (files : List (List ℕ)) → passes_limit (shared_count options) files ≡ false → length files ≡ length (loaded_paths options) → stage options files ≡ Complete
 complete_stage options files few all =
     stage_by options files false false few (test (length files) (length (loaded_paths options)) all)
   where

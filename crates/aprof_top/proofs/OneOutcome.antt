@@ -1,15 +1,20 @@
--- The files of a run have one outcome.
-use Rattle.std.proofs.Common.{◌≡◌, ℕ, List, Option, Some, None, sym, ap, ◌∙◌}
+-- A command has one outcome.
+use Rattle.std.proofs.Common.{◌≡◌, ℕ, List, [], Option, Some, None, sym, ap, ◌∙◌}
 use Rattle.thread_sched.proofs.Read.{never_both, one_bad_line, read_once}
 use Rattle.command_line.specs.Options.{RunOptions}
+use Rattle.command_line.specs.Options.Asked.{Run, Demo}
+use Rattle.demo_guest.specs.Image.{OneDemoFile}
+use Rattle.elf_image.specs.Reading.{image_of}
 use Rattle.elf_image.specs.declared.error.ElfError.{ElfError}
 use Rattle.aprof_top.specs.Loads.{Loaded, loaded_of}
-use Rattle.aprof_top.specs.Outcome.{ByImage, Follows, IsScheduled, Outcome, Stage, scheduled_outcome}
+use Rattle.aprof_top.specs.Outcome.{ByImage, Follows, IsScheduled, Outcome, Stage, demo_files, demo_options, demo_outcome, scheduled_outcome, stage}
 use Rattle.aprof_top.specs.Outcome.Stage.{PastLimit, Loading, Complete}
+use Rattle.aprof_top.specs.Laws.{OneOutcome}
+use Rattle.aprof_top.specs.Run.{run_of}
 use Rattle.aprof_top.specs.Schedules.{Reading, Reads}
 use Rattle.aprof_top.specs.Schedules.Reading.{Turns, BadLine}
 
-reads_once : (text : List ℕ) (a b : Reading) → Reads text a → Reads text b → a ≡ b
+pub reads_once : (text : List ℕ) (a b : Reading) → Reads text a → Reads text b → a ≡ b
 reads_once text (Turns es) (Turns os) r s = ap Turns (read_once text os es s.0 r.0 s.1 r.1)
 reads_once text (Turns es) (BadLine n) r s = absurd (never_both text es n r.0 r.1 s)
 reads_once text (BadLine n) (Turns es) r s = absurd (never_both text es n s.0 s.1 r)
@@ -23,7 +28,15 @@ image_once : (options : RunOptions) (loaded : Loaded) (a b : Outcome) (refusal :
 image_once options loaded a b (Some e) r s = r ∙ sym s
 image_once options loaded a b None r s = scheduled_once options loaded a b r s
 
-pub follows_once : (options : RunOptions) (files : List (List ℕ)) (a b : Outcome) (s : Stage) → Follows options files a s → Follows options files b s → a ≡ b
+follows_once : (options : RunOptions) (files : List (List ℕ)) (a b : Outcome) (s : Stage) → Follows options files a s → Follows options files b s → a ≡ b
 follows_once options files a b PastLimit p q = p ∙ sym q
 follows_once options files a b Loading p q = absurd p
 follows_once options files a b Complete p q = image_once options (loaded_of options files) a b _ p q
+
+pub one_outcome : OneDemoFile → OneOutcome
+one_outcome one_file None files a b p q = p ∙ sym q
+one_outcome one_file (Some (Run options)) files a b p q = follows_once options files a b (stage options files) p q
+one_outcome one_file (Some (Demo number)) files a b p q =
+    p.answered
+    ∙ ap (λ file. demo_outcome number (image_of file) (run_of demo_options (demo_files file) [])) (one_file number p.file q.file p.is_demo q.is_demo)
+    ∙ sym q.answered

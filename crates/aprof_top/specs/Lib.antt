@@ -4,6 +4,7 @@ pub mod Delivery
 pub mod Ends
 pub mod Found
 pub mod LastText
+pub mod Laws
 pub mod Limits
 pub mod Loads
 pub mod Outcome

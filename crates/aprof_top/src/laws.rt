@@ -1,11 +1,22 @@
-//! A law on the written product.
-ghost use Rattle.std.specs.Prelude.{◌≡◌, ℕ, List, Some};
-ghost use Rattle.command_line.specs.Options.{RunOptions};
-ghost use Rattle.command_line.specs.Options.Asked.{Run};
-ghost use Rattle.aprof_top.specs.Outcome.{IsOutcome, Outcome};
+//! Laws on the written product, each the contract of a function that does nothing but call other laws.
+ghost use Rattle.aprof_top.specs.Laws.{OneOutcome, TwoRunsAgree};
 
-/// The files of a run have at most one outcome: one verdict, with the same output and the same files to store.
-pub fn a_run_has_one_outcome()
-    ensures one { (options : RunOptions) (files : List (List ℕ)) (a b : Outcome) → IsOutcome (Some (Run options)) files a
-        → IsOutcome (Some (Run options)) files b → a ≡ b }
-{}
+use demo_guest::a_demo_has_one_file;
+use guest_run::{recordings_are_schedules, runs_replay};
+
+/// A command has at most one outcome over the files that it loads: one verdict, with the same output and the same files to
+/// store.
+pub fn a_command_has_one_outcome()
+    ensures { OneOutcome }
+{
+    a_demo_has_one_file();
+}
+
+/// Two runs agree, where the second is under the recording that the first stored, with the same other words and files: verdict,
+/// output, recording and report are the same, unless the first run ended at an entry of its own schedule.
+pub fn two_runs_agree()
+    ensures { TwoRunsAgree }
+{
+    runs_replay();
+    recordings_are_schedules();
+}

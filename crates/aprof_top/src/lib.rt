@@ -14,7 +14,7 @@ mod summary;
 mod texts;
 mod top;
 
-pub use laws::a_run_has_one_outcome;
+pub use laws::{a_command_has_one_outcome, two_runs_agree};
 pub use top::aprof;
 
 #[cfg(test)]

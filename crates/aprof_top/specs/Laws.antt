@@ -1,0 +1,39 @@
+-- Laws on the outcomes of commands.
+use Rattle.std.specs.Prelude.{◌≡◌, ◌≤◌, ◌^◌, ℕ, suc, List, [], ◌∷◌, ◌++◌, length, take, slice_get, Option, Some}
+use Rattle.command_line.specs.Options.{Asked, RunOptions}
+use Rattle.command_line.specs.Options.Asked.{Run}
+use Rattle.guest_run.specs.Laws.{IsNoMismatch}
+use Rattle.guest_words.specs.declared.endings.Finish.{Finish}
+use Rattle.aprof_top.specs.declared.ending.Verdict.TheVariants.{Ran}
+use Rattle.aprof_top.specs.Limits.{file_limit}
+use Rattle.aprof_top.specs.Loads.{shared_count}
+use Rattle.aprof_top.specs.Outcome.{IsOutcome, Outcome}
+
+-- what is asked and the bytes of the files decide the outcome: one verdict, with the same output and the same files to store
+abbrev pub OneOutcome : Type 0
+OneOutcome = (asked : Option Asked) (files : List (List ℕ)) (a b : Outcome) → IsOutcome asked files a → IsOutcome asked files b → a ≡ b
+
+-- the same command, under the schedule at this path
+abbrev pub scheduled : RunOptions → List ℕ → RunOptions
+scheduled options path = record options { schedule = Some path }
+
+-- the files of a command without its schedule, and then this one
+abbrev pub with_schedule : RunOptions → List (List ℕ) → List ℕ → List (List ℕ)
+with_schedule options files text = take (suc (shared_count options)) files ++ text ∷ []
+
+-- The guest ran, no entry of a schedule stopped it, and this is the recording that was stored.
+pub record LeavesRecording (options : RunOptions) (outcome : Outcome) (text : List ℕ) : Type 0 where
+  pub path : List ℕ
+  pub asked : options.recording ≡ Some path
+  pub finish : Finish
+  pub ran : outcome.verdict ≡ Ran finish
+  pub no_mismatch : IsNoMismatch finish
+  pub stored : slice_get outcome.stores 0 ≡ Some (path, text)
+
+-- Under the recording of a first run, which is no longer than a file that is loaded, a second run with the same other words
+-- and files has the same outcome: verdict, output, recording and report.
+abbrev pub TwoRunsAgree : Type 0
+TwoRunsAgree =
+    (options : RunOptions) (files : List (List ℕ)) (first second : Outcome) (path text : List ℕ) → options.budget ≤ 10 ^ 12
+    → IsOutcome (Some (Run options)) files first → LeavesRecording options first text → length text ≤ file_limit
+    → IsOutcome (Some (Run (scheduled options path))) (with_schedule options files text) second → second ≡ first
