@@ -1,5 +1,5 @@
 -- From how a call ends and its last text to what its status says.
-use Rattle.std.proofs.Common.{◌≡◌, ◌⊎◌, ℕ, List, ap, sym, subst, inl, inr, arith, take, []}
+use Rattle.std.proofs.Common.{◌≡◌, ◌⊎◌, ℕ, List, sym, subst, inl, inr, arith, take, []}
 use Rattle.host_io.specs.Faults.{Rose}
 use Rattle.aprof_top.specs.Answers.{EndsBy, IsAnswered, IsWritten}
 use Rattle.aprof_top.specs.Delivery.{FailsAtStore, FailsOnOut}

@@ -1,5 +1,5 @@
 -- A second run under the recording of a first.
-use Rattle.std.proofs.Common.{◌≡◌, ℕ, zero, suc, ◌+◌, ◌^◌, ◌<◌, ◌≤◌, Bool, true, false, ◌||◌, cond, List, [], ◌∷◌, ◌++◌, Option, Some, None, refl, sym, ap, ap₂, ◌∙◌, subst, inl, arith, length, length-append, take, drop, slice_get}
+use Rattle.std.proofs.Common.{◌≡◌, ℕ, zero, suc, ◌+◌, ◌^◌, ◌≤◌, Bool, true, false, ◌||◌, cond, List, [], ◌∷◌, ◌++◌, Option, Some, None, refl, sym, ap, ◌∙◌, subst, inl, arith, length, length-append, take, drop, slice_get}
 use Rattle.std.specs.Prelude.{nat_lt, sum_by}
 use Rattle.std.specs.List.{AllByRecursion, list_any}
 use Rattle.std.specs.Option.{option_to_list}
@@ -20,14 +20,14 @@ use Rattle.thread_sched.specs.declared.entry.Entry.{Entry}
 use Rattle.thread_sched.specs.ScheduleText.{IsEntry, schedule_text}
 use Rattle.aprof_top.specs.declared.ending.Verdict.{Verdict}
 use Rattle.aprof_top.specs.declared.ending.Verdict.TheVariants.{BadImage, BadSchedule, Ran, TooLarge}
-use Rattle.aprof_top.specs.Laws.{LeavesRecording, TwoRunsAgree, scheduled, with_schedule}
+use Rattle.aprof_top.specs.Laws.{TwoRunsAgree, scheduled, with_schedule}
 use Rattle.aprof_top.specs.Limits.{file_limit, inputs_limit}
 use Rattle.aprof_top.specs.Loads.{Loaded, with_inputs, first_file, file_at, loaded_of, loaded_paths, passes_limit, shared_count, shared_length}
-use Rattle.aprof_top.specs.Outcome.{ByImage, Follows, IsRun, IsScheduled, Outcome, Stage, begun_outcome, recording_stores, refusal, run_outcome, scheduled_outcome, stage}
+use Rattle.aprof_top.specs.Outcome.{ByImage, Follows, IsRun, Outcome, Stage, begun_outcome, recording_stores, refusal, run_outcome, scheduled_outcome, stage}
 use Rattle.aprof_top.specs.Outcome.Stage.{Complete, Loading, PastLimit}
 use Rattle.aprof_top.specs.Report.{report_of}
 use Rattle.aprof_top.specs.Run.{first_state, greatest_stamp, run_of, shown_from}
-use Rattle.aprof_top.specs.Schedules.{Reading, Reads}
+use Rattle.aprof_top.specs.Schedules.{Reading}
 use Rattle.aprof_top.specs.Schedules.Reading.{BadLine, Turns}
 use Rattle.aprof_top.proofs.Commands.{complete_stage}
 use Rattle.aprof_top.proofs.OneOutcome.{reads_once}

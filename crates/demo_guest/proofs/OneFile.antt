@@ -6,7 +6,7 @@ use Rattle.rv_isa.specs.declared.instruction.Instr.TheVariants.{Fence, FenceI}
 use Rattle.rv_isa.specs.Table.{OneWordForAnInstruction, decoded}
 use Rattle.rv_asm.specs.Executable.{executable}
 use Rattle.demo_guest.specs.Guest.{call, ending, instructions, load, reads, routine_code, start}
-use Rattle.demo_guest.specs.Image.{IsDemoFile, OneDemoFile, symbols}
+use Rattle.demo_guest.specs.Image.{OneDemoFile, symbols}
 
 IsNoFence : Instr → Type 0
 IsNoFence i = (i ≢ Fence) × (i ≢ FenceI)

@@ -1,8 +1,8 @@
 -- A word is determined by its instruction, but for the fences.
-use Rattle.std.proofs.Common.{◌≡◌, ◌≢◌, ◌⊎◌, ℕ, ◌+◌, ◌*◌, ◌/◌, ◌%◌, ◌^◌, ◌<◌, Bool, true, false, if◌then◌else◌, List, [], ◌∷◌, nat_eq, cond, Option, Some, None, refl, sym, ap, subst, ◌∙◌, inl, inr, arith}
+use Rattle.std.proofs.Common.{◌≡◌, ◌≢◌, ◌⊎◌, ℕ, ◌+◌, ◌*◌, ◌^◌, ◌<◌, Bool, true, false, if◌then◌else◌, List, [], ◌∷◌, nat_eq, cond, Some, None, refl, sym, ap, subst, ◌∙◌, inl, inr, arith}
 use Rattle.std.specs.Prelude.{ℤ, pos, ◌-ℤ◌, nat_lt}
 use Rattle.std.specs.List.{AllByRecursion}
-use Rattle.std.proofs.lemmas.Bool.Decides.{eqb_tells, nat_tests}
+use Rattle.std.proofs.lemmas.Bool.Decides.{eqb_tells}
 use Rattle.rv_isa.specs.declared.instruction.Test.{Test}
 use Rattle.rv_isa.specs.declared.instruction.Test.TheVariants.{Eq, Ne, Lt, Ge, Ltu, Geu}
 use Rattle.rv_isa.specs.declared.instruction.LoadKind.{LoadKind}
@@ -17,7 +17,7 @@ use Rattle.rv_isa.specs.declared.instruction.AtomicOp.{AtomicOp}
 use Rattle.rv_isa.specs.declared.instruction.AtomicOp.TheVariants as amo
 use Rattle.rv_isa.specs.declared.instruction.Instr.{Instr}
 use Rattle.rv_isa.specs.declared.instruction.Instr.TheVariants.{Lui, Auipc, Jal, Jalr, Branch, Load, Store, Immediate, Register, Atomic, Fence, FenceI, Ecall, Ebreak}
-use Rattle.rv_isa.specs.Fields.{opcode, rd, funct3, rs1, rs2, funct7, order, funct5, bits, twos_complement, immediate_i, immediate_s, immediate_b, immediate_u, immediate_j}
+use Rattle.rv_isa.specs.Fields.{opcode, rd, funct3, rs1, rs2, funct7, order, funct5, bits, twos_complement, immediate_i, immediate_s, immediate_b, immediate_j}
 use Rattle.rv_isa.specs.Table.{decoded, i_type, shift_type, s_type, b_type, u_type, j_type, r_type, atomic_type}
 use Rattle.rv_isa.proofs.Rows.{by_field, upper_immediate, upper_immediate_to_pc, jump_and_link, jumps, branches, loads, stores, fences, environment, immediates, left_shifts, right_shifts, base_registers, alternate_registers, multiplications, no_registers, no_atomics, atomics, load_reservations, no_opcode}
 
