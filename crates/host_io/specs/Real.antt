@@ -20,7 +20,7 @@ stream_state s = record { bytes = None; faults = s.faults }
 abbrev pub writer_of : {W : Type 0} → StreamSink W → W
 writer_of s = s.inner
 
--- A file is not opened, by this error of the system: want of memory is told apart from every other cause.
-pub record FailsToOpen {T E : Type 0} (error : Error) (memory failed : E) (result : Result T E) : Type 0 where
+-- A call is refused for this error of the system: want of memory is told apart from every other cause.
+pub record IsRefusedFor {T E : Type 0} (error : Error) (memory failed : E) (result : Result T E) : Type 0 where
   pub wants_memory : error_kind error ≡ OutOfMemory → result ≡ Err memory
   pub fails : error_kind error ≢ OutOfMemory → result ≡ Err failed

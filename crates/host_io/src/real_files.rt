@@ -1,11 +1,11 @@
 //! The files of the system.
-ghost use Rattle.std.specs.Prelude.{◌≡◌, ◌≢◌, ◌+◌, ◌-◌, ◌^◌, ◌<◌, ◌≤◌, length, min, vec_len, IfOk, IfErr, IfSome};
+ghost use Rattle.std.specs.Prelude.{◌≡◌, ◌≢◌, ◌+◌, ◌-◌, ◌^◌, ◌<◌, ◌≤◌, length, min, vec_len, IsOk, IfOk, IfErr, IfSome};
 ghost use Rattle.std.specs.IoError.{error_kind};
 ghost use Rattle.std.specs.Io.KnownBytes.{Appends};
 ghost use Rattle.std.specs.Io.Take.{take_inner, take_limit};
 ghost use Rattle.host_io.specs.Files.{LoadEnds, StoreEnds, NoCountFalls};
 ghost use Rattle.host_io.specs.After.{after_load, after_store};
-ghost use Rattle.host_io.specs.Real.{FailsToOpen};
+ghost use Rattle.host_io.specs.Real.{IsRefusedFor};
 
 use crate::{Files, LoadError, StoreError};
 use std::alloc::Global;
@@ -67,6 +67,21 @@ pub(crate) fn limited<R: Read>(reader: R, most: usize) -> Take<R>
     reader.take((most as u64).saturating_add(1))
 }
 
+/// What a load gives, by how the reading ended and what was read.
+fn loaded(read: io::Result<usize>, bytes: Vec<u8>, most: usize) -> Result<Vec<u8>, LoadError>
+    ensures given { IfOk read (λ _. vec_len bytes ≤ most → result ≡ Ok bytes) }
+    ensures only { IfOk result (λ kept. IsOk read × (vec_len bytes ≤ most) × (kept ≡ bytes)) }
+    ensures longer { IfOk read (λ _. most < vec_len bytes → result ≡ Err LoadError.TooLarge) }
+    ensures long { result ≡ Err LoadError.TooLarge → IsOk read × (most < vec_len bytes) }
+    ensures failed { IfErr read (λ e. IsRefusedFor e LoadError.Memory LoadError.Failed result) }
+{
+    match read {
+        Err(error) => Err(load_error(error)),
+        Ok(_) if bytes.len() > most => Err(LoadError::TooLarge),
+        Ok(_) => Ok(bytes),
+    }
+}
+
 /// All bytes that the reader gives to its end, where they are at most `most`. It stops by itself one byte behind them. An
 /// interrupted read is tried again, as std does.
 pub(crate) fn read_whole<R: Read>(
@@ -82,11 +97,8 @@ where
     ensures longer { result ≡ Err LoadError.TooLarge → IfSome (R.remaining (take_inner reader)) (λ known. most < length known) }
 {
     let mut bytes = Vec::new(alloc);
-    match reader.read_to_end(&mut bytes) {
-        Err(error) => Err(load_error(error)),
-        Ok(_) if bytes.len() > most => Err(LoadError::TooLarge),
-        Ok(_) => Ok(bytes),
-    }
+    let read = reader.read_to_end(&mut bytes);
+    loaded(read, bytes, most)
 }
 
 /// All bytes of what was opened, where they are at most `most`.
@@ -98,7 +110,7 @@ pub(crate) fn load_opened<R: Read>(
 where
     R: Drop,
     ensures limit { IfOk result (λ bytes. vec_len bytes ≤ most) }
-    ensures unopened { IfErr opened (λ e. FailsToOpen e LoadError.Memory LoadError.Failed result) }
+    ensures unopened { IfErr opened (λ e. IsRefusedFor e LoadError.Memory LoadError.Failed result) }
     ensures whole { IfOk opened (λ file. IfOk result (λ bytes. IfSome (R.remaining file) (λ known. bytes.items ≡ known))) }
     ensures longer { IfOk opened (λ file. result ≡ Err LoadError.TooLarge → IfSome (R.remaining file) (λ known. most < length known)) }
 {
@@ -113,7 +125,7 @@ where
 pub(crate) fn store_opened<W: Write>(opened: io::Result<W>, bytes: &[u8]) -> Result<W, StoreError>
 where
     W: Drop,
-    ensures unopened { IfErr opened (λ e. FailsToOpen e StoreError.Memory StoreError.Failed result) }
+    ensures unopened { IfErr opened (λ e. IsRefusedFor e StoreError.Memory StoreError.Failed result) }
     ensures written { IfOk opened (λ file. IfOk result (λ left. Appends (W.contents file) (W.contents left) bytes.now)) }
     ensures failed { IfOk opened (λ file. IfErr result (λ e. e ≡ StoreError.Failed)) }
 {
