@@ -3,6 +3,7 @@ pub mod Returned
 pub mod Ended
 pub mod Known
 pub mod Cut
+pub mod Feeding
 pub mod Exit
 pub mod Pending
 pub mod Parts

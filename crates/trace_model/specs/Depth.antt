@@ -1,5 +1,5 @@
--- How many activations are open at once, and where a trace is cut since there are too many.
-use Rattle.std.specs.Prelude.{ℕ, ◌+◌, ◌-◌, ◌*◌, Bool, ◌&&◌, if◌then◌else◌, nat_le, List, [], ◌∷◌, length, Option, Some, None}
+-- How many activations are open at once, and whether stamps can tell them apart.
+use Rattle.std.specs.Prelude.{ℕ, ◌+◌, ◌-◌, ◌*◌, Bool, ◌&&◌, nat_le, List, [], ◌∷◌, length, Option, Some, None}
 use Rattle.trace_model.specs.declared.event_kinds.Event.{Event}
 use Rattle.trace_model.specs.declared.event_kinds.Event.TheVariants.{Start, Call}
 use Rattle.trace_model.specs.Events.{thread_of}
@@ -22,11 +22,6 @@ pending [] = 0
 pending (e ∷ past) = (pending past - count_ended e past (thread_of e)) + count_begun e
 
 -- three stamps for each open activation and three more are at most the greatest stamp, now and after each earlier event
-abbrev pub is_within : List Event → ℕ → Bool
-is_within [] most = nat_le 3 most
-is_within (e ∷ past) most = nat_le (3 * (pending (e ∷ past) + 1)) most && is_within past most
-
--- the trace up to the first event at which they no longer are
-abbrev pub cut : List Event → ℕ → List Event
-cut [] most = []
-cut (e ∷ past) most = if is_within (e ∷ past) most then e ∷ past else cut past most
+abbrev pub is_within : ℕ → List Event → Bool
+is_within most [] = nat_le 3 most
+is_within most (e ∷ past) = nat_le (3 * (pending (e ∷ past) + 1)) most && is_within most past

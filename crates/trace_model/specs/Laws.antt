@@ -1,5 +1,5 @@
 -- What the definitions by recursion say of a whole trace.
-use Rattle.std.specs.Prelude.{◌≡◌, ◌≢◌, ◌↔◌, ℕ, ◌+◌, ◌*◌, ◌<◌, ◌≤◌, true, List, [], ◌∷◌, ◌++◌, length, drop, replicate, All, IfSome, sum_by}
+use Rattle.std.specs.Prelude.{◌≡◌, ◌≢◌, ◌↔◌, ℕ, ◌+◌, ◌*◌, ◌<◌, ◌≤◌, Bool, true, List, [], ◌∷◌, ◌++◌, length, drop, replicate, All, IfSome, sum_by}
 use Rattle.std.specs.List.{range_with_len}
 use Rattle.trace_model.specs.declared.event_kinds.Event.{Event}
 use Rattle.trace_model.specs.declared.event_kinds.Event.TheVariants.{Step, Read, Write, Fill, Start, End}
@@ -7,7 +7,8 @@ use Rattle.trace_model.specs.Events.{thread_of}
 use Rattle.trace_model.specs.Activations.{open_calls}
 use Rattle.trace_model.specs.Sizes.{known}
 use Rattle.trace_model.specs.Profile.{done, steps}
-use Rattle.trace_model.specs.Depth.{count_begun, pending, cut}
+use Rattle.trace_model.specs.Cut.{cut}
+use Rattle.trace_model.specs.Depth.{count_begun, is_within, pending}
 
 -- the word is one of the `count` words from `first` on
 abbrev pub IsInRange : ℕ → ℕ → ℕ → Type 0
@@ -59,15 +60,19 @@ EachBegunIsDoneOrPending = (past : List Event) → length (done past) + pending 
 abbrev pub EachPrefixIsWithin : List Event → ℕ → Type 0
 EachPrefixIsWithin past most = (k : ℕ) → 3 * (pending (drop k past) + 1) ≤ most
 
--- The part is a prefix of the trace, in time, each of its prefixes is within, and it is the longest such. With the newest
--- event first, a prefix in time is what stays when the newest events are dropped.
-pub record IsLongestWithin (past : List Event) (most : ℕ) (part : List Event) : Type 0 where
+-- The test asks this of each prefix; so what passes it does so without its newest event.
+abbrev pub WithinIsOfEachPrefix : Type 0
+WithinIsOfEachPrefix = (past : List Event) (most : ℕ) → (is_within most past ≡ true) ↔ EachPrefixIsWithin past most
+
+-- The part is a prefix of the trace, in time, it fits, and it is the longest such. With the newest event first, a prefix in
+-- time is what stays when the newest events are dropped.
+pub record IsLongestThatFits (fits : List Event → Bool) (past part : List Event) : Type 0 where
   pub prefix : (k : ℕ) × (part ≡ drop k past)
-  pub within : EachPrefixIsWithin part most
-  pub longest : (k : ℕ) → EachPrefixIsWithin (drop k past) most → length (drop k past) ≤ length part
+  pub fitting : fits part ≡ true
+  pub longest : (k : ℕ) → fits (drop k past) ≡ true → length (drop k past) ≤ length part
 
 abbrev pub CutIsTheLongestPrefix : Type 0
-CutIsTheLongestPrefix = (past : List Event) (most : ℕ) → 3 ≤ most → IsLongestWithin past most (cut past most)
+CutIsTheLongestPrefix = (fits : List Event → Bool) (past : List Event) → fits [] ≡ true → IsLongestThatFits fits past (cut fits past)
 
 -- the trace of a thread that runs so many instructions without a call or an access
 abbrev pub plain_trace : ℕ → ℕ → ℕ → List Event

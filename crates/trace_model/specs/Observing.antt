@@ -3,6 +3,7 @@ use Rattle.std.specs.Prelude.{◌≡◌, Bool, true, false, List, ◌∷◌}
 use Rattle.trace_model.specs.declared.event_kinds.Event.{Event}
 use Rattle.trace_model.specs.declared.observer.Observed.{Observed}
 use Rattle.trace_model.specs.declared.observer.Observed.TheVariants.{Taken, Refused}
+use Rattle.trace_model.specs.Cut.{cut, past_after}
 use Rattle.trace_model.specs.WellFormed.{IsWellFormed}
 
 -- It stands for some past after which the event may come.
@@ -20,6 +21,20 @@ Observes Stands fits e old new Refused = (past : List Event) → Stands old past
 abbrev pub StandsAsBefore : {O : Type 0} → (O → List Event → Type 0) → O → O → Type 0
 StandsAsBefore Stands old new = (past : List Event) → Stands old past → Stands new past
 
--- A past that is taken stays so without its newest event.
-abbrev pub IsPrefixClosed : (List Event → Bool) → Type 0
-IsPrefixClosed fits = (e : Event) (past : List Event) → fits (e ∷ past) ≡ true → fits past ≡ true
+-- It stands for some past that fits and after which all these events may come, one after the other.
+pub record MayTakeAll {O : Type 0} (Stands : O → List Event → Type 0) (fits : List Event → Bool) (o : O) (events : List Event) : Type 0 where
+  pub past : List Event
+  pub now : Stands o past
+  pub fitting : fits past ≡ true
+  pub formed : IsWellFormed (past_after past events)
+
+abbrev pub is_taken : Observed → Bool
+is_taken Taken = true
+is_taken Refused = false
+
+-- Whatever past that fits it stood for, it stands for that with the events, up to the first that does not fit; it says whether
+-- all of them do.
+abbrev pub ObservesAll : {O : Type 0} → (O → List Event → Type 0) → (List Event → Bool) → List Event → O → O → Observed → Type 0
+ObservesAll Stands fits events old new observed =
+    (past : List Event) → Stands old past → fits past ≡ true →
+    Stands new (cut fits (past_after past events)) × (fits (past_after past events) ≡ is_taken observed)

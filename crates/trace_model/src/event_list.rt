@@ -1,7 +1,7 @@
 //! A list of events with room made ahead, so that adding one takes no memory.
 ghost use Rattle.std.specs.Prelude.{◌≡◌, ◌≤◌, ◌+◌, ◌++◌, ◌∷◌, [], length, take, OnOk, IfOk};
 
-use crate::Event;
+use crate::{Event, Observed, Observer};
 use std::alloc::{AllocError, Global};
 use std::marker::Model;
 
@@ -79,5 +79,22 @@ impl Events {
         ensures { result.now ≡ self.now.list }
     {
         &self.items
+    }
+}
+
+/// The list stands for the events that it has, and takes all that come.
+impl Observer for Events {
+    ghost use Rattle.std.specs.Prelude.{◌≡◌, true, reverse, refl};
+
+    ghost stands = { λ events past. reverse events.list ≡ past };
+
+    ghost fits = { λ events past. true };
+
+    ghost fits_closed = { λ events e past fits. refl };
+
+    fn observe(&mut self, e: Event) -> Result<Observed, AllocError> {
+        self.reserve(1)?;
+        self.push(e);
+        Ok(Observed::Taken)
     }
 }

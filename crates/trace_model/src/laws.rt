@@ -1,12 +1,13 @@
 //! Laws of the definitions: each is the contract of a function that does nothing.
-ghost use Rattle.trace_model.specs.Laws.{CutIsTheLongestPrefix, KnownIsByTheLatestTouch, PendingIsOfAllThreads, EachBegunIsDoneOrPending, ExitIsOneActivation};
+ghost use Rattle.trace_model.specs.Laws.{CutIsTheLongestPrefix, KnownIsByTheLatestTouch, PendingIsOfAllThreads, EachBegunIsDoneOrPending, ExitIsOneActivation, WithinIsOfEachPrefix};
 ghost use Rattle.trace_model.specs.Parts.{ShortPartsAreLight};
 ghost use Rattle.trace_model.specs.Positions.{CostCountsSteps, DoneIsByEndings, OpenActivationsArePositions, PartsAreInTime, SizeCountsUnknownReads};
 ghost use Rattle.trace_model.specs.WorkedTraces.{WorkedTraces};
 
-/// The cut is the longest prefix of the trace that is within the greatest stamp at each of its prefixes.
+/// The cut is the longest prefix of the trace that fits. The test by the greatest stamp is one of each prefix.
 pub fn cut_is_the_longest_prefix()
-    ensures { CutIsTheLongestPrefix }
+    ensures cut { CutIsTheLongestPrefix }
+    ensures within { WithinIsOfEachPrefix }
 {}
 
 /// A word is known exactly where the latest touch of it inside the activation is the thread's own.

@@ -1,7 +1,8 @@
 //! What takes the events of a run.
 ghost use Rattle.std.specs.Prelude.{◌≡◌, Bool, List, IfOk, OnErr};
 ghost use Rattle.trace_model.specs.declared.event_kinds.Event.{Event};
-ghost use Rattle.trace_model.specs.Observing.{IsPrefixClosed, MayTake, Observes, StandsAsBefore};
+ghost use Rattle.trace_model.specs.Cut.{IsPrefixClosed};
+ghost use Rattle.trace_model.specs.Observing.{MayTake, MayTakeAll, Observes, ObservesAll, StandsAsBefore};
 
 use crate::Event;
 use std::alloc::AllocError;
@@ -30,4 +31,19 @@ pub trait Observer {
         ensures observed { IfOk result (Observes stands (fits self.old) e self.old self.new) }
         ensures refused { OnErr result (StandsAsBefore stands self.old self.new) }
         ensures same { fits self.new ≡ fits self.old };
+}
+
+/// Hands events to an observer, up to the first that it refuses.
+pub fn feed<W: Observer>(events: &[Event], observer: &mut W) -> Result<Observed, AllocError>
+    requires { MayTakeAll W.stands (W.fits observer.old) observer.old events.now }
+    ensures observed { IfOk result (ObservesAll W.stands (W.fits observer.old) events.now observer.old observer.new) }
+    ensures same { W.fits observer.new ≡ W.fits observer.old }
+{
+    for e in events {
+        match observer.observe(*e)? {
+            Observed::Taken => {}
+            Observed::Refused => return Ok(Observed::Refused),
+        }
+    }
+    Ok(Observed::Taken)
 }
