@@ -1,37 +1,40 @@
--- What is shown of a run, as a move of it is made.
-use Rattle.std.proofs.Common.{◌≡◌, ℕ, zero, suc, ◌-◌, ◌<◌, Bool, true, false, cond, List, [], ◌∷◌, ◌++◌, reverse, refl, sym, ap, ap₂, subst, ◌∙◌, append_assoc, append-nil, arith}
+-- One move of a run that is observed.
+use Rattle.std.proofs.Common.{◌≡◌, ℕ, zero, suc, ◌+◌, ◌-◌, ◌<◌, ◌≤◌, Bool, true, false, cond, List, [], ◌∷◌, ◌++◌, length, length-append, refl, sym, ap, subst, ◌∙◌, append-nil, append_assoc, arith}
 use Rattle.std.specs.Prelude.{pred}
 use Rattle.guest_words.specs.declared.endings.Finish.{Finish}
-use Rattle.guest_words.specs.declared.endings.Finish.TheVariants.{Deep}
+use Rattle.guest_words.specs.declared.endings.Finish.TheVariants.{Budget, Deep}
 use Rattle.trace_model.specs.declared.event_kinds.Event.{Event}
-use Rattle.trace_model.specs.Depth.{cut, is_within}
-use Rattle.thread_sched.specs.declared.entry.Entry.{Entry}
+use Rattle.trace_model.specs.Cut.{IsPrefixClosed, cut, past_after}
+use Rattle.trace_model.specs.Observing.{MayTakeAll}
+use Rattle.trace_model.specs.Profile.{steps}
 use Rattle.thread_sched.specs.TurnRule.{SchedulerState}
+use Rattle.trace_model.proofs.Cut.{cut-fits}
 use Rattle.guest_machine.specs.declared.stepped.Stepped.{Stepped}
-use Rattle.guest_machine.specs.declared.stepped.Stepped.TheVariants.{Went, Yielded, Blocked, Ended, Finished, Faulted}
-use Rattle.guest_machine.specs.Machine.{MachineState, can_run}
 use Rattle.guest_machine.specs.Kept.{machine_of}
+use Rattle.guest_machine.specs.Machine.{MachineState, can_run}
 use Rattle.guest_machine.specs.Step.{step}
 use Rattle.guest_run.specs.declared.turn_status.TurnStatus.{TurnStatus}
 use Rattle.guest_run.specs.declared.turn_status.TurnStatus.TheVariants.{GoesOn, TurnOver, Ends}
 use Rattle.guest_run.specs.declared.run.Runner.{Runner}
-use Rattle.guest_run.specs.declared.traced.Traced.{Traced}
+use Rattle.guest_run.specs.declared.run_error.Channel.{Channel}
 use Rattle.guest_run.specs.declared.turns.Choice.TheVariants as choice
 use Rattle.guest_run.specs.declared.turns.CurrentTurn.{CurrentTurn}
 use Rattle.guest_run.specs.declared.turns.Recorder.{Recorder}
-use Rattle.guest_run.specs.Machine.{Progress, Machine, guest, turn_status_of}
-use Rattle.guest_run.specs.Run.{Move, WrittenRun, Position, by_turn_status, bytes_on, chosen, events_of, go_on, after_step, move_of, position_after, run_from, sent, with_move}
-use Rattle.guest_run.specs.Run.Chosen.{Moves, Stops}
-use Rattle.guest_run.specs.Profiled.{past_after}
-use Rattle.guest_run.specs.Watched.{watched, watched_step}
-use Rattle.guest_run.specs.Kept.{Adds, Told}
 use Rattle.guest_run.specs.CurrentTurn.{IsUnderWay, chosen_of, position, recorded}
-use Rattle.guest_run.specs.Shown.{Shown}
-use Rattle.guest_run.specs.Going.{IsGoing, left, position_of, shown}
-use Rattle.guest_run.specs.Going as shows
+use Rattle.guest_run.specs.Going.{IsGoing, IsOver, IsPastOf, Leads, observed, past_by, with_moves}
+use Rattle.guest_run.specs.Going as going
+use Rattle.guest_run.specs.Machine.{Machine, Progress, guest, turn_status_of}
+use Rattle.guest_run.specs.Output.{FailsOn, Sinks, with_output, with_sent}
+use Rattle.guest_run.specs.Profiled.{Profiled, profiled}
+use Rattle.guest_run.specs.Run.{Move, Position, WrittenRun, after_step, by_turn_status, chosen, go_on, move_of, position_after, recording, run_from, with_move}
+use Rattle.guest_run.specs.Run.Chosen.{Moves, Stops}
+use Rattle.guest_run.specs.RunEnds.{IsGivenUp, StopsAtPut}
+use Rattle.guest_run.specs.Steps.{IsStepped}
 use Rattle.guest_run.proofs.Able.{step_able}
-use Rattle.guest_run.proofs.Pasts.{cut-within, past_after-append}
-use Rattle.guest_run.proofs.Watched.{chosen-watched, chosen_with}
+use Rattle.guest_run.proofs.Guarded.{goes_went}
+use Rattle.guest_run.proofs.Observed.{observed-after, past-last, profiled-deep, profiled-head, profiled-none, profiled-one, with_first}
+use Rattle.guest_run.proofs.Output.{output-last}
+use Rattle.guest_run.proofs.Pasts.{past_step, step_adds}
 
 -- ---- what is left of a run, by what is chosen and by the step
 run-stops : {State : Type 0} (machine : Machine State) (more : ℕ) (at : Position State) (finish : Finish) →
@@ -45,175 +48,231 @@ run-moves : {State : Type 0} (machine : Machine State) (more : ℕ) (at : Positi
 unfolding run_from
 run-moves machine more at opens to e = ap (go_on machine (run_from machine more)) e
 
--- ---- before a move the run may end
-pub Ended-stopped : (old new : Runner) (finish : Finish) → new.traced ≡ old.traced → new.recorder ≡ old.recorder → IsGoing old →
-    chosen guest (position (machine_of old.traced.machine) old.turn) ≡ chosen_of (machine_of old.traced.machine) new.turn (choice.Stops finish) →
-    shows.Ended old new finish
-Ended-stopped old new finish traced recorder going chose =
-    let past = reverse old.traced.events.list in
-    let at : Position MachineState = position (machine_of old.traced.machine) old.turn in
-    let most = old.traced.depth.greatest in
-    let none : WrittenRun = record { moves = []; finish = finish } in
-    record {
-      told = subst (λ (t : Traced). Told t.depth (reverse t.events.list)) (sym traced) going.told;
-      shows = λ n.
-          ap (shown old) (run-stops (watched most guest) n (position_of old) finish (chosen-watched most guest past at ∙ ap (chosen_with past) chose))
-          ∙ sym (ap (λ (t : Traced). let r : Runner = record { traced = t; turn = new.turn; recorder = new.recorder } in shown r none) traced
-          ∙ ap (λ (k : Recorder). let r : Runner = record { traced = old.traced; turn = old.turn; recorder = k } in shown r none) recorder);
-      greatest_is = ap (λ (t : Traced). t.depth.greatest) traced;
+-- the events of its next step may come
+pub may_take : {W : Type 0} (Stands : W → List Event → Type 0) (fits : List Event → Bool) (first : List Event) (start : Position MachineState)
+    (moves : List Move) (r : Runner) (observer : W) → IsGoing Stands fits first start moves r observer → length moves < 1000000000000 →
+    (tid : ℕ) → can_run (machine_of r.stepper.machine) tid ≡ true →
+    MayTakeAll Stands fits observer (guest.step (machine_of r.stepper.machine) tid).events
+may_take Stands fits first start moves r observer going room tid can = record {
+  past = past_by first moves;
+  now = going.stands;
+  fitting = going.fitting;
+  formed = (past_step (machine_of r.stepper.machine) tid (past_by first moves) going.past can (omega (arith, going.few, room))).formed;
+}
+
+-- where the run stands, what the step of a thread gives, and the move that it is
+abbrev at_of : Runner → Position MachineState
+at_of r = position (machine_of r.stepper.machine) r.turn
+
+abbrev given_of : Runner → ℕ → Progress MachineState
+given_of r tid = guest.step (machine_of r.stepper.machine) tid
+
+abbrev made_of : Runner → CurrentTurn → Bool → Move
+made_of r turn opens = move_of opens turn.tid (given_of r turn.tid)
+
+-- the run by the step's status
+abbrev rest_by : Runner → CurrentTurn → Bool → ℕ → TurnStatus → WrittenRun
+rest_by r turn opens n status =
+    by_turn_status (run_from guest n) (made_of r turn opens) (position (machine_of r.stepper.machine) turn) (given_of r turn.tid).state status
+
+rest-head : (r : Runner) (turn : CurrentTurn) (opens : Bool) (n : ℕ) (status : TurnStatus) → (run : WrittenRun) × (rest_by r turn opens n status ≡ with_move (made_of r turn opens) run)
+rest-head r turn opens n GoesOn = (_, refl)
+rest-head r turn opens n TurnOver = (_, refl)
+rest-head r turn opens n (Ends finish) = (record { moves = []; finish = finish }, refl)
+
+module _ {W : Type 0} (Stands : W → List Event → Type 0) (fits : List Event → Bool) (closed : IsPrefixClosed fits)
+    (first : List Event) (start : Position MachineState) (moves : List Move) (before : Sinks)
+    (old : Runner) (watcher : W) (goes : IsGoing Stands fits first start moves old watcher) (mid : Sinks) (put : mid ≡ with_output moves before) where
+  whole : (n : ℕ) → observed fits first start (length moves + n) ≡ with_first moves (profiled fits (past_by first moves) (run_from guest n (at_of old)))
+  whole n = observed-after fits closed first start (at_of old) moves goes.leads goes.fitting n
+
+  -- it is given up before the move
+  pub gives_up : (n : ℕ) → IsGivenUp (observed fits first start (length moves + suc n)).moves before mid
+  gives_up n = record { earlier = moves; later = _; are = sym (ap (λ (p : Profiled). p.moves) (whole (suc n))); output = put }
+
+  -- where no move is made any more, this is observed
+  over-none : (finish : Finish) (n : ℕ) → run_from guest n (at_of old) ≡ record { moves = []; finish = finish } → (new : Runner) → new.recorder ≡ old.recorder →
+      IsOver Stands (observed fits first start (length moves + n)) before new watcher mid finish
+  over-none finish n rest new same =
+      let p : Profiled = record { moves = moves ++ []; past = past_by first moves; finish = finish } in
+      let ends : observed fits first start (length moves + n) ≡ p =
+          whole n ∙ ap (λ run. with_first moves (profiled fits (past_by first moves) run)) rest
+          ∙ ap (with_first moves) (profiled-none fits closed (past_by first moves) finish goes.fitting) in
+      subst (λ q. IsOver Stands q before new watcher mid finish) (sym ends) (record {
+        past = goes.stands;
+        output = put ∙ ap (λ ms. with_output ms before) (sym (append-nil moves));
+        turns = ap (λ (k : Recorder). recorded k []) same ∙ goes.turns [];
+        finish_is = refl;
+      })
+
+  pub over_stopped : (turn : CurrentTurn) (finish : Finish) → chosen guest (at_of old) ≡ chosen_of (machine_of old.stepper.machine) turn (choice.Stops finish) →
+      (new : Runner) → new.recorder ≡ old.recorder → (n : ℕ) → IsOver Stands (observed fits first start (length moves + suc n)) before new watcher mid finish
+  over_stopped turn finish chose new same n = over-none finish (suc n) (run-stops guest n (at_of old) finish chose) new same
+
+  pub over_spent : IsOver Stands (observed fits first start (length moves + 0)) before old watcher mid Budget
+  unfolding run_from
+  over_spent = over-none Budget 0 refl old refl
+
+  -- ---- a move
+  module _ (turn : CurrentTurn) (opens : Bool) (chose : chosen guest (at_of old) ≡ chosen_of (machine_of old.stepper.machine) turn (choice.Moves opens))
+      (way : IsUnderWay (machine_of old.stepper.machine) turn) where
+    run-by_status : (n : ℕ) → run_from guest (suc n) (at_of old) ≡ rest_by old turn opens n (given_of old turn.tid).turn_status
+    run-by_status n =
+        run-moves guest n (at_of old) opens (position (machine_of old.stepper.machine) turn) chose
+        ∙ ap (λ t. by_turn_status (run_from guest n) (move_of opens t (given_of old t)) (position (machine_of old.stepper.machine) turn) (given_of old t).state (given_of old t).turn_status) (sym way.last)
+
+    -- the move is the next one that is observed
+    next-move : (n : ℕ) → (later : List Move) × (moves ++ made_of old turn opens ∷ later ≡ (observed fits first start (length moves + suc n)).moves)
+    next-move n =
+        let run = rest-head old turn opens n (given_of old turn.tid).turn_status in
+        let kept = profiled-head fits closed (past_by first moves) (made_of old turn opens) run.0 in (
+          kept.0,
+          sym (ap (λ (p : Profiled). p.moves) (whole (suc n))
+          ∙ ap (λ r. moves ++ (profiled fits (past_by first moves) r).moves) (run-by_status n ∙ run.1)
+          ∙ ap (λ ms. moves ++ ms) kept.1),
+        )
+
+    -- the put of its bytes fails
+    pub stops_at_put : (channel : Channel) (after : Sinks) → FailsOn channel (given_of old turn.tid).out mid after →
+        (n : ℕ) → StopsAtPut channel (observed fits first start (length moves + suc n)).moves before after
+    stops_at_put channel after failed n = record {
+      earlier = moves;
+      move = made_of old turn opens;
+      later = (next-move n).0;
+      are = (next-move n).1;
+      failed = subst (λ s. FailsOn channel (given_of old turn.tid).out s after) put failed;
     }
 
--- ---- a move
-abbrev watched_of : Runner → Machine (List Event × MachineState)
-watched_of old = watched old.traced.depth.greatest guest
+    sent-now : (after : Sinks) → after ≡ with_sent (given_of old turn.tid).out mid → after ≡ with_output (moves ++ made_of old turn opens ∷ []) before
+    sent-now after sent =
+        sent ∙ ap (with_sent (given_of old turn.tid).out) put ∙ sym (output-last moves (made_of old turn opens) before)
 
-abbrev past_of : Runner → List Event
-past_of old = reverse old.traced.events.list
+    -- it is given up after its bytes were put
+    pub gives_up_put : (after : Sinks) → after ≡ with_sent (given_of old turn.tid).out mid →
+        (n : ℕ) → IsGivenUp (observed fits first start (length moves + suc n)).moves before after
+    gives_up_put after sent n = record {
+      earlier = moves ++ made_of old turn opens ∷ [];
+      later = (next-move n).0;
+      are = append_assoc moves (made_of old turn opens ∷ []) (next-move n).0 ∙ (next-move n).1;
+      output = sent-now after sent;
+    }
 
--- where the watched machine stands as the move is made, and what its step gives
-abbrev to : Runner → CurrentTurn → Position (List Event × MachineState)
-to old turn = position (past_of old, machine_of old.traced.machine) turn
+    -- ---- the move is made
+    module _ (watched : W) (new : Runner) (after : Sinks) (status : TurnStatus)
+        (is : IsStepped Stands fits (given_of old turn.tid) watcher watched mid new.stepper after status)
+        (takes : (m : Move) (rest : List Move) → m.opens ≡ opens → m.tid ≡ turn.tid → recorded old.recorder (m ∷ rest) ≡ recorded new.recorder rest) where
+      turns-now : (rest : List Move) → recorded new.recorder rest ≡ recording ((moves ++ made_of old turn opens ∷ []) ++ rest)
+      turns-now rest =
+          sym (takes (made_of old turn opens) rest refl refl) ∙ goes.turns (made_of old turn opens ∷ rest)
+          ∙ ap recording (sym (append_assoc moves (made_of old turn opens ∷ []) rest))
 
-abbrev given : Runner → ℕ → Progress (List Event × MachineState)
-given old tid = watched_step old.traced.depth.greatest (past_of old) (guest.step (machine_of old.traced.machine) tid)
+      seen : Stands watched (cut fits (past_after (past_by first moves) (given_of old turn.tid).events))
+          × (status ≡ cond (fits (past_after (past_by first moves) (given_of old turn.tid).events)) (given_of old turn.tid).turn_status (Ends Deep))
+      seen = is.observed (past_by first moves) goes.stands goes.fitting
 
-abbrev move_made : Runner → CurrentTurn → Bool → Move
-move_made old turn opens = move_of opens turn.tid (given old turn.tid)
+      -- the run ends by the move
+      ends-so : (finish : Finish) (n : ℕ) (b : Bool) → fits (past_after (past_by first moves) (given_of old turn.tid).events) ≡ b →
+          Ends finish ≡ cond b (given_of old turn.tid).turn_status (Ends Deep) →
+          profiled fits (past_by first moves) (run_from guest (suc n) (at_of old))
+          ≡ record { moves = made_of old turn opens ∷ []; past = cut fits (past_after (past_by first moves) (given_of old turn.tid).events); finish = finish }
+      ends-so finish n true fit e =
+          ap (profiled fits (past_by first moves)) (run-by_status n ∙ ap (rest_by old turn opens n) (sym e))
+          ∙ profiled-one fits closed (past_by first moves) (made_of old turn opens) finish fit
+      ends-so finish n false not_fits e =
+          let run = rest-head old turn opens n (given_of old turn.tid).turn_status in
+          let same : Deep ≡ finish = cc in
+          ap (profiled fits (past_by first moves)) (run-by_status n ∙ run.1)
+          ∙ profiled-deep fits closed (past_by first moves) (made_of old turn opens) run.0 not_fits
+          ∙ ap (λ f. let p : Profiled = record { moves = made_of old turn opens ∷ []; past = cut fits (past_after (past_by first moves) (given_of old turn.tid).events); finish = f } in p) same
 
--- what is known of a move: who made it, what its step gave, and that it is recorded
-pub record Moved (old : Runner) (turn : CurrentTurn) (opens : Bool) (turn_status : TurnStatus) (new : Runner) : Type 0 where
-  pub chose : chosen guest (position (machine_of old.traced.machine) old.turn) ≡ chosen_of (machine_of old.traced.machine) turn (choice.Moves opens)
-  pub way : IsUnderWay (machine_of old.traced.machine) turn
-  pub adds : Adds (given old turn.tid) turn_status old.traced new.traced
-  pub takes : (move : Move) (rest : List Move) → move.opens ≡ opens → move.tid ≡ turn.tid → recorded old.recorder (move ∷ rest) ≡ recorded new.recorder rest
+      pub over_moved : (finish : Finish) → status ≡ Ends finish → (n : ℕ) → IsOver Stands (observed fits first start (length moves + suc n)) before new watched after finish
+      over_moved finish e n =
+          let next = past_after (past_by first moves) (given_of old turn.tid).events in
+          let p : Profiled = record { moves = moves ++ made_of old turn opens ∷ []; past = cut fits next; finish = finish } in
+          let ends : observed fits first start (length moves + suc n) ≡ p = whole (suc n) ∙ ap (with_first moves) (ends-so finish n (fits next) refl (sym e ∙ seen.1)) in
+          subst (λ q. IsOver Stands q before new watched after finish) (sym ends) (record {
+            past = seen.0;
+            output = sent-now after is.output;
+            turns = turns-now [] ∙ ap recording (append-nil (moves ++ made_of old turn opens ∷ []));
+            finish_is = refl;
+          })
 
-module _ (old : Runner) (turn : CurrentTurn) (opens : Bool) (turn_status : TurnStatus) (new : Runner) (moved : Moved old turn opens turn_status new) where
-  -- the run by the move's turn_status
-  run-by_status : (n : ℕ) → left (suc n) old ≡ by_turn_status (run_from (watched_of old) n) (move_made old turn opens) (to old turn) (given old turn.tid).state turn_status
-  run-by_status n =
-      run-moves (watched_of old) n (position_of old) opens (to old turn)
-      (chosen-watched old.traced.depth.greatest guest (past_of old) (position (machine_of old.traced.machine) old.turn) ∙ ap (chosen_with (past_of old)) moved.chose)
-      ∙ ap (λ t. by_turn_status (run_from (watched_of old) n) (move_of opens t (given old t)) (to old turn) (given old t).state (given old t).turn_status) (sym moved.way.last)
-      ∙ ap (by_turn_status (run_from (watched_of old) n) (move_made old turn opens) (to old turn) (given old turn.tid).state) (sym moved.adds.went)
+      -- ---- the run goes on
+      fits-on : (b : Bool) (status' : TurnStatus) → status ≡ cond b status' (Ends Deep) → (status ≡ Ends Deep → ⊥) → (b ≡ true) × (status ≡ status')
+      fits-on true status' e on = (refl, e)
+      fits-on false status' e on = absurd (on e)
 
-  out-move : (channel : ℕ) (bytes now : List ℕ) (rest : List Move) → now ≡ bytes ++ sent channel (given old turn.tid).out → bytes ++ bytes_on channel (move_made old turn opens ∷ rest) ≡ now ++ bytes_on channel rest
-  out-move channel bytes now rest is =
-      sym (append_assoc bytes (sent channel (given old turn.tid).out) (bytes_on channel rest)) ∙ ap (λ b. b ++ bytes_on channel rest) (sym is)
+      fitting-now : (status ≡ Ends Deep → ⊥) →
+          (fits (past_after (past_by first moves) (given_of old turn.tid).events) ≡ true) × (status ≡ (given_of old turn.tid).turn_status)
+      fitting-now on = fits-on (fits (past_after (past_by first moves) (given_of old turn.tid).events)) (given_of old turn.tid).turn_status seen.1 on
 
-  -- what is shown of the move and of those after it
-  shown-move : (run : WrittenRun) → cut (past_after (past_of old) ((given old turn.tid).events ++ events_of run.moves)) old.traced.depth.greatest ≡ cut (past_after (past_of new) (events_of run.moves)) new.traced.depth.greatest →
-      shown old (with_move (move_made old turn opens) run) ≡ shown new run
-  shown-move run same =
-      let o1 = out-move 1 old.traced.out.items new.traced.out.items run.moves moved.adds.out in
-      let o2 = out-move 2 old.traced.err.items new.traced.err.items run.moves moved.adds.err in
-      let turns = moved.takes (move_made old turn opens) run.moves refl refl in
-      let of : List Event → List ℕ → List ℕ → List Entry → Shown = λ past out err turns. record { past = past; out = out; err = err; turns = turns; finish = run.finish } in
-      ap (λ past. of past (old.traced.out.items ++ bytes_on 1 (move_made old turn opens ∷ run.moves)) (old.traced.err.items ++ bytes_on 2 (move_made old turn opens ∷ run.moves)) (recorded old.recorder (move_made old turn opens ∷ run.moves))) same
-      ∙ ap (λ out. of (cut (past_after (past_of new) (events_of run.moves)) new.traced.depth.greatest) out (old.traced.err.items ++ bytes_on 2 (move_made old turn opens ∷ run.moves)) (recorded old.recorder (move_made old turn opens ∷ run.moves))) o1
-      ∙ ap (λ err. of (cut (past_after (past_of new) (events_of run.moves)) new.traced.depth.greatest) (new.traced.out.items ++ bytes_on 1 run.moves) err (recorded old.recorder (move_made old turn opens ∷ run.moves))) o2
-      ∙ ap (λ ts. of (cut (past_after (past_of new) (events_of run.moves)) new.traced.depth.greatest) (new.traced.out.items ++ bytes_on 1 run.moves) (new.traced.err.items ++ bytes_on 2 run.moves) ts) turns
+      leads-on : (k : ℕ) → ((n : ℕ) → run_from guest (suc n) (at_of old) ≡ with_move (made_of old turn opens) (run_from guest n (position_after (position (machine_of old.stepper.machine) turn) (given_of old turn.tid).state k))) →
+          new.turn.scheduler ≡ turn.scheduler → new.turn.left ≡ k → Leads start (moves ++ made_of old turn opens ∷ []) (at_of new)
+      leads-on k rest turns left n =
+          let longer : length (moves ++ made_of old turn opens ∷ []) + n ≡ length moves + suc n = omega (arith, length-append moves (made_of old turn opens ∷ [])) in
+          let there = position_after (position (machine_of old.stepper.machine) turn) (given_of old turn.tid).state k in
+          let of : List Move → Finish → WrittenRun = λ ms finish. record { moves = ms; finish = finish } in
+          ap (λ l. run_from guest l start) longer ∙ goes.leads (suc n) ∙ ap (with_moves moves) (rest n)
+          ∙ ap (λ ms. of ms (run_from guest n there).finish) (sym (append_assoc moves (made_of old turn opens ∷ []) (run_from guest n there).moves))
+          ∙ ap (λ at. with_moves (moves ++ made_of old turn opens ∷ []) (run_from guest n at)) (same k turns left)
+        where
+          same : (k : ℕ) → new.turn.scheduler ≡ turn.scheduler → new.turn.left ≡ k →
+              position_after (position (machine_of old.stepper.machine) turn) (given_of old turn.tid).state k ≡ at_of new
+          same k turns left =
+              ap (λ (m : MachineState). let q : Position MachineState = record { state = m; turns = turn.scheduler; left = k } in q) (sym is.state)
+              ∙ ap (λ l. let q : Position MachineState = record { state = machine_of new.stepper.machine; turns = turn.scheduler; left = l } in q) (sym left)
+              ∙ ap (λ s. let q : Position MachineState = record { state = machine_of new.stepper.machine; turns = s; left = new.turn.left } in q) (sym turns)
 
-  -- the run ends by the move
-  pub Ended-moved : (finish : Finish) → turn_status ≡ Ends finish → shows.Ended old new finish
-  Ended-moved finish e =
-      let whole = past_after (past_of old) (given old turn.tid).events in
-      let most = old.traced.depth.greatest in
-      record {
-        told = moved.adds.told;
-        shows = λ n.
-            ap (shown old) (run-by_status n ∙ ap (by_turn_status (run_from (watched_of old) n) (move_made old turn opens) (to old turn) (given old turn.tid).state) e)
-            ∙ shown-move (record { moves = []; finish = finish })
-            (ap (λ es. cut (past_after (past_of old) es) most) (append-nil (given old turn.tid).events) ∙ sym moved.adds.past ∙ sym (cut-within (past_of new) new.traced.depth.greatest moved.adds.told.within));
-        greatest_is = moved.adds.greatest_is;
-      }
+      module _ (room : length moves < 1000000000000) (made_one : new.recorder.made ≤ old.recorder.made + 1) where
+        goes-on : fits (past_after (past_by first moves) (given_of old turn.tid).events) ≡ true → Leads start (moves ++ made_of old turn opens ∷ []) (at_of new) →
+            (0 < new.turn.left → IsUnderWay (machine_of new.stepper.machine) new.turn) → (0 < new.turn.left → 0 < new.recorder.made) →
+            going.GoesOn Stands fits first start moves before new watched after
+        goes-on fit leads ways began =
+            let next = past_after (past_by first moves) (given_of old turn.tid).events in
+            let there : next ≡ past_by first (moves ++ made_of old turn opens ∷ []) = sym (past-last first moves (made_of old turn opens)) in
+            let m = machine_of old.stepper.machine in
+            let past = past_step m turn.tid (past_by first moves) goes.past way.able (omega (arith, goes.few, room)) in
+            let count = length-append moves (made_of old turn opens ∷ []) in
+            record {
+              move = made_of old turn opens;
+              going = record {
+                leads = leads;
+                stands = subst (Stands watched) (cut-fits fits next fit ∙ there) seen.0;
+                fitting = ap fits (sym there) ∙ fit;
+                past = subst (λ p. IsPastOf p (machine_of new.stepper.machine)) there (subst (IsPastOf next) (sym is.state) past);
+                few = subst (λ p. steps p ≤ length (moves ++ made_of old turn opens ∷ [])) there (omega (arith, step_adds m turn.tid (past_by first moves), goes.few, count));
+                turns = turns-now;
+                made = omega (arith, made_one, goes.made, count);
+                way = ways;
+                began = began;
+              };
+              output = sent-now after is.output;
+            }
 
-  -- where the run goes on, no activation is too deep
-  within-of : (b : Bool) (q : TurnStatus) → is_within (given old turn.tid).state.0 old.traced.depth.greatest ≡ b → (cond b q (Ends Deep) ≡ Ends Deep → ⊥) → b ≡ true
-  within-of true q is goes = refl
-  within-of false q is goes = absurd (goes refl)
+        pub goes_over : status ≡ TurnOver → new.turn.scheduler ≡ turn.scheduler → new.turn.left ≡ 0 → going.GoesOn Stands fits first start moves before new watched after
+        goes_over e turns over =
+            let on : status ≡ Ends Deep → ⊥ = λ bad. absurd (let no_end : TurnOver ≡ Ends Deep = sym e ∙ bad in cc) in
+            let fit = fitting-now on in
+            goes-on fit.0
+            (leads-on 0 (λ n. run-by_status n ∙ ap (rest_by old turn opens n) (sym fit.1 ∙ e)) turns over)
+            (λ some. absurd (omega (arith, some, over)))
+            (λ some. absurd (omega (arith, some, over)))
 
-  past-whole : (turn_status ≡ Ends Deep → ⊥) → past_of new ≡ (given old turn.tid).state.0
-  past-whole goes =
-      let most = old.traced.depth.greatest in
-      let next = (given old turn.tid).state.0 in
-      moved.adds.past ∙ cut-within next most (within-of (is_within next most) (guest.step (machine_of old.traced.machine) turn.tid).turn_status refl (λ e. goes (moved.adds.went ∙ e)))
+        pred-minus : (n : ℕ) → pred n ≡ n - 1
+        pred-minus zero = omega arith
+        pred-minus (suc n) = omega arith
 
-  shown-whole : (turn_status ≡ Ends Deep → ⊥) → (run : WrittenRun) → shown old (with_move (move_made old turn opens) run) ≡ shown new run
-  shown-whole goes run =
-      shown-move run
-      (ap (λ past. cut past old.traced.depth.greatest) (past_after-append (past_of old) (given old turn.tid).events (events_of run.moves) ∙ ap (λ past. past_after past (events_of run.moves)) (sym (past-whole goes)))
-      ∙ ap (λ m. cut (past_after (past_of new) (events_of run.moves)) m) (sym moved.adds.greatest_is))
-
-  -- the position after the move
-  left-after : (turn_status ≡ Ends Deep → ⊥) → (at : CurrentTurn) → new.turn ≡ at → at.scheduler ≡ turn.scheduler → (n : ℕ) →
-      run_from (watched_of old) n (position_after (to old turn) (given old turn.tid).state at.left) ≡ left n new
-  left-after goes at is turns n =
-      ap (λ m. run_from (watched m guest) n (position_after (to old turn) (given old turn.tid).state at.left)) (sym moved.adds.greatest_is)
-      ∙ ap (λ (s : List Event × MachineState). let q : Position (List Event × MachineState) = record { state = s; turns = turn.scheduler; left = at.left } in run_from (watched_of new) n q) state
-      ∙ ap (λ (k : SchedulerState). let q : Position (List Event × MachineState) = record { state = (past_of new, machine_of new.traced.machine); turns = k; left = at.left } in run_from (watched_of new) n q) (sym turns)
-      ∙ ap (λ (a : CurrentTurn). run_from (watched_of new) n (position (past_of new, machine_of new.traced.machine) a)) (sym is)
-    where
-      state : (given old turn.tid).state ≡ (past_of new, machine_of new.traced.machine)
-      state = ap₂ (λ (past : List Event) (m : MachineState). (past, m)) (sym (past-whole goes)) (sym moved.adds.state)
-
-  -- the turn is over
-  pub GoesOn-over : (at : CurrentTurn) → turn_status ≡ TurnOver → new.turn ≡ at → at.scheduler ≡ turn.scheduler → at.left ≡ 0 → shows.GoesOn old new
-  GoesOn-over at e is turns over =
-      let goes : turn_status ≡ Ends Deep → ⊥ = λ bad. absurd (let no : TurnOver ≡ Ends Deep = sym e ∙ bad in cc) in
-      let none : new.turn.left ≡ 0 = ap (λ (a : CurrentTurn). a.left) is ∙ over in
-      record {
-        going = record {
-          told = moved.adds.told;
-          way = λ some. absurd (omega (arith, some, none));
-          made = λ some. absurd (omega (arith, some, none));
-        };
-        shows = λ n.
-            ap (shown old) (run-by_status n ∙ ap (by_turn_status (run_from (watched_of old) n) (move_made old turn opens) (to old turn) (given old turn.tid).state) e)
-            ∙ shown-whole goes _
-            ∙ ap (λ k. shown new (run_from (watched_of old) n (position_after (to old turn) (given old turn.tid).state k))) (sym over)
-            ∙ ap (shown new) (left-after goes at is turns n);
-        greatest_is = moved.adds.greatest_is;
-        entry = moved.adds.entry;
-      }
-
-  -- the turn goes on: its thread went, and can run
-  went-of : (b : Bool) (outcome : Stepped) → cond b (turn_status_of turn.tid outcome) (Ends Deep) ≡ GoesOn → outcome ≡ Went
-  went-of true Went e = refl
-  went-of true Yielded e = absurd (cc)
-  went-of true Blocked e = absurd (cc)
-  went-of true Ended e = absurd (cc)
-  went-of true (Finished status) e = absurd (cc)
-  went-of true (Faulted kind at) e = absurd (cc)
-  went-of false outcome e = absurd (cc)
-
-  able-after : turn_status ≡ GoesOn → can_run (machine_of new.traced.machine) turn.tid ≡ true
-  able-after e =
-      let m = machine_of old.traced.machine in
-      let next = (given old turn.tid).state.0 in
-      ap (λ (k : MachineState). can_run k turn.tid) moved.adds.state
-      ∙ step_able m turn.tid moved.way.able (went-of (is_within next old.traced.depth.greatest) (step m turn.tid).outcome (sym moved.adds.went ∙ e))
-
-  pred-minus : (n : ℕ) → pred n ≡ n - 1
-  pred-minus zero = omega arith
-  pred-minus (suc n) = omega arith
-
-  pub GoesOn-turn : (at : CurrentTurn) → turn_status ≡ GoesOn → new.turn ≡ at → at.scheduler ≡ turn.scheduler → at.tid ≡ turn.tid → at.left ≡ turn.left - 1 → 0 < new.recorder.made → shows.GoesOn old new
-  GoesOn-turn at e is turns tid less made =
-      let goes : turn_status ≡ Ends Deep → ⊥ = λ bad. absurd (let no : GoesOn ≡ Ends Deep = sym e ∙ bad in cc) in
-      record {
-        going = record {
-          told = moved.adds.told;
-          way = λ some. record {
-            last = ap (λ (a : CurrentTurn). a.tid) is ∙ tid ∙ moved.way.last ∙ ap (λ (k : SchedulerState). k.last) (sym turns) ∙ ap (λ (a : CurrentTurn). a.scheduler.last) (sym is);
-            able = ap (λ t. can_run (machine_of new.traced.machine) t) (ap (λ (a : CurrentTurn). a.tid) is ∙ tid) ∙ able-after e;
-          };
-          made = λ some. made;
-        };
-        shows = λ n.
-            ap (shown old) (run-by_status n ∙ ap (by_turn_status (run_from (watched_of old) n) (move_made old turn opens) (to old turn) (given old turn.tid).state) e)
-            ∙ shown-whole goes _
-            ∙ ap (λ k. shown new (run_from (watched_of old) n (position_after (to old turn) (given old turn.tid).state k))) (pred-minus turn.left ∙ sym less)
-            ∙ ap (shown new) (left-after goes at is turns n);
-        greatest_is = moved.adds.greatest_is;
-        entry = moved.adds.entry;
-      }
+        pub goes_turn : status ≡ GoesOn → new.turn.scheduler ≡ turn.scheduler → new.turn.tid ≡ turn.tid → new.turn.left ≡ turn.left - 1 → 0 < new.recorder.made →
+            going.GoesOn Stands fits first start moves before new watched after
+        goes_turn e turns tid less began =
+            let on : status ≡ Ends Deep → ⊥ = λ bad. absurd (let no_end : GoesOn ≡ Ends Deep = sym e ∙ bad in cc) in
+            let fit = fitting-now on in
+            let m = machine_of old.stepper.machine in
+            let able : can_run (step m turn.tid).machine turn.tid ≡ true = step_able m turn.tid way.able (goes_went turn.tid (step m turn.tid).outcome (sym fit.1 ∙ e)) in
+            goes-on fit.0
+            (leads-on (pred turn.left) (λ n. run-by_status n ∙ ap (rest_by old turn opens n) (sym fit.1 ∙ e)) turns (less ∙ sym (pred-minus turn.left)))
+            (λ some. record {
+              last = tid ∙ way.last ∙ ap (λ (k : SchedulerState). k.last) (sym turns);
+              able = ap (can_run (machine_of new.stepper.machine)) tid ∙ ap (λ (k : MachineState). can_run k turn.tid) is.state ∙ able;
+            })
+            (λ some. began)

@@ -9,7 +9,8 @@ use Rattle.guest_words.specs.declared.endings.Finish.{Finish}
 use Rattle.guest_words.specs.declared.endings.Finish.TheVariants.{Exit, Fault, Budget, Deadlock, Deep, Schedule}
 use Rattle.guest_words.specs.declared.endings.FaultKind.{FaultKind}
 use Rattle.trace_model.specs.declared.event_kinds.Event.{Event}
-use Rattle.trace_model.specs.Depth.{is_within}
+use Rattle.trace_model.specs.Cut.{IsPrefixClosed, past_after}
+use Rattle.trace_model.proofs.Cut.{cut-fits, fits-earlier, past_after-append}
 use Rattle.thread_sched.specs.declared.entry.Entry.{Entry}
 use Rattle.thread_sched.specs.declared.turns.Turn.{Turn}
 use Rattle.thread_sched.specs.declared.turns.Turn.TheVariants as turn
@@ -23,9 +24,8 @@ use Rattle.guest_run.specs.declared.turn_status.TurnStatus.TheVariants.{GoesOn, 
 use Rattle.guest_run.specs.Machine.{Machine, guest, turn_status_of}
 use Rattle.guest_run.specs.Run.{Move, WrittenRun, Position, Chosen, by_turn, chosen_by, chosen, with_move, by_turn_status, move_of, go_on, run_from, run, start, events_of, current, recording}
 use Rattle.guest_run.specs.Run.Chosen.{Moves, Stops}
-use Rattle.guest_run.specs.Profiled.{Profiled, past_after, moves_kept, profiled}
+use Rattle.guest_run.specs.Profiled.{Profiled, moves_kept, profiled}
 use Rattle.guest_run.specs.Laws.{EndsDeepExactly, StaysWithin, SpendsBudget, RecordsProfiledTurns, RecordsTurns, IsPrefix, ProfilesPart}
-use Rattle.guest_run.proofs.Pasts.{cut-within, past_after-append, within-earlier}
 use Rattle.guest_run.proofs.Replayed.{current-over}
 
 -- A fact of every run from a position on, by a step: it holds where there is no move, and goes over a move.
@@ -152,36 +152,41 @@ records_turns {State} machine turns budget state =
     }
 
 -- ---- what is profiled
-kept-prefix : (most : ℕ) (past : List Event) (moves : List Move) → IsPrefix (moves_kept most past moves) moves
-kept-prefix most past [] = ([], refl)
-kept-prefix most past (move ∷ moves) = by (is_within (past_after past move.events) most) (kept-prefix most (past_after past move.events) moves)
+kept-prefix : (fits : List Event → Bool) (past : List Event) (moves : List Move) → IsPrefix (moves_kept fits past moves) moves
+kept-prefix fits past [] = ([], refl)
+kept-prefix fits past (move ∷ moves) = by (fits (past_after past move.events)) (kept-prefix fits (past_after past move.events) moves)
   where
-    by : (b : Bool) → IsPrefix (moves_kept most (past_after past move.events) moves) moves →
-        IsPrefix (move ∷ cond b (moves_kept most (past_after past move.events) moves) []) (move ∷ moves)
+    by : (b : Bool) → IsPrefix (moves_kept fits (past_after past move.events) moves) moves →
+        IsPrefix (move ∷ cond b (moves_kept fits (past_after past move.events) moves) []) (move ∷ moves)
     by true ih = (ih.0, ap (λ ms. move ∷ ms) ih.1)
     by false ih = (moves, refl)
 
-kept-whole : (most : ℕ) (past : List Event) (moves : List Move) → is_within (past_after past (events_of moves)) most ≡ true → moves_kept most past moves ≡ moves
-kept-whole most past [] h = refl
-kept-whole most past (move ∷ moves) h =
-    by (is_within (past_after past move.events) most) refl (kept-whole most (past_after past move.events) moves) (ap (λ p. is_within p most) (sym (past_after-append past move.events (events_of moves))) ∙ h)
+kept-whole : (fits : List Event → Bool) → IsPrefixClosed fits → (past : List Event) (moves : List Move) → fits (past_after past (events_of moves)) ≡ true → moves_kept fits past moves ≡ moves
+kept-whole fits closed past [] h = refl
+kept-whole fits closed past (move ∷ moves) h =
+    by (fits (past_after past move.events)) refl (kept-whole fits closed (past_after past move.events) moves) (ap fits (sym (past_after-append past move.events (events_of moves))) ∙ h)
   where
-    by : (b : Bool) → is_within (past_after past move.events) most ≡ b →
-        (is_within (past_after (past_after past move.events) (events_of moves)) most ≡ true → moves_kept most (past_after past move.events) moves ≡ moves) →
-        is_within (past_after (past_after past move.events) (events_of moves)) most ≡ true →
-        move ∷ cond b (moves_kept most (past_after past move.events) moves) [] ≡ move ∷ moves
+    by : (b : Bool) → fits (past_after past move.events) ≡ b →
+        (fits (past_after (past_after past move.events) (events_of moves)) ≡ true → moves_kept fits (past_after past move.events) moves ≡ moves) →
+        fits (past_after (past_after past move.events) (events_of moves)) ≡ true →
+        move ∷ cond b (moves_kept fits (past_after past move.events) moves) [] ≡ move ∷ moves
     by true e ih h' = ap (λ ms. move ∷ ms) (ih h')
-    by false e ih h' = absurd (true≢false (sym h' ∙ within-earlier (past_after past move.events) (reverse (events_of moves)) most e))
+    by false e ih h' = absurd (true≢false (sym h' ∙ fits-earlier fits closed (past_after past move.events) (reverse (events_of moves)) e))
+
+-- what is observed of a run is its first moves
+pub profiled-prefix : (fits : List Event → Bool) (past : List Event) (whole : WrittenRun) → IsPrefix (profiled fits past whole).moves whole.moves
+unfolding profiled
+profiled-prefix fits past whole = kept-prefix fits past whole.moves
 
 pub profiles_part : ProfilesPart
 unfolding profiled
-profiles_part most past whole =
+profiles_part fits past whole closed =
     let all = past_after past (events_of whole.moves) in
     record {
-      moves = kept-prefix most past whole.moves;
+      moves = kept-prefix fits past whole.moves;
       passed = λ h.
-          ap (λ ms. record { moves = ms; past = (profiled most past whole).past; finish = (profiled most past whole).finish }) (kept-whole most past whole.moves h)
-          ∙ ap (λ p. record { moves = whole.moves; past = p; finish = (profiled most past whole).finish }) (cut-within all most h)
+          ap (λ ms. record { moves = ms; past = (profiled fits past whole).past; finish = (profiled fits past whole).finish }) (kept-whole fits closed past whole.moves h)
+          ∙ ap (λ p. record { moves = whole.moves; past = p; finish = (profiled fits past whole).finish }) (cut-fits fits all h)
           ∙ ap (λ b. record { moves = whole.moves; past = all; finish = cond b whole.finish Deep }) h;
       failed = λ h. ap (λ b. cond b whole.finish Deep) h;
     }
@@ -195,32 +200,32 @@ current-prefix (move ∷ moves) rest = by move.opens (current-prefix moves rest)
     by true ih = omega arith
     by false ih = omega (arith, ih)
 
-pub profiled_within : (most : ℕ) (past : List Event) (turns : SchedulerState) (budget : ℕ) (state : MachineState) →
-    length (profiled most past (run guest turns budget state)).moves ≤ budget
-profiled_within most past turns budget state =
+pub profiled_within : (fits : List Event → Bool) (past : List Event) (turns : SchedulerState) (budget : ℕ) (state : MachineState) →
+    length (profiled fits past (run guest turns budget state)).moves ≤ budget
+profiled_within fits past turns budget state =
     let whole = run guest turns budget state in
-    let part = profiled most past whole in
-    let begins : IsPrefix part.moves whole.moves = (profiles_part most past whole).moves in
+    let part = profiled fits past whole in
+    let begins : IsPrefix part.moves whole.moves = profiled-prefix fits past whole in
     let both : length (part.moves ++ begins.0) ≡ length whole.moves = ap length begins.1 in
     omega (arith, both, length-append part.moves begins.0, stays_within guest turns budget state)
 
 pub records_profiled_turns : RecordsProfiledTurns
-records_profiled_turns most past turns budget state =
+records_profiled_turns fits past turns budget state =
     let whole = run guest turns budget state in
-    let part = profiled most past whole in
-    let begins : IsPrefix part.moves whole.moves = (profiles_part most past whole).moves in
+    let part = profiled fits past whole in
+    let begins : IsPrefix part.moves whole.moves = profiled-prefix fits past whole in
     let same : current (part.moves ++ begins.0) ≡ current whole.moves = ap current begins.1 in
     let over : current whole.moves ≡ 0 = current-over guest budget (start turns state) refl in
     record {
-      each = recording-each budget part.moves (profiled_within most past turns budget state);
+      each = recording-each budget part.moves (profiled_within fits past turns budget state);
       all = omega (arith, recording-sum part.moves, current-prefix part.moves begins.0, same, over);
     }
 
 pub ends_deep : EndsDeepExactly
-ends_deep most past turns budget state =
+ends_deep fits past turns budget state closed =
     let whole = run guest turns budget state in
-    let part = profiles_part most past whole in (
-      λ deep. elim (cases_Bool (is_within (past_after past (events_of whole.moves)) most)) [
+    let part = profiles_part fits past whole closed in (
+      λ deep. elim (cases_Bool (fits (past_after past (events_of whole.moves)))) [
         | inl h ↦ absurd (never_deep turns budget state (sym (ap (λ (p : Profiled). p.finish) (part.passed h)) ∙ deep))
         | inr h ↦ h
       ],

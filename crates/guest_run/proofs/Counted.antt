@@ -4,7 +4,7 @@ use Rattle.std.proofs.lemmas.List.{reverse-append}
 use Rattle.guest_words.specs.declared.endings.Finish.{Finish}
 use Rattle.guest_words.specs.declared.endings.Finish.TheVariants.{Exit, Fault, Deadlock, Schedule}
 use Rattle.trace_model.specs.declared.event_kinds.Event.{Event}
-use Rattle.trace_model.specs.Depth.{cut, is_within}
+use Rattle.trace_model.specs.Cut.{cut, past_after}
 use Rattle.trace_model.specs.Profile.{steps}
 use Rattle.guest_calls.specs.Kernel.{ready}
 use Rattle.thread_sched.specs.TurnRule.{SchedulerState, turn_of}
@@ -19,11 +19,11 @@ use Rattle.guest_run.specs.declared.turn_status.TurnStatus.TheVariants.{Ends}
 use Rattle.guest_run.specs.Machine.{guest, turn_status_of}
 use Rattle.guest_run.specs.Run.{WrittenRun, Position, by_turn, chosen, chosen_by, events_of, run, run_from, start}
 use Rattle.guest_run.specs.Run.Chosen.{Stops}
-use Rattle.guest_run.specs.Profiled.{past_after, profiled}
+use Rattle.guest_run.specs.Profiled.{profiled}
 use Rattle.guest_run.specs.Laws.{CountsSteps, StepsWithin, faults}
 use Rattle.guest_run.proofs.Bounds.{each_run, stays_within}
 
-steps-reverse : (xs : List Event) → steps (reverse xs) ≡ steps xs
+pub steps-reverse : (xs : List Event) → steps (reverse xs) ≡ steps xs
 steps-reverse [] = refl
 steps-reverse (x ∷ xs) =
     let whole : steps (reverse (x ∷ xs)) ≡ steps (reverse xs) + steps (x ∷ []) = ap steps (reverse-append (x ∷ []) xs) ∙ steps-append (reverse xs) (x ∷ []) in
@@ -83,15 +83,15 @@ counts_steps turns budget state =
     ap (λ n. n + faults whole.finish) (steps-reverse (events_of whole.moves)) ∙ guest_counts budget (start turns state)
 
 -- a cut has no more steps than the whole
-cut-steps : (past : List Event) (most : ℕ) → steps (cut past most) ≤ steps past
-cut-steps [] most = omega arith
-cut-steps (e ∷ past) most = by (is_within (e ∷ past) most) (cut-steps past most) (steps-append (e ∷ []) past)
+cut-steps : (fits : List Event → Bool) (past : List Event) → steps (cut fits past) ≤ steps past
+cut-steps fits [] = omega arith
+cut-steps fits (e ∷ past) = by (fits (e ∷ past)) (cut-steps fits past) (steps-append (e ∷ []) past)
   where
-    by : (b : Bool) → steps (cut past most) ≤ steps past → steps (e ∷ past) ≡ steps (e ∷ []) + steps past → steps (cond b (e ∷ past) (cut past most)) ≤ steps (e ∷ past)
+    by : (b : Bool) → steps (cut fits past) ≤ steps past → steps (e ∷ past) ≡ steps (e ∷ []) + steps past → steps (cond b (e ∷ past) (cut fits past)) ≤ steps (e ∷ past)
     by true ih whole = omega arith
     by false ih whole = omega (arith, ih, whole)
 
--- the whole past has at most as many as the budget, beside those before the first move
+-- the whole past has at fits as many as the budget, beside those before the first move
 pub steps_whole : (past : List Event) (turns : SchedulerState) (budget : ℕ) (state : MachineState) →
     steps (past_after past (events_of (run guest turns budget state).moves)) ≤ steps past + budget
 steps_whole past turns budget state =
@@ -100,6 +100,6 @@ steps_whole past turns budget state =
 
 pub steps_within : StepsWithin
 unfolding profiled
-steps_within most past turns budget state =
+steps_within fits past turns budget state =
     let all = past_after past (events_of (run guest turns budget state).moves) in
-    omega (arith, cut-steps all most, steps_whole past turns budget state)
+    omega (arith, cut-steps fits all, steps_whole past turns budget state)

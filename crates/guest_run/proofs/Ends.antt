@@ -1,109 +1,135 @@
 -- A run from its begin to its end.
-use Rattle.std.proofs.Common.{◌≡◌, ℕ, suc, ◌+◌, ◌-◌, ◌<◌, ◌≤◌, ◌*◌, List, [], ◌++◌, true, reverse, sym, ap, ap₂, subst, ◌∙◌, append-nil, arith}
-use Rattle.std.specs.Prelude.{nat_le}
-use Rattle.std.proofs.lemmas.Bool.{le-leb, and_from}
+use Rattle.std.proofs.Common.{◌≡◌, ℕ, suc, ◌+◌, ◌-◌, ◌<◌, ◌≤◌, Bool, true, List, [], ◌∷◌, ◌++◌, length, length-append, Result, Ok, Err, IfOk, IfErr, refl, sym, ap, subst, ◌∙◌, append-nil, arith}
 use Rattle.guest_words.specs.declared.endings.Finish.{Finish}
 use Rattle.guest_words.specs.declared.endings.Finish.TheVariants.{Budget}
 use Rattle.trace_model.specs.declared.event_kinds.Event.{Event}
-use Rattle.trace_model.specs.Depth.{cut, is_within, pending}
-use Rattle.trace_model.specs.Profile.{steps}
-use Rattle.thread_sched.specs.declared.entry.Entry.{Entry}
+use Rattle.trace_model.specs.WellFormed.{IsWellFormed}
 use Rattle.thread_sched.specs.TurnRule.{SchedulerState}
 use Rattle.guest_machine.specs.Kept.{Parts, machine_of}
 use Rattle.guest_machine.specs.Machine.{MachineState}
-use Rattle.guest_run.specs.declared.run.Run.{Run}
+use Rattle.guest_machine.specs.Start as machine
+use Rattle.guest_run.specs.declared.run.Ended.{Ended}
 use Rattle.guest_run.specs.declared.run.Runner.{Runner}
-use Rattle.guest_run.specs.Kept.{IsNew, Told}
+use Rattle.guest_run.specs.declared.run_error.RunError.{RunError}
+use Rattle.guest_run.specs.declared.run_error.RunError.TheVariants.{CannotPut, Memory}
+use Rattle.guest_run.specs.CurrentTurn.{position, recorded, with_present}
+use Rattle.guest_run.specs.Going.{Advances, GoesOn, IsGoing, IsNewRunner, IsOver, IsPastOf, Leads, MayAdvance, observed}
 use Rattle.guest_run.specs.Machine.{guest}
-use Rattle.guest_run.specs.Going.{Ended, IsGoing, left, shown}
-use Rattle.guest_run.specs.CurrentTurn.{recorded, with_present}
-use Rattle.guest_run.specs.Profiled.{first_past, past_after, profiled}
-use Rattle.guest_run.specs.Run.{Move, WrittenRun, Position, bytes_on, current, events_of, recording, run, run_from}
-use Rattle.guest_run.specs.Shown.{IsShown, Shown, shown_of}
-use Rattle.guest_run.specs.Watched.{watched, with_cut}
-use Rattle.guest_run.proofs.Pasts.{cut-within}
-use Rattle.guest_run.proofs.Watched.{profiled_is_watched}
+use Rattle.guest_run.specs.Output.{Sinks, with_output}
+use Rattle.guest_run.specs.Profiled.{Profiled, first_past}
+use Rattle.guest_run.specs.Run.{Move, Position, current, recording, run_from, start}
+use Rattle.guest_run.specs.RunEnds.{IsAtStart, IsGivenUp, RunEnds, StopsAtPut}
+use Rattle.guest_run.proofs.Guarded.{start_sound}
+use Rattle.guest_run.proofs.Output.{output-none}
+use Rattle.guest_run.proofs.ShortParts.{first_short}
 
-abbrev none : Finish → WrittenRun
-none finish = record { moves = []; finish = finish }
+-- So many moves were made, and the run goes on.
+pub record Remains {W : Type 0} (Stands : W → List Event → Type 0) (fits : List Event → Bool) (first : List Event) (begin : Position MachineState)
+    (before : Sinks) (count : ℕ) (r : Runner) (observer : W) (now : Sinks) : Type 0 where
+  pub moves : List Move
+  pub going : IsGoing Stands fits first begin moves r observer
+  pub output : now ≡ with_output moves before
+  pub count_is : length moves ≡ count
 
--- all that was kept is shown at the end
-pub IsShown-end : (r : Runner) (finish : Finish) (run : Run) → Told r.traced.depth (reverse r.traced.events.list) →
-    run.events ≡ r.traced.events → run.steps ≡ r.traced.depth.steps → run.pending ≡ r.traced.depth.pending → run.out ≡ r.traced.out → run.err ≡ r.traced.err →
-    run.recording ≡ recorded r.recorder [] → run.finish ≡ finish → IsShown (shown r (none finish)) run
-IsShown-end r finish run told events step_count pending_count out err turns ended =
-    let past = reverse r.traced.events.list in
-    let whole : past ≡ cut past r.traced.depth.greatest = sym (cut-within past r.traced.depth.greatest told.within) in
-    record {
-      past_is = ap (λ es. reverse es.list) events ∙ whole;
-      steps_are = step_count ∙ told.stands.steps_are ∙ ap steps whole;
-      pending_are = pending_count ∙ told.stands.pending_are ∙ ap pending whole;
-      out_is = ap (λ v. v.items) out ∙ sym (append-nil r.traced.out.items);
-      err_is = ap (λ v. v.items) err ∙ sym (append-nil r.traced.err.items);
-      recorded = turns;
-      ended = ended;
-    }
+-- nothing was put before the first move
+pub not_begun : (p : Profiled) (before : Sinks) → IsGivenUp p.moves before before
+not_begun p before = record { earlier = []; later = p.moves; are = refl; output = sym (output-none before) }
 
--- where a run stands in its loop: what is shown of it in the end is what is left to show
-pub record Remains (whole : Shown) (greatest count budget : ℕ) (r : Runner) : Type 0 where
-  pub going : IsGoing r
-  pub made : r.recorder.made ≤ count
-  pub shows : whole ≡ shown r (left (budget - count) r)
+-- all of it is observed, but the recording wants memory
+over_given_up : {W : Type 0} (Stands : W → List Event → Type 0) (p : Profiled) (before : Sinks) (r : Runner) (observer : W) (after : Sinks) (finish : Finish) →
+    IsOver Stands p before r observer after finish → IsGivenUp p.moves before after
+over_given_up Stands p before r observer after finish over = record { earlier = p.moves; later = []; are = append-nil p.moves; output = over.output }
 
-pub Remains-spent : (whole : Shown) (greatest count budget : ℕ) (r : Runner) (run : Run) → Remains whole greatest count budget r → budget - count ≡ 0 → IsShown (shown r (none Budget)) run → IsShown whole run
-unfolding run_from
-Remains-spent whole greatest count budget r run remains over is = subst (λ s. IsShown s run) (sym (remains.shows ∙ ap (λ n. shown r (left n r)) over)) is
+-- so the run ends where all of it is observed
+pub ends_over : {W : Type 0} (Stands : W → List Event → Type 0) (p : Profiled) (before : Sinks) (r : Runner) (observer : W) (after : Sinks) (finish : Finish) →
+    IsOver Stands p before r observer after finish → (result : Result Ended RunError) →
+    IfOk result (λ ended. (ended.recording ≡ recorded r.recorder []) × (ended.finish ≡ finish)) → IfErr result (λ e. e ≡ Memory) →
+    RunEnds Stands p before observer after result
+ends_over Stands p before r observer after finish over (Ok ended) is none =
+    record { past = over.past; output = over.output; recorded = is.0 ∙ over.turns; finish = is.1 ∙ sym over.finish_is }
+ends_over Stands p before r observer after finish over (Err e) none is =
+    subst (λ (why : RunError). RunEnds Stands p before observer after (Err why)) (sym is) (over_given_up Stands p before r observer after finish over)
 
-next : (whole : Shown) (greatest count budget : ℕ) (r : Runner) → Remains whole greatest count budget r → count < budget → whole ≡ shown r (left (suc (budget - (count + 1))) r)
-next whole greatest count budget r remains low =
-    let some : budget - count ≡ suc (budget - (count + 1)) = omega (arith, low) in
-    remains.shows ∙ ap (λ n. shown r (left n r)) some
+module _ {W : Type 0} (Stands : W → List Event → Type 0) (fits : List Event → Bool) (first : List Event) (begin : Position MachineState)
+    (before : Sinks) (count : ℕ) (r : Runner) (observer : W) (now : Sinks) (remains : Remains Stands fits first begin before count r observer now) where
+  pub may_advance : count < 1000000000000 → MayAdvance Stands fits r observer
+  may_advance room = record {
+    first = first;
+    start = begin;
+    moves = remains.moves;
+    going = remains.going;
+    room = omega (arith, room, remains.count_is);
+  }
 
-pub Remains-ends : (whole : Shown) (greatest count budget : ℕ) (r new : Runner) (finish : Finish) (run : Run) → Remains whole greatest count budget r → count < budget → Ended r new finish → IsShown (shown new (none finish)) run → IsShown whole run
-Remains-ends whole greatest count budget r new finish run remains low ended is =
-    subst (λ s. IsShown s run) (sym (next whole greatest count budget r remains low ∙ ended.shows (budget - (count + 1)))) is
+  pub remains_next : (new : Runner) (watched : W) (after : Sinks) → GoesOn Stands fits first begin remains.moves before new watched after →
+      Remains Stands fits first begin before (count + 1) new watched after
+  remains_next new watched after goes = record {
+    moves = remains.moves ++ goes.move ∷ [];
+    going = goes.going;
+    output = goes.output;
+    count_is = omega (arith, length-append remains.moves (goes.move ∷ []), remains.count_is);
+  }
 
--- the begin
-first-within : (entry greatest : ℕ) → 6 ≤ greatest → is_within (first_past entry) greatest ≡ true
-first-within entry greatest enough =
-    and_from (nat_le (3 * (pending (first_past entry) + 1)) greatest) (nat_le 3 greatest) (le-leb 6 greatest enough) (le-leb 3 greatest (omega (arith, enough)))
+  -- the whole budget, by the moves so far
+  budget-by : (budget : ℕ) → count < budget → length remains.moves + suc (budget - (count + 1)) ≡ budget
+  budget-by budget low = omega (arith, remains.count_is, low)
 
+  pub over_by : (budget : ℕ) → count < budget → (new : Runner) (watched : W) (after : Sinks) (finish : Finish) →
+      ((n : ℕ) → IsOver Stands (observed fits first begin (length remains.moves + suc n)) before new watched after finish) →
+      IsOver Stands (observed fits first begin budget) before new watched after finish
+  over_by budget low new watched after finish over =
+      subst (λ n. IsOver Stands (observed fits first begin n) before new watched after finish) (budget-by budget low) (over (budget - (count + 1)))
+
+  -- it is given up by the next move
+  pub ends_failed : (budget : ℕ) → count < budget → (new : Runner) (watched : W) (after : Sinks) (e : RunError) →
+      Advances Stands fits first begin remains.moves before new watched after (Err e) → RunEnds Stands (observed fits first begin budget) before watched after (Err e)
+  ends_failed budget low new watched after (CannotPut channel) fails =
+      subst (λ n. StopsAtPut channel (observed fits first begin n).moves before after) (budget-by budget low) (fails (budget - (count + 1)))
+  ends_failed budget low new watched after Memory fails =
+      subst (λ n. IsGivenUp (observed fits first begin n).moves before after) (budget-by budget low) (fails (budget - (count + 1)))
+
+-- ---- the begin
 no-turn : (tid made : ℕ) (moves : List Move) → made ≡ 0 → with_present tid made (current moves) (recording moves) ≡ recording moves
 no-turn tid made moves none = ap (λ n. with_present tid n (current moves) (recording moves)) none
 
-pub Remains-first : (machine : Parts) (turns : SchedulerState) (greatest budget : ℕ) (r : Runner) → 6 ≤ greatest → IsNew machine greatest r.traced → r.turn.scheduler ≡ turns → r.turn.left ≡ 0 → r.recorder.turns ≡ [] → r.recorder.made ≡ 0 →
-    Remains (shown_of (profiled greatest (first_past machine.entry) (run guest turns budget (machine_of machine)))) greatest 0 budget r
-Remains-first machine turns greatest budget r enough new turns_is over no_turns none_made = record {
+first_formed : (entry : ℕ) → IsWellFormed (first_past entry)
+first_formed entry = (omega arith, omega arith, tt)
+
+past_first : (parts : Parts) → IsAtStart parts → IsPastOf (first_past parts.entry) (machine_of parts)
+past_first parts at =
+    let sound = start_sound at.image at.arguments at.inputs at.stdin in
+    let is : IsPastOf (first_past at.image.entry) (machine.start at.image at.arguments at.inputs at.stdin) = record {
+      threads = sound.0;
+      limits = sound.1;
+      formed = first_formed at.image.entry;
+      short = first_short at.image.entry;
+    } in
+    subst (λ entry. IsPastOf (first_past entry) (machine_of parts)) (sym at.entry)
+    (subst (IsPastOf (first_past at.image.entry)) (sym at.state) is)
+
+pub remains_first : {W : Type 0} (Stands : W → List Event → Type 0) (fits : List Event → Bool) (parts : Parts) (turns : SchedulerState)
+    (before : Sinks) (r : Runner) (observer : W) → IsAtStart parts → IsNewRunner parts turns r →
+    Stands observer (first_past parts.entry) → fits (first_past parts.entry) ≡ true →
+    Remains Stands fits (first_past parts.entry) (start turns (machine_of parts)) before 0 r observer before
+remains_first Stands fits parts turns before r observer at new stands fitting = record {
+  moves = [];
   going = record {
-    told = new.told;
-    way = λ some. absurd (omega (arith, some, over));
-    made = λ some. absurd (omega (arith, some, over));
+    leads = λ n. ap (run_from guest n) here;
+    stands = stands;
+    fitting = fitting;
+    past = subst (λ (m : Parts). IsPastOf (first_past parts.entry) (machine_of m)) (sym new.machine_is) (past_first parts at);
+    few = omega arith;
+    turns = λ rest. ap (λ ts. ts ++ with_present r.recorder.tid r.recorder.made (current rest) (recording rest)) new.recorded_none ∙ no-turn r.recorder.tid r.recorder.made rest new.made;
+    made = omega (arith, new.made);
+    way = λ some. absurd (omega (arith, some, new.left));
+    began = λ some. absurd (omega (arith, some, new.left));
   };
-  made = omega (arith, none_made);
-  shows = ap shown_of (profiled_is_watched guest greatest (first_past machine.entry) turns budget (machine_of machine) (first-within machine.entry greatest enough))
-      ∙ by (run (watched greatest guest) turns budget (first_past machine.entry, machine_of machine))
-      ∙ ap (shown r) same
-      ∙ ap (λ n. shown r (left n r)) (let whole : budget ≡ budget - 0 = omega arith in whole);
+  output = sym (output-none before);
+  count_is = refl;
 }
   where
-    at : ◌≡◌ {A = List Event × MachineState} (first_past machine.entry, machine_of machine) (reverse r.traced.events.list, machine_of r.traced.machine)
-    at = ap₂ (λ (past : List Event) (m : MachineState). (past, m)) (sym new.past) (ap machine_of (sym new.machine_is))
-
-    same : run (watched greatest guest) turns budget (first_past machine.entry, machine_of machine) ≡ left budget r
-    same =
-        ap (λ m. run (watched m guest) turns budget (first_past machine.entry, machine_of machine)) (sym new.greatest_is)
-        ∙ ap (λ (s : List Event × MachineState). run (watched r.traced.depth.greatest guest) turns budget s) at
-        ∙ ap (λ (k : SchedulerState). run (watched r.traced.depth.greatest guest) k budget (reverse r.traced.events.list, machine_of r.traced.machine)) (sym turns_is)
-        ∙ ap (λ n. let q : Position (List Event × MachineState) = record { state = (reverse r.traced.events.list, machine_of r.traced.machine); turns = r.turn.scheduler; left = n } in run_from (watched r.traced.depth.greatest guest) budget q) (sym over)
-
-    by : (w : WrittenRun) → shown_of (with_cut greatest (first_past machine.entry) w) ≡ shown r w
-    by w =
-        let of : List Event → List ℕ → List ℕ → List Entry → Shown = λ past out err ts. record { past = past; out = out; err = err; turns = ts; finish = w.finish } in
-        let past1 = ap (λ past. cut (past_after past (events_of w.moves)) greatest) (sym new.past) ∙ ap (λ m. cut (past_after (reverse r.traced.events.list) (events_of w.moves)) m) (sym new.greatest_is) in
-        let out1 = ap (λ bytes. bytes ++ bytes_on 1 w.moves) (sym new.out) in
-        let err1 = ap (λ bytes. bytes ++ bytes_on 2 w.moves) (sym new.err) in
-        let turns1 = sym (no-turn r.recorder.tid r.recorder.made w.moves none_made) ∙ ap (λ ts. ts ++ with_present r.recorder.tid r.recorder.made (current w.moves) (recording w.moves)) (sym no_turns) in
-        ap (λ past. of past (bytes_on 1 w.moves) (bytes_on 2 w.moves) (recording w.moves)) past1
-        ∙ ap (λ out. of (cut (past_after (reverse r.traced.events.list) (events_of w.moves)) r.traced.depth.greatest) out (bytes_on 2 w.moves) (recording w.moves)) out1
-        ∙ ap (λ err. of (cut (past_after (reverse r.traced.events.list) (events_of w.moves)) r.traced.depth.greatest) (r.traced.out.items ++ bytes_on 1 w.moves) err (recording w.moves)) err1
-        ∙ ap (λ ts. of (cut (past_after (reverse r.traced.events.list) (events_of w.moves)) r.traced.depth.greatest) (r.traced.out.items ++ bytes_on 1 w.moves) (r.traced.err.items ++ bytes_on 2 w.moves) ts) turns1
+    here : start turns (machine_of parts) ≡ position (machine_of r.stepper.machine) r.turn
+    here =
+        ap (λ (m : Parts). start turns (machine_of m)) (sym new.machine_is)
+        ∙ ap (λ (k : SchedulerState). start k (machine_of r.stepper.machine)) (sym new.scheduler)
+        ∙ ap (λ l. let q : Position MachineState = record { state = machine_of r.stepper.machine; turns = r.turn.scheduler; left = l } in q) (sym new.left)

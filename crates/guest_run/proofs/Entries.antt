@@ -17,7 +17,7 @@ use Rattle.guest_run.specs.Run.{Move, current, recording, run}
 use Rattle.guest_run.specs.Run as runs
 use Rattle.guest_run.specs.Profiled.{first_past, profiled}
 use Rattle.guest_run.specs.Traces.{EveryRunRecordsEntries, most_moves}
-use Rattle.guest_run.proofs.Bounds.{current-le, profiled_within, profiles_part, stays_within}
+use Rattle.guest_run.proofs.Bounds.{current-le, profiled-prefix, profiled_within, stays_within}
 use Rattle.guest_run.proofs.Guarded.{IsSoundAfter, Steps, each_move, sound_next, start_able, start_sound}
 
 -- ---- the numbers of threads
@@ -70,15 +70,15 @@ numbered-first [] rest each = tt
 numbered-first (move ∷ moves) rest each = (each.0, numbered-first moves rest each.1)
 
 pub every_run_entries : EveryRunRecordsEntries
-every_run_entries image arguments inputs stdin most turns budget few =
+every_run_entries image arguments inputs stdin fits turns budget few =
     let begin = start image arguments inputs stdin in
     let past = first_past image.entry in
     let at = runs.start turns begin in
     let whole = run guest turns budget begin in
-    let part = profiled most past whole in
+    let part = profiled fits past whole in
     let each : AllByRecursion IsNumbered whole.moves = each_move IsSoundAfter _ run_numbered budget at past (start_sound image arguments inputs stdin) (start_able at refl) in
-    let begins : IsPrefix part.moves whole.moves = (profiles_part most past whole).moves in
+    let begins : IsPrefix part.moves whole.moves = profiled-prefix fits past whole in
     record {
       all = entries whole.moves each (omega (arith, stays_within guest turns budget begin, few));
-      profiled_part = entries part.moves (numbered-first part.moves begins.0 (subst (AllByRecursion IsNumbered) (sym begins.1) each)) (omega (arith, profiled_within most past turns budget begin, few));
+      profiled_part = entries part.moves (numbered-first part.moves begins.0 (subst (AllByRecursion IsNumbered) (sym begins.1) each)) (omega (arith, profiled_within fits past turns budget begin, few));
     }

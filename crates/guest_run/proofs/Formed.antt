@@ -1,7 +1,8 @@
 -- The trace of a run is well formed.
 use Rattle.std.proofs.Common.{ℕ, ◌<◌, ◌^◌, Bool, true, false, cond, List, [], ◌∷◌, ◌++◌, refl, sym, subst, arith}
 use Rattle.trace_model.specs.declared.event_kinds.Event.{Event}
-use Rattle.trace_model.specs.Depth.{cut, is_within}
+use Rattle.trace_model.specs.Cut.{cut, past_after}
+use Rattle.trace_model.proofs.Cut.{past_after-cons}
 use Rattle.trace_model.specs.WellFormed.{IsWellFormed, MayFollow, weight}
 use Rattle.guest_machine.specs.Laws.{EachFollows}
 use Rattle.guest_machine.specs.Start.{start}
@@ -10,10 +11,9 @@ use Rattle.guest_machine.proofs.Follows.{every_step_continues}
 use Rattle.guest_run.specs.Machine.{guest}
 use Rattle.guest_run.specs.Run.{events_of, run}
 use Rattle.guest_run.specs.Run as runs
-use Rattle.guest_run.specs.Profiled.{first_past, past_after, profiled}
+use Rattle.guest_run.specs.Profiled.{first_past, profiled}
 use Rattle.guest_run.specs.Traces.{EveryRunIsWellFormed}
 use Rattle.guest_run.proofs.Guarded.{IsSoundAfter, Steps, each_move, sound_next, start_able, start_sound}
-use Rattle.guest_run.proofs.Pasts.{past_after-cons}
 use Rattle.guest_run.proofs.Weights.{every_run_light, whole_light}
 
 follows-append : (xs ys past : List Event) → EachFollows xs past → EachFollows ys (past_after past xs) →
@@ -32,29 +32,29 @@ run_follows = record {
 
 -- ---- whole pasts
 -- each event may follow those before it
-abbrev AllFollow : List Event → Type 0
+abbrev pub AllFollow : List Event → Type 0
 AllFollow [] = Unit {0}
 AllFollow (e ∷ past) = MayFollow e past × AllFollow past
 
-all_after : (events past : List Event) → AllFollow past → EachFollows events past → AllFollow (past_after past events)
+pub all_after : (events past : List Event) → AllFollow past → EachFollows events past → AllFollow (past_after past events)
 all_after [] past before after = before
 all_after (e ∷ events) past before after = subst AllFollow (sym (past_after-cons past e events)) (all_after events (e ∷ past) (after.0, before) after.1)
 
-all_cut : (past : List Event) (most : ℕ) → AllFollow past → AllFollow (cut past most)
-all_cut [] most all = tt
-all_cut (e ∷ past) most all = by (is_within (e ∷ past) most) (all_cut past most all.1)
+all_cut : (past : List Event) (fits : List Event → Bool) → AllFollow past → AllFollow (cut fits past)
+all_cut [] fits all = tt
+all_cut (e ∷ past) fits all = by (fits (e ∷ past)) (all_cut past fits all.1)
   where
-    by : (b : Bool) → AllFollow (cut past most) → AllFollow (cond b (e ∷ past) (cut past most))
+    by : (b : Bool) → AllFollow (cut fits past) → AllFollow (cond b (e ∷ past) (cut fits past))
     by true rest = all
     by false rest = rest
 
-formed_of : (past : List Event) → AllFollow past → weight past < 2 ^ 62 → IsWellFormed past
+pub formed_of : (past : List Event) → AllFollow past → weight past < 2 ^ 62 → IsWellFormed past
 formed_of [] all light = tt
 formed_of (e ∷ past) all light = (all.0, light, formed_of past all.1 (omega (arith, light)))
 
 pub every_run_formed : EveryRunIsWellFormed
 unfolding profiled
-every_run_formed image arguments inputs stdin most turns budget few =
+every_run_formed image arguments inputs stdin fits turns budget few =
     let begin = start image arguments inputs stdin in
     let past = first_past image.entry in
     let events = events_of (run guest turns budget begin).moves in
@@ -62,5 +62,5 @@ every_run_formed image arguments inputs stdin most turns budget few =
     let follow : AllFollow (past_after past events) = all_after events past (omega arith, tt) follows in
     record {
       all = formed_of (past_after past events) follow (whole_light image arguments inputs stdin turns budget few);
-      profiled_part = formed_of (cut (past_after past events) most) (all_cut (past_after past events) most follow) (every_run_light image arguments inputs stdin most turns budget few);
+      profiled_part = formed_of (cut fits (past_after past events)) (all_cut (past_after past events) fits follow) (every_run_light image arguments inputs stdin fits turns budget few);
     }

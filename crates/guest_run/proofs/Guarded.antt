@@ -3,6 +3,7 @@ use Rattle.std.proofs.Common.{◌≡◌, ℕ, zero, suc, ◌<◌, Bool, true, fa
 use Rattle.std.specs.Prelude.{◌==◌, ◌||◌, nat_eq, pred}
 use Rattle.std.proofs.lemmas.Bool.{cases_eq}
 use Rattle.std.proofs.lemmas.Bool.Decides.{nat_tests}
+use Rattle.trace_model.specs.Cut.{past_after}
 use Rattle.trace_model.specs.declared.event_kinds.Event.{Event}
 use Rattle.thread_sched.specs.TurnRule.{turn_of}
 use Rattle.thread_sched.specs.declared.turns.Turn.{Turn}
@@ -23,7 +24,7 @@ use Rattle.guest_run.specs.declared.turn_status.TurnStatus.TheVariants.{GoesOn, 
 use Rattle.guest_run.specs.Machine.{guest, turn_status_of}
 use Rattle.guest_run.specs.Run.{Move, Position, Chosen, by_turn_status, by_turn, chosen, chosen_by, go_on, move_of, position_after, run_from}
 use Rattle.guest_run.specs.Run.Chosen.{Moves, Stops}
-use Rattle.guest_run.specs.Profiled.{first_past, past_after}
+use Rattle.guest_run.specs.Profiled.{first_past}
 use Rattle.guest_run.proofs.Able.{step_able}
 use Rattle.guest_run.proofs.Chosen.{turn-can}
 
@@ -51,7 +52,7 @@ chosen_able at able = by at.left able
     by zero able' = turned (turn_of at.turns (ready at.state.kernel)) refl
     by (suc more) able' = (refl, able' (omega arith))
 
-goes_went : (tid : ℕ) (outcome : Stepped) → turn_status_of tid outcome ≡ GoesOn → outcome ≡ Went
+pub goes_went : (tid : ℕ) (outcome : Stepped) → turn_status_of tid outcome ≡ GoesOn → outcome ≡ Went
 goes_went tid Went e = refl
 goes_went tid Yielded e = absurd (cc)
 goes_went tid Blocked e = absurd (cc)

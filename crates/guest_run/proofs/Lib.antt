@@ -1,12 +1,6 @@
 pub mod Able
 pub mod Chosen
-pub mod Pasts
 pub mod Watched
-pub mod OpenThreads
-pub mod Followed
-pub mod Steps
-pub mod Advances
-pub mod Ends
 pub mod Replayed
 pub mod Bounds
 pub mod Counted
@@ -15,3 +9,8 @@ pub mod ShortParts
 pub mod Weights
 pub mod Formed
 pub mod Entries
+pub mod Pasts
+pub mod Output
+pub mod Observed
+pub mod Advances
+pub mod Ends

@@ -178,13 +178,13 @@ replays_run {State} machine quantum other budget schedule state fine =
     ∙ follows machine other budget at 1 fine
 
 pub replays_profiled : ReplaysProfiled
-replays_profiled most past quantum other budget schedule state passed fine =
-    let first = profiled most past (run guest (scheduler quantum schedule) budget state) in
-    let seen = run (watched most guest) (scheduler quantum schedule) budget (past, state) in
-    let same : first ≡ with_cut most past seen = profiled_is_watched guest most past (scheduler quantum schedule) budget state passed in
+replays_profiled fits past quantum other budget schedule state closed passed fine =
+    let first = profiled fits past (run guest (scheduler quantum schedule) budget state) in
+    let seen = run (watched fits guest) (scheduler quantum schedule) budget (past, state) in
+    let same : first ≡ with_cut fits past seen = profiled_is_watched guest fits closed past (scheduler quantum schedule) budget state passed in
     let moves : first.moves ≡ seen.moves = ap (λ (r : Profiled). r.moves) same in
     let ended : first.finish ≡ seen.finish = ap (λ (r : Profiled). r.finish) same in
-    profiled_is_watched guest most past (scheduler other (recording first.moves)) budget state passed
-    ∙ ap (λ ms. with_cut most past (run (watched most guest) (scheduler other (recording ms)) budget (past, state))) moves
-    ∙ ap (with_cut most past) (replays_run (watched most guest) quantum other budget schedule (past, state) (subst IsNoMismatch ended fine))
+    profiled_is_watched guest fits closed past (scheduler other (recording first.moves)) budget state passed
+    ∙ ap (λ ms. with_cut fits past (run (watched fits guest) (scheduler other (recording ms)) budget (past, state))) moves
+    ∙ ap (with_cut fits past) (replays_run (watched fits guest) quantum other budget schedule (past, state) (subst IsNoMismatch ended fine))
     ∙ sym same

@@ -6,7 +6,8 @@ use Rattle.std.proofs.lemmas.List.Elements.{All-cons, All-head, All-nil, All-tai
 use Rattle.std.proofs.lemmas.List.Sums.{sum_by-cons}
 use Rattle.trace_model.specs.declared.event_kinds.Event.{Event}
 use Rattle.trace_model.specs.declared.event_kinds.Event.TheVariants.{Step, Read, Write, Fill, Call, Ret, Start, End}
-use Rattle.trace_model.specs.Depth.{cut, is_within}
+use Rattle.trace_model.specs.Cut.{cut, past_after}
+use Rattle.trace_model.proofs.Cut.{past_after-append, past_after-cons}
 use Rattle.trace_model.specs.Parts.{IsShort, count_read, is_step, parts, with_event}
 use Rattle.trace_model.specs.Profile.{steps}
 use Rattle.guest_machine.specs.Laws.{IsOnePart}
@@ -16,10 +17,9 @@ use Rattle.guest_machine.proofs.StepParts.{every_step_part}
 use Rattle.guest_run.specs.Machine.{guest}
 use Rattle.guest_run.specs.Run.{events_of, run}
 use Rattle.guest_run.specs.Run as runs
-use Rattle.guest_run.specs.Profiled.{first_past, past_after, profiled}
+use Rattle.guest_run.specs.Profiled.{first_past, profiled}
 use Rattle.guest_run.specs.Traces.{EveryRunIsOfShortParts}
 use Rattle.guest_run.proofs.Guarded.{IsSoundAfter, Steps, each_move, sound_next, start_able, start_sound}
-use Rattle.guest_run.proofs.Pasts.{past_after-append, past_after-cons}
 
 abbrev HasShortParts : List Event → Type 0
 HasShortParts past = All IsShort (parts past)
@@ -49,7 +49,7 @@ more_parts (e ∷ events) past part older none is few words short =
     subst HasShortParts (sym (past_after-cons past e events))
     (more_parts events (e ∷ past) (e ∷ part) older own.1 next (omega (arith, few)) (omega (arith, words, read, reads)) short)
 
-move_short : (tid : ℕ) (events past : List Event) → IsOnePart tid events → HasShortParts past →
+pub move_short : (tid : ℕ) (events past : List Event) → IsOnePart tid events → HasShortParts past →
     HasShortParts (past_after past events)
 move_short tid [] past part short = short
 move_short tid (e ∷ events) past part short =
@@ -81,25 +81,25 @@ short-older e false (part ∷ older) short =
     All-cons IsShort part older (record { events = omega (arith, head.events); words = omega (arith, head.words, reads) })
     (All-tail IsShort (e ∷ part) older short)
 
-short-cut : (past : List Event) (most : ℕ) → HasShortParts past → HasShortParts (cut past most)
-short-cut [] most short = short
-short-cut (e ∷ past) most short = by (is_within (e ∷ past) most) (short-cut past most (short-older e (is_step e) (parts past) short))
+short-cut : (fits : List Event → Bool) (past : List Event) → HasShortParts past → HasShortParts (cut fits past)
+short-cut fits [] short = short
+short-cut fits (e ∷ past) short = by (fits (e ∷ past)) (short-cut fits past (short-older e (is_step e) (parts past) short))
   where
-    by : (b : Bool) → HasShortParts (cut past most) → HasShortParts (cond b (e ∷ past) (cut past most))
+    by : (b : Bool) → HasShortParts (cut fits past) → HasShortParts (cond b (e ∷ past) (cut fits past))
     by true rest = short
     by false rest = rest
 
 -- ---- whole runs
-first_short : (entry : ℕ) → HasShortParts (first_past entry)
+pub first_short : (entry : ℕ) → HasShortParts (first_past entry)
 first_short entry =
     let reads = sum_by-cons count_read (Start 1 entry) [] in
     All-cons IsShort (Start 1 entry ∷ []) [] (record { events = omega arith; words = omega (arith, reads) }) (All-nil IsShort)
 
 pub every_run_short : EveryRunIsOfShortParts
 unfolding profiled
-every_run_short image arguments inputs stdin most turns budget =
+every_run_short image arguments inputs stdin fits turns budget =
     let begin = start image arguments inputs stdin in
     let past = first_past image.entry in
     let at = runs.start turns begin in
     let all = each_move IsSoundAfter _ run_short budget at past (start_sound image arguments inputs stdin) (start_able at refl) (first_short image.entry) in
-    record { all = all; profiled_part = short-cut (past_after past (events_of (run guest turns budget begin).moves)) most all }
+    record { all = all; profiled_part = short-cut fits (past_after past (events_of (run guest turns budget begin).moves)) all }

@@ -1,5 +1,6 @@
 -- How much the events of a run weigh.
 use Rattle.std.proofs.Common.{◌≡◌, ℕ, ◌≤◌, List, refl, arith}
+use Rattle.trace_model.specs.Cut.{past_after}
 use Rattle.trace_model.specs.Profile.{steps}
 use Rattle.trace_model.specs.WellFormed.{IsLight}
 use Rattle.trace_model.proofs.Parts.{short_light}
@@ -9,7 +10,7 @@ use Rattle.guest_calls.specs.Inputs.{Input}
 use Rattle.guest_machine.specs.Start.{start}
 use Rattle.guest_run.specs.Machine.{guest}
 use Rattle.guest_run.specs.Run.{events_of, run}
-use Rattle.guest_run.specs.Profiled.{first_past, past_after, profiled}
+use Rattle.guest_run.specs.Profiled.{first_past, profiled}
 use Rattle.guest_run.specs.Traces.{EveryRunIsLight, most_moves}
 use Rattle.guest_run.proofs.Counted.{steps_whole, steps_within}
 use Rattle.guest_run.proofs.ShortParts.{every_run_short}
@@ -25,8 +26,8 @@ whole_light image arguments inputs stdin turns budget few =
     short_light (past_after past (events_of (run guest turns budget begin).moves)) (omega (arith, steps_whole past turns budget begin, first, few)) (every_run_short image arguments inputs stdin 0 turns budget).all
 
 pub every_run_light : EveryRunIsLight
-every_run_light image arguments inputs stdin most turns budget few =
+every_run_light image arguments inputs stdin fits turns budget few =
     let past = first_past image.entry in
     let begin = start image arguments inputs stdin in
     let first : steps past ≡ 0 = refl in
-    short_light (profiled most past (run guest turns budget begin)).past (omega (arith, steps_within most past turns budget begin, first, few)) (every_run_short image arguments inputs stdin most turns budget).profiled_part
+    short_light (profiled fits past (run guest turns budget begin)).past (omega (arith, steps_within fits past turns budget begin, first, few)) (every_run_short image arguments inputs stdin fits turns budget).profiled_part

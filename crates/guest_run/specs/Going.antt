@@ -1,55 +1,99 @@
 -- A run that goes on, as the program makes it.
-use Rattle.std.specs.Prelude.{◌≡◌, ℕ, suc, ◌<◌, ◌++◌, [], List, reverse, Option, Some, None}
+use Rattle.std.specs.Prelude.{◌≡◌, ℕ, suc, ◌+◌, ◌<◌, ◌≤◌, Bool, true, List, [], ◌∷◌, ◌++◌, length, Option, Some, None, Result, Ok, Err, All}
 use Rattle.guest_words.specs.declared.endings.Finish.{Finish}
 use Rattle.trace_model.specs.declared.event_kinds.Event.{Event}
-use Rattle.trace_model.specs.Depth.{cut}
+use Rattle.trace_model.specs.Cut.{past_after}
+use Rattle.trace_model.specs.Parts.{IsShort, parts}
+use Rattle.trace_model.specs.Profile.{steps}
+use Rattle.trace_model.specs.WellFormed.{IsWellFormed}
+use Rattle.thread_sched.specs.TurnRule.{SchedulerState}
+use Rattle.guest_machine.specs.Kept.{Parts, machine_of}
+use Rattle.guest_machine.specs.Laws.{IsWithinLimits, StandsFor}
 use Rattle.guest_machine.specs.Machine.{MachineState}
-use Rattle.guest_machine.specs.Kept.{machine_of}
 use Rattle.guest_run.specs.declared.run.Runner.{Runner}
-use Rattle.guest_run.specs.Kept.{Told}
-use Rattle.guest_run.specs.Machine.{guest}
+use Rattle.guest_run.specs.declared.run_error.RunError.{RunError}
+use Rattle.guest_run.specs.declared.run_error.RunError.TheVariants.{CannotPut, Memory}
 use Rattle.guest_run.specs.CurrentTurn.{IsUnderWay, position, recorded}
-use Rattle.guest_run.specs.Profiled.{past_after}
-use Rattle.guest_run.specs.Run.{WrittenRun, Position, bytes_on, events_of, run_from}
-use Rattle.guest_run.specs.Shown.{Shown}
-use Rattle.guest_run.specs.Watched.{watched}
+use Rattle.guest_run.specs.Machine.{guest}
+use Rattle.guest_run.specs.Output.{Sinks, with_output}
+use Rattle.guest_run.specs.Profiled.{Profiled, profiled}
+use Rattle.guest_run.specs.Run.{Move, Position, WrittenRun, events_of, recording, run_from}
+use Rattle.guest_run.specs.RunEnds.{IsGivenUp, StopsAtPut}
 
--- what is shown in the end, where this was kept and then these moves are made
-abbrev pub shown : Runner → WrittenRun → Shown
-shown r run = record {
-  past = cut (past_after (reverse r.traced.events.list) (events_of run.moves)) r.traced.depth.greatest;
-  out = r.traced.out.items ++ bytes_on 1 run.moves;
-  err = r.traced.err.items ++ bytes_on 2 run.moves;
-  turns = recorded r.recorder run.moves;
-  finish = run.finish;
-}
+-- a run after these moves
+abbrev pub with_moves : List Move → WrittenRun → WrittenRun
+with_moves moves run = record { moves = moves ++ run.moves; finish = run.finish }
 
--- where the watched machine stands
-abbrev pub position_of : Runner → Position (List Event × MachineState)
-position_of r = position (reverse r.traced.events.list, machine_of r.traced.machine) r.turn
+-- The run from one position on makes these moves, and is then the run from the other.
+abbrev pub Leads : Position MachineState → List Move → Position MachineState → Type 0
+Leads start moves at = (n : ℕ) → run_from guest (length moves + n) start ≡ with_moves moves (run_from guest n at)
 
--- so many more moves of the watched machine
-abbrev pub left : ℕ → Runner → WrittenRun
-left n r = run_from (watched r.traced.depth.greatest guest) n (position_of r)
+-- The past is one of the machine: its threads are those that live after it, it is well formed, and each of its parts is short.
+pub record IsPastOf (past : List Event) (m : MachineState) : Type 0 where
+  pub threads : StandsFor m past
+  pub limits : IsWithinLimits m
+  pub formed : IsWellFormed past
+  pub short : All IsShort (parts past)
 
--- what the program keeps is true, and the thread whose turn goes on can run, as it made a move of it
-pub record IsGoing (r : Runner) : Type 0 where
-  pub told : Told r.traced.depth (reverse r.traced.events.list)
-  pub way : 0 < r.turn.left → IsUnderWay (machine_of r.traced.machine) r.turn
-  pub made : 0 < r.turn.left → 0 < r.recorder.made
+-- the past after moves
+abbrev pub past_by : List Event → List Move → List Event
+past_by first moves = past_after first (events_of moves)
 
--- the run goes on, or it ended so, by a move
-pub record GoesOn (old new : Runner) : Type 0 where
-  pub going : IsGoing new
-  pub shows : (n : ℕ) → shown old (left (suc n) old) ≡ shown new (left n new)
-  pub greatest_is : new.traced.depth.greatest ≡ old.traced.depth.greatest
-  pub entry : new.traced.machine.entry ≡ old.traced.machine.entry
+-- The run that began there made these moves so far; the observer has their events, which fit; the recording has their turns;
+-- and the thread whose turn goes on can run, as it made a move of it.
+pub record IsGoing {W : Type 0} (Stands : W → List Event → Type 0) (fits : List Event → Bool) (first : List Event)
+    (start : Position MachineState) (moves : List Move) (r : Runner) (observer : W) : Type 0 where
+  pub leads : Leads start moves (position (machine_of r.stepper.machine) r.turn)
+  pub stands : Stands observer (past_by first moves)
+  pub fitting : fits (past_by first moves) ≡ true
+  pub past : IsPastOf (past_by first moves) (machine_of r.stepper.machine)
+  pub few : steps (past_by first moves) ≤ length moves
+  pub turns : (rest : List Move) → recorded r.recorder rest ≡ recording (moves ++ rest)
+  pub made : r.recorder.made ≤ length moves
+  pub way : 0 < r.turn.left → IsUnderWay (machine_of r.stepper.machine) r.turn
+  pub began : 0 < r.turn.left → 0 < r.recorder.made
 
-pub record Ended (old new : Runner) (finish : Finish) : Type 0 where
-  pub told : Told new.traced.depth (reverse new.traced.events.list)
-  pub shows : (n : ℕ) → shown old (left (suc n) old) ≡ shown new (record { moves = []; finish = finish })
-  pub greatest_is : new.traced.depth.greatest ≡ old.traced.depth.greatest
+-- No move was made.
+pub record IsNewRunner (machine : Parts) (turns : SchedulerState) (r : Runner) : Type 0 where
+  pub machine_is : r.stepper.machine ≡ machine
+  pub scheduler : r.turn.scheduler ≡ turns
+  pub left : r.turn.left ≡ 0
+  pub recorded_none : r.recorder.turns ≡ []
+  pub made : r.recorder.made ≡ 0
 
-abbrev pub Advances : Runner → Runner → Option Finish → Type 0
-Advances old new None = GoesOn old new
-Advances old new (Some finish) = Ended old new finish
+-- The run may make one more move.
+pub record MayAdvance {W : Type 0} (Stands : W → List Event → Type 0) (fits : List Event → Bool) (r : Runner) (observer : W) : Type 0 where
+  pub first : List Event
+  pub start : Position MachineState
+  pub moves : List Move
+  pub going : IsGoing Stands fits first start moves r observer
+  pub room : length moves < 1000000000000
+
+-- what is observed of the run with so many moves at most
+abbrev pub observed : (List Event → Bool) → List Event → Position MachineState → ℕ → Profiled
+observed fits first start n = profiled fits first (run_from guest n start)
+
+-- One more move was made, and the run goes on.
+pub record GoesOn {W : Type 0} (Stands : W → List Event → Type 0) (fits : List Event → Bool) (first : List Event)
+    (start : Position MachineState) (moves : List Move) (before : Sinks) (r : Runner) (observer : W) (after : Sinks) : Type 0 where
+  pub move : Move
+  pub going : IsGoing Stands fits first start (moves ++ move ∷ []) r observer
+  pub output : after ≡ with_output (moves ++ move ∷ []) before
+
+-- This is all that is observed of the run.
+pub record IsOver {W : Type 0} (Stands : W → List Event → Type 0) (p : Profiled) (before : Sinks) (r : Runner) (observer : W) (after : Sinks) (finish : Finish) : Type 0 where
+  pub past : Stands observer p.past
+  pub output : after ≡ with_output p.moves before
+  pub turns : recorded r.recorder [] ≡ recording p.moves
+  pub finish_is : p.finish ≡ finish
+
+-- How a run goes on that made these moves so far: by one more move, to its end, or not for a put that failed or want of memory.
+abbrev pub Advances : {W : Type 0} → (W → List Event → Type 0) → (List Event → Bool) → List Event → Position MachineState → List Move → Sinks →
+    Runner → W → Sinks → Result (Option Finish) RunError → Type 0
+Advances Stands fits first start moves before r observer after (Ok None) = GoesOn Stands fits first start moves before r observer after
+Advances Stands fits first start moves before r observer after (Ok (Some finish)) =
+    (n : ℕ) → IsOver Stands (observed fits first start (length moves + suc n)) before r observer after finish
+Advances Stands fits first start moves before r observer after (Err (CannotPut channel)) =
+    (n : ℕ) → StopsAtPut channel (observed fits first start (length moves + suc n)).moves before after
+Advances Stands fits first start moves before r observer after (Err Memory) =
+    (n : ℕ) → IsGivenUp (observed fits first start (length moves + suc n)).moves before after

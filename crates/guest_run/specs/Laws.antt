@@ -1,17 +1,17 @@
 -- The laws of a run by turns.
-use Rattle.std.specs.Prelude.{◌≡◌, ◌↔◌, ℕ, ◌+◌, ◌≤◌, true, false, List, ◌++◌, length, reverse, sum_by}
+use Rattle.std.specs.Prelude.{◌≡◌, ◌↔◌, ℕ, ◌+◌, ◌≤◌, Bool, true, false, List, ◌++◌, length, reverse, sum_by}
 use Rattle.std.specs.List.{All}
 use Rattle.guest_words.specs.declared.endings.Finish.{Finish}
 use Rattle.guest_words.specs.declared.endings.Finish.TheVariants.{Exit, Fault, Budget, Deadlock, Deep, Schedule}
 use Rattle.trace_model.specs.declared.event_kinds.Event.{Event}
-use Rattle.trace_model.specs.Depth.{is_within}
+use Rattle.trace_model.specs.Cut.{IsPrefixClosed, past_after}
 use Rattle.trace_model.specs.Profile.{steps}
 use Rattle.thread_sched.specs.declared.entry.Entry.{Entry}
 use Rattle.thread_sched.specs.TurnRule.{SchedulerState}
 use Rattle.guest_machine.specs.Machine.{MachineState}
 use Rattle.guest_run.specs.Machine.{Machine, guest}
 use Rattle.guest_run.specs.Run.{WrittenRun, events_of, recording, run}
-use Rattle.guest_run.specs.Profiled.{past_after, profiled}
+use Rattle.guest_run.specs.Profiled.{profiled}
 
 -- what a scheduler knows before the first turn
 abbrev pub scheduler : ℕ → List Entry → SchedulerState
@@ -34,14 +34,14 @@ ReplaysRun {State} machine =
     let first = run machine (scheduler quantum schedule) budget state in
     IsNoMismatch first.finish → run machine (scheduler other (recording first.moves)) budget state ≡ first
 
--- So is a profiled run of the guest, whatever the greatest stamp, where no activation is too deep before its first move.
+-- So is an observed run of the guest, whatever fits its observer, where the past before its first move does.
 abbrev pub ReplaysProfiled : Type 0
 ReplaysProfiled =
-    (most : ℕ) (past : List Event) (quantum other budget : ℕ) (schedule : List Entry) (state : MachineState) →
-    is_within past most ≡ true →
-    let first = profiled most past (run guest (scheduler quantum schedule) budget state) in
+    (fits : List Event → Bool) (past : List Event) (quantum other budget : ℕ) (schedule : List Entry) (state : MachineState) →
+    IsPrefixClosed fits → fits past ≡ true →
+    let first = profiled fits past (run guest (scheduler quantum schedule) budget state) in
     IsNoMismatch first.finish →
-    profiled most past (run guest (scheduler other (recording first.moves)) budget state) ≡ first
+    profiled fits past (run guest (scheduler other (recording first.moves)) budget state) ≡ first
 
 -- A run has at most as many moves as its budget.
 abbrev pub StaysWithin : {State : Type 0} → Machine State → Type 0
@@ -64,35 +64,34 @@ RecordsTurns {State} machine =
     let whole = run machine turns budget state in
     TurnsHaveMoves (recording whole.moves) (length whole.moves) budget
 
--- So it is of what is profiled of a run of the guest.
+-- So it is of what is observed of a run of the guest.
 abbrev pub RecordsProfiledTurns : Type 0
 RecordsProfiledTurns =
-    (most : ℕ) (past : List Event) (turns : SchedulerState) (budget : ℕ) (state : MachineState) →
-    let part = profiled most past (run guest turns budget state) in
+    (fits : List Event → Bool) (past : List Event) (turns : SchedulerState) (budget : ℕ) (state : MachineState) →
+    let part = profiled fits past (run guest turns budget state) in
     TurnsHaveMoves (recording part.moves) (length part.moves) budget
 
 -- the first list is what the second begins with
 abbrev pub IsPrefix : {X : Type 0} → List X → List X → Type 0
 IsPrefix {X} xs ys = (rest : List X) × (xs ++ rest ≡ ys)
 
--- What is profiled of a run is a part of it, from its begin on; a run in which no activation is too deep is profiled whole,
--- and any other ends with `Deep`.
-pub record IsProfileOf (most : ℕ) (past : List Event) (whole : WrittenRun) : Type 0 where
-  pub moves : IsPrefix (profiled most past whole).moves whole.moves
-  pub passed : is_within (past_after past (events_of whole.moves)) most ≡ true →
-      profiled most past whole ≡ record { moves = whole.moves; past = past_after past (events_of whole.moves); finish = whole.finish }
-  pub failed : is_within (past_after past (events_of whole.moves)) most ≡ false → (profiled most past whole).finish ≡ Deep
+-- What is observed of a run is a part of it, from its begin on; a run whose whole past fits is observed whole, and any other
+-- ends with `Deep`.
+pub record IsProfileOf (fits : List Event → Bool) (past : List Event) (whole : WrittenRun) : Type 0 where
+  pub moves : IsPrefix (profiled fits past whole).moves whole.moves
+  pub passed : fits (past_after past (events_of whole.moves)) ≡ true →
+      profiled fits past whole ≡ record { moves = whole.moves; past = past_after past (events_of whole.moves); finish = whole.finish }
+  pub failed : fits (past_after past (events_of whole.moves)) ≡ false → (profiled fits past whole).finish ≡ Deep
 
 abbrev pub ProfilesPart : Type 0
-ProfilesPart = (most : ℕ) (past : List Event) (whole : WrittenRun) → IsProfileOf most past whole
+ProfilesPart = (fits : List Event → Bool) (past : List Event) (whole : WrittenRun) → IsPrefixClosed fits → IsProfileOf fits past whole
 
--- The profiled run of the guest ends `Deep` exactly where an activation of the whole run is too deep; no run ends so by
--- itself.
+-- The observed run of the guest ends `Deep` exactly where the past of the whole run does not fit; no run ends so by itself.
 abbrev pub EndsDeepExactly : Type 0
 EndsDeepExactly =
-    (most : ℕ) (past : List Event) (turns : SchedulerState) (budget : ℕ) (state : MachineState) →
+    (fits : List Event → Bool) (past : List Event) (turns : SchedulerState) (budget : ℕ) (state : MachineState) → IsPrefixClosed fits →
     let whole = run guest turns budget state in
-    ((profiled most past whole).finish ≡ Deep) ↔ (is_within (past_after past (events_of whole.moves)) most ≡ false)
+    ((profiled fits past whole).finish ≡ Deep) ↔ (fits (past_after past (events_of whole.moves)) ≡ false)
 
 -- the move that faults
 abbrev pub faults : Finish → ℕ
@@ -110,8 +109,8 @@ CountsSteps =
     let whole = run guest turns budget state in
     steps (reverse (events_of whole.moves)) + faults whole.finish ≡ length whole.moves
 
--- So what is profiled of it has at most as many steps as its budget, beside those of the past before it.
+-- So what is observed of it has at most as many steps as its budget, beside those of the past before it.
 abbrev pub StepsWithin : Type 0
 StepsWithin =
-    (most : ℕ) (past : List Event) (turns : SchedulerState) (budget : ℕ) (state : MachineState) →
-    steps (profiled most past (run guest turns budget state)).past ≤ steps past + budget
+    (fits : List Event → Bool) (past : List Event) (turns : SchedulerState) (budget : ℕ) (state : MachineState) →
+    steps (profiled fits past (run guest turns budget state)).past ≤ steps past + budget

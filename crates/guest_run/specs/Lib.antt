@@ -2,12 +2,12 @@
 pub mod Machine
 pub mod Run
 pub mod Profiled
-pub mod Shown
+pub mod Output
+pub mod RunEnds
 pub mod Laws
 pub mod Traces
 -- What the private parts owe one another.
 pub mod Watched
-pub mod Kept
-pub mod Open
 pub mod CurrentTurn
+pub mod Steps
 pub mod Going

@@ -1,7 +1,8 @@
 -- What holds of the trace of every run of the guest from its start.
-use Rattle.std.specs.Prelude.{ℕ, ◌^◌, ◌≤◌, List, All}
+use Rattle.std.specs.Prelude.{ℕ, Bool, ◌^◌, ◌≤◌, List, All}
 use Rattle.std.specs.List.{AllByRecursion}
 use Rattle.trace_model.specs.declared.event_kinds.Event.{Event}
+use Rattle.trace_model.specs.Cut.{past_after}
 use Rattle.trace_model.specs.Parts.{IsShort, parts}
 use Rattle.trace_model.specs.WellFormed.{IsLight, IsWellFormed}
 use Rattle.thread_sched.specs.ScheduleText.{IsEntry}
@@ -11,51 +12,51 @@ use Rattle.guest_calls.specs.Inputs.{Input}
 use Rattle.guest_machine.specs.Start.{start}
 use Rattle.guest_run.specs.Machine.{guest}
 use Rattle.guest_run.specs.Run.{WrittenRun, events_of, recording, run}
-use Rattle.guest_run.specs.Profiled.{first_past, past_after, profiled}
+use Rattle.guest_run.specs.Profiled.{first_past, profiled}
 
 -- a run has at most so many moves
 abbrev pub most_moves : ℕ
 most_moves = 10 ^ 12
 
--- the whole trace of a run, cut before each step, has short parts alone, and so has what is profiled of it
-pub record AreShort (most : ℕ) (past : List Event) (whole : WrittenRun) : Type 0 where
+-- the whole trace of a run, cut before each step, has short parts alone, and so has what is observed of it
+pub record AreShort (fits : List Event → Bool) (past : List Event) (whole : WrittenRun) : Type 0 where
   pub all : All IsShort (parts (past_after past (events_of whole.moves)))
-  pub profiled_part : All IsShort (parts (profiled most past whole).past)
+  pub profiled_part : All IsShort (parts (profiled fits past whole).past)
 
 -- So it is of every run from its start: the first part is the start of thread 1, and each other one is of one move.
 abbrev pub EveryRunIsOfShortParts : Type 0
 EveryRunIsOfShortParts =
     (image : Executable) (arguments : List (List ℕ)) (inputs : List Input) (stdin : List ℕ)
-    (most : ℕ) (turns : SchedulerState) (budget : ℕ)
-    → AreShort most (first_past image.entry) (run guest turns budget (start image arguments inputs stdin))
+    (fits : List Event → Bool) (turns : SchedulerState) (budget : ℕ)
+    → AreShort fits (first_past image.entry) (run guest turns budget (start image arguments inputs stdin))
 
--- What is profiled of a run is light, whatever the image, the scheduler and the greatest stamp.
+-- What is observed of a run is light, whatever the image, the scheduler and the test of its observer.
 abbrev pub EveryRunIsLight : Type 0
 EveryRunIsLight =
     (image : Executable) (arguments : List (List ℕ)) (inputs : List Input) (stdin : List ℕ)
-    (most : ℕ) (turns : SchedulerState) (budget : ℕ) → budget ≤ most_moves
-    → IsLight (profiled most (first_past image.entry) (run guest turns budget (start image arguments inputs stdin))).past
+    (fits : List Event → Bool) (turns : SchedulerState) (budget : ℕ) → budget ≤ most_moves
+    → IsLight (profiled fits (first_past image.entry) (run guest turns budget (start image arguments inputs stdin))).past
 
--- the whole trace of a run is well formed, and so is what is profiled of it
-pub record AreWellFormed (most : ℕ) (past : List Event) (whole : WrittenRun) : Type 0 where
+-- the whole trace of a run is well formed, and so is what is observed of it
+pub record AreWellFormed (fits : List Event → Bool) (past : List Event) (whole : WrittenRun) : Type 0 where
   pub all : IsWellFormed (past_after past (events_of whole.moves))
-  pub profiled_part : IsWellFormed (profiled most past whole).past
+  pub profiled_part : IsWellFormed (profiled fits past whole).past
 
 -- So each event of a run may come where it does: new threads have new numbers, and all other events are of live threads.
 abbrev pub EveryRunIsWellFormed : Type 0
 EveryRunIsWellFormed =
     (image : Executable) (arguments : List (List ℕ)) (inputs : List Input) (stdin : List ℕ)
-    (most : ℕ) (turns : SchedulerState) (budget : ℕ) → budget ≤ most_moves
-    → AreWellFormed most (first_past image.entry) (run guest turns budget (start image arguments inputs stdin))
+    (fits : List Event → Bool) (turns : SchedulerState) (budget : ℕ) → budget ≤ most_moves
+    → AreWellFormed fits (first_past image.entry) (run guest turns budget (start image arguments inputs stdin))
 
--- each turn that is recorded of a run is an entry of a schedule, and so is each of what is profiled of it
-pub record AreEntries (most : ℕ) (past : List Event) (whole : WrittenRun) : Type 0 where
+-- each turn that is recorded of a run is an entry of a schedule, and so is each of what is observed of it
+pub record AreEntries (fits : List Event → Bool) (past : List Event) (whole : WrittenRun) : Type 0 where
   pub all : AllByRecursion IsEntry (recording whole.moves)
-  pub profiled_part : AllByRecursion IsEntry (recording (profiled most past whole).moves)
+  pub profiled_part : AllByRecursion IsEntry (recording (profiled fits past whole).moves)
 
--- So the recording of a run from its start is a schedule, whatever the image, the scheduler and the greatest stamp.
+-- So the recording of a run from its start is a schedule, whatever the image, the scheduler and the test of its observer.
 abbrev pub EveryRunRecordsEntries : Type 0
 EveryRunRecordsEntries =
     (image : Executable) (arguments : List (List ℕ)) (inputs : List Input) (stdin : List ℕ)
-    (most : ℕ) (turns : SchedulerState) (budget : ℕ) → budget ≤ most_moves
-    → AreEntries most (first_past image.entry) (run guest turns budget (start image arguments inputs stdin))
+    (fits : List Event → Bool) (turns : SchedulerState) (budget : ℕ) → budget ≤ most_moves
+    → AreEntries fits (first_past image.entry) (run guest turns budget (start image arguments inputs stdin))

@@ -1,19 +1,20 @@
-//! A run of a guest, turn by turn: which thread moves next, one step of it, and what is kept of the step, up to the end of
-//! the run.
+//! A run of a guest, turn by turn: which thread moves next, and one step of it, whose bytes go out and whose events go to an
+//! observer, up to the end of the run.
 //!
-//! Contracts see a run as its list of moves and how it ended (specs/Run.antt), and the profiled run as the part of it up to
-//! the first activation that is too deep (specs/Profiled.antt).
+//! Contracts see a run as its list of moves and how it ended (specs/Run.antt), and the observed run as the part of it up to
+//! the first event that does not fit the observer (specs/Profiled.antt).
 #![tactic(auto)]
 
-mod depth;
 mod laws;
 mod run;
-mod traced;
+mod run_error;
+mod stepper;
 mod turn_status;
 mod turns;
 
 pub use laws::{recordings_are_schedules, runs_replay, runs_stay_within, traces_are_well_formed};
-pub use run::{Run, run_guest};
+pub use run::{Ended, run_guest};
+pub use run_error::{Channel, RunError};
 pub use turn_status::TurnStatus;
 
 #[cfg(test)]

@@ -1,61 +1,94 @@
 //! The run.
-ghost use Rattle.std.specs.Prelude.{◌≡◌, ◌≤◌, ◌<◌, ◌+◌, ◌^◌, ℕ, [], reverse, IfOk};
+ghost use Rattle.std.specs.Prelude.{◌≡◌, ◌≤◌, ◌+◌, ◌^◌, ℕ, [], List, true, IfOk, IfErr};
+ghost use Rattle.trace_model.specs.declared.event_kinds.Event.{Event};
 ghost use Rattle.thread_sched.specs.TurnRule.{SchedulerState};
 ghost use Rattle.guest_machine.specs.Kept.{machine_of};
-ghost use Rattle.guest_run.specs.Going.{Advances, IsGoing, shown};
-ghost use Rattle.guest_run.specs.Kept.{Told};
-ghost use Rattle.guest_run.specs.Shown.{IsShown, shown_of};
+ghost use Rattle.guest_machine.specs.Machine.{MachineState};
+ghost use Rattle.guest_run.specs.declared.run_error.RunError.TheVariants.{Memory};
+ghost use Rattle.guest_run.specs.CurrentTurn.{recorded};
+ghost use Rattle.guest_run.specs.Going.{Advances, IsGoing, IsNewRunner, MayAdvance};
 ghost use Rattle.guest_run.specs.Machine.{guest};
+ghost use Rattle.guest_run.specs.Output.{Sinks, sinks, with_output};
 ghost use Rattle.guest_run.specs.Profiled.{first_past, profiled};
-ghost use Rattle.guest_run.specs.Run.{run};
+ghost use Rattle.guest_run.specs.Run.{Move, Position, run, start};
+ghost use Rattle.guest_run.specs.RunEnds.{IsAtStart, RunEnds};
 
-use crate::TurnStatus;
-use crate::traced::Traced;
+use crate::stepper::Stepper;
 use crate::turns::{Choice, CurrentTurn, Recorder};
+use crate::{RunError, TurnStatus};
 use guest_machine::Machine;
-use guest_words::Finish;
+use guest_words::{Addr, Finish, Tid};
+use host_io::Sink;
 use std::alloc::{AllocError, Global};
 use thread_sched::{Recording, Sched};
-use trace_model::Events;
+use trace_model::{Event, Observed, Observer};
 
-/// What is known of a run that ended.
+/// What is known of a run that ended, beside what its observer knows.
 #[derive(Drop)]
-pub struct Run {
-    /// Its trace.
-    pub events: Events,
-    /// How many steps the trace has, and how many activations are open at its end.
-    pub steps: u64,
-    pub pending: u64,
-    /// The bytes that went out on channel 1 and on channel 2.
-    pub out: Vec<u8>,
-    pub err: Vec<u8>,
-    pub recording: Recording,
+pub struct Ended {
     pub finish: Finish,
+    pub recording: Recording,
 }
 
 /// A run that goes on.
 #[derive(Drop)]
 pub(crate) struct Runner {
-    pub(crate) traced: Traced,
+    pub(crate) stepper: Stepper,
     pub(crate) turn: CurrentTurn,
     pub(crate) recorder: Recorder,
 }
 
+// Thread 1 starts, which fits.
+fn observe_start<W: Observer>(observer: &mut W, entry: Addr) -> Result<(), AllocError>
+    requires stands { W.stands observer.old [] }
+    requires fits { W.fits observer.old (first_past entry) ≡ true }
+    ensures stands { IfOk result (λ u. W.stands observer.new (first_past entry)) }
+    ensures same { W.fits observer.new ≡ W.fits observer.old }
+{
+    let first = Event::Start {
+        tid: Tid::FIRST,
+        entry,
+    };
+    match observer.observe(first)? {
+        Observed::Taken => Ok(()),
+        Observed::Refused => unreachable!(),
+    }
+}
+
 impl Runner {
-    /// Makes one move, or says how the run ends, by this move or before one.
-    fn advance(&mut self) -> Result<Option<Finish>, AllocError>
-        requires going { IsGoing self.old }
-        requires room { self.old.recorder.made < 1000000000000 }
-        ensures advances { IfOk result (Advances self.old self.new) }
-        ensures made { IfOk result (λ end. self.new.recorder.made ≤ self.old.recorder.made + 1) }
+    /// A run that made no move.
+    fn new(alloc: Global, machine: Machine, turns: Sched) -> Result<Runner, AllocError>
+        ensures { IfOk result (IsNewRunner machine turns) }
     {
-        let opens = match self.turn.choose(&self.traced.machine) {
+        Ok(Runner {
+            stepper: Stepper::new(alloc, machine)?,
+            turn: CurrentTurn::new(turns),
+            recorder: Recorder::new(alloc)?,
+        })
+    }
+
+    /// Makes one move, or says how the run ends, by this move or before one.
+    fn advance<W: Observer, O: Sink, E: Sink>(
+        &mut self,
+        observer: &mut W,
+        out: &mut O,
+        err: &mut E,
+    ) -> Result<Option<Finish>, RunError>
+        requires { MayAdvance W.stands (W.fits observer.old) self.old observer.old }
+        ensures advances { (first : List Event) (start : Position MachineState) (moves : List Move) (before : Sinks)
+            → IsGoing W.stands (W.fits observer.old) first start moves self.old observer.old
+            → sinks (O.state out.old) (E.state err.old) ≡ with_output moves before
+            → Advances W.stands (W.fits observer.old) first start moves before self.new observer.new (sinks (O.state out.new) (E.state err.new)) result }
+        ensures same { W.fits observer.new ≡ W.fits observer.old }
+        ensures made { self.new.recorder.made ≤ self.old.recorder.made + 1 }
+    {
+        let opens = match self.turn.choose(&self.stepper.machine) {
             Choice::Stops { finish } => return Ok(Some(finish)),
             Choice::Moves { opens } => opens,
         };
         let tid = self.turn.tid;
         self.recorder.add(opens, tid)?;
-        match self.traced.step(tid)? {
+        match self.stepper.step(tid, observer, out, err)? {
             TurnStatus::Ends { finish } => Ok(Some(finish)),
             TurnStatus::TurnOver => {
                 self.turn.left = 0;
@@ -69,44 +102,42 @@ impl Runner {
     }
 
     /// What is known of the run, which ends so.
-    fn finish(self, finish: Finish) -> Result<Run, AllocError>
-        requires told { Told self.traced.depth (reverse self.traced.events.list) }
-        requires room { self.recorder.made ≤ 1000000000000 }
-        ensures { IfOk result (IsShown (shown self (record { moves = []; finish = finish }))) }
+    fn finish(self, finish: Finish) -> Result<Ended, RunError>
+        requires { self.recorder.made ≤ 1000000000000 }
+        ensures ended { IfOk result (λ ended. (ended.recording ≡ recorded self.recorder []) × (ended.finish ≡ finish)) }
+        ensures refused { IfErr result (λ e. e ≡ Memory) }
     {
-        let traced = self.traced;
-        Ok(Run {
-            events: traced.events,
-            steps: traced.depth.steps,
-            pending: traced.depth.pending,
-            out: traced.out,
-            err: traced.err,
-            recording: self.recorder.finish()?,
+        Ok(Ended {
             finish,
+            recording: self.recorder.finish()?,
         })
     }
 }
 
-/// Runs a machine, at most `budget` steps, up to the step by which three stamps for each open activation and three more,
-/// up to the greatest stamp, are too few. The first activation alone takes six.
-pub fn run_guest(
+/// Runs a machine that has made no step, at most `budget` steps. Each event goes to the observer as it comes, and the bytes of
+/// each write to the sink of their channel when its step is over; a put that fails ends the run at once. So does an event that
+/// the observer refuses: the run ends `Deep` by that step.
+pub fn run_guest<W: Observer, O: Sink, E: Sink>(
     alloc: Global,
     machine: Machine,
     turns: Sched,
     budget: u64,
-    greatest: u32,
-) -> Result<Run, AllocError>
+    observer: &mut W,
+    out: &mut O,
+    err: &mut E,
+) -> Result<Ended, RunError>
+    requires begins { IsAtStart machine }
     requires budget { budget ≤ 10 ^ 12 }
-    requires greatest { 6 ≤ greatest }
-    ensures { IfOk result (IsShown (shown_of (profiled greatest (first_past machine.entry) (run guest turns budget (machine_of machine))))) }
+    requires empty { W.stands observer.old [] }
+    requires first { W.fits observer.old (first_past machine.entry) ≡ true }
+    ensures ends { RunEnds W.stands (profiled (W.fits observer.old) (first_past machine.entry) (run guest turns budget (machine_of machine)))
+        (sinks (O.state out.old) (E.state err.old)) observer.new (sinks (O.state out.new) (E.state err.new)) result }
+    ensures same { W.fits observer.new ≡ W.fits observer.old }
 {
-    let mut runner = Runner {
-        traced: Traced::new(alloc, machine, greatest)?,
-        turn: CurrentTurn::new(turns),
-        recorder: Recorder::new(alloc)?,
-    };
+    observe_start(observer, machine.entry())?;
+    let mut runner = Runner::new(alloc, machine, turns)?;
     for count in 0..budget {
-        if let Some(finish) = runner.advance()? {
+        if let Some(finish) = runner.advance(observer, out, err)? {
             return runner.finish(finish);
         }
     }

@@ -1,11 +1,14 @@
+use Rattle.std.proofs.Common.{◌≡◌}
 use Rattle.guest_machine.specs.Kept.{machine_of}
-use Rattle.guest_run.specs.Machine.{guest}
-use Rattle.guest_run.specs.Profiled.{first_past, profiled}
-use Rattle.guest_run.specs.Run.{run}
-use Rattle.guest_run.specs.Shown.{shown_of}
+use Rattle.guest_run.specs.Output.{sinks}
+use Rattle.guest_run.specs.Profiled.{first_past}
+use Rattle.guest_run.specs.Run.{start}
 use Rattle.guest_run.proofs.Ends.{Remains}
 use Rattle.guest_run.proofs.run.run_guest.Given as goal
 
 abbrev pub invariant-loop-count : goal.invariant-loop-count
-invariant-loop-count l =
-    Remains (shown_of (profiled l.greatest (first_past l.fn.machine.entry) (run guest l.fn.turns l.budget (machine_of l.fn.machine)))) l.greatest l.count l.budget l.runner
+invariant-loop-count g l = record {
+  remains : Remains g.W.Observer.stands (g.W.Observer.fits l.fn.observer) (first_past l.fn.machine.entry) (start l.fn.turns (machine_of l.fn.machine))
+      (sinks (g.O.Sink.state l.fn.out) (g.E.Sink.state l.fn.err)) l.count l.runner l.observer (sinks (g.O.Sink.state l.out) (g.E.Sink.state l.err));
+  same : g.W.Observer.fits l.observer ≡ g.W.Observer.fits l.fn.observer;
+}

@@ -1,0 +1,33 @@
+//! Why a run is given up.
+
+use std::alloc::AllocError;
+use thiserror::Error;
+
+/// What a guest writes to: its standard output, or its standard error.
+#[derive(Clone, Copy, Debug, PartialEq, Eq)]
+pub enum Channel {
+    Out,
+    Err,
+}
+
+/// Why a run is given up before its end.
+#[derive(Clone, Copy, Debug, PartialEq, Eq, Error)]
+pub enum RunError {
+    /// A put of the guest's output failed.
+    #[error("the guest's output cannot be put")]
+    CannotPut { channel: Channel },
+    /// Want of memory.
+    #[error("out of memory")]
+    Memory,
+}
+
+impl From<AllocError> for RunError {
+    ghost use Rattle.std.specs.Prelude.{◌≡◌};
+    ghost use Rattle.guest_run.specs.declared.run_error.RunError.TheVariants.{Memory};
+
+    ghost from_gives = { λ _ e. e ≡ Memory };
+
+    fn from(_error: AllocError) -> RunError {
+        RunError::Memory
+    }
+}
