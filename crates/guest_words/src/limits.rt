@@ -20,7 +20,7 @@ pub const CALL_EVENTS: usize = 1025;
 pub const RUN_STEPS: u64 = 1_000_000_000_000;
 
 /// How many steps the quantum of a run can be: the steps of a turn that no schedule gives.
-pub const QUANTUM: u64 = 1_000_000_000;
+pub const QUANTUM_STEPS: u64 = 1_000_000_000;
 
 /// The weight of a trace, its events and the words that they read, is below this, so that no size and no cost passes a
 /// number of 64 bits.
