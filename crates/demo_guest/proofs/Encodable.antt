@@ -2,6 +2,7 @@
 use Rattle.std.proofs.Common.{◌≡◌, ℕ, zero, suc, ◌+◌, ◌*◌, ◌<◌, ◌≤◌, List, [], ◌∷◌, ◌++◌, length, map, get_or, Option, subst, arith}
 use Rattle.std.specs.Prelude.{pos}
 use Rattle.std.specs.List.{flat_map, range_with_len}
+use Rattle.guest_words.specs.declared.limits.TheConstants.{DEMO_ROUTINES}
 use Rattle.rv_isa.specs.declared.instruction.Instr.{Instr}
 use Rattle.rv_isa.specs.declared.instruction.Instr.TheVariants.{Jalr}
 use Rattle.rv_isa.specs.Encoding.{IsEncodable, IsImmediate, IsJumpOffset}
@@ -24,7 +25,7 @@ encodable-append (x ∷ xs) ys h k = (h.0, encodable-append xs ys h.1 k)
 pub forward : (from to : ℕ) → from ≤ to → to ≤ from + 250000 → IsJumpOffset (offset_between from to)
 forward from to order near = grind arith
 
-pub calls_encodable : (n k m : ℕ) → n ≤ 40000 → k + m ≡ n → AreEncodable (flat_map (call n) (range_with_len k m))
+pub calls_encodable : (n k m : ℕ) → n ≤ DEMO_ROUTINES → k + m ≡ n → AreEncodable (flat_map (call n) (range_with_len k m))
 calls_encodable n k zero few whole = tt
 calls_encodable n k (suc m) few whole =
     let whole-rest : k + 1 + m ≡ n = omega (arith, whole) in

@@ -4,6 +4,7 @@ use Rattle.std.specs.List.{flat_map, range_with_len}
 use Rattle.std.proofs.lemmas.Fmt.{length-decimal-le}
 use Rattle.std.proofs.lemmas.List.{length-map}
 use Rattle.std.proofs.lemmas.List.FromFn.{length-map-range_with_len}
+use Rattle.guest_words.specs.declared.limits.TheConstants.{DEMO_ROUTINES}
 use Rattle.rv_isa.specs.declared.instruction.Instr.{Instr}
 use Rattle.rv_isa.specs.Table.{decoded}
 use Rattle.rv_asm.specs.Executable.{code_end, executable, string_of}
@@ -43,7 +44,7 @@ unfolding symbols
 symbols_length n = omega (arith, length-map-range_with_len (routine_symbol n) 0 n)
 
 -- each name has at most 22 bytes with its end
-routine_names : (n k m : ℕ) → k + m ≤ 40000 → length (flat_map string_of (map (routine_symbol n) (range_with_len k m))) ≤ 22 * m
+routine_names : (n k m : ℕ) → k + m ≤ DEMO_ROUTINES → length (flat_map string_of (map (routine_symbol n) (range_with_len k m))) ≤ 22 * m
 routine_names n k zero few = omega arith
 routine_names n k (suc m) few =
     let rest : List ℕ = flat_map string_of (map (routine_symbol n) (range_with_len (k + 1) m)) in
@@ -55,25 +56,25 @@ routine_names n k (suc m) few =
       length-append (114 ∷ decimal (k + 1)) (0 ∷ []),
     )
 
-names_length : (n : ℕ) → n ≤ 40000 → length (flat_map string_of (symbols n)) ≤ 15 + 22 * n
+names_length : (n : ℕ) → n ≤ DEMO_ROUTINES → length (flat_map string_of (symbols n)) ≤ 15 + 22 * n
 unfolding symbols
 names_length n few =
-    let all : 0 + n ≤ 40000 = omega (arith, few) in
+    let all : 0 + n ≤ DEMO_ROUTINES = omega (arith, few) in
     omega (arith, routine_names n 0 n all)
 
 -- three of sixteen mebibytes
-pub file_size : (n : ℕ) (words : List ℕ) → n ≤ 40000 → map decoded words ≡ map Some (instructions n) → length (executable words (symbols n)) ≤ 3000000
+pub file_size : (n : ℕ) (words : List ℕ) → n ≤ DEMO_ROUTINES → map decoded words ≡ map Some (instructions n) → length (executable words (symbols n)) ≤ 3000000
 file_size n words few each =
     omega (arith, executable_within words (symbols n), words_size n words each, words_within n, symbols_length n, names_length n few)
 
-pub is_written : (n : ℕ) (words : List ℕ) → n ≤ 40000 → map decoded words ≡ map Some (instructions n) → IsWritten words (symbols n)
+pub is_written : (n : ℕ) (words : List ℕ) → n ≤ DEMO_ROUTINES → map decoded words ≡ map Some (instructions n) → IsWritten words (symbols n)
 is_written n words few each = record {
   some = omega (arith, words_size n words each);
   size = omega (arith, file_size n words few each);
 }
 
 -- the headers and the code are on few pages
-pub few_pages : (n : ℕ) (words : List ℕ) → n ≤ 40000 → map decoded words ≡ map Some (instructions n) → page_count (written_segment words (symbols n) ∷ []) ≤ 14336
+pub few_pages : (n : ℕ) (words : List ℕ) → n ≤ DEMO_ROUTINES → map decoded words ≡ map Some (instructions n) → page_count (written_segment words (symbols n) ∷ []) ≤ 14336
 few_pages n words few each =
     let size : code_end (length words) ≤ 2000000 = omega (arith, words_size n words each, words_within n) in
     let counted = counted_more [] (written_segment words (symbols n)) 0 0 0 (counted_none 0) (omega arith) (omega (arith, size)) (omega arith) in

@@ -2,6 +2,7 @@
 use Rattle.std.proofs.Common.{rules, ◌≡◌, ℕ, ◌+◌, ◌*◌, ◌≤◌, ◌<◌, ◌^◌, List, [], ◌∷◌, suc, None, ◌++◌, length, map, get_or, Some, Option, true, refl, ap, ap₂, subst, sym, ◌∙◌, arith}
 use Rattle.std.specs.List.{AllByRecursion, flat_map, range_with_len}
 use Rattle.std.proofs.lemmas.List.FromFn.{length-range_with_len}
+use Rattle.guest_words.specs.declared.limits.TheConstants.{DEMO_ROUTINES}
 use Rattle.rv_isa.specs.declared.instruction.Instr.{Instr}
 use Rattle.rv_isa.specs.declared.instruction.Instr.TheVariants.{Ecall}
 use Rattle.rv_isa.specs.Encoding.{IsEncodable}
@@ -55,7 +56,7 @@ behind_encodable : (n : ℕ) → AreEncodable (behind n)
 unfolding behind
 behind_encodable n = encodable-append ending (flat_map routine_code (range_with_len 0 n)) ending_encodable (routines_encodable (range_with_len 0 n))
 
-encodable : (n : ℕ) → n ≤ 40000 → AreEncodable (instructions n)
+encodable : (n : ℕ) → n ≤ DEMO_ROUTINES → AreEncodable (instructions n)
 encodable n few =
     let all : 0 + n ≡ n = omega arith in
     subst AreEncodable (sym (instructions_are n))
@@ -69,7 +70,7 @@ ready n bindings bound =
     ∙ ready-append bindings start_lines (flat_map call_lines (range_with_len 2 n) ++ map plain (behind n)) (start_ready n bindings bound)
     (ready-append bindings (flat_map call_lines (range_with_len 2 n)) (map plain (behind n)) (calls_ready n bindings bound.bound 0 n 2 all refl) (plain_ready bindings (behind n)))
 
-pub accepted : (n : ℕ) (d : Draft) → n ≤ 40000 → d.lines ≡ lines n → AreBound n d.bindings → IsAccepted d
+pub accepted : (n : ℕ) (d : Draft) → n ≤ DEMO_ROUTINES → d.lines ≡ lines n → AreBound n d.bindings → IsAccepted d
 accepted n d few is bound =
     let code : AreEncodable (resolved d.bindings 0 d.lines) = subst AreEncodable (sym (ap (resolved d.bindings 0) is ∙ whole n d.bindings bound)) (encodable n few) in
     record {

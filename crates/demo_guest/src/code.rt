@@ -10,6 +10,7 @@ ghost use Rattle.demo_guest.specs.Drafts.{call_lines, lines, plain, routine_line
 ghost use Rattle.demo_guest.specs.Drafts.{AreBound, AreRoutines, IsStarted};
 
 use crate::program::{bind, emit, emit_all, finish, jump, label};
+use guest_words::limits::DEMO_ROUTINES;
 use rv_asm::{Builder, Code, Label};
 use rv_isa::{ImmOp, Instr, LoadKind, Reg, StoreKind, Test};
 use std::alloc::{AllocError, Global};
@@ -139,7 +140,7 @@ fn emit_routine(program: &mut Builder, routine: u32) -> Result<(), AllocError>
 
 /// Appends the routines, each at its label.
 fn emit_routines(program: &mut Builder, labels: &[Label]) -> Result<(), AllocError>
-    requires few { length labels.now ≤ 40000 }
+    requires few { length labels.now ≤ DEMO_ROUTINES }
     requires labels { labels.now ≡ range_with_len 2 (length labels.now) }
     requires begin { length program.old.lines ≡ 13 + 2 * length labels.now }
     requires bindings { length program.old.bindings ≡ 2 + length labels.now }
@@ -163,7 +164,7 @@ fn routine_labels(
     program: &mut Builder,
     routines: u32,
 ) -> Result<Vec<Label>, AllocError>
-    requires few { routines ≤ 40000 }
+    requires few { routines ≤ DEMO_ROUTINES }
     requires two { length program.old.bindings ≡ 2 }
     requires unbound { (k : ℕ) → binding_of program.old.bindings k ≡ None }
     ensures labels { IfOk result (λ labels. labels.items ≡ range_with_len 2 routines) }
@@ -180,7 +181,7 @@ fn routine_labels(
 
 /// The program of the demo.
 fn demo_program(alloc: Global, routines: u32) -> Result<Builder, AllocError>
-    requires { routines ≤ 40000 }
+    requires { routines ≤ DEMO_ROUTINES }
     ensures lines { IfOk result (λ program. program.lines ≡ lines routines) }
     ensures bindings { IfOk result (λ program. AreBound routines program.bindings) }
 {
@@ -197,7 +198,7 @@ fn demo_program(alloc: Global, routines: u32) -> Result<Builder, AllocError>
 
 /// The code of the demo with so many routines.
 pub(crate) fn code(alloc: Global, routines: u32) -> Result<Code, AllocError>
-    requires { routines ≤ 40000 }
+    requires { routines ≤ DEMO_ROUTINES }
     ensures words { IfOk result (λ code. map decoded code ≡ map Some (instructions routines)) }
     ensures fit { IfOk result (λ code. AllByRecursion (λ word. word < 2 ^ 32) code) }
 {

@@ -1,5 +1,5 @@
 //! The demo as an executable.
-ghost use Rattle.std.specs.Prelude.{◌≡◌, ◌≤◌, None, IfOk};
+ghost use Rattle.std.specs.Prelude.{◌≡◌, ◌≤◌, ◌-◌, None, IfOk};
 ghost use Rattle.elf_image.specs.Image.{page_count};
 ghost use Rattle.elf_image.specs.Reading.{image_of};
 ghost use Rattle.elf_image.specs.Tests.{first_refusal};
@@ -7,17 +7,18 @@ ghost use Rattle.demo_guest.specs.Image.{IsDemoFile, OneDemoFile};
 
 use crate::code::code;
 use crate::names::symbols;
+use guest_words::limits::{DEMO_ROUTINES, PAGES, STACK_PAGES};
 use rv_asm::write_exec;
 use rv_isa::one_word_for_an_instruction;
 use std::alloc::{AllocError, Global};
 use written_images::written_files_are_accepted;
 
-/// The executable of the demo with so many routines. Of the 16384 pages of a guest it leaves the 2048 of the stack.
+/// The executable of the demo with so many routines. Of the `PAGES` of a guest it leaves the `STACK_PAGES` of the stack.
 pub fn demo_image(alloc: Global, routines: u32) -> Result<Vec<u8>, AllocError>
-    requires { (1 ≤ routines) × (routines ≤ 40000) }
+    requires { (1 ≤ routines) × (routines ≤ DEMO_ROUTINES) }
     ensures file { IfOk result (λ file. IsDemoFile routines file.items) }
     ensures accepted { IfOk result (λ file. first_refusal file.items ≡ None) }
-    ensures fits { IfOk result (λ file. page_count (image_of file.items).segments ≤ 14336) }
+    ensures fits { IfOk result (λ file. page_count (image_of file.items).segments ≤ PAGES - STACK_PAGES) }
 {
     let code = code(alloc, routines)?;
     let symbols = symbols(alloc, routines)?;

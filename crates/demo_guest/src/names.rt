@@ -4,6 +4,7 @@ ghost use Rattle.std.specs.List.{range_with_len};
 ghost use Rattle.guest_words.specs.Names.{is_name};
 ghost use Rattle.demo_guest.specs.Image.{address, routine_symbol, symbols};
 
+use guest_words::limits::DEMO_ROUTINES;
 use guest_words::{Name, NameError, push_decimal};
 use rv_asm::Symbol;
 use std::alloc::{AllocError, Global};
@@ -27,7 +28,7 @@ fn named(alloc: Global, name: &[u8], word: u32) -> Result<Symbol, AllocError>
 
 /// The name of a routine.
 fn routine_name(alloc: Global, routine: u32) -> Result<Vec<u8>, AllocError>
-    requires { routine < 40000 }
+    requires { routine < DEMO_ROUTINES }
     ensures { IfOk result (λ name. name.items ≡ 114 ∷ decimal (routine + 1)) }
 {
     let mut name = Vec::from_slice(alloc, b"r")?;
@@ -37,7 +38,7 @@ fn routine_name(alloc: Global, routine: u32) -> Result<Vec<u8>, AllocError>
 
 /// The symbol of a routine that begins at this word.
 fn routine_symbol(alloc: Global, routine: u32, word: u32) -> Result<Symbol, AllocError>
-    requires routine { routine < 40000 }
+    requires routine { routine < DEMO_ROUTINES }
     requires word { word ≤ 4000000 }
     ensures { IfOk result (λ symbol. symbol ≡ record { name = 114 ∷ decimal (routine + 1); at = address word }) }
 {
@@ -47,7 +48,7 @@ fn routine_symbol(alloc: Global, routine: u32, word: u32) -> Result<Symbol, Allo
 
 /// Appends the symbols of the routines.
 fn push_routines(alloc: Global, symbols: &mut Vec<Symbol>, routines: u32) -> Result<(), AllocError>
-    requires { routines ≤ 40000 }
+    requires { routines ≤ DEMO_ROUTINES }
     ensures { OnOk result (symbols.new.items
         ≡ symbols.old.items ++ map (routine_symbol routines) (range_with_len 0 routines)) }
 {
@@ -63,7 +64,7 @@ fn push_routines(alloc: Global, symbols: &mut Vec<Symbol>, routines: u32) -> Res
 /// The symbols of the demo with so many routines.
 #[tactic(auto, unfolding(crate::specs::Image::symbols))]
 pub(crate) fn symbols(alloc: Global, routines: u32) -> Result<Vec<Symbol>, AllocError>
-    requires { routines ≤ 40000 }
+    requires { routines ≤ DEMO_ROUTINES }
     ensures { IfOk result (λ list. list.items ≡ symbols routines) }
 {
     let mut symbols = Vec::new(alloc);

@@ -6,12 +6,13 @@ use Rattle.std.proofs.lemmas.List.{drop_all, get_or-take, get_or_default, length
 use Rattle.std.proofs.lemmas.List.Folds.{length-prefix_len, list_any_at, list_any_none}
 use Rattle.std.proofs.lemmas.List.Quantifiers.{position-Some}
 use Rattle.std.proofs.lemmas.List.Sums.{fails_before_first, passes_at_first, position_or_len_is}
+use Rattle.guest_words.specs.declared.limits.TheConstants.{NAME_BYTES}
 use Rattle.guest_words.specs.Names.{is_dash, is_name, is_visible}
 use Rattle.elf_image.specs.Symbols.{is_zero, name_in}
 
 -- bytes that are too many are no name
-too_long : (bytes : List ℕ) → 1024 < length bytes → is_name bytes ≡ false
-too_long bytes long = and_left (not (is_dash bytes) && leb 1 (length bytes) && leb (length bytes) 1024) (list_all is_visible bytes)
+too_long : (bytes : List ℕ) → NAME_BYTES < length bytes → is_name bytes ≡ false
+too_long bytes long = and_left (not (is_dash bytes) && leb 1 (length bytes) && leb (length bytes) NAME_BYTES) (list_all is_visible bytes)
     (and_right (not (is_dash bytes) && leb 1 (length bytes)) _ (lt-leb _ _ long))
 
 -- nothing passes before the place of the first
@@ -25,7 +26,7 @@ stays_none : {X : Type 0} (test : Bool) (x : X) → test ≡ false → (if test 
 stays_none true x h = cc
 stays_none false x h = refl
 
-module _ (strings : List ℕ) (offset n : ℕ) (inside : offset < length strings) (window : n ≡ min (length strings) (offset + 1024 + 1) - offset) where
+module _ (strings : List ℕ) (offset n : ℕ) (inside : offset < length strings) (window : n ≡ min (length strings) (offset + NAME_BYTES + 1) - offset) where
   some_left : n ≤ length (drop offset strings)
   some_left = omega (arith, length-drop offset strings)
 

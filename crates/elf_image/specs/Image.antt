@@ -1,6 +1,7 @@
 -- What is known of an executable that can be run: its segments in memory, where it begins, and the names of its routines.
 use Rattle.std.specs.Prelude.{◌≡◌, ℕ, ◌+◌, ◌-◌, ◌/◌, ◌%◌, ◌^◌, ◌<◌, ◌≤◌, Bool, true, false, ◌&&◌, ◌==◌, nat_le, nat_lt, List, length, Option, option_map, All, AllPairs}
 use Rattle.std.specs.List.{count_by, find, list_any, range_with_len}
+use Rattle.guest_words.specs.declared.limits.TheConstants.{PAGES}
 use Rattle.guest_words.specs.declared.rights.Rights.{Rights}
 
 -- A segment in memory: `size` bytes from `place` on, of which the first are `bytes` and the others 0.
@@ -70,7 +71,7 @@ AreApart s t = share_byte s t ≡ false
 pub record IsSound (e : Executable) : Type 0 where
   pub placed : All IsPlaced e.segments
   pub apart : AllPairs AreApart e.segments
-  pub pages : page_count e.segments ≤ 16384
+  pub pages : page_count e.segments ≤ PAGES
   pub aligned : e.entry % 4 ≡ 0
   pub runs : is_code e.segments e.entry ≡ true
   pub header_place : e.header_place < 2 ^ 32

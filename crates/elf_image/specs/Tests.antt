@@ -1,6 +1,7 @@
 -- The tests that a file has to pass, each over the whole file, in their order. Sums don't wrap.
 use Rattle.std.specs.Prelude.{ℕ, ◌+◌, ◌*◌, ◌%◌, Bool, false, not, ◌&&◌, ◌||◌, ◌==◌, nat_lt, if◌then◌else◌, List, [], ◌∷◌, ◌++◌, length, slice_index, Option, Some, None, Result, Ok, Err}
 use Rattle.std.specs.List.{list_any}
+use Rattle.guest_words.specs.declared.limits.TheConstants.{PAGES}
 use Rattle.elf_image.specs.declared.error.ElfError.{ElfError}
 use Rattle.elf_image.specs.declared.error.ElfError.TheVariants as error
 use Rattle.elf_image.specs.Headers.{file_header, program_headers}
@@ -86,9 +87,9 @@ fails_entry file =
     let entry = (file_header file).e_entry in
     not ((entry % 4 == 0) && is_code (segments_of file) entry)
 
--- the segments touch too many pages
+-- the segments touch more pages than a guest can have
 abbrev pub fails_pages : List ℕ → Bool
-fails_pages file = nat_lt 16384 (page_count (segments_of file))
+fails_pages file = nat_lt PAGES (page_count (segments_of file))
 
 -- the error of the first test that fails, among tests with their errors
 abbrev pub first_of : List (Bool × ElfError) → Option ElfError

@@ -11,10 +11,8 @@ use crate::headers::{FileHeader, ProgramHeader};
 use crate::layout::{by_place, count_pages, has_overlap, is_entry};
 use crate::segments::segments;
 use crate::{ElfError, Segment};
+use guest_words::limits::PAGES;
 use std::alloc::Global;
-
-/// How many pages the segments of an executable can touch.
-const MOST_PAGES: u32 = 16384;
 
 /// The segments, where they pass the tests together, and how many pages they touch.
 pub(crate) fn load(
@@ -42,7 +40,7 @@ pub(crate) fn load(
         return Err(ElfError::Entry);
     }
     let pages = count_pages(&ordered);
-    if pages > MOST_PAGES {
+    if pages > PAGES {
         return Err(ElfError::Pages);
     }
     let segments = segments(alloc, file, headers)?;

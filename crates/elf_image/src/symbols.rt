@@ -6,6 +6,7 @@ ghost use Rattle.elf_image.specs.Headers.{file_header, section_header};
 ghost use Rattle.std.specs.List.{cons_option, position};
 
 use crate::headers::{FileHeader, SectionHeader, half_at, word_at};
+use guest_words::limits::NAME_BYTES;
 use guest_words::{Addr, Name, NameError};
 use std::alloc::{AllocError, Global};
 
@@ -26,9 +27,6 @@ const SECTION_HEADER_SIZE: usize = 40;
 
 /// The size of a symbol (Elf32_Sym).
 const SYMBOL_SIZE: usize = 16;
-
-/// The greatest length of a name.
-const LONGEST_NAME: usize = 1024;
 
 /// A symbol that counts: its value, the rank of its binding (the lowest goes first), and its name.
 #[derive(Drop)]
@@ -64,7 +62,7 @@ fn name_in(alloc: Global, strings: &[u8], offset: usize) -> Result<Option<Name>,
     if offset >= strings.len() {
         return Ok(None);
     }
-    let end = strings.len().min(offset + LONGEST_NAME + 1);
+    let end = strings.len().min(offset + NAME_BYTES + 1);
     let window = &strings[offset..end];
     match first_zero(window) {
         None => Ok(None),

@@ -4,6 +4,7 @@ use Rattle.std.proofs.lemmas.List.{append-nil, take_more, take-append-le, length
 use Rattle.std.proofs.lemmas.List.Elements.{filter-append}
 use Rattle.std.proofs.lemmas.List.Folds.{list_any-append}
 use Rattle.std.proofs.lemmas.Bool.Decides.{nat_tests}
+use Rattle.guest_words.specs.declared.limits.TheConstants.{THREADS}
 use Rattle.futex_table.specs.declared.waiter.Waiter.{Waiter}
 use Rattle.futex_table.specs.Once.{waits, IsOnce}
 use Rattle.futex_table.specs.Waiting.{waits_at, waiters_at, without, woken, moved_to}
@@ -150,18 +151,18 @@ pub record IsParted (waiting : List Waiter) (at bits most i : ℕ) (kept taken :
   pub kept_is : kept ≡ without (take i waiting) (woken (take i waiting) at most bits)
   pub all : length kept + length taken ≡ i
   pub inside : i ≤ length waiting
-  pub has_room_kept : 32 ≤ room_kept
-  pub has_room_taken : 32 ≤ room_taken
+  pub has_room_kept : THREADS ≤ room_kept
+  pub has_room_taken : THREADS ≤ room_taken
 
 -- So many of the list are added, waiting at the other address.
 pub record IsAdded (taken before kept : List Waiter) (to i room : ℕ) : Type 0 where
   pub kept_is : kept ≡ before ++ map (moved_to to) (take i taken)
   pub few : length kept ≤ length before + i
   pub inside : i ≤ length taken
-  pub has_room : 32 ≤ room
+  pub has_room : THREADS ≤ room
 
 -- one place more, at which the thread is taken
-pub IsParted-taken : (waiting : List Waiter) (at bits most i : ℕ) (kept taken kept' taken' : List Waiter) (rk rt rk' rt' : ℕ) (w : Waiter) → IsOnce waiting → IsParted waiting at bits most i kept taken rk rt → i < length waiting → w ≡ get_or waiting i w → waits_at at bits w ≡ true → length taken < most → kept' ≡ kept → taken' ≡ taken ++ w ∷ [] → 32 ≤ rk' → 32 ≤ rt' → IsParted waiting at bits most (i + 1) kept' taken' rk' rt'
+pub IsParted-taken : (waiting : List Waiter) (at bits most i : ℕ) (kept taken kept' taken' : List Waiter) (rk rt rk' rt' : ℕ) (w : Waiter) → IsOnce waiting → IsParted waiting at bits most i kept taken rk rt → i < length waiting → w ≡ get_or waiting i w → waits_at at bits w ≡ true → length taken < most → kept' ≡ kept → taken' ≡ taken ++ w ∷ [] → THREADS ≤ rk' → THREADS ≤ rt' → IsParted waiting at bits most (i + 1) kept' taken' rk' rt'
 IsParted-taken waiting at bits most i kept taken kept' taken' rk rt rk' rt' w once parted inside is passes few same_kept same_taken room_kept room_taken =
     let front = take i waiting in
     let new : waits front w.tid ≡ false = ap (λ v. waits front v.tid) is ∙ IsOnce-before waiting i w once inside in
@@ -178,7 +179,7 @@ IsParted-taken waiting at bits most i kept taken kept' taken' rk rt rk' rt' w on
     }
 
 -- one place more, at which the thread stays
-pub IsParted-kept : (waiting : List Waiter) (at bits most i : ℕ) (kept taken kept' taken' : List Waiter) (rk rt rk' rt' : ℕ) (w : Waiter) → IsOnce waiting → IsParted waiting at bits most i kept taken rk rt → i < length waiting → w ≡ get_or waiting i w → (waits_at at bits w ≡ false) ⊎ (most ≤ length taken) → kept' ≡ kept ++ w ∷ [] → taken' ≡ taken → 32 ≤ rk' → 32 ≤ rt' → IsParted waiting at bits most (i + 1) kept' taken' rk' rt'
+pub IsParted-kept : (waiting : List Waiter) (at bits most i : ℕ) (kept taken kept' taken' : List Waiter) (rk rt rk' rt' : ℕ) (w : Waiter) → IsOnce waiting → IsParted waiting at bits most i kept taken rk rt → i < length waiting → w ≡ get_or waiting i w → (waits_at at bits w ≡ false) ⊎ (most ≤ length taken) → kept' ≡ kept ++ w ∷ [] → taken' ≡ taken → THREADS ≤ rk' → THREADS ≤ rt' → IsParted waiting at bits most (i + 1) kept' taken' rk' rt'
 IsParted-kept waiting at bits most i kept taken kept' taken' rk rt rk' rt' w once parted inside is why same_kept same_taken room_kept room_taken =
     let front = take i waiting in
     let new : waits front w.tid ≡ false = ap (λ v. waits front v.tid) is ∙ IsOnce-before waiting i w once inside in

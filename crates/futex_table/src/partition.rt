@@ -6,6 +6,7 @@ ghost use Rattle.futex_table.specs.Waiting.{waits_at, woken, without, moved_to};
 
 use crate::waiter::Waiter;
 use guest_words::Addr;
+use guest_words::limits::THREADS;
 use std::mem;
 
 // Whether the thread waits at the address, with a bit in common.
@@ -26,19 +27,19 @@ pub(crate) fn take_out(
     taken: &mut Vec<Waiter>,
 )
     requires once { IsOnce waiting.old.items }
-    requires few { vec_len waiting.old ≤ 32 }
+    requires few { vec_len waiting.old ≤ THREADS }
     requires none_spare { spare.old.items ≡ [] }
     requires none_taken { taken.old.items ≡ [] }
-    requires room { 32 ≤ vec_capacity waiting.old }
-    requires room_spare { 32 ≤ vec_capacity spare.old }
-    requires room_taken { 32 ≤ vec_capacity taken.old }
+    requires room { THREADS ≤ vec_capacity waiting.old }
+    requires room_spare { THREADS ≤ vec_capacity spare.old }
+    requires room_taken { THREADS ≤ vec_capacity taken.old }
     ensures taken { taken.new.items ≡ woken waiting.old.items at most bits }
     ensures waiting { waiting.new.items ≡ without waiting.old.items (woken waiting.old.items at most bits) }
     ensures all { vec_len waiting.new + vec_len taken.new ≡ vec_len waiting.old }
     ensures none_spare { spare.new.items ≡ [] }
-    ensures room { 32 ≤ vec_capacity waiting.new }
-    ensures room_spare { 32 ≤ vec_capacity spare.new }
-    ensures room_taken { 32 ≤ vec_capacity taken.new }
+    ensures room { THREADS ≤ vec_capacity waiting.new }
+    ensures room_spare { THREADS ≤ vec_capacity spare.new }
+    ensures room_taken { THREADS ≤ vec_capacity taken.new }
 {
     for w in waiting.iter() {
         if (taken.len() as u32) < most && waits_at(w, at, bits) {
@@ -53,10 +54,10 @@ pub(crate) fn take_out(
 
 /// Adds the taken ones behind all who wait, where they now wait at another address.
 pub(crate) fn add_moved(taken: &[Waiter], to: Addr, waiting: &mut Vec<Waiter>)
-    requires few { vec_len waiting.old + length taken.now ≤ 32 }
-    requires room { 32 ≤ vec_capacity waiting.old }
+    requires few { vec_len waiting.old + length taken.now ≤ THREADS }
+    requires room { THREADS ≤ vec_capacity waiting.old }
     ensures added { waiting.new.items ≡ waiting.old.items ++ map (moved_to to) taken.now }
-    ensures room { 32 ≤ vec_capacity waiting.new }
+    ensures room { THREADS ≤ vec_capacity waiting.new }
 {
     for w in taken {
         let moved = Waiter {

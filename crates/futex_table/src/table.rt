@@ -5,12 +5,10 @@ ghost use Rattle.futex_table.specs.Waiting.{after_wait, woken, after_wake, shift
 
 use crate::partition::{add_moved, take_out};
 use crate::waiter::Waiter;
+use guest_words::limits::THREADS;
 use guest_words::{Addr, Tid};
 use std::alloc::{AllocError, Global};
 use std::marker::Model;
-
-/// How many threads can wait.
-const ROOM: usize = 32;
 
 /// The waiting threads, in order of waiting. A thread waits at most once.
 #[derive(Drop)]
@@ -34,14 +32,14 @@ impl Model for FutexTable {
 }
 
 impl FutexTable {
-    /// No thread waits, and there is room for 32.
+    /// No thread waits, and there is room for all `THREADS` of a guest.
     pub fn new(alloc: Global) -> Result<FutexTable, AllocError>
         ensures empty { IfOk result (λ t. t ≡ []) }
     {
         Ok(FutexTable {
-            waiting: Vec::with_capacity(alloc, ROOM)?,
-            spare: Vec::with_capacity(alloc, ROOM)?,
-            taken: Vec::with_capacity(alloc, ROOM)?,
+            waiting: Vec::with_capacity(alloc, THREADS)?,
+            spare: Vec::with_capacity(alloc, THREADS)?,
+            taken: Vec::with_capacity(alloc, THREADS)?,
         })
     }
 
@@ -55,7 +53,7 @@ impl FutexTable {
     /// How many threads wait.
     pub fn len(&self) -> usize
         ensures len { result ≡ length self.now }
-        ensures bound { result ≤ 32 }
+        ensures bound { result ≤ THREADS }
         ensures once { IsOnce self.now }
     {
         self.waiting.len()
@@ -64,7 +62,7 @@ impl FutexTable {
     /// The thread begins to wait at the address, behind all others, with these bits.
     pub fn wait(&mut self, at: Addr, tid: Tid, bits: u32)
         requires once { waits self.old tid ≡ false }
-        requires room { length self.old < 32 }
+        requires room { length self.old < THREADS }
         requires bits { bits ≢ 0 }
         ensures after { self.new ≡ after_wait self.old at tid bits }
     {

@@ -5,6 +5,7 @@ use Rattle.std.specs.List.{list_any}
 use Rattle.std.proofs.lemmas.Bool.Decides.{nat_tests}
 use Rattle.std.proofs.lemmas.List.Folds.{list_any-append}
 use Rattle.std.proofs.lemmas.Bool.{or_parts}
+use Rattle.guest_words.specs.declared.limits.TheConstants.{LAST_TID, THREADS}
 use Rattle.guest_memory.specs.Memory.{Memory}
 use Rattle.rv_exec.specs.Accesses.{can_write}
 use Rattle.guest_calls.specs.declared.thread.Thread.{Thread}
@@ -14,13 +15,13 @@ use Rattle.guest_calls.specs.Kernel.{KernelState, is_thread}
 use Rattle.guest_calls.proofs.Rising.{rises_push}
 use Rattle.guest_calls.proofs.Passed.{asked_reach}
 
--- where there is room, fewer than 32 threads live
-pub room_left : (k : KernelState) → is_full k ≡ false → length k.threads < 32
-room_left k room = let few = (or_parts (nat_le 32 (length k.threads)) (k.last_tid == 4194303) room).0 in grind (arith, nat_tests, few)
+-- where there is room, fewer than `THREADS` threads live
+pub room_left : (k : KernelState) → is_full k ≡ false → length k.threads < THREADS
+room_left k room = let few = (or_parts (nat_le THREADS (length k.threads)) (k.last_tid == LAST_TID) room).0 in grind (arith, nat_tests, few)
 
 -- and the last number was not given
-pub number_left : (k : KernelState) → is_full k ≡ false → k.last_tid ≤ 4194303 → k.last_tid < 4194303
-number_left k room within = let other = (or_parts (nat_le 32 (length k.threads)) (k.last_tid == 4194303) room).1 in grind (arith, nat_tests, other)
+pub number_left : (k : KernelState) → is_full k ≡ false → k.last_tid ≤ LAST_TID → k.last_tid < LAST_TID
+number_left k room within = let other = (or_parts (nat_le THREADS (length k.threads)) (k.last_tid == LAST_TID) room).1 in grind (arith, nat_tests, other)
 
 lived_before : (ts : List Thread) (t : Thread) (q : ℕ) → list_any (is_thread q) (ts ++ t ∷ []) ≡ false → list_any (is_thread q) ts ≡ false
 lived_before ts t q gone = (or_parts (list_any (is_thread q) ts) (list_any (is_thread q) (t ∷ [])) (sym (list_any-append (is_thread q) ts (t ∷ [])) ∙ gone)).0

@@ -4,6 +4,7 @@ use Rattle.std.specs.Prelude.{not, ◌==◌, nat_lt, is_none, min, unwrap_or}
 use Rattle.std.specs.Option.{option_map_or}
 use Rattle.std.proofs.lemmas.Bool.Decides.{nat_tests}
 use Rattle.std.proofs.lemmas.List.Sums.{sum_by-cons}
+use Rattle.guest_words.specs.declared.limits.TheConstants.{CALL_EVENTS}
 use Rattle.futex_table.specs.Waiting.{all_bits}
 use Rattle.guest_memory.specs.Memory.{Memory}
 use Rattle.trace_model.specs.declared.event_kinds.Event.{Event}
@@ -30,7 +31,7 @@ use Rattle.trace_model.proofs.Bounds.{weight-append}
 use Rattle.guest_calls.proofs.Passed.{failed, found_below}
 
 record AreLight (events : List Event) : Type 0 where
-  few : length events ≤ 1025
+  few : length events ≤ CALL_EVENTS
   light : weight events ≤ 65536
 
 abbrev IsLightResult : Call → CallResult → Type 0

@@ -1,5 +1,6 @@
 -- A new thread: clone(2).
 use Rattle.std.specs.Prelude.{ℕ, ◌+◌, ◌%◌, ◌^◌, Bool, not, ◌&&◌, ◌||◌, ◌==◌, nat_le, bit_and, List, [], ◌∷◌, ◌++◌, length, slice_set, if◌then◌else◌}
+use Rattle.guest_words.specs.declared.limits.TheConstants.{LAST_TID, THREADS}
 use Rattle.guest_memory.specs.Memory.{Memory}
 use Rattle.rv_exec.specs.Accesses.{can_write}
 use Rattle.rv_exec.specs.Registers.{Registers}
@@ -33,13 +34,6 @@ sets_child = 0x1000000
 abbrev pub known_flags : ℕ
 known_flags = needed_flags + sets_tls + sets_parent + clears_child + sets_child + 0x200 + 0x400 + 0x40000 + 0x400000 + 0xFF
 
-abbrev pub thread_limit : ℕ
-thread_limit = 32
-
--- the greatest thread number
-abbrev pub tid_limit : ℕ
-tid_limit = 4194303
-
 -- the caller's registers behind the call, with 0 in a0, the stack in x2 where it is not 0, and with a tls in x4
 abbrev pub child_registers : Registers → ℕ → ℕ → ℕ → Registers
 child_registers r flags stack tls =
@@ -58,7 +52,7 @@ are_flags_taken flags = bit_and flags needed_flags == needed_flags && bit_and fl
 
 -- as many threads live as can, or the last number was given
 abbrev pub is_full : KernelState → Bool
-is_full k = nat_le thread_limit (length k.threads) || k.last_tid == tid_limit
+is_full k = nat_le THREADS (length k.threads) || k.last_tid == LAST_TID
 
 -- a word is asked for at an address where it can't be written
 abbrev pub is_denied : Memory → Bool → ℕ → Bool

@@ -1,5 +1,6 @@
 -- What holds of the kernel's state between calls.
 use Rattle.std.specs.Prelude.{◌≡◌, ℕ, ◌<◌, ◌≤◌, ◌^◌, false, List, [], ◌∷◌, length}
+use Rattle.guest_words.specs.declared.limits.TheConstants.{THREADS}
 use Rattle.futex_table.specs.Once.{waits}
 use Rattle.guest_calls.specs.declared.descriptor.Descriptor.{Descriptor}
 use Rattle.guest_calls.specs.declared.descriptor.Descriptor.TheVariants.{StandardInput, Output, InputFile}
@@ -25,7 +26,7 @@ position_of k _ = 0
 
 pub record IsState (k : KernelState) : Type 0 where
   pub rising : RisesTo 0 k.threads k.last_tid
-  pub few : length k.threads ≤ 32
+  pub few : length k.threads ≤ THREADS
   -- who does not live does not wait
   pub waiting_live : (tid : ℕ) → lives k tid ≡ false → waits k.waiting tid ≡ false
   pub stdin_within : k.stdin_position < 2 ^ 63

@@ -1,5 +1,6 @@
 -- What holds of every call.
 use Rattle.std.specs.Prelude.{◌≡◌, ℕ, ◌≤◌, ◌+◌, false, List, [], ◌∷◌, length}
+use Rattle.guest_words.specs.declared.limits.TheConstants.{CALL_EVENTS}
 use Rattle.trace_model.specs.declared.event_kinds.Event.{Event}
 use Rattle.trace_model.specs.declared.event_kinds.Event.TheVariants.{Read, Fill}
 use Rattle.trace_model.specs.WellFormed.{AreWords, weight}
@@ -17,7 +18,7 @@ EveryCallIsLight = (c : Call) → weight (call c).guest.events ≤ 65536
 
 -- they are at most one for the table of a call in parts, and one for each of at most 1024 parts
 abbrev pub EveryCallHasFewEvents : Type 0
-EveryCallHasFewEvents = (c : Call) → length (call c).guest.events ≤ 1025
+EveryCallHasFewEvents = (c : Call) → length (call c).guest.events ≤ CALL_EVENTS
 
 -- where no page from the break up to the limit is mapped, none is afterwards
 abbrev pub EveryCallKeepsTheBreakFree : Type 0

@@ -1,5 +1,6 @@
 -- The calls on the guest's pages: brk(2), mmap(2), munmap(2), mprotect(2).
 use Rattle.std.specs.Prelude.{ℕ, zero, suc, ◌+◌, ◌-◌, ◌*◌, ◌/◌, ◌%◌, ◌^◌, Bool, true, not, ◌&&◌, ◌||◌, ◌==◌, nat_le, nat_lt, is_some, is_none, unwrap_or, List, Option, Some, None}
+use Rattle.guest_words.specs.declared.limits.TheConstants.{PAGES}
 use Rattle.guest_words.specs.declared.rights.Rights.{Rights}
 use Rattle.guest_memory.specs.Memory.{Memory, AreFree, mapped_pages, with_pages, with_rights}
 use Rattle.guest_calls.specs.Errors.{enomem, einval, enosys}
@@ -24,10 +25,6 @@ maps page count rights = remaps (λ m. with_pages m page count (Some rights))
 abbrev pub unmaps : ℕ → ℕ → CallResult → CallResult
 unmaps page count = remaps (λ m. with_pages m page count None)
 
--- no more pages than this can be mapped
-abbrev pub page_limit : ℕ
-page_limit = 16384
-
 -- ---- brk
 -- the break cannot pass this
 abbrev pub break_limit : ℕ
@@ -42,7 +39,7 @@ brk_tests c =
     let old = c.kernel.program_break in
     nat_lt (arg c 0) c.kernel.first_break ⇒ old
     or nat_lt break_limit (arg c 0) ⇒ old
-    or nat_lt page_limit (mapped_pages c.memory + (pages (arg c 0) - pages old)) ⇒ old
+    or nat_lt PAGES (mapped_pages c.memory + (pages (arg c 0) - pages old)) ⇒ old
 
 -- the pages between the old and the new end are mapped, or unmapped
 abbrev pub brk_effect : Call → CallResult
@@ -95,7 +92,7 @@ mmap2_tests c =
     or has (arg c 3) 0x100010 ⇒ enosys
     or arg c 1 == 0 ⇒ einval
     or is_none (first_fit c.memory count) ⇒ enomem
-    or nat_lt page_limit (mapped_pages c.memory + count) ⇒ enomem
+    or nat_lt PAGES (mapped_pages c.memory + count) ⇒ enomem
 
 abbrev pub mmap2 : Call → CallResult
 mmap2 c =

@@ -1,6 +1,7 @@
 -- The state as the program keeps it.
 use Rattle.std.specs.Prelude.{◌≤◌}
 use Rattle.std.specs.Vec.{vec_capacity}
+use Rattle.guest_words.specs.declared.limits.TheConstants.{THREADS}
 use Rattle.guest_calls.specs.declared.state.State.TheInside.{Inside}
 use Rattle.guest_calls.specs.Invariant.{IsState}
 use Rattle.guest_calls.specs.Kernel.{KernelState}
@@ -18,7 +19,7 @@ state_in s = record {
   last_tid = s.last_tid;
 }
 
--- there is room for 32 threads
+-- there is room for `THREADS` threads
 pub record IsKept (s : Inside) : Type 0 where
-  pub room : 32 ≤ vec_capacity s.threads
+  pub room : THREADS ≤ vec_capacity s.threads
   pub state : IsState (state_in s)

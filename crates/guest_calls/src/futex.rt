@@ -22,6 +22,7 @@ use crate::operation::Operation;
 use crate::state::State;
 use crate::vectors::word_at;
 use guest_memory::GuestMemory;
+use guest_words::limits::THREADS;
 use guest_words::{Addr, Tid};
 use trace_model::Events;
 
@@ -91,7 +92,7 @@ impl State {
     fn requeue(&mut self, at: Addr, most: u32, shift: u32, to: Addr) -> (u32, u32)
         ensures woken { result.0 ≡ length (woken self.old.waiting at most all_bits) }
         ensures moved { result.1 ≡ length (shifted self.old.waiting at most shift) }
-        ensures few { (result.0 ≤ 32) × (result.1 ≤ 32) }
+        ensures few { (result.0 ≤ THREADS) × (result.1 ≤ THREADS) }
         ensures after { self.new ≡ record self.old { waiting = after_requeue self.old.waiting at most shift to } }
     {
         let _ = self.waiting.len();

@@ -11,9 +11,10 @@ ghost use Rattle.guest_calls.specs.Table.{call};
 use crate::caller::Caller;
 use crate::outgoing::Outgoing;
 use crate::state::State;
-use crate::table::{EVENTS_OF_A_CALL, WRITE, WRITEV};
+use crate::table::{WRITE, WRITEV};
 use crate::{Answer, Inputs};
 use guest_memory::{GuestMemory, Reservations};
+use guest_words::limits::CALL_EVENTS;
 use guest_words::{Addr, ReadyList, Tid};
 use rv_exec::Cpu;
 use std::alloc::{AllocError, Global};
@@ -69,9 +70,9 @@ impl Kernel {
         ensures call { IfOk result (λ answer. Gives (call (asked (record { tid = tid; cpu = cpu.now }) self.old.state memory.old held.old)) answer self.new memory.new held.new events.old events.new) }
         ensures refused { OnErr result (IsAsBefore self.old self.new memory.old memory.new held.old held.new events.old events.new) }
         ensures break_free { IsBreakFree (memory_of memory.new) self.new.state.program_break }
-        ensures room { events.old.room ≤ events.new.room + 1025 }
+        ensures room { events.old.room ≤ events.new.room + CALL_EVENTS }
     {
-        events.reserve(EVENTS_OF_A_CALL)?;
+        events.reserve(CALL_EVENTS)?;
         let caller = Caller { tid, cpu: *cpu };
         match caller.number() {
             WRITE => Ok(self.write(memory, events, &caller)),
@@ -85,8 +86,8 @@ impl Kernel {
     }
 
     /// Carries out the call that the thread's registers hold: the number in a7, the arguments in a0 to a5. The copies from
-    /// and to the guest are added to the events, in order, at most 1025 of them; that a thread is born or ends is not. All
-    /// memory is taken before anything changes.
+    /// and to the guest are added to the events, in order, at most `CALL_EVENTS` of them; that a thread is born or ends is
+    /// not. All memory is taken before anything changes.
     pub fn call(
         &mut self,
         memory: &mut GuestMemory,
@@ -101,7 +102,7 @@ impl Kernel {
         ensures refused { OnErr result (IsAsBefore self.old self.new memory.old memory.new held.old held.new events.old events.new) }
         ensures break_free { IsBreakFree (memory_of memory.new) self.new.state.program_break }
         ensures state { IsState self.new.state }
-        ensures room { events.old.room ≤ events.new.room + 1025 }
+        ensures room { events.old.room ≤ events.new.room + CALL_EVENTS }
     {
         let answer = self.carry_out(memory, held, tid, cpu, events);
         self.state.holds();

@@ -1,7 +1,7 @@
 //! Laws of the calls: each is the contract of a function that does nothing.
 ghost use Rattle.guest_calls.specs.Laws.{EveryCallCopies, EveryCallGivesNumber, EveryCallHasFewEvents, EveryCallIsLight, EveryCallKeepsTheBreakFree};
 
-/// The events of one call weigh at most 65536, and are at most 1025.
+/// The events of one call weigh at most 65536, and are at most `CALL_EVENTS`.
 pub fn every_call_is_light()
     ensures light { EveryCallIsLight }
     ensures few { EveryCallHasFewEvents }

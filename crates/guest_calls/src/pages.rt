@@ -15,15 +15,13 @@ use crate::errors::{EINVAL, ENOMEM, ENOSYS};
 use crate::state::State;
 use guest_memory::GuestMemory;
 use guest_words::Rights;
+use guest_words::limits::PAGES;
 use std::alloc::AllocError;
 
 const PAGE_SIZE: u32 = 4096;
 
 /// The break cannot pass this.
 const BREAK_LIMIT: u32 = 0x4000_0000;
-
-/// How many pages can be mapped.
-const PAGE_LIMIT: u32 = 16384;
 
 /// The bits of the flags that hold the type of a mapping.
 const MAP_TYPE: u32 = 0xF;
@@ -65,7 +63,7 @@ fn rights_of(prot: u32) -> Rights
 fn map(memory: &mut GuestMemory, page: u32, count: u32, rights: Rights) -> Result<(), AllocError>
     requires range { page + count ≤ 1048576 }
     requires free { AreFree (memory_of memory.old) page count }
-    requires room { mapped_pages (memory_of memory.old) + count ≤ 16384 }
+    requires room { mapped_pages (memory_of memory.old) + count ≤ PAGES }
     ensures ok { OnOk result (memory_of memory.new ≡ with_pages (memory_of memory.old) page count (Some rights)) }
     ensures err { OnErr result (memory_of memory.new ≡ memory_of memory.old) }
 {
@@ -166,7 +164,7 @@ pub(crate) fn mmap2(memory: &mut GuestMemory, caller: &Caller) -> Result<Answer,
     let Some(page) = first_fit(memory, count) else {
         return Ok(Answer::Back { value: ENOMEM });
     };
-    if memory.mapped() + count > PAGE_LIMIT {
+    if memory.mapped() + count > PAGES {
         return Ok(Answer::Back { value: ENOMEM });
     }
     map(memory, page, count, rights_of(caller.argument(2)))?;
@@ -197,7 +195,7 @@ impl State {
         }
         let (old_end, end) = (pages(old), pages(at));
         let growth = end.saturating_sub(old_end);
-        if memory.mapped() + growth > PAGE_LIMIT {
+        if memory.mapped() + growth > PAGES {
             return Ok(Answer::Back { value: old });
         }
         map(memory, old_end, growth, rights_of(PROT_READ | PROT_WRITE))?;

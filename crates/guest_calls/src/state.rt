@@ -7,15 +7,13 @@ use crate::Inputs;
 use crate::descriptor::Descriptor;
 use crate::thread::Thread;
 use futex_table::FutexTable;
+use guest_words::limits::THREADS;
 use guest_words::{Addr, ReadyList, Tid};
 use std::alloc::{AllocError, Global};
 use std::marker::Model;
 
 /// The numbers of descriptors are 0 to 31.
 const DESCRIPTORS: usize = 32;
-
-/// How many threads can live.
-pub(crate) const THREADS: usize = 32;
 
 /// What the kernel keeps of a guest.
 #[derive(Drop)]

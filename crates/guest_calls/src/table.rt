@@ -13,11 +13,9 @@ use crate::pages::{mmap2, mprotect, munmap};
 use crate::state::State;
 use crate::threads::rt_sigprocmask;
 use guest_memory::{GuestMemory, Reservations};
+use guest_words::limits::CALL_EVENTS;
 use std::alloc::AllocError;
 use trace_model::Events;
-
-/// The most events that a call adds: the read of a table of parts, and one for each part.
-pub(crate) const EVENTS_OF_A_CALL: usize = 1025;
 
 pub(crate) const WRITE: u32 = 64;
 
@@ -46,12 +44,12 @@ impl State {
     ) -> Result<Answer, AllocError>
         requires can_run { can_run self.old caller.now.tid ≡ true }
         requires break_free { IsBreakFree (memory_of memory.old) self.old.program_break }
-        requires room { 1025 ≤ events.old.room }
+        requires room { CALL_EVENTS ≤ events.old.room }
         requires no_write { slice_index caller.now.cpu.regs 17 ≢ 64 }
         requires no_writev { slice_index caller.now.cpu.regs 17 ≢ 66 }
         ensures does { IfOk result (λ answer. Does (call (asked caller.now self.old memory.old held.old)) answer self.new memory.new held.new events.old events.new) }
         ensures refused { OnErr result (IsUntouched self.old self.new memory.old memory.new held.old held.new events.old events.new) }
-        ensures room { events.old.room ≤ events.new.room + 1025 }
+        ensures room { events.old.room ≤ events.new.room + CALL_EVENTS }
     {
         match caller.number() {
             56 => Ok(self.openat(memory, events, caller)),

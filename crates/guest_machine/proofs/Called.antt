@@ -2,6 +2,7 @@
 use Rattle.std.proofs.Common.{◌≡◌, ℕ, ◌+◌, ◌<◌, List, [], ◌∷◌, ◌++◌, length, map, Bool, true, false, not, ap, ap₂, append_assoc, sym, refl, ◌∙◌, arith, None, cond}
 use Rattle.std.specs.Prelude.{◌==◌, filter}
 use Rattle.std.proofs.lemmas.List.{length-map, length-append, map-append}
+use Rattle.guest_words.specs.declared.limits.TheConstants.{THREADS}
 use Rattle.trace_model.specs.declared.event_kinds.Event.{Event}
 use Rattle.trace_model.specs.declared.event_kinds.Event.TheVariants.{Step}
 use Rattle.guest_memory.specs.Guest.{memory_of}
@@ -68,7 +69,7 @@ sound-called m tid sound state free =
     }
 
 -- a thread more, where there is one, has its place
-pub born_room : (m : MachineState) (tid : ℕ) (child : ℕ) (registers : Registers) → IsSound m → IsState (call (call_of m tid)).kernel → (call (call_of m tid)).answer ≡ Born child registers → length m.harts < 32
+pub born_room : (m : MachineState) (tid : ℕ) (child : ℕ) (registers : Registers) → IsSound m → IsState (call (call_of m tid)).kernel → (call (call_of m tid)).answer ≡ Born child registers → length m.harts < THREADS
 born_room m tid child registers sound state is =
     let r = call (call_of m tid) in
     let lawful = call_lawful (call_of m tid) in

@@ -1,10 +1,11 @@
 -- Live threads, and those that have a reservation.
-use Rattle.std.proofs.Common.{◌≡◌, ℕ, ◌<◌, ◌≤◌, suc, List, [], ◌∷◌, length, map, Bool, true, false, not, ◌||◌, ap, sym, refl, ◌∙◌, arith, Option, cond}
+use Rattle.std.proofs.Common.{◌≡◌, ℕ, ◌<◌, ◌≤◌, ◌-◌, suc, List, [], ◌∷◌, length, map, Bool, true, false, not, ◌||◌, ap, sym, refl, ◌∙◌, arith, Option, cond}
 use Rattle.std.specs.Prelude.{◌==◌, is_some}
 use Rattle.std.specs.List.{Contains, list_any}
 use Rattle.std.proofs.lemmas.Bool.Decides.{nat_tests}
 use Rattle.std.proofs.lemmas.List.{length-map}
 use Rattle.std.proofs.lemmas.Bool.{and_parts, eqb-true}
+use Rattle.guest_words.specs.declared.limits.TheConstants.{THREADS}
 use Rattle.guest_memory.specs.Reserved.{HoldAtMost, without_thread}
 use Rattle.guest_memory.proofs.CallerLemmas.{some_of_rest}
 use Rattle.futex_table.specs.Once.{waits}
@@ -67,8 +68,8 @@ gone_by : (q tid : ℕ) (held : Option ℕ) (b : Bool) → (q == tid) ≡ b → 
 gone_by q tid held true is some same = cc
 gone_by q tid held false is some same = grind (arith, nat_tests)
 
--- So fewer than 32 threads beside one that lives have a reservation.
-pub HoldAtMost-others : (m : MachineState) (tid : ℕ) → IsSound m → can_run m tid ≡ true → HoldAtMost (without_thread m.held tid) 31
+-- So fewer than `THREADS` threads beside one that lives have a reservation.
+pub HoldAtMost-others : (m : MachineState) (tid : ℕ) → IsSound m → can_run m tid ≡ true → HoldAtMost (without_thread m.held tid) (THREADS - 1)
 HoldAtMost-others m tid sound can =
     let own : list_any (λ g. g.tid == tid) m.harts ≡ true = lives-harts m tid sound.same_threads ∙ can_run-lives m tid can in
     let count : length m.harts ≡ length m.kernel.threads = sym (length-map m.harts (λ h. h.tid)) ∙ ap length sound.same_threads ∙ length-map m.kernel.threads (λ t. t.tid) in

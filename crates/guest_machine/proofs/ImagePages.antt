@@ -4,6 +4,7 @@ use Rattle.std.specs.Prelude.{◌*◌, max, nat_le, nat_lt, slice_index_or, is_s
 use Rattle.std.specs.List.{All, count_by, range_with_len}
 use Rattle.std.proofs.lemmas.Bool.{cases_eq, cases_lt}
 use Rattle.std.proofs.lemmas.Bool.Decides.{nat_tests}
+use Rattle.guest_words.specs.declared.limits.TheConstants.{PAGES, STACK_PAGES}
 use Rattle.guest_words.specs.declared.rights.Rights.{Rights}
 use Rattle.guest_memory.specs.Memory.{Memory, count_mapped, is_among, mapped_pages, with_bytes, with_pages}
 use Rattle.guest_memory.proofs.Counts.{count_of_change, one}
@@ -13,7 +14,7 @@ use Rattle.std.proofs.lemmas.List.Sums.{sum_by-cons}
 use Rattle.std.proofs.Math.Bool.{or-false}
 use Rattle.elf_image.specs.Image.{Executable, IsPlaced, Segment, is_touched, page_count, touches}
 use Rattle.guest_machine.specs.Setup.{AreRights, mapped_below, pages_of}
-use Rattle.guest_machine.specs.Start.{first_break, image_memory, joined, rights_or_none, segment_rights, stack_page, stack_pages, stack_rights, start_memory, with_segment}
+use Rattle.guest_machine.specs.Start.{first_break, image_memory, joined, rights_or_none, segment_rights, stack_page, stack_rights, start_memory, with_segment}
 
 -- a segment was added to the pages below one
 abbrev pub filled : Segment → ℕ → Option Rights → ℕ → Option Rights
@@ -140,7 +141,7 @@ within_by segments table page rights q are low here some = elim (cases_eq q page
     by_below true e left = let less : q < page = grind (arith, nat_tests, e) in ap (λ o. is_some o) (sym (are.each q (omega (arith, less, low)))) ∙ left
     by_below false e left = absurd (cc)
 
-pub room_left : (segments : List Segment) (table : List (Option Rights)) (m : Memory) (page : ℕ) (rights : Rights) → AreRights segments table → m ≡ mapped_below table page → page < 0x40000 → slice_index_or table page None ≡ Some rights → page_count segments ≤ 16384 → 16384 < mapped_pages m + 1 → ⊥
+pub room_left : (segments : List Segment) (table : List (Option Rights)) (m : Memory) (page : ℕ) (rights : Rights) → AreRights segments table → m ≡ mapped_below table page → page < 0x40000 → slice_index_or table page None ≡ Some rights → page_count segments ≤ PAGES → 16384 < mapped_pages m + 1 → ⊥
 room_left segments table m page rights are is low here few full =
     let below = mapped_below table page in
     let free : below.rights page ≡ None = ap (λ b. cond b (slice_index_or table page None) None) (not_below page) in
@@ -194,5 +195,5 @@ start_free image arguments page placed behind low =
     ∙ ap (λ r. r page) (image_rights image.segments)
     ∙ none_of _ (rights-touched image.segments page ∙ behind_all image.segments 0 page placed (omega (arith, behind)))
   where
-    among : is_among stack_page stack_pages page ≡ false
+    among : is_among stack_page STACK_PAGES page ≡ false
     among = grind (arith, nat_tests, low)

@@ -2,6 +2,7 @@
 use Rattle.std.proofs.Common.{◌≡◌, ℕ, ◌+◌, ◌≤◌, List, [], ◌∷◌, ◌++◌, length, length-append, ap, sym, ◌∙◌, arith, Ok, Err}
 use Rattle.std.specs.Prelude.{Result}
 use Rattle.std.proofs.lemmas.List.{length-map}
+use Rattle.guest_words.specs.declared.limits.TheConstants.{LAST_TID, THREADS}
 use Rattle.guest_words.specs.declared.endings.FaultKind.{FaultKind}
 use Rattle.rv_isa.specs.declared.instruction.Instr.{Instr}
 use Rattle.rv_exec.specs.Effects.{ExecState, effect}
@@ -24,8 +25,8 @@ use Rattle.guest_machine.proofs.Holders.{fewer_or_same}
 use Rattle.guest_machine.proofs.Weights.{harts_kept}
 
 few_after : (answer : Answer) (harts : List Hart) (tid : ℕ) (r : Registers) (old new : KernelState) →
-    GivesNumber answer old new → length harts ≡ length old.threads → length harts ≤ 32 →
-    length (harts_after answer harts tid r) ≤ 32
+    GivesNumber answer old new → length harts ≡ length old.threads → length harts ≤ THREADS →
+    length (harts_after answer harts tid r) ≤ THREADS
 few_after (Back value) harts tid r old new given same few = omega (arith, harts_kept harts tid (resumed r value), few)
 few_after Yield harts tid r old new given same few = omega (arith, harts_kept harts tid (resumed r 0), few)
 few_after Block harts tid r old new given same few = omega (arith, harts_kept harts tid (resumed r 0), few)
@@ -36,8 +37,8 @@ few_after (Born child registers) harts tid r old new given same few =
     let one : length (others ++ record { tid = child; cpu = registers } ∷ []) ≡ length others + 1 = length-append others (record { tid = child; cpu = registers } ∷ []) in
     omega (arith, one, harts_kept harts tid (resumed r child), same, room_left old given.2)
 
-last_after : (answer : Answer) (old new : KernelState) → GivesNumber answer old new → old.last_tid ≤ 4194303 →
-    new.last_tid ≤ 4194303
+last_after : (answer : Answer) (old new : KernelState) → GivesNumber answer old new → old.last_tid ≤ LAST_TID →
+    new.last_tid ≤ LAST_TID
 last_after (Back value) old new given within = omega (arith, given, within)
 last_after Yield old new given within = omega (arith, given, within)
 last_after Block old new given within = omega (arith, given, within)

@@ -9,10 +9,11 @@ use Rattle.std.specs.List.{flat_map}
 use Rattle.std.proofs.lemmas.Grind.{flat_map-append}
 use Rattle.std.proofs.lemmas.List.Concat.{flat_map-cons}
 use Rattle.std.proofs.lemmas.Bool.Decides.{nat_tests}
+use Rattle.guest_words.specs.declared.limits.TheConstants.{STACK_PAGES}
 use Rattle.guest_machine.specs.Setup.{limited_length}
 use Rattle.guest_memory.specs.Memory.{Memory, is_among, with_pages}
 use Rattle.elf_image.specs.Image.{Executable}
-use Rattle.guest_machine.specs.Start.{auxiliary_vector, stack_page, stack_pages, stack_pointer, stack_rights, stack_words, string_addresses, strings, strings_address}
+use Rattle.guest_machine.specs.Start.{auxiliary_vector, stack_page, stack_pointer, stack_rights, stack_words, string_addresses, strings, strings_address}
 
 -- the strings up to one are no longer than all
 within_texts : (texts : List (List ℕ)) (i : ℕ) (d : List ℕ) → i < length texts → length (strings (take i texts)) + length (slice_index_or texts i d) + 1 ≤ length (strings texts)
@@ -70,16 +71,16 @@ words_counted image texts =
     omega (arith, all, split, places_counted (strings_address texts) texts)
 
 -- the stack is mapped
-pub stack_mapped : (m : Memory) (q : ℕ) → 0x7F800000 ≤ q → q < 0x80000000 → is_some ((with_pages m stack_page stack_pages (Some stack_rights)).rights (q / 4096)) ≡ true
+pub stack_mapped : (m : Memory) (q : ℕ) → 0x7F800000 ≤ q → q < 0x80000000 → is_some ((with_pages m stack_page STACK_PAGES (Some stack_rights)).rights (q / 4096)) ≡ true
 stack_mapped m q low high = ap (λ b. is_some (cond b (Some stack_rights) (m.rights (q / 4096)))) among
   where
     from : 0x7F800 ≤ q / 4096
     from = omega (arith, low)
 
-    to : q / 4096 < 0x7F800 + 2048
+    to : q / 4096 < 0x7F800 + STACK_PAGES
     to = omega (arith, high)
 
-    among : is_among stack_page stack_pages (q / 4096) ≡ true
+    among : is_among stack_page STACK_PAGES (q / 4096) ≡ true
     among = grind (arith, nat_tests, from, to)
 
 -- the words stand in the stack, and the strings and sixteen bytes behind them

@@ -3,6 +3,7 @@ use Rattle.std.proofs.Common.{◌≡◌, ℕ, ◌+◌, ◌%◌, ◌^◌, ◌≤�
 use Rattle.std.specs.Prelude.{Result}
 use Rattle.std.specs.List.{sum_by}
 use Rattle.std.proofs.lemmas.List.Sums.{sum_by-append, sum_by-cons}
+use Rattle.guest_words.specs.declared.limits.TheConstants.{CALL_EVENTS, THREADS}
 use Rattle.guest_words.specs.declared.endings.FaultKind.{FaultKind}
 use Rattle.rv_isa.specs.declared.instruction.Instr.{Instr}
 use Rattle.rv_exec.specs.Effects.{ExecState, effect}
@@ -74,7 +75,7 @@ fewer_words : (events : List Event) (n : ℕ) → length events + sum_by count_r
 fewer_words [] n light = omega arith
 fewer_words (e ∷ events) n light = omega (arith, light)
 
-call_few : (m : MachineState) (tid : ℕ) → AreFew (call (call_of m tid)).guest.events 1025 65535
+call_few : (m : MachineState) (tid : ℕ) → AreFew (call (call_of m tid)).guest.events CALL_EVENTS 65535
 call_few m tid =
     let c = call_of m tid in
     let events = (call c).guest.events in
@@ -129,7 +130,7 @@ faulted (Finished status) = 0
 -- The events are none, of a fault; or the thread's step and few others, by how many threads live.
 abbrev IsStepWith : ℕ → ℕ → List Event → Stepped → Type 0
 IsStepWith tid threads [] outcome = faulted outcome ≡ 1
-IsStepWith tid threads (e ∷ events) outcome = (e ≡ Step tid) × AreFew events (threads + 1026) 65535 × (faulted outcome ≡ 0)
+IsStepWith tid threads (e ∷ events) outcome = (e ≡ Step tid) × AreFew events (threads + (CALL_EVENTS + 1)) 65535 × (faulted outcome ≡ 0)
 
 few_weaker : (events : List Event) (n m k l : ℕ) → AreFew events n k → n ≤ m → k ≤ l → AreFew events m l
 few_weaker events n m k l are more words = record {
@@ -151,12 +152,12 @@ effect_part : (m : MachineState) (tid : ℕ) (i : Instr) (given : Outcome × Exe
 effect_part m tid i (outcome.Went accessed, c) inside =
     let back = (pc_of m tid + 4) % 2 ^ 32 in
     let rest = few-append (access_events tid accessed) (jump_events (kind_of i) tid c.registers.pc back) 2 2 2 0 (access_few tid accessed inside) (jump_few (kind_of i) tid c.registers.pc back) in
-    (refl, few_weaker _ 4 (length m.harts + 1026) 2 65535 rest (omega arith) (omega arith), refl)
+    (refl, few_weaker _ 4 (length m.harts + (CALL_EVENTS + 1)) 2 65535 rest (omega arith) (omega arith), refl)
 effect_part m tid i (outcome.Fault kind, c) inside = refl
 effect_part m tid i (outcome.KernelCall, c) inside =
     let r = call (call_of m tid) in
-    let rest = few-append r.guest.events (life_events r.answer m.harts tid) 1025 (length m.harts + 1) 65535 0 (call_few m tid) (life_few r.answer m.harts tid) in
-    (refl, few_weaker _ (1025 + (length m.harts + 1)) (length m.harts + 1026) 65535 65535 rest (omega arith) (omega arith), call_goes r.answer)
+    let rest = few-append r.guest.events (life_events r.answer m.harts tid) CALL_EVENTS (length m.harts + 1) 65535 0 (call_few m tid) (life_few r.answer m.harts tid) in
+    (refl, few_weaker _ (CALL_EVENTS + (length m.harts + 1)) (length m.harts + (CALL_EVENTS + 1)) 65535 65535 rest (omega arith) (omega arith), call_goes r.answer)
 
 executed_part : (m : MachineState) (tid : ℕ) (found : Result Instr FaultKind) →
     IsStepWith tid (length m.harts) (executed m tid found).events (executed m tid found).outcome
@@ -167,7 +168,7 @@ step_part : (m : MachineState) (tid : ℕ) → IsStepWith tid (length m.harts) (
 unfolding step
 step_part m tid = executed_part m tid (next_instruction m tid)
 
-one_part : (tid threads : ℕ) (events : List Event) (outcome : Stepped) → IsStepWith tid threads events outcome → threads ≤ 32 →
+one_part : (tid threads : ℕ) (events : List Event) (outcome : Stepped) → IsStepWith tid threads events outcome → threads ≤ THREADS →
     IsOnePart tid events
 one_part tid threads [] outcome part few = tt
 one_part tid threads (e ∷ events) outcome part few =

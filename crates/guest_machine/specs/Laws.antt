@@ -1,11 +1,11 @@
 -- What holds of every step.
 use Rattle.std.specs.Prelude.{◌≡◌, ℕ, ◌+◌, ◌≤◌, true, List, [], ◌∷◌, ◌++◌, length, map, reverse}
+use Rattle.guest_words.specs.declared.limits.TheConstants.{LAST_TID, THREADS}
 use Rattle.trace_model.specs.declared.event_kinds.Event.{Event}
 use Rattle.trace_model.specs.declared.event_kinds.Event.TheVariants.{Step}
 use Rattle.trace_model.specs.Parts.{IsShort}
 use Rattle.trace_model.specs.Profile.{steps}
 use Rattle.trace_model.specs.WellFormed.{MayFollow, greatest_start, is_live, weight}
-use Rattle.guest_calls.specs.Clone.{thread_limit, tid_limit}
 use Rattle.guest_calls.specs.Invariant.{RisesTo}
 use Rattle.guest_calls.specs.Kernel.{lives}
 use Rattle.guest_machine.specs.Machine.{MachineState, can_run}
@@ -46,12 +46,12 @@ IsOnePart tid (e ∷ events) = (e ≡ Step tid) × (steps events ≡ 0) × IsSho
 
 -- So are those of each step where no more threads live than can.
 abbrev pub EveryStepIsOnePart : Type 0
-EveryStepIsOnePart = (m : MachineState) (tid : ℕ) → length m.harts ≤ thread_limit → IsOnePart tid (step m tid).events
+EveryStepIsOnePart = (m : MachineState) (tid : ℕ) → length m.harts ≤ THREADS → IsOnePart tid (step m tid).events
 
 -- no more threads live than can, and the last number given is one of a thread
 pub record IsWithinLimits (m : MachineState) : Type 0 where
-  pub few : length m.harts ≤ thread_limit
-  pub last : m.kernel.last_tid ≤ tid_limit
+  pub few : length m.harts ≤ THREADS
+  pub last : m.kernel.last_tid ≤ LAST_TID
 
 -- So it is after each step, where the kernel's threads are those that have registers.
 abbrev pub EveryStepStaysWithinLimits : Type 0

@@ -1,12 +1,12 @@
 -- What the parts of the setup hand to one another.
 use Rattle.std.specs.Prelude.{◌≡◌, ℕ, ◌<◌, ◌+◌, nat_lt, nat_le, if◌then◌else◌, List, length, slice_index_or, Option, Some, None}
+use Rattle.guest_words.specs.declared.limits.TheConstants.{PAGES, STACK_PAGES}
 use Rattle.guest_words.specs.declared.rights.Rights.{Rights}
 use Rattle.guest_memory.specs.Memory.{Memory}
 use Rattle.elf_image.specs.Image.{Executable, Segment, page_count}
-use Rattle.guest_calls.specs.Pages.{page_limit}
 use Rattle.guest_machine.specs.declared.setup.SetupError.{SetupError}
 use Rattle.guest_machine.specs.declared.setup.SetupError.TheVariants.{ArgsTooLong, Pages}
-use Rattle.guest_machine.specs.Start.{segment_rights, stack_pages, strings, strings_limit}
+use Rattle.guest_machine.specs.Start.{segment_rights, strings, strings_limit}
 
 -- a table has the rights of each page below 0x40000, by the segments
 pub record AreRights (segments : List Segment) (table : List (Option Rights)) : Type 0 where
@@ -29,5 +29,5 @@ limited_length arguments = let n = length (strings arguments) in if nat_le n str
 abbrev pub setup_refusal : Executable → List (List ℕ) → Option SetupError
 setup_refusal image arguments =
     if nat_lt strings_limit (length (strings arguments)) then Some ArgsTooLong
-    else if nat_lt page_limit (page_count image.segments + stack_pages) then Some Pages
+    else if nat_lt PAGES (page_count image.segments + STACK_PAGES) then Some Pages
     else None

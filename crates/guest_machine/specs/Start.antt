@@ -3,6 +3,7 @@
 use Rattle.std.specs.Prelude.{ℕ, ◌+◌, ◌-◌, ◌*◌, ◌/◌, true, false, ◌||◌, max, List, [], ◌∷◌, ◌++◌, length, fold, flat_map, replicate, slice_set, Option, Some, None, if◌then◌else◌}
 use Rattle.std.specs.List.{range_with_len}
 use Rattle.std.specs.Int.{w32, to_le_bytes}
+use Rattle.guest_words.specs.declared.limits.TheConstants.{STACK_PAGES}
 use Rattle.guest_words.specs.declared.rights.Rights.{Rights}
 use Rattle.guest_memory.specs.Memory.{Memory, with_bytes, with_pages}
 use Rattle.guest_memory.specs.Reserved.{nothing_reserved}
@@ -52,9 +53,6 @@ first_break segments = (greatest_end segments + 4095) / 4096 * 4096
 abbrev pub stack_page : ℕ
 stack_page = 0x7F800
 
-abbrev pub stack_pages : ℕ
-stack_pages = 2048
-
 abbrev pub stack_rights : Rights
 stack_rights = record { read = true; write = true; exec = false }
 
@@ -98,7 +96,7 @@ stack_pointer arguments = (strings_address arguments - 4 * (length arguments + 1
 
 abbrev pub start_memory : Executable → List (List ℕ) → Memory
 start_memory image arguments =
-    let stack = with_pages (image_memory image.segments) stack_page stack_pages (Some stack_rights) in
+    let stack = with_pages (image_memory image.segments) stack_page STACK_PAGES (Some stack_rights) in
     let words = with_bytes stack (stack_pointer arguments) (flat_map (λ n. to_le_bytes w32 n) (stack_words image arguments)) in
     with_bytes words (strings_address arguments) (strings arguments ++ random_bytes)
 

@@ -11,6 +11,7 @@ use crate::hart::{Hart, resume_at};
 use crate::step_events::add_ends;
 use guest_calls::Answer;
 use guest_words::Tid;
+use guest_words::limits::THREADS;
 use trace_model::{Event, Events};
 
 /// Lets the threads start, wait or end as the kernel answered the call of one of them.
@@ -22,14 +23,14 @@ pub(crate) fn apply_answer(
     events: &mut Events,
 ) -> Stepped
     requires index { IsIndex harts.old.items tid index }
-    requires room { 32 ≤ events.old.room }
-    requires few { length harts.old.items ≤ 32 }
-    requires born { (child : ℕ) (cpu : Registers) → answer ≡ Answer.Born child cpu → length harts.old.items < 32 }
-    requires spare { 32 ≤ vec_capacity harts.old }
+    requires room { THREADS ≤ events.old.room }
+    requires few { length harts.old.items ≤ THREADS }
+    requires born { (child : ℕ) (cpu : Registers) → answer ≡ Answer.Born child cpu → length harts.old.items < THREADS }
+    requires spare { THREADS ≤ vec_capacity harts.old }
     ensures harts { harts.new.items ≡ harts_after answer harts.old.items tid (registers_of harts.old.items tid) }
     ensures events { events.new.list ≡ events.old.list ++ life_events answer harts.old.items tid }
     ensures outcome { result ≡ stepped_by answer }
-    ensures spare { 32 ≤ vec_capacity harts.new }
+    ensures spare { THREADS ≤ vec_capacity harts.new }
 {
     match answer {
         Answer::Back { value } => {

@@ -17,6 +17,7 @@ use crate::step_events::{add_access, add_jump};
 use call_tracker::kind;
 use guest_calls::Kernel;
 use guest_memory::{GuestMemory, Reservations};
+use guest_words::limits::{CALL_EVENTS, THREADS};
 use guest_words::{Addr, FaultKind, Tid};
 use rv_exec::Outcome;
 use rv_isa::{Instr, decode};
@@ -26,8 +27,8 @@ use trace_model::{Event, Events};
 /// The room for the events of an instruction: its step, and at most two accesses, or a return and a call.
 const EVENTS_OF_AN_INSTRUCTION: usize = 4;
 
-/// A call has its step, at most 1025 copies that the kernel makes, and ends at most 32 threads.
-const EVENTS_OF_A_CALL_STEP: usize = 1 + 1025 + 32;
+/// A call has its step, at most `CALL_EVENTS` copies that the kernel makes, and ends at most `THREADS` threads.
+const EVENTS_OF_A_CALL_STEP: usize = 1 + CALL_EVENTS + THREADS;
 
 /// The parts of a machine.
 #[derive(Drop)]
@@ -121,11 +122,11 @@ impl Guest {
         requires sound { IsSound (machine_of (parts_of self.old)) }
         requires index { IsIndex self.old.harts.items tid index }
         requires can_run { can_run (machine_of (parts_of self.old)) tid ≡ true }
-        requires spare { 32 ≤ vec_capacity self.old.harts }
+        requires spare { THREADS ≤ vec_capacity self.old.harts }
         ensures step { IfOk result (λ stepped. Steps (after_call (machine_of (parts_of self.old)) tid (call (call_of (machine_of (parts_of self.old)) tid))) stepped (parts_of self.new) events.old.list events.new.list) }
         ensures refused { OnErr result (IsAsBefore (parts_of self.old) (parts_of self.new) events.old.list events.new.list) }
         ensures sound { IsSound (machine_of (parts_of self.new)) }
-        ensures spare { 32 ≤ vec_capacity self.new.harts }
+        ensures spare { THREADS ≤ vec_capacity self.new.harts }
         ensures entry { self.new.entry ≡ self.old.entry }
     {
         let before = events.list().len();
@@ -152,12 +153,12 @@ impl Guest {
     pub(crate) fn step(&mut self, tid: Tid, events: &mut Events) -> Result<Stepped, AllocError>
         requires sound { IsSound (machine_of (parts_of self.old)) }
         requires can_run { can_run (machine_of (parts_of self.old)) tid ≡ true }
-        requires spare { 32 ≤ vec_capacity self.old.harts }
+        requires spare { THREADS ≤ vec_capacity self.old.harts }
         ensures step { IfOk result (λ stepped. Steps (step (machine_of (parts_of self.old)) tid) stepped (parts_of self.new) events.old.list events.new.list) }
         ensures refused { OnErr result (IsAsBefore (parts_of self.old) (parts_of self.new) events.old.list events.new.list) }
         ensures no_memory { 4 ≤ events.old.room → next_instruction (machine_of (parts_of self.old)) tid ≢ Ok Ecall → IsOk result }
         ensures sound { IsSound (machine_of (parts_of self.new)) }
-        ensures spare { 32 ≤ vec_capacity self.new.harts }
+        ensures spare { THREADS ≤ vec_capacity self.new.harts }
         ensures entry { self.new.entry ≡ self.old.entry }
     {
         let index = index_of(&self.harts, tid);

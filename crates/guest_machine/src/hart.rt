@@ -1,5 +1,5 @@
 //! The registers of a live thread.
-ghost use Rattle.std.specs.Prelude.{◌≡◌, ◌==◌, true};
+ghost use Rattle.std.specs.Prelude.{◌≡◌, ◌==◌, ◌-◌, true};
 ghost use Rattle.std.specs.List.{list_any, position};
 ghost use Rattle.std.specs.Vec.{vec_capacity};
 ghost use Rattle.guest_memory.specs.Guest.{memory_of};
@@ -12,6 +12,7 @@ ghost use Rattle.guest_machine.specs.Step.{resumed};
 
 use guest_memory::{GuestMemory, Reservations};
 use guest_words::Tid;
+use guest_words::limits::THREADS;
 use rv_exec::{Cpu, Outcome, execute};
 use rv_isa::{Instr, Reg};
 
@@ -50,7 +51,7 @@ pub(crate) fn execute_at(
     i: Instr,
 ) -> Outcome
     requires index { IsIndex harts.old.items tid index }
-    requires held { HoldAtMost (without_thread (reserved_by held.old) tid) 31 }
+    requires held { HoldAtMost (without_thread (reserved_by held.old) tid) (THREADS - 1) }
     ensures effect { (result, record { registers = registers_of harts.new.items tid; memory = memory_of memory.new; held = reserved_by held.new })
         ≡ effect tid i (record { registers = registers_of harts.old.items tid; memory = memory_of memory.old; held = reserved_by held.old }) }
     ensures harts { harts.new.items ≡ with_registers harts.old.items tid (registers_of harts.new.items tid) }

@@ -10,6 +10,7 @@ ghost use Rattle.guest_machine.specs.Setup.{AreRights, mapped_below, pages_of};
 use elf_image::Segment;
 use guest_memory::{GuestMemory, MemError};
 use guest_words::Rights;
+use guest_words::limits::PAGES;
 use std::alloc::{AllocError, Global};
 
 /// Segments lie below this page.
@@ -73,7 +74,7 @@ fn map_pages(
 ) -> Result<(), AllocError>
     requires empty { memory_of memory.old ≡ no_memory }
     requires rights { AreRights segments.now table.now }
-    requires few { page_count segments.now ≤ 16384 }
+    requires few { page_count segments.now ≤ PAGES }
     ensures { OnOk result (memory_of memory.new ≡ mapped_below table.now 0x40000) }
 {
     for page in 0..table.len() {
@@ -102,7 +103,7 @@ fn write_segments(memory: &mut GuestMemory, segments: &[Segment])
 /// The memory of an image: the pages that its segments touch, with their bytes.
 pub(crate) fn image_memory(alloc: Global, segments: &[Segment]) -> Result<GuestMemory, AllocError>
     requires placed { All IsPlaced segments.now }
-    requires few { page_count segments.now ≤ 16384 }
+    requires few { page_count segments.now ≤ PAGES }
     ensures { IfOk result (λ memory. memory_of memory ≡ image_memory segments.now) }
 {
     let table = page_rights(alloc, segments)?;

@@ -9,9 +9,9 @@ pub fn every_step_is_traced()
     ensures light { EveryStepIsLight }
 {}
 
-/// A step of a machine of at most 32 threads, none of which has a number above the greatest: its events are one part of a
-/// trace, fewer than 1100 that read fewer than 65536 words, or none; and after it there are still at most 32 threads, none
-/// with a number above the greatest.
+/// A step of a machine of at most `THREADS` threads, none of which has a number above the greatest: its events are one part
+/// of a trace, fewer than 1100 that read fewer than 65536 words, or none; and after it there are still at most `THREADS`
+/// threads, none with a number above the greatest.
 pub fn every_step_is_short()
     ensures part { EveryStepIsOnePart }
     ensures limits { EveryStepStaysWithinLimits }

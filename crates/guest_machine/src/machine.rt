@@ -4,10 +4,10 @@ ghost use Rattle.std.specs.Prelude.{◌≡◌, ◌≢◌, ◌≤◌, true, Ok, O
 use crate::guest::Guest;
 use crate::setup::first_guest;
 use crate::stack::strings_length;
-use crate::start_memory::STACK_PAGES;
 use crate::{SetupError, Stepped};
 use elf_image::Image;
 use guest_calls::Inputs;
+use guest_words::limits::{PAGES, STACK_PAGES};
 use guest_words::{Addr, ReadyList, Tid};
 use std::alloc::{AllocError, Global};
 use std::marker::Model;
@@ -22,6 +22,7 @@ pub struct Machine {
 impl Model for Machine {
     ghost use Rattle.std.specs.Prelude.{◌≤◌};
     ghost use Rattle.std.specs.Vec.{vec_capacity};
+    ghost use Rattle.guest_words.specs.declared.limits.TheConstants.{THREADS};
     ghost use Rattle.guest_machine.specs.Kept.{Parts, machine_of};
     ghost use Rattle.guest_machine.specs.Parts.{parts_of};
     ghost use Rattle.guest_machine.specs.Sound.{IsSound};
@@ -30,11 +31,11 @@ impl Model for Machine {
 
     ghost view = { λ m. parts_of m.guest };
 
-    ghost invariant = { λ m. (32 ≤ vec_capacity m.guest.harts) × IsSound (machine_of (parts_of m.guest)) };
+    ghost invariant = { λ m. (THREADS ≤ vec_capacity m.guest.harts) × IsSound (machine_of (parts_of m.guest)) };
 }
 
 /// The most pages of the image, so that the stack has room.
-const IMAGE_LIMIT: u32 = 16384 - STACK_PAGES;
+const IMAGE_LIMIT: u32 = PAGES - STACK_PAGES;
 
 impl Machine {
     ghost use Rattle.std.specs.Prelude.{None, map, string_bytes, IfSome, IfNone, IfErr, Err};

@@ -15,14 +15,12 @@ use crate::start_memory::start_memory;
 use elf_image::Image;
 use guest_calls::{Inputs, Kernel};
 use guest_memory::Reservations;
+use guest_words::limits::{PAGES, STACK_PAGES, THREADS};
 use guest_words::{Addr, Tid};
 use rv_exec::Cpu;
 use rv_isa::Reg;
 use std::alloc::{AllocError, Global};
 use thiserror::Error;
-
-/// The most threads that live at one time.
-const THREADS: usize = 32;
 
 /// Why a guest can't begin.
 #[derive(Clone, Copy, Debug, PartialEq, Eq, Error)]
@@ -30,7 +28,7 @@ pub enum SetupError {
     /// The argument strings, with their zero bytes, are longer than 65536 bytes.
     #[error("arguments too long")]
     ArgsTooLong,
-    /// The pages of the image and of the stack are more than 16384.
+    /// The pages of the image and of the stack are more than `PAGES`.
     #[error("too many pages")]
     Pages,
     /// Want of memory.
@@ -81,10 +79,10 @@ pub(crate) fn first_guest(
 ) -> Result<Guest, AllocError>
     requires texts { text_bytes ≡ length (strings (map string_bytes arguments.now)) }
     requires limit { text_bytes ≤ 65536 }
-    requires few { page_count image.now.segments + 2048 ≤ 16384 }
+    requires few { page_count image.now.segments + STACK_PAGES ≤ PAGES }
     ensures start { IfOk result (λ guest. machine_of (parts_of guest) ≡ start image.now (map string_bytes arguments.now) inputs stdin.items) }
     ensures sound { IfOk result (λ guest. IsSound (machine_of (parts_of guest))) }
-    ensures spare { IfOk result (λ guest. 32 ≤ vec_capacity guest.harts) }
+    ensures spare { IfOk result (λ guest. THREADS ≤ vec_capacity guest.harts) }
     ensures entry { IfOk result (λ guest. guest.entry ≡ image.now.entry) }
     ensures called { IfOk result (λ guest. guest.called ≡ false) }
 {

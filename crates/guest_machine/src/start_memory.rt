@@ -3,26 +3,24 @@ ghost use Rattle.std.specs.Prelude.{◌≡◌, ◌≤◌, ◌+◌, Some, length,
 ghost use Rattle.guest_memory.specs.Guest.{memory_of};
 ghost use Rattle.guest_memory.specs.Memory.{AreFree, mapped_pages, with_pages};
 ghost use Rattle.elf_image.specs.Image.{page_count};
-ghost use Rattle.guest_machine.specs.Start.{stack_page, stack_pages, stack_pointer, stack_rights, start_memory, strings, strings_address};
+ghost use Rattle.guest_machine.specs.Start.{stack_page, stack_pointer, stack_rights, start_memory, strings, strings_address};
 
 use crate::image_pages::image_memory;
 use crate::stack::{argument_bytes, word_bytes};
 use elf_image::Image;
 use guest_memory::{GuestMemory, MemError};
+use guest_words::limits::{PAGES, STACK_PAGES};
 use guest_words::{Addr, Rights};
 use std::alloc::{AllocError, Global};
 
 /// The first page of the stack.
 const STACK_PAGE: u32 = 0x7F800;
 
-/// How many pages the stack has.
-pub(crate) const STACK_PAGES: u32 = 2048;
-
 // Maps the stack, which can be read and written.
 fn map_stack(memory: &mut GuestMemory) -> Result<(), AllocError>
-    requires free { AreFree (memory_of memory.old) stack_page stack_pages }
-    requires few { mapped_pages (memory_of memory.old) + 2048 ≤ 16384 }
-    ensures { OnOk result (memory_of memory.new ≡ with_pages (memory_of memory.old) stack_page stack_pages (Some stack_rights)) }
+    requires free { AreFree (memory_of memory.old) stack_page STACK_PAGES }
+    requires few { mapped_pages (memory_of memory.old) + STACK_PAGES ≤ PAGES }
+    ensures { OnOk result (memory_of memory.new ≡ with_pages (memory_of memory.old) stack_page STACK_PAGES (Some stack_rights)) }
 {
     let rights = Rights {
         read: true,
@@ -47,7 +45,7 @@ pub(crate) fn start_memory(
     requires first { first ≡ strings_address (map string_bytes arguments.now) }
     requires pointer { pointer ≡ stack_pointer (map string_bytes arguments.now) }
     requires limit { length (strings (map string_bytes arguments.now)) ≤ 65536 }
-    requires few { page_count image.now.segments + 2048 ≤ 16384 }
+    requires few { page_count image.now.segments + STACK_PAGES ≤ PAGES }
     ensures { IfOk result (λ memory. memory_of memory ≡ start_memory image.now (map string_bytes arguments.now)) }
 {
     let words = word_bytes(alloc, image, arguments, first)?;

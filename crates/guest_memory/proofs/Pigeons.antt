@@ -1,8 +1,9 @@
 -- No more distinct threads have a reservation than a list of all of them has places.
-use Rattle.std.proofs.Common.{◌≡◌, ℕ, zero, suc, ◌+◌, ◌<◌, ◌≤◌, Bool, true, false, cond, ◌==◌, List, [], ◌∷◌, length, get_or, take, set, Option, Some, None, arith, refl, ap, sym, ◌∙◌}
+use Rattle.std.proofs.Common.{◌≡◌, ℕ, zero, suc, ◌+◌, ◌-◌, ◌<◌, ◌≤◌, Bool, true, false, cond, ◌==◌, List, [], ◌∷◌, length, get_or, take, set, Option, Some, None, arith, refl, ap, sym, ◌∙◌}
 use Rattle.std.specs.Prelude.{is_some, is_none, Contains}
 use Rattle.std.proofs.lemmas.Bool.{and_parts, eq-eqb}
 use Rattle.std.proofs.lemmas.List.{get_or_default, length-take-le, take_more_set}
+use Rattle.guest_words.specs.declared.limits.TheConstants.{THREADS}
 use Rattle.guest_memory.specs.declared.reservations.Reservations.{Reservations}
 use Rattle.guest_memory.specs.ReservedBy.{reserved_by}
 use Rattle.guest_memory.specs.Reserved.{Reserved, HoldAtMost, with_word, without_thread}
@@ -49,8 +50,8 @@ distinct_few ((t, w) ∷ rest) holders distinct each =
     let some_more = distinct_few rest (minus place.0 holders) parts.1 others in
     omega arith
 
--- where at most 31 threads have a reservation there is room for one more
-pub room_left : (r : Reservations) (held : Reserved) → reserved_by r ≡ held → HoldAtMost held 31 → r.count < 32
+-- where fewer than `THREADS` threads have a reservation there is room for one more
+pub room_left : (r : Reservations) (held : Reserved) → reserved_by r ≡ held → HoldAtMost held (THREADS - 1) → r.count < THREADS
 unfolding reserved_by
 room_left r held means most =
     let long : length (take r.count r.holders) ≡ r.count = length-take-le r.count r.holders (omega (arith, r.few, r.places)) in
@@ -66,7 +67,7 @@ over_none true word o = refl
 over_none false word o = refl
 
 -- one more is reserved
-pub reserved_more : (r : Reservations) (before : Reserved) (tid word : ℕ) → r.count < 32 → reserved_by r ≡ without_thread before tid
+pub reserved_more : (r : Reservations) (before : Reserved) (tid word : ℕ) → r.count < THREADS → reserved_by r ≡ without_thread before tid
     → held_in (take (r.count + 1) (set r.holders r.count (tid, word))) ≡ with_word before tid word
 unfolding reserved_by
 reserved_more r before tid word room means = λ i q.
@@ -76,7 +77,7 @@ reserved_more r before tid word room means = λ i q.
     ∙ over_none (q == tid) word (before q)) i
 
 -- threads stay distinct
-pub distinct_more : (r : Reservations) (before : Reserved) (tid word : ℕ) → r.count < 32 → reserved_by r ≡ without_thread before tid
+pub distinct_more : (r : Reservations) (before : Reserved) (tid word : ℕ) → r.count < THREADS → reserved_by r ≡ without_thread before tid
     → is_distinct (take (r.count + 1) (set r.holders r.count (tid, word))) ≡ true
 distinct_more r before tid word room means =
     ap is_distinct (take_more_set r.holders r.count (tid, word) (omega (arith, r.places, room)))

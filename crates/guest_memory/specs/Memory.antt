@@ -2,6 +2,7 @@
 use Rattle.std.specs.Prelude.{◌≡◌, ℕ, zero, suc, ◌+◌, ◌-◌, ◌<◌, ◌≤◌, ◌/◌, Bool, true, ◌&&◌, nat_le, nat_lt, if◌then◌else◌, List, [], ◌∷◌, length, slice_index, Option, Some, None, Result, Ok, Err}
 use Rattle.std.specs.Option.{option_or, is_some}
 use Rattle.byteorder.specs.Endian.{little_number}
+use Rattle.guest_words.specs.declared.limits.TheConstants.{PAGES}
 use Rattle.guest_words.specs.declared.rights.Rights.{Rights}
 use Rattle.guest_memory.specs.declared.refusal.MemError.{MemError}
 use Rattle.guest_memory.specs.declared.refusal.MemError.TheVariants as error
@@ -119,9 +120,9 @@ ArePagesMapped m page count = (q : ℕ) → page ≤ q → q < page + count → 
 
 -- how a call that maps pages ends
 abbrev pub MapEnds : Memory → ℕ → ℕ → Rights → Memory → Result Unit MemError → Type 0
-MapEnds old page count rights new (Ok done) = (mapped_pages old + count ≤ 16384) × (new ≡ with_pages old page count (Some rights))
-MapEnds old page count rights new (Err error.NoRoom) = (16384 < mapped_pages old + count) × (new ≡ old)
-MapEnds old page count rights new (Err error.Memory) = (mapped_pages old + count ≤ 16384) × (new ≡ old)
+MapEnds old page count rights new (Ok done) = (mapped_pages old + count ≤ PAGES) × (new ≡ with_pages old page count (Some rights))
+MapEnds old page count rights new (Err error.NoRoom) = (PAGES < mapped_pages old + count) × (new ≡ old)
+MapEnds old page count rights new (Err error.Memory) = (mapped_pages old + count ≤ PAGES) × (new ≡ old)
 MapEnds old page count rights new (Err other) = ⊥
 
 -- nothing is mapped

@@ -7,23 +7,22 @@ ghost use Rattle.std.specs.Option.{is_none};
 ghost use Rattle.guest_memory.specs.Memory.{IsFreeRange, AreFree, AreMapped, ArePagesMapped, MapEnds, no_memory, with_pages, with_rights, byte_count, bytes_at, first_refusal, loaded, mapped_pages, unless_refused, with_bytes};
 ghost use Rattle.guest_memory.specs.State.{memory_in};
 ghost use Rattle.guest_memory.specs.declared.refusal.Permission.TheVariants as permission;
+ghost use Rattle.guest_words.specs.declared.limits.TheConstants.{PAGES};
 
 use crate::Size;
 use crate::directory::{Directory, PAGE_SIZE};
 use crate::page_ranges::zero_pages;
 use crate::refusal::{MemError, Permission};
+use guest_words::limits::PAGES;
 use guest_words::{Addr, Rights};
 use std::alloc::{AllocError, Global};
-
-// How many pages can be mapped.
-const MOST_PAGES: u32 = 16384;
 
 // The pages in which a free range is searched.
 const FIRST_OF_SEARCH: u32 = 0x40000;
 
 const END_OF_SEARCH: u32 = 0x7F000;
 
-/// The memory of a guest: 2^20 pages of 4096 bytes, of which at most 16384 are mapped. A page is given by its number,
+/// The memory of a guest: 2^20 pages of 4096 bytes, of which at most `PAGES` are mapped. A page is given by its number,
 /// a byte by its address. A byte at or past 2^32 is not mapped.
 #[derive(Drop)]
 pub struct GuestMemory {
@@ -31,7 +30,7 @@ pub struct GuestMemory {
     directory: Directory,
     mapped: u32,
     ghost counted: { mapped ≡ mapped_pages (memory_in directory) },
-    ghost few: { mapped ≤ 16384 },
+    ghost few: { mapped ≤ PAGES },
 }
 
 impl GuestMemory {
@@ -48,13 +47,13 @@ impl GuestMemory {
         })
     }
 
-    /// Maps free pages, which hold zeros. It is refused where more than 16384 pages would be mapped.
+    /// Maps free pages, which hold zeros. It is refused where more than `PAGES` pages would be mapped.
     pub fn map(&mut self, page: u32, count: u32, rights: Rights) -> Result<(), MemError>
         requires range { page + count ≤ 1048576 }
         requires free { AreFree (memory_of self.old) page count }
         ensures { MapEnds (memory_of self.old) page count rights (memory_of self.new) result }
     {
-        if self.mapped + count > MOST_PAGES {
+        if self.mapped + count > PAGES {
             return Err(MemError::NoRoom);
         }
         let fresh = zero_pages(self.alloc, count)?;
@@ -134,7 +133,7 @@ impl GuestMemory {
     /// How many pages are mapped.
     pub fn mapped(&self) -> u32
         ensures value { result ≡ mapped_pages (memory_of self.now) }
-        ensures limit { result ≤ 16384 }
+        ensures limit { result ≤ PAGES }
     {
         self.mapped
     }

@@ -1,21 +1,20 @@
 //! The words that threads have reserved.
-ghost use Rattle.std.specs.Prelude.{◌≡◌, ◌<◌, ◌≤◌, true, not, take, length, filter};
+ghost use Rattle.std.specs.Prelude.{◌≡◌, ◌<◌, ◌≤◌, ◌-◌, true, not, take, length, filter};
 ghost use Rattle.guest_memory.specs.Holders.{held_in, is_distinct, is_invalidated};
 ghost use Rattle.guest_memory.specs.Memory.{is_among};
 ghost use Rattle.guest_memory.specs.Reserved.{HoldAtMost, nothing_reserved, with_word, without_thread, holds, after_write};
+ghost use Rattle.guest_words.specs.declared.limits.TheConstants.{THREADS};
 
+use guest_words::limits::THREADS;
 use guest_words::{Tid, Word};
 
-// How many threads can have a reservation.
-const MOST: usize = 32;
-
-/// For each thread at most one reserved word; at most 32 threads have one.
+/// For each thread at most one reserved word; at most `THREADS` threads have one.
 #[derive(Clone, Copy, Debug)]
 pub struct Reservations {
-    holders: [(Tid, Word); MOST],
+    holders: [(Tid, Word); THREADS],
     count: usize,
-    ghost places: { length holders ≡ 32 },
-    ghost few: { count ≤ 32 },
+    ghost places: { length holders ≡ THREADS },
+    ghost few: { count ≤ THREADS },
     ghost distinct: { is_distinct (take count holders) ≡ true },
 }
 
@@ -27,14 +26,14 @@ impl Reservations {
         ensures { reserved_by result ≡ nothing_reserved }
     {
         Reservations {
-            holders: [(Tid::FIRST, Word::of(0)); MOST],
+            holders: [(Tid::FIRST, Word::of(0)); THREADS],
             count: 0,
         }
     }
 
-    /// Reserves a word for a thread, in place of what it had. Fewer than 32 other threads have a reservation.
+    /// Reserves a word for a thread, in place of what it had. Fewer than `THREADS` other threads have a reservation.
     pub fn set(&mut self, tid: Tid, word: Word)
-        requires { HoldAtMost (without_thread (reserved_by self.old) tid) 31 }
+        requires { HoldAtMost (without_thread (reserved_by self.old) tid) (THREADS - 1) }
         ensures { reserved_by self.new ≡ with_word (reserved_by self.old) tid word }
     {
         self.forget(tid);

@@ -1,6 +1,7 @@
 -- The names that a report can show.
 use Rattle.std.specs.Prelude.{ℕ, Bool, not, ◌&&◌, ◌==◌, nat_le, List, length, slice_index}
 use Rattle.std.specs.List.{list_all}
+use Rattle.guest_words.specs.declared.limits.TheConstants.{NAME_BYTES}
 
 -- a visible ASCII byte: no space, and no control byte
 abbrev pub is_visible : ℕ → Bool
@@ -10,6 +11,6 @@ is_visible b = nat_le 0x21 b && nat_le b 0x7e
 abbrev pub is_dash : List ℕ → Bool
 is_dash bytes = (length bytes == 1) && (slice_index bytes 0 == 45)
 
--- the bytes are a name: 1 to 1024 visible bytes, and not the dash
+-- the bytes are a name: 1 to `NAME_BYTES` visible bytes, and not the dash
 abbrev pub is_name : List ℕ → Bool
-is_name bytes = not (is_dash bytes) && nat_le 1 (length bytes) && nat_le (length bytes) 1024 && list_all is_visible bytes
+is_name bytes = not (is_dash bytes) && nat_le 1 (length bytes) && nat_le (length bytes) NAME_BYTES && list_all is_visible bytes

@@ -1,11 +1,12 @@
 //! The words that every crate speaks: addresses and memory words of a 32-bit guest, thread numbers, the faults of
 //! an instruction, how a run ends, names of routines, little-endian fields, short lists of threads, and the
-//! words of a text.
+//! words of a text. `limits` has the limits of the program.
 #![tactic(auto)]
 
 mod addresses;
 mod endings;
 mod fields;
+pub mod limits;
 mod name;
 mod ready;
 mod rights;

@@ -3,11 +3,12 @@ ghost use Rattle.std.specs.Prelude.{◌≡◌, ◌↔◌, true, false, IfOk, IfE
 ghost use Rattle.guest_words.specs.Names.{is_dash, is_name, is_visible};
 ghost use Rattle.std.specs.List.{list_all};
 
+use crate::limits::NAME_BYTES;
 use std::alloc::{AllocError, Global};
 use std::marker::Model;
 use thiserror::Error;
 
-/// A name in a symbol table: 1 to 1024 visible ASCII bytes, and not the single byte `-`, which stands for no name.
+/// A name in a symbol table: 1 to `NAME_BYTES` visible ASCII bytes, and not the single byte `-`, which stands for no name.
 #[derive(Drop)]
 pub struct Name {
     bytes: Vec<u8>,
@@ -65,7 +66,7 @@ fn is_visible_text(bytes: &[u8]) -> bool
 fn is_name(bytes: &[u8]) -> bool
     ensures { result ≡ is_name bytes.now }
 {
-    !is_dash(bytes) && !bytes.is_empty() && bytes.len() <= 1024 && is_visible_text(bytes)
+    !is_dash(bytes) && !bytes.is_empty() && bytes.len() <= NAME_BYTES && is_visible_text(bytes)
 }
 
 impl Name {

@@ -2,12 +2,13 @@
 ghost use Rattle.std.specs.Prelude.{◌≡◌, ◌<◌, ◌≤◌, ◌++◌, ◌∷◌, [], length, slice_get, Some};
 
 use crate::Tid;
+use crate::limits::THREADS;
 use std::marker::Model;
 
-/// At most 32 threads by rising number, each with whether it can run.
+/// At most `THREADS` threads by rising number, each with whether it can run.
 #[derive(Clone, Copy, Debug)]
 pub struct ReadyList {
-    threads: [(Tid, bool); 32],
+    threads: [(Tid, bool); THREADS],
     len: usize,
 }
 
@@ -34,7 +35,7 @@ impl ReadyList {
         ensures { result ≡ [] }
     {
         ReadyList {
-            threads: [(Tid::FIRST, false); 32],
+            threads: [(Tid::FIRST, false); THREADS],
             len: 0,
         }
     }
@@ -42,7 +43,7 @@ impl ReadyList {
     /// How many threads there are.
     pub fn len(&self) -> usize
         ensures value { result ≡ length self.now }
-        ensures bound { result ≤ 32 }
+        ensures bound { result ≤ THREADS }
         ensures rising { IsRising self.now }
     {
         self.len
@@ -50,7 +51,7 @@ impl ReadyList {
 
     /// One more thread, whose number is above the last.
     pub fn push(&mut self, tid: Tid, can: bool)
-        requires room { length self.old < 32 }
+        requires room { length self.old < THREADS }
         requires above { IsAboveLast tid self.old }
         ensures { self.new ≡ self.old ++ (tid, can) ∷ [] }
     {

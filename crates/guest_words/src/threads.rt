@@ -1,10 +1,12 @@
 //! Thread numbers.
 ghost use Rattle.std.specs.Prelude.{◌≡◌, ℕ, ◌≤◌};
 ghost use Rattle.std.specs.Option.{SomeIff};
+ghost use Rattle.guest_words.specs.declared.limits.TheConstants.{LAST_TID};
 
+use crate::limits::LAST_TID;
 use std::marker::Model;
 
-/// The number of a thread: 1 to 4194303, the range of Linux's thread numbers.
+/// The number of a thread: 1 to `LAST_TID`, the range of Linux's thread numbers.
 #[derive(Clone, Copy, Debug, PartialEq, Eq, PartialOrd, Ord)]
 pub struct Tid(u32);
 
@@ -13,7 +15,7 @@ impl Model for Tid {
 
     ghost view = { λ t. t.0 };
 
-    ghost invariant = { λ t. (1 ≤ t.0) × (t.0 ≤ 4194303) };
+    ghost invariant = { λ t. (1 ≤ t.0) × (t.0 ≤ LAST_TID) };
 
     ghost inverse = { λ n. record { 0 = n } };
 }
@@ -24,9 +26,9 @@ impl Tid {
 
     /// The thread of this number; None where the number is out of range.
     pub fn new(n: u32) -> Option<Tid>
-        ensures { SomeIff result ((1 ≤ n) × (n ≤ 4194303)) n }
+        ensures { SomeIff result ((1 ≤ n) × (n ≤ LAST_TID)) n }
     {
-        if 1 <= n && n <= 4194303 {
+        if 1 <= n && n <= LAST_TID {
             Some(Tid(n))
         } else {
             None
@@ -37,7 +39,7 @@ impl Tid {
     pub fn number(self) -> u32
         ensures same { result ≡ self }
         ensures least { 1 ≤ result }
-        ensures greatest { result ≤ 4194303 }
+        ensures greatest { result ≤ LAST_TID }
     {
         self.0
     }

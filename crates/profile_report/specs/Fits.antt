@@ -1,6 +1,7 @@
 -- What can stand in a report: numbers in their widths, names of routines, and points of activations.
 use Rattle.std.specs.Prelude.{◌≡◌, ℕ, ◌<◌, ◌≤◌, ◌^◌, true, List, Option, IfSome}
 use Rattle.guest_words.specs.Names.{is_name}
+use Rattle.guest_words.specs.declared.limits.TheConstants.{LAST_TID}
 use Rattle.guest_words.specs.declared.endings.Finish.{Finish}
 use Rattle.guest_words.specs.declared.endings.Finish.TheVariants.{Exit, Fault, Schedule}
 use Rattle.cost_points.specs.declared.point.Point.{Point}
@@ -9,7 +10,7 @@ use Rattle.cost_points.specs.Valid.{IsPoint}
 -- how a run ended: a status in 8 bits, a thread's number, an address, or a line counted from 1
 abbrev pub FitsEnd : Finish → Type 0
 FitsEnd (Exit status) = status < 2 ^ 8
-FitsEnd (Fault kind tid at) = (1 ≤ tid) × (tid ≤ 4194303) × (at < 2 ^ 32)
+FitsEnd (Fault kind tid at) = (1 ≤ tid) × (tid ≤ LAST_TID) × (at < 2 ^ 32)
 FitsEnd (Schedule line) = (1 ≤ line) × (line < 2 ^ 64)
 FitsEnd finish = Unit {0}
 

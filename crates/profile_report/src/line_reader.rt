@@ -17,6 +17,7 @@ ghost use Rattle.profile_report.specs.Fits.{FitsEnd, FitsName, FitsPoint};
 use crate::addresses::address;
 use crate::line::{Line, LineError};
 use cost_points::Point;
+use guest_words::limits::LAST_TID;
 use guest_words::{
     FaultKind, Finish, Name, NameError, Tid, cut, decimal_number, first_number, wide_decimal_number,
 };
@@ -61,7 +62,7 @@ fn kind_of(number: u64) -> Option<FaultKind>
 
 /// The thread of a number.
 fn thread_of(number: u64) -> Option<Tid>
-    ensures { SomeIff result ((1 ≤ number) × (number ≤ 4194303)) number }
+    ensures { SomeIff result ((1 ≤ number) × (number ≤ LAST_TID)) number }
 {
     Tid::new(u32::try_from(number).ok()?)
 }

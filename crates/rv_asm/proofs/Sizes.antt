@@ -4,6 +4,7 @@ use Rattle.std.specs.Prelude.{Bool, true, false, ◌==◌}
 use Rattle.std.specs.Int.{to_le_bytes, w32}
 use Rattle.std.specs.List.{flat_map}
 use Rattle.std.proofs.lemmas.List.{length-replicate}
+use Rattle.guest_words.specs.declared.limits.TheConstants.{FILE_BYTES}
 use Rattle.rv_asm.specs.declared.executable.Symbol.{Symbol}
 use Rattle.rv_asm.specs.Executable.{aligned, code_bytes, executable, image_bytes, named_file, padding, plain_file, string_of, string_table, strings_end, symbol_entries, symbol_entry, symbol_table}
 use Rattle.rv_asm.specs.Fields.{bytes_of, symbol_fields}
@@ -60,11 +61,11 @@ named_is words symbols is_empty test is = rw (sym test ∙ is)
 
 -- what an executable that is not too large says of its parts
 pub plain_within : (words : List ℕ) (symbols : List Symbol) (is_empty : Bool) → is_empty ≡ (length symbols == 0) → is_empty ≡ true
-    → length (executable words symbols) ≤ 16777216 → 4 * length words ≤ 16777216
+    → length (executable words symbols) ≤ FILE_BYTES → 4 * length words ≤ FILE_BYTES
 plain_within words symbols is_empty test is size = omega (arith, plain_is words symbols is_empty test is, plain_size words)
 
 pub named_within : (words : List ℕ) (symbols : List Symbol) (is_empty : Bool) → is_empty ≡ (length symbols == 0) → is_empty ≡ false
-    → length (executable words symbols) ≤ 16777216 → strings_end words symbols ≤ 16777216
+    → length (executable words symbols) ≤ FILE_BYTES → strings_end words symbols ≤ FILE_BYTES
 named_within words symbols is_empty test is size = omega (arith, named_is words symbols is_empty test is, named_size words symbols)
 
 within : (words : List ℕ) (symbols : List Symbol) (is_empty : Bool) → is_empty ≡ (length symbols == 0)

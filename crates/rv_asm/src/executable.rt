@@ -7,6 +7,7 @@ use crate::builder::Code;
 use crate::fields::push_words;
 use crate::headers::{FileHeader, ProgramHeader};
 use crate::symbols::{push_padding, push_section_headers, push_symbols, string_table};
+use guest_words::limits::FILE_BYTES;
 use guest_words::{Addr, Name};
 use std::alloc::{AllocError, Global};
 
@@ -123,7 +124,7 @@ fn named_file(alloc: Global, words: &[u32], symbols: &[Symbol]) -> Result<Vec<u8
 /// The executable of a program; its first word is loaded at 0x10054, where it begins to run. The symbols name its routines.
 pub fn write_exec(alloc: Global, code: &Code, symbols: &[Symbol]) -> Result<Vec<u8>, AllocError>
     requires some { 1 ≤ length code.now }
-    requires size { length (executable code.now symbols.now) ≤ 16777216 }
+    requires size { length (executable code.now symbols.now) ≤ FILE_BYTES }
     ensures file { IfOk result (λ file. file.items ≡ executable code.now symbols.now) }
 {
     if symbols.is_empty() {

@@ -1,5 +1,5 @@
 //! The atomic operations.
-ghost use Rattle.std.specs.Prelude.{◌≡◌, ◌%◌};
+ghost use Rattle.std.specs.Prelude.{◌≡◌, ◌-◌, ◌%◌};
 ghost use Rattle.guest_memory.specs.Guest.{memory_of};
 ghost use Rattle.guest_memory.specs.Reserved.{HoldAtMost, without_thread};
 ghost use Rattle.guest_memory.specs.ReservedBy.{reserved_by};
@@ -10,6 +10,7 @@ use crate::bytes::{read, write};
 use crate::operations::signed;
 use crate::{Access, Cpu, Outcome};
 use guest_memory::{GuestMemory, Reservations, Size};
+use guest_words::limits::THREADS;
 use guest_words::{Addr, FaultKind, Tid, Word};
 use rv_isa::{AtomicOp, Reg};
 
@@ -30,7 +31,7 @@ pub fn atomic(
     op: AtomicOp,
     operands: Operands,
 ) -> Outcome
-    requires { HoldAtMost (without_thread (reserved_by held.old) tid) 31 }
+    requires { HoldAtMost (without_thread (reserved_by held.old) tid) (THREADS - 1) }
     ensures { (result, exec_state_of cpu.new memory.new held.new) ≡ atomic tid op operands.rd operands.at operands.n (exec_state_of cpu.old memory.old held.old) }
 {
     let Operands { rd, at, n } = operands;
@@ -55,7 +56,7 @@ fn load_reserved(
     rd: Reg,
     at: Addr,
 ) -> Outcome
-    requires { HoldAtMost (without_thread (reserved_by held.old) tid) 31 }
+    requires { HoldAtMost (without_thread (reserved_by held.old) tid) (THREADS - 1) }
     ensures { (result, exec_state_of cpu.new memory.now held.new) ≡ load_reserved tid rd at (exec_state_of cpu.old memory.now held.old) }
 {
     let Some(old) = read(memory, at, Size::Four) else {

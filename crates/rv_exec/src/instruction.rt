@@ -1,5 +1,5 @@
 //! One instruction of a thread.
-ghost use Rattle.std.specs.Prelude.{◌≡◌, ℕ, false};
+ghost use Rattle.std.specs.Prelude.{◌≡◌, ◌-◌, ℕ, false};
 ghost use Rattle.guest_memory.specs.Reserved.{HoldAtMost, without_thread};
 ghost use Rattle.guest_memory.specs.ReservedBy.{reserved_by};
 ghost use Rattle.rv_exec.specs.Effects.{ExecState, accesses_memory, branched, effect, exec_state_of, value, with_registers};
@@ -10,10 +10,11 @@ use crate::loads_and_stores::{load, store};
 use crate::operations::{add_offset, immediate_result, is_taken, register_result};
 use crate::{Cpu, Outcome};
 use guest_memory::{GuestMemory, Reservations};
+use guest_words::limits::THREADS;
 use guest_words::{FaultKind, Tid};
 use rv_isa::{Instr, Reg, Test};
 
-/// Carries out an instruction of the thread. Fewer than 32 other threads have a reservation.
+/// Carries out an instruction of the thread. Fewer than `THREADS` other threads have a reservation.
 pub fn execute(
     cpu: &mut Cpu,
     memory: &mut GuestMemory,
@@ -21,7 +22,7 @@ pub fn execute(
     tid: Tid,
     i: Instr,
 ) -> Outcome
-    requires { HoldAtMost (without_thread (reserved_by held.old) tid) 31 }
+    requires { HoldAtMost (without_thread (reserved_by held.old) tid) (THREADS - 1) }
     ensures effect { (result, exec_state_of cpu.new memory.new held.new) ≡ effect tid i (exec_state_of cpu.old memory.old held.old) }
 {
     match i {

@@ -1,10 +1,11 @@
 //! Instructions with values from the standard.
-ghost use Rattle.std.specs.Prelude.{◌≡◌, ◌<◌, ◌+◌, ℕ};
+ghost use Rattle.std.specs.Prelude.{◌≡◌, ◌<◌, ◌+◌, ◌-◌, ℕ};
 ghost use Rattle.guest_memory.specs.Reserved.{HoldAtMost, without_thread};
 ghost use Rattle.guest_memory.specs.ReservedBy.{reserved_by};
 
 use super::*;
 use guest_memory::{GuestMemory, MemError, Reservations, Size};
+use guest_words::limits::THREADS;
 use guest_words::{Addr, FaultKind, Rights, Tid, Word};
 use rv_isa::{AtomicOp, ImmOp, Instr, LoadKind, Reg, RegOp, StoreKind, Test};
 use std::alloc::Global;
@@ -536,7 +537,7 @@ fn step(
     tid: Tid,
     i: Instr,
 ) -> Outcome
-    requires { HoldAtMost (without_thread (reserved_by held.old) tid) 31 }
+    requires { HoldAtMost (without_thread (reserved_by held.old) tid) (THREADS - 1) }
     ensures few { (n : ℕ) → HoldAtMost (reserved_by held.old) n → HoldAtMost (reserved_by held.new) (n + 1) }
 {
     execute(cpu, memory, held, tid, i)

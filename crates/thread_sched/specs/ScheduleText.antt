@@ -5,14 +5,15 @@ use Rattle.std.specs.List.{AllByRecursion, flat_map}
 use Rattle.thread_sched.specs.declared.entry.Entry.{Entry}
 use Rattle.thread_sched.specs.declared.schedule.ScheduleError.{ScheduleError}
 use Rattle.thread_sched.specs.declared.schedule.ScheduleError.TheVariants.{BadLine, Memory}
+use Rattle.guest_words.specs.declared.limits.TheConstants.{LAST_TID, RUN_STEPS}
 use Rattle.guest_words.specs.Separators.{lacks}
 
--- a thread's number, and 1 to 10^12 instructions
+-- a thread's number, and 1 to `RUN_STEPS` instructions
 pub record IsEntry (e : Entry) : Type 0 where
   pub first : 1 ≤ e.tid
-  pub last : e.tid ≤ 4194303
+  pub last : e.tid ≤ LAST_TID
   pub some : 1 ≤ e.most
-  pub most : e.most ≤ 1000000000000
+  pub most : e.most ≤ RUN_STEPS
 
 -- an entry, without the byte that ends its line
 abbrev pub entry_text : Entry → List ℕ

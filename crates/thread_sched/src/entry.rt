@@ -5,10 +5,11 @@ ghost use Rattle.std.specs.Option.{SomeIff};
 ghost use Rattle.thread_sched.specs.ScheduleText.{IsEntry, entry_text};
 ghost use Rattle.thread_sched.specs.declared.entry.Entry.{Entry};
 
+use guest_words::limits::{LAST_TID, RUN_STEPS};
 use guest_words::{Tid, decimal_number, first_number, push_decimal};
 use std::alloc::AllocError;
 
-/// One turn: its thread, and how many instructions it has at most, 1 to 10^12.
+/// One turn: its thread, and how many instructions it has at most, 1 to `RUN_STEPS`.
 #[derive(Clone, Copy, Debug, PartialEq, Eq)]
 pub struct Entry {
     pub tid: Tid,
@@ -17,19 +18,19 @@ pub struct Entry {
 
 /// The thread of a number.
 fn thread_of(number: u64) -> Option<Tid>
-    ensures { SomeIff result ((1 ≤ number) × (number ≤ 4194303)) number }
+    ensures { SomeIff result ((1 ≤ number) × (number ≤ LAST_TID)) number }
 {
     Tid::new(u32::try_from(number).ok()?)
 }
 
 /// The number of instructions that is written so.
 fn steps_of(word: &[u8]) -> Option<u64>
-    ensures range { IfSome result (λ n. (1 ≤ n) × (n ≤ 1000000000000)) }
+    ensures range { IfSome result (λ n. (1 ≤ n) × (n ≤ RUN_STEPS)) }
     ensures found { IfSome result (λ n. word.now ≡ decimal n) }
-    ensures only { (n : ℕ) → 1 ≤ n → n ≤ 1000000000000 → word.now ≡ decimal n → result ≡ Some n }
+    ensures only { (n : ℕ) → 1 ≤ n → n ≤ RUN_STEPS → word.now ≡ decimal n → result ≡ Some n }
 {
     match decimal_number(word) {
-        Some(number) if 1 <= number && number <= 1_000_000_000_000 => Some(number),
+        Some(number) if 1 <= number && number <= RUN_STEPS => Some(number),
         _ => None,
     }
 }

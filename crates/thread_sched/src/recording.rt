@@ -7,6 +7,7 @@ ghost use Rattle.thread_sched.specs.declared.entry.Entry.{Entry};
 use crate::Entry;
 use crate::entry::push_entry;
 use guest_words::Tid;
+use guest_words::limits::RUN_STEPS;
 use std::alloc::{AllocError, Global};
 use std::marker::Model;
 
@@ -42,7 +43,7 @@ impl Recording {
     /// One more turn.
     pub fn add(&mut self, tid: Tid, began: u64) -> Result<(), AllocError>
         requires some { 1 ≤ began }
-        requires most { began ≤ 1000000000000 }
+        requires most { began ≤ RUN_STEPS }
         ensures ok { OnOk result (self.new
             ≡ self.old ++ (record { tid = tid; most = began }) ∷ []) }
         ensures err { OnErr result (self.new ≡ self.old) }

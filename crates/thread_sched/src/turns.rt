@@ -4,6 +4,7 @@ ghost use Rattle.std.specs.List.{list_any};
 ghost use Rattle.thread_sched.specs.TurnRule.{able, above, behind, least, lesser, next_thread, scheduled, turn_of};
 
 use crate::{Entry, Schedule};
+use guest_words::limits::QUANTUM_STEPS;
 use guest_words::{ReadyList, Tid};
 use std::marker::Model;
 
@@ -100,7 +101,7 @@ impl Sched {
     /// The scheduler before the first turn. The quantum is how many instructions a thread runs in rotation.
     pub fn new(quantum: u64, schedule: Schedule) -> Sched
         requires some { 1 ≤ quantum }
-        requires most { quantum ≤ 1000000000 }
+        requires most { quantum ≤ QUANTUM_STEPS }
         ensures { result ≡ record { quantum = quantum; last = 0; line = 1; entries = schedule } }
     {
         Sched {

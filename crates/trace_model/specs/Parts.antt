@@ -1,6 +1,7 @@
 -- A trace in parts, one for each instruction.
-use Rattle.std.specs.Prelude.{ℕ, ◌^◌, ◌<◌, ◌≤◌, Bool, true, false, List, [], ◌∷◌, length, All}
+use Rattle.std.specs.Prelude.{ℕ, ◌<◌, ◌≤◌, Bool, true, false, List, [], ◌∷◌, length, All}
 use Rattle.std.specs.List.{sum_by}
+use Rattle.guest_words.specs.declared.limits.TheConstants.{RUN_STEPS}
 use Rattle.trace_model.specs.declared.event_kinds.Event.{Event}
 use Rattle.trace_model.specs.declared.event_kinds.Event.TheVariants.{Step, Read}
 use Rattle.trace_model.specs.Profile.{steps}
@@ -30,6 +31,6 @@ pub record IsShort (part : List Event) : Type 0 where
   pub events : length part < 1100
   pub words : sum_by count_read part < 65536
 
--- A trace of at most 10^12 steps is light where each of its parts is short.
+-- A trace of at most `RUN_STEPS` steps is light where each of its parts is short.
 abbrev pub ShortPartsAreLight : Type 0
-ShortPartsAreLight = (past : List Event) → steps past ≤ 10 ^ 12 → All IsShort (parts past) → IsLight past
+ShortPartsAreLight = (past : List Event) → steps past ≤ RUN_STEPS → All IsShort (parts past) → IsLight past

@@ -1,5 +1,6 @@
 -- Which traces a run can have.
 use Rattle.std.specs.Prelude.{◌≡◌, ℕ, ◌+◌, ◌^◌, ◌<◌, ◌≤◌, max, Bool, true, false, not, ◌&&◌, ◌||◌, nat_eq, List, [], ◌∷◌, Option, Some, None}
+use Rattle.guest_words.specs.declared.limits.TheConstants.{TRACE_WEIGHT}
 use Rattle.trace_model.specs.declared.event_kinds.Event.{Event}
 use Rattle.trace_model.specs.declared.event_kinds.Event.TheVariants.{Step, Read, Write, Fill, Call, Ret, Start, End}
 
@@ -34,7 +35,7 @@ weight (e ∷ past) = weight past + weight_of e
 
 -- light enough that no size and no cost passes a 64-bit number
 abbrev pub IsLight : List Event → Type 0
-IsLight past = weight past < 2 ^ 62
+IsLight past = weight past < TRACE_WEIGHT
 
 -- there is at least one word, and all are words of the guest's memory
 abbrev pub AreWords : ℕ → ℕ → Type 0

@@ -1,5 +1,6 @@
 -- A file with symbols and one without begin alike.
 use Rattle.std.proofs.Common.{◌≡◌, ℕ, ◌+◌, ◌≤◌, List, [], ◌∷◌, ◌++◌, length, take, None, ap, subst, sym, ◌∙◌, arith, append-nil, append_assoc, length-append, ne_eqb, if◌then◌else◌}
+use Rattle.guest_words.specs.declared.limits.TheConstants.{FILE_BYTES}
 use Rattle.elf_image.specs.Reading.{image_of}
 use Rattle.elf_image.specs.Tests.{first_refusal}
 use Rattle.rv_asm.specs.declared.executable.Symbol.{Symbol}
@@ -39,8 +40,8 @@ of_file P words (s ∷ rest) each =
     subst P same (each (aligned (strings_end words (s ∷ rest))) 3 (tables words (s ∷ rest)) same)
 
 -- the headers and the code are not too large where the file is not
-small : (words : List ℕ) (shoff shnum : ℕ) (rest file : List ℕ) → image_bytes words shoff shnum ++ rest ≡ file → length file ≤ 16777216
-    → code_end (length words) ≤ 16777216
+small : (words : List ℕ) (shoff shnum : ℕ) (rest file : List ℕ) → image_bytes words shoff shnum ++ rest ≡ file → length file ≤ FILE_BYTES
+    → code_end (length words) ≤ FILE_BYTES
 small words shoff shnum rest file same size =
     let long : length (image_bytes words shoff shnum) + length rest ≡ length file = sym (length-append (image_bytes words shoff shnum) rest) ∙ ap length same in
     omega (arith, long, image_size words shoff shnum)

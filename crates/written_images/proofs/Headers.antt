@@ -4,6 +4,7 @@ use Rattle.std.specs.List.{find, list_any}
 use Rattle.std.specs.Option.{option_map_or}
 use Rattle.std.proofs.lemmas.Bool.{le-leb, le-ltb, lt-ltb}
 use Rattle.std.proofs.Math.Seq.{take-append_seam}
+use Rattle.guest_words.specs.declared.limits.TheConstants.{FILE_BYTES, PAGES}
 use Rattle.elf_image.specs.declared.error.ElfError.TheVariants as error
 use Rattle.elf_image.specs.Headers.{half_at, word_at, program_header_at, program_headers}
 use Rattle.elf_image.specs.Image.{Executable, Segment, is_code, page_count, share_byte}
@@ -37,16 +38,16 @@ the_segment size bytes = record { place = 0x10000; size = size; rights = record 
 abbrev pub the_image : Segment → List ℕ → Executable
 the_image segment file = record { entry = 0x10054; header_place = 0x10034; header_count = 1; segments = segment ∷ []; names = names_of file }
 
-module _ (size : ℕ) (bytes : List ℕ) (low : 84 < size) (high : size ≤ 16777216) where
+module _ (size : ℕ) (bytes : List ℕ) (low : 84 < size) (high : size ≤ FILE_BYTES) where
   -- the entry is in the segment
   runs : is_code (the_segment size bytes ∷ []) 0x10054 ≡ true
   runs = rw (lt-ltb 0x10054 (0x10000 + size) (omega arith)) refl
 
   -- the segment touches few pages
-  few : ltb 16384 (page_count (the_segment size bytes ∷ [])) ≡ false
+  few : ltb PAGES (page_count (the_segment size bytes ∷ [])) ≡ false
   few =
       let counted = counted_more [] (the_segment size bytes) 0 0 0 (counted_none 0) (omega arith) (omega arith) (omega arith) in
-      le-ltb 16384 (page_count (the_segment size bytes ∷ [])) (omega (arith, counted.count))
+      le-ltb PAGES (page_count (the_segment size bytes ∷ [])) (omega (arith, counted.count))
 
 module _ (words : List ℕ) (shoff shnum : ℕ) where
   -- the bytes of the headers and the code
@@ -67,7 +68,7 @@ module _ (words : List ℕ) (shoff shnum : ℕ) where
     unfolding image_bytes
     loaded = subst (λ (n : ℕ). take n file ≡ image_bytes words shoff shnum) image_size (take-append_seam (image_bytes words shoff shnum) rest)
 
-    module _ (some : 1 ≤ length words) (fits : code_end (length words) ≤ 16777216) where
+    module _ (some : 1 ≤ length words) (fits : code_end (length words) ≤ FILE_BYTES) where
       -- the tests of the file header
       header_passes : first_of (header_tests file) ≡ None
       unfolding image_bytes half_at word_at
@@ -138,7 +139,7 @@ module _ (words : List ℕ) (shoff shnum : ℕ) where
           ∙ ap not (runs (code_end (length words)) (take (code_end (length words)) file) (omega arith) fits)
 
       pages : fails_pages file ≡ false
-      pages = ap (λ s. ltb 16384 (page_count s)) segments_are
+      pages = ap (λ s. ltb PAGES (page_count s)) segments_are
           ∙ few (code_end (length words)) (take (code_end (length words)) file) (omega arith) fits
 
       layout_passes : first_of (layout_tests file) ≡ None

@@ -3,6 +3,7 @@ use Rattle.std.proofs.Common.{◌≡◌, ℕ, suc, ◌+◌, ◌-◌, ◌*◌, �
 use Rattle.std.specs.List.{All, cons_option, filter_map, range_with_len}
 use Rattle.std.proofs.Math.Seq.{drop-append_seam, take-append_seam}
 use Rattle.std.proofs.lemmas.List.{drop-drop}
+use Rattle.guest_words.specs.declared.limits.TheConstants.{FILE_BYTES}
 use Rattle.elf_image.specs.Headers.{file_header, half_at, section_header, word_at}
 use Rattle.elf_image.specs.Symbols as seen
 use Rattle.rv_asm.specs.declared.executable.Symbol.{Symbol}
@@ -62,7 +63,7 @@ module _ (words : List ℕ) (symbols : List Symbol) where
       let long : length front ≡ place = omega (arith, file_size, ap length same, length-append front headers, last) in
       ap (drop place) same ∙ subst (λ n. drop n (front ++ headers) ≡ headers) long (drop-append_seam front headers)
 
-  module _ (fits : length file ≤ 16777216) where
+  module _ (fits : length file ≤ FILE_BYTES) where
     place_is : (file_header file).e_shoff ≡ place
     unfolding image_bytes word_at
     place_is = word_back place (omega (arith, file_size))

@@ -2,6 +2,7 @@
 use Rattle.std.proofs.Common.{◌≡◌, ℕ, ◌≤◌, Bool, true, false, eqb, List, [], ◌∷◌, length, map, None, if◌then◌else◌, refl, sym, ap, subst}
 use Rattle.std.specs.List.{All, find}
 use Rattle.std.specs.Option.{MatchOption, option_map_or}
+use Rattle.guest_words.specs.declared.limits.TheConstants.{FILE_BYTES}
 use Rattle.elf_image.specs.Headers as seen_headers
 use Rattle.elf_image.specs.Reading.{name_at}
 use Rattle.elf_image.specs.Symbols as seen
@@ -27,7 +28,7 @@ all_symbols words [] w routines = none words
 all_symbols words (s ∷ rest) w routines =
     let same = with_tables words s rest in
     subst (λ file. seen.symbols file ≡ map read (s ∷ rest)) same
-    (read_back words (s ∷ rest) (subst (λ file. length file ≤ 16777216) (sym same) w.size) routines)
+    (read_back words (s ∷ rest) (subst (λ file. length file ≤ FILE_BYTES) (sym same) w.size) routines)
 
 pub names : (words : List ℕ) (symbols : List Symbol) → IsWritten words symbols → All IsRoutine symbols → (at : ℕ)
     → MatchOption (name_at (executable words symbols) at) (names_at symbols at ≡ []) (IsLeast (names_at symbols at))

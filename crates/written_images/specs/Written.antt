@@ -3,6 +3,7 @@ use Rattle.std.specs.Prelude.{◌≡◌, ℕ, ◌^◌, ◌<◌, ◌≤◌, ◌==
 use Rattle.std.specs.List.{Contains}
 use Rattle.std.specs.Ordering.{is_lt, nat_cmp}
 use Rattle.std.specs.Cmp.Lexicographic.{slice_cmp}
+use Rattle.guest_words.specs.declared.limits.TheConstants.{FILE_BYTES}
 use Rattle.guest_words.specs.Names.{is_name}
 use Rattle.elf_image.specs.Image.{Executable, Segment}
 use Rattle.elf_image.specs.Reading.{names_of}
@@ -12,7 +13,7 @@ use Rattle.rv_asm.specs.Executable.{code_bytes, code_end, executable}
 -- A program and symbols of which a file is written: the program has a word, and the file is not too large.
 pub record IsWritten (words : List ℕ) (symbols : List Symbol) : Type 0 where
   pub some : 1 ≤ length words
-  pub size : length (executable words symbols) ≤ 16777216
+  pub size : length (executable words symbols) ≤ FILE_BYTES
 
 -- the segment of a file: its headers, which are its first 84 bytes, and the code, at 0x10000, to be read, written and run
 abbrev pub written_segment : List ℕ → List Symbol → Segment

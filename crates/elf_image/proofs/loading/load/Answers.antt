@@ -2,6 +2,7 @@ use Rattle.std.proofs.Common.{◌≡◌, ◌<◌, ◌≤◌, not, length, ap, sy
 use Rattle.std.specs.List.{All}
 use Rattle.std.proofs.lemmas.Bool.{le-ltb, lt-ltb, not_from_false, not_from_true}
 use Rattle.std.proofs.lemmas.List.Sorted.{All-permutation}
+use Rattle.guest_words.specs.declared.limits.TheConstants.{PAGES}
 use Rattle.elf_image.specs.declared.headers.FileHeader.{FileHeader}
 use Rattle.elf_image.specs.Image.{page_count}
 use Rattle.elf_image.specs.Layout.{IsLoadable}
@@ -40,8 +41,8 @@ returns-then-not-is_entry-clause-refused c = λ _.
     entry_is file c.args.headers.now c.args.header.now.e_entry _ c.requires.headers (ap (λ (h : FileHeader). h.e_entry) c.requires.header) (c.is_entry.ensures file) in
     refused_entry file (sym overlap ∙ c.if-has_overlap.false) (sym some ∙ c.if-is_empty.false) (sym entry ∙ not_from_false _ c.if-not-is_entry.true)
 
-pub returns-then-pages-gt-MOST_PAGES-clause-refused : goal.returns-then-pages-gt-MOST_PAGES-clause-refused
-returns-then-pages-gt-MOST_PAGES-clause-refused c = λ _.
+pub returns-then-pages-gt-PAGES-clause-refused : goal.returns-then-pages-gt-PAGES-clause-refused
+returns-then-pages-gt-PAGES-clause-refused c = λ _.
     let file = c.args.file.now in
     let overlap : c.has_overlap.result ≡ fails_overlap file =
     overlap_is file c.args.headers.now c.in_ok-ordered.ordered.items _ c.requires.headers c.in_ok-ordered.ensures.same (rw c.deref.ensures.value at (c.has_overlap.ensures file)) in
@@ -50,7 +51,7 @@ returns-then-pages-gt-MOST_PAGES-clause-refused c = λ _.
     entry_is file c.args.headers.now c.args.header.now.e_entry _ c.requires.headers (ap (λ (h : FileHeader). h.e_entry) c.requires.header) (c.is_entry.ensures file) in
     let pages : c.count_pages-pages.result ≡ page_count (segments_of file) =
     pages_are file c.args.headers.now c.in_ok-ordered.ordered.items _ c.requires.headers c.in_ok-ordered.ensures.same (rw c.deref-2.ensures.value at (c.count_pages-pages.ensures file)) in
-    let many : 16384 < c.count_pages-pages.result = c.if-pages-gt-MOST_PAGES.true in
+    let many : PAGES < c.count_pages-pages.result = c.if-pages-gt-PAGES.true in
     refused_pages file (sym overlap ∙ c.if-has_overlap.false) (sym some ∙ c.if-is_empty.false) (sym entry ∙ not_from_true _ c.if-not-is_entry.false)
     (lt-ltb _ _ (rw pages at many))
 
@@ -64,7 +65,7 @@ returns-clause-passed c =
     entry_is file c.args.headers.now c.args.header.now.e_entry _ c.requires.headers (ap (λ (h : FileHeader). h.e_entry) c.requires.header) (c.is_entry.ensures file) in
     let pages : c.count_pages-pages.result ≡ page_count (segments_of file) =
     pages_are file c.args.headers.now c.in_ok-ordered.ordered.items _ c.requires.headers c.in_ok-ordered.ensures.same (rw c.deref-2.ensures.value at (c.count_pages-pages.ensures file)) in
-    let few : c.count_pages-pages.result ≤ 16384 = c.if-pages-gt-MOST_PAGES.false in
+    let few : c.count_pages-pages.result ≤ PAGES = c.if-pages-gt-PAGES.false in
     passed_layout file (sym overlap ∙ c.if-has_overlap.false) (sym some ∙ c.if-is_empty.false) (sym entry ∙ not_from_true _ c.if-not-is_entry.false)
     (le-ltb _ _ (rw pages at few))
 

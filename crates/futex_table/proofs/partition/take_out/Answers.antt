@@ -1,5 +1,6 @@
 use Rattle.std.proofs.Common.{◌≤◌, ap, ◌∙◌, sym, subst, inl, inr, arith}
 use Rattle.std.specs.Vec.{vec_capacity, vec_items}
+use Rattle.guest_words.specs.declared.limits.TheConstants.{THREADS}
 use Rattle.futex_table.specs.Once.{IsOnce}
 use Rattle.futex_table.proofs.Partitions.{IsParted-taken, IsParted-kept}
 use Rattle.futex_table.proofs.partition.take_out.Goals as goal
@@ -22,8 +23,8 @@ loop-w-preserved c =
           let same = ap vec_capacity w.taken-is in
           let grown = ap vec_capacity w.spare-is in
           let kept_is = ap vec_items w.spare-is ∙ (rw w.unwrap-else-len-most.ensures at w.push-else-len-most.ensures.items) in
-          let room_kept : 32 ≤ vec_capacity c.if-len-most.spare = omega (arith, grown, whole.has_room_kept, w.push-else-len-most.ensures.capacity) in
-          let room_taken : 32 ≤ vec_capacity c.if-len-most.taken = omega (arith, same, whole.has_room_taken) in
+          let room_kept : THREADS ≤ vec_capacity c.if-len-most.spare = omega (arith, grown, whole.has_room_kept, w.push-else-len-most.ensures.capacity) in
+          let room_taken : THREADS ≤ vec_capacity c.if-len-most.taken = omega (arith, same, whole.has_room_taken) in
           elim w.else-len-most.branch [
             | else-len-most-via-then-len-most+else-waits_at w' ↦
                 IsParted-kept c.deref-w-items.result.now _ _ _ c.loop-w.w-index c.loop-w.spare.items c.loop-w.taken.items _ _ (vec_capacity c.loop-w.spare) (vec_capacity c.loop-w.taken) _ _ c.w-item.result once whole c.loop-w-test.true c.w-item.is
