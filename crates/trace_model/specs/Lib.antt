@@ -5,6 +5,7 @@ pub mod Profile
 pub mod WellFormed
 pub mod Parts
 pub mod Depth
+pub mod Observing
 pub mod EventList
 pub mod Laws
 pub mod Positions

@@ -8,6 +8,7 @@ mod activations;
 mod event_kinds;
 mod event_list;
 mod laws;
+mod observer;
 mod sizes;
 mod slow_profile;
 
@@ -19,6 +20,7 @@ pub use laws::{
     parts_are_in_time, pending_is_of_all_threads, short_parts_are_light, size_counts_unknown_reads,
     worked_traces_are_as_written,
 };
+pub use observer::{Observed, Observer};
 pub use slow_profile::{Done, slow_done};
 
 #[cfg(test)]
