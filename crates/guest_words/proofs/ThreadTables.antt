@@ -1,7 +1,8 @@
 -- Where a thread stands in a table, and what each thread reads after a change.
-use Rattle.std.proofs.Common.{◌≡◌, ℕ, zero, suc, ◌<◌, Bool, true, false, cond, List, [], ◌∷◌, ◌++◌, length, get_or, set, Option, Some, None, refl, ap, sym, ◌∙◌, arith, All, not}
+use Rattle.std.proofs.Common.{◌≡◌, ℕ, zero, suc, ◌<◌, Bool, true, false, cond, List, [], ◌∷◌, ◌++◌, length, map, get_or, set, Option, Some, None, refl, ap, sym, ◌∙◌, arith, All, not}
 use Rattle.std.specs.Prelude.{◌==◌, nat_lt}
 use Rattle.std.specs.List.{position, position_or_len}
+use Rattle.std.specs.Option.{option_map}
 use Rattle.std.proofs.lemmas.Bool.Decides.{nat_tests}
 use Rattle.std.proofs.lemmas.List.Quantifiers.{position-Some}
 use Rattle.std.proofs.lemmas.List.Elements.{All-head, All-tail, All-cons}
@@ -174,3 +175,54 @@ module _ {T : Type 0} where
           let below : nat_lt (position_or_len (is_of t) xs) (length xs) ≡ true = grind (arith, nat_tests, low) in
           let some : position (is_of t) xs ≡ Some (position_or_len (is_of t) xs) = rw below refl in
           let bad : None ≡ Some (position_or_len (is_of t) xs) = sym none ∙ some in absurd (cc)
+
+  -- the value that a thread has changes nothing
+  pub with_own : (xs : List (ℕ × T)) (t : ℕ) (v : T) → value_of xs t ≡ Some v → with_value xs t v ≡ xs
+  with_own [] t v here = refl
+  with_own (x ∷ xs) t v here = by (x.0 == t) here (with_own xs t v)
+    where
+      by : (b : Bool) → cond b (Some x.1) (value_of xs t) ≡ Some v → (value_of xs t ≡ Some v → with_value xs t v ≡ xs) →
+          cond b ((x.0, v) ∷ xs) (x ∷ with_value xs t v) ≡ x ∷ xs
+      by true here later = let same : x.1 ≡ v = cc in ap (λ (w : T). (x.0, w) ∷ xs) (sym same)
+      by false here later = ap (λ ys. x ∷ ys) (later here)
+
+-- ---- a table of which each value is seen as another
+module _ {T U : Type 0} (see : T → U) where
+  abbrev pub seen : List (ℕ × T) → List (ℕ × U)
+  seen xs = map (λ x. (x.0, see x.1)) xs
+
+  pub value_of-seen : (xs : List (ℕ × T)) (t : ℕ) → value_of (seen xs) t ≡ option_map see (value_of xs t)
+  value_of-seen [] t = refl
+  value_of-seen (x ∷ xs) t = by (x.0 == t) (value_of-seen xs t)
+    where
+      by : (b : Bool) → value_of (seen xs) t ≡ option_map see (value_of xs t) →
+          cond b (Some (see x.1)) (value_of (seen xs) t) ≡ option_map see (cond b (Some x.1) (value_of xs t))
+      by true later = refl
+      by false later = later
+
+  pub numbers-seen : (xs : List (ℕ × T)) → numbers (seen xs) ≡ numbers xs
+  numbers-seen [] = refl
+  numbers-seen (x ∷ xs) = ap (λ ns. x.0 ∷ ns) (numbers-seen xs)
+
+  pub with_value-seen : (xs : List (ℕ × T)) (t : ℕ) (v : T) → seen (with_value xs t v) ≡ with_value (seen xs) t (see v)
+  with_value-seen [] t v = refl
+  with_value-seen (x ∷ xs) t v = by (x.0 == t) (with_value-seen xs t v)
+    where
+      by : (b : Bool) → seen (with_value xs t v) ≡ with_value (seen xs) t (see v) →
+          seen (cond b ((x.0, v) ∷ xs) (x ∷ with_value xs t v)) ≡ cond b ((x.0, see v) ∷ seen xs) ((x.0, see x.1) ∷ with_value (seen xs) t (see v))
+      by true later = refl
+      by false later = ap (λ ys. (x.0, see x.1) ∷ ys) later
+
+  pub without_thread-seen : (xs : List (ℕ × T)) (t : ℕ) → seen (without_thread xs t) ≡ without_thread (seen xs) t
+  without_thread-seen [] t = refl
+  without_thread-seen (x ∷ xs) t = by (x.0 == t) (without_thread-seen xs t)
+    where
+      by : (b : Bool) → seen (without_thread xs t) ≡ without_thread (seen xs) t →
+          seen (cond (not b) (x ∷ without_thread xs t) (without_thread xs t)) ≡ cond (not b) ((x.0, see x.1) ∷ without_thread (seen xs) t) (without_thread (seen xs) t)
+      by true later = later
+      by false later = ap (λ ys. (x.0, see x.1) ∷ ys) later
+
+  -- a value that is seen as before changes nothing that is seen
+  pub seen_same : (xs : List (ℕ × T)) (t : ℕ) (v w : T) → value_of xs t ≡ Some w → see v ≡ see w → seen (with_value xs t v) ≡ seen xs
+  seen_same xs t v w here same =
+      with_value-seen xs t v ∙ with_own (seen xs) t (see v) (value_of-seen xs t ∙ ap (option_map see) here ∙ ap Some (sym same))
