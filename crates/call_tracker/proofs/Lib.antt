@@ -1,2 +1,3 @@
 pub mod KeptCalls
 pub mod Followed
+mod WorkedEvents

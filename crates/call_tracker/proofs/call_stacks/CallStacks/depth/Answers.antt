@@ -1,4 +1,4 @@
-use Rattle.std.proofs.Common.{◌≡◌, ◌∙◌, ap, sym, length}
+use Rattle.std.proofs.Common.{◌∙◌, ap, sym, length}
 use Rattle.std.proofs.lemmas.List.{length-reverse}
 use Rattle.call_tracker.specs.CallStacks.{Stacks}
 use Rattle.call_tracker.proofs.KeptCalls.{calls_kept, no_calls_kept}

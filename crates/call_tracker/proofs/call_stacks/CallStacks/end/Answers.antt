@@ -1,7 +1,7 @@
-use Rattle.std.proofs.Common.{◌≡◌, ◌∙◌, ◌≤◌, length, ap, sym, arith}
+use Rattle.std.proofs.Common.{◌∙◌, ap}
 use Rattle.guest_words.specs.ByThread.{without_thread}
 use Rattle.guest_words.proofs.ThreadTables.{without_thread-seen}
-use Rattle.call_tracker.specs.CallStacks.{Stacks, calls_of}
+use Rattle.call_tracker.specs.CallStacks.{Stacks}
 use Rattle.call_tracker.proofs.KeptCalls.{inward, seen}
 use Rattle.call_tracker.proofs.call_stacks.CallStacks.end.Goals as goal
 

@@ -1,11 +1,11 @@
-use Rattle.std.proofs.Common.{◌≡◌, ◌∙◌, ◌≤◌, length, ap, sym, arith, Some}
+use Rattle.std.proofs.Common.{◌≡◌, ◌∙◌, length, ap, sym, arith, Some}
 use Rattle.std.specs.Option.{option_copied_mut}
 use Rattle.std.proofs.lemmas.List.{length-reverse}
 use Rattle.guest_words.specs.ByThread.{value_of}
 use Rattle.trace_model.specs.Activations.{count_returned}
 use Rattle.call_tracker.specs.Calls.{backs}
 use Rattle.call_tracker.specs.CallStacks.{Stacks, calls_of}
-use Rattle.call_tracker.proofs.KeptCalls.{calls_kept, inward, kept, returned, seen}
+use Rattle.call_tracker.proofs.KeptCalls.{calls_kept, inward, kept, returned}
 use Rattle.call_tracker.proofs.call_stacks.CallStacks.return_to.Goals as goal
 
 pub unwrap-calls-requires : goal.unwrap-calls-requires

@@ -1,6 +1,5 @@
 use Rattle.std.proofs.Common.{◌≡◌, ◌∙◌, ap, sym, Some, None, List}
 use Rattle.std.specs.Prelude.{slice_get}
-use Rattle.std.specs.Option.{option_copied}
 use Rattle.guest_words.specs.ByThread.{value_of}
 use Rattle.trace_model.specs.Activations.{open_calls}
 use Rattle.call_tracker.specs.declared.open_calls.OpenCall.{OpenCall}
