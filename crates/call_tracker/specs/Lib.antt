@@ -1,2 +1,3 @@
 pub mod Links
 pub mod Calls
+pub mod CallStacks

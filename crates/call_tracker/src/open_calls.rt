@@ -1,5 +1,5 @@
 //! The open calls of a thread.
-ghost use Rattle.std.specs.Prelude.{◌≡◌, ◌+◌, ◌-◌, ◌≤◌, ◌++◌, ◌∷◌, [], length, take, reverse, IsOk, IfOk, OnOk, OnErr};
+ghost use Rattle.std.specs.Prelude.{◌≡◌, ◌+◌, ◌-◌, ◌≤◌, ◌++◌, ◌∷◌, [], length, slice_get, take, reverse, IsOk, IfOk, OnOk, OnErr};
 ghost use Rattle.call_tracker.specs.Calls.{backs};
 ghost use Rattle.trace_model.specs.Activations.{count_returned};
 
@@ -73,6 +73,13 @@ impl OpenCalls {
     {
         self.calls.push(OpenCall { entry, back })?;
         Ok(())
+    }
+
+    /// The innermost call.
+    pub fn top(&self) -> Option<OpenCall>
+        ensures { result ≡ slice_get (reverse self.now.calls) 0 }
+    {
+        self.calls.last().copied()
     }
 
     /// How many calls are open.

@@ -1,7 +1,9 @@
 use super::*;
+use guest_words::Tid;
 use rv_isa::{Instr, Reg};
 use std::process::Abort;
 use std::test::Fail;
+use trace_model::Event;
 
 fn jalr(rt: &impl Abort, rd: u8, base: u8) -> Instr {
     Instr::Jalr {
@@ -54,5 +56,57 @@ fn an_unmatched_return_ends_nothing(rt: HostRuntime) -> Result<(), Fail> {
     assert_eq!(rt; calls.pop_to(0x10058), 2);
     assert_eq!(rt; calls.pop_all(), 1);
     assert_eq!(rt; calls.depth(), 0);
+    Ok(())
+}
+
+// Two threads begin, call, return and end: what each event ends, and what is open then.
+#[test]
+fn events_are_followed_by_thread(rt: HostRuntime) -> Result<(), Fail> {
+    let (first, second) = (Tid::FIRST, Tid::new(2).unwrap());
+    let mut stacks = CallStacks::new(rt.alloc());
+    let root = OpenCall {
+        entry: 0x100,
+        back: None,
+    };
+    let inner = OpenCall {
+        entry: 0x200,
+        back: Some(0x104),
+    };
+    assert_eq!(rt;
+        stacks.apply(Event::Start {
+            tid: first,
+            entry: 0x100
+        })?,
+        0
+    );
+    assert_eq!(rt; stacks.apply(Event::Step { tid: first })?, 0);
+    assert_eq!(rt;
+        stacks.apply(Event::Call {
+            tid: first,
+            entry: 0x200,
+            back: 0x104
+        })?,
+        0
+    );
+    assert_eq!(rt;
+        stacks.apply(Event::Start {
+            tid: second,
+            entry: 0x300
+        })?,
+        0
+    );
+    assert_eq!(rt; stacks.pending(), 3);
+    assert_eq!(rt; stacks.top(first), Some(inner));
+    assert_eq!(rt;
+        stacks.apply(Event::Ret {
+            tid: first,
+            target: 0x104
+        })?,
+        1
+    );
+    assert_eq!(rt; stacks.top(first), Some(root));
+    assert_eq!(rt; stacks.apply(Event::End { tid: second })?, 1);
+    assert_eq!(rt; stacks.pending(), 1);
+    assert_eq!(rt; stacks.top(second), None);
     Ok(())
 }

@@ -2,3 +2,4 @@ pub mod Cuts
 pub mod Found
 pub mod Numerals
 pub mod ReadyPlaces
+pub mod ThreadTables

@@ -4,6 +4,7 @@
 #![tactic(auto)]
 
 mod addresses;
+mod by_thread;
 mod endings;
 mod fields;
 pub mod limits;
@@ -14,6 +15,7 @@ mod text_words;
 mod threads;
 
 pub use addresses::{Addr, Word, words_over};
+pub use by_thread::ByThread;
 pub use endings::{FaultKind, Finish};
 pub use fields::{le16, le32, put_le32};
 pub use name::{Name, NameError};

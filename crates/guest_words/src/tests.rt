@@ -1,6 +1,6 @@
 use crate::{
-    FaultKind, Name, NameError, ReadyList, Tid, Word, cut, decimal_number, first_number, le16,
-    le32, push_decimal, put_le32, wide_decimal_number, words_over,
+    ByThread, FaultKind, Name, NameError, ReadyList, Tid, Word, cut, decimal_number, first_number,
+    le16, le32, push_decimal, put_le32, wide_decimal_number, words_over,
 };
 use std::test::Fail;
 
@@ -107,5 +107,24 @@ fn numbers_are_read_before_a_space_and_written(rt: HostRuntime) -> Result<(), Fa
         text.as_slice(),
         b"n 340282366920938463463374607431768211455".as_slice()
     );
+    Ok(())
+}
+
+// Values are found, written and taken out by the numbers of their threads.
+#[test]
+fn a_table_is_read_by_thread(rt: HostRuntime) -> Result<(), Fail> {
+    let (second, third) = (Tid::new(2).unwrap(), Tid::new(3).unwrap());
+    let mut table = ByThread::new(rt.alloc());
+    table.reserve(1)?;
+    table.insert(Tid::FIRST, 10u32)?;
+    table.insert(third, 30)?;
+    assert_eq!(rt; table.get(second), None);
+    if let Some(value) = table.get_mut(third) {
+        *value = 31;
+    }
+    assert_eq!(rt; table.get(third), Some(&31));
+    table.remove(Tid::FIRST);
+    assert_eq!(rt; table.get(Tid::FIRST), None);
+    assert_eq!(rt; table.len(), 1);
     Ok(())
 }

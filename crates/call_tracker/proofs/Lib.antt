@@ -1,0 +1,3 @@
+pub mod KeptCalls
+pub mod Followed
+mod WorkedEvents
