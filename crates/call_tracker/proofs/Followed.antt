@@ -33,7 +33,7 @@ one-le-weight_of (Ret _ _) = omega arith
 one-le-weight_of (Start _ _) = omega arith
 one-le-weight_of (End _) = omega arith
 
-pending-le-weight : (past : List Event) → pending past ≤ weight past
+pub pending-le-weight : (past : List Event) → pending past ≤ weight past
 pending-le-weight [] = omega arith
 pending-le-weight (e ∷ past) = omega (arith, pending-le-weight past, one-le-weight_of e)
 

@@ -1,8 +1,9 @@
 -- One move of a run that is observed.
-use Rattle.std.proofs.Common.{◌≡◌, ℕ, zero, suc, ◌+◌, ◌-◌, ◌<◌, ◌≤◌, Bool, true, false, cond, List, [], ◌∷◌, ◌++◌, length, length-append, refl, sym, ap, subst, ◌∙◌, append-nil, append_assoc, arith}
+use Rattle.std.proofs.Common.{◌≡◌, ℕ, zero, suc, ◌+◌, ◌-◌, ◌<◌, ◌≤◌, Bool, true, false, cond, List, [], ◌∷◌, ◌++◌, length, length-append, refl, sym, ap, subst, ◌∙◌, append-nil, append_assoc, arith, Err, inl, inr}
 use Rattle.std.specs.Prelude.{pred}
 use Rattle.guest_words.specs.declared.endings.Finish.{Finish}
 use Rattle.guest_words.specs.declared.endings.Finish.TheVariants.{Budget, Deep}
+use Rattle.guest_words.specs.declared.limits.TheConstants.{RUN_STEPS}
 use Rattle.trace_model.specs.declared.event_kinds.Event.{Event}
 use Rattle.trace_model.specs.Cut.{IsPrefixClosed, cut, past_after}
 use Rattle.trace_model.specs.Observing.{MayTakeAll}
@@ -17,11 +18,13 @@ use Rattle.guest_run.specs.declared.turn_status.TurnStatus.{TurnStatus}
 use Rattle.guest_run.specs.declared.turn_status.TurnStatus.TheVariants.{GoesOn, TurnOver, Ends}
 use Rattle.guest_run.specs.declared.run.Runner.{Runner}
 use Rattle.guest_run.specs.declared.run_error.Channel.{Channel}
+use Rattle.guest_run.specs.declared.run_error.RunError.{RunError}
+use Rattle.guest_run.specs.declared.run_error.RunError.TheVariants.{CannotPut, Memory}
 use Rattle.guest_run.specs.declared.turns.Choice.TheVariants as choice
 use Rattle.guest_run.specs.declared.turns.CurrentTurn.{CurrentTurn}
 use Rattle.guest_run.specs.declared.turns.Recorder.{Recorder}
 use Rattle.guest_run.specs.CurrentTurn.{IsUnderWay, chosen_of, position, recorded}
-use Rattle.guest_run.specs.Going.{IsGoing, IsOver, IsPastOf, Leads, observed, past_by, with_moves}
+use Rattle.guest_run.specs.Going.{Advances, IsGoing, IsOver, IsPastOf, Leads, observed, past_by, with_moves}
 use Rattle.guest_run.specs.Going as going
 use Rattle.guest_run.specs.Machine.{Machine, Progress, guest, turn_status_of}
 use Rattle.guest_run.specs.Output.{FailsOn, Sinks, with_output, with_sent}
@@ -29,7 +32,7 @@ use Rattle.guest_run.specs.Profiled.{Profiled, profiled}
 use Rattle.guest_run.specs.Run.{Move, Position, WrittenRun, after_step, by_turn_status, chosen, go_on, move_of, position_after, recording, run_from, with_move}
 use Rattle.guest_run.specs.Run.Chosen.{Moves, Stops}
 use Rattle.guest_run.specs.RunEnds.{IsGivenUp, StopsAtPut}
-use Rattle.guest_run.specs.Steps.{IsStepped}
+use Rattle.guest_run.specs.Steps.{IsStepped, StepEnds}
 use Rattle.guest_run.proofs.Able.{step_able}
 use Rattle.guest_run.proofs.Guarded.{goes_went}
 use Rattle.guest_run.proofs.Observed.{observed-after, past-last, profiled-deep, profiled-head, profiled-none, profiled-one, with_first}
@@ -50,7 +53,7 @@ run-moves machine more at opens to e = ap (go_on machine (run_from machine more)
 
 -- the events of its next step may come
 pub may_take : {W : Type 0} (Stands : W → List Event → Type 0) (fits : List Event → Bool) (first : List Event) (start : Position MachineState)
-    (moves : List Move) (r : Runner) (observer : W) → IsGoing Stands fits first start moves r observer → length moves < 1000000000000 →
+    (moves : List Move) (r : Runner) (observer : W) → IsGoing Stands fits first start moves r observer → length moves < RUN_STEPS →
     (tid : ℕ) → can_run (machine_of r.stepper.machine) tid ≡ true →
     MayTakeAll Stands fits observer (guest.step (machine_of r.stepper.machine) tid).events
 may_take Stands fits first start moves r observer going room tid can = record {
@@ -133,7 +136,7 @@ module _ {W : Type 0} (Stands : W → List Event → Type 0) (fits : List Event 
         )
 
     -- the put of its bytes fails
-    pub stops_at_put : (channel : Channel) (after : Sinks) → FailsOn channel (given_of old turn.tid).out mid after →
+    stops_at_put : (channel : Channel) (after : Sinks) → FailsOn channel (given_of old turn.tid).out mid after →
         (n : ℕ) → StopsAtPut channel (observed fits first start (length moves + suc n)).moves before after
     stops_at_put channel after failed n = record {
       earlier = moves;
@@ -148,7 +151,7 @@ module _ {W : Type 0} (Stands : W → List Event → Type 0) (fits : List Event 
         sent ∙ ap (with_sent (given_of old turn.tid).out) put ∙ sym (output-last moves (made_of old turn opens) before)
 
     -- it is given up after its bytes were put
-    pub gives_up_put : (after : Sinks) → after ≡ with_sent (given_of old turn.tid).out mid →
+    gives_up_put : (after : Sinks) → after ≡ with_sent (given_of old turn.tid).out mid →
         (n : ℕ) → IsGivenUp (observed fits first start (length moves + suc n)).moves before after
     gives_up_put after sent n = record {
       earlier = moves ++ made_of old turn opens ∷ [];
@@ -156,6 +159,13 @@ module _ {W : Type 0} (Stands : W → List Event → Type 0) (fits : List Event 
       are = append_assoc moves (made_of old turn opens ∷ []) (next-move n).0 ∙ (next-move n).1;
       output = sent-now after sent;
     }
+
+    -- the step fails
+    pub step_failed : (new : Runner) (watched : W) (after : Sinks) (e : RunError) → StepEnds Stands fits (given_of old turn.tid) watcher mid new.stepper watched after (Err e) →
+        Advances Stands fits first start moves before new watched after (Err e)
+    step_failed new watched after (CannotPut channel) failed = stops_at_put channel after failed
+    step_failed new watched after Memory (inl same) = λ n. subst (IsGivenUp (observed fits first start (length moves + suc n)).moves before) (sym same) (gives_up n)
+    step_failed new watched after Memory (inr sent) = gives_up_put after sent
 
     -- ---- the move is made
     module _ (watched : W) (new : Runner) (after : Sinks) (status : TurnStatus)
@@ -223,7 +233,7 @@ module _ {W : Type 0} (Stands : W → List Event → Type 0) (fits : List Event 
               ∙ ap (λ l. let q : Position MachineState = record { state = machine_of new.stepper.machine; turns = turn.scheduler; left = l } in q) (sym left)
               ∙ ap (λ s. let q : Position MachineState = record { state = machine_of new.stepper.machine; turns = s; left = new.turn.left } in q) (sym turns)
 
-      module _ (room : length moves < 1000000000000) (made_one : new.recorder.made ≤ old.recorder.made + 1) where
+      module _ (room : length moves < RUN_STEPS) (made_one : new.recorder.made ≤ old.recorder.made + 1) where
         goes-on : fits (past_after (past_by first moves) (given_of old turn.tid).events) ≡ true → Leads start (moves ++ made_of old turn opens ∷ []) (at_of new) →
             (0 < new.turn.left → IsUnderWay (machine_of new.stepper.machine) new.turn) → (0 < new.turn.left → 0 < new.recorder.made) →
             going.GoesOn Stands fits first start moves before new watched after

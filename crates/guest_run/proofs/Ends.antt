@@ -2,6 +2,7 @@
 use Rattle.std.proofs.Common.{◌≡◌, ℕ, suc, ◌+◌, ◌-◌, ◌<◌, ◌≤◌, Bool, true, List, [], ◌∷◌, ◌++◌, length, length-append, Result, Ok, Err, IfOk, IfErr, refl, sym, ap, subst, ◌∙◌, append-nil, arith}
 use Rattle.guest_words.specs.declared.endings.Finish.{Finish}
 use Rattle.guest_words.specs.declared.endings.Finish.TheVariants.{Budget}
+use Rattle.guest_words.specs.declared.limits.TheConstants.{RUN_STEPS}
 use Rattle.trace_model.specs.declared.event_kinds.Event.{Event}
 use Rattle.trace_model.specs.WellFormed.{IsWellFormed}
 use Rattle.thread_sched.specs.TurnRule.{SchedulerState}
@@ -52,7 +53,7 @@ ends_over Stands p before r observer after finish over (Err e) none is =
 
 module _ {W : Type 0} (Stands : W → List Event → Type 0) (fits : List Event → Bool) (first : List Event) (begin : Position MachineState)
     (before : Sinks) (count : ℕ) (r : Runner) (observer : W) (now : Sinks) (remains : Remains Stands fits first begin before count r observer now) where
-  pub may_advance : count < 1000000000000 → MayAdvance Stands fits r observer
+  pub may_advance : count < RUN_STEPS → MayAdvance Stands fits r observer
   may_advance room = record {
     first = first;
     start = begin;
@@ -114,7 +115,7 @@ pub remains_first : {W : Type 0} (Stands : W → List Event → Type 0) (fits : 
 remains_first Stands fits parts turns before r observer at new stands fitting = record {
   moves = [];
   going = record {
-    leads = λ n. ap (run_from guest n) here;
+    leads = λ n. ap (λ k. run_from guest k (start turns (machine_of parts))) (let e : 0 + n ≡ n = omega arith in e) ∙ ap (run_from guest n) here;
     stands = stands;
     fitting = fitting;
     past = subst (λ (m : Parts). IsPastOf (first_past parts.entry) (machine_of m)) (sym new.machine_is) (past_first parts at);

@@ -10,13 +10,14 @@ use Rattle.guest_calls.specs.Kernel.{is_thread}
 use Rattle.guest_machine.specs.Machine.{MachineState, can_run}
 use Rattle.guest_machine.specs.Start.{start}
 use Rattle.guest_machine.proofs.Holders.{can_run-lives}
+use Rattle.guest_words.specs.declared.limits.TheConstants.{RUN_STEPS}
 use Rattle.trace_model.specs.declared.event_kinds.Event.{Event}
 use Rattle.guest_run.specs.Laws.{IsPrefix}
 use Rattle.guest_run.specs.Machine.{guest}
 use Rattle.guest_run.specs.Run.{Move, current, recording, run}
 use Rattle.guest_run.specs.Run as runs
 use Rattle.guest_run.specs.Profiled.{first_past, profiled}
-use Rattle.guest_run.specs.Traces.{EveryRunRecordsEntries, most_moves}
+use Rattle.guest_run.specs.Traces.{EveryRunRecordsEntries}
 use Rattle.guest_run.proofs.Bounds.{current-le, profiled-prefix, profiled_within, stays_within}
 use Rattle.guest_run.proofs.Guarded.{IsSoundAfter, Steps, each_move, sound_next, start_able, start_sound}
 
@@ -56,7 +57,7 @@ run_numbered = record {
 }
 
 -- ---- the turns
-entries : (moves : List Move) → AllByRecursion IsNumbered moves → length moves ≤ most_moves → AllByRecursion IsEntry (recording moves)
+entries : (moves : List Move) → AllByRecursion IsNumbered moves → length moves ≤ RUN_STEPS → AllByRecursion IsEntry (recording moves)
 entries [] each few = tt
 entries (move ∷ moves) each few = by move.opens (entries moves each.1 (omega (arith, few)))
   where

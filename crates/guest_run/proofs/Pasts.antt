@@ -1,5 +1,6 @@
 -- The past of a machine goes on by a step.
 use Rattle.std.proofs.Common.{◌≡◌, ℕ, ◌+◌, ◌<◌, ◌≤◌, true, List, [], ◌∷◌, ◌++◌, reverse, arith}
+use Rattle.guest_words.specs.declared.limits.TheConstants.{RUN_STEPS}
 use Rattle.trace_model.specs.declared.event_kinds.Event.{Event}
 use Rattle.trace_model.specs.Cut.{past_after}
 use Rattle.trace_model.specs.Profile.{steps}
@@ -25,7 +26,7 @@ step_adds m tid past =
     let events = (step m tid).events in
     omega (arith, steps-append (reverse events) past, steps-reverse events, step_counts m tid)
 
-pub past_step : (m : MachineState) (tid : ℕ) (past : List Event) → IsPastOf past m → can_run m tid ≡ true → steps past < 1000000000000 →
+pub past_step : (m : MachineState) (tid : ℕ) (past : List Event) → IsPastOf past m → can_run m tid ≡ true → steps past < RUN_STEPS →
     IsPastOf (past_after past (step m tid).events) (step m tid).machine
 past_step m tid past is can few =
     let events = (step m tid).events in

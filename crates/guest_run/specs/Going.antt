@@ -1,5 +1,6 @@
 -- A run that goes on, as the program makes it.
 use Rattle.std.specs.Prelude.{◌≡◌, ℕ, suc, ◌+◌, ◌<◌, ◌≤◌, Bool, true, List, [], ◌∷◌, ◌++◌, length, Option, Some, None, Result, Ok, Err, All}
+use Rattle.guest_words.specs.declared.limits.TheConstants.{RUN_STEPS}
 use Rattle.guest_words.specs.declared.endings.Finish.{Finish}
 use Rattle.trace_model.specs.declared.event_kinds.Event.{Event}
 use Rattle.trace_model.specs.Cut.{past_after}
@@ -67,7 +68,7 @@ pub record MayAdvance {W : Type 0} (Stands : W → List Event → Type 0) (fits 
   pub start : Position MachineState
   pub moves : List Move
   pub going : IsGoing Stands fits first start moves r observer
-  pub room : length moves < 1000000000000
+  pub room : length moves < RUN_STEPS
 
 -- what is observed of the run with so many moves at most
 abbrev pub observed : (List Event → Bool) → List Event → Position MachineState → ℕ → Profiled

@@ -1,6 +1,7 @@
 -- What holds of the trace of every run of the guest from its start.
-use Rattle.std.specs.Prelude.{ℕ, Bool, ◌^◌, ◌≤◌, List, All}
+use Rattle.std.specs.Prelude.{ℕ, Bool, ◌≤◌, List, All}
 use Rattle.std.specs.List.{AllByRecursion}
+use Rattle.guest_words.specs.declared.limits.TheConstants.{RUN_STEPS}
 use Rattle.trace_model.specs.declared.event_kinds.Event.{Event}
 use Rattle.trace_model.specs.Cut.{past_after}
 use Rattle.trace_model.specs.Parts.{IsShort, parts}
@@ -13,10 +14,6 @@ use Rattle.guest_machine.specs.Start.{start}
 use Rattle.guest_run.specs.Machine.{guest}
 use Rattle.guest_run.specs.Run.{WrittenRun, events_of, recording, run}
 use Rattle.guest_run.specs.Profiled.{first_past, profiled}
-
--- a run has at most so many moves
-abbrev pub most_moves : ℕ
-most_moves = 10 ^ 12
 
 -- the whole trace of a run, cut before each step, has short parts alone, and so has what is observed of it
 pub record AreShort (fits : List Event → Bool) (past : List Event) (whole : WrittenRun) : Type 0 where
@@ -34,7 +31,7 @@ EveryRunIsOfShortParts =
 abbrev pub EveryRunIsLight : Type 0
 EveryRunIsLight =
     (image : Executable) (arguments : List (List ℕ)) (inputs : List Input) (stdin : List ℕ)
-    (fits : List Event → Bool) (turns : SchedulerState) (budget : ℕ) → budget ≤ most_moves
+    (fits : List Event → Bool) (turns : SchedulerState) (budget : ℕ) → budget ≤ RUN_STEPS
     → IsLight (profiled fits (first_past image.entry) (run guest turns budget (start image arguments inputs stdin))).past
 
 -- the whole trace of a run is well formed, and so is what is observed of it
@@ -46,7 +43,7 @@ pub record AreWellFormed (fits : List Event → Bool) (past : List Event) (whole
 abbrev pub EveryRunIsWellFormed : Type 0
 EveryRunIsWellFormed =
     (image : Executable) (arguments : List (List ℕ)) (inputs : List Input) (stdin : List ℕ)
-    (fits : List Event → Bool) (turns : SchedulerState) (budget : ℕ) → budget ≤ most_moves
+    (fits : List Event → Bool) (turns : SchedulerState) (budget : ℕ) → budget ≤ RUN_STEPS
     → AreWellFormed fits (first_past image.entry) (run guest turns budget (start image arguments inputs stdin))
 
 -- each turn that is recorded of a run is an entry of a schedule, and so is each of what is observed of it
@@ -58,5 +55,5 @@ pub record AreEntries (fits : List Event → Bool) (past : List Event) (whole : 
 abbrev pub EveryRunRecordsEntries : Type 0
 EveryRunRecordsEntries =
     (image : Executable) (arguments : List (List ℕ)) (inputs : List Input) (stdin : List ℕ)
-    (fits : List Event → Bool) (turns : SchedulerState) (budget : ℕ) → budget ≤ most_moves
+    (fits : List Event → Bool) (turns : SchedulerState) (budget : ℕ) → budget ≤ RUN_STEPS
     → AreEntries fits (first_past image.entry) (run guest turns budget (start image arguments inputs stdin))

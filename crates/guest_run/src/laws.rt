@@ -3,17 +3,17 @@ ghost use Rattle.guest_run.specs.Laws.{CountsSteps, EndsDeepExactly, ProfilesPar
 ghost use Rattle.guest_run.specs.Machine.{guest};
 ghost use Rattle.guest_run.specs.Traces.{EveryRunIsLight, EveryRunIsOfShortParts, EveryRunIsWellFormed, EveryRunRecordsEntries};
 
-/// A run of the guest under the schedule that is its own recording is the same in all its moves and its end, and so is a
-/// profiled run, unless it ended at an entry of its schedule.
+/// A run of the guest under the schedule that is its own recording is the same in all its moves and its end, and so is what is
+/// observed of it, whatever fits the observer, unless it ended at an entry of its schedule.
 pub fn runs_replay()
     ensures run { ReplaysRun guest }
     ensures profiled { ReplaysProfiled }
 {}
 
 /// The bounds of a run of the guest: it has at most as many moves as its budget, and as many where it ends for the budget;
-/// each turn that it records has a move, and so has each turn of what is profiled of it. That is a first part of the run, and
-/// ends for depth exactly where an activation of the whole run is too deep. The run has a step for each move but one that
-/// faults; so what is profiled of it has at most as many steps as the budget.
+/// each turn that it records has a move, and so has each turn of what is observed of it. That is a first part of the run, and
+/// ends `Deep` exactly where the past of the whole run does not fit the observer. The run has a step for each move but one that
+/// faults; so what is observed of it has at most as many steps as the budget.
 pub fn runs_stay_within()
     ensures moves { StaysWithin guest }
     ensures spent { SpendsBudget guest }
@@ -25,17 +25,17 @@ pub fn runs_stay_within()
     ensures few { StepsWithin }
 {}
 
-/// The trace of a run of the guest from its start, cut before each step, has short parts alone. Of at most 10^12 moves, it is
-/// light enough that sizes and costs are 64-bit numbers, and well formed: each event may come where it does. So is what is
-/// profiled of it.
+/// The trace of a run of the guest from its start, cut before each step, has short parts alone. Of at most `RUN_STEPS` moves,
+/// it is light enough that sizes and costs are 64-bit numbers, and well formed: each event may come where it does. So is what
+/// is observed of it.
 pub fn traces_are_well_formed()
     ensures short { EveryRunIsOfShortParts }
     ensures light { EveryRunIsLight }
     ensures formed { EveryRunIsWellFormed }
 {}
 
-/// The recording of a run of the guest from its start, of at most 10^12 moves, is a schedule: each turn is an entry, of a
-/// thread's number and a number of moves that its text can say. So is the recording of what is profiled of the run.
+/// The recording of a run of the guest from its start, of at most `RUN_STEPS` moves, is a schedule: each turn is an entry, of a
+/// thread's number and a number of moves that its text can say. So is the recording of what is observed of the run.
 pub fn recordings_are_schedules()
     ensures entries { EveryRunRecordsEntries }
 {}

@@ -1,5 +1,5 @@
 //! The run.
-ghost use Rattle.std.specs.Prelude.{◌≡◌, ◌≤◌, ◌+◌, ◌^◌, ℕ, [], List, true, IfOk, IfErr};
+ghost use Rattle.std.specs.Prelude.{◌≡◌, ◌≤◌, ◌+◌, ◌<◌, ℕ, [], List, length, true, IfOk, IfErr};
 ghost use Rattle.trace_model.specs.declared.event_kinds.Event.{Event};
 ghost use Rattle.thread_sched.specs.TurnRule.{SchedulerState};
 ghost use Rattle.guest_machine.specs.Kept.{machine_of};
@@ -17,6 +17,7 @@ use crate::stepper::Stepper;
 use crate::turns::{Choice, CurrentTurn, Recorder};
 use crate::{RunError, TurnStatus};
 use guest_machine::Machine;
+use guest_words::limits::RUN_STEPS;
 use guest_words::{Addr, Finish, Tid};
 use host_io::Sink;
 use std::alloc::{AllocError, Global};
@@ -77,10 +78,10 @@ impl Runner {
         requires { MayAdvance W.stands (W.fits observer.old) self.old observer.old }
         ensures advances { (first : List Event) (start : Position MachineState) (moves : List Move) (before : Sinks)
             → IsGoing W.stands (W.fits observer.old) first start moves self.old observer.old
-            → sinks (O.state out.old) (E.state err.old) ≡ with_output moves before
+            → length moves < RUN_STEPS → sinks (O.state out.old) (E.state err.old) ≡ with_output moves before
             → Advances W.stands (W.fits observer.old) first start moves before self.new observer.new (sinks (O.state out.new) (E.state err.new)) result }
         ensures same { W.fits observer.new ≡ W.fits observer.old }
-        ensures made { self.new.recorder.made ≤ self.old.recorder.made + 1 }
+        ensures made { IfOk result (λ end. self.new.recorder.made ≤ self.old.recorder.made + 1) }
     {
         let opens = match self.turn.choose(&self.stepper.machine) {
             Choice::Stops { finish } => return Ok(Some(finish)),
@@ -103,7 +104,7 @@ impl Runner {
 
     /// What is known of the run, which ends so.
     fn finish(self, finish: Finish) -> Result<Ended, RunError>
-        requires { self.recorder.made ≤ 1000000000000 }
+        requires { self.recorder.made ≤ RUN_STEPS }
         ensures ended { IfOk result (λ ended. (ended.recording ≡ recorded self.recorder []) × (ended.finish ≡ finish)) }
         ensures refused { IfErr result (λ e. e ≡ Memory) }
     {
@@ -127,7 +128,7 @@ pub fn run_guest<W: Observer, O: Sink, E: Sink>(
     err: &mut E,
 ) -> Result<Ended, RunError>
     requires begins { IsAtStart machine }
-    requires budget { budget ≤ 10 ^ 12 }
+    requires budget { budget ≤ RUN_STEPS }
     requires empty { W.stands observer.old [] }
     requires first { W.fits observer.old (first_past machine.entry) ≡ true }
     ensures ends { RunEnds W.stands (profiled (W.fits observer.old) (first_past machine.entry) (run guest turns budget (machine_of machine)))

@@ -8,6 +8,7 @@ ghost use Rattle.guest_run.specs.CurrentTurn.{IsUnderWay, chosen_of, position, r
 ghost use Rattle.guest_run.specs.Run.{Move, chosen};
 
 use guest_machine::Machine;
+use guest_words::limits::RUN_STEPS;
 use guest_words::{Finish, ReadyList, Tid};
 use std::alloc::{AllocError, Global};
 use thread_sched::{Recording, Sched, Turn};
@@ -101,7 +102,7 @@ impl Recorder {
     /// Takes one more move.
     pub(crate) fn add(&mut self, opens: bool, tid: Tid) -> Result<(), AllocError>
         requires going { opens ≡ false → 0 < self.old.made }
-        requires room { self.old.made < 1000000000000 }
+        requires room { self.old.made < RUN_STEPS }
         ensures recorded { IfOk result (λ u. (move : Move) (rest : List Move) → move.opens ≡ opens → move.tid ≡ tid → recorded self.old (move ∷ rest) ≡ recorded self.new rest) }
         ensures made { IfOk result (λ u. (0 < self.new.made) × (self.new.made ≤ self.old.made + 1)) }
     {
@@ -119,7 +120,7 @@ impl Recorder {
 
     /// The whole recording.
     pub(crate) fn finish(self) -> Result<Recording, AllocError>
-        requires { self.made ≤ 1000000000000 }
+        requires { self.made ≤ RUN_STEPS }
         ensures { IfOk result (λ turns. turns ≡ recorded self []) }
     {
         let mut turns = self.turns;
