@@ -30,8 +30,8 @@ pub fn an_exit_is_one_activation()
     ensures { ExitIsOneActivation }
 {}
 
-/// A trace of at most `RUN_STEPS` steps is light, whatever it is of, where each of its parts, cut before each step, has fewer than
-/// 1100 events, which read fewer than 65536 words.
+/// A trace of at most `RUN_STEPS` steps is light, whatever it is of, where each of its parts, cut before each step, has
+/// fewer than 1100 events, which read fewer than 65536 words.
 pub fn short_parts_are_light()
     ensures { ShortPartsAreLight }
 {}
