@@ -1,9 +1,10 @@
 -- A run from its begin to its end.
-use Rattle.std.proofs.Common.{◌≡◌, ℕ, suc, ◌+◌, ◌-◌, ◌<◌, ◌≤◌, Bool, true, List, [], ◌∷◌, ◌++◌, length, length-append, Result, Ok, Err, IfOk, IfErr, refl, sym, ap, subst, ◌∙◌, append-nil, arith}
+use Rattle.std.proofs.Common.{◌≡◌, ℕ, suc, ◌+◌, ◌-◌, ◌<◌, ◌≤◌, Bool, true, List, [], ◌∷◌, ◌++◌, length, length-append, Option, Some, None, Result, Ok, Err, IfOk, IfErr, refl, sym, ap, subst, ◌∙◌, append-nil, arith}
 use Rattle.guest_words.specs.declared.endings.Finish.{Finish}
 use Rattle.guest_words.specs.declared.endings.Finish.TheVariants.{Budget}
 use Rattle.guest_words.specs.declared.limits.TheConstants.{RUN_STEPS}
 use Rattle.trace_model.specs.declared.event_kinds.Event.{Event}
+use Rattle.trace_model.specs.Cut.{IsPrefixClosed}
 use Rattle.trace_model.specs.WellFormed.{IsWellFormed}
 use Rattle.thread_sched.specs.TurnRule.{SchedulerState}
 use Rattle.guest_machine.specs.Kept.{Parts, machine_of}
@@ -20,6 +21,7 @@ use Rattle.guest_run.specs.Output.{Sinks, with_output}
 use Rattle.guest_run.specs.Profiled.{Profiled, first_past}
 use Rattle.guest_run.specs.Run.{Move, Position, current, recording, run_from, start}
 use Rattle.guest_run.specs.RunEnds.{IsAtStart, IsGivenUp, RunEnds, StopsAtPut}
+use Rattle.guest_run.proofs.Advances.{over_spent}
 use Rattle.guest_run.proofs.Guarded.{start_sound}
 use Rattle.guest_run.proofs.Output.{output-none}
 use Rattle.guest_run.proofs.ShortParts.{first_short}
@@ -62,7 +64,7 @@ module _ {W : Type 0} (Stands : W → List Event → Type 0) (fits : List Event 
     room = omega (arith, room, remains.count_is);
   }
 
-  pub remains_next : (new : Runner) (watched : W) (after : Sinks) → GoesOn Stands fits first begin remains.moves before new watched after →
+  remains_next : (new : Runner) (watched : W) (after : Sinks) → GoesOn Stands fits first begin remains.moves before new watched after →
       Remains Stands fits first begin before (count + 1) new watched after
   remains_next new watched after goes = record {
     moves = remains.moves ++ goes.move ∷ [];
@@ -70,6 +72,27 @@ module _ {W : Type 0} (Stands : W → List Event → Type 0) (fits : List Event 
     output = goes.output;
     count_is = omega (arith, length-append remains.moves (goes.move ∷ []), remains.count_is);
   }
+
+  -- the run goes on so, by the same test of its observer
+  pub advances_by : (same : List Event → Bool) → same ≡ fits → count < RUN_STEPS → (new : Runner) (watched : W) (after : Sinks) (end : Result (Option Finish) RunError) →
+      ((first' : List Event) (begin' : Position MachineState) (moves : List Move) (before' : Sinks) → IsGoing Stands same first' begin' moves r observer →
+      length moves < RUN_STEPS → now ≡ with_output moves before' → Advances Stands same first' begin' moves before' new watched after end) →
+      Advances Stands fits first begin remains.moves before new watched after end
+  advances_by same is room new watched after end advances =
+      subst (λ (test : List Event → Bool). IsGoing Stands test first begin remains.moves r observer → Advances Stands test first begin remains.moves before new watched after end) is
+      (λ going. advances first begin remains.moves before going (omega (arith, room, remains.count_is)) remains.output) remains.going
+
+  pub next_by : (new : Runner) (watched : W) (after : Sinks) (end : Option Finish) → end ≡ None →
+      Advances Stands fits first begin remains.moves before new watched after (Ok end) → Remains Stands fits first begin before (count + 1) new watched after
+  next_by new watched after None is goes = remains_next new watched after goes
+  next_by new watched after (Some finish) is over = absurd (cc)
+
+  -- the budget is spent
+  pub ends_spent : IsPrefixClosed fits → (budget : ℕ) → count ≡ budget → IsOver Stands (observed fits first begin budget) before r observer now Budget
+  ends_spent closed budget spent =
+      let all : length remains.moves + 0 ≡ budget = omega (arith, spent, remains.count_is) in
+      subst (λ n. IsOver Stands (observed fits first begin n) before r observer now Budget) all
+      (over_spent Stands fits closed first begin remains.moves before r observer remains.going now remains.output)
 
   -- the whole budget, by the moves so far
   budget-by : (budget : ℕ) → count < budget → length remains.moves + suc (budget - (count + 1)) ≡ budget
