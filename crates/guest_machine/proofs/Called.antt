@@ -1,5 +1,5 @@
 -- What a call of the kernel leaves of a machine.
-use Rattle.std.proofs.Common.{◌≡◌, ℕ, ◌+◌, ◌<◌, List, [], ◌∷◌, ◌++◌, length, map, Bool, true, false, not, ap, ap₂, append_assoc, sym, refl, ◌∙◌, arith, None, cond}
+use Rattle.std.proofs.Common.{All, subst, ◌≤◌, ◌≡◌, ℕ, ◌+◌, ◌<◌, List, [], ◌∷◌, ◌++◌, length, map, Bool, true, false, not, ap, ap₂, append_assoc, sym, refl, ◌∙◌, arith, None, cond}
 use Rattle.std.specs.Prelude.{◌==◌, filter}
 use Rattle.std.proofs.lemmas.List.{length-map, length-append, map-append}
 use Rattle.guest_words.specs.declared.limits.TheConstants.{THREADS}
@@ -13,14 +13,18 @@ use Rattle.guest_calls.specs.declared.answer.Answer.TheVariants.{Back, Yield, Bl
 use Rattle.guest_memory.specs.Memory.{Memory}
 use Rattle.guest_memory.specs.Reserved.{Reserved}
 use Rattle.guest_calls.specs.Kernel.{KernelState}
-use Rattle.guest_calls.specs.Invariant.{IsState}
+use Rattle.guest_calls.specs.Invariant.{IsState, RisesTo}
+use Rattle.guest_calls.specs.Laws.{GivesNumber}
+use Rattle.guest_calls.specs.declared.thread.Thread.{Thread}
+use Rattle.guest_words.specs.ByThread.{numbers}
+use Rattle.std.proofs.lemmas.List.Elements.{All-cons, All-nil, All-same}
 use Rattle.guest_calls.specs.Pages.{IsBreakFree}
 use Rattle.guest_calls.specs.Results.{CallResult}
+use Rattle.guest_calls.proofs.Numbers.{every_call_numbers}
 use Rattle.guest_calls.specs.Table.{call}
-use Rattle.guest_machine.specs.declared.hart.Hart.{Hart}
 use Rattle.guest_machine.specs.declared.stepped.Stepped.{Stepped}
 use Rattle.guest_machine.specs.Kept.{Parts, Steps, machine_of}
-use Rattle.guest_machine.specs.Machine.{MachineState, registers_of, with_registers, without_hart}
+use Rattle.guest_machine.specs.Machine.{Hart, MachineState, registers_of, with_registers, without_hart}
 use Rattle.guest_machine.specs.Sound.{AreAligned, IsSound}
 use Rattle.guest_machine.specs.Step.{after_call, call_of, harts_after, life_events, resumed, stepped_by}
 use Rattle.guest_machine.proofs.Calls.{BeginsAligned, call_lawful, tids_after}
@@ -28,22 +32,22 @@ use Rattle.guest_machine.proofs.Registers.{aligned-append, aligned-with_register
 use Rattle.rv_exec.proofs.CallerLemmas.{next_aligned}
 
 -- the threads that are left
-without_tids : (harts : List Hart) (tid : ℕ) → map (λ h. h.tid) (without_hart harts tid) ≡ filter (λ n. not (n == tid)) (map (λ h. h.tid) harts)
+without_tids : (harts : List Hart) (tid : ℕ) → map (λ h. h.0) (without_hart harts tid) ≡ filter (λ n. not (n == tid)) (map (λ h. h.0) harts)
 without_tids [] tid = refl
-without_tids (h ∷ harts) tid = by_kept (not (h.tid == tid)) refl (without_tids harts tid)
+without_tids (h ∷ harts) tid = by_kept (not (h.0 == tid)) refl (without_tids harts tid)
   where
-    by_kept : (b : Bool) → not (h.tid == tid) ≡ b → map (λ g. g.tid) (without_hart harts tid) ≡ filter (λ n. not (n == tid)) (map (λ g. g.tid) harts) → map (λ g. g.tid) (without_hart (h ∷ harts) tid) ≡ filter (λ n. not (n == tid)) (map (λ g. g.tid) (h ∷ harts))
-    by_kept true e rest = rw e (ap (λ ns. h.tid ∷ ns) rest)
+    by_kept : (b : Bool) → not (h.0 == tid) ≡ b → map (λ g. g.0) (without_hart harts tid) ≡ filter (λ n. not (n == tid)) (map (λ g. g.0) harts) → map (λ g. g.0) (without_hart (h ∷ harts) tid) ≡ filter (λ n. not (n == tid)) (map (λ g. g.0) (h ∷ harts))
+    by_kept true e rest = rw e (ap (λ ns. h.0 ∷ ns) rest)
     by_kept false e rest = rw e rest
 
-pub after_tids : (answer : Answer) (harts : List Hart) (tid : ℕ) (r : Registers) → map (λ h. h.tid) (harts_after answer harts tid r) ≡ tids_after answer tid (map (λ h. h.tid) harts)
+pub after_tids : (answer : Answer) (harts : List Hart) (tid : ℕ) (r : Registers) → map (λ h. h.0) (harts_after answer harts tid r) ≡ tids_after answer tid (map (λ h. h.0) harts)
 after_tids (Back value) harts tid r = tids-with_registers harts tid (resumed r value)
 after_tids Yield harts tid r = tids-with_registers harts tid (resumed r 0)
 after_tids Block harts tid r = tids-with_registers harts tid (resumed r 0)
 after_tids ThreadEnd harts tid r = without_tids harts tid
 after_tids (ProcessEnd status) harts tid r = refl
 after_tids (Born child registers) harts tid r =
-    map-append (λ h. h.tid) (with_registers harts tid (resumed r child)) (record { tid = child; cpu = registers } ∷ [])
+    map-append (λ h. h.0) (with_registers harts tid (resumed r child)) ((child, registers) ∷ [])
     ∙ ap (λ ns. ns ++ child ∷ []) (tids-with_registers harts tid (resumed r child))
 
 after_aligned : (answer : Answer) (harts : List Hart) (tid : ℕ) → AreAligned harts → BeginsAligned answer → AreAligned (harts_after answer harts tid (registers_of harts tid))
@@ -75,8 +79,24 @@ born_room m tid child registers sound state is =
     let lawful = call_lawful (call_of m tid) in
     let grown : map (λ t. t.tid) r.kernel.threads ≡ map (λ t. t.tid) m.kernel.threads ++ child ∷ [] = lawful.threads ∙ ap (λ a. tids_after a tid (map (λ t. t.tid) m.kernel.threads)) is in
     let after : length r.kernel.threads ≡ length m.kernel.threads + 1 = sym (length-map r.kernel.threads (λ t. t.tid)) ∙ ap length grown ∙ length-append (map (λ t. t.tid) m.kernel.threads) (child ∷ []) ∙ ap (λ n. n + 1) (length-map m.kernel.threads (λ t. t.tid)) in
-    let count : length m.harts ≡ length m.kernel.threads = sym (length-map m.harts (λ h. h.tid)) ∙ ap length sound.same_threads ∙ length-map m.kernel.threads (λ t. t.tid) in
+    let count : length m.harts ≡ length m.kernel.threads = sym (length-map m.harts (λ h. h.0)) ∙ ap length sound.same_threads ∙ length-map m.kernel.threads (λ t. t.tid) in
     omega (arith, after, count, state.few)
+
+-- and a number above all
+rises_within : (low : ℕ) (threads : List Thread) (last : ℕ) → RisesTo low threads last → low ≤ last
+rises_within low [] last rising = rising
+rises_within low (t ∷ threads) last rising = omega (arith, rising.0, rises_within t.tid threads last rising.1)
+
+rises_below : (low : ℕ) (threads : List Thread) (last child : ℕ) → RisesTo low threads last → last < child → All (λ n. n < child) (map (λ t. t.tid) threads)
+rises_below low [] last child rising above = All-nil (λ n. n < child)
+rises_below low (t ∷ threads) last child rising above =
+    All-cons (λ n. n < child) t.tid (map (λ u. u.tid) threads) (omega (arith, rises_within t.tid threads last rising.1, above)) (rises_below t.tid threads last child rising.1 above)
+
+pub born_above : (m : MachineState) (tid child : ℕ) (registers : Registers) → IsSound m → (call (call_of m tid)).answer ≡ Born child registers → All (λ n. n < child) (numbers m.harts)
+born_above m tid child registers sound is =
+    let given = subst (λ a. GivesNumber a m.kernel (call (call_of m tid)).kernel) is (every_call_numbers (call_of m tid)) in
+    All-same (λ n. n < child) (numbers m.harts) (map (λ t. t.tid) m.kernel.threads) sound.same_threads
+    (rises_below 0 m.kernel.threads m.kernel.last_tid child sound.state.rising (omega (arith, given.0)))
 
 -- a machine, part by part
 four : {hs gs : List Hart} {k l : KernelState} {m n : Memory} {h g : Reserved} → hs ≡ gs → k ≡ l → m ≡ n → h ≡ g → ◌≡◌ {A = MachineState} (record { harts = hs; kernel = k; memory = m; held = h }) (record { harts = gs; kernel = l; memory = n; held = g })

@@ -17,15 +17,13 @@ use Rattle.rv_exec.proofs.CallerLemmas.{effect_aligned, effect_calls, effect_kep
 use Rattle.guest_calls.specs.Kernel.{lives}
 use Rattle.call_tracker.specs.Links.{kind_of}
 use Rattle.call_tracker.specs.declared.jumps.JumpKind.{JumpKind}
-use Rattle.guest_machine.specs.Machine.{MachineState, can_run, with_registers}
+use Rattle.guest_machine.specs.Machine.{Hart, MachineState, can_run, with_registers}
 use Rattle.guest_machine.specs.Sound.{IsSound, HoldersLive}
 use Rattle.guest_machine.specs.Kept.{Parts, Steps, machine_of}
 use Rattle.guest_machine.specs.declared.stepped.Stepped.TheVariants as stepped
 use Rattle.guest_machine.specs.Step.{StepResult, pc_of, access_events, after_effect, exec_state_of, executed, faulted, jump_events, went, with_exec_state}
-use Rattle.guest_machine.proofs.Registers.{aligned-with_registers, pc_aligned, tids-with_registers}
-use Rattle.guest_machine.specs.declared.hart.Hart.{Hart}
-use Rattle.guest_machine.specs.HartIndex.{IsIndex}
-use Rattle.guest_machine.proofs.HartIndices.{same_harts}
+use Rattle.guest_machine.proofs.Registers.{aligned-with_registers, pc_aligned, same_harts, tids-with_registers}
+use Rattle.guest_words.specs.ByThread.{value_of}
 use Rattle.guest_machine.proofs.Holders.{can_run-lives}
 
 -- the step, by what became of the instruction
@@ -78,7 +76,7 @@ went-events old step accesses all tid kind accessed i target pc target2 pc2 one 
     ∙ append_assoc old (Step tid ∷ access_events tid accessed) (jump_events (kind_of i) tid target2 ((pc2 + 4) % 2 ^ 32))
 
 -- registers, memory and reservations as they were leave the machine as it was
-pub unchanged : (m : MachineState) (tid index : ℕ) (c : ExecState) (harts : List Hart) → IsIndex m.harts tid index → harts ≡ with_registers m.harts tid c.registers → c ≡ exec_state_of m tid → record m { harts = harts; memory = c.memory; held = c.held } ≡ m
-unchanged m tid index c harts is changed same =
-    ap (λ hs. record m { harts = hs; memory = c.memory; held = c.held }) (changed ∙ ap (λ (d : ExecState). with_registers m.harts tid d.registers) same ∙ same_harts m.harts tid index is)
+pub unchanged : (m : MachineState) (tid : ℕ) (c : ExecState) (harts : List Hart) → is_some (value_of m.harts tid) ≡ true → harts ≡ with_registers m.harts tid c.registers → c ≡ exec_state_of m tid → record m { harts = harts; memory = c.memory; held = c.held } ≡ m
+unchanged m tid c harts lives changed same =
+    ap (λ hs. record m { harts = hs; memory = c.memory; held = c.held }) (changed ∙ ap (λ (d : ExecState). with_registers m.harts tid d.registers) same ∙ same_harts m.harts tid lives)
     ∙ ap (λ (d : ExecState). record m { memory = d.memory; held = d.held }) same

@@ -31,8 +31,7 @@ use Rattle.guest_calls.specs.Laws.{AreCopies, GivesNumber}
 use Rattle.guest_calls.specs.Table.{call}
 use Rattle.guest_calls.proofs.CopyEvents.{every_call_copies}
 use Rattle.guest_calls.proofs.Numbers.{every_call_numbers}
-use Rattle.guest_machine.specs.declared.hart.Hart.{Hart}
-use Rattle.guest_machine.specs.Machine.{MachineState, registers_of}
+use Rattle.guest_machine.specs.Machine.{Hart, MachineState, registers_of}
 use Rattle.guest_machine.specs.Laws.{EachFollows, EveryStepContinues, StandsFor}
 use Rattle.guest_machine.specs.Step.{access_events, after_call, after_effect, call_of, exec_state_of, executed, jump_events, life_events, next_instruction, pc_of, step, with_exec_state}
 use Rattle.guest_machine.proofs.Called.{after_tids}
@@ -218,20 +217,20 @@ head_gone n t x gone = elim (cases_eq t n) [
 ]
 
 abbrev ends_of : List Hart → List Event
-ends_of harts = map (λ (h : Hart). End h.tid) harts
+ends_of harts = map (λ (h : Hart). End h.0) harts
 
 abbrev tids_in : List Hart → List ℕ
-tids_in harts = map (λ (h : Hart). h.tid) harts
+tids_in harts = map (λ (h : Hart). h.0) harts
 
 ends_follow : (harts : List Hart) (past : List Event) (low last : ℕ) →
     ((t : ℕ) → is_live past t ≡ list_any (λ n. n == t) (tids_in harts)) → Rises low (tids_in harts) last →
     EachFollows (ends_of harts) past × (((t : ℕ) → is_live (grown (ends_of harts) past) t ≡ false) × (greatest_start (grown (ends_of harts) past) ≡ greatest_start past))
 ends_follow [] past low last live rising = (tt, (live, refl))
 ends_follow (h ∷ harts) past low last live rising =
-    let first : is_live past h.tid ≡ true = live h.tid ∙ ap (λ (b : Bool). b || list_any (λ n. n == h.tid) (tids_in harts)) (eq-eqb h.tid h.tid refl) in
-    let rest = ends_follow harts (End h.tid ∷ past) h.tid last (λ t.
-    ap (λ (b : Bool). not (nat_eq t h.tid) && b) (live t)
-    ∙ head_gone h.tid t (list_any (λ n. n == t) (tids_in harts)) (λ same. not_among h.tid (tids_in harts) last t rising.1 (omega (arith, same)))) rising.1 in
+    let first : is_live past h.0 ≡ true = live h.0 ∙ ap (λ (b : Bool). b || list_any (λ n. n == h.0) (tids_in harts)) (eq-eqb h.0 h.0 refl) in
+    let rest = ends_follow harts (End h.0 ∷ past) h.0 last (λ t.
+    ap (λ (b : Bool). not (nat_eq t h.0) && b) (live t)
+    ∙ head_gone h.0 t (list_any (λ n. n == t) (tids_in harts)) (λ same. not_among h.0 (tids_in harts) last t rising.1 (omega (arith, same)))) rising.1 in
     ((first, rest.0), rest.1)
 
 born_live : (child t : ℕ) (x : Bool) → (nat_eq t child || x) ≡ (x || ((child == t) || false))

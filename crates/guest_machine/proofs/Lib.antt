@@ -1,4 +1,3 @@
-pub mod HartIndices
 pub mod Registers
 pub mod Holders
 pub mod Executed

@@ -17,9 +17,8 @@ use Rattle.guest_calls.specs.Laws.{GivesNumber}
 use Rattle.guest_calls.specs.Table.{call}
 use Rattle.guest_calls.proofs.Births.{number_left, room_left}
 use Rattle.guest_calls.proofs.Numbers.{every_call_numbers}
-use Rattle.guest_machine.specs.declared.hart.Hart.{Hart}
 use Rattle.guest_machine.specs.Laws.{EveryStepStaysWithinLimits, IsWithinLimits}
-use Rattle.guest_machine.specs.Machine.{MachineState, registers_of, with_registers}
+use Rattle.guest_machine.specs.Machine.{Hart, MachineState, registers_of, with_registers}
 use Rattle.guest_machine.specs.Step.{after_effect, call_of, exec_state_of, executed, harts_after, next_instruction, resumed, step}
 use Rattle.guest_machine.proofs.Holders.{fewer_or_same}
 use Rattle.guest_machine.proofs.Weights.{harts_kept}
@@ -34,7 +33,7 @@ few_after ThreadEnd harts tid r old new given same few = omega (arith, fewer_or_
 few_after (ProcessEnd status) harts tid r old new given same few = omega arith
 few_after (Born child registers) harts tid r old new given same few =
     let others = with_registers harts tid (resumed r child) in
-    let one : length (others ++ record { tid = child; cpu = registers } ∷ []) ≡ length others + 1 = length-append others (record { tid = child; cpu = registers } ∷ []) in
+    let one : length (others ++ (child, registers) ∷ []) ≡ length others + 1 = length-append others ((child, registers) ∷ []) in
     omega (arith, one, harts_kept harts tid (resumed r child), same, room_left old given.2)
 
 last_after : (answer : Answer) (old new : KernelState) → GivesNumber answer old new → old.last_tid ≤ LAST_TID →
@@ -69,5 +68,5 @@ executed_within m tid (Err kind) same within = within
 pub every_step_within : EveryStepStaysWithinLimits
 unfolding step
 every_step_within m tid same within =
-    let count : length m.harts ≡ length m.kernel.threads = sym (length-map m.harts (λ (h : Hart). h.tid)) ∙ ap length same ∙ length-map m.kernel.threads (λ (t : Thread). t.tid) in
+    let count : length m.harts ≡ length m.kernel.threads = sym (length-map m.harts (λ (h : Hart). h.0)) ∙ ap length same ∙ length-map m.kernel.threads (λ (t : Thread). t.tid) in
     executed_within m tid (next_instruction m tid) count within

@@ -1,56 +1,73 @@
 -- Registers of threads, and what stays when they change.
-use Rattle.std.proofs.Common.{◌≡◌, ℕ, ◌%◌, List, [], ◌∷◌, ◌++◌, map, Bool, true, false, not, ap, sym, refl}
-use Rattle.std.specs.Prelude.{◌==◌}
-use Rattle.std.proofs.lemmas.Bool.{eq-eqb, eqb-true}
+use Rattle.std.proofs.Common.{◌∙◌, cond, Option, Some, None, ◌≡◌, ℕ, ◌%◌, List, [], ◌∷◌, ◌++◌, map, Bool, true, false, not, ap, refl}
+use Rattle.std.specs.Prelude.{◌==◌, ◌||◌, is_some}
+use Rattle.std.specs.List.{list_any}
+use Rattle.std.specs.Option.{unwrap_or}
+use Rattle.std.proofs.lemmas.Bool.{eq-eqb}
+use Rattle.guest_words.specs.ByThread.{value_of}
+use Rattle.guest_words.proofs.ThreadTables.{numbers-with, value_of-with, with_own}
 use Rattle.rv_exec.specs.Registers.{Registers}
-use Rattle.guest_machine.specs.declared.hart.Hart.{Hart}
-use Rattle.guest_machine.specs.Machine.{registers_of, with_registers, without_hart}
+use Rattle.guest_machine.specs.Machine.{Hart, no_registers, registers_of, with_registers, without_hart}
 use Rattle.guest_machine.specs.Sound.{AreAligned}
 
--- two changes of the same registers are the second
-twice_by : (h : Hart) (harts : List Hart) (tid : ℕ) (r s : Registers) (b : Bool) → (h.tid == tid) ≡ b → with_registers (with_registers harts tid r) tid s ≡ with_registers harts tid s → with_registers (with_registers (h ∷ harts) tid r) tid s ≡ with_registers (h ∷ harts) tid s
-twice_by h harts tid r s true is rest = rw (is, eq-eqb tid tid refl) refl
-twice_by h harts tid r s false is rest = rw (is, is) (ap (λ hs. h ∷ hs) rest)
-
-pub with_registers-twice : (harts : List Hart) (tid : ℕ) (r s : Registers) → with_registers (with_registers harts tid r) tid s ≡ with_registers harts tid s
-with_registers-twice [] tid r s = refl
-with_registers-twice (h ∷ harts) tid r s = twice_by h harts tid r s (h.tid == tid) refl (with_registers-twice harts tid r s)
-
 -- the threads stay
-tids_by : (h : Hart) (harts : List Hart) (tid : ℕ) (r : Registers) (b : Bool) → (h.tid == tid) ≡ b → map (λ g. g.tid) (with_registers harts tid r) ≡ map (λ g. g.tid) harts → map (λ g. g.tid) (with_registers (h ∷ harts) tid r) ≡ map (λ g. g.tid) (h ∷ harts)
-tids_by h harts tid r true is rest = rw is (ap (λ n. n ∷ map (λ g. g.tid) harts) (sym (eqb-true h.tid tid is)))
-tids_by h harts tid r false is rest = rw is (ap (λ ns. h.tid ∷ ns) rest)
+pub tids-with_registers : (harts : List Hart) (tid : ℕ) (r : Registers) → map (λ g. g.0) (with_registers harts tid r) ≡ map (λ g. g.0) harts
+tids-with_registers harts tid r = numbers-with harts tid r
 
-pub tids-with_registers : (harts : List Hart) (tid : ℕ) (r : Registers) → map (λ g. g.tid) (with_registers harts tid r) ≡ map (λ g. g.tid) harts
-tids-with_registers [] tid r = refl
-tids-with_registers (h ∷ harts) tid r = tids_by h harts tid r (h.tid == tid) refl (tids-with_registers harts tid r)
+-- a thread that lives has registers
+pub lives_here : (harts : List Hart) (tid : ℕ) → list_any (λ h. h.0 == tid) harts ≡ is_some (value_of harts tid)
+lives_here [] tid = refl
+lives_here (h ∷ harts) tid = by (h.0 == tid) (lives_here harts tid)
+  where
+    by : (b : Bool) → list_any (λ h. h.0 == tid) harts ≡ is_some (value_of harts tid) → (b || list_any (λ h. h.0 == tid) harts) ≡ is_some (cond b (Some h.1) (value_of harts tid))
+    by true rest = refl
+    by false rest = rest
+
+pub has_registers : (harts : List Hart) (tid : ℕ) → is_some (value_of harts tid) ≡ true → value_of harts tid ≡ Some (registers_of harts tid)
+has_registers harts tid lives = by (value_of harts tid) lives
+  where
+    by : (o : Option Registers) → is_some o ≡ true → o ≡ Some (unwrap_or o no_registers)
+    by None lives = absurd (cc)
+    by (Some r) lives = refl
+
+pub registers_are : (harts : List Hart) (tid : ℕ) (r : Registers) → value_of harts tid ≡ Some r → registers_of harts tid ≡ r
+registers_are harts tid r here = ap (λ (o : Option Registers). unwrap_or o no_registers) here
+
+-- and new ones after a change
+pub value-with_registers : (harts : List Hart) (tid : ℕ) (r : Registers) → is_some (value_of harts tid) ≡ true → value_of (with_registers harts tid r) tid ≡ Some r
+value-with_registers harts tid r lives =
+    value_of-with harts tid r (registers_of harts tid) (has_registers harts tid lives) tid ∙ ap (λ b. cond b (Some r) (value_of harts tid)) (eq-eqb tid tid refl)
+
+-- the registers that a thread has change nothing
+pub same_harts : (harts : List Hart) (tid : ℕ) → is_some (value_of harts tid) ≡ true → with_registers harts tid (registers_of harts tid) ≡ harts
+same_harts harts tid lives = with_own harts tid (registers_of harts tid) (has_registers harts tid lives)
 
 -- a pc that is a multiple of 4 leaves all of them so
-aligned_by : (h : Hart) (harts : List Hart) (tid : ℕ) (r : Registers) (b : Bool) → (h.tid == tid) ≡ b → AreAligned (h ∷ harts) → r.pc % 4 ≡ 0 → AreAligned (with_registers harts tid r) → AreAligned (with_registers (h ∷ harts) tid r)
+aligned_by : (h : Hart) (harts : List Hart) (tid : ℕ) (r : Registers) (b : Bool) → (h.0 == tid) ≡ b → AreAligned (h ∷ harts) → r.pc % 4 ≡ 0 → AreAligned (with_registers harts tid r) → AreAligned (with_registers (h ∷ harts) tid r)
 aligned_by h harts tid r true is all even rest = rw is (even, all.1)
 aligned_by h harts tid r false is all even rest = rw is (all.0, rest)
 
 pub aligned-with_registers : (harts : List Hart) (tid : ℕ) (r : Registers) → AreAligned harts → r.pc % 4 ≡ 0 → AreAligned (with_registers harts tid r)
 aligned-with_registers [] tid r all even = tt
-aligned-with_registers (h ∷ harts) tid r all even = aligned_by h harts tid r (h.tid == tid) refl all even (aligned-with_registers harts tid r all.1 even)
+aligned-with_registers (h ∷ harts) tid r all even = aligned_by h harts tid r (h.0 == tid) refl all even (aligned-with_registers harts tid r all.1 even)
 
-pc_by : (h : Hart) (harts : List Hart) (tid : ℕ) (b : Bool) → (h.tid == tid) ≡ b → AreAligned (h ∷ harts) → (registers_of harts tid).pc % 4 ≡ 0 → (registers_of (h ∷ harts) tid).pc % 4 ≡ 0
+pc_by : (h : Hart) (harts : List Hart) (tid : ℕ) (b : Bool) → (h.0 == tid) ≡ b → AreAligned (h ∷ harts) → (registers_of harts tid).pc % 4 ≡ 0 → (registers_of (h ∷ harts) tid).pc % 4 ≡ 0
 pc_by h harts tid true is all rest = rw is all.0
 pc_by h harts tid false is all rest = rw is rest
 
 pub pc_aligned : (harts : List Hart) (tid : ℕ) → AreAligned harts → (registers_of harts tid).pc % 4 ≡ 0
 pc_aligned [] tid all = refl
-pc_aligned (h ∷ harts) tid all = pc_by h harts tid (h.tid == tid) refl all (pc_aligned harts tid all.1)
+pc_aligned (h ∷ harts) tid all = pc_by h harts tid (h.0 == tid) refl all (pc_aligned harts tid all.1)
 
 -- so do those of a thread more, and of a thread less
-pub aligned-append : (harts : List Hart) (h : Hart) → AreAligned harts → h.cpu.pc % 4 ≡ 0 → AreAligned (harts ++ h ∷ [])
+pub aligned-append : (harts : List Hart) (h : Hart) → AreAligned harts → h.1.pc % 4 ≡ 0 → AreAligned (harts ++ h ∷ [])
 aligned-append [] h all even = (even, tt)
 aligned-append (g ∷ harts) h all even = (all.0, aligned-append harts h all.1 even)
 
-kept_by : (h : Hart) (harts : List Hart) (tid : ℕ) (b : Bool) → not (h.tid == tid) ≡ b → AreAligned (h ∷ harts) → AreAligned (without_hart harts tid) → AreAligned (without_hart (h ∷ harts) tid)
+kept_by : (h : Hart) (harts : List Hart) (tid : ℕ) (b : Bool) → not (h.0 == tid) ≡ b → AreAligned (h ∷ harts) → AreAligned (without_hart harts tid) → AreAligned (without_hart (h ∷ harts) tid)
 kept_by h harts tid true is all rest = rw is (all.0, rest)
 kept_by h harts tid false is all rest = rw is rest
 
 pub aligned-without : (harts : List Hart) (tid : ℕ) → AreAligned harts → AreAligned (without_hart harts tid)
 aligned-without [] tid all = tt
-aligned-without (h ∷ harts) tid all = kept_by h harts tid (not (h.tid == tid)) refl all (aligned-without harts tid all.1)
+aligned-without (h ∷ harts) tid all = kept_by h harts tid (not (h.0 == tid)) refl all (aligned-without harts tid all.1)

@@ -10,7 +10,7 @@ use Rattle.guest_calls.specs.Inputs.{Input}
 use Rattle.guest_calls.specs.Invariant.{IsState}
 use Rattle.guest_calls.specs.Kernel.{started}
 use Rattle.guest_calls.specs.Pages.{IsBreakFree}
-use Rattle.guest_machine.specs.declared.hart.Hart.{Hart}
+use Rattle.guest_machine.specs.Machine.{Hart}
 use Rattle.guest_machine.specs.Kept.{Parts, machine_of}
 use Rattle.guest_machine.specs.Sound.{IsSound}
 use Rattle.guest_machine.specs.Start.{first_break, greatest_end, stack_pointer, start, start_memory}
@@ -18,7 +18,7 @@ use Rattle.guest_machine.proofs.ImagePages.{start_free}
 
 -- the registers of thread 1
 abbrev pub first_hart : ℕ → ℕ → Hart
-first_hart entry pointer = record { tid = 1; cpu = record { pc = entry; regs = slice_set (replicate 32 0) 2 pointer } }
+first_hart entry pointer = (1, record { pc = entry; regs = slice_set (replicate 32 0) 2 pointer })
 
 pub only_hart : (h : Hart) (e entry p pointer : ℕ) → h ≡ first_hart e p → e ≡ entry → p ≡ pointer → h ∷ [] ≡ first_hart entry pointer ∷ []
 only_hart h e entry p pointer is from with_pointer = ap (λ h. h ∷ []) (is ∙ ap (λ e. first_hart e p) from ∙ ap (first_hart entry) with_pointer)

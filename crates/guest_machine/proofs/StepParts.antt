@@ -27,11 +27,10 @@ use Rattle.guest_calls.specs.Laws.{AreCopies}
 use Rattle.guest_calls.specs.Table.{call}
 use Rattle.guest_calls.proofs.CopyEvents.{every_call_copies}
 use Rattle.guest_calls.proofs.Weights.{every_call_has_few, every_call_light}
-use Rattle.guest_machine.specs.declared.hart.Hart.{Hart}
 use Rattle.guest_machine.specs.declared.stepped.Stepped.{Stepped}
 use Rattle.guest_machine.specs.declared.stepped.Stepped.TheVariants.{Went, Yielded, Blocked, Ended, Finished, Faulted}
 use Rattle.guest_machine.specs.Laws.{EveryStepIsOnePart, IsOnePart}
-use Rattle.guest_machine.specs.Machine.{MachineState}
+use Rattle.guest_machine.specs.Machine.{Hart, MachineState}
 use Rattle.guest_machine.specs.Step.{access_events, after_effect, call_of, exec_state_of, executed, jump_events, life_events, next_instruction, pc_of, step, stepped_by}
 
 pub steps-append : (xs ys : List Event) → steps (xs ++ ys) ≡ steps xs + steps ys
@@ -100,11 +99,11 @@ jump_few Push tid target back = record { stepless = refl; few = omega arith; rea
 jump_few Pop tid target back = record { stepless = refl; few = omega arith; reads = omega arith }
 jump_few PopPush tid target back = record { stepless = refl; few = omega arith; reads = omega arith }
 
-ends_few : (harts : List Hart) → AreFew (map (λ (h : Hart). End h.tid) harts) (length harts) 0
+ends_few : (harts : List Hart) → AreFew (map (λ (h : Hart). End h.0) harts) (length harts) 0
 ends_few [] = record { stepless = refl; few = omega arith; reads = omega arith }
 ends_few (h ∷ harts) =
     let rest = ends_few harts in
-    let words = sum_by-cons count_read (End h.tid) (map (λ (h : Hart). End h.tid) harts) in
+    let words = sum_by-cons count_read (End h.0) (map (λ (h : Hart). End h.0) harts) in
     record { stepless = rest.stepless; few = omega (arith, rest.few); reads = omega (arith, words, rest.reads) }
 
 life_few : (answer : Answer) (harts : List Hart) (tid : ℕ) → AreFew (life_events answer harts tid) (length harts + 1) 0

@@ -22,18 +22,17 @@ use Rattle.guest_calls.specs.declared.answer.Answer.TheVariants.{Back, Yield, Bl
 use Rattle.guest_calls.specs.Table.{call}
 use Rattle.guest_calls.proofs.Weights.{every_call_light}
 use Rattle.trace_model.proofs.Bounds.{weight-append}
-use Rattle.guest_machine.specs.declared.hart.Hart.{Hart}
 use Rattle.guest_machine.specs.Laws.{EveryStepIsLight}
-use Rattle.guest_machine.specs.Machine.{MachineState, registers_of, with_registers}
+use Rattle.guest_machine.specs.Machine.{Hart, MachineState, registers_of, with_registers}
 use Rattle.guest_machine.specs.Step.{access_events, after_effect, call_of, exec_state_of, executed, harts_after, jump_events, life_events, next_instruction, pc_of, resumed, step}
 use Rattle.guest_machine.proofs.Holders.{fewer_or_same}
 use Rattle.guest_machine.proofs.Registers.{tids-with_registers}
 
 pub harts_kept : (harts : List Hart) (tid : ℕ) (r : Registers) → length (with_registers harts tid r) ≡ length harts
 harts_kept harts tid r =
-    sym (length-map (with_registers harts tid r) (λ (h : Hart). h.tid)) ∙ ap length (tids-with_registers harts tid r) ∙ length-map harts (λ (h : Hart). h.tid)
+    sym (length-map (with_registers harts tid r) (λ (h : Hart). h.0)) ∙ ap length (tids-with_registers harts tid r) ∙ length-map harts (λ (h : Hart). h.0)
 
-ends_weight : (harts : List Hart) → weight (map (λ (h : Hart). End h.tid) harts) ≡ length harts
+ends_weight : (harts : List Hart) → weight (map (λ (h : Hart). End h.0) harts) ≡ length harts
 ends_weight [] = refl
 ends_weight (h ∷ harts) = omega (arith, ends_weight harts)
 
@@ -45,7 +44,7 @@ life_weight Block harts tid r = omega (arith, harts_kept harts tid (resumed r 0)
 life_weight ThreadEnd harts tid r = omega (arith, fewer_or_same harts tid)
 life_weight (ProcessEnd status) harts tid r = omega (arith, ends_weight harts)
 life_weight (Born child registers) harts tid r =
-    let one : length (with_registers harts tid (resumed r child) ++ record { tid = child; cpu = registers } ∷ []) ≡ length (with_registers harts tid (resumed r child)) + 1 = length-append (with_registers harts tid (resumed r child)) (record { tid = child; cpu = registers } ∷ []) in
+    let one : length (with_registers harts tid (resumed r child) ++ (child, registers) ∷ []) ≡ length (with_registers harts tid (resumed r child)) + 1 = length-append (with_registers harts tid (resumed r child)) ((child, registers) ∷ []) in
     omega (arith, one, harts_kept harts tid (resumed r child))
 
 access_weight : (tid : ℕ) (a : Access) → IsInMemory a → weight (access_events tid a) ≤ 3

@@ -6,9 +6,8 @@ use Rattle.guest_memory.specs.Guest.{memory_of}
 use Rattle.guest_memory.specs.ReservedBy.{reserved_by}
 use Rattle.trace_model.specs.declared.event_kinds.Event.{Event}
 use Rattle.guest_calls.specs.Kernel.{Kept}
-use Rattle.guest_machine.specs.declared.hart.Hart.{Hart}
 use Rattle.guest_machine.specs.declared.stepped.Stepped.{Stepped}
-use Rattle.guest_machine.specs.Machine.{MachineState}
+use Rattle.guest_machine.specs.Machine.{Hart, MachineState}
 use Rattle.guest_machine.specs.Step.{StepResult}
 
 -- The parts of a machine, as the program keeps them.

@@ -18,7 +18,7 @@ EachFollows (e ∷ events) past = MayFollow e past × EachFollows events (e ∷ 
 
 -- the machine's threads are those that live after the past, and no number above the last one given has started
 pub record StandsFor (m : MachineState) (past : List Event) : Type 0 where
-  pub same_threads : map (λ h. h.tid) m.harts ≡ map (λ t. t.tid) m.kernel.threads
+  pub same_threads : map (λ h. h.0) m.harts ≡ map (λ t. t.tid) m.kernel.threads
   pub rising : RisesTo 0 m.kernel.threads m.kernel.last_tid
   pub live : (tid : ℕ) → is_live past tid ≡ lives m.kernel tid
   pub started : greatest_start past ≤ m.kernel.last_tid
@@ -56,5 +56,5 @@ pub record IsWithinLimits (m : MachineState) : Type 0 where
 -- So it is after each step, where the kernel's threads are those that have registers.
 abbrev pub EveryStepStaysWithinLimits : Type 0
 EveryStepStaysWithinLimits =
-    (m : MachineState) (tid : ℕ) → map (λ h. h.tid) m.harts ≡ map (λ t. t.tid) m.kernel.threads
+    (m : MachineState) (tid : ℕ) → map (λ h. h.0) m.harts ≡ map (λ t. t.tid) m.kernel.threads
     → IsWithinLimits m → IsWithinLimits (step m tid).machine

@@ -1,13 +1,16 @@
 -- The whole state of a guest.
-use Rattle.std.specs.Prelude.{ℕ, Bool, not, ◌==◌, List, [], ◌∷◌, ◌++◌, filter, replicate, if◌then◌else◌}
-use Rattle.std.specs.List.{find}
-use Rattle.std.specs.Option.{option_map_or}
+use Rattle.std.specs.Prelude.{ℕ, Bool, List, [], ◌∷◌, ◌++◌, replicate}
+use Rattle.std.specs.Option.{unwrap_or}
+use Rattle.guest_words.specs.ByThread.{value_of, with_value, without_thread}
 use Rattle.guest_memory.specs.Memory.{Memory}
 use Rattle.guest_memory.specs.Reserved.{Reserved}
 use Rattle.rv_exec.specs.Registers.{Registers}
 use Rattle.guest_calls.specs.Kernel as kernel
 use Rattle.guest_calls.specs.Kernel.{KernelState}
-use Rattle.guest_machine.specs.declared.hart.Hart.{Hart}
+
+-- a live thread: its number and its registers
+abbrev pub Hart : Type 0
+Hart = ℕ × Registers
 
 pub record MachineState : Type 0 where
   -- the registers of the live threads, by rising thread number
@@ -29,17 +32,16 @@ abbrev pub no_registers : Registers
 no_registers = record { pc = 0; regs = replicate 32 0 }
 
 abbrev pub registers_of : List Hart → ℕ → Registers
-registers_of harts tid = option_map_or (λ h. h.cpu) (find (λ h. h.tid == tid) harts) no_registers
+registers_of harts tid = unwrap_or (value_of harts tid) no_registers
 
 -- the thread has these registers, and the others have what they had
 abbrev pub with_registers : List Hart → ℕ → Registers → List Hart
-with_registers [] tid r = []
-with_registers (h ∷ harts) tid r = if h.tid == tid then record { tid = tid; cpu = r } ∷ harts else h ∷ with_registers harts tid r
+with_registers harts tid r = with_value harts tid r
 
 -- one thread more
 abbrev pub with_hart : List Hart → ℕ → Registers → List Hart
-with_hart harts tid r = harts ++ record { tid = tid; cpu = r } ∷ []
+with_hart harts tid r = harts ++ (tid, r) ∷ []
 
 -- the thread lives no more
 abbrev pub without_hart : List Hart → ℕ → List Hart
-without_hart harts tid = filter (λ h. not (h.tid == tid)) harts
+without_hart harts tid = without_thread harts tid

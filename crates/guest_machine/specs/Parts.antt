@@ -4,7 +4,7 @@ use Rattle.guest_machine.specs.Kept.{Parts}
 
 abbrev pub parts_of : Guest → Parts
 parts_of g = record {
-  harts = g.harts.items;
+  harts = g.harts.list;
   kernel = g.kernel;
   memory = g.memory;
   held = g.held;

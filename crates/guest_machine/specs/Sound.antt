@@ -4,8 +4,7 @@ use Rattle.guest_memory.specs.Reserved.{Reserved}
 use Rattle.guest_calls.specs.Invariant.{IsState}
 use Rattle.guest_calls.specs.Kernel.{KernelState, lives}
 use Rattle.guest_calls.specs.Pages.{IsBreakFree}
-use Rattle.guest_machine.specs.declared.hart.Hart.{Hart}
-use Rattle.guest_machine.specs.Machine.{MachineState}
+use Rattle.guest_machine.specs.Machine.{Hart, MachineState}
 
 -- a thread that has a reservation lives
 abbrev pub HoldersLive : Reserved → KernelState → Type 0
@@ -14,11 +13,11 @@ HoldersLive held kernel = (tid : ℕ) → is_some (held tid) ≡ true → lives 
 -- the pc of each thread is a multiple of 4
 abbrev pub AreAligned : List Hart → Type 0
 AreAligned [] = Unit {0}
-AreAligned (h ∷ harts) = (h.cpu.pc % 4 ≡ 0) × AreAligned harts
+AreAligned (h ∷ harts) = (h.1.pc % 4 ≡ 0) × AreAligned harts
 
 pub record IsSound (m : MachineState) : Type 0 where
   -- the kernel's threads are those that have registers
-  pub same_threads : map (λ h. h.tid) m.harts ≡ map (λ t. t.tid) m.kernel.threads
+  pub same_threads : map (λ h. h.0) m.harts ≡ map (λ t. t.tid) m.kernel.threads
   pub aligned : AreAligned m.harts
   pub state : IsState m.kernel
   pub holders : HoldersLive m.held m.kernel

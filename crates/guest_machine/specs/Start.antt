@@ -104,10 +104,7 @@ start_memory image arguments =
 -- thread 1 lives, at the entry, with the stack pointer in x2
 unfoldable pub start : Executable → List (List ℕ) → List Input → List ℕ → MachineState
 start image arguments inputs stdin = record {
-  harts = record {
-    tid = 1;
-    cpu = record { pc = image.entry; regs = slice_set (replicate 32 0) 2 (stack_pointer arguments) };
-  } ∷ [];
+  harts = (1, record { pc = image.entry; regs = slice_set (replicate 32 0) 2 (stack_pointer arguments) }) ∷ [];
   kernel = started inputs stdin (first_break image.segments);
   memory = start_memory image arguments;
   held = nothing_reserved;

@@ -23,10 +23,9 @@ use Rattle.guest_calls.specs.Results.{CallResult}
 use Rattle.guest_calls.specs.declared.answer.Answer.{Answer}
 use Rattle.guest_calls.specs.declared.answer.Answer.TheVariants.{Back, Yield, Block, ThreadEnd, ProcessEnd, Born}
 use Rattle.guest_calls.specs.Table.{call}
-use Rattle.guest_machine.specs.declared.hart.Hart.{Hart}
 use Rattle.guest_machine.specs.declared.stepped.Stepped.{Stepped}
 use Rattle.guest_machine.specs.declared.stepped.Stepped.TheVariants.{Went, Yielded, Blocked, Ended, Finished, Faulted}
-use Rattle.guest_machine.specs.Machine.{MachineState, registers_of, with_registers, with_hart, without_hart}
+use Rattle.guest_machine.specs.Machine.{Hart, MachineState, registers_of, with_registers, with_hart, without_hart}
 
 -- What a step gives.
 pub record StepResult : Type 0 where
@@ -94,7 +93,7 @@ harts_after (Born child registers) harts tid r = with_hart (with_registers harts
 -- the threads that start and end by the call
 abbrev pub life_events : Answer → List Hart → ℕ → List Event
 life_events ThreadEnd harts tid = End tid ∷ []
-life_events (ProcessEnd status) harts tid = map (λ h. End h.tid) harts
+life_events (ProcessEnd status) harts tid = map (λ h. End h.0) harts
 life_events (Born child registers) harts tid = Start child registers.pc ∷ []
 life_events answer harts tid = []
 

@@ -1,25 +1,24 @@
 //! One step of a thread.
-ghost use Rattle.std.specs.Prelude.{◌≡◌, ◌≢◌, ◌≤◌, ◌%◌, true, false, Ok, OnOk, OnErr, IfOk, IsOk};
-ghost use Rattle.std.specs.Vec.{vec_capacity};
+ghost use Rattle.std.specs.Prelude.{◌≡◌, ◌≢◌, ◌≤◌, ◌+◌, ◌%◌, true, false, Ok, OnOk, OnErr, IfOk, IsOk, is_some, length};
+ghost use Rattle.guest_words.specs.ByThread.{value_of};
 ghost use Rattle.guest_memory.specs.Guest.{memory_of};
 ghost use Rattle.guest_calls.specs.Table.{call};
 ghost use Rattle.guest_machine.specs.Kept.{IsAsBefore, Steps, machine_of};
 ghost use Rattle.guest_machine.specs.Machine.{can_run};
 ghost use Rattle.guest_machine.specs.Parts.{parts_of};
-ghost use Rattle.guest_machine.specs.HartIndex.{IsIndex};
 ghost use Rattle.guest_machine.specs.Sound.{IsSound};
 ghost use Rattle.guest_machine.specs.Step.{after_call, call_of, executed, instruction_at, next_instruction, step};
 
 use crate::Stepped;
 use crate::answers::apply_answer;
-use crate::hart::{Hart, execute_at, index_of};
+use crate::hart::{cpu_of, execute_for};
 use crate::step_events::{add_access, add_jump};
 use call_tracker::kind;
 use guest_calls::Kernel;
 use guest_memory::{GuestMemory, Reservations};
 use guest_words::limits::{CALL_EVENTS, THREADS};
-use guest_words::{Addr, FaultKind, Tid};
-use rv_exec::Outcome;
+use guest_words::{Addr, ByThread, FaultKind, Tid};
+use rv_exec::{Cpu, Outcome};
 use rv_isa::{Instr, decode};
 use std::alloc::AllocError;
 use trace_model::{Event, Events};
@@ -33,7 +32,7 @@ const EVENTS_OF_A_CALL_STEP: usize = 1 + CALL_EVENTS + THREADS;
 /// The parts of a machine.
 #[derive(Drop)]
 pub(crate) struct Guest {
-    pub(crate) harts: Vec<Hart>,
+    pub(crate) harts: ByThread<Cpu>,
     pub(crate) kernel: Kernel,
     pub(crate) memory: GuestMemory,
     pub(crate) held: Reservations,
@@ -71,28 +70,21 @@ impl Guest {
     }
 
     // Carries out an instruction, which is no call of the kernel.
-    fn carry_out(
-        &mut self,
-        index: usize,
-        tid: Tid,
-        instruction: &Instr,
-        events: &mut Events,
-    ) -> Stepped
+    fn carry_out(&mut self, tid: Tid, instruction: &Instr, events: &mut Events) -> Stepped
         requires sound { IsSound (machine_of (parts_of self.old)) }
-        requires index { IsIndex self.old.harts.items tid index }
+        requires lives { is_some (value_of self.old.harts.list tid) ≡ true }
         requires can_run { can_run (machine_of (parts_of self.old)) tid ≡ true }
         requires no_call { instruction.now ≢ Ecall }
         requires room { 4 ≤ events.old.room }
         ensures step { Steps (executed (machine_of (parts_of self.old)) tid (Ok instruction.now)) result (parts_of self.new) events.old.list events.new.list }
         ensures sound { IsSound (machine_of (parts_of self.new)) }
-        ensures spare { vec_capacity self.new.harts ≡ vec_capacity self.old.harts }
+        ensures spare { length self.new.harts.list + self.new.harts.room ≡ length self.old.harts.list + self.old.harts.room }
         ensures entry { self.new.entry ≡ self.old.entry }
     {
-        let pc = self.harts[index].cpu.pc;
+        let pc = cpu_of(&self.harts, tid).pc;
         let jump = kind(*instruction);
-        let outcome = execute_at(
+        let outcome = execute_for(
             &mut self.harts,
-            index,
             &mut self.memory,
             &mut self.held,
             tid,
@@ -101,7 +93,7 @@ impl Guest {
         self.called = false;
         match outcome {
             Outcome::Went { access } => {
-                let target = self.harts[index].cpu.pc;
+                let target = cpu_of(&self.harts, tid).pc;
                 events.push(Event::Step { tid });
                 add_access(events, tid, access);
                 add_jump(events, tid, jump, target, pc.wrapping_add(4));
@@ -113,33 +105,28 @@ impl Guest {
     }
 
     // Calls the kernel, and lets the threads start, wait or end as it answers.
-    fn call_kernel(
-        &mut self,
-        index: usize,
-        tid: Tid,
-        events: &mut Events,
-    ) -> Result<Stepped, AllocError>
+    fn call_kernel(&mut self, tid: Tid, events: &mut Events) -> Result<Stepped, AllocError>
         requires sound { IsSound (machine_of (parts_of self.old)) }
-        requires index { IsIndex self.old.harts.items tid index }
+        requires lives { is_some (value_of self.old.harts.list tid) ≡ true }
         requires can_run { can_run (machine_of (parts_of self.old)) tid ≡ true }
-        requires spare { THREADS ≤ vec_capacity self.old.harts }
+        requires spare { THREADS ≤ length self.old.harts.list + self.old.harts.room }
         ensures step { IfOk result (λ stepped. Steps (after_call (machine_of (parts_of self.old)) tid (call (call_of (machine_of (parts_of self.old)) tid))) stepped (parts_of self.new) events.old.list events.new.list) }
         ensures refused { OnErr result (IsAsBefore (parts_of self.old) (parts_of self.new) events.old.list events.new.list) }
         ensures sound { IsSound (machine_of (parts_of self.new)) }
-        ensures spare { THREADS ≤ vec_capacity self.new.harts }
+        ensures spare { THREADS ≤ length self.new.harts.list + self.new.harts.room }
         ensures entry { self.new.entry ≡ self.old.entry }
     {
         let before = events.list().len();
         events.reserve(EVENTS_OF_A_CALL_STEP)?;
         events.push(Event::Step { tid });
-        let cpu = self.harts[index].cpu;
+        let cpu = *cpu_of(&self.harts, tid);
         match self
             .kernel
             .call(&mut self.memory, &mut self.held, tid, &cpu, events)
         {
             Ok(answer) => {
                 self.called = true;
-                Ok(apply_answer(&mut self.harts, index, tid, answer, events))
+                Ok(apply_answer(&mut self.harts, tid, answer, events))
             }
             Err(refused) => {
                 events.truncate(before);
@@ -153,25 +140,24 @@ impl Guest {
     pub(crate) fn step(&mut self, tid: Tid, events: &mut Events) -> Result<Stepped, AllocError>
         requires sound { IsSound (machine_of (parts_of self.old)) }
         requires can_run { can_run (machine_of (parts_of self.old)) tid ≡ true }
-        requires spare { THREADS ≤ vec_capacity self.old.harts }
+        requires spare { THREADS ≤ length self.old.harts.list + self.old.harts.room }
         ensures step { IfOk result (λ stepped. Steps (step (machine_of (parts_of self.old)) tid) stepped (parts_of self.new) events.old.list events.new.list) }
         ensures refused { OnErr result (IsAsBefore (parts_of self.old) (parts_of self.new) events.old.list events.new.list) }
         ensures no_memory { 4 ≤ events.old.room → next_instruction (machine_of (parts_of self.old)) tid ≢ Ok Ecall → IsOk result }
         ensures sound { IsSound (machine_of (parts_of self.new)) }
-        ensures spare { THREADS ≤ vec_capacity self.new.harts }
+        ensures spare { THREADS ≤ length self.new.harts.list + self.new.harts.room }
         ensures entry { self.new.entry ≡ self.old.entry }
     {
-        let index = index_of(&self.harts, tid);
-        let pc = self.harts[index].cpu.pc;
+        let pc = cpu_of(&self.harts, tid).pc;
         match self.instruction_at(pc) {
             Err(kind) => {
                 self.called = false;
                 Ok(Stepped::Faulted { kind, at: pc })
             }
-            Ok(Instr::Ecall) => self.call_kernel(index, tid, events),
+            Ok(Instr::Ecall) => self.call_kernel(tid, events),
             Ok(instruction) => {
                 make_room(events)?;
-                Ok(self.carry_out(index, tid, &instruction, events))
+                Ok(self.carry_out(tid, &instruction, events))
             }
         }
     }

@@ -1,72 +1,54 @@
-//! The registers of a live thread.
-ghost use Rattle.std.specs.Prelude.{◌≡◌, ◌==◌, ◌-◌, true};
-ghost use Rattle.std.specs.List.{list_any, position};
-ghost use Rattle.std.specs.Vec.{vec_capacity};
+//! The registers of the live threads.
+ghost use Rattle.std.specs.Prelude.{◌≡◌, ◌==◌, ◌-◌, true, is_some};
 ghost use Rattle.guest_memory.specs.Guest.{memory_of};
 ghost use Rattle.guest_memory.specs.ReservedBy.{reserved_by};
 ghost use Rattle.guest_memory.specs.Reserved.{HoldAtMost, without_thread};
+ghost use Rattle.guest_words.specs.ByThread.{value_of};
 ghost use Rattle.rv_exec.specs.Effects.{effect};
 ghost use Rattle.guest_machine.specs.Machine.{registers_of, with_registers};
-ghost use Rattle.guest_machine.specs.HartIndex.{IsIndex};
 ghost use Rattle.guest_machine.specs.Step.{resumed};
 
 use guest_memory::{GuestMemory, Reservations};
-use guest_words::Tid;
 use guest_words::limits::THREADS;
+use guest_words::{ByThread, Tid};
 use rv_exec::{Cpu, Outcome, execute};
 use rv_isa::{Instr, Reg};
 
-/// A hardware thread: a live thread with its registers.
-#[derive(Clone, Copy, Debug, PartialEq, Eq)]
-pub struct Hart {
-    pub tid: Tid,
-    pub cpu: Cpu,
-}
-
-// The first index of the thread, if it has one.
-fn find(harts: &[Hart], tid: Tid) -> Option<usize>
-    ensures { result ≡ position (λ h. h.tid == tid) harts.now }
+/// The registers of a live thread.
+pub(crate) fn cpu_of(harts: &ByThread<Cpu>, tid: Tid) -> &Cpu
+    requires { is_some (value_of harts.now.list tid) ≡ true }
+    ensures { result.now ≡ registers_of harts.now.list tid }
 {
-    harts.iter().position(|hart| hart.tid == tid)
+    harts.get(tid).unwrap()
 }
 
-/// Where the thread stands among the live ones.
-pub(crate) fn index_of(harts: &[Hart], tid: Tid) -> usize
-    requires { list_any (λ h. h.tid == tid) harts.now ≡ true }
-    ensures { IsIndex harts.now tid result }
-{
-    match find(harts, tid) {
-        Some(index) => index,
-        None => unreachable!(),
-    }
-}
-
-/// Carries out an instruction of the thread at an index.
-pub(crate) fn execute_at(
-    harts: &mut Vec<Hart>,
-    index: usize,
+/// Carries out an instruction of a live thread.
+pub(crate) fn execute_for(
+    harts: &mut ByThread<Cpu>,
     memory: &mut GuestMemory,
     held: &mut Reservations,
     tid: Tid,
     i: Instr,
 ) -> Outcome
-    requires index { IsIndex harts.old.items tid index }
+    requires lives { is_some (value_of harts.old.list tid) ≡ true }
     requires held { HoldAtMost (without_thread (reserved_by held.old) tid) (THREADS - 1) }
-    ensures effect { (result, record { registers = registers_of harts.new.items tid; memory = memory_of memory.new; held = reserved_by held.new })
-        ≡ effect tid i (record { registers = registers_of harts.old.items tid; memory = memory_of memory.old; held = reserved_by held.old }) }
-    ensures harts { harts.new.items ≡ with_registers harts.old.items tid (registers_of harts.new.items tid) }
-    ensures index { IsIndex harts.new.items tid index }
-    ensures spare { vec_capacity harts.new ≡ vec_capacity harts.old }
+    ensures effect { (result, record { registers = registers_of harts.new.list tid; memory = memory_of memory.new; held = reserved_by held.new })
+        ≡ effect tid i (record { registers = registers_of harts.old.list tid; memory = memory_of memory.old; held = reserved_by held.old }) }
+    ensures harts { harts.new.list ≡ with_registers harts.old.list tid (registers_of harts.new.list tid) }
+    ensures lives { is_some (value_of harts.new.list tid) ≡ true }
+    ensures room { harts.new.room ≡ harts.old.room }
 {
-    execute(&mut harts[index].cpu, memory, held, tid, i)
+    let cpu = harts.get_mut(tid).unwrap();
+    execute(cpu, memory, held, tid, i)
 }
 
-/// The thread at an index goes on behind its call, with this answer in a0.
-pub(crate) fn resume_at(harts: &mut [Hart], index: usize, tid: Tid, value: u32)
-    requires { IsIndex harts.old tid index }
-    ensures { harts.new ≡ with_registers harts.old tid (resumed (registers_of harts.old tid) value) }
+/// A live thread goes on behind its call, with this answer in a0.
+pub(crate) fn resume(harts: &mut ByThread<Cpu>, tid: Tid, value: u32)
+    requires { is_some (value_of harts.old.list tid) ≡ true }
+    ensures list { harts.new.list ≡ with_registers harts.old.list tid (resumed (registers_of harts.old.list tid) value) }
+    ensures room { harts.new.room ≡ harts.old.room }
 {
-    let cpu = &mut harts[index].cpu;
+    let cpu = harts.get_mut(tid).unwrap();
     cpu.write(Reg::new(10).unwrap(), value);
     cpu.advance();
 }

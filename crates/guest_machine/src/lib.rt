@@ -18,7 +18,6 @@ mod start_memory;
 mod step_events;
 mod stepped;
 
-pub use hart::Hart;
 pub use laws::{every_step_is_short, every_step_is_traced};
 pub use machine::Machine;
 pub use setup::SetupError;

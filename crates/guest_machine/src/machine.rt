@@ -20,8 +20,7 @@ pub struct Machine {
 }
 
 impl Model for Machine {
-    ghost use Rattle.std.specs.Prelude.{◌≤◌};
-    ghost use Rattle.std.specs.Vec.{vec_capacity};
+    ghost use Rattle.std.specs.Prelude.{◌≤◌, ◌+◌, length};
     ghost use Rattle.guest_words.specs.declared.limits.TheConstants.{THREADS};
     ghost use Rattle.guest_machine.specs.Kept.{Parts, machine_of};
     ghost use Rattle.guest_machine.specs.Parts.{parts_of};
@@ -31,7 +30,7 @@ impl Model for Machine {
 
     ghost view = { λ m. parts_of m.guest };
 
-    ghost invariant = { λ m. (THREADS ≤ vec_capacity m.guest.harts) × IsSound (machine_of (parts_of m.guest)) };
+    ghost invariant = { λ m. (THREADS ≤ length m.guest.harts.list + m.guest.harts.room) × IsSound (machine_of (parts_of m.guest)) };
 }
 
 /// The most pages of the image, so that the stack has room.

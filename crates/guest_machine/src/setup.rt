@@ -1,6 +1,5 @@
 //! The start of a guest.
 ghost use Rattle.std.specs.Prelude.{◌≡◌, ◌≤◌, ◌+◌, ◌-◌, ◌*◌, ◌/◌, false, length, map, slice_set, replicate, string_bytes, IfOk};
-ghost use Rattle.std.specs.Vec.{vec_capacity};
 ghost use Rattle.elf_image.specs.Image.{page_count};
 ghost use Rattle.guest_machine.specs.Kept.{machine_of};
 ghost use Rattle.guest_machine.specs.Parts.{parts_of};
@@ -8,7 +7,6 @@ ghost use Rattle.guest_machine.specs.Sound.{IsSound};
 ghost use Rattle.guest_machine.specs.Start.{start, strings};
 
 use crate::guest::Guest;
-use crate::hart::Hart;
 use crate::image_pages::greatest_end;
 use crate::stack::RANDOM_ADDRESS;
 use crate::start_memory::start_memory;
@@ -16,7 +14,7 @@ use elf_image::Image;
 use guest_calls::{Inputs, Kernel};
 use guest_memory::Reservations;
 use guest_words::limits::{PAGES, STACK_PAGES, THREADS};
-use guest_words::{Addr, Tid};
+use guest_words::{Addr, ByThread, Tid};
 use rv_exec::Cpu;
 use rv_isa::Reg;
 use std::alloc::{AllocError, Global};
@@ -56,16 +54,13 @@ fn stack_pointer(first: Addr, count: usize) -> Addr
     (first - 4 * (count as u32 + 17)) / 16 * 16
 }
 
-// Thread 1 at the entry, with the stack pointer in x2.
-fn first_hart(entry: Addr, pointer: Addr) -> Hart
-    ensures { result ≡ record { tid = 1; cpu = record { pc = entry; regs = slice_set (replicate 32 0) 2 pointer } } }
+// The registers of thread 1: at the entry, with the stack pointer in x2.
+fn first_cpu(entry: Addr, pointer: Addr) -> Cpu
+    ensures { result ≡ record { pc = entry; regs = slice_set (replicate 32 0) 2 pointer } }
 {
     let mut cpu = Cpu::new(entry);
     cpu.write(Reg::new(2).unwrap(), pointer);
-    Hart {
-        tid: Tid::FIRST,
-        cpu,
-    }
+    cpu
 }
 
 /// A guest that begins, where the argument strings have `text_bytes` bytes with their zero bytes.
@@ -82,7 +77,7 @@ pub(crate) fn first_guest(
     requires few { page_count image.now.segments + STACK_PAGES ≤ PAGES }
     ensures start { IfOk result (λ guest. machine_of (parts_of guest) ≡ start image.now (map string_bytes arguments.now) inputs stdin.items) }
     ensures sound { IfOk result (λ guest. IsSound (machine_of (parts_of guest))) }
-    ensures spare { IfOk result (λ guest. THREADS ≤ vec_capacity guest.harts) }
+    ensures spare { IfOk result (λ guest. THREADS ≤ length guest.harts.list + guest.harts.room) }
     ensures entry { IfOk result (λ guest. guest.entry ≡ image.now.entry) }
     ensures called { IfOk result (λ guest. guest.called ≡ false) }
 {
@@ -91,8 +86,9 @@ pub(crate) fn first_guest(
     let first_break = greatest_end(image.segments()).next_multiple_of(4096);
     let memory = start_memory(alloc, image, arguments, first, pointer)?;
     let kernel = Kernel::new(alloc, inputs, stdin, first_break)?;
-    let mut harts = Vec::with_capacity(alloc, THREADS)?;
-    harts.push(first_hart(image.entry(), pointer))?;
+    let mut harts = ByThread::new(alloc);
+    harts.reserve(THREADS)?;
+    harts.insert(Tid::FIRST, first_cpu(image.entry(), pointer))?;
     Ok(Guest {
         harts,
         kernel,

@@ -3,10 +3,9 @@ ghost use Rattle.std.specs.Prelude.{◌≡◌, ◌≤◌, ◌+◌, ◌++◌, len
 ghost use Rattle.trace_model.specs.declared.event_kinds.Event.TheVariants.{End};
 ghost use Rattle.guest_machine.specs.Step.{access_events, jump_events};
 
-use crate::hart::Hart;
 use call_tracker::JumpKind;
 use guest_words::{Addr, Tid};
-use rv_exec::Access;
+use rv_exec::{Access, Cpu};
 use trace_model::{Event, Events};
 
 /// Adds the accesses of an instruction.
@@ -56,11 +55,11 @@ pub(crate) fn add_jump(events: &mut Events, tid: Tid, kind: JumpKind, target: Ad
 }
 
 /// Adds the end of each thread.
-pub(crate) fn add_ends(events: &mut Events, harts: &[Hart])
+pub(crate) fn add_ends(events: &mut Events, harts: &[(Tid, Cpu)])
     requires { length harts.now ≤ events.old.room }
-    ensures { events.new.list ≡ events.old.list ++ map (λ h. End h.tid) harts.now }
+    ensures { events.new.list ≡ events.old.list ++ map (λ h. End h.0) harts.now }
 {
     for hart in harts {
-        events.push(Event::End { tid: hart.tid });
+        events.push(Event::End { tid: hart.0 });
     }
 }

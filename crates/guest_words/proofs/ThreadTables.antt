@@ -4,6 +4,7 @@ use Rattle.std.specs.Prelude.{◌==◌, nat_lt}
 use Rattle.std.specs.List.{position, position_or_len}
 use Rattle.std.specs.Option.{option_map}
 use Rattle.std.proofs.lemmas.Bool.Decides.{nat_tests}
+use Rattle.std.proofs.lemmas.List.{length-map}
 use Rattle.std.proofs.lemmas.List.Quantifiers.{position-Some}
 use Rattle.std.proofs.lemmas.List.Elements.{All-head, All-tail, All-cons}
 use Rattle.guest_words.specs.ByThread.{IsRising, numbers, value_of, with_value, without_thread}
@@ -59,6 +60,10 @@ module _ {T : Type 0} where
       by : (b : Bool) → numbers (with_value xs t v) ≡ numbers xs → numbers (cond b ((x.0, v) ∷ xs) (x ∷ with_value xs t v)) ≡ x.0 ∷ numbers xs
       by true rest = refl
       by false rest = ap (λ ns. x.0 ∷ ns) rest
+
+  pub length-with : (xs : List (ℕ × T)) (t : ℕ) (v : T) → length (with_value xs t v) ≡ length xs
+  length-with xs t v =
+      sym (length-map (with_value xs t v) (λ x. x.0)) ∙ ap length (numbers-with xs t v) ∙ length-map xs (λ x. x.0)
 
   pub All-numbers-without : (P : ℕ → Type 0) (xs : List (ℕ × T)) (t : ℕ) → All P (numbers xs) → All P (numbers (without_thread xs t))
   All-numbers-without P [] t all = all

@@ -57,6 +57,13 @@ impl<T> ByThread<T> {
         self.entries.len()
     }
 
+    /// The threads with their values.
+    pub fn list(&self) -> &[(Tid, T)]
+        ensures { result.now ≡ self.now.list }
+    {
+        &self.entries
+    }
+
     /// The value of the thread.
     pub fn get(&self, tid: Tid) -> Option<&T>
         ensures { option_copied result ≡ value_of self.now.list tid }
@@ -117,5 +124,13 @@ impl<T: Drop> ByThread<T> {
         ensures freed { length self.old.list + self.old.room ≤ length self.new.list + self.new.room }
     {
         self.entries.retain(|entry| entry.0 != tid);
+    }
+
+    /// Takes all threads out.
+    pub fn clear(&mut self)
+        ensures list { self.new.list ≡ [] }
+        ensures freed { length self.old.list + self.old.room ≤ self.new.room }
+    {
+        self.entries.clear();
     }
 }

@@ -123,8 +123,11 @@ fn a_table_is_read_by_thread(rt: HostRuntime) -> Result<(), Fail> {
         *value = 31;
     }
     assert_eq!(rt; table.get(third), Some(&31));
+    assert_eq!(rt; table.list().len(), 2);
     table.remove(Tid::FIRST);
     assert_eq!(rt; table.get(Tid::FIRST), None);
     assert_eq!(rt; table.len(), 1);
+    table.clear();
+    assert_eq!(rt; table.len(), 0);
     Ok(())
 }
