@@ -1,21 +1,22 @@
 -- From the loads and the run of a command to how it ends.
 use Rattle.std.proofs.Common.{◌≡◌, ℕ, ◌<◌, Bool, true, false, cond, List, [], Some, None, Err, refl, sym, ap, subst, inl, inr, arith, length, slice_get}
 use Rattle.std.specs.Prelude.{nat_lt}
+use Rattle.std.specs.List.{list_any}
 use Rattle.std.proofs.lemmas.Bool.Decides.{nat_tests}
 use Rattle.std.proofs.lemmas.Option.{slice_get_within}
-use Rattle.command_line.specs.Options.{AsksFor, GuestOptions, RunOptions}
+use Rattle.command_line.specs.Options.{AsksFor, GuestOptions, RunOptions, has_zero}
 use Rattle.command_line.specs.Options.Asked.{Run, Demo}
 use Rattle.host_io.specs.Files.{FilesState}
 use Rattle.host_io.specs.Sink.{SinkState}
 use Rattle.command_line.proofs.Refusals.{no_zero}
+use Rattle.command_line.specs.declared.commands.CommandError.{CommandError}
+use Rattle.command_line.specs.declared.commands.CommandError.TheVariants as command
 use Rattle.aprof_top.specs.declared.ending.Ending as declared
 use Rattle.aprof_top.specs.declared.ending.Ending.TheVariants as ending
 use Rattle.aprof_top.specs.declared.ending.Verdict as verdicts
 use Rattle.aprof_top.specs.declared.ending.Verdict.TheVariants as verdict
 use Rattle.aprof_top.specs.declared.loaded.Loaded as kept
-use Rattle.aprof_top.specs.declared.refusal.Refusal.{Refusal}
-use Rattle.aprof_top.specs.declared.refusal.Refusal.TheVariants as refused
-use Rattle.aprof_top.specs.Ending.{AskedEnds, Delivers, end_of}
+use Rattle.aprof_top.specs.Ending.{AskedEnds, Delivers, end_of, guest_of, of_command}
 use Rattle.aprof_top.specs.Ends.{Reaches}
 use Rattle.aprof_top.specs.Ends.End.{Decided}
 use Rattle.aprof_top.specs.Found.{Decision, Found}
@@ -25,7 +26,7 @@ use Rattle.aprof_top.specs.Outcome.{Follows, IsDemo, IsOutcome, IsRun, Outcome, 
 use Rattle.aprof_top.specs.Outcome.Stage.{Complete, Loading, PastLimit}
 use Rattle.aprof_top.specs.Outside.{AreFiles, Outside, outside}
 use Rattle.aprof_top.specs.Products.{FilesRun, LoadsAll}
-use Rattle.aprof_top.specs.Refusals.{ending_of}
+use Rattle.aprof_top.specs.Sources.{path_of}
 use Rattle.aprof_top.specs.Verdicts.{IsOfRun}
 use Rattle.aprof_top.proofs.Sinks.{appended-nothing}
 
@@ -63,9 +64,14 @@ same_files : (files : FilesState) → AreFiles files files
 same_files files = record { contents = refl; failed_paths = refl; faults = refl }
 
 -- the words are refused
-pub Reaches-bad_command : (words : List (List ℕ)) (files : FilesState) (out err : SinkState) → AsksFor words None → Reaches words (Decided verdict.BadCommand) (outside files out err) (outside files out err)
+Reaches-bad_command : (words : List (List ℕ)) (files : FilesState) (out err : SinkState) → AsksFor words None → Reaches words (Decided verdict.BadCommand) (outside files out err) (outside files out err)
 Reaches-bad_command words files out err asks =
     refused_by words verdict.BadCommand files files out err (record { asked = None; asks = asks; files = []; held = tt; limit = inl tt }) refl (same_files files)
+
+-- no command was made of the words
+pub Reaches-unread : (words : List (List ℕ)) (e : CommandError) (outside' : Outside) → (e ≡ command.Refused → AsksFor words None) → (e ≡ command.Memory → list_any has_zero words ≡ false) → Reaches words (end_of None (of_command e)) outside' outside'
+Reaches-unread words command.Refused o asks zero = Reaches-bad_command words o.files o.out o.err (asks refl)
+Reaches-unread words command.Memory o asks zero = record { no_zero = zero refl; done = inl refl }
 
 -- ---- a command with these options, before its loads and after them; its sinks are untouched
 module _ (options : RunOptions) (files loaded : FilesState) (out err : SinkState) where
@@ -76,10 +82,10 @@ module _ (options : RunOptions) (files loaded : FilesState) (out err : SinkState
   between = outside loaded out err
 
   -- the loads ended it
-  pub AskedEnds-unloaded : (e : declared.Ending) → LoadsEnd (shared_count options.guest) (loaded_paths options.guest) files loaded e → AskedEnds (Run options) before between e
-  AskedEnds-unloaded (ending.CannotRead path) fails words asks = record {
+  pub AskedEnds-unloaded : (e : declared.Ending) → LoadsEnd options.guest files loaded e → AskedEnds (Run options) before between e
+  AskedEnds-unloaded (ending.CannotRead source) fails words asks = record {
     found = record { asked = Some (Run options); asks = asks; files = fails.files; held = fails.held; limit = inl fails.each };
-    undecided = loading_stage options.guest fails.files path.now fails.few fails.next;
+    undecided = loading_stage options.guest fails.files (path_of options.guest source) fails.few fails.next;
     next = fails.next;
     failed = fails.failed;
     contents = fails.contents;
@@ -108,20 +114,23 @@ module _ (options : RunOptions) (files loaded : FilesState) (out err : SinkState
     }
 
     -- the run gave no product
-    pub AskedEnds-unrun : (r : Refusal) → FilesRun options (loaded_of options.guest all.files) (Err r) → AskedEnds (Run options) before between (ending_of r)
-    AskedEnds-unrun (refused.Decided v) is_run words asks =
+    pub AskedEnds-unrun : (e : declared.Ending) → FilesRun options (loaded_of options.guest all.files) (Err e) → AskedEnds (Run options) before between e
+    AskedEnds-unrun (ending.Decided v) is_run words asks =
         refused_by words v files loaded out err (decision words between (refusal v) asks is_run).found (decided (refusal v) is_run)
         (subst (λ f. AreFiles files f) (sym all.are.same) (same_files files))
-    AskedEnds-unrun refused.OutOfMemory is_run words asks = record { no_zero = no_zero words (Run options) asks; done = inl (ap (λ f. outside f out err) all.are.same) }
+    AskedEnds-unrun (ending.CannotRead source) is_run words asks = absurd is_run
+    AskedEnds-unrun ending.CannotWrite is_run words asks = absurd is_run
+    AskedEnds-unrun ending.CannotPut is_run words asks = absurd is_run
+    AskedEnds-unrun ending.OutOfMemory is_run words asks = record { no_zero = no_zero words (Run options) asks; done = inl (ap (λ f. outside f out err) all.are.same) }
 
     -- its product was handed out
     pub AskedEnds-delivered : (e : declared.Ending) (outcome : Outcome) (after : Outside) → IsRun options (loaded_of options.guest all.files) outcome → IsOfRun outcome.verdict → Delivers outcome between after e → AskedEnds (Run options) before after e
     AskedEnds-delivered e outcome after is_run some delivery words asks =
         by e (subst (λ f. Delivers outcome (outside f out err) after e) all.are.same delivery)
       where
-        by : (e : declared.Ending) → Delivers outcome before after e → Reaches words (end_of e) before after
+        by : (e : declared.Ending) → Delivers outcome before after e → Reaches words (end_of (guest_of (Run options)) e) before after
         by (ending.Decided v) (same, done) = (decision words after outcome asks is_run, same, done)
-        by (ending.CannotRead path) fails = absurd fails
+        by (ending.CannotRead source) fails = absurd fails
         by ending.CannotWrite fails = record { decision = decision words after outcome asks is_run; ran = some; fails = fails }
         by ending.CannotPut fails = record { decision = decision words after outcome asks is_run; ran = some; fails = fails }
         by ending.OutOfMemory short = record { no_zero = no_zero words (Run options) asks; done = inr (decision words after outcome asks is_run, short) }
@@ -138,12 +147,12 @@ module _ (number : ℕ) (outcome : Outcome) (before after : Outside) (is_demo : 
 
   pub AskedEnds-shown : (e : declared.Ending) → IsOfRun outcome.verdict → Delivers outcome before after e → AskedEnds (Demo number) before after e
   AskedEnds-shown (ending.Decided v) ran (same, done) words asks = (summed words asks, same, done)
-  AskedEnds-shown (ending.CannotRead path) ran fails words asks = absurd fails
+  AskedEnds-shown (ending.CannotRead source) ran fails words asks = absurd fails
   AskedEnds-shown ending.CannotWrite ran fails words asks = record { decision = summed words asks; ran = ran; fails = fails }
   AskedEnds-shown ending.CannotPut ran fails words asks = record { decision = summed words asks; ran = ran; fails = fails }
   AskedEnds-shown ending.OutOfMemory ran short words asks = record { no_zero = no_zero words (Demo number) asks; done = inr (summed words asks, short) }
 
 -- it has no product for want of memory alone
-pub AskedEnds-unshown : (number : ℕ) (before : Outside) (r : Refusal) → r ≡ refused.OutOfMemory → AskedEnds (Demo number) before before (ending_of r)
-AskedEnds-unshown number before r is words asks =
-    subst (λ x. Reaches words (end_of (ending_of x)) before before) (sym is) (record { no_zero = no_zero words (Demo number) asks; done = inl refl })
+pub AskedEnds-unshown : (number : ℕ) (before : Outside) (e : declared.Ending) → e ≡ ending.OutOfMemory → AskedEnds (Demo number) before before e
+AskedEnds-unshown number before e is words asks =
+    subst (λ x. Reaches words (end_of (guest_of (Demo number)) x) before before) (sym is) (record { no_zero = no_zero words (Demo number) asks; done = inl refl })

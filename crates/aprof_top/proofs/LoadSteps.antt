@@ -207,7 +207,7 @@ AreLoaded-all shared sum paths files old now so_far = record {
   same = so_far.same;
 }
 
--- the same loads, by another name
-pub AreLoaded-as : (shared shared' : ℕ) (paths paths' files : List (List ℕ)) (old now : FilesState) → shared ≡ shared' → paths ≡ paths' → AreLoaded shared paths files old now → AreLoaded shared' paths' files old now
-AreLoaded-as shared shared' paths paths' files old now same_shared same_paths are =
-    subst (λ s. AreLoaded s paths' files old now) same_shared (subst (λ p. AreLoaded shared p files old now) same_paths are)
+-- what holds of these loads holds of them by other names
+pub by_names : (Holds' : ℕ → List (List ℕ) → Type 0) (shared shared' : ℕ) (paths paths' : List (List ℕ)) → shared ≡ shared' → paths ≡ paths' → Holds' shared paths → Holds' shared' paths'
+by_names Holds' shared shared' paths paths' same_shared same_paths here =
+    subst (λ s. Holds' s paths') same_shared (subst (λ p. Holds' shared p) same_paths here)

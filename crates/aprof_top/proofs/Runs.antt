@@ -26,12 +26,12 @@ use Rattle.thread_sched.specs.ScheduleText as recordings
 use Rattle.thread_sched.specs.ScheduleText.{IsBadLine, IsEntry, IsText}
 use Rattle.thread_sched.specs.declared.schedule.ScheduleError.{ScheduleError}
 use Rattle.thread_sched.specs.declared.schedule.ScheduleError.TheVariants as unread
+use Rattle.aprof_top.specs.declared.ending.Ending as declared
+use Rattle.aprof_top.specs.declared.ending.Ending.TheVariants as ending
 use Rattle.aprof_top.specs.declared.ending.Verdict.TheVariants.{BadSchedule, TooLarge, Summarized}
 use Rattle.aprof_top.specs.declared.loaded.Loaded as kept
 use Rattle.aprof_top.specs.declared.product.Product.{Product}
-use Rattle.aprof_top.specs.declared.refusal.Refusal.{Refusal}
-use Rattle.aprof_top.specs.declared.refusal.Refusal.TheVariants as refused
-use Rattle.aprof_top.specs.Refusals.{of_schedule}
+use Rattle.aprof_top.specs.Ending.{of_schedule}
 use Rattle.aprof_top.specs.Loads.{Loaded, with_inputs}
 use Rattle.aprof_top.specs.Outcome.{ByImage, IsDemo, IsRun, demo_options, demo_outcome, IsScheduled, Outcome, begun_outcome, refusal, run_outcome}
 use Rattle.aprof_top.specs.Products.{FilesRun, ImageRuns, IsRefused, IsRunOf, RunsTo, outcome_of}
@@ -116,10 +116,13 @@ RunsTo-run options files accepted turns entries text image is inputs' stdin inpu
 }
 
 -- it gave none
-pub FilesRun-unrun : (options : RunOptions) (files : Loaded) (accepted : first_refusal files.image ≡ None) (turns : List Entry) (entries : AllByRecursion IsEntry turns) (text : IsText files.schedule turns) (image : Executable) (is : image ≡ image_of files.image) (inputs' : List Input) (stdin : List ℕ) (r : Refusal) → ImageRuns options.guest image turns inputs' stdin (Err r) → FilesRun options files (Err r)
-FilesRun-unrun options files accepted turns entries text image is inputs' stdin refused.OutOfMemory runs = tt
-FilesRun-unrun options files accepted turns entries text image is inputs' stdin (refused.Decided v) runs =
+pub FilesRun-unrun : (options : RunOptions) (files : Loaded) (accepted : first_refusal files.image ≡ None) (turns : List Entry) (entries : AllByRecursion IsEntry turns) (text : IsText files.schedule turns) (image : Executable) (is : image ≡ image_of files.image) (inputs' : List Input) (stdin : List ℕ) (e : declared.Ending) → ImageRuns options.guest image turns inputs' stdin (Err e) → FilesRun options files (Err e)
+FilesRun-unrun options files accepted turns entries text image is inputs' stdin ending.OutOfMemory runs = tt
+FilesRun-unrun options files accepted turns entries text image is inputs' stdin (ending.Decided v) runs =
     rw runs.0 (IsRun-unbegun options files accepted turns entries text image is runs.1)
+FilesRun-unrun options files accepted turns entries text image is inputs' stdin (ending.CannotRead source) runs = absurd runs
+FilesRun-unrun options files accepted turns entries text image is inputs' stdin ending.CannotWrite runs = absurd runs
+FilesRun-unrun options files accepted turns entries text image is inputs' stdin ending.CannotPut runs = absurd runs
 
 -- ---- the demo
 -- its summary is the outcome

@@ -20,4 +20,4 @@ pub mod Ending
 pub mod LastTexts
 pub mod Loading
 pub mod Products
-pub mod Refusals
+pub mod Sources

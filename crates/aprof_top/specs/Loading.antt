@@ -2,11 +2,13 @@
 use Rattle.std.specs.Prelude.{◌≡◌, ◌⊎◌, ℕ, ◌≤◌, false, true, List, map, length, slice_get, Some, Vec}
 use Rattle.std.specs.List.{AllByRecursion}
 use Rattle.std.specs.declared.alloc.Global.{Global}
+use Rattle.command_line.specs.Options.{GuestOptions}
 use Rattle.host_io.specs.Faults.{Rose}
 use Rattle.host_io.specs.Files.{FilesState, FailsAt}
 use Rattle.aprof_top.specs.Limits.{file_limit, inputs_limit}
-use Rattle.aprof_top.specs.Loads.{passes_limit, shared_length}
+use Rattle.aprof_top.specs.Loads.{loaded_paths, passes_limit, shared_count, shared_length}
 use Rattle.aprof_top.specs.Outside.{AreFiles, AreHeld}
+use Rattle.aprof_top.specs.Sources.{path_of}
 use Rattle.aprof_top.specs.declared.ending.Ending.{Ending}
 use Rattle.aprof_top.specs.declared.ending.Ending.TheVariants as ending
 use Rattle.aprof_top.specs.declared.ending.Verdict.TheVariants.{TooLarge}
@@ -49,9 +51,9 @@ pub record PassesLimit (shared : ℕ) (paths : List (List ℕ)) (old new : Files
   pub unchanged : AreFiles old new
 
 -- why the loads of a command end it
-abbrev pub LoadsEnd : ℕ → List (List ℕ) → FilesState → FilesState → Ending → Type 0
-LoadsEnd shared paths old new (ending.CannotRead path) = FailsToLoad shared paths path.now old new
-LoadsEnd shared paths old new (ending.Decided verdict) = (verdict ≡ TooLarge) × PassesLimit shared paths old new
-LoadsEnd shared paths old new ending.OutOfMemory = new ≡ old
-LoadsEnd shared paths old new ending.CannotWrite = ⊥
-LoadsEnd shared paths old new ending.CannotPut = ⊥
+abbrev pub LoadsEnd : GuestOptions → FilesState → FilesState → Ending → Type 0
+LoadsEnd options old new (ending.CannotRead source) = FailsToLoad (shared_count options) (loaded_paths options) (path_of options source) old new
+LoadsEnd options old new (ending.Decided verdict) = (verdict ≡ TooLarge) × PassesLimit (shared_count options) (loaded_paths options) old new
+LoadsEnd options old new ending.OutOfMemory = new ≡ old
+LoadsEnd options old new ending.CannotWrite = ⊥
+LoadsEnd options old new ending.CannotPut = ⊥

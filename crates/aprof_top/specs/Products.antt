@@ -14,12 +14,11 @@ use Rattle.host_io.specs.declared.files.StoreError.TheVariants.{Failed, Memory}
 use Rattle.trace_model.specs.WellFormed.{IsLight}
 use Rattle.thread_sched.specs.declared.entry.Entry.{Entry}
 use Rattle.aprof_top.specs.declared.ending.Ending.{Ending}
+use Rattle.aprof_top.specs.declared.ending.Ending.TheVariants.{Decided, OutOfMemory}
 use Rattle.aprof_top.specs.declared.ending.Verdict.TheVariants.{TooLarge}
 use Rattle.aprof_top.specs.declared.loaded.Loaded as declared
 use Rattle.aprof_top.specs.declared.product.Product.{Product}
 use Rattle.aprof_top.specs.declared.product.Store.{Store}
-use Rattle.aprof_top.specs.declared.refusal.Refusal.{Refusal}
-use Rattle.aprof_top.specs.declared.refusal.Refusal.TheVariants.{Decided, OutOfMemory}
 use Rattle.aprof_top.specs.Delivery.{StoreFails}
 use Rattle.aprof_top.specs.Loading.{AreLoaded, LoadsEnd}
 use Rattle.aprof_top.specs.Loads.{Loaded, loaded_of, loaded_paths, shared_count, with_inputs}
@@ -45,7 +44,7 @@ pub record LoadsAll (options : GuestOptions) (old new : FilesState) (kept : decl
 -- how the loads of a command end
 abbrev pub CommandLoads : GuestOptions → FilesState → FilesState → Result declared.Loaded Ending → Type 0
 CommandLoads options old new (Ok kept) = LoadsAll options old new kept
-CommandLoads options old new (Err e) = LoadsEnd (shared_count options) (loaded_paths options) old new e
+CommandLoads options old new (Err e) = LoadsEnd options old new e
 
 -- the path and the bytes of a file to store
 abbrev pub store_of : Store → List ℕ × List ℕ
@@ -78,10 +77,11 @@ pub record IsRunOf (options : GuestOptions) (image : Executable) (turns : List E
   pub light : IsLight (reverse run.events.list)
 
 -- how the run of an executable ends
-abbrev pub ImageRuns : GuestOptions → Executable → List Entry → List Input → List ℕ → Result Run Refusal → Type 0
+abbrev pub ImageRuns : GuestOptions → Executable → List Entry → List Input → List ℕ → Result Run Ending → Type 0
 ImageRuns options image turns files stdin (Ok run) = IsRunOf options image turns files stdin run
 ImageRuns options image turns files stdin (Err (Decided verdict)) = (verdict ≡ TooLarge) × IsRefused (setup_refusal image (arguments options))
 ImageRuns options image turns files stdin (Err OutOfMemory) = Unit {0}
+ImageRuns options image turns files stdin (Err e) = ⊥
 
 -- The product is the outcome of a run of these files.
 pub record RunsTo (options : RunOptions) (loaded : Loaded) (product : Product) : Type 0 where
@@ -89,12 +89,13 @@ pub record RunsTo (options : RunOptions) (loaded : Loaded) (product : Product) :
   pub ran : IsOfRun product.verdict
 
 -- how the run of a command's files ends: with its outcome, or for want of memory
-abbrev pub FilesRun : RunOptions → Loaded → Result Product Refusal → Type 0
+abbrev pub FilesRun : RunOptions → Loaded → Result Product Ending → Type 0
 FilesRun options loaded (Ok product) = RunsTo options loaded product
 FilesRun options loaded (Err (Decided verdict)) = IsRun options loaded (refusal verdict)
 FilesRun options loaded (Err OutOfMemory) = Unit {0}
+FilesRun options loaded (Err e) = ⊥
 
 -- how the demo ends: with its outcome, or for want of memory
-abbrev pub DemoRuns : ℕ → Result Product Refusal → Type 0
+abbrev pub DemoRuns : ℕ → Result Product Ending → Type 0
 DemoRuns number (Ok product) = IsDemo number (outcome_of product) × IsOfRun product.verdict
-DemoRuns number (Err refused) = refused ≡ OutOfMemory
+DemoRuns number (Err e) = e ≡ OutOfMemory

@@ -38,7 +38,7 @@ pub(crate) fn deliver<F: Files, O: Sink, E: Sink>(
     files: &mut F,
     out: &mut O,
     err: &mut E,
-) -> Ending<'static>
+) -> Ending
     ensures { Delivers (outcome_of product.now)
         (outside (F.state files.old) (O.state out.old) (E.state err.old))
         (outside (F.state files.new) (O.state out.new) (E.state err.new)) result }

@@ -4,9 +4,8 @@ ghost use Rattle.command_line.specs.Read.{guest_in};
 ghost use Rattle.aprof_top.specs.Outcome.{demo_options};
 ghost use Rattle.aprof_top.specs.Products.{DemoRuns};
 
-use crate::ending::Verdict;
+use crate::ending::{Ending, Verdict};
 use crate::product::{Product, run_image};
-use crate::refusal::Refusal;
 use crate::report::report_of;
 use crate::summary::summary;
 use command_line::GuestOptions;
@@ -31,7 +30,7 @@ fn demo_guest(alloc: Global) -> GuestOptions<'static>
 }
 
 /// Runs the demo of this number, and sums its report up.
-pub(crate) fn run_demo(alloc: Global, number: u32) -> Result<Product<'static>, Refusal>
+pub(crate) fn run_demo(alloc: Global, number: u32) -> Result<Product<'static>, Ending>
     requires { (1 ≤ number) × (number ≤ 40000) }
     ensures { DemoRuns number result }
 {

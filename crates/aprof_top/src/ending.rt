@@ -1,17 +1,22 @@
 //! How a command ends: its status and its last text.
-ghost use Rattle.std.specs.Prelude.{◌≡◌, ◌<◌, length, IfOk, OnOk, OnErr};
-ghost use Rattle.aprof_top.specs.Ending.{end_of};
+ghost use Rattle.std.specs.Prelude.{◌≡◌, ◌<◌, length, Option, IfOk, OnOk, OnErr};
+ghost use Rattle.command_line.specs.Options as options;
+ghost use Rattle.aprof_top.specs.Ending.{end_of, known_guest};
 ghost use Rattle.aprof_top.specs.Ends.{end_status, end_text};
 ghost use Rattle.aprof_top.specs.LastTexts.{bytes_of};
 ghost use Rattle.aprof_top.specs.LastText.{IsMade, IsPut, LastText};
 ghost use Rattle.aprof_top.specs.Verdicts.{finish_status, verdict_status};
 
 use crate::delivery::put_all;
-use crate::texts::{Text, cannot_read_text, verdict_text};
+use crate::source::Source;
+use crate::texts::{Text, unread_text, verdict_text};
+use command_line::{CommandError, GuestOptions};
 use elf_image::ElfError;
+use guest_machine::SetupError;
 use guest_words::Finish;
 use host_io::{PutError, Sink};
 use std::alloc::{AllocError, AllocFailed, Global};
+use thread_sched::ScheduleError;
 
 /// What the program answers by the words, the files and the run of the guest.
 #[derive(Clone, Copy)]
@@ -26,34 +31,90 @@ pub(crate) enum Verdict {
 
 /// How a command ended.
 #[derive(Clone, Copy)]
-pub(crate) enum Ending<'a> {
+pub(crate) enum Ending {
     Decided(Verdict),
-    CannotRead(&'a str),
+    CannotRead(Source),
     CannotWrite,
     // A put on `err` failed, so nothing more is put there.
     CannotPut,
     OutOfMemory,
 }
 
-impl<'a> From<AllocError> for Ending<'a> {
+impl From<AllocError> for Ending {
     ghost use Rattle.std.specs.Prelude.{◌≡◌};
     ghost use Rattle.aprof_top.specs.declared.ending.Ending.TheVariants.{OutOfMemory};
 
     ghost from_gives = { λ _ e. e ≡ OutOfMemory };
 
-    fn from(_error: AllocError) -> Ending<'a> {
+    fn from(_error: AllocError) -> Ending {
         Ending::OutOfMemory
     }
 }
 
-impl<'a, T: Drop> From<AllocFailed<T>> for Ending<'a> {
+impl<T: Drop> From<AllocFailed<T>> for Ending {
     ghost use Rattle.std.specs.Prelude.{◌≡◌};
     ghost use Rattle.aprof_top.specs.declared.ending.Ending.TheVariants.{OutOfMemory};
 
     ghost from_gives = { λ _ e. e ≡ OutOfMemory };
 
-    fn from(_error: AllocFailed<T>) -> Ending<'a> {
+    fn from(_error: AllocFailed<T>) -> Ending {
         Ending::OutOfMemory
+    }
+}
+
+impl From<CommandError> for Ending {
+    ghost use Rattle.std.specs.Prelude.{◌≡◌};
+    ghost use Rattle.aprof_top.specs.Ending.{of_command};
+
+    ghost from_gives = { λ error e. e ≡ of_command error };
+
+    fn from(error: CommandError) -> Ending {
+        match error {
+            CommandError::Refused => Ending::Decided(Verdict::BadCommand),
+            CommandError::Memory => Ending::OutOfMemory,
+        }
+    }
+}
+
+impl From<ElfError> for Ending {
+    ghost use Rattle.std.specs.Prelude.{◌≡◌};
+    ghost use Rattle.aprof_top.specs.Ending.{of_image};
+
+    ghost from_gives = { λ error e. e ≡ of_image error };
+
+    fn from(error: ElfError) -> Ending {
+        match error {
+            ElfError::Memory => Ending::OutOfMemory,
+            _ => Ending::Decided(Verdict::BadImage(error)),
+        }
+    }
+}
+
+impl From<ScheduleError> for Ending {
+    ghost use Rattle.std.specs.Prelude.{◌≡◌};
+    ghost use Rattle.aprof_top.specs.Ending.{of_schedule};
+
+    ghost from_gives = { λ error e. e ≡ of_schedule error };
+
+    fn from(error: ScheduleError) -> Ending {
+        match error {
+            ScheduleError::BadLine { line } => Ending::Decided(Verdict::BadSchedule(line)),
+            ScheduleError::Memory => Ending::OutOfMemory,
+        }
+    }
+}
+
+impl From<SetupError> for Ending {
+    ghost use Rattle.std.specs.Prelude.{◌≡◌};
+    ghost use Rattle.aprof_top.specs.Ending.{of_setup};
+
+    ghost from_gives = { λ error e. e ≡ of_setup error };
+
+    fn from(error: SetupError) -> Ending {
+        match error {
+            SetupError::ArgsTooLong | SetupError::Pages => Ending::Decided(Verdict::TooLarge),
+            SetupError::Memory => Ending::OutOfMemory,
+        }
     }
 }
 
@@ -85,14 +146,32 @@ fn verdict_status(verdict: Verdict) -> u8
 }
 
 // The status of an ending.
-fn status(ending: &Ending<'_>) -> u8
-    ensures { result ≡ end_status (end_of ending.now) }
+fn status(ending: &Ending) -> u8
+    ensures { (guest : Option options.GuestOptions) → result ≡ end_status (end_of guest ending.now) }
 {
     match ending {
         Ending::Decided(verdict) => verdict_status(*verdict),
         Ending::CannotRead(_) => 2,
         Ending::CannotWrite | Ending::CannotPut => 4,
         Ending::OutOfMemory => 10,
+    }
+}
+
+// The last text of an ending, of a command that runs this guest.
+fn text_of(
+    alloc: Global,
+    guest: Option<&GuestOptions<'_>>,
+    ending: &Ending,
+) -> Result<Text, AllocError>
+    ensures text { IfOk result (λ text. bytes_of text ≡ end_text (end_of (known_guest guest.entry) ending.now)) }
+    ensures made { OnErr result (IsMade (end_of (known_guest guest.entry) ending.now)) }
+{
+    match ending {
+        Ending::Decided(verdict) => verdict_text(alloc, *verdict),
+        Ending::CannotRead(source) => unread_text(alloc, guest, *source),
+        Ending::CannotWrite => Ok(Text::Fixed(b"aprof: cannot write\n")),
+        Ending::CannotPut => Ok(Text::Fixed(b"")),
+        Ending::OutOfMemory => Ok(Text::Fixed(b"aprof: out of memory\n")),
     }
 }
 
@@ -109,38 +188,23 @@ fn put_text<E: Sink>(text: &[u8], err: &mut E) -> Result<(), AllocError>
     }
 }
 
-// Puts the last text of an ending, and answers its status. No text follows one that is refused.
-fn tell_by<E: Sink>(ending: &Ending<'_>, text: &[u8], err: &mut E) -> u8
-    requires { text.now ≡ end_text (end_of ending.now) }
-    ensures { LastText (end_of ending.now) result (E.state err.old) (E.state err.new) }
+/// Puts the last text of an ending, of a command that runs this guest, and answers the status. No text follows one that is
+/// refused.
+pub(crate) fn tell<E: Sink>(
+    alloc: Global,
+    guest: Option<&GuestOptions<'_>>,
+    ending: &Ending,
+    err: &mut E,
+) -> u8
+    ensures { LastText (end_of (known_guest guest.entry) ending.now) result (E.state err.old) (E.state err.new) }
 {
-    match put_text(text, err) {
-        Ok(()) => status(ending),
-        Err(_) => 10,
-    }
-}
-
-// Puts the last text of an ending, where there was memory to make it.
-fn tell_made<E: Sink>(ending: &Ending<'_>, text: Result<Text, AllocError>, err: &mut E) -> u8
-    requires text { IfOk text (λ text. bytes_of text ≡ end_text (end_of ending.now)) }
-    requires made { OnErr text (IsMade (end_of ending.now)) }
-    ensures { LastText (end_of ending.now) result (E.state err.old) (E.state err.new) }
-{
-    match text {
-        Ok(text) => tell_by(ending, text.as_slice(), err),
-        Err(_) => tell_by(&Ending::OutOfMemory, b"aprof: out of memory\n", err),
-    }
-}
-
-/// Puts the last text of an ending, and answers its status.
-pub(crate) fn tell<E: Sink>(alloc: Global, ending: &Ending<'_>, err: &mut E) -> u8
-    ensures { LastText (end_of ending.now) result (E.state err.old) (E.state err.new) }
-{
-    match ending {
-        Ending::Decided(verdict) => tell_made(ending, verdict_text(alloc, *verdict), err),
-        Ending::CannotRead(path) => tell_made(ending, cannot_read_text(alloc, path), err),
-        Ending::CannotWrite => tell_by(ending, b"aprof: cannot write\n", err),
-        Ending::CannotPut => tell_by(ending, b"", err),
-        Ending::OutOfMemory => tell_by(ending, b"aprof: out of memory\n", err),
+    match text_of(alloc, guest, ending) {
+        Ok(text) => match put_text(text.as_slice(), err) {
+            Ok(()) => status(ending),
+            Err(_) => 10,
+        },
+        Err(_) => match put_text(b"aprof: out of memory\n", err) {
+            Ok(()) | Err(_) => 10,
+        },
     }
 }

@@ -7,6 +7,7 @@ ghost use Rattle.aprof_top.specs.Loading.{AreLoaded, LoadsEnd, contents_of};
 ghost use Rattle.aprof_top.specs.Loads.{loaded_paths, shared_count};
 
 use crate::ending::{Ending, Verdict};
+use crate::source::source_at;
 use command_line::GuestOptions;
 use host_io::{Files, LoadError};
 use std::alloc::{AllocError, Global};
@@ -45,8 +46,8 @@ pub(crate) fn loaded_paths<'a>(
     Ok(paths)
 }
 
-/// How many files behind the image share a limit: the input files, whose names these are, and standard input.
-pub(crate) fn shared_count(guest: &GuestOptions<'_>, names: &[&str]) -> usize
+// How many files behind the image share a limit: the input files, whose names these are, and standard input.
+fn shared_count(guest: &GuestOptions<'_>, names: &[&str]) -> usize
     requires { map (λ path. path.now) names.now ≡ inputs (guest_in guest.now) }
     ensures { result ≡ shared_count (guest_in guest.now) }
 {
@@ -68,23 +69,30 @@ fn with_length(sum: usize, loaded: usize, shared: usize, length: usize) -> usize
     }
 }
 
-/// Loads the files at the paths, in order. The first is the image; the `shared` ones behind it share a limit.
-pub(crate) fn load_files<'a, F: Files>(
+/// Loads the files of a guest, in order, `names` being those of its input files and `paths` those of all.
+pub(crate) fn load_files<F: Files>(
     alloc: Global,
-    paths: &[&'a str],
-    shared: usize,
+    guest: &GuestOptions<'_>,
+    names: &[&str],
+    paths: &[&str],
     files: &mut F,
-) -> Result<VecDeque<Vec<u8>>, Ending<'a>>
-    ensures loaded { IfOk result (λ loaded. AreLoaded shared (map (λ path. path.now) paths.now) (contents_of loaded.items) (F.state files.old) (F.state files.new)) }
+) -> Result<VecDeque<Vec<u8>>, Ending>
+    requires names { map (λ path. path.now) names.now ≡ inputs (guest_in guest.now) }
+    requires paths { map (λ path. path.now) paths.now ≡ loaded_paths (guest_in guest.now) }
+    ensures loaded { IfOk result (λ loaded. AreLoaded (shared_count (guest_in guest.now)) (loaded_paths (guest_in guest.now)) (contents_of loaded.items) (F.state files.old) (F.state files.new)) }
     ensures all { IfOk result (λ loaded. length loaded.items ≡ length paths.now) }
-    ensures ends { IfErr result (λ e. LoadsEnd shared (map (λ path. path.now) paths.now) (F.state files.old) (F.state files.new) e) }
+    ensures ends { IfErr result (λ e. LoadsEnd (guest_in guest.now) (F.state files.old) (F.state files.new) e) }
 {
+    let shared = shared_count(guest, names);
     let mut loaded = VecDeque::new(alloc);
     let mut sum = 0;
     for path in paths {
         let file = match files.load(alloc, path, FILE_LIMIT) {
             Ok(file) => file,
-            Err(LoadError::Failed) => return Err(Ending::CannotRead(path)),
+            Err(LoadError::Failed) => {
+                let source = source_at(guest, names.len(), loaded.len());
+                return Err(Ending::CannotRead(source));
+            }
             Err(LoadError::TooLarge) => return Err(Ending::Decided(Verdict::TooLarge)),
             Err(LoadError::Memory) => return Err(Ending::OutOfMemory),
         };

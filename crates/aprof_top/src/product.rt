@@ -10,9 +10,8 @@ ghost use Rattle.aprof_top.specs.Outcome.{recording_stores, run_outcome};
 ghost use Rattle.aprof_top.specs.Products.{FilesRun, ImageRuns, Keeps, outcome_of, store_of};
 ghost use Rattle.aprof_top.specs.Verdicts.{IsOfRun};
 
-use crate::ending::Verdict;
+use crate::ending::{Ending, Verdict};
 use crate::loaded::Loaded;
-use crate::refusal::Refusal;
 use crate::report::report_of;
 use command_line::{GuestOptions, RunCommand};
 use elf_image::{Image, read_image};
@@ -47,7 +46,7 @@ pub(crate) fn run_image(
     schedule: Schedule,
     inputs: Inputs,
     stdin: Vec<u8>,
-) -> Result<Run, Refusal>
+) -> Result<Run, Ending>
     requires { AreInRange (guest_in guest.now) }
     ensures { ImageRuns (guest_in guest.now) image.now schedule inputs stdin.items result }
 {
@@ -106,7 +105,7 @@ pub(crate) fn run_files<'a>(
     alloc: Global,
     command: &RunCommand<'a>,
     loaded: Loaded,
-) -> Result<Product<'a>, Refusal>
+) -> Result<Product<'a>, Ending>
     requires { AreInRange (guest_in command.now.guest) }
     ensures { (files : loads.Loaded) → Keeps (guest_in command.now.guest) files loaded → FilesRun (options_in command.now) files result }
 {

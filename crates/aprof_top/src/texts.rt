@@ -1,13 +1,17 @@
 //! The last texts.
 ghost use Rattle.std.specs.Prelude.{◌≡◌, IfOk, OnErr};
-ghost use Rattle.aprof_top.specs.Ends.End.{CannotRead, Decided};
+ghost use Rattle.aprof_top.specs.Ending.{known_guest};
+ghost use Rattle.aprof_top.specs.Ends.End.{Decided};
 ghost use Rattle.aprof_top.specs.LastText.{IsMade};
 ghost use Rattle.aprof_top.specs.LastTexts.{bytes_of};
+ghost use Rattle.aprof_top.specs.Sources.{known_path};
 ghost use Rattle.aprof_top.specs.Texts.{cannot_read_text, fault_text, finish_text, image_text, schedule_text};
 ghost use Rattle.aprof_top.specs.Verdicts.{verdict_text};
 ghost use Rattle.aprof_top.specs.declared.ending.Verdict.TheVariants.{Ran};
 
 use crate::ending::Verdict;
+use crate::source::{Source, path_of};
+use command_line::GuestOptions;
 use elf_image::ElfError;
 use guest_words::{Addr, FaultKind, Finish, Tid};
 use profile_report::hex_address;
@@ -31,10 +35,24 @@ impl Text {
     }
 }
 
-pub(crate) fn cannot_read_text(alloc: Global, path: &str) -> Result<Text, AllocError>
+fn cannot_read_text(alloc: Global, path: &str) -> Result<Text, AllocError>
     ensures { IfOk result (λ text. bytes_of text ≡ cannot_read_text path.now) }
 {
     Ok(Text::Made(format!(in alloc; "aprof: cannot read {path}\n")?.into_bytes()))
+}
+
+// The text after a failed load. No guest has no files.
+pub(crate) fn unread_text(
+    alloc: Global,
+    guest: Option<&GuestOptions<'_>>,
+    source: Source,
+) -> Result<Text, AllocError>
+    ensures { IfOk result (λ text. bytes_of text ≡ cannot_read_text (known_path (known_guest guest.entry) source)) }
+{
+    match guest {
+        Some(guest) => cannot_read_text(alloc, path_of(alloc, guest, source)?),
+        None => cannot_read_text(alloc, ""),
+    }
 }
 
 fn image_text(alloc: Global, error: ElfError) -> Result<Text, AllocError>

@@ -1,48 +1,44 @@
 //! The top call.
 ghost use Rattle.std.specs.Prelude.{◌≡◌, ◌≤◌, map, string_bytes};
 ghost use Rattle.aprof_top.specs.Answers.{IsAnswered};
-ghost use Rattle.aprof_top.specs.Ending.{AskedEnds, end_of};
-ghost use Rattle.aprof_top.specs.Ends.{Reaches};
+ghost use Rattle.aprof_top.specs.Ending.{AskedEnds, guest_of, known_guest};
 ghost use Rattle.aprof_top.specs.Outside.{outside};
 ghost use Rattle.aprof_top.specs.Products.{CommandLoads};
 ghost use Rattle.command_line.specs.Options.Asked.{Run, Demo};
-ghost use Rattle.command_line.specs.Read.{AreInRange, guest_in, options_in};
+ghost use Rattle.command_line.specs.Read.{AreInRange, IsInRange, asked_in, guest_in, options_in};
 
 use crate::delivery::deliver;
 use crate::demo::run_demo;
-use crate::ending::{Ending, Verdict, tell};
+use crate::ending::{Ending, tell};
 use crate::loaded::Loaded;
-use crate::loads::{load_files, loaded_paths, shared_count};
+use crate::loads::{load_files, loaded_paths};
 use crate::product::run_files;
-use command_line::{Command, CommandError, GuestOptions, RunCommand, read_command};
+use command_line::{Command, GuestOptions, RunCommand, read_command};
 use host_io::{Files, Sink};
 use std::alloc::Global;
 
 // Loads the files of a command.
-fn load_command<'a, F: Files>(
+fn load_command<F: Files>(
     alloc: Global,
-    guest: &GuestOptions<'a>,
+    guest: &GuestOptions<'_>,
     files: &mut F,
-) -> Result<Loaded, Ending<'a>>
+) -> Result<Loaded, Ending>
     ensures { CommandLoads (guest_in guest.now) (F.state files.old) (F.state files.new) result }
 {
     let names = guest.inputs(alloc)?;
     let paths = loaded_paths(alloc, guest, names.as_slice())?;
-    let shared = shared_count(guest, names.as_slice());
-    match load_files(alloc, paths.as_slice(), shared, files) {
-        Ok(loaded) => Ok(Loaded::new(alloc, guest, names.as_slice(), loaded)?),
-        Err(ending) => Err(ending),
-    }
+    let loaded = load_files(alloc, guest, names.as_slice(), paths.as_slice(), files)?;
+    Ok(Loaded::new(alloc, guest, names.as_slice(), loaded)?)
 }
 
 // Loads the files of a command, runs the image, and hands out its output and its report.
-fn run_command<'a, F: Files, O: Sink, E: Sink>(
+fn run_command<F: Files, O: Sink, E: Sink>(
     alloc: Global,
-    command: &RunCommand<'a>,
+    command: &RunCommand<'_>,
     files: &mut F,
     out: &mut O,
     err: &mut E,
-) -> Ending<'a>
+) -> Ending
     requires { AreInRange (guest_in command.now.guest) }
     ensures { AskedEnds (Run (options_in command.now))
         (outside (F.state files.old) (O.state out.old) (E.state err.old))
@@ -54,7 +50,7 @@ fn run_command<'a, F: Files, O: Sink, E: Sink>(
     };
     match run_files(alloc, command, loaded) {
         Ok(product) => deliver(&product, files, out, err),
-        Err(refusal) => Ending::from(refusal),
+        Err(ending) => ending,
     }
 }
 
@@ -65,7 +61,7 @@ fn show_demo<F: Files, O: Sink, E: Sink>(
     files: &mut F,
     out: &mut O,
     err: &mut E,
-) -> Ending<'static>
+) -> Ending
     requires { (1 ≤ number) × (number ≤ 40000) }
     ensures { AskedEnds (Demo number)
         (outside (F.state files.old) (O.state out.old) (E.state err.old))
@@ -73,27 +69,36 @@ fn show_demo<F: Files, O: Sink, E: Sink>(
 {
     match run_demo(alloc, number) {
         Ok(product) => deliver(&product, files, out, err),
-        Err(refusal) => Ending::from(refusal),
+        Err(ending) => ending,
     }
 }
 
-// Reads the words, and does what they ask for.
-fn run_words<'a, F: Files, O: Sink, E: Sink>(
+// Does what a command asks for.
+fn do_command<F: Files, O: Sink, E: Sink>(
     alloc: Global,
-    words: &'a [String],
+    command: &Command<'_>,
     files: &mut F,
     out: &mut O,
     err: &mut E,
-) -> Ending<'a>
-    ensures { Reaches (map string_bytes words.now) (end_of result)
+) -> Ending
+    requires { IsInRange command.now }
+    ensures { AskedEnds (asked_in command.now)
         (outside (F.state files.old) (O.state out.old) (E.state err.old))
-        (outside (F.state files.new) (O.state out.new) (E.state err.new)) }
+        (outside (F.state files.new) (O.state out.new) (E.state err.new)) result }
 {
-    match read_command(alloc, words) {
-        Ok(Command::Run(command)) => run_command(alloc, &command, files, out, err),
-        Ok(Command::Demo(number)) => show_demo(alloc, number, files, out, err),
-        Err(CommandError::Refused) => Ending::Decided(Verdict::BadCommand),
-        Err(CommandError::Memory) => Ending::OutOfMemory,
+    match command {
+        Command::Run(command) => run_command(alloc, command, files, out, err),
+        Command::Demo(number) => show_demo(alloc, *number, files, out, err),
+    }
+}
+
+// The guest whose files a command loads.
+fn guest_of<'c, 'a>(command: &'c Command<'a>) -> Option<&'c GuestOptions<'a>>
+    ensures { known_guest result ≡ guest_of (asked_in command.now) }
+{
+    match command {
+        Command::Run(command) => Some(&command.guest),
+        Command::Demo(_) => None,
     }
 }
 
@@ -117,6 +122,11 @@ pub fn aprof<F: Files, O: Sink, E: Sink>(
         (outside (F.state files.old) (O.state out.old) (E.state err.old))
         (outside (F.state files.new) (O.state out.new) (E.state err.new)) }
 {
-    let ending = run_words(alloc, words, files, out, err);
-    tell(alloc, &ending, err)
+    match read_command(alloc, words) {
+        Ok(command) => {
+            let ending = do_command(alloc, &command, files, out, err);
+            tell(alloc, guest_of(&command), &ending, err)
+        }
+        Err(error) => tell(alloc, None, &Ending::from(error), err),
+    }
 }

@@ -22,4 +22,4 @@ pub returns-in-Err-run_files : goal.returns-in-Err-run_files
 returns-in-Err-run_files g c =
     let options = options_in c.args.command.now in
     let all = c.in-Ok.ensures in
-    rw c.from.ensures (AskedEnds-unrun options (g.F.Files.state c.args.files.now) (g.F.Files.state c.load_command.new.files) (g.O.Sink.state c.args.out.now) (g.E.Sink.state c.args.err.now) c.in-Ok.loaded all c.in-Err-run_files.refusal (c.in-Err-run_files.ensures (loaded_of options.guest all.files) all.keeps))
+    AskedEnds-unrun options (g.F.Files.state c.args.files.now) (g.F.Files.state c.load_command.new.files) (g.O.Sink.state c.args.out.now) (g.E.Sink.state c.args.err.now) c.in-Ok.loaded all c.in-Err-run_files.ending (c.in-Err-run_files.ensures (loaded_of options.guest all.files) all.keeps)

@@ -13,4 +13,4 @@ returns-in-Ok g c =
 
 pub returns-in-Err : goal.returns-in-Err
 returns-in-Err g c =
-    rw c.from.ensures (AskedEnds-unshown c.args.number (outside (g.F.Files.state c.args.files.now) (g.O.Sink.state c.args.out.now) (g.E.Sink.state c.args.err.now)) c.in-Err.refusal c.in-Err.ensures)
+    AskedEnds-unshown c.args.number (outside (g.F.Files.state c.args.files.now) (g.O.Sink.state c.args.out.now) (g.E.Sink.state c.args.err.now)) c.in-Err.ending c.in-Err.ensures
