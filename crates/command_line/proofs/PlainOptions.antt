@@ -3,7 +3,7 @@ use Rattle.std.proofs.Common.{◌≡◌, ℕ, Bool, true, false, refl, ap, ap₂
 use Rattle.std.specs.Prelude.{option_map, unwrap_or}
 use Rattle.std.specs.Str.{bytes_eq}
 use Rattle.clap.specs.Words.{Row, Text, all_of, first_of}
-use Rattle.command_line.specs.Options.{Run, budget_of, options_of_rows, options_with, quantum_of}
+use Rattle.command_line.specs.Options.{Run, budget_of, guest_with, options_of_rows, options_with, quantum_of}
 use Rattle.command_line.specs.Plain.{Choice, PlainOptionsAreRead, given, id_of, run_words}
 use Rattle.command_line.proofs.Refusals.{asked_is, read_of}
 use Rattle.command_line.proofs.PlainWords.{plain_subcommand}
@@ -68,27 +68,31 @@ options_are : (rows : List Row) (turn_steps run_steps : ℕ) (report_path image 
     → first_of (codes "stdin") rows ≡ stdin → first_of (codes "schedule") rows ≡ schedule → first_of (codes "record") rows ≡ recording
     → unwrap_or (all_of (codes "word") rows) [] ≡ words
     → options_of_rows rows ≡ Some (record {
+      guest = record {
+        stdin = stdin;
+        schedule = schedule;
+        quantum = turn_steps;
+        budget = run_steps;
+        image = image;
+        words = words;
+      };
       report = report_path;
-      stdin = stdin;
-      schedule = schedule;
       recording = recording;
-      quantum = turn_steps;
-      budget = run_steps;
-      image = image;
-      words = words;
     })
 options_are rows turn_steps run_steps report_path image stdin schedule recording words q b r i s c l w =
-    ap₂ (λ x y. options_with rows x y (first_of (codes "output") rows) (first_of (codes "image") rows)) q b
-    ∙ (ap₂ (options_with rows (Some turn_steps) (Some run_steps)) r i
+    ap₂ (λ x y. options_with rows (guest_with rows x y (first_of (codes "image") rows)) (first_of (codes "output") rows)) q b
+    ∙ (ap₂ (λ x y. options_with rows (guest_with rows (Some turn_steps) (Some run_steps) x) y) i r
     ∙ λ k. Some (record {
+      guest = record {
+        stdin = s k;
+        schedule = c k;
+        quantum = turn_steps;
+        budget = run_steps;
+        image = image;
+        words = w k;
+      };
       report = report_path;
-      stdin = s k;
-      schedule = c k;
       recording = l k;
-      quantum = turn_steps;
-      budget = run_steps;
-      image = image;
-      words = w k;
     }))
 
 pub plain_options : PlainOptionsAreRead

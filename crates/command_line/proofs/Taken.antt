@@ -12,7 +12,7 @@ use Rattle.clap.specs.Words.{Row, Rule, Text, built, first_of, subcommand_of, ta
 use Rattle.clap.specs.Facts.{explicit_source}
 use Rattle.std.specs.Str.{bytes_eq}
 use Rattle.command_line.specs.App.{the_app, top_app, run_app, demo_app}
-use Rattle.command_line.specs.Options.{Demo, Run, RunOptions, budget_of, demo_of, demo_of_rows, options_of_rows, options_with, quantum_of}
+use Rattle.command_line.specs.Options.{Demo, Run, RunOptions, budget_of, demo_of, demo_of_rows, guest_with, options_of_rows, options_with, quantum_of}
 use Rattle.command_line.specs.Taken.{HasBadDemo, HasBadNumber, TakenWordsFailByNumbers}
 use Rattle.command_line.proofs.Filled.{AllKeep, IsKept, is_appended, is_filled, is_own, is_set, kept_keeps, row_for, settle_keeps, walk_keeps}
 use Rattle.command_line.proofs.PlainWords.{finished_rows, no_defaults}
@@ -209,10 +209,10 @@ bad_number : (rows : List Row) (report image : Text) → first_of (codes "output
 bad_number rows report image r i none =
     go (quantum_of (first_of (codes "quantum") rows)) (budget_of (first_of (codes "budget") rows)) (sym there ∙ none)
   where
-    there : options_of_rows rows ≡ options_with rows (quantum_of (first_of (codes "quantum") rows)) (budget_of (first_of (codes "budget") rows)) (Some report) (Some image)
-    there = ap₂ (options_with rows (quantum_of (first_of (codes "quantum") rows)) (budget_of (first_of (codes "budget") rows))) r i
+    there : options_of_rows rows ≡ options_with rows (guest_with rows (quantum_of (first_of (codes "quantum") rows)) (budget_of (first_of (codes "budget") rows)) (Some image)) (Some report)
+    there = ap₂ (λ x y. options_with rows (guest_with rows (quantum_of (first_of (codes "quantum") rows)) (budget_of (first_of (codes "budget") rows)) x) y) i r
 
-    go : (q b : Option ℕ) → options_with rows q b (Some report) (Some image) ≡ None → (q ≡ None) ⊎ (b ≡ None)
+    go : (q b : Option ℕ) → options_with rows (guest_with rows q b (Some image)) (Some report) ≡ None → (q ≡ None) ⊎ (b ≡ None)
     go None b h = inl refl
     go (Some q) None h = inr refl
     go (Some q) (Some b) h = cc

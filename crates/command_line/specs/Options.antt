@@ -6,21 +6,26 @@ use Rattle.std.specs.Str.Parse.{digits_value}
 use Rattle.clap.specs.Words.{Row, all_of, first_of, subcommand_of, takes}
 use Rattle.command_line.specs.App.{the_app}
 
--- What `run` is asked.
-pub record RunOptions : Type 0 where
-  -- the path of the report
-  pub report : List ℕ
+-- How a guest is run: what every command that runs one is asked.
+pub record GuestOptions : Type 0 where
   -- the paths of the guest's standard input and of a schedule to follow
   pub stdin : Option (List ℕ)
   pub schedule : Option (List ℕ)
-  -- the path of a recording to write
-  pub recording : Option (List ℕ)
   -- the steps of a turn, and of the whole run
   pub quantum : ℕ
   pub budget : ℕ
   -- the path of the image, and the further words
   pub image : List ℕ
   pub words : List (List ℕ)
+
+-- What `run` is asked.
+pub record RunOptions : Type 0 where
+  -- how the guest is run
+  pub guest : GuestOptions
+  -- the path of the report
+  pub report : List ℕ
+  -- the path of a recording to write
+  pub recording : Option (List ℕ)
 
 -- ---- the further words
 
@@ -33,8 +38,8 @@ abbrev pub argument_of : List ℕ → List ℕ
 argument_of word = if is_plain_argument word then drop 1 word else word
 
 -- the guest's arguments: the image's path, and the words without their `=`
-abbrev pub arguments : RunOptions → List (List ℕ)
-arguments options = options.image ∷ map argument_of options.words
+abbrev pub arguments : GuestOptions → List (List ℕ)
+arguments guest = guest.image ∷ map argument_of guest.words
 
 -- each of the names once, where it stands first
 abbrev pub distinct : List (List ℕ) → List (List ℕ)
@@ -46,8 +51,8 @@ abbrev pub names : List (List ℕ) → List (List ℕ)
 names words = filter (λ word. not (is_plain_argument word)) words
 
 -- the names of the input files, each once
-abbrev pub inputs : RunOptions → List (List ℕ)
-inputs options = distinct (names options.words)
+abbrev pub inputs : GuestOptions → List (List ℕ)
+inputs guest = distinct (names guest.words)
 
 -- ---- numbers
 
@@ -79,27 +84,37 @@ quantum_of = number_or 10000 1 1000000000
 abbrev pub budget_of : Option (List ℕ) → Option ℕ
 budget_of = number_or 1000000000 1 1000000000000
 
--- the options with these two numbers and these two paths, where all of them are there; the rest is read of the rows
-abbrev pub options_with : List Row → Option ℕ → Option ℕ → Option (List ℕ) → Option (List ℕ) → Option RunOptions
-options_with rows (Some quantum) (Some budget) (Some report) (Some image) = Some (record {
-  report = report;
+-- the guest's options with these two numbers and this path, where all of them are there; the rest is read of the rows
+abbrev pub guest_with : List Row → Option ℕ → Option ℕ → Option (List ℕ) → Option GuestOptions
+guest_with rows (Some quantum) (Some budget) (Some image) = Some (record {
   stdin = first_of (codes "stdin") rows;
   schedule = first_of (codes "schedule") rows;
-  recording = first_of (codes "record") rows;
   quantum = quantum;
   budget = budget;
   image = image;
   words = unwrap_or (all_of (codes "word") rows) [];
 })
-options_with rows _ _ _ _ = None
+guest_with rows _ _ _ = None
 
--- the options that `clap`'s matches say: `None` where a number is out of its form or range
-abbrev pub options_of_rows : List Row → Option RunOptions
-options_of_rows rows = options_with rows
+-- the guest's options that `clap`'s matches say: `None` where a number is out of its form or range
+abbrev pub guest_of_rows : List Row → Option GuestOptions
+guest_of_rows rows = guest_with rows
     (quantum_of (first_of (codes "quantum") rows))
     (budget_of (first_of (codes "budget") rows))
-    (first_of (codes "output") rows)
     (first_of (codes "image") rows)
+
+-- the options of `run` with these of the guest and this path, where both are there; the rest is read of the rows
+abbrev pub options_with : List Row → Option GuestOptions → Option (List ℕ) → Option RunOptions
+options_with rows (Some guest) (Some report) = Some (record {
+  guest = guest;
+  report = report;
+  recording = first_of (codes "record") rows;
+})
+options_with rows _ _ = None
+
+-- the options of `run` that `clap`'s matches say
+abbrev pub options_of_rows : List Row → Option RunOptions
+options_of_rows rows = options_with rows (guest_of_rows rows) (first_of (codes "output") rows)
 
 -- ---- the demos
 

@@ -91,14 +91,16 @@ PlainOptionsAreRead = (program : Text) (choices : List Choice) (image : Text) (w
     → quantum_of (given (codes "quantum") choices) ≡ Some turn_steps
     → budget_of (given (codes "budget") choices) ≡ Some run_steps
     → asked_of (run_words program choices image words) ≡ Some (Asked.Run (record {
+      guest = record {
+        stdin = given (codes "stdin") choices;
+        schedule = given (codes "schedule") choices;
+        quantum = turn_steps;
+        budget = run_steps;
+        image = image;
+        words = words;
+      };
       report = report_path;
-      stdin = given (codes "stdin") choices;
-      schedule = given (codes "schedule") choices;
       recording = given (codes "record") choices;
-      quantum = turn_steps;
-      budget = run_steps;
-      image = image;
-      words = words;
     }))
 
 -- ---- `demo`

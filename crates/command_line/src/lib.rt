@@ -5,12 +5,14 @@
 
 mod app;
 mod commands;
+mod guest_options;
 mod laws;
 mod matches;
 mod numbers;
 mod run_command;
 
 pub use commands::{Command, CommandError, read_command};
+pub use guest_options::GuestOptions;
 pub use laws::{
     plain_demo_is_read, plain_demo_is_taken, plain_options_are_read, plain_words_are_taken,
     taken_words_fail_by_numbers,

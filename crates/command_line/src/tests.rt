@@ -14,7 +14,7 @@ fn words_of(alloc: Global, line: &str) -> Result<Vec<String>, AllocError> {
 // The numbers that words ask for, the quantum and the budget or that of `demo`, where they are of the form.
 fn numbers_of(alloc: Global, words: &[String]) -> Result<Option<(u64, u64)>, AllocError> {
     match read_command(alloc, words) {
-        Ok(Command::Run(command)) => Ok(Some((command.quantum, command.budget))),
+        Ok(Command::Run(command)) => Ok(Some((command.guest.quantum, command.guest.budget))),
         Ok(Command::Demo(number)) => Ok(Some((0, u64::from(number)))),
         Err(CommandError::Refused) => Ok(None),
         Err(CommandError::Memory) => Err(AllocError),
@@ -102,13 +102,14 @@ fn a_command_has_arguments_and_inputs(rt: HostRuntime) -> Result<(), Fail> {
     let line = "aprof run --schedule s -o r --record t --stdin i img b =a a b =b";
     let words = words_of(alloc, line)?;
     let command = run_of(read_command(alloc, &words)).expect(&rt, "words of a run");
-    assert_eq!(rt; (command.report, command.image), ("r", "img"));
+    let guest = &command.guest;
+    assert_eq!(rt; (command.report, guest.image), ("r", "img"));
     assert_eq!(rt;
-        (command.stdin, command.schedule, command.recording),
+        (guest.stdin, guest.schedule, command.recording),
         (Some("i"), Some("s"), Some("t"))
     );
-    assert_eq!(rt; command.inputs(alloc)?.as_slice(), ["b", "a"].as_slice());
-    let arguments = command.arguments(alloc)?;
+    assert_eq!(rt; guest.inputs(alloc)?.as_slice(), ["b", "a"].as_slice());
+    let arguments = guest.arguments(alloc)?;
     assert_eq!(rt; arguments.len(), 6);
     for (argument, text) in arguments.iter().zip(["img", "b", "a", "a", "b", "b"]) {
         assert_eq!(rt; argument.as_str(), text);

@@ -1,7 +1,7 @@
 use Rattle.std.proofs.Common.{◌≡◌, drop}
 use Rattle.command_line.specs.Options.{distinct, names}
 use Rattle.command_line.proofs.Distinct.{all_found, texts}
-use Rattle.command_line.proofs.run_command.RunCommand.inputs.Given as goal
+use Rattle.command_line.proofs.guest_options.GuestOptions.inputs.Given as goal
 
 -- the names found so far, and those still to be found, are all of them
 abbrev pub invariant-loop-word : goal.invariant-loop-word

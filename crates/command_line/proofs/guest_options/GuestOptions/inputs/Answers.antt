@@ -1,8 +1,8 @@
 use Rattle.std.proofs.Common.{ap, ◌∙◌, drop, ◌+◌, List, ℕ}
 use Rattle.std.specs.Borrow.{Bor}
 use Rattle.command_line.proofs.Distinct.{Tests, all_at_first, all_found, goes_on, goes_on_with, texts}
-use Rattle.command_line.proofs.run_command.RunCommand.inputs.Goals as goal
-use Rattle.command_line.proofs.run_command.RunCommand.inputs.Goals.{then-is_new_input+in_ok-push, else-is_new_input}
+use Rattle.command_line.proofs.guest_options.GuestOptions.inputs.Goals as goal
+use Rattle.command_line.proofs.guest_options.GuestOptions.inputs.Goals.{then-is_new_input+in_ok-push, else-is_new_input}
 
 pub loop-word-init : goal.loop-word-init
 loop-word-init c =

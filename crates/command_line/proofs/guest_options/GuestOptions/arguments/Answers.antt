@@ -1,7 +1,7 @@
 use Rattle.std.proofs.Common.{◌≤◌, ap, ◌∙◌, ◌∷◌, length, subst, List, ℕ}
 use Rattle.std.specs.Borrow.{Bor}
 use Rattle.command_line.proofs.PlainArguments.{all_arguments}
-use Rattle.command_line.proofs.run_command.RunCommand.arguments.Goals as goal
+use Rattle.command_line.proofs.guest_options.GuestOptions.arguments.Goals as goal
 
 pub returns : goal.returns
 returns c =

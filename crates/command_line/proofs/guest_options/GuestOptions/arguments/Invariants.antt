@@ -1,6 +1,6 @@
 use Rattle.std.proofs.Common.{◌≡◌, ◌∷◌, map, take, string_bytes}
 use Rattle.command_line.specs.Options.{argument_of}
-use Rattle.command_line.proofs.run_command.RunCommand.arguments.Given as goal
+use Rattle.command_line.proofs.guest_options.GuestOptions.arguments.Given as goal
 
 -- the image, and the arguments of the words so far
 abbrev pub invariant-loop-word : goal.invariant-loop-word
