@@ -3,7 +3,7 @@ use Rattle.std.proofs.Common.{◌≡◌, ℕ, ◌<◌, Bool, true, false, cond, 
 use Rattle.std.specs.Prelude.{nat_lt}
 use Rattle.std.proofs.lemmas.Bool.Decides.{nat_tests}
 use Rattle.std.proofs.lemmas.Option.{slice_get_within}
-use Rattle.command_line.specs.Options.{AsksFor, RunOptions}
+use Rattle.command_line.specs.Options.{AsksFor, GuestOptions, RunOptions}
 use Rattle.command_line.specs.Options.Asked.{Run, Demo}
 use Rattle.host_io.specs.Files.{FilesState}
 use Rattle.host_io.specs.Sink.{SinkState}
@@ -30,20 +30,20 @@ use Rattle.aprof_top.specs.Verdicts.{IsOfRun}
 use Rattle.aprof_top.proofs.Sinks.{appended-nothing}
 
 -- ---- where the loads stand
-stage_by : (options : RunOptions) (files : List (List ℕ)) (past more : Bool) → passes_limit (shared_count options) files ≡ past → nat_lt (length files) (length (loaded_paths options)) ≡ more → stage options files ≡ cond past PastLimit (cond more Loading Complete)
+stage_by : (options : GuestOptions) (files : List (List ℕ)) (past more : Bool) → passes_limit (shared_count options) files ≡ past → nat_lt (length files) (length (loaded_paths options)) ≡ more → stage options files ≡ cond past PastLimit (cond more Loading Complete)
 stage_by options files past more p m = rw p (rw m refl)
 
-past_stage : (options : RunOptions) (files : List (List ℕ)) → passes_limit (shared_count options) files ≡ true → stage options files ≡ PastLimit
+past_stage : (options : GuestOptions) (files : List (List ℕ)) → passes_limit (shared_count options) files ≡ true → stage options files ≡ PastLimit
 past_stage options files many = rw many refl
 
-loading_stage : (options : RunOptions) (files : List (List ℕ)) (path : List ℕ) → passes_limit (shared_count options) files ≡ false → slice_get (loaded_paths options) (length files) ≡ Some path → stage options files ≡ Loading
+loading_stage : (options : GuestOptions) (files : List (List ℕ)) (path : List ℕ) → passes_limit (shared_count options) files ≡ false → slice_get (loaded_paths options) (length files) ≡ Some path → stage options files ≡ Loading
 loading_stage options files path few next =
     stage_by options files false true few (test (length files) (length (loaded_paths options)) (slice_get_within (loaded_paths options) (length files) path next))
   where
     test : (a b : ℕ) → a < b → nat_lt a b ≡ true
     test a b less = grind (arith, nat_tests, less)
 
-pub complete_stage : (options : RunOptions) (files : List (List ℕ)) → passes_limit (shared_count options) files ≡ false → length files ≡ length (loaded_paths options) → stage options files ≡ Complete
+pub complete_stage : (options : GuestOptions) (files : List (List ℕ)) → passes_limit (shared_count options) files ≡ false → length files ≡ length (loaded_paths options) → stage options files ≡ Complete
 complete_stage options files few all =
     stage_by options files false false few (test (length files) (length (loaded_paths options)) all)
   where
@@ -76,10 +76,10 @@ module _ (options : RunOptions) (files loaded : FilesState) (out err : SinkState
   between = outside loaded out err
 
   -- the loads ended it
-  pub AskedEnds-unloaded : (e : declared.Ending) → LoadsEnd (shared_count options) (loaded_paths options) files loaded e → AskedEnds (Run options) before between e
+  pub AskedEnds-unloaded : (e : declared.Ending) → LoadsEnd (shared_count options.guest) (loaded_paths options.guest) files loaded e → AskedEnds (Run options) before between e
   AskedEnds-unloaded (ending.CannotRead path) fails words asks = record {
     found = record { asked = Some (Run options); asks = asks; files = fails.files; held = fails.held; limit = inl fails.each };
-    undecided = loading_stage options fails.files path.now fails.few fails.next;
+    undecided = loading_stage options.guest fails.files path.now fails.few fails.next;
     next = fails.next;
     failed = fails.failed;
     contents = fails.contents;
@@ -89,18 +89,18 @@ module _ (options : RunOptions) (files loaded : FilesState) (out err : SinkState
   AskedEnds-unloaded (ending.Decided why) (too_large, passes) words asks =
       refused_by words why files loaded out err
       (record { asked = Some (Run options); asks = asks; files = passes.files; held = passes.held; limit = passes.limit })
-      (subst (λ s. Follows options passes.files (refusal why) s) (sym (past_stage options passes.files passes.many)) (ap refusal too_large))
+      (subst (λ s. Follows options passes.files (refusal why) s) (sym (past_stage options.guest passes.files passes.many)) (ap refusal too_large))
       passes.unchanged
   AskedEnds-unloaded ending.CannotWrite ends' words asks = absurd ends'
   AskedEnds-unloaded ending.CannotPut ends' words asks = absurd ends'
   AskedEnds-unloaded ending.OutOfMemory same words asks = record { no_zero = no_zero words (Run options) asks; done = inl (ap (λ f. outside f out err) same) }
 
   -- all was loaded
-  module _ (kept' : kept.Loaded) (all : LoadsAll options files loaded kept') where
-    decided : (outcome : Outcome) → IsRun options (loaded_of options all.files) outcome → Follows options all.files outcome (stage options all.files)
-    decided outcome is_run = subst (λ s. Follows options all.files outcome s) (sym (complete_stage options all.files all.are.few all.all)) is_run
+  module _ (kept' : kept.Loaded) (all : LoadsAll options.guest files loaded kept') where
+    decided : (outcome : Outcome) → IsRun options (loaded_of options.guest all.files) outcome → Follows options all.files outcome (stage options.guest all.files)
+    decided outcome is_run = subst (λ s. Follows options all.files outcome s) (sym (complete_stage options.guest all.files all.are.few all.all)) is_run
 
-    abbrev decision : (words : List (List ℕ)) (after : Outside) (outcome : Outcome) → AsksFor words (Some (Run options)) → IsRun options (loaded_of options all.files) outcome → Decision words before after
+    abbrev decision : (words : List (List ℕ)) (after : Outside) (outcome : Outcome) → AsksFor words (Some (Run options)) → IsRun options (loaded_of options.guest all.files) outcome → Decision words before after
     decision words after outcome asks is_run = record {
       found = record { asked = Some (Run options); asks = asks; files = all.files; held = all.are.held; limit = inl all.are.each };
       outcome = outcome;
@@ -108,14 +108,14 @@ module _ (options : RunOptions) (files loaded : FilesState) (out err : SinkState
     }
 
     -- the run gave no product
-    pub AskedEnds-unrun : (r : Refusal) → FilesRun options (loaded_of options all.files) (Err r) → AskedEnds (Run options) before between (ending_of r)
+    pub AskedEnds-unrun : (r : Refusal) → FilesRun options (loaded_of options.guest all.files) (Err r) → AskedEnds (Run options) before between (ending_of r)
     AskedEnds-unrun (refused.Decided v) is_run words asks =
         refused_by words v files loaded out err (decision words between (refusal v) asks is_run).found (decided (refusal v) is_run)
         (subst (λ f. AreFiles files f) (sym all.are.same) (same_files files))
     AskedEnds-unrun refused.OutOfMemory is_run words asks = record { no_zero = no_zero words (Run options) asks; done = inl (ap (λ f. outside f out err) all.are.same) }
 
     -- its product was handed out
-    pub AskedEnds-delivered : (e : declared.Ending) (outcome : Outcome) (after : Outside) → IsRun options (loaded_of options all.files) outcome → IsOfRun outcome.verdict → Delivers outcome between after e → AskedEnds (Run options) before after e
+    pub AskedEnds-delivered : (e : declared.Ending) (outcome : Outcome) (after : Outside) → IsRun options (loaded_of options.guest all.files) outcome → IsOfRun outcome.verdict → Delivers outcome between after e → AskedEnds (Run options) before after e
     AskedEnds-delivered e outcome after is_run some delivery words asks =
         by e (subst (λ f. Delivers outcome (outside f out err) after e) all.are.same delivery)
       where

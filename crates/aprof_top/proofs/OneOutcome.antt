@@ -31,11 +31,11 @@ image_once options loaded a b None r s = scheduled_once options loaded a b r s
 follows_once : (options : RunOptions) (files : List (List ℕ)) (a b : Outcome) (s : Stage) → Follows options files a s → Follows options files b s → a ≡ b
 follows_once options files a b PastLimit p q = p ∙ sym q
 follows_once options files a b Loading p q = absurd p
-follows_once options files a b Complete p q = image_once options (loaded_of options files) a b _ p q
+follows_once options files a b Complete p q = image_once options (loaded_of options.guest files) a b _ p q
 
 pub one_outcome : OneDemoFile → OneOutcome
 one_outcome one_file None files a b p q = p ∙ sym q
-one_outcome one_file (Some (Run options)) files a b p q = follows_once options files a b (stage options files) p q
+one_outcome one_file (Some (Run options)) files a b p q = follows_once options files a b (stage options.guest files) p q
 one_outcome one_file (Some (Demo number)) files a b p q =
     p.answered
     ∙ ap (λ file. demo_outcome number (image_of file) (run_of demo_options (demo_files file) [])) (one_file number p.file q.file p.is_demo q.is_demo)

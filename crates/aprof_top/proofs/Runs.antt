@@ -1,7 +1,7 @@
 -- What the run of a command's files comes to.
 use Rattle.std.proofs.Common.{◌≡◌, IfSome, Ok, arith, ℕ, List, [], Option, Some, None, Err, ◌≤◌, reverse, refl, sym, ap, ap₂, ◌∙◌, subst}
 use Rattle.std.specs.List.{AllByRecursion}
-use Rattle.command_line.specs.Options.{RunOptions, arguments, inputs}
+use Rattle.command_line.specs.Options.{GuestOptions, RunOptions, arguments, inputs}
 use Rattle.elf_image.specs.Image.{Executable}
 use Rattle.demo_guest.specs.Image.{IsDemoFile}
 use Rattle.elf_image.specs.Reading.{image_of}
@@ -59,20 +59,20 @@ module _ (options : RunOptions) (loaded : Loaded) where
       refused_by None refused = absurd refused
       refused_by (Some why) refused = refl
 
-      pub IsRun-unbegun : IsRefused (setup_refusal image (arguments options)) → IsRun options loaded (refusal TooLarge)
+      pub IsRun-unbegun : IsRefused (setup_refusal image (arguments options.guest)) → IsRun options loaded (refusal TooLarge)
       IsRun-unbegun refused = accepts (refusal TooLarge) (record {
         reading = Turns turns;
         read = (entries, text);
-        answered = refused_by (setup_refusal (image_of loaded.image) (arguments options)) (subst (λ i. IsRefused (setup_refusal i (arguments options))) is refused);
+        answered = refused_by (setup_refusal (image_of loaded.image) (arguments options.guest)) (subst (λ i. IsRefused (setup_refusal i (arguments options.guest))) is refused);
       })
 
-      pub IsRun-run : setup_refusal image (arguments options) ≡ None → (shown : Shown) → shown ≡ run_of options loaded turns → (outcome : Outcome) → outcome ≡ run_outcome options image shown → IsRun options loaded outcome
+      pub IsRun-run : setup_refusal image (arguments options.guest) ≡ None → (shown : Shown) → shown ≡ run_of options.guest loaded turns → (outcome : Outcome) → outcome ≡ run_outcome options image shown → IsRun options loaded outcome
       IsRun-run begins shown runs outcome answered = accepts outcome (record {
         reading = Turns turns;
         read = (entries, text);
         answered = answered
             ∙ ap₂ (run_outcome options) is runs
-            ∙ ap (begun_outcome options loaded turns) (sym begins ∙ ap (λ i. setup_refusal i (arguments options)) is);
+            ∙ ap (begun_outcome options loaded turns) (sym begins ∙ ap (λ i. setup_refusal i (arguments options.guest)) is);
       })
 
 -- the guest can begin
@@ -81,7 +81,7 @@ none_refused None m same = refl
 none_refused (Some why) m same = absurd (grind (arith, same))
 
 -- the run of the machine that began so
-pub same_run : (options : RunOptions) (loaded : Loaded) (turns : List Entry) (image : Executable) (files : List Input) (stdin : List ℕ) → image ≡ image_of loaded.image → files ≡ with_inputs [] (inputs options) loaded.inputs → stdin ≡ loaded.stdin → shown_from options turns image.entry (start image (arguments options) files stdin) ≡ run_of options loaded turns
+pub same_run : (options : GuestOptions) (loaded : Loaded) (turns : List Entry) (image : Executable) (files : List Input) (stdin : List ℕ) → image ≡ image_of loaded.image → files ≡ with_inputs [] (inputs options) loaded.inputs → stdin ≡ loaded.stdin → shown_from options turns image.entry (start image (arguments options) files stdin) ≡ run_of options loaded turns
 unfolding first_state
 same_run options loaded turns image files stdin is files_are stdin_is =
     ap (λ i. shown_from options turns i.entry (start i (arguments options) files stdin)) is
@@ -92,7 +92,7 @@ pub image_accepted : (files : Loaded) (k : kept.Loaded) (bytes : List ℕ) → k
 image_accepted files k bytes keeps same accepted = ap first_refusal (sym (same ∙ keeps)) ∙ accepted
 
 -- what is shown of the run of a machine
-pub IsShown-from : (options : RunOptions) (turns : List Entry) (entry from : ℕ) (state machine : MachineState) (known : SchedulerState) (r : Run) → from ≡ entry → machine ≡ state → known ≡ scheduler options.quantum turns → IsShown (shown_of (profiled greatest_stamp (first_past from) (run guest known options.budget machine))) r → IsShown (shown_from options turns entry state) r
+pub IsShown-from : (options : GuestOptions) (turns : List Entry) (entry from : ℕ) (state machine : MachineState) (known : SchedulerState) (r : Run) → from ≡ entry → machine ≡ state → known ≡ scheduler options.quantum turns → IsShown (shown_of (profiled greatest_stamp (first_past from) (run guest known options.budget machine))) r → IsShown (shown_from options turns entry state) r
 unfolding shown_from
 IsShown-from options turns entry from state machine known r entry_is state_is known_is shows =
     subst (λ e. IsShown (shown_of (profiled greatest_stamp (first_past e) (run guest (scheduler options.quantum turns) options.budget state))) r) entry_is
@@ -100,23 +100,23 @@ IsShown-from options turns entry from state machine known r entry_is state_is kn
     (subst (λ k. IsShown (shown_of (profiled greatest_stamp (first_past from) (run guest k options.budget machine))) r) known_is shows))
 
 -- it is light
-pub IsLight-shown : (options : RunOptions) (turns : List Entry) (image : Executable) (files : List Input) (stdin : List ℕ) (r : Run) → options.budget ≤ most_moves → IsShown (shown_from options turns image.entry (start image (arguments options) files stdin)) r → IsLight (reverse r.events.list)
+pub IsLight-shown : (options : GuestOptions) (turns : List Entry) (image : Executable) (files : List Input) (stdin : List ℕ) (r : Run) → options.budget ≤ most_moves → IsShown (shown_from options turns image.entry (start image (arguments options) files stdin)) r → IsLight (reverse r.events.list)
 unfolding shown_from
 IsLight-shown options turns image files stdin r few shows =
     subst IsLight (sym shows.past_is) (every_run_light image (arguments options) files stdin greatest_stamp (scheduler options.quantum turns) options.budget few)
 
 -- the run of a command's files gave a product
-pub RunsTo-run : (options : RunOptions) (files : Loaded) (accepted : first_refusal files.image ≡ None) (turns : List Entry) (entries : AllByRecursion IsEntry turns) (text : IsText files.schedule turns) (image : Executable) (is : image ≡ image_of files.image) (inputs' : List Input) (stdin : List ℕ) → inputs' ≡ with_inputs [] (inputs options) files.inputs → stdin ≡ files.stdin → (r : Run) → IsRunOf options image turns inputs' stdin r → (product : Product) → ((shown : Shown) → IsShown shown r → outcome_of product ≡ run_outcome options image shown) → IsOfRun product.verdict → RunsTo options files product
+pub RunsTo-run : (options : RunOptions) (files : Loaded) (accepted : first_refusal files.image ≡ None) (turns : List Entry) (entries : AllByRecursion IsEntry turns) (text : IsText files.schedule turns) (image : Executable) (is : image ≡ image_of files.image) (inputs' : List Input) (stdin : List ℕ) → inputs' ≡ with_inputs [] (inputs options.guest) files.inputs → stdin ≡ files.stdin → (r : Run) → IsRunOf options.guest image turns inputs' stdin r → (product : Product) → ((shown : Shown) → IsShown shown r → outcome_of product ≡ run_outcome options image shown) → IsOfRun product.verdict → RunsTo options files product
 RunsTo-run options files accepted turns entries text image is inputs' stdin inputs_are stdin_is r runs product outcome ran = record {
   is_run = IsRun-run options files accepted turns entries text image is runs.begins
-      (shown_from options turns image.entry (start image (arguments options) inputs' stdin))
-      (same_run options files turns image inputs' stdin is inputs_are stdin_is)
+      (shown_from options.guest turns image.entry (start image (arguments options.guest) inputs' stdin))
+      (same_run options.guest files turns image inputs' stdin is inputs_are stdin_is)
       (outcome_of product) (outcome _ runs.shown);
   ran = ran;
 }
 
 -- it gave none
-pub FilesRun-unrun : (options : RunOptions) (files : Loaded) (accepted : first_refusal files.image ≡ None) (turns : List Entry) (entries : AllByRecursion IsEntry turns) (text : IsText files.schedule turns) (image : Executable) (is : image ≡ image_of files.image) (inputs' : List Input) (stdin : List ℕ) (r : Refusal) → ImageRuns options image turns inputs' stdin (Err r) → FilesRun options files (Err r)
+pub FilesRun-unrun : (options : RunOptions) (files : Loaded) (accepted : first_refusal files.image ≡ None) (turns : List Entry) (entries : AllByRecursion IsEntry turns) (text : IsText files.schedule turns) (image : Executable) (is : image ≡ image_of files.image) (inputs' : List Input) (stdin : List ℕ) (r : Refusal) → ImageRuns options.guest image turns inputs' stdin (Err r) → FilesRun options files (Err r)
 FilesRun-unrun options files accepted turns entries text image is inputs' stdin refused.OutOfMemory runs = tt
 FilesRun-unrun options files accepted turns entries text image is inputs' stdin (refused.Decided v) runs =
     rw runs.0 (IsRun-unbegun options files accepted turns entries text image is runs.1)
@@ -133,7 +133,7 @@ IsDemo-run number file image r product is_file is runs outcome = record {
 }
 
 -- the same run, by other names
-pub IsRunOf-as : (options options' : RunOptions) (image : Executable) (turns turns' : List Entry) (files files' : List Input) (stdin stdin' : List ℕ) (r : Run) → options ≡ options' → turns ≡ turns' → files ≡ files' → stdin ≡ stdin' → IsRunOf options image turns files stdin r → IsRunOf options' image turns' files' stdin' r
+pub IsRunOf-as : (options options' : GuestOptions) (image : Executable) (turns turns' : List Entry) (files files' : List Input) (stdin stdin' : List ℕ) (r : Run) → options ≡ options' → turns ≡ turns' → files ≡ files' → stdin ≡ stdin' → IsRunOf options image turns files stdin r → IsRunOf options' image turns' files' stdin' r
 IsRunOf-as options options' image turns turns' files files' stdin stdin' r same_options same_turns same_files same_stdin runs =
     subst (λ o. IsRunOf o image turns' files' stdin' r) same_options
     (subst (λ t. IsRunOf options image t files' stdin' r) same_turns

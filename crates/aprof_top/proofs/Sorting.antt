@@ -3,7 +3,7 @@ use Rattle.std.proofs.Common.{◌≡◌, ℕ, zero, suc, ◌+◌, ◌<◌, ◌�
 use Rattle.std.specs.Option.{option_to_list}
 use Rattle.std.specs.declared.alloc.Global.{Global}
 use Rattle.std.proofs.lemmas.List.{length-append, length-map, map-append, take_more}
-use Rattle.command_line.specs.Options.{RunOptions, inputs}
+use Rattle.command_line.specs.Options.{GuestOptions, inputs}
 use Rattle.guest_calls.specs.Inputs.{Input, with_input}
 use Rattle.aprof_top.specs.declared.loaded.Loaded as kept
 use Rattle.aprof_top.specs.Loading.{contents_of}
@@ -49,7 +49,7 @@ inputs_more names files i d before after file within more so_far is added =
     ∙ ap₂ (with_inputs []) (sym (ap (map text) (take_more names i d within) ∙ map-append text (take i names) (get_or names i d ∷ []))) (sym (take_more contents i [] (omega (arith, within, more, there))))
 
 -- all is put to its use
-pub Keeps-all : (options : RunOptions) (names : List (Bor (List ℕ))) (files first second third : List (Vec ℕ Global)) (k : kept.Loaded) → map text names ≡ inputs options
+pub Keeps-all : (options : GuestOptions) (names : List (Bor (List ℕ))) (files first second third : List (Vec ℕ Global)) (k : kept.Loaded) → map text names ≡ inputs options
     → k.image.items ≡ first_file (contents_of files) → first ≡ drop 1 files
     → k.inputs ≡ with_inputs [] (map text names) (take (length names) (contents_of first)) → second ≡ drop (length names) first
     → k.stdin.items ≡ file_at options.stdin (contents_of second) → third ≡ drop (length (option_to_list options.stdin)) second

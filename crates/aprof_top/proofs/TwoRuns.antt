@@ -4,7 +4,7 @@ use Rattle.std.specs.Prelude.{nat_lt, sum_by}
 use Rattle.std.specs.List.{AllByRecursion, list_any}
 use Rattle.std.specs.Option.{option_to_list}
 use Rattle.std.proofs.lemmas.Bool.Decides.{nat_tests}
-use Rattle.command_line.specs.Options.{RunOptions, arguments, inputs}
+use Rattle.command_line.specs.Options.{GuestOptions, RunOptions, arguments, inputs}
 use Rattle.elf_image.specs.declared.error.ElfError.{ElfError}
 use Rattle.elf_image.specs.Reading.{image_of}
 use Rattle.elf_image.specs.Tests.{first_refusal}
@@ -20,7 +20,7 @@ use Rattle.thread_sched.specs.declared.entry.Entry.{Entry}
 use Rattle.thread_sched.specs.ScheduleText.{IsEntry, schedule_text}
 use Rattle.aprof_top.specs.declared.ending.Verdict.{Verdict}
 use Rattle.aprof_top.specs.declared.ending.Verdict.TheVariants.{BadImage, BadSchedule, Ran, TooLarge}
-use Rattle.aprof_top.specs.Laws.{TwoRunsAgree, scheduled, with_schedule}
+use Rattle.aprof_top.specs.Laws.{TwoRunsAgree, scheduled, under_schedule, with_schedule}
 use Rattle.aprof_top.specs.Limits.{file_limit, inputs_limit}
 use Rattle.aprof_top.specs.Loads.{Loaded, with_inputs, first_file, file_at, loaded_of, loaded_paths, passes_limit, shared_count, shared_length}
 use Rattle.aprof_top.specs.Outcome.{ByImage, Follows, IsRun, Outcome, Stage, begun_outcome, recording_stores, refusal, run_outcome, scheduled_outcome, stage}
@@ -82,7 +82,7 @@ complete_parts true more e = absurd (cc)
 complete_parts false true e = absurd (cc)
 complete_parts false false e = (refl, refl)
 
-module _ (options : RunOptions) (path text : List ℕ) where
+module _ (options : GuestOptions) (path text : List ℕ) where
   abbrev n : ℕ
   n = length (inputs options)
 
@@ -95,7 +95,7 @@ module _ (options : RunOptions) (path text : List ℕ) where
       paths : (xs ys zs : List (List ℕ)) → length xs + length ys + 1 ≤ length (options.image ∷ (xs ++ (ys ++ zs)))
       paths xs ys zs = omega (arith, length-append xs (ys ++ zs), length-append ys zs)
 
-  paths_again : length (loaded_paths (scheduled options path)) ≡ shared_count options + 2
+  paths_again : length (loaded_paths (under_schedule options path)) ≡ shared_count options + 2
   paths_again = paths (inputs options) (option_to_list options.stdin)
     where
       paths : (xs ys : List (List ℕ)) → length (options.image ∷ (xs ++ (ys ++ path ∷ []))) ≡ length xs + length ys + 2
@@ -108,7 +108,7 @@ module _ (options : RunOptions) (path text : List ℕ) where
   small a b le = grind (arith, nat_tests, le)
 
   abbrev AreComplete : List (List ℕ) → List (List ℕ) → Type 0
-  AreComplete files again = (stage (scheduled options path) again ≡ Complete) × (loaded_of (scheduled options path) again ≡ record (loaded_of options files) { schedule = text })
+  AreComplete files again = (stage (under_schedule options path) again ≡ Complete) × (loaded_of (under_schedule options path) again ≡ record (loaded_of options files) { schedule = text })
 
   -- with the recording in the place of the schedule they are complete too, and the others are the same
   second_by : (files : List (List ℕ)) → length text ≤ file_limit → passes_limit (shared_count options) files ≡ false → length (loaded_paths options) ≤ length files → AreComplete files (with_schedule options files text)
@@ -124,8 +124,8 @@ module _ (options : RunOptions) (path text : List ℕ) where
       let passes : passes_limit c (f ∷ front) ≡ false =
       rw (long.0, any_front text (λ file. nat_lt file_limit (length file)) c fs (small (length text) file_limit short) long.1)
       (ap (λ xs. nat_lt inputs_limit (sum_by length xs)) (take_front text c c fs (omega arith) fit) ∙ limits.1) in
-      let many : length (f ∷ front) ≡ length (loaded_paths (scheduled options path)) = omega (arith, paths_again, front_length text c fs fit) in (
-        complete_stage (scheduled options path) (f ∷ front) passes many,
+      let many : length (f ∷ front) ≡ length (loaded_paths (under_schedule options path)) = omega (arith, paths_again, front_length text c fs fit) in (
+        complete_stage (under_schedule options path) (f ∷ front) passes many,
         λ i. record {
           image = f;
           inputs = take_front text n c fs (omega arith) fit i;
@@ -143,30 +143,30 @@ module _ (options : RunOptions) (path text : List ℕ) where
 -- the guest ran, under these turns
 record Ran' (options : RunOptions) (loaded : Loaded) (outcome : Outcome) : Type 0 where
   accepted : first_refusal loaded.image ≡ None
-  begins : setup_refusal (image_of loaded.image) (arguments options) ≡ None
+  begins : setup_refusal (image_of loaded.image) (arguments options.guest) ≡ None
   turns : List Entry
-  answered : outcome ≡ run_outcome options (image_of loaded.image) (run_of options loaded turns)
+  answered : outcome ≡ run_outcome options (image_of loaded.image) (run_of options.guest loaded turns)
 
 module _ (options : RunOptions) (loaded : Loaded) (outcome : Outcome) (finish : Finish) (ran : outcome.verdict ≡ Ran finish) where
   no_refusal : {A : Type 0} (v : Verdict) → (v ≡ Ran finish → ⊥) → outcome ≡ refusal v → A
   no_refusal v other is = absurd (other (sym (ap (λ (o : Outcome). o.verdict) is) ∙ ran))
 
-  by_setup : first_refusal loaded.image ≡ None → (turns : List Entry) (o : Option SetupError) → setup_refusal (image_of loaded.image) (arguments options) ≡ o → outcome ≡ begun_outcome options loaded turns o → Ran' options loaded outcome
+  by_setup : first_refusal loaded.image ≡ None → (turns : List Entry) (o : Option SetupError) → setup_refusal (image_of loaded.image) (arguments options.guest) ≡ o → outcome ≡ begun_outcome options loaded turns o → Ran' options loaded outcome
   by_setup accepted turns None begins is = record { accepted = accepted; begins = begins; turns = turns; answered = is }
   by_setup accepted turns (Some why) begins is = no_refusal TooLarge (λ e. cc) is
 
   by_reading : first_refusal loaded.image ≡ None → (reading : Reading) → outcome ≡ scheduled_outcome options loaded reading → Ran' options loaded outcome
-  by_reading accepted (Turns turns) is = by_setup accepted turns (setup_refusal (image_of loaded.image) (arguments options)) refl is
+  by_reading accepted (Turns turns) is = by_setup accepted turns (setup_refusal (image_of loaded.image) (arguments options.guest)) refl is
   by_reading accepted (BadLine line) is = no_refusal (BadSchedule line) (λ e. cc) is
 
   by_image : (o : Option ElfError) → first_refusal loaded.image ≡ o → ByImage options loaded outcome o → Ran' options loaded outcome
   by_image None accepted is = by_reading accepted is.reading is.answered
   by_image (Some e) refused is = no_refusal (BadImage e) (λ e. cc) is
 
-complete_run : (options : RunOptions) (files : List (List ℕ)) (outcome : Outcome) (finish : Finish) → outcome.verdict ≡ Ran finish → (s : Stage) → stage options files ≡ s → Follows options files outcome s → (stage options files ≡ Complete) × Ran' options (loaded_of options files) outcome
-complete_run options files outcome finish ran PastLimit is follows = no_refusal options (loaded_of options files) outcome finish ran TooLarge (λ e. cc) follows
+complete_run : (options : RunOptions) (files : List (List ℕ)) (outcome : Outcome) (finish : Finish) → outcome.verdict ≡ Ran finish → (s : Stage) → stage options.guest files ≡ s → Follows options files outcome s → (stage options.guest files ≡ Complete) × Ran' options (loaded_of options.guest files) outcome
+complete_run options files outcome finish ran PastLimit is follows = no_refusal options (loaded_of options.guest files) outcome finish ran TooLarge (λ e. cc) follows
 complete_run options files outcome finish ran Loading is follows = absurd follows
-complete_run options files outcome finish ran Complete is follows = (is, by_image options (loaded_of options files) outcome finish ran (first_refusal (loaded_of options files).image) refl follows)
+complete_run options files outcome finish ran Complete is follows = (is, by_image options (loaded_of options.guest files) outcome finish ran (first_refusal (loaded_of options.guest files).image) refl follows)
 
 -- ---- the second run
 -- the recording that was stored
@@ -182,17 +182,17 @@ module _ (replays : ReplaysProfiled) (entries : EveryRunRecordsEntries) (options
   again = record loaded { schedule = text }
 
   abbrev shown : Shown
-  shown = run_of options loaded turns
+  shown = run_of options.guest loaded turns
 
-  same_shown : IsNoMismatch shown.finish → run_of (scheduled options path) again shown.turns ≡ shown
+  same_shown : IsNoMismatch shown.finish → run_of (under_schedule options.guest path) again shown.turns ≡ shown
   unfolding shown_from first_state
-  same_shown no_mismatch = ap shown_of (replays greatest_stamp (first_past (image_of loaded.image).entry) options.quantum options.quantum options.budget turns (first_state options loaded) refl no_mismatch)
+  same_shown no_mismatch = ap shown_of (replays greatest_stamp (first_past (image_of loaded.image).entry) options.guest.quantum options.guest.quantum options.guest.budget turns (first_state options.guest loaded) refl no_mismatch)
 
-  are_entries : options.budget ≤ 10 ^ 12 → AllByRecursion IsEntry shown.turns
+  are_entries : options.guest.budget ≤ 10 ^ 12 → AllByRecursion IsEntry shown.turns
   unfolding shown_from first_state
-  are_entries few = (entries (image_of loaded.image) (arguments options) (with_inputs [] (inputs options) loaded.inputs) loaded.stdin greatest_stamp (scheduler options.quantum turns) options.budget few).profiled_part
+  are_entries few = (entries (image_of loaded.image) (arguments options.guest) (with_inputs [] (inputs options.guest) loaded.inputs) loaded.stdin greatest_stamp (scheduler options.guest.quantum turns) options.guest.budget few).profiled_part
 
-  module _ (few : options.budget ≤ 10 ^ 12) (no_mismatch : IsNoMismatch shown.finish) (is_text : text ≡ schedule_text shown.turns) (accepted : first_refusal loaded.image ≡ None) (begins : setup_refusal (image_of loaded.image) (arguments options) ≡ None) (second : Outcome) where
+  module _ (few : options.guest.budget ≤ 10 ^ 12) (no_mismatch : IsNoMismatch shown.finish) (is_text : text ≡ schedule_text shown.turns) (accepted : first_refusal loaded.image ≡ None) (begins : setup_refusal (image_of loaded.image) (arguments options.guest) ≡ None) (second : Outcome) where
     under_turns : second ≡ scheduled_outcome (scheduled options path) again (Turns shown.turns) → second ≡ run_outcome options (image_of loaded.image) shown
     under_turns is =
         is
@@ -206,17 +206,17 @@ module _ (replays : ReplaysProfiled) (entries : EveryRunRecordsEntries) (options
 
 pub two_runs_agree : ReplaysProfiled → EveryRunRecordsEntries → TwoRunsAgree
 two_runs_agree replays entries options files first second path text few is leaves short second_is =
-    let loaded = loaded_of options files in
-    let ran = complete_run options files first leaves.finish leaves.ran (stage options files) refl is in
+    let loaded = loaded_of options.guest files in
+    let ran = complete_run options files first leaves.finish leaves.ran (stage options.guest files) refl is in
     let run = ran.1 in
     let image = image_of loaded.image in
-    let shown : Shown = run_of options loaded run.turns in
+    let shown : Shown = run_of options.guest loaded run.turns in
     let is_text : text ≡ schedule_text shown.turns =
     stored_is options.recording shown.turns ((options.report, report_text (report_of image shown.finish shown.past)) ∷ []) leaves.path text leaves.asked (ap (λ (o : Outcome). slice_get o.stores 0) (sym run.answered) ∙ leaves.stored) in
     let finish : shown.finish ≡ leaves.finish = same_finish shown.finish leaves.finish (ap (λ (o : Outcome). o.verdict) (sym run.answered) ∙ leaves.ran) in
-    let complete = second_files options path text files short ran.0 in
+    let complete = second_files options.guest path text files short ran.0 in
     let is_run : IsRun (scheduled options path) (record loaded { schedule = text }) second =
-    subst (λ l. IsRun (scheduled options path) l second) complete.1 (subst (λ s. Follows (scheduled options path) (with_schedule options files text) second s) complete.0 second_is) in
+    subst (λ l. IsRun (scheduled options path) l second) complete.1 (subst (λ s. Follows (scheduled options path) (with_schedule options.guest files text) second s) complete.0 second_is) in
     second_run replays entries options loaded run.turns path text few (subst IsNoMismatch (sym finish) leaves.no_mismatch) is_text run.accepted run.begins second is_run
     ∙ sym run.answered
   where

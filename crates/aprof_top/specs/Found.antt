@@ -12,7 +12,7 @@ use Rattle.aprof_top.specs.Outside.{Outside, AreHeld}
 -- the paths that are loaded, in order
 abbrev pub paths_of : Option Asked → List (List ℕ)
 paths_of None = []
-paths_of (Some (Run options)) = loaded_paths options
+paths_of (Some (Run options)) = loaded_paths options.guest
 paths_of (Some (Demo number)) = []
 
 -- What a call finds: what its words ask for, and the bytes of the first files that this loads, as far as the contents are

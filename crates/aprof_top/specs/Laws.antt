@@ -1,6 +1,6 @@
 -- Laws on the outcomes of commands.
 use Rattle.std.specs.Prelude.{◌≡◌, ◌≤◌, ◌^◌, ℕ, suc, List, [], ◌∷◌, ◌++◌, length, take, slice_get, Option, Some}
-use Rattle.command_line.specs.Options.{Asked, RunOptions}
+use Rattle.command_line.specs.Options.{Asked, GuestOptions, RunOptions}
 use Rattle.command_line.specs.Options.Asked.{Run}
 use Rattle.guest_run.specs.Laws.{IsNoMismatch}
 use Rattle.guest_words.specs.declared.endings.Finish.{Finish}
@@ -13,12 +13,16 @@ use Rattle.aprof_top.specs.Outcome.{IsOutcome, Outcome}
 abbrev pub OneOutcome : Type 0
 OneOutcome = (asked : Option Asked) (files : List (List ℕ)) (a b : Outcome) → IsOutcome asked files a → IsOutcome asked files b → a ≡ b
 
+-- the same options, with the schedule at this path
+abbrev pub under_schedule : GuestOptions → List ℕ → GuestOptions
+under_schedule options path = record options { schedule = Some path }
+
 -- the same command, under the schedule at this path
 abbrev pub scheduled : RunOptions → List ℕ → RunOptions
-scheduled options path = record options { schedule = Some path }
+scheduled options path = record options { guest = under_schedule options.guest path }
 
 -- the files of a command without its schedule, and then this one
-abbrev pub with_schedule : RunOptions → List (List ℕ) → List ℕ → List (List ℕ)
+abbrev pub with_schedule : GuestOptions → List (List ℕ) → List ℕ → List (List ℕ)
 with_schedule options files text = take (suc (shared_count options)) files ++ text ∷ []
 
 -- The guest ran, no entry of a schedule stopped it, and this is the recording that was stored.
@@ -34,6 +38,6 @@ pub record LeavesRecording (options : RunOptions) (outcome : Outcome) (text : Li
 -- and files has the same outcome: verdict, output, recording and report.
 abbrev pub TwoRunsAgree : Type 0
 TwoRunsAgree =
-    (options : RunOptions) (files : List (List ℕ)) (first second : Outcome) (path text : List ℕ) → options.budget ≤ 10 ^ 12
+    (options : RunOptions) (files : List (List ℕ)) (first second : Outcome) (path text : List ℕ) → options.guest.budget ≤ 10 ^ 12
     → IsOutcome (Some (Run options)) files first → LeavesRecording options first text → length text ≤ file_limit
-    → IsOutcome (Some (Run (scheduled options path))) (with_schedule options files text) second → second ≡ first
+    → IsOutcome (Some (Run (scheduled options path))) (with_schedule options.guest files text) second → second ≡ first

@@ -2,16 +2,16 @@
 use Rattle.std.specs.Prelude.{ℕ, ◌+◌, Bool, ◌||◌, nat_lt, List, [], ◌∷◌, ◌++◌, length, take, drop, sum_by, Option, Some, None}
 use Rattle.std.specs.List.{list_any}
 use Rattle.std.specs.Option.{option_to_list}
-use Rattle.command_line.specs.Options.{RunOptions, inputs}
+use Rattle.command_line.specs.Options.{GuestOptions, inputs}
 use Rattle.guest_calls.specs.Inputs.{Input, with_input}
 use Rattle.aprof_top.specs.Limits.{file_limit, inputs_limit}
 
 -- their paths
-abbrev pub loaded_paths : RunOptions → List (List ℕ)
+abbrev pub loaded_paths : GuestOptions → List (List ℕ)
 loaded_paths options = options.image ∷ (inputs options ++ (option_to_list options.stdin ++ option_to_list options.schedule))
 
 -- how many files behind the image share a limit: the input files and standard input
-abbrev pub shared_count : RunOptions → ℕ
+abbrev pub shared_count : GuestOptions → ℕ
 shared_count options = length (inputs options) + length (option_to_list options.stdin)
 
 -- how long these are together, among the files that were loaded
@@ -40,7 +40,7 @@ file_at None files = []
 file_at (Some path) files = first_file files
 
 -- which is which of the files that were loaded
-abbrev pub loaded_of : RunOptions → List (List ℕ) → Loaded
+abbrev pub loaded_of : GuestOptions → List (List ℕ) → Loaded
 loaded_of options files =
     let others = drop 1 files in
     let count = length (inputs options) in

@@ -1,6 +1,6 @@
 -- What the written product answers to a command, over the files that it loads.
 use Rattle.std.specs.Prelude.{◌≡◌, ℕ, ◌^◌, codes, nat_lt, List, [], ◌∷◌, ◌++◌, length, Option, Some, None, if◌then◌else◌}
-use Rattle.command_line.specs.Options.{Asked, RunOptions, arguments}
+use Rattle.command_line.specs.Options.{Asked, GuestOptions, RunOptions, arguments}
 use Rattle.command_line.specs.Options.Asked.{Run, Demo}
 use Rattle.elf_image.specs.declared.error.ElfError.{ElfError}
 use Rattle.elf_image.specs.Image.{Executable}
@@ -54,12 +54,12 @@ run_outcome options image run = record {
 -- a guest that can begin is run
 abbrev pub begun_outcome : RunOptions → Loaded → List Entry → Option SetupError → Outcome
 begun_outcome options loaded turns (Some why) = refusal TooLarge
-begun_outcome options loaded turns None = run_outcome options (image_of loaded.image) (run_of options loaded turns)
+begun_outcome options loaded turns None = run_outcome options (image_of loaded.image) (run_of options.guest loaded turns)
 
 -- under the schedule that was read
 abbrev pub scheduled_outcome : RunOptions → Loaded → Reading → Outcome
 scheduled_outcome options loaded (BadLine line) = refusal (BadSchedule line)
-scheduled_outcome options loaded (Turns turns) = begun_outcome options loaded turns (setup_refusal (image_of loaded.image) (arguments options))
+scheduled_outcome options loaded (Turns turns) = begun_outcome options loaded turns (setup_refusal (image_of loaded.image) (arguments options.guest))
 
 -- The schedule reads so, and the outcome is that of the guest's run under it, or of its refusal.
 pub record IsScheduled (options : RunOptions) (loaded : Loaded) (outcome : Outcome) : Type 0 where
@@ -84,7 +84,7 @@ pub data Stage : Type 0 where
   Complete : Stage
 
 -- by the bytes of the files that were loaded, from the first on
-abbrev pub stage : RunOptions → List (List ℕ) → Stage
+abbrev pub stage : GuestOptions → List (List ℕ) → Stage
 stage options files =
     if passes_limit (shared_count options) files then PastLimit
     else if nat_lt (length files) (length (loaded_paths options)) then Loading
@@ -94,16 +94,14 @@ stage options files =
 abbrev pub Follows : RunOptions → List (List ℕ) → Outcome → Stage → Type 0
 Follows options files outcome PastLimit = outcome ≡ refusal TooLarge
 Follows options files outcome Loading = ⊥
-Follows options files outcome Complete = IsRun options (loaded_of options files) outcome
+Follows options files outcome Complete = IsRun options (loaded_of options.guest files) outcome
 
 -- ---- the demo
 -- what the demo is run with: its one argument is its name, and all else is as without options
-abbrev pub demo_options : RunOptions
+abbrev pub demo_options : GuestOptions
 demo_options = record {
-  report = [];
   stdin = None;
   schedule = None;
-  recording = None;
   quantum = 10000;
   budget = 10 ^ 9;
   image = codes "demo";
@@ -133,11 +131,11 @@ pub record IsDemo (number : ℕ) (outcome : Outcome) : Type 0 where
 -- The outcome of what the words ask for, or of their refusal, over the bytes of the files that were loaded.
 abbrev pub IsOutcome : Option Asked → List (List ℕ) → Outcome → Type 0
 IsOutcome None files outcome = outcome ≡ refusal BadCommand
-IsOutcome (Some (Run options)) files outcome = Follows options files outcome (stage options files)
+IsOutcome (Some (Run options)) files outcome = Follows options files outcome (stage options.guest files)
 IsOutcome (Some (Demo number)) files outcome = IsDemo number outcome
 
 -- these files decide nothing yet
 abbrev pub IsUndecided : Option Asked → List (List ℕ) → Type 0
 IsUndecided None files = ⊥
-IsUndecided (Some (Run options)) files = stage options files ≡ Loading
+IsUndecided (Some (Run options)) files = stage options.guest files ≡ Loading
 IsUndecided (Some (Demo number)) files = ⊥

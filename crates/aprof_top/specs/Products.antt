@@ -1,6 +1,6 @@
 -- What the parts of a run hand to one another.
 use Rattle.std.specs.Prelude.{◌≡◌, ℕ, List, [], length, map, reverse, take, Option, Some, None, Result, Ok, Err}
-use Rattle.command_line.specs.Options.{RunOptions, arguments, inputs}
+use Rattle.command_line.specs.Options.{GuestOptions, RunOptions, arguments, inputs}
 use Rattle.elf_image.specs.Image.{Executable}
 use Rattle.guest_calls.specs.Inputs.{Input}
 use Rattle.guest_machine.specs.declared.setup.SetupError.{SetupError}
@@ -29,21 +29,21 @@ use Rattle.aprof_top.specs.Run.{shown_from}
 use Rattle.aprof_top.specs.Verdicts.{IsOfRun}
 
 -- The program has these files of the command.
-pub record Keeps (options : RunOptions) (loaded : Loaded) (kept : declared.Loaded) : Type 0 where
+pub record Keeps (options : GuestOptions) (loaded : Loaded) (kept : declared.Loaded) : Type 0 where
   pub image : kept.image.items ≡ loaded.image
   pub inputs_are : kept.inputs ≡ with_inputs [] (inputs options) loaded.inputs
   pub stdin : kept.stdin.items ≡ loaded.stdin
   pub schedule : kept.schedule.items ≡ loaded.schedule
 
 -- All files of a command were loaded, and no limit is passed.
-pub record LoadsAll (options : RunOptions) (old new : FilesState) (kept : declared.Loaded) : Type 0 where
+pub record LoadsAll (options : GuestOptions) (old new : FilesState) (kept : declared.Loaded) : Type 0 where
   pub files : List (List ℕ)
   pub are : AreLoaded (shared_count options) (loaded_paths options) files old new
   pub all : length files ≡ length (loaded_paths options)
   pub keeps : Keeps options (loaded_of options files) kept
 
 -- how the loads of a command end
-abbrev pub CommandLoads : RunOptions → FilesState → FilesState → Result declared.Loaded Ending → Type 0
+abbrev pub CommandLoads : GuestOptions → FilesState → FilesState → Result declared.Loaded Ending → Type 0
 CommandLoads options old new (Ok kept) = LoadsAll options old new kept
 CommandLoads options old new (Err e) = LoadsEnd (shared_count options) (loaded_paths options) old new e
 
@@ -72,13 +72,13 @@ IsRefused None = ⊥
 IsRefused (Some why) = Unit {0}
 
 -- The guest can begin, and this is known of its run.
-pub record IsRunOf (options : RunOptions) (image : Executable) (turns : List Entry) (files : List Input) (stdin : List ℕ) (run : Run) : Type 0 where
+pub record IsRunOf (options : GuestOptions) (image : Executable) (turns : List Entry) (files : List Input) (stdin : List ℕ) (run : Run) : Type 0 where
   pub begins : setup_refusal image (arguments options) ≡ None
   pub shown : IsShown (shown_from options turns image.entry (start image (arguments options) files stdin)) run
   pub light : IsLight (reverse run.events.list)
 
 -- how the run of an executable ends
-abbrev pub ImageRuns : RunOptions → Executable → List Entry → List Input → List ℕ → Result Run Refusal → Type 0
+abbrev pub ImageRuns : GuestOptions → Executable → List Entry → List Input → List ℕ → Result Run Refusal → Type 0
 ImageRuns options image turns files stdin (Ok run) = IsRunOf options image turns files stdin run
 ImageRuns options image turns files stdin (Err (Decided verdict)) = (verdict ≡ TooLarge) × IsRefused (setup_refusal image (arguments options))
 ImageRuns options image turns files stdin (Err OutOfMemory) = Unit {0}

@@ -1,6 +1,6 @@
 //! The demo: a guest of its own, whose report is summed up.
 ghost use Rattle.std.specs.Prelude.{◌≡◌, ◌≤◌};
-ghost use Rattle.command_line.specs.Read.{options_in};
+ghost use Rattle.command_line.specs.Read.{guest_in};
 ghost use Rattle.aprof_top.specs.Outcome.{demo_options};
 ghost use Rattle.aprof_top.specs.Products.{DemoRuns};
 
@@ -9,7 +9,7 @@ use crate::product::{Product, run_image};
 use crate::refusal::Refusal;
 use crate::report::report_of;
 use crate::summary::summary;
-use command_line::RunCommand;
+use command_line::GuestOptions;
 use demo_guest::demo_image;
 use elf_image::read_image;
 use guest_calls::Inputs;
@@ -17,14 +17,12 @@ use std::alloc::Global;
 use thread_sched::Schedule;
 
 // What the demo is run with: no files, and all defaults.
-fn demo_command(alloc: Global) -> RunCommand<'static>
-    ensures { options_in result ≡ demo_options }
+fn demo_guest(alloc: Global) -> GuestOptions<'static>
+    ensures { guest_in result ≡ demo_options }
 {
-    RunCommand {
-        report: "",
+    GuestOptions {
         stdin: None,
         schedule: None,
-        recording: None,
         quantum: 10_000,
         budget: 1_000_000_000,
         image: "demo",
@@ -40,10 +38,10 @@ pub(crate) fn run_demo(alloc: Global, number: u32) -> Result<Product<'static>, R
     let file = demo_image(alloc, number)?;
     // It passes all tests, so it is refused only for want of memory.
     let image = read_image(alloc, file.as_slice())?;
-    let command = demo_command(alloc);
+    let guest = demo_guest(alloc);
     let schedule = Schedule::empty(alloc)?;
     let inputs = Inputs::new(alloc)?;
-    let run = run_image(alloc, &command, &image, schedule, inputs, Vec::new(alloc))?;
+    let run = run_image(alloc, &guest, &image, schedule, inputs, Vec::new(alloc))?;
     let report = report_of(alloc, &image, &run)?;
     let out = summary(alloc, number, &report)?;
     Ok(Product {

@@ -2,12 +2,12 @@
 ghost use Rattle.std.specs.Prelude.{◌≡◌, ◌≤◌, [], length, map, drop, take, option_map, IfOk, OnOk};
 ghost use Rattle.std.specs.Option.{option_to_list};
 ghost use Rattle.command_line.specs.Options.{inputs};
-ghost use Rattle.command_line.specs.Read.{options_in};
+ghost use Rattle.command_line.specs.Read.{guest_in};
 ghost use Rattle.aprof_top.specs.Loading.{contents_of};
 ghost use Rattle.aprof_top.specs.Loads.{file_at, first_file, loaded_of, loaded_paths, with_inputs};
 ghost use Rattle.aprof_top.specs.Products.{Keeps};
 
-use command_line::RunCommand;
+use command_line::GuestOptions;
 use guest_calls::Inputs;
 use std::alloc::{AllocError, Global};
 use std::collections::VecDeque;
@@ -62,18 +62,18 @@ impl Loaded {
     /// The files that were loaded for a command, in the order of its paths; `names` are those of its input files.
     pub(crate) fn new(
         alloc: Global,
-        command: &RunCommand<'_>,
+        guest: &GuestOptions<'_>,
         names: &[&str],
         mut files: VecDeque<Vec<u8>>,
     ) -> Result<Loaded, AllocError>
-        requires names { map (λ name. name.now) names.now ≡ inputs (options_in command.now) }
-        requires all { length files.items ≡ length (loaded_paths (options_in command.now)) }
-        ensures { IfOk result (λ loaded. Keeps (options_in command.now) (loaded_of (options_in command.now) (contents_of files.items)) loaded) }
+        requires names { map (λ name. name.now) names.now ≡ inputs (guest_in guest.now) }
+        requires all { length files.items ≡ length (loaded_paths (guest_in guest.now)) }
+        ensures { IfOk result (λ loaded. Keeps (guest_in guest.now) (loaded_of (guest_in guest.now) (contents_of files.items)) loaded) }
     {
         let image = next_file(alloc, &mut files);
         let inputs = take_inputs(alloc, names, &mut files)?;
-        let stdin = file_at(alloc, command.stdin, &mut files);
-        let schedule = file_at(alloc, command.schedule, &mut files);
+        let stdin = file_at(alloc, guest.stdin, &mut files);
+        let schedule = file_at(alloc, guest.schedule, &mut files);
         Ok(Loaded {
             image,
             inputs,

@@ -2,12 +2,12 @@
 ghost use Rattle.std.specs.Prelude.{◌≡◌, ◌+◌, ◌≤◌, ◌&&◌, nat_le, if◌then◌else◌, ◌++◌, ◌^◌, length, map, option_map, IfOk, IfErr, OnOk};
 ghost use Rattle.std.specs.Option.{option_to_list};
 ghost use Rattle.command_line.specs.Options.{inputs};
-ghost use Rattle.command_line.specs.Read.{options_in};
+ghost use Rattle.command_line.specs.Read.{guest_in};
 ghost use Rattle.aprof_top.specs.Loading.{AreLoaded, LoadsEnd, contents_of};
 ghost use Rattle.aprof_top.specs.Loads.{loaded_paths, shared_count};
 
 use crate::ending::{Ending, Verdict};
-use command_line::RunCommand;
+use command_line::GuestOptions;
 use host_io::{Files, LoadError};
 use std::alloc::{AllocError, Global};
 use std::collections::VecDeque;
@@ -31,26 +31,26 @@ fn push_path<'a>(paths: &mut Vec<&'a str>, path: Option<&'a str>) -> Result<(), 
 /// The paths of the files that a command loads, in order, `names` being those of its input files.
 pub(crate) fn loaded_paths<'a>(
     alloc: Global,
-    command: &RunCommand<'a>,
+    guest: &GuestOptions<'a>,
     names: &[&'a str],
 ) -> Result<Vec<&'a str>, AllocError>
-    requires { map (λ path. path.now) names.now ≡ inputs (options_in command.now) }
-    ensures { IfOk result (λ paths. map (λ path. path.now) paths.items ≡ loaded_paths (options_in command.now)) }
+    requires { map (λ path. path.now) names.now ≡ inputs (guest_in guest.now) }
+    ensures { IfOk result (λ paths. map (λ path. path.now) paths.items ≡ loaded_paths (guest_in guest.now)) }
 {
     let mut paths = Vec::new(alloc);
-    paths.push(command.image)?;
+    paths.push(guest.image)?;
     paths.extend_from_slice(names)?;
-    push_path(&mut paths, command.stdin)?;
-    push_path(&mut paths, command.schedule)?;
+    push_path(&mut paths, guest.stdin)?;
+    push_path(&mut paths, guest.schedule)?;
     Ok(paths)
 }
 
 /// How many files behind the image share a limit: the input files, whose names these are, and standard input.
-pub(crate) fn shared_count(command: &RunCommand<'_>, names: &[&str]) -> usize
-    requires { map (λ path. path.now) names.now ≡ inputs (options_in command.now) }
-    ensures { result ≡ shared_count (options_in command.now) }
+pub(crate) fn shared_count(guest: &GuestOptions<'_>, names: &[&str]) -> usize
+    requires { map (λ path. path.now) names.now ≡ inputs (guest_in guest.now) }
+    ensures { result ≡ shared_count (guest_in guest.now) }
 {
-    match command.stdin {
+    match guest.stdin {
         Some(_) => names.len() + 1,
         None => names.len(),
     }

@@ -1,6 +1,6 @@
 //! What the run of a guest leaves.
 ghost use Rattle.std.specs.Prelude.{◌≡◌, map, option_map, reverse, IfOk};
-ghost use Rattle.command_line.specs.Read.{AreInRange, options_in};
+ghost use Rattle.command_line.specs.Read.{AreInRange, guest_in, options_in};
 ghost use Rattle.trace_model.specs.Depth.{pending};
 ghost use Rattle.trace_model.specs.Profile.{steps};
 ghost use Rattle.trace_model.specs.WellFormed.{IsLight};
@@ -14,7 +14,7 @@ use crate::ending::Verdict;
 use crate::loaded::Loaded;
 use crate::refusal::Refusal;
 use crate::report::report_of;
-use command_line::RunCommand;
+use command_line::{GuestOptions, RunCommand};
 use elf_image::{Image, read_image};
 use guest_calls::Inputs;
 use guest_machine::Machine;
@@ -42,19 +42,19 @@ pub(crate) struct Product<'a> {
 /// The run of an executable, which begins with these input files and this standard input.
 pub(crate) fn run_image(
     alloc: Global,
-    command: &RunCommand<'_>,
+    guest: &GuestOptions<'_>,
     image: &Image,
     schedule: Schedule,
     inputs: Inputs,
     stdin: Vec<u8>,
 ) -> Result<Run, Refusal>
-    requires { AreInRange command.now.quantum command.now.budget }
-    ensures { ImageRuns (options_in command.now) image.now schedule inputs stdin.items result }
+    requires { AreInRange (guest_in guest.now) }
+    ensures { ImageRuns (guest_in guest.now) image.now schedule inputs stdin.items result }
 {
-    let words = command.arguments(alloc)?;
+    let words = guest.arguments(alloc)?;
     let machine = Machine::new(alloc, image, words.as_slice(), inputs, stdin)?;
-    let turns = Sched::new(command.quantum, schedule);
-    Ok(run_guest(alloc, machine, turns, command.budget, u32::MAX)?)
+    let turns = Sched::new(guest.quantum, schedule);
+    Ok(run_guest(alloc, machine, turns, guest.budget, u32::MAX)?)
 }
 
 // The recording to store, where the command has a path for it.
@@ -107,14 +107,14 @@ pub(crate) fn run_files<'a>(
     command: &RunCommand<'a>,
     loaded: Loaded,
 ) -> Result<Product<'a>, Refusal>
-    requires { AreInRange command.now.quantum command.now.budget }
-    ensures { (files : loads.Loaded) → Keeps (options_in command.now) files loaded → FilesRun (options_in command.now) files result }
+    requires { AreInRange (guest_in command.now.guest) }
+    ensures { (files : loads.Loaded) → Keeps (guest_in command.now.guest) files loaded → FilesRun (options_in command.now) files result }
 {
     let image = read_image(alloc, loaded.image.as_slice())?;
     let schedule = Schedule::read(alloc, loaded.schedule.as_slice())?;
     let run = run_image(
         alloc,
-        command,
+        &command.guest,
         &image,
         schedule,
         loaded.inputs,

@@ -6,7 +6,7 @@ ghost use Rattle.aprof_top.specs.Ends.{Reaches};
 ghost use Rattle.aprof_top.specs.Outside.{outside};
 ghost use Rattle.aprof_top.specs.Products.{CommandLoads};
 ghost use Rattle.command_line.specs.Options.Asked.{Run, Demo};
-ghost use Rattle.command_line.specs.Read.{AreInRange, options_in};
+ghost use Rattle.command_line.specs.Read.{AreInRange, guest_in, options_in};
 
 use crate::delivery::deliver;
 use crate::demo::run_demo;
@@ -14,23 +14,23 @@ use crate::ending::{Ending, Verdict, tell};
 use crate::loaded::Loaded;
 use crate::loads::{load_files, loaded_paths, shared_count};
 use crate::product::run_files;
-use command_line::{Command, CommandError, RunCommand, read_command};
+use command_line::{Command, CommandError, GuestOptions, RunCommand, read_command};
 use host_io::{Files, Sink};
 use std::alloc::Global;
 
 // Loads the files of a command.
 fn load_command<'a, F: Files>(
     alloc: Global,
-    command: &RunCommand<'a>,
+    guest: &GuestOptions<'a>,
     files: &mut F,
 ) -> Result<Loaded, Ending<'a>>
-    ensures { CommandLoads (options_in command.now) (F.state files.old) (F.state files.new) result }
+    ensures { CommandLoads (guest_in guest.now) (F.state files.old) (F.state files.new) result }
 {
-    let names = command.inputs(alloc)?;
-    let paths = loaded_paths(alloc, command, names.as_slice())?;
-    let shared = shared_count(command, names.as_slice());
+    let names = guest.inputs(alloc)?;
+    let paths = loaded_paths(alloc, guest, names.as_slice())?;
+    let shared = shared_count(guest, names.as_slice());
     match load_files(alloc, paths.as_slice(), shared, files) {
-        Ok(loaded) => Ok(Loaded::new(alloc, command, names.as_slice(), loaded)?),
+        Ok(loaded) => Ok(Loaded::new(alloc, guest, names.as_slice(), loaded)?),
         Err(ending) => Err(ending),
     }
 }
@@ -43,12 +43,12 @@ fn run_command<'a, F: Files, O: Sink, E: Sink>(
     out: &mut O,
     err: &mut E,
 ) -> Ending<'a>
-    requires { AreInRange command.now.quantum command.now.budget }
+    requires { AreInRange (guest_in command.now.guest) }
     ensures { AskedEnds (Run (options_in command.now))
         (outside (F.state files.old) (O.state out.old) (E.state err.old))
         (outside (F.state files.new) (O.state out.new) (E.state err.new)) result }
 {
-    let loaded = match load_command(alloc, command, files) {
+    let loaded = match load_command(alloc, &command.guest, files) {
         Ok(loaded) => loaded,
         Err(ending) => return ending,
     };
@@ -104,7 +104,7 @@ fn run_words<'a, F: Files, O: Sink, E: Sink>(
 /// ended. Every status but 2, 4 and 10 is the outcome's: all of its output was put and all of its files were stored. At 2 the
 /// load of the next file failed, and nothing was put or stored; at 4 a store or a put of the output failed, and what came
 /// before is a first part of the outcome; at 10 memory was wanting, and no load, store or put had failed, but where the last
-/// text of another status was what wanted memory. Then the last text of that end was put on `err`, where no put had failed.
+/// text of another status was what wanted memory. Then the last text of that end was put on `err`, unless a put on `err` had failed.
 /// Where nothing failed and no file was too long the status is the outcome's, or 10.
 pub fn aprof<F: Files, O: Sink, E: Sink>(
     alloc: Global,

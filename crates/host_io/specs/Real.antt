@@ -1,10 +1,12 @@
--- What the files of the system and a sink over a writer mean: counts alone, since nothing is known of what they hold.
+-- What the files of the system, a sink over a writer and one that drops all mean: counts alone, since nothing is known of
+-- what they hold.
 use Rattle.std.specs.Prelude.{◌≡◌, ◌≢◌, None, Result, Err}
 use Rattle.std.specs.IoError.{error_kind}
 use Rattle.std.specs.declared.io.Error.{Error}
 use Rattle.std.specs.declared.io.ErrorKind.TheVariants.{OutOfMemory}
 use Rattle.host_io.specs.Files.{FilesState}
 use Rattle.host_io.specs.Sink.{SinkState}
+use Rattle.host_io.specs.declared.drop_sink.DropSink.{DropSink}
 use Rattle.host_io.specs.declared.real_files.RealFiles.{RealFiles}
 use Rattle.host_io.specs.declared.stream_sink.StreamSink.{StreamSink}
 
@@ -15,6 +17,10 @@ real_state f = record { contents = None; failed_paths = None; faults = f.faults;
 -- what a sink over a writer means: it tells no bytes
 abbrev pub stream_state : {W : Type 0} → StreamSink W → SinkState
 stream_state s = record { bytes = None; faults = s.faults }
+
+-- what a sink that drops its bytes means: it tells none, and none fails
+abbrev pub drop_state : DropSink → SinkState
+drop_state s = record { bytes = None; faults = 0 }
 
 -- the writer of a sink
 abbrev pub writer_of : {W : Type 0} → StreamSink W → W

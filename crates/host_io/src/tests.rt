@@ -1,7 +1,8 @@
 //! Each public call, and failures of a reader and a writer in mid-stream.
 use crate::real_files::{limited, read_whole};
 use crate::{
-    Files, LoadError, MemoryFiles, MemorySink, PutError, RealFiles, Sink, StoreError, StreamSink,
+    DropSink, Files, LoadError, MemoryFiles, MemorySink, PutError, RealFiles, Sink, StoreError,
+    StreamSink,
 };
 use std::io;
 use std::io::{ErrorKind, Read, Write};
@@ -34,6 +35,12 @@ fn a_failing_put_leaves_the_first_half(rt: HostRuntime) -> Result<(), Fail> {
     assert_eq!(rt; sink.put(b"three"), Err(PutError::Failed));
     sink.put(b"!")?;
     assert_eq!(rt; sink.bytes(), b"oneth!".as_slice());
+    Ok(())
+}
+
+#[test]
+fn a_sink_may_drop_all(rt: HostRuntime) -> Result<(), Fail> {
+    assert_eq!(rt; DropSink.put(b"one"), Ok(()));
     Ok(())
 }
 

@@ -1,5 +1,5 @@
 use Rattle.std.proofs.Common.{◌≡◌, ◌∙◌, IfSome, Err, Ok, ap, map, string_bytes, subst}
-use Rattle.command_line.specs.Read.{options_in}
+use Rattle.command_line.specs.Read.{guest_in}
 use Rattle.command_line.specs.Options.{arguments}
 use Rattle.guest_machine.specs.Kept.{machine_of}
 use Rattle.guest_machine.specs.Setup.{setup_refusal}
@@ -9,7 +9,7 @@ use Rattle.aprof_top.proofs.product.run_image.Goals as goal
 
 pub returns : goal.returns
 returns c =
-    let options = options_in c.args.command.now in
+    let options = guest_in c.args.guest.now in
     let words = ap (map string_bytes) c.as_slice.ensures.value ∙ c.in_ok-words.ensures in
     let began = c.in_ok-machine.ensures in
     let begins = none_refused _ c.in_ok-machine.machine (subst (λ w. IfSome (setup_refusal c.args.image.now w) (λ why. Ok c.in_ok-machine.machine ≡ Err why)) words began.refused) in

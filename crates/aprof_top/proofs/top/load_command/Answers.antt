@@ -1,6 +1,6 @@
 use Rattle.std.proofs.Common.{◌∙◌, ap, length, map, sym}
 use Rattle.std.proofs.lemmas.List.{length-map}
-use Rattle.command_line.specs.Read.{options_in}
+use Rattle.command_line.specs.Read.{guest_in}
 use Rattle.aprof_top.specs.Loading.{contents_of}
 use Rattle.aprof_top.specs.Loads.{loaded_paths, shared_count}
 use Rattle.aprof_top.proofs.LoadSteps.{AreLoaded-as}
@@ -9,7 +9,7 @@ use Rattle.aprof_top.proofs.top.load_command.Goals as goal
 
 pub returns-in-Ok : goal.returns-in-Ok
 returns-in-Ok g c =
-    let options = options_in c.args.command.now in
+    let options = guest_in c.args.guest.now in
     let paths_are = ap (map text) c.as_slice-3.ensures.value ∙ c.in_ok-paths.ensures in
     record {
       files = contents_of c.in-Ok.loaded.items;

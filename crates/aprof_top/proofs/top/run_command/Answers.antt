@@ -14,7 +14,7 @@ returns-in-Ok-run_files g c =
     let options = options_in c.args.command.now in
     let all = c.in-Ok.ensures in
     let product = c.in-Ok-run_files.product in
-    let runs = c.in-Ok-run_files.ensures (loaded_of options all.files) all.keeps in
+    let runs = c.in-Ok-run_files.ensures (loaded_of options.guest all.files) all.keeps in
     AskedEnds-delivered options (g.F.Files.state c.args.files.now) (g.F.Files.state c.load_command.new.files) (g.O.Sink.state c.args.out.now) (g.E.Sink.state c.args.err.now) c.in-Ok.loaded all c.deliver.result (outcome_of product)
     (outside (g.F.Files.state c.deliver.new.files) (g.O.Sink.state c.deliver.new.out) (g.E.Sink.state c.deliver.new.err)) runs.is_run runs.ran c.deliver.ensures
 
@@ -22,4 +22,4 @@ pub returns-in-Err-run_files : goal.returns-in-Err-run_files
 returns-in-Err-run_files g c =
     let options = options_in c.args.command.now in
     let all = c.in-Ok.ensures in
-    rw c.from.ensures (AskedEnds-unrun options (g.F.Files.state c.args.files.now) (g.F.Files.state c.load_command.new.files) (g.O.Sink.state c.args.out.now) (g.E.Sink.state c.args.err.now) c.in-Ok.loaded all c.in-Err-run_files.refusal (c.in-Err-run_files.ensures (loaded_of options all.files) all.keeps))
+    rw c.from.ensures (AskedEnds-unrun options (g.F.Files.state c.args.files.now) (g.F.Files.state c.load_command.new.files) (g.O.Sink.state c.args.out.now) (g.E.Sink.state c.args.err.now) c.in-Ok.loaded all c.in-Err-run_files.refusal (c.in-Err-run_files.ensures (loaded_of options.guest all.files) all.keeps))
