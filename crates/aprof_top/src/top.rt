@@ -15,6 +15,7 @@ use crate::loaded::Loaded;
 use crate::loads::{load_files, loaded_paths, shared_count};
 use crate::product::run_files;
 use command_line::{Command, CommandError, GuestOptions, RunCommand, read_command};
+use guest_words::limits::DEMO_ROUTINES;
 use host_io::{Files, Sink};
 use std::alloc::Global;
 
@@ -66,7 +67,7 @@ fn show_demo<F: Files, O: Sink, E: Sink>(
     out: &mut O,
     err: &mut E,
 ) -> Ending<'static>
-    requires { (1 ≤ number) × (number ≤ 40000) }
+    requires { (1 ≤ number) × (number ≤ DEMO_ROUTINES) }
     ensures { AskedEnds (Demo number)
         (outside (F.state files.old) (O.state out.old) (E.state err.old))
         (outside (F.state files.new) (O.state out.new) (E.state err.new)) result }
