@@ -4,6 +4,7 @@ use Rattle.std.specs.Prelude.{nat_lt, sum_by}
 use Rattle.std.specs.List.{AllByRecursion, list_any}
 use Rattle.std.specs.Option.{option_to_list}
 use Rattle.std.proofs.lemmas.Bool.Decides.{nat_tests}
+use Rattle.guest_words.specs.declared.limits.TheConstants.{RUN_STEPS}
 use Rattle.command_line.specs.Options.{GuestOptions, RunOptions, arguments, inputs}
 use Rattle.elf_image.specs.declared.error.ElfError.{ElfError}
 use Rattle.elf_image.specs.Reading.{image_of}
@@ -188,11 +189,11 @@ module _ (replays : ReplaysProfiled) (entries : EveryRunRecordsEntries) (options
   unfolding shown_from first_state
   same_shown no_mismatch = ap shown_of (replays greatest_stamp (first_past (image_of loaded.image).entry) options.guest.quantum options.guest.quantum options.guest.budget turns (first_state options.guest loaded) refl no_mismatch)
 
-  are_entries : options.guest.budget ≤ 10 ^ 12 → AllByRecursion IsEntry shown.turns
+  are_entries : options.guest.budget ≤ RUN_STEPS → AllByRecursion IsEntry shown.turns
   unfolding shown_from first_state
   are_entries few = (entries (image_of loaded.image) (arguments options.guest) (with_inputs [] (inputs options.guest) loaded.inputs) loaded.stdin greatest_stamp (scheduler options.guest.quantum turns) options.guest.budget few).profiled_part
 
-  module _ (few : options.guest.budget ≤ 10 ^ 12) (no_mismatch : IsNoMismatch shown.finish) (is_text : text ≡ schedule_text shown.turns) (accepted : first_refusal loaded.image ≡ None) (begins : setup_refusal (image_of loaded.image) (arguments options.guest) ≡ None) (second : Outcome) where
+  module _ (few : options.guest.budget ≤ RUN_STEPS) (no_mismatch : IsNoMismatch shown.finish) (is_text : text ≡ schedule_text shown.turns) (accepted : first_refusal loaded.image ≡ None) (begins : setup_refusal (image_of loaded.image) (arguments options.guest) ≡ None) (second : Outcome) where
     under_turns : second ≡ scheduled_outcome (scheduled options path) again (Turns shown.turns) → second ≡ run_outcome options (image_of loaded.image) shown
     under_turns is =
         is

@@ -1,8 +1,9 @@
 -- Laws on the outcomes of commands.
-use Rattle.std.specs.Prelude.{◌≡◌, ◌≤◌, ◌^◌, ℕ, suc, List, [], ◌∷◌, ◌++◌, length, take, slice_get, Option, Some}
+use Rattle.std.specs.Prelude.{◌≡◌, ◌≤◌, ℕ, suc, List, [], ◌∷◌, ◌++◌, length, take, slice_get, Option, Some}
 use Rattle.command_line.specs.Options.{Asked, GuestOptions, RunOptions}
 use Rattle.command_line.specs.Options.Asked.{Run}
 use Rattle.guest_run.specs.Laws.{IsNoMismatch}
+use Rattle.guest_words.specs.declared.limits.TheConstants.{RUN_STEPS}
 use Rattle.guest_words.specs.declared.endings.Finish.{Finish}
 use Rattle.aprof_top.specs.declared.ending.Verdict.TheVariants.{Ran}
 use Rattle.aprof_top.specs.Limits.{file_limit}
@@ -38,6 +39,6 @@ pub record LeavesRecording (options : RunOptions) (outcome : Outcome) (text : Li
 -- and files has the same outcome: verdict, output, recording and report.
 abbrev pub TwoRunsAgree : Type 0
 TwoRunsAgree =
-    (options : RunOptions) (files : List (List ℕ)) (first second : Outcome) (path text : List ℕ) → options.guest.budget ≤ 10 ^ 12
+    (options : RunOptions) (files : List (List ℕ)) (first second : Outcome) (path text : List ℕ) → options.guest.budget ≤ RUN_STEPS
     → IsOutcome (Some (Run options)) files first → LeavesRecording options first text → length text ≤ file_limit
     → IsOutcome (Some (Run (scheduled options path))) (with_schedule options.guest files text) second → second ≡ first

@@ -12,6 +12,7 @@ use command_line::GuestOptions;
 use demo_guest::demo_image;
 use elf_image::read_image;
 use guest_calls::Inputs;
+use guest_words::limits::DEMO_ROUTINES;
 use std::alloc::Global;
 use thread_sched::Schedule;
 
@@ -31,7 +32,7 @@ fn demo_guest(alloc: Global) -> GuestOptions<'static>
 
 /// Runs the demo of this number, and sums its report up.
 pub(crate) fn run_demo(alloc: Global, number: u32) -> Result<Product<'static>, Ending>
-    requires { (1 ≤ number) × (number ≤ 40000) }
+    requires { (1 ≤ number) × (number ≤ DEMO_ROUTINES) }
     ensures { DemoRuns number result }
 {
     let file = demo_image(alloc, number)?;

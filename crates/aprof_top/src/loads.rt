@@ -9,15 +9,10 @@ ghost use Rattle.aprof_top.specs.Loads.{loaded_paths, shared_count};
 use crate::ending::{Ending, Verdict};
 use crate::source::source_at;
 use command_line::GuestOptions;
+use guest_words::limits::{FILE_BYTES, INPUT_BYTES};
 use host_io::{Files, LoadError};
 use std::alloc::{AllocError, Global};
 use std::collections::VecDeque;
-
-/// The greatest length of a file that is loaded.
-const FILE_LIMIT: usize = 16_777_216;
-
-/// The greatest length of the input files and standard input together.
-const INPUTS_LIMIT: usize = 67_108_864;
 
 // One more path, where there is one.
 fn push_path<'a>(paths: &mut Vec<&'a str>, path: Option<&'a str>) -> Result<(), AllocError>
@@ -87,7 +82,7 @@ pub(crate) fn load_files<F: Files>(
     let mut loaded = VecDeque::new(alloc);
     let mut sum = 0;
     for path in paths {
-        let file = match files.load(alloc, path, FILE_LIMIT) {
+        let file = match files.load(alloc, path, FILE_BYTES) {
             Ok(file) => file,
             Err(LoadError::Failed) => {
                 let source = source_at(guest, names.len(), loaded.len());
@@ -98,7 +93,7 @@ pub(crate) fn load_files<F: Files>(
         };
         sum = with_length(sum, loaded.len(), shared, file.len());
         loaded.push_back(file)?;
-        if sum > INPUTS_LIMIT {
+        if sum > INPUT_BYTES {
             return Err(Ending::Decided(Verdict::TooLarge));
         }
     }

@@ -14,6 +14,7 @@ use crate::loaded::Loaded;
 use crate::loads::{load_files, loaded_paths};
 use crate::product::run_files;
 use command_line::{Command, GuestOptions, RunCommand, read_command};
+use guest_words::limits::DEMO_ROUTINES;
 use host_io::{Files, Sink};
 use std::alloc::Global;
 
@@ -62,7 +63,7 @@ fn show_demo<F: Files, O: Sink, E: Sink>(
     out: &mut O,
     err: &mut E,
 ) -> Ending
-    requires { (1 ≤ number) × (number ≤ 40000) }
+    requires { (1 ≤ number) × (number ≤ DEMO_ROUTINES) }
     ensures { AskedEnds (Demo number)
         (outside (F.state files.old) (O.state out.old) (E.state err.old))
         (outside (F.state files.new) (O.state out.new) (E.state err.new)) result }

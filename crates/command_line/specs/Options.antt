@@ -3,6 +3,7 @@ use Rattle.std.specs.Prelude.{◌≡◌, ◌⊎◌, ℕ, Bool, false, ◌&&◌, 
 use Rattle.std.specs.List.{list_all, list_any, starts_with}
 use Rattle.std.specs.Str.{bytes_eq}
 use Rattle.std.specs.Str.Parse.{digits_value}
+use Rattle.guest_words.specs.declared.limits.TheConstants.{DEMO_ROUTINES, QUANTUM_STEPS, RUN_STEPS}
 use Rattle.clap.specs.Words.{Row, all_of, first_of, subcommand_of, takes}
 use Rattle.command_line.specs.App.{the_app}
 
@@ -76,13 +77,13 @@ number_or usual least greatest (Some text) = number_between least greatest text
 
 -- ---- the options
 
--- the steps of a turn: 1 to 10^9
+-- the steps of a turn: 1 to `QUANTUM_STEPS`
 abbrev pub quantum_of : Option (List ℕ) → Option ℕ
-quantum_of = number_or 10000 1 1000000000
+quantum_of = number_or 10000 1 QUANTUM_STEPS
 
--- the steps of a run: 1 to 10^12
+-- the steps of a run: 1 to `RUN_STEPS`
 abbrev pub budget_of : Option (List ℕ) → Option ℕ
-budget_of = number_or 1000000000 1 1000000000000
+budget_of = number_or 1000000000 1 RUN_STEPS
 
 -- the guest's options with these two numbers and this path, where all of them are there; the rest is read of the rows
 abbrev pub guest_with : List Row → Option ℕ → Option ℕ → Option (List ℕ) → Option GuestOptions
@@ -118,9 +119,9 @@ options_of_rows rows = options_with rows (guest_of_rows rows) (first_of (codes "
 
 -- ---- the demos
 
--- the number of a demo: 1 to 40000
+-- the number of a demo: 1 to `DEMO_ROUTINES`
 abbrev pub demo_of : List ℕ → Option ℕ
-demo_of = number_between 1 40000
+demo_of = number_between 1 DEMO_ROUTINES
 
 -- the number that `clap`'s matches say: `None` where it is out of its form or range
 abbrev pub demo_of_rows : List Row → Option ℕ

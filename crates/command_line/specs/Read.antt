@@ -1,5 +1,6 @@
 -- What a command that was read asks.
 use Rattle.std.specs.Prelude.{◌≤◌, map, option_map}
+use Rattle.guest_words.specs.declared.limits.TheConstants.{DEMO_ROUTINES, QUANTUM_STEPS, RUN_STEPS}
 use Rattle.command_line.specs.Options.{Asked, GuestOptions, RunOptions}
 use Rattle.command_line.specs.declared.commands.Command.{Command}
 use Rattle.command_line.specs.declared.guest_options.GuestOptions as declared
@@ -32,11 +33,11 @@ asked_in (Command.Demo number) = Asked.Demo number
 -- The numbers of a guest's options are in their ranges.
 pub record AreInRange (guest : GuestOptions) : Type 0 where
   pub some_steps : 1 ≤ guest.quantum
-  pub short_turn : guest.quantum ≤ 1000000000
+  pub short_turn : guest.quantum ≤ QUANTUM_STEPS
   pub some_budget : 1 ≤ guest.budget
-  pub small_budget : guest.budget ≤ 1000000000000
+  pub small_budget : guest.budget ≤ RUN_STEPS
 
 -- The numbers of a command are in their ranges.
 abbrev pub IsInRange : Command → Type 0
 IsInRange (Command.Run run) = AreInRange (guest_in run.guest)
-IsInRange (Command.Demo number) = (1 ≤ number) × (number ≤ 40000)
+IsInRange (Command.Demo number) = (1 ≤ number) × (number ≤ DEMO_ROUTINES)

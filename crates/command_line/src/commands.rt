@@ -11,11 +11,12 @@ use crate::numbers::number_between;
 use crate::run_command::{RunCommand, run_of_matches};
 use clap::ArgMatches;
 use clap::error::ErrorKind;
+use guest_words::limits::DEMO_ROUTINES;
 use std::alloc::{AllocError, Global};
 use thiserror::Error;
 
 /// The greatest number of a demo.
-const MAX_DEMO: u64 = 40_000;
+const MAX_DEMO: u64 = DEMO_ROUTINES as u64;
 
 /// Why no command is made of the words.
 #[derive(Clone, Copy, Debug, PartialEq, Eq, Error)]
@@ -65,7 +66,7 @@ fn some_has_zero(words: &[String]) -> bool
 // The number that the matches of `demo` say.
 fn demo_of_matches(matches: &ArgMatches) -> Option<u32>
     ensures number { result ≡ demo_of_rows (rows_of (found_of matches.now)) }
-    ensures range { IfSome result (λ number. (1 ≤ number) × (number ≤ 40000)) }
+    ensures range { IfSome result (λ number. (1 ≤ number) × (number ≤ DEMO_ROUTINES)) }
 {
     let number = number_between(1, MAX_DEMO, text_of(matches, "number")?)?;
     Some(number as u32)

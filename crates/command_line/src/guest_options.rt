@@ -11,19 +11,14 @@ use crate::commands::CommandError;
 use crate::matches::{text_of, texts_of};
 use crate::numbers::number_or;
 use clap::ArgMatches;
+use guest_words::limits::{QUANTUM_STEPS, RUN_STEPS};
 use std::alloc::{AllocError, Global};
 
 /// The most steps of a turn, where the words don't say.
 const DEFAULT_QUANTUM: u64 = 10_000;
 
-/// The most that they may say.
-const MAX_QUANTUM: u64 = 1_000_000_000;
-
 /// The most steps of a run, where the words don't say.
 const DEFAULT_BUDGET: u64 = 1_000_000_000;
-
-/// The most that they may say.
-const MAX_BUDGET: u64 = 1_000_000_000_000;
 
 /// How a guest is run: what every command that runs one is asked. `guest_in` says its options.
 #[derive(Drop)]
@@ -52,9 +47,9 @@ pub(crate) fn guest_of_matches<'a>(
     ensures ranges { IfOk result (λ guest. AreInRange (guest_in guest)) }
 {
     let quantum_text = text_of(matches, "quantum");
-    let quantum = number_or(DEFAULT_QUANTUM, 1, MAX_QUANTUM, quantum_text);
+    let quantum = number_or(DEFAULT_QUANTUM, 1, QUANTUM_STEPS, quantum_text);
     let budget_text = text_of(matches, "budget");
-    let budget = number_or(DEFAULT_BUDGET, 1, MAX_BUDGET, budget_text);
+    let budget = number_or(DEFAULT_BUDGET, 1, RUN_STEPS, budget_text);
     Ok(GuestOptions {
         stdin: text_of(matches, "stdin"),
         schedule: text_of(matches, "schedule"),

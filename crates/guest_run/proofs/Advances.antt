@@ -10,7 +10,6 @@ use Rattle.trace_model.specs.Observing.{MayTakeAll}
 use Rattle.trace_model.specs.Profile.{steps}
 use Rattle.thread_sched.specs.TurnRule.{SchedulerState}
 use Rattle.trace_model.proofs.Cut.{cut-fits}
-use Rattle.guest_machine.specs.declared.stepped.Stepped.{Stepped}
 use Rattle.guest_machine.specs.Kept.{machine_of}
 use Rattle.guest_machine.specs.Machine.{MachineState, can_run}
 use Rattle.guest_machine.specs.Step.{step}
@@ -26,7 +25,7 @@ use Rattle.guest_run.specs.declared.turns.Recorder.{Recorder}
 use Rattle.guest_run.specs.CurrentTurn.{IsUnderWay, chosen_of, position, recorded}
 use Rattle.guest_run.specs.Going.{Advances, IsGoing, IsOver, IsPastOf, Leads, observed, past_by, with_moves}
 use Rattle.guest_run.specs.Going as going
-use Rattle.guest_run.specs.Machine.{Machine, Progress, guest, turn_status_of}
+use Rattle.guest_run.specs.Machine.{Machine, Progress, guest}
 use Rattle.guest_run.specs.Output.{FailsOn, Sinks, with_output, with_sent}
 use Rattle.guest_run.specs.Profiled.{Profiled, profiled}
 use Rattle.guest_run.specs.Run.{Move, Position, WrittenRun, after_step, by_turn_status, chosen, go_on, move_of, position_after, recording, run_from, with_move}

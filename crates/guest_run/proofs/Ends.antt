@@ -1,5 +1,5 @@
 -- A run from its begin to its end.
-use Rattle.std.proofs.Common.{◌≡◌, ℕ, suc, ◌+◌, ◌-◌, ◌<◌, ◌≤◌, Bool, true, List, [], ◌∷◌, ◌++◌, length, length-append, Option, Some, None, Result, Ok, Err, IfOk, IfErr, refl, sym, ap, subst, ◌∙◌, append-nil, arith}
+use Rattle.std.proofs.Common.{◌≡◌, ℕ, suc, ◌+◌, ◌-◌, ◌<◌, Bool, true, List, [], ◌∷◌, ◌++◌, length, length-append, Option, Some, None, Result, Ok, Err, IfOk, IfErr, refl, sym, ap, subst, ◌∙◌, append-nil, arith}
 use Rattle.guest_words.specs.declared.endings.Finish.{Finish}
 use Rattle.guest_words.specs.declared.endings.Finish.TheVariants.{Budget}
 use Rattle.guest_words.specs.declared.limits.TheConstants.{RUN_STEPS}
@@ -15,7 +15,7 @@ use Rattle.guest_run.specs.declared.run.Runner.{Runner}
 use Rattle.guest_run.specs.declared.run_error.RunError.{RunError}
 use Rattle.guest_run.specs.declared.run_error.RunError.TheVariants.{CannotPut, Memory}
 use Rattle.guest_run.specs.CurrentTurn.{position, recorded, with_present}
-use Rattle.guest_run.specs.Going.{Advances, GoesOn, IsGoing, IsNewRunner, IsOver, IsPastOf, Leads, MayAdvance, observed}
+use Rattle.guest_run.specs.Going.{Advances, GoesOn, IsGoing, IsNewRunner, IsOver, IsPastOf, MayAdvance, observed}
 use Rattle.guest_run.specs.Machine.{guest}
 use Rattle.guest_run.specs.Output.{Sinks, with_output}
 use Rattle.guest_run.specs.Profiled.{Profiled, first_past}

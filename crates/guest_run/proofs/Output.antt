@@ -2,7 +2,6 @@
 use Rattle.std.proofs.Common.{◌≡◌, ℕ, List, [], ◌∷◌, ◌++◌, Option, Some, None, refl, sym, ap, ap₂, ◌∙◌, append-nil, append_assoc}
 use Rattle.std.specs.Io.KnownBytes.{append_known}
 use Rattle.host_io.specs.Sink.{SinkState, appended}
-use Rattle.trace_model.specs.declared.event_kinds.Event.{Event}
 use Rattle.guest_run.specs.Output.{Sinks, with_output, with_sent}
 use Rattle.guest_run.specs.Run.{Move, bytes_on, events_of, sent}
 

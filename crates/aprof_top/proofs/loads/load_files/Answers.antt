@@ -39,9 +39,9 @@ returns-in-Err-TooLarge-clause-ends g c =
           (rw c.in-Err-TooLarge.field-0-is at c.in-Err-TooLarge.ensures.ends)),
     )
 
-pub returns-then-sum-gt-INPUTS_LIMIT-clause-ends :
-    goal.returns-then-sum-gt-INPUTS_LIMIT-clause-ends
-returns-then-sum-gt-INPUTS_LIMIT-clause-ends g c =
+pub returns-then-sum-gt-INPUT_BYTES-clause-ends :
+    goal.returns-then-sum-gt-INPUT_BYTES-clause-ends
+returns-then-sum-gt-INPUT_BYTES-clause-ends g c =
     let options = guest_in c.args.guest.now in
     let old = g.F.Files.state c.args.files.now in
     let new = g.F.Files.state c.load.new.self in
@@ -54,7 +54,7 @@ returns-then-sum-gt-INPUTS_LIMIT-clause-ends g c =
           c.in-Ok.file.items c.in-Ok.ensures.ends c.with_length-sum.result
           (let count : c.len-in-loop-path.result ≡ length (contents_of c.loop-path.loaded.items) = c.len-in-loop-path.ensures ∙ c.loop-path.invariant.len ∙ sym (length-map c.loop-path.loaded.items _ ∙ c.loop-path.invariant.count) in let size : c.len-in-loop-path-2.result ≡ length c.in-Ok.file.items = c.len-in-loop-path-2.ensures ∙ c.in-Ok.file.ok.0 in
           c.with_length-sum.ensures ∙ ap₂ (λ n m. cond (nat_le 1 n && nat_le n shared) (c.loop-path.sum + m) c.loop-path.sum) count size)
-          c.if-sum-gt-INPUTS_LIMIT.true),
+          c.if-sum-gt-INPUT_BYTES.true),
     )
 
 pub loop-path-preserved : goal.loop-path-preserved
@@ -72,7 +72,7 @@ loop-path-preserved g c =
           (path_at c.args.paths.now c.loop-path.loaded.items c.loop-path.path-index _ c.loop-path.invariant.count c.loop-path-test.true)
           c.in-Ok.file.items c.in-Ok.ensures.ends c.with_length-sum.result
           (c.with_length-sum.ensures ∙ ap₂ (λ n m. cond (nat_le 1 n && nat_le n shared) (c.loop-path.sum + m) c.loop-path.sum) count size)
-          c.if-sum-gt-INPUTS_LIMIT.false);
+          c.if-sum-gt-INPUT_BYTES.false);
     }
 
 pub returns-clause-loaded : goal.returns-clause-loaded
