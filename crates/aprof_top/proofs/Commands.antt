@@ -1,5 +1,5 @@
 -- From the loads and the run of a command to how it ends.
-use Rattle.std.proofs.Common.{◌≡◌, ℕ, ◌<◌, Bool, true, false, cond, List, [], Some, None, Err, refl, sym, ap, subst, inl, inr, arith, length, slice_get}
+use Rattle.std.proofs.Common.{◌≡◌, ℕ, ◌<◌, Bool, true, false, cond, List, [], Some, None, Result, Ok, Err, OnErr, refl, sym, ap, subst, inl, inr, arith, length, slice_get}
 use Rattle.std.specs.Prelude.{nat_lt}
 use Rattle.std.specs.List.{list_any}
 use Rattle.std.proofs.lemmas.Bool.Decides.{nat_tests}
@@ -7,7 +7,9 @@ use Rattle.std.proofs.lemmas.Option.{slice_get_within}
 use Rattle.command_line.specs.Options.{AsksFor, GuestOptions, RunOptions, has_zero}
 use Rattle.command_line.specs.Options.Asked.{Run, Demo}
 use Rattle.host_io.specs.Files.{FilesState}
-use Rattle.host_io.specs.Sink.{SinkState}
+use Rattle.host_io.specs.Sink.{PutEnds, SinkState}
+use Rattle.host_io.specs.declared.sink.PutError.{PutError}
+use Rattle.host_io.specs.declared.sink.PutError.TheVariants as refused
 use Rattle.command_line.proofs.Refusals.{no_zero}
 use Rattle.command_line.specs.declared.commands.CommandError.{CommandError}
 use Rattle.command_line.specs.declared.commands.CommandError.TheVariants as command
@@ -25,10 +27,11 @@ use Rattle.aprof_top.specs.Loads.{loaded_of, loaded_paths, passes_limit, shared_
 use Rattle.aprof_top.specs.Outcome.{Follows, IsDemo, IsOutcome, IsRun, Outcome, refusal, stage}
 use Rattle.aprof_top.specs.Outcome.Stage.{Complete, Loading, PastLimit}
 use Rattle.aprof_top.specs.Outside.{AreFiles, Outside, outside}
-use Rattle.aprof_top.specs.Products.{FilesRun, LoadsAll}
+use Rattle.aprof_top.specs.Jobs.{FilesRun, ending_by, summed}
+use Rattle.aprof_top.specs.Loading.{LoadsAll}
 use Rattle.aprof_top.specs.Sources.{path_of}
 use Rattle.aprof_top.specs.Verdicts.{IsOfRun}
-use Rattle.aprof_top.proofs.Sinks.{appended-nothing}
+use Rattle.aprof_top.proofs.Sinks.{appended-nothing, same_files, takes_none}
 
 -- ---- where the loads stand
 stage_by : (options : GuestOptions) (files : List (List ℕ)) (past more : Bool) → passes_limit (shared_count options) files ≡ past → nat_lt (length files) (length (loaded_paths options)) ≡ more → stage options files ≡ cond past PastLimit (cond more Loading Complete)
@@ -59,9 +62,6 @@ refused_by words v files now out err found written unchanged = (
   refl,
   record { output = record { out = appended-nothing out; err = appended-nothing err }; stored = unchanged },
 )
-
-same_files : (files : FilesState) → AreFiles files files
-same_files files = record { contents = refl; failed_paths = refl; faults = refl }
 
 -- the words are refused
 Reaches-bad_command : (words : List (List ℕ)) (files : FilesState) (out err : SinkState) → AsksFor words None → Reaches words (Decided verdict.BadCommand) (outside files out err) (outside files out err)
@@ -113,30 +113,20 @@ module _ (options : RunOptions) (files loaded : FilesState) (out err : SinkState
       written = decided outcome is_run;
     }
 
-    -- the run gave no product
-    pub AskedEnds-unrun : (e : declared.Ending) → FilesRun options (loaded_of options.guest all.files) (Err e) → AskedEnds (Run options) before between e
-    AskedEnds-unrun (ending.Decided v) is_run words asks =
-        refused_by words v files loaded out err (decision words between (refusal v) asks is_run).found (decided (refusal v) is_run)
-        (subst (λ f. AreFiles files f) (sym all.are.same) (same_files files))
-    AskedEnds-unrun (ending.CannotRead source) is_run words asks = absurd is_run
-    AskedEnds-unrun ending.CannotWrite is_run words asks = absurd is_run
-    AskedEnds-unrun ending.CannotPut is_run words asks = absurd is_run
-    AskedEnds-unrun ending.OutOfMemory is_run words asks = record { no_zero = no_zero words (Run options) asks; done = inl (ap (λ f. outside f out err) all.are.same) }
-
-    -- its product was handed out
-    pub AskedEnds-delivered : (e : declared.Ending) (outcome : Outcome) (after : Outside) → IsRun options (loaded_of options.guest all.files) outcome → IsOfRun outcome.verdict → Delivers outcome between after e → AskedEnds (Run options) before after e
-    AskedEnds-delivered e outcome after is_run some delivery words asks =
-        by e (subst (λ f. Delivers outcome (outside f out err) after e) all.are.same delivery)
+    -- and the guest was run
+    pub AskedEnds-run : (after : Outside) (e : declared.Ending) → FilesRun options (loaded_of options.guest all.files) between after e → AskedEnds (Run options) before after e
+    AskedEnds-run after e runs words asks = by e (subst (λ f. FilesRun options (loaded_of options.guest all.files) (outside f out err) after e) all.are.same runs)
       where
-        by : (e : declared.Ending) → Delivers outcome before after e → Reaches words (end_of (guest_of (Run options)) e) before after
-        by (ending.Decided v) (same, done) = (decision words after outcome asks is_run, same, done)
-        by (ending.CannotRead source) fails = absurd fails
-        by ending.CannotWrite fails = record { decision = decision words after outcome asks is_run; ran = some; fails = fails }
-        by ending.CannotPut fails = record { decision = decision words after outcome asks is_run; ran = some; fails = fails }
-        by ending.OutOfMemory short = record { no_zero = no_zero words (Run options) asks; done = inr (decision words after outcome asks is_run, short) }
+        by : (e : declared.Ending) → FilesRun options (loaded_of options.guest all.files) before after e → Reaches words (end_of (guest_of (Run options)) e) before after
+        by (ending.Decided v) runs' = (decision words after runs'.outcome asks runs'.is_run, runs'.delivered.0, runs'.delivered.1)
+        by (ending.CannotRead source) runs' = absurd runs'
+        by ending.CannotWrite runs' = record { decision = decision words after runs'.outcome asks runs'.is_run; ran = runs'.delivered.0; fails = runs'.delivered.1 }
+        by ending.CannotPut runs' = record { decision = decision words after runs'.outcome asks runs'.is_run; ran = runs'.delivered.0; fails = runs'.delivered.1 }
+        by ending.OutOfMemory (inl same) = record { no_zero = no_zero words (Run options) asks; done = inl same }
+        by ending.OutOfMemory (inr runs') = record { no_zero = no_zero words (Run options) asks; done = inr (decision words after runs'.outcome asks runs'.is_run, runs'.delivered) }
 
 -- ---- the demo
--- its product was handed out
+-- its outcome was handed out
 module _ (number : ℕ) (outcome : Outcome) (before after : Outside) (is_demo : IsDemo number outcome) where
   abbrev summed : (words : List (List ℕ)) → AsksFor words (Some (Demo number)) → Decision words before after
   summed words asks = record {
@@ -152,7 +142,38 @@ module _ (number : ℕ) (outcome : Outcome) (before after : Outside) (is_demo : 
   AskedEnds-shown ending.CannotPut ran fails words asks = record { decision = summed words asks; ran = ran; fails = fails }
   AskedEnds-shown ending.OutOfMemory ran short words asks = record { no_zero = no_zero words (Demo number) asks; done = inr (summed words asks, short) }
 
--- it has no product for want of memory alone
+-- it has no summary for want of memory alone
 pub AskedEnds-unshown : (number : ℕ) (before : Outside) (e : declared.Ending) → e ≡ ending.OutOfMemory → AskedEnds (Demo number) before before e
 AskedEnds-unshown number before e is words asks =
     subst (λ x. Reaches words (end_of (guest_of (Demo number)) x) before before) (sym is) (record { no_zero = no_zero words (Demo number) asks; done = inl refl })
+
+-- how the put of the summary ends it
+abbrev pub by_put : Result Unit PutError → declared.Ending
+by_put (Ok done) = ending.Decided verdict.Summarized
+by_put (Err refused.Failed) = ending.CannotWrite
+by_put (Err refused.Memory) = ending.OutOfMemory
+
+pub AskedEnds-put : (number : ℕ) (summary : List ℕ) (files : FilesState) (out new err : SinkState) → IsDemo number (summed summary) → (put : Result Unit PutError) →
+    PutEnds summary out new put → OnErr put (0 < length summary) → AskedEnds (Demo number) (outside files out err) (outside files new err) (by_put put)
+AskedEnds-put number summary files out new err is_demo (Ok done) gained some =
+    AskedEnds-shown number (summed summary) (outside files out err) (outside files new err) is_demo (ending.Decided verdict.Summarized) tt
+    (refl, record { output = record { out = gained; err = appended-nothing err }; stored = same_files files })
+AskedEnds-put number summary files out new err is_demo (Err refused.Failed) fails some =
+    AskedEnds-shown number (summed summary) (outside files out err) (outside files new err) is_demo ending.CannotWrite tt
+    (inr (record {
+      out = record { some = some; faults = fails.faults; count = fails.front; gained = fails.gained };
+      err_count = 0;
+      err = takes_none [] err err refl;
+      files = refl;
+    }))
+AskedEnds-put number summary files out new err is_demo (Err refused.Memory) same some =
+    AskedEnds-shown number (summed summary) (outside files out err) (outside files new err) is_demo ending.OutOfMemory tt
+    (record {
+      out_count = 0;
+      out = takes_none summary out new same;
+      err_count = 0;
+      err = takes_none [] err err refl;
+      count = 0;
+      files = refl;
+      output_first = inr refl;
+    })

@@ -4,9 +4,9 @@ use Rattle.std.proofs.lemmas.List.{map-append, take_more}
 use Rattle.host_io.specs.Files.{FailsToPut, FilesState, StoreEnds, stored_in}
 use Rattle.host_io.specs.declared.files.StoreError.{StoreError}
 use Rattle.host_io.specs.declared.files.StoreError.TheVariants as failure
-use Rattle.aprof_top.specs.declared.product.Store.{Store}
+use Rattle.aprof_top.specs.declared.delivery.Store.{Store}
 use Rattle.aprof_top.specs.Outside.{with_stores}
-use Rattle.aprof_top.specs.Products.{StoresEnd, store_of}
+use Rattle.aprof_top.specs.Jobs.{StoresEnd, store_of}
 use Rattle.aprof_top.proofs.Sinks.{with_stores-more}
 
 -- the first stores, with one more

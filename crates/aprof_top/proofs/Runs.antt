@@ -1,9 +1,15 @@
 -- What the run of a command's files comes to.
-use Rattle.std.proofs.Common.{◌≡◌, IfSome, Ok, arith, ℕ, List, [], Option, Some, None, Err, ◌≤◌, reverse, refl, sym, ap, ap₂, ◌∙◌, subst}
+use Rattle.std.proofs.Common.{◌≡◌, ◌≢◌, ◌⊎◌, IfSome, Ok, arith, ℕ, Bool, true, List, [], length, take, Option, Some, None, Result, Err, ◌≤◌, refl, sym, ap, ap₂, ◌∙◌, subst, inl, inr}
 use Rattle.std.specs.List.{AllByRecursion}
+use Rattle.std.proofs.Math.Seq.{take-length}
+use Rattle.guest_words.specs.declared.limits.TheConstants.{RUN_STEPS}
+use Rattle.trace_model.specs.declared.event_kinds.Event.{Event}
+use Rattle.trace_model.specs.Depth.{is_within}
+use Rattle.trace_model.specs.WellFormed.{IsLight}
 use Rattle.command_line.specs.Options.{GuestOptions, RunOptions, arguments, inputs}
+use Rattle.elf_image.specs.declared.error.ElfError.{ElfError}
+use Rattle.elf_image.specs.declared.error.ElfError.TheVariants as elf
 use Rattle.elf_image.specs.Image.{Executable}
-use Rattle.demo_guest.specs.Image.{IsDemoFile}
 use Rattle.elf_image.specs.Reading.{image_of}
 use Rattle.elf_image.specs.Tests.{first_refusal}
 use Rattle.guest_calls.specs.Inputs.{Input}
@@ -11,16 +17,13 @@ use Rattle.guest_machine.specs.declared.setup.SetupError.{SetupError}
 use Rattle.guest_machine.specs.Setup.{setup_refusal}
 use Rattle.guest_machine.specs.Start.{start}
 use Rattle.guest_machine.specs.Machine.{MachineState}
-use Rattle.guest_run.specs.declared.run.Run.{Run}
+use Rattle.guest_run.specs.declared.run.Ended.{Ended}
 use Rattle.guest_run.specs.Laws.{scheduler}
-use Rattle.guest_run.specs.Machine.{guest}
-use Rattle.guest_run.specs.Profiled.{first_past, profiled}
-use Rattle.guest_run.specs.Run.{run}
-use Rattle.guest_run.specs.Shown.{IsShown, Shown, shown_of}
-use Rattle.guest_run.specs.Traces.{most_moves}
+use Rattle.guest_run.specs.Output.{Sinks}
+use Rattle.guest_run.specs.Profiled.{Profiled}
+use Rattle.guest_run.specs.RunEnds.{IsWhole}
 use Rattle.guest_run.proofs.Weights.{every_run_light}
-use Rattle.thread_sched.specs.TurnRule.{SchedulerState}
-use Rattle.trace_model.specs.WellFormed.{IsLight}
+use Rattle.host_io.specs.Files.{FilesState}
 use Rattle.thread_sched.specs.declared.entry.Entry.{Entry}
 use Rattle.thread_sched.specs.ScheduleText as recordings
 use Rattle.thread_sched.specs.ScheduleText.{IsBadLine, IsEntry, IsText}
@@ -28,18 +31,18 @@ use Rattle.thread_sched.specs.declared.schedule.ScheduleError.{ScheduleError}
 use Rattle.thread_sched.specs.declared.schedule.ScheduleError.TheVariants as unread
 use Rattle.aprof_top.specs.declared.ending.Ending as declared
 use Rattle.aprof_top.specs.declared.ending.Ending.TheVariants as ending
-use Rattle.aprof_top.specs.declared.ending.Verdict.TheVariants.{BadSchedule, TooLarge, Summarized}
+use Rattle.aprof_top.specs.declared.ending.Verdict.{Verdict}
+use Rattle.aprof_top.specs.declared.ending.Verdict.TheVariants.{BadImage, BadSchedule, TooLarge}
 use Rattle.aprof_top.specs.declared.loaded.Loaded as kept
-use Rattle.aprof_top.specs.declared.product.Product.{Product}
-use Rattle.aprof_top.specs.Ending.{of_schedule}
+use Rattle.aprof_top.specs.Ending.{of_image, of_schedule}
+use Rattle.aprof_top.specs.Jobs.{FilesRun, ImageRuns, IsHandedOut, IsRefused, RunIsStored, ending_by}
 use Rattle.aprof_top.specs.Loads.{Loaded, with_inputs}
-use Rattle.aprof_top.specs.Outcome.{ByImage, IsDemo, IsRun, demo_options, demo_outcome, IsScheduled, Outcome, begun_outcome, refusal, run_outcome}
-use Rattle.aprof_top.specs.Products.{FilesRun, ImageRuns, IsRefused, IsRunOf, RunsTo, outcome_of}
-use Rattle.aprof_top.specs.Report.{report_of}
-use Rattle.aprof_top.specs.Summary.{summary_text}
-use Rattle.aprof_top.specs.Run.{first_state, greatest_stamp, run_of, shown_from}
-use Rattle.aprof_top.specs.Verdicts.{IsOfRun}
+use Rattle.aprof_top.specs.Outcome.{ByImage, IsRun, IsScheduled, Outcome, begun_outcome, refusal, run_outcome}
+use Rattle.aprof_top.specs.Outside.{AreFiles, Outside, outside}
+use Rattle.aprof_top.specs.Run.{first_state, greatest_stamp, observed_from, run_of}
 use Rattle.aprof_top.specs.Schedules.Reading.{BadLine, Turns}
+use Rattle.aprof_top.proofs.Handed.{fails_on_err, fails_on_out, puts_all, stops_short}
+use Rattle.aprof_top.proofs.Sinks.{appended-nothing, same_files, takes_all}
 
 module _ (options : RunOptions) (loaded : Loaded) where
   module _ (accepted : first_refusal loaded.image ≡ None) where
@@ -48,11 +51,6 @@ module _ (options : RunOptions) (loaded : Loaded) where
 
     pub IsRun-bad_line : (line : ℕ) → IsBadLine loaded.schedule line → IsRun options loaded (refusal (BadSchedule line))
     IsRun-bad_line line bad = accepts (refusal (BadSchedule line)) (record { reading = BadLine line; read = bad; answered = refl })
-
-    -- the schedule was not taken
-    pub FilesRun-bad_line : (e : ScheduleError) → recordings.IsRefused loaded.schedule e → FilesRun options loaded (Err (of_schedule e))
-    FilesRun-bad_line (unread.BadLine line) bad = IsRun-bad_line line bad
-    FilesRun-bad_line unread.Memory bad = tt
 
     module _ (turns : List Entry) (entries : AllByRecursion IsEntry turns) (text : IsText loaded.schedule turns) (image : Executable) (is : image ≡ image_of loaded.image) where
       refused_by : (o : Option SetupError) → IsRefused o → refusal TooLarge ≡ begun_outcome options loaded turns o
@@ -66,12 +64,11 @@ module _ (options : RunOptions) (loaded : Loaded) where
         answered = refused_by (setup_refusal (image_of loaded.image) (arguments options.guest)) (subst (λ i. IsRefused (setup_refusal i (arguments options.guest))) is refused);
       })
 
-      pub IsRun-run : setup_refusal image (arguments options.guest) ≡ None → (shown : Shown) → shown ≡ run_of options.guest loaded turns → (outcome : Outcome) → outcome ≡ run_outcome options image shown → IsRun options loaded outcome
-      IsRun-run begins shown runs outcome answered = accepts outcome (record {
+      pub IsRun-run : setup_refusal image (arguments options.guest) ≡ None → (seen : Profiled) → seen ≡ run_of options.guest loaded turns → IsRun options loaded (run_outcome options image seen)
+      IsRun-run begins seen runs = accepts (run_outcome options image seen) (record {
         reading = Turns turns;
         read = (entries, text);
-        answered = answered
-            ∙ ap₂ (run_outcome options) is runs
+        answered = ap₂ (run_outcome options) is runs
             ∙ ap (begun_outcome options loaded turns) (sym begins ∙ ap (λ i. setup_refusal i (arguments options.guest)) is);
       })
 
@@ -81,73 +78,129 @@ none_refused None m same = refl
 none_refused (Some why) m same = absurd (grind (arith, same))
 
 -- the run of the machine that began so
-pub same_run : (options : GuestOptions) (loaded : Loaded) (turns : List Entry) (image : Executable) (files : List Input) (stdin : List ℕ) → image ≡ image_of loaded.image → files ≡ with_inputs [] (inputs options) loaded.inputs → stdin ≡ loaded.stdin → shown_from options turns image.entry (start image (arguments options) files stdin) ≡ run_of options loaded turns
+pub same_run : (options : GuestOptions) (loaded : Loaded) (turns : List Entry) (image : Executable) (files : List Input) (stdin : List ℕ) → image ≡ image_of loaded.image → files ≡ with_inputs [] (inputs options) loaded.inputs → stdin ≡ loaded.stdin → observed_from (is_within greatest_stamp) options turns image.entry (start image (arguments options) files stdin) ≡ run_of options loaded turns
 unfolding first_state
 same_run options loaded turns image files stdin is files_are stdin_is =
-    ap (λ i. shown_from options turns i.entry (start i (arguments options) files stdin)) is
-    ∙ ap₂ (λ f s. shown_from options turns (image_of loaded.image).entry (start (image_of loaded.image) (arguments options) f s)) files_are stdin_is
+    ap (λ i. observed_from (is_within greatest_stamp) options turns i.entry (start i (arguments options) files stdin)) is
+    ∙ ap₂ (λ f s. observed_from (is_within greatest_stamp) options turns (image_of loaded.image).entry (start (image_of loaded.image) (arguments options) f s)) files_are stdin_is
 
 -- the image was taken
 pub image_accepted : (files : Loaded) (k : kept.Loaded) (bytes : List ℕ) → k.image.items ≡ files.image → bytes ≡ k.image.items → first_refusal bytes ≡ None → first_refusal files.image ≡ None
 image_accepted files k bytes keeps same accepted = ap first_refusal (sym (same ∙ keeps)) ∙ accepted
 
--- what is shown of the run of a machine
-pub IsShown-from : (options : GuestOptions) (turns : List Entry) (entry from : ℕ) (state machine : MachineState) (known : SchedulerState) (r : Run) → from ≡ entry → machine ≡ state → known ≡ scheduler options.quantum turns → IsShown (shown_of (profiled greatest_stamp (first_past from) (run guest known options.budget machine))) r → IsShown (shown_from options turns entry state) r
-unfolding shown_from
-IsShown-from options turns entry from state machine known r entry_is state_is known_is shows =
-    subst (λ e. IsShown (shown_of (profiled greatest_stamp (first_past e) (run guest (scheduler options.quantum turns) options.budget state))) r) entry_is
-    (subst (λ s. IsShown (shown_of (profiled greatest_stamp (first_past from) (run guest (scheduler options.quantum turns) options.budget s))) r) state_is
-    (subst (λ k. IsShown (shown_of (profiled greatest_stamp (first_past from) (run guest k options.budget machine))) r) known_is shows))
-
--- it is light
-pub IsLight-shown : (options : GuestOptions) (turns : List Entry) (image : Executable) (files : List Input) (stdin : List ℕ) (r : Run) → options.budget ≤ most_moves → IsShown (shown_from options turns image.entry (start image (arguments options) files stdin)) r → IsLight (reverse r.events.list)
-unfolding shown_from
-IsLight-shown options turns image files stdin r few shows =
-    subst IsLight (sym shows.past_is) (every_run_light image (arguments options) files stdin greatest_stamp (scheduler options.quantum turns) options.budget few)
-
--- the run of a command's files gave a product
-pub RunsTo-run : (options : RunOptions) (files : Loaded) (accepted : first_refusal files.image ≡ None) (turns : List Entry) (entries : AllByRecursion IsEntry turns) (text : IsText files.schedule turns) (image : Executable) (is : image ≡ image_of files.image) (inputs' : List Input) (stdin : List ℕ) → inputs' ≡ with_inputs [] (inputs options.guest) files.inputs → stdin ≡ files.stdin → (r : Run) → IsRunOf options.guest image turns inputs' stdin r → (product : Product) → ((shown : Shown) → IsShown shown r → outcome_of product ≡ run_outcome options image shown) → IsOfRun product.verdict → RunsTo options files product
-RunsTo-run options files accepted turns entries text image is inputs' stdin inputs_are stdin_is r runs product outcome ran = record {
-  is_run = IsRun-run options files accepted turns entries text image is runs.begins
-      (shown_from options.guest turns image.entry (start image (arguments options.guest) inputs' stdin))
-      (same_run options.guest files turns image inputs' stdin is inputs_are stdin_is)
-      (outcome_of product) (outcome _ runs.shown);
-  ran = ran;
+-- a refusal is handed out by nothing
+handed_refusal : (options : RunOptions) (loaded : Loaded) (v : Verdict) (o : Outside) → IsRun options loaded (refusal v) → FilesRun options loaded o o (ending.Decided v)
+handed_refusal options loaded v o is_run = record {
+  outcome = refusal v;
+  is_run = is_run;
+  delivered = (refl, record { output = record { out = appended-nothing o.out; err = appended-nothing o.err }; stored = same_files o.files });
 }
 
--- it gave none
-pub FilesRun-unrun : (options : RunOptions) (files : Loaded) (accepted : first_refusal files.image ≡ None) (turns : List Entry) (entries : AllByRecursion IsEntry turns) (text : IsText files.schedule turns) (image : Executable) (is : image ≡ image_of files.image) (inputs' : List Input) (stdin : List ℕ) (e : declared.Ending) → ImageRuns options.guest image turns inputs' stdin (Err e) → FilesRun options files (Err e)
-FilesRun-unrun options files accepted turns entries text image is inputs' stdin ending.OutOfMemory runs = tt
-FilesRun-unrun options files accepted turns entries text image is inputs' stdin (ending.Decided v) runs =
-    rw runs.0 (IsRun-unbegun options files accepted turns entries text image is runs.1)
-FilesRun-unrun options files accepted turns entries text image is inputs' stdin (ending.CannotRead source) runs = absurd runs
-FilesRun-unrun options files accepted turns entries text image is inputs' stdin ending.CannotWrite runs = absurd runs
-FilesRun-unrun options files accepted turns entries text image is inputs' stdin ending.CannotPut runs = absurd runs
+unread_image : (options : RunOptions) (loaded : Loaded) (o : Outside) (e : ElfError) → first_refusal loaded.image ≡ Some e → FilesRun options loaded o o (ending.Decided (BadImage e))
+unread_image options loaded o e refused =
+    handed_refusal options loaded (BadImage e) o (subst (λ why. ByImage options loaded (refusal (BadImage e)) why) (sym refused) refl)
 
--- ---- the demo
--- its summary is the outcome
-pub IsDemo-run : (number : ℕ) (file : List ℕ) (image : Executable) (r : Run) (product : Product) → IsDemoFile number file → image ≡ image_of file → IsRunOf demo_options image [] [] [] r → ((shown : Shown) → IsShown shown r → outcome_of product ≡ demo_outcome number image shown) → IsDemo number (outcome_of product)
-unfolding first_state
-IsDemo-run number file image r product is_file is runs outcome = record {
-  file = file;
-  is_demo = is_file;
-  answered = outcome _ runs.shown
-      ∙ ap₂ (demo_outcome number) is (ap (λ i. shown_from demo_options [] i.entry (start i (arguments demo_options) [] [])) is);
-}
+-- the image was not taken
+pub FilesRun-image : (options : RunOptions) (loaded : Loaded) (o : Outside) (e : ElfError) → (e ≢ elf.Memory → first_refusal loaded.image ≡ Some e) → FilesRun options loaded o o (of_image e)
+FilesRun-image options loaded o elf.Memory refused = inl refl
+FilesRun-image options loaded o elf.Short refused = unread_image options loaded o elf.Short (refused (λ e. absurd (cc)))
+FilesRun-image options loaded o elf.Magic refused = unread_image options loaded o elf.Magic (refused (λ e. absurd (cc)))
+FilesRun-image options loaded o elf.Class refused = unread_image options loaded o elf.Class (refused (λ e. absurd (cc)))
+FilesRun-image options loaded o elf.ByteOrder refused = unread_image options loaded o elf.ByteOrder (refused (λ e. absurd (cc)))
+FilesRun-image options loaded o elf.Version refused = unread_image options loaded o elf.Version (refused (λ e. absurd (cc)))
+FilesRun-image options loaded o elf.FileKind refused = unread_image options loaded o elf.FileKind (refused (λ e. absurd (cc)))
+FilesRun-image options loaded o elf.Machine refused = unread_image options loaded o elf.Machine (refused (λ e. absurd (cc)))
+FilesRun-image options loaded o elf.Flags refused = unread_image options loaded o elf.Flags (refused (λ e. absurd (cc)))
+FilesRun-image options loaded o elf.HeaderSize refused = unread_image options loaded o elf.HeaderSize (refused (λ e. absurd (cc)))
+FilesRun-image options loaded o elf.HeaderTable refused = unread_image options loaded o elf.HeaderTable (refused (λ e. absurd (cc)))
+FilesRun-image options loaded o elf.Interpreter refused = unread_image options loaded o elf.Interpreter (refused (λ e. absurd (cc)))
+FilesRun-image options loaded o elf.SegmentFile refused = unread_image options loaded o elf.SegmentFile (refused (λ e. absurd (cc)))
+FilesRun-image options loaded o elf.SegmentSize refused = unread_image options loaded o elf.SegmentSize (refused (λ e. absurd (cc)))
+FilesRun-image options loaded o elf.SegmentPlace refused = unread_image options loaded o elf.SegmentPlace (refused (λ e. absurd (cc)))
+FilesRun-image options loaded o elf.Overlap refused = unread_image options loaded o elf.Overlap (refused (λ e. absurd (cc)))
+FilesRun-image options loaded o elf.NoLoad refused = unread_image options loaded o elf.NoLoad (refused (λ e. absurd (cc)))
+FilesRun-image options loaded o elf.Entry refused = unread_image options loaded o elf.Entry (refused (λ e. absurd (cc)))
+FilesRun-image options loaded o elf.Pages refused = unread_image options loaded o elf.Pages (refused (λ e. absurd (cc)))
 
--- the same run, by other names
-pub IsRunOf-as : (options options' : GuestOptions) (image : Executable) (turns turns' : List Entry) (files files' : List Input) (stdin stdin' : List ℕ) (r : Run) → options ≡ options' → turns ≡ turns' → files ≡ files' → stdin ≡ stdin' → IsRunOf options image turns files stdin r → IsRunOf options' image turns' files' stdin' r
-IsRunOf-as options options' image turns turns' files files' stdin stdin' r same_options same_turns same_files same_stdin runs =
-    subst (λ o. IsRunOf o image turns' files' stdin' r) same_options
-    (subst (λ t. IsRunOf options image t files' stdin' r) same_turns
-    (subst (λ f. IsRunOf options image turns f stdin' r) same_files
-    (subst (λ s. IsRunOf options image turns files s r) same_stdin runs)))
+-- the schedule was not taken
+pub FilesRun-bad_line : (options : RunOptions) (loaded : Loaded) (o : Outside) (accepted : first_refusal loaded.image ≡ None) (e : ScheduleError) → recordings.IsRefused loaded.schedule e →
+    FilesRun options loaded o o (of_schedule e)
+FilesRun-bad_line options loaded o accepted (unread.BadLine line) bad = handed_refusal options loaded (BadSchedule line) o (IsRun-bad_line options loaded accepted line bad)
+FilesRun-bad_line options loaded o accepted unread.Memory bad = inl refl
 
--- what is shown of its report
-pub demo_shown : (number : ℕ) (image : Executable) (r : Run) (out err : List ℕ) (stores : List (List ℕ × List ℕ)) → out ≡ summary_text number (report_of image r.finish (reverse r.events.list)) → err ≡ [] → stores ≡ [] → (shown : Shown) → IsShown shown r → record { verdict = Summarized; out = out; err = err; stores = stores } ≡ demo_outcome number image shown
-demo_shown number image r out err stores on_out on_err stored shown shows = λ i. record {
-  verdict = Summarized;
-  out = (on_out ∙ ap₂ (λ finish past. summary_text number (report_of image finish past)) shows.ended shows.past_is) i;
-  err = on_err i;
-  stores = stored i;
-}
+-- ---- the guest is run
+module _ (options : RunOptions) (loaded : Loaded) (accepted : first_refusal loaded.image ≡ None) (turns : List Entry) (entries : AllByRecursion IsEntry turns)
+    (text : IsText loaded.schedule turns) (image : Executable) (is : image ≡ image_of loaded.image) (seen : Profiled) (runs : seen ≡ run_of options.guest loaded turns)
+    (files : FilesState) (before after : Sinks) where
+  is_outcome : setup_refusal image (arguments options.guest) ≡ None → IsRun options loaded (run_outcome options image seen)
+  is_outcome begins = IsRun-run options loaded accepted turns entries text image is begins seen runs
+
+  -- it can't begin, or is given up
+  pub FilesRun-given_up : {W : Type 0} (Stands : W → List Event → Type 0) (observer : W) (e : declared.Ending) →
+      ImageRuns Stands (setup_refusal image (arguments options.guest)) seen before observer after (Err e) →
+      FilesRun options loaded (outside files before.out before.err) (outside files after.out after.err) e
+  FilesRun-given_up Stands observer (ending.Decided v) (large, refused, same) =
+      subst (λ (s : Sinks). FilesRun options loaded (outside files before.out before.err) (outside files s.out s.err) (ending.Decided v)) (sym same)
+      (handed_refusal options loaded v (outside files before.out before.err)
+      (subst (λ w. IsRun options loaded (refusal w)) (sym large) (IsRun-unbegun options loaded accepted turns entries text image is refused)))
+  FilesRun-given_up Stands observer (ending.CannotRead source) fails = absurd fails
+  FilesRun-given_up Stands observer ending.CannotWrite (begins, stops) = record {
+    outcome = run_outcome options image seen;
+    is_run = is_outcome begins;
+    delivered = (tt, inr (fails_on_out (run_outcome options image seen) seen.moves refl refl files before after stops));
+  }
+  FilesRun-given_up Stands observer ending.CannotPut (begins, stops) = record {
+    outcome = run_outcome options image seen;
+    is_run = is_outcome begins;
+    delivered = (tt, fails_on_err (run_outcome options image seen) seen.moves refl refl files before after stops);
+  }
+  FilesRun-given_up Stands observer ending.OutOfMemory (inl same) = inl (ap (λ (s : Sinks). outside files s.out s.err) same)
+  FilesRun-given_up Stands observer ending.OutOfMemory (inr (begins, gives)) = inr (record {
+    outcome = run_outcome options image seen;
+    is_run = is_outcome begins;
+    delivered = stops_short (run_outcome options image seen) seen.moves refl refl files before after gives;
+  })
+
+  -- it came to its end, and its files are stored
+  pub FilesRun-stored : {W : Type 0} (Stands : W → List Event → Type 0) (observer : W) (ended : Ended) →
+      setup_refusal image (arguments options.guest) ≡ None → IsWhole Stands seen before observer after ended → (new : FilesState) (result : Result Verdict declared.Ending) →
+      RunIsStored (run_outcome options image seen) files new result →
+      FilesRun options loaded (outside files before.out before.err) (outside new after.out after.err) (ending_by result)
+  FilesRun-stored Stands observer ended begins whole new (Ok v) (same, stored) = record {
+    outcome = run_outcome options image seen;
+    is_run = is_outcome begins;
+    delivered = (same, record {
+      output = puts_all (run_outcome options image seen) seen.moves refl refl files before after whole.output;
+      stored = subst (λ f. AreFiles f new) stored (same_files new);
+    });
+  }
+  FilesRun-stored Stands observer ended begins whole new (Err ending.CannotWrite) fails = record {
+    outcome = run_outcome options image seen;
+    is_run = is_outcome begins;
+    delivered = (tt, inl (record { output = puts_all (run_outcome options image seen) seen.moves refl refl files before after whole.output; stored = fails }));
+  }
+  FilesRun-stored Stands observer ended begins whole new (Err ending.OutOfMemory) (count, stored) =
+      let outcome = run_outcome options image seen in
+      let output = puts_all outcome seen.moves refl refl files before after whole.output in
+      inr (record {
+        outcome = outcome;
+        is_run = is_outcome begins;
+        delivered = record {
+          out_count = length outcome.out;
+          out = takes_all outcome.out before.out after.out output.out;
+          err_count = length outcome.err;
+          err = takes_all outcome.err before.err after.err output.err;
+          count = count;
+          files = stored;
+          output_first = inl (take-length outcome.out, take-length outcome.err);
+        };
+      })
+  FilesRun-stored Stands observer ended begins whole new (Err (ending.Decided v)) fails = absurd fails
+  FilesRun-stored Stands observer ended begins whole new (Err (ending.CannotRead source)) fails = absurd fails
+  FilesRun-stored Stands observer ended begins whole new (Err ending.CannotPut) fails = absurd fails
+
+-- what is observed is light
+pub light_observed : (fits : List Event → Bool) (options : GuestOptions) (turns : List Entry) (image : Executable) (files : List Input) (stdin : List ℕ) → options.budget ≤ RUN_STEPS →
+    IsLight (observed_from fits options turns image.entry (start image (arguments options) files stdin)).past
+unfolding observed_from
+light_observed fits options turns image files stdin few = every_run_light image (arguments options) files stdin fits (scheduler options.quantum turns) options.budget few

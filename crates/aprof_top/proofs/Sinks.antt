@@ -6,7 +6,7 @@ use Rattle.std.proofs.Math.Seq.{take-length}
 use Rattle.host_io.specs.Files.{FilesState, stored_in}
 use Rattle.host_io.specs.Sink.{SinkState, appended}
 use Rattle.aprof_top.specs.Delivery.{TakesFirst}
-use Rattle.aprof_top.specs.Outside.{with_stores}
+use Rattle.aprof_top.specs.Outside.{AreFiles, with_stores}
 
 append_known-nothing : (known : Option (List ℕ)) → known ≡ append_known known []
 append_known-nothing None = refl
@@ -28,6 +28,10 @@ takes_all bytes old new gained = gained ∙ ap (appended old) (sym (take-length 
 pub with_stores-more : (stores : List (List ℕ × List ℕ)) (s : List ℕ × List ℕ) (files : FilesState) → with_stores (stores ++ s ∷ []) files ≡ stored_in (with_stores stores files) s.0 s.1
 with_stores-more [] s files = refl
 with_stores-more (first ∷ stores) s files = with_stores-more stores s (stored_in files first.0 first.1)
+
+-- files that are as they were
+pub same_files : (files : FilesState) → AreFiles files files
+same_files files = record { contents = refl; failed_paths = refl; faults = refl }
 
 -- stores raise no count
 pub with_stores-faults : (stores : List (List ℕ × List ℕ)) (files : FilesState) → (with_stores stores files).faults ≡ files.faults

@@ -8,7 +8,7 @@ use Rattle.guest_calls.specs.Inputs.{Input, with_input}
 use Rattle.aprof_top.specs.declared.loaded.Loaded as kept
 use Rattle.aprof_top.specs.Loading.{contents_of}
 use Rattle.aprof_top.specs.Loads.{file_at, first_file, loaded_of, with_inputs}
-use Rattle.aprof_top.specs.Products.{Keeps}
+use Rattle.aprof_top.specs.Loading.{Keeps}
 
 abbrev pub text : Bor (List ℕ) → List ℕ
 text b = b.now

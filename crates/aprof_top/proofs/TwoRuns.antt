@@ -12,8 +12,10 @@ use Rattle.elf_image.specs.Tests.{first_refusal}
 use Rattle.guest_machine.specs.declared.setup.SetupError.{SetupError}
 use Rattle.guest_machine.specs.Setup.{setup_refusal}
 use Rattle.guest_run.specs.Laws.{IsNoMismatch, ReplaysProfiled, scheduler}
-use Rattle.guest_run.specs.Profiled.{first_past}
-use Rattle.guest_run.specs.Shown.{Shown, shown_of}
+use Rattle.guest_run.specs.Profiled.{Profiled, first_past}
+use Rattle.guest_run.specs.Run.{recording}
+use Rattle.trace_model.specs.Depth.{is_within}
+use Rattle.trace_model.proofs.Cut.{within_closed}
 use Rattle.profile_report.specs.ReportText.{report_text}
 use Rattle.guest_run.specs.Traces.{EveryRunRecordsEntries}
 use Rattle.guest_words.specs.declared.endings.Finish.{Finish}
@@ -27,7 +29,7 @@ use Rattle.aprof_top.specs.Loads.{Loaded, with_inputs, first_file, file_at, load
 use Rattle.aprof_top.specs.Outcome.{ByImage, Follows, IsRun, Outcome, Stage, begun_outcome, recording_stores, refusal, run_outcome, scheduled_outcome, stage}
 use Rattle.aprof_top.specs.Outcome.Stage.{Complete, Loading, PastLimit}
 use Rattle.aprof_top.specs.Report.{report_of}
-use Rattle.aprof_top.specs.Run.{first_state, greatest_stamp, run_of, shown_from}
+use Rattle.aprof_top.specs.Run.{first_state, greatest_stamp, observed_from, run_of}
 use Rattle.aprof_top.specs.Schedules.{Reading}
 use Rattle.aprof_top.specs.Schedules.Reading.{BadLine, Turns}
 use Rattle.aprof_top.proofs.Commands.{complete_stage}
@@ -182,28 +184,28 @@ module _ (replays : ReplaysProfiled) (entries : EveryRunRecordsEntries) (options
   abbrev again : Loaded
   again = record loaded { schedule = text }
 
-  abbrev shown : Shown
-  shown = run_of options.guest loaded turns
+  abbrev seen : Profiled
+  seen = run_of options.guest loaded turns
 
-  same_shown : IsNoMismatch shown.finish → run_of (under_schedule options.guest path) again shown.turns ≡ shown
-  unfolding shown_from first_state
-  same_shown no_mismatch = ap shown_of (replays greatest_stamp (first_past (image_of loaded.image).entry) options.guest.quantum options.guest.quantum options.guest.budget turns (first_state options.guest loaded) refl no_mismatch)
+  same_seen : IsNoMismatch seen.finish → run_of (under_schedule options.guest path) again (recording seen.moves) ≡ seen
+  unfolding observed_from first_state
+  same_seen no_mismatch = replays (is_within greatest_stamp) (first_past (image_of loaded.image).entry) options.guest.quantum options.guest.quantum options.guest.budget turns (first_state options.guest loaded) (within_closed greatest_stamp) refl no_mismatch
 
-  are_entries : options.guest.budget ≤ RUN_STEPS → AllByRecursion IsEntry shown.turns
-  unfolding shown_from first_state
-  are_entries few = (entries (image_of loaded.image) (arguments options.guest) (with_inputs [] (inputs options.guest) loaded.inputs) loaded.stdin greatest_stamp (scheduler options.guest.quantum turns) options.guest.budget few).profiled_part
+  are_entries : options.guest.budget ≤ RUN_STEPS → AllByRecursion IsEntry (recording seen.moves)
+  unfolding observed_from first_state
+  are_entries few = (entries (image_of loaded.image) (arguments options.guest) (with_inputs [] (inputs options.guest) loaded.inputs) loaded.stdin (is_within greatest_stamp) (scheduler options.guest.quantum turns) options.guest.budget few).profiled_part
 
-  module _ (few : options.guest.budget ≤ RUN_STEPS) (no_mismatch : IsNoMismatch shown.finish) (is_text : text ≡ schedule_text shown.turns) (accepted : first_refusal loaded.image ≡ None) (begins : setup_refusal (image_of loaded.image) (arguments options.guest) ≡ None) (second : Outcome) where
-    under_turns : second ≡ scheduled_outcome (scheduled options path) again (Turns shown.turns) → second ≡ run_outcome options (image_of loaded.image) shown
+  module _ (few : options.guest.budget ≤ RUN_STEPS) (no_mismatch : IsNoMismatch seen.finish) (is_text : text ≡ schedule_text (recording seen.moves)) (accepted : first_refusal loaded.image ≡ None) (begins : setup_refusal (image_of loaded.image) (arguments options.guest) ≡ None) (second : Outcome) where
+    under_turns : second ≡ scheduled_outcome (scheduled options path) again (Turns (recording seen.moves)) → second ≡ run_outcome options (image_of loaded.image) seen
     under_turns is =
         is
-        ∙ ap (begun_outcome (scheduled options path) again shown.turns) begins
-        ∙ ap (run_outcome options (image_of loaded.image)) (same_shown no_mismatch)
+        ∙ ap (begun_outcome (scheduled options path) again (recording seen.moves)) begins
+        ∙ ap (run_outcome options (image_of loaded.image)) (same_seen no_mismatch)
 
-    second_run : IsRun (scheduled options path) again second → second ≡ run_outcome options (image_of loaded.image) shown
+    second_run : IsRun (scheduled options path) again second → second ≡ run_outcome options (image_of loaded.image) seen
     second_run is =
         let run = subst (λ o. ByImage (scheduled options path) again second o) accepted is in
-        under_turns (run.answered ∙ ap (scheduled_outcome (scheduled options path) again) (reads_once text run.reading (Turns shown.turns) run.read (are_entries few, inl is_text)))
+        under_turns (run.answered ∙ ap (scheduled_outcome (scheduled options path) again) (reads_once text run.reading (Turns (recording seen.moves)) run.read (are_entries few, inl is_text)))
 
 pub two_runs_agree : ReplaysProfiled → EveryRunRecordsEntries → TwoRunsAgree
 two_runs_agree replays entries options files first second path text few is leaves short second_is =
@@ -211,10 +213,10 @@ two_runs_agree replays entries options files first second path text few is leave
     let ran = complete_run options files first leaves.finish leaves.ran (stage options.guest files) refl is in
     let run = ran.1 in
     let image = image_of loaded.image in
-    let shown : Shown = run_of options.guest loaded run.turns in
-    let is_text : text ≡ schedule_text shown.turns =
-    stored_is options.recording shown.turns ((options.report, report_text (report_of image shown.finish shown.past)) ∷ []) leaves.path text leaves.asked (ap (λ (o : Outcome). slice_get o.stores 0) (sym run.answered) ∙ leaves.stored) in
-    let finish : shown.finish ≡ leaves.finish = same_finish shown.finish leaves.finish (ap (λ (o : Outcome). o.verdict) (sym run.answered) ∙ leaves.ran) in
+    let seen : Profiled = run_of options.guest loaded run.turns in
+    let is_text : text ≡ schedule_text (recording seen.moves) =
+    stored_is options.recording (recording seen.moves) ((options.report, report_text (report_of image seen.finish seen.past)) ∷ []) leaves.path text leaves.asked (ap (λ (o : Outcome). slice_get o.stores 0) (sym run.answered) ∙ leaves.stored) in
+    let finish : seen.finish ≡ leaves.finish = same_finish seen.finish leaves.finish (ap (λ (o : Outcome). o.verdict) (sym run.answered) ∙ leaves.ran) in
     let complete = second_files options.guest path text files short ran.0 in
     let is_run : IsRun (scheduled options path) (record loaded { schedule = text }) second =
     subst (λ l. IsRun (scheduled options path) l second) complete.1 (subst (λ s. Follows (scheduled options path) (with_schedule options.guest files text) second s) complete.0 second_is) in

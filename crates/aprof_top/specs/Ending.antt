@@ -11,6 +11,13 @@ use Rattle.elf_image.specs.declared.error.ElfError.{ElfError}
 use Rattle.elf_image.specs.declared.error.ElfError.TheVariants as elf
 use Rattle.guest_machine.specs.declared.setup.SetupError.{SetupError}
 use Rattle.guest_machine.specs.declared.setup.SetupError.TheVariants as setup
+use Rattle.guest_run.specs.declared.run_error.Channel.TheVariants as channel
+use Rattle.guest_run.specs.declared.run_error.RunError.{RunError}
+use Rattle.guest_run.specs.declared.run_error.RunError.TheVariants as run
+use Rattle.host_io.specs.declared.files.StoreError.{StoreError}
+use Rattle.host_io.specs.declared.files.StoreError.TheVariants as store
+use Rattle.host_io.specs.declared.sink.PutError.{PutError}
+use Rattle.host_io.specs.declared.sink.PutError.TheVariants as put
 use Rattle.thread_sched.specs.declared.schedule.ScheduleError.{ScheduleError}
 use Rattle.thread_sched.specs.declared.schedule.ScheduleError.TheVariants as schedule
 use Rattle.aprof_top.specs.Delivery.{DoesAll, FailsAtStore, FailsOnErr, FailsOnOut, StopsShort}
@@ -44,6 +51,22 @@ abbrev pub of_setup : SetupError → Ending
 of_setup setup.ArgsTooLong = Decided TooLarge
 of_setup setup.Pages = Decided TooLarge
 of_setup setup.Memory = OutOfMemory
+
+-- by that of a run: a put on `out` or on `err`
+abbrev pub of_run : RunError → Ending
+of_run (run.CannotPut channel.Out) = CannotWrite
+of_run (run.CannotPut channel.Err) = CannotPut
+of_run run.Memory = OutOfMemory
+
+-- by that of a put on `out`
+abbrev pub of_put : PutError → Ending
+of_put put.Failed = CannotWrite
+of_put put.Memory = OutOfMemory
+
+-- by that of a store
+abbrev pub of_store : StoreError → Ending
+of_store store.Failed = CannotWrite
+of_store store.Memory = OutOfMemory
 
 -- ---- the end
 -- how the guest is run, where the program has it

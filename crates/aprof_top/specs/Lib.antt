@@ -17,7 +17,8 @@ pub mod Texts
 pub mod Verdicts
 -- What the private parts owe one another.
 pub mod Ending
+pub mod Jobs
+pub mod Kept
 pub mod LastTexts
 pub mod Loading
-pub mod Products
 pub mod Sources

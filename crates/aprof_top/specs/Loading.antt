@@ -1,15 +1,16 @@
 -- What the loads of a command find and leave.
-use Rattle.std.specs.Prelude.{◌≡◌, ◌⊎◌, ℕ, ◌≤◌, false, true, List, map, length, slice_get, Some, Vec}
+use Rattle.std.specs.Prelude.{◌≡◌, ◌⊎◌, ℕ, ◌≤◌, false, true, List, [], map, length, slice_get, Some, Vec, Result, Ok, Err}
 use Rattle.std.specs.List.{AllByRecursion}
 use Rattle.std.specs.declared.alloc.Global.{Global}
-use Rattle.command_line.specs.Options.{GuestOptions}
+use Rattle.command_line.specs.Options.{GuestOptions, inputs}
 use Rattle.host_io.specs.Faults.{Rose}
 use Rattle.host_io.specs.Files.{FilesState, FailsAt}
 use Rattle.aprof_top.specs.Limits.{file_limit, inputs_limit}
-use Rattle.aprof_top.specs.Loads.{loaded_paths, passes_limit, shared_count, shared_length}
+use Rattle.aprof_top.specs.Loads.{Loaded, loaded_of, loaded_paths, passes_limit, shared_count, shared_length, with_inputs}
 use Rattle.aprof_top.specs.Outside.{AreFiles, AreHeld}
 use Rattle.aprof_top.specs.Sources.{path_of}
 use Rattle.aprof_top.specs.declared.ending.Ending.{Ending}
+use Rattle.aprof_top.specs.declared.loaded.Loaded as declared
 use Rattle.aprof_top.specs.declared.ending.Ending.TheVariants as ending
 use Rattle.aprof_top.specs.declared.ending.Verdict.TheVariants.{TooLarge}
 
@@ -57,3 +58,22 @@ LoadsEnd options old new (ending.Decided verdict) = (verdict ≡ TooLarge) × Pa
 LoadsEnd options old new ending.OutOfMemory = new ≡ old
 LoadsEnd options old new ending.CannotWrite = ⊥
 LoadsEnd options old new ending.CannotPut = ⊥
+
+-- The program has these files of the command.
+pub record Keeps (options : GuestOptions) (loaded : Loaded) (kept : declared.Loaded) : Type 0 where
+  pub image : kept.image.items ≡ loaded.image
+  pub inputs_are : kept.inputs ≡ with_inputs [] (inputs options) loaded.inputs
+  pub stdin : kept.stdin.items ≡ loaded.stdin
+  pub schedule : kept.schedule.items ≡ loaded.schedule
+
+-- All files of a command were loaded, and no limit is passed.
+pub record LoadsAll (options : GuestOptions) (old new : FilesState) (kept : declared.Loaded) : Type 0 where
+  pub files : List (List ℕ)
+  pub are : AreLoaded (shared_count options) (loaded_paths options) files old new
+  pub all : length files ≡ length (loaded_paths options)
+  pub keeps : Keeps options (loaded_of options files) kept
+
+-- how the loads of a command end
+abbrev pub CommandLoads : GuestOptions → FilesState → FilesState → Result declared.Loaded Ending → Type 0
+CommandLoads options old new (Ok kept) = LoadsAll options old new kept
+CommandLoads options old new (Err e) = LoadsEnd options old new e

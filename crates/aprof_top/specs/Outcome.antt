@@ -8,7 +8,10 @@ use Rattle.elf_image.specs.Reading.{image_of}
 use Rattle.elf_image.specs.Tests.{first_refusal}
 use Rattle.guest_machine.specs.declared.setup.SetupError.{SetupError}
 use Rattle.guest_machine.specs.Setup.{setup_refusal}
-use Rattle.guest_run.specs.Shown.{Shown}
+use Rattle.guest_run.specs.Profiled.{Profiled}
+use Rattle.guest_run.specs.Run.{bytes_on, recording}
+use Rattle.guest_words.specs.declared.endings.Finish.{Finish}
+use Rattle.trace_model.specs.declared.event_kinds.Event.{Event}
 use Rattle.profile_report.specs.ReportText.{report_text}
 use Rattle.thread_sched.specs.declared.entry.Entry.{Entry}
 use Rattle.thread_sched.specs.ScheduleText as recordings
@@ -42,13 +45,18 @@ abbrev pub recording_stores : Option (List ℕ) → List Entry → List (List �
 recording_stores None turns = []
 recording_stores (Some path) turns = (path, recordings.schedule_text turns) ∷ []
 
--- what a run leaves: its output, its recording where it is asked for, and then its report
-abbrev pub run_outcome : RunOptions → Executable → Shown → Outcome
+-- the files of a run that ended so, by its trace and its turns: its recording where it is asked for, and then its report
+abbrev pub run_stores : RunOptions → Executable → Finish → List Event → List Entry → List (List ℕ × List ℕ)
+run_stores options image finish past turns =
+    recording_stores options.recording turns ++ (options.report, report_text (report_of image finish past)) ∷ []
+
+-- what a run leaves: its output and its files
+abbrev pub run_outcome : RunOptions → Executable → Profiled → Outcome
 run_outcome options image run = record {
   verdict = Ran run.finish;
-  out = run.out;
-  err = run.err;
-  stores = recording_stores options.recording run.turns ++ (options.report, report_text (report_of image run.finish run.past)) ∷ [];
+  out = bytes_on 1 run.moves;
+  err = bytes_on 2 run.moves;
+  stores = run_stores options image run.finish run.past (recording run.moves);
 }
 
 -- a guest that can begin is run
@@ -113,7 +121,7 @@ abbrev pub demo_files : List ℕ → Loaded
 demo_files file = record { image = file; inputs = []; stdin = []; schedule = [] }
 
 -- its summary is put, and nothing is stored
-abbrev pub demo_outcome : ℕ → Executable → Shown → Outcome
+abbrev pub demo_outcome : ℕ → Executable → Profiled → Outcome
 demo_outcome number image run = record {
   verdict = Summarized;
   out = summary_text number (report_of image run.finish run.past);

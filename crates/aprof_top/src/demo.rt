@@ -1,11 +1,13 @@
-//! The demo: a guest of its own, whose report is summed up.
-ghost use Rattle.std.specs.Prelude.{◌≡◌, ◌≤◌};
+//! The command `demo`: a guest of its own, whose report is summed up.
+ghost use Rattle.std.specs.Prelude.{◌≡◌, ◌≤◌, IfOk, IfErr};
 ghost use Rattle.command_line.specs.Read.{guest_in};
-ghost use Rattle.aprof_top.specs.Outcome.{demo_options};
-ghost use Rattle.aprof_top.specs.Products.{DemoRuns};
+ghost use Rattle.aprof_top.specs.declared.ending.Ending.TheVariants.{OutOfMemory};
+ghost use Rattle.aprof_top.specs.Outcome.{IsDemo, demo_options};
+ghost use Rattle.aprof_top.specs.Jobs.{summed};
 
-use crate::ending::{Ending, Verdict};
-use crate::product::{Product, run_image};
+use crate::ending::Ending;
+use crate::guest_job::{GuestFiles, run_image};
+use crate::kept_trace::KeptTrace;
 use crate::report::report_of;
 use crate::summary::summary;
 use command_line::GuestOptions;
@@ -13,6 +15,7 @@ use demo_guest::demo_image;
 use elf_image::read_image;
 use guest_calls::Inputs;
 use guest_words::limits::DEMO_ROUTINES;
+use host_io::DropSink;
 use std::alloc::Global;
 use thread_sched::Schedule;
 
@@ -30,24 +33,27 @@ fn demo_guest(alloc: Global) -> GuestOptions<'static>
     }
 }
 
-/// Runs the demo of this number, and sums its report up.
-pub(crate) fn run_demo(alloc: Global, number: u32) -> Result<Product<'static>, Ending>
+/// Runs the demo of this number, and sums its report up. What its guest puts out is dropped.
+pub(crate) fn run_demo(alloc: Global, number: u32) -> Result<Vec<u8>, Ending>
     requires { (1 ≤ number) × (number ≤ DEMO_ROUTINES) }
-    ensures { DemoRuns number result }
+    ensures summary { IfOk result (λ out. IsDemo number (summed out.items)) }
+    ensures refused { IfErr result (λ e. e ≡ OutOfMemory) }
 {
     let file = demo_image(alloc, number)?;
     // It passes all tests, so it is refused only for want of memory.
     let image = read_image(alloc, file.as_slice())?;
     let guest = demo_guest(alloc);
-    let schedule = Schedule::empty(alloc)?;
-    let inputs = Inputs::new(alloc)?;
-    let run = run_image(alloc, &guest, &image, schedule, inputs, Vec::new(alloc))?;
-    let report = report_of(alloc, &image, &run)?;
-    let out = summary(alloc, number, &report)?;
-    Ok(Product {
-        verdict: Verdict::Summarized,
-        out,
-        err: Vec::new(alloc),
-        stores: Vec::new(alloc),
-    })
+    let files = GuestFiles {
+        schedule: Schedule::empty(alloc)?,
+        inputs: Inputs::new(alloc)?,
+        stdin: Vec::new(alloc),
+    };
+    let mut trace = KeptTrace::new(alloc, u32::MAX)?;
+    let mut out = DropSink;
+    let mut err = DropSink;
+    let ended = run_image(
+        alloc, &guest, &image, files, &mut trace, &mut out, &mut err,
+    )?;
+    let report = report_of(alloc, &image, &trace, ended.finish)?;
+    Ok(summary(alloc, number, &report)?)
 }

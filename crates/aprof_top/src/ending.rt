@@ -3,6 +3,7 @@ ghost use Rattle.std.specs.Prelude.{◌≡◌, ◌<◌, length, Option, IfOk, On
 ghost use Rattle.command_line.specs.Options as options;
 ghost use Rattle.aprof_top.specs.Ending.{end_of, known_guest};
 ghost use Rattle.aprof_top.specs.Ends.{end_status, end_text};
+ghost use Rattle.aprof_top.specs.Jobs.{ending_by};
 ghost use Rattle.aprof_top.specs.LastTexts.{bytes_of};
 ghost use Rattle.aprof_top.specs.LastText.{IsMade, IsPut, LastText};
 ghost use Rattle.aprof_top.specs.Verdicts.{finish_status, verdict_status};
@@ -13,8 +14,9 @@ use crate::texts::{Text, unread_text, verdict_text};
 use command_line::{CommandError, GuestOptions};
 use elf_image::ElfError;
 use guest_machine::SetupError;
+use guest_run::{Channel, RunError};
 use guest_words::Finish;
-use host_io::{PutError, Sink};
+use host_io::{PutError, Sink, StoreError};
 use std::alloc::{AllocError, AllocFailed, Global};
 use thread_sched::ScheduleError;
 
@@ -115,6 +117,63 @@ impl From<SetupError> for Ending {
             SetupError::ArgsTooLong | SetupError::Pages => Ending::Decided(Verdict::TooLarge),
             SetupError::Memory => Ending::OutOfMemory,
         }
+    }
+}
+
+impl From<RunError> for Ending {
+    ghost use Rattle.std.specs.Prelude.{◌≡◌};
+    ghost use Rattle.aprof_top.specs.Ending.{of_run};
+
+    ghost from_gives = { λ error e. e ≡ of_run error };
+
+    fn from(error: RunError) -> Ending {
+        match error {
+            RunError::CannotPut {
+                channel: Channel::Out,
+            } => Ending::CannotWrite,
+            RunError::CannotPut {
+                channel: Channel::Err,
+            } => Ending::CannotPut,
+            RunError::Memory => Ending::OutOfMemory,
+        }
+    }
+}
+
+impl From<PutError> for Ending {
+    ghost use Rattle.std.specs.Prelude.{◌≡◌};
+    ghost use Rattle.aprof_top.specs.Ending.{of_put};
+
+    ghost from_gives = { λ error e. e ≡ of_put error };
+
+    fn from(error: PutError) -> Ending {
+        match error {
+            PutError::Failed => Ending::CannotWrite,
+            PutError::Memory => Ending::OutOfMemory,
+        }
+    }
+}
+
+impl From<StoreError> for Ending {
+    ghost use Rattle.std.specs.Prelude.{◌≡◌};
+    ghost use Rattle.aprof_top.specs.Ending.{of_store};
+
+    ghost from_gives = { λ error e. e ≡ of_store error };
+
+    fn from(error: StoreError) -> Ending {
+        match error {
+            StoreError::Failed => Ending::CannotWrite,
+            StoreError::Memory => Ending::OutOfMemory,
+        }
+    }
+}
+
+/// The ending of a command with this result.
+pub(crate) fn ending_by(done: Result<Verdict, Ending>) -> Ending
+    ensures { result ≡ ending_by done }
+{
+    match done {
+        Ok(verdict) => Ending::Decided(verdict),
+        Err(ending) => ending,
     }
 }
 

@@ -163,3 +163,71 @@ pub(crate) const FAILURES: &[Failure] = &[
         },
     },
 ];
+
+/// A guest that puts three texts on out and two on err, in turns, is ended by the first put that fails: half of its text comes
+/// through, and no later one.
+pub(crate) const FAILED_PUTS: &[Failure] = &[
+    Failure {
+        name: "no put",
+        failing: NOWHERE,
+        left: Left {
+            out: "out\nout\nout\n",
+            err: "err\nerr\n",
+            report: Some(
+                "aprof 1\nend exit 0\nsteps 21\nopen 0\nroutine 00010054 -\n2 1 21 21 21\ndone 1\n",
+            ),
+            recording: Some("1 21\n"),
+            ..NOTHING
+        },
+    },
+    Failure {
+        name: "the first put on out",
+        failing: Failing { out: 0, ..NOWHERE },
+        left: Left {
+            status: 4,
+            out: "ou",
+            err: "aprof: cannot write\n",
+            ..NOTHING
+        },
+    },
+    Failure {
+        name: "the second put on out",
+        failing: Failing { out: 1, ..NOWHERE },
+        left: Left {
+            status: 4,
+            out: "out\nou",
+            err: "err\naprof: cannot write\n",
+            ..NOTHING
+        },
+    },
+    Failure {
+        name: "the third put on out",
+        failing: Failing { out: 2, ..NOWHERE },
+        left: Left {
+            status: 4,
+            out: "out\nout\nou",
+            err: "err\nerr\naprof: cannot write\n",
+            ..NOTHING
+        },
+    },
+    Failure {
+        name: "the first put on err",
+        failing: Failing { err: 0, ..NOWHERE },
+        left: Left {
+            status: 4,
+            out: "out\n",
+            err: "er",
+            ..NOTHING
+        },
+    },
+    Failure {
+        name: "the second put on err",
+        failing: Failing { err: 1, ..NOWHERE },
+        left: Left {
+            status: 4,
+            out: "out\nout\n",
+            err: "err\ner",
+            ..NOTHING
+        },
+    },
+];

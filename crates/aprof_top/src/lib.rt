@@ -4,11 +4,13 @@
 mod delivery;
 mod demo;
 mod ending;
+mod guest_job;
+mod kept_trace;
 mod laws;
 mod loaded;
 mod loads;
-mod product;
 mod report;
+mod run_job;
 mod source;
 mod summary;
 mod texts;

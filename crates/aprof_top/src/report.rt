@@ -3,18 +3,17 @@ ghost use Rattle.std.specs.Prelude.{◌≡◌, ◌<◌, ◌^◌, ◌++◌, ◌�
 ghost use Rattle.std.specs.List.{All};
 ghost use Rattle.trace_model.specs.declared.slow_profile.Done.{Done};
 ghost use Rattle.elf_image.specs.Image.{name_of};
-ghost use Rattle.trace_model.specs.Depth.{pending};
-ghost use Rattle.trace_model.specs.Profile.{steps};
-ghost use Rattle.trace_model.specs.WellFormed.{IsLight};
+ghost use Rattle.trace_model.specs.declared.event_kinds.Event.{Event};
 ghost use Rattle.cost_points.specs.Points.{points};
 ghost use Rattle.cost_points.specs.Contents.{contents_of};
+ghost use Rattle.aprof_top.specs.Kept.{IsKept, IsKeptLight};
 ghost use Rattle.aprof_top.specs.Report.{named, report_of};
 ghost use Rattle.aprof_top.specs.Summary.{FitsTotals};
 
+use crate::kept_trace::KeptTrace;
 use cost_points::Table;
 use elf_image::Image;
-use guest_run::Run;
-use guest_words::{Addr, Name};
+use guest_words::{Addr, Finish, Name};
 use profile_report::{Report, Routine};
 use std::alloc::{AllocError, Global};
 use trace_model::{Done, slow_done};
@@ -81,20 +80,23 @@ fn routines_of(alloc: Global, image: &Image, done: &[Done]) -> Result<Vec<Routin
     named_routines(alloc, image, &table)
 }
 
-/// The report of a run of an executable. Its totals are numbers of 128 bits.
-pub(crate) fn report_of(alloc: Global, image: &Image, run: &Run) -> Result<Report, AllocError>
-    requires light { IsLight (reverse run.now.events.list) }
-    requires steps { run.now.steps ≡ steps (reverse run.now.events.list) }
-    requires pending { run.now.pending ≡ pending (reverse run.now.events.list) }
-    ensures report { IfOk result (λ report. report ≡ report_of image.now run.now.finish (reverse run.now.events.list)) }
+/// The report of a run of an executable that ended so. Its totals are numbers of 128 bits.
+pub(crate) fn report_of(
+    alloc: Global,
+    image: &Image,
+    trace: &KeptTrace,
+    finish: Finish,
+) -> Result<Report, AllocError>
+    requires { IsKeptLight trace.now }
+    ensures report { IfOk result (λ report. (past : List Event) → IsKept trace.now past → report ≡ report_of image.now finish past) }
     ensures totals { IfOk result (λ report. FitsTotals report.routines) }
 {
-    let done = slow_done(alloc, run.events.list())?;
+    let done = slow_done(alloc, trace.events.list())?;
     let routines = routines_of(alloc, image, done.as_slice())?;
     Ok(Report {
-        finish: run.finish,
-        steps: run.steps,
-        pending: run.pending,
+        finish,
+        steps: trace.steps,
+        pending: trace.stacks.pending(),
         routines,
     })
 }

@@ -1,10 +1,10 @@
 //! The top call over files and sinks in memory.
 use crate::aprof;
-use crate::failures::{FAILURES, Failing, NOWHERE};
+use crate::failures::{FAILED_PUTS, FAILURES, Failing, NOWHERE};
 use crate::worked::{
     CALLS, ENDS, Guest, IMAGES, Left, NOTHING, PLAIN, ROUTINES, SCHEDULES, THREADED, THREADS,
 };
-use crate::worked_code::BOTH_OUTPUTS;
+use crate::worked_code::{BOTH_OUTPUTS, OUTPUTS_IN_TURNS};
 use host_io::{MemoryFiles, MemorySink};
 use std::alloc::{AllocError, Global};
 use std::process::Abort;
@@ -218,18 +218,17 @@ fn each_failure_of_the_outside_is_told(rt: HostRuntime) -> Result<(), Fail> {
     Ok(())
 }
 
-// A put of the guest's output fails half way, and nothing is stored.
 #[test]
-fn a_failed_put_stores_nothing(rt: HostRuntime) -> Result<(), Fail> {
-    let failing = Failing { out: 0, ..NOWHERE };
-    let left = Left {
-        status: 4,
-        out: "o",
-        err: "aprof: cannot write\n",
-        ..NOTHING
+fn a_failed_put_ends_the_run(rt: HostRuntime) -> Result<(), Fail> {
+    let guest = Guest {
+        code: OUTPUTS_IN_TURNS,
+        options: &["--record", "k"],
+        ..PLAIN
     };
-    let seen = call_guest(rt.alloc(), &THREADED, failing)?;
-    assert_left(&rt, THREADED.name, &seen, &left);
+    for failure in FAILED_PUTS {
+        let seen = call_guest(rt.alloc(), &guest, failure.failing)?;
+        assert_left(&rt, failure.name, &seen, &failure.left);
+    }
     Ok(())
 }
 

@@ -2,17 +2,20 @@
 ghost use Rattle.std.specs.Prelude.{◌≡◌, ◌≤◌, map, string_bytes};
 ghost use Rattle.aprof_top.specs.Answers.{IsAnswered};
 ghost use Rattle.aprof_top.specs.Ending.{AskedEnds, guest_of, known_guest};
+ghost use Rattle.aprof_top.specs.Jobs.{ending_by};
 ghost use Rattle.aprof_top.specs.Outside.{outside};
-ghost use Rattle.aprof_top.specs.Products.{CommandLoads};
+ghost use Rattle.host_io.specs.Files.{FilesState};
+ghost use Rattle.host_io.specs.Sink.{SinkState};
+ghost use Rattle.aprof_top.specs.Loading.{CommandLoads};
 ghost use Rattle.command_line.specs.Options.Asked.{Run, Demo};
 ghost use Rattle.command_line.specs.Read.{AreInRange, IsInRange, asked_in, guest_in, options_in};
 
-use crate::delivery::deliver;
+use crate::delivery::put_all;
 use crate::demo::run_demo;
-use crate::ending::{Ending, tell};
+use crate::ending::{Ending, Verdict, ending_by, tell};
 use crate::loaded::Loaded;
 use crate::loads::{load_files, loaded_paths};
-use crate::product::run_files;
+use crate::run_job::run_files;
 use command_line::{Command, GuestOptions, RunCommand, read_command};
 use guest_words::limits::DEMO_ROUTINES;
 use host_io::{Files, Sink};
@@ -32,46 +35,32 @@ fn load_command<F: Files>(
     Ok(Loaded::new(alloc, guest, names.as_slice(), loaded)?)
 }
 
-// Loads the files of a command, runs the image, and hands out its output and its report.
+// Loads the files of a command, runs the image, and stores the report.
 fn run_command<F: Files, O: Sink, E: Sink>(
     alloc: Global,
     command: &RunCommand<'_>,
     files: &mut F,
     out: &mut O,
     err: &mut E,
-) -> Ending
+) -> Result<Verdict, Ending>
     requires { AreInRange (guest_in command.now.guest) }
     ensures { AskedEnds (Run (options_in command.now))
         (outside (F.state files.old) (O.state out.old) (E.state err.old))
-        (outside (F.state files.new) (O.state out.new) (E.state err.new)) result }
+        (outside (F.state files.new) (O.state out.new) (E.state err.new)) (ending_by result) }
 {
-    let loaded = match load_command(alloc, &command.guest, files) {
-        Ok(loaded) => loaded,
-        Err(ending) => return ending,
-    };
-    match run_files(alloc, command, loaded) {
-        Ok(product) => deliver(&product, files, out, err),
-        Err(ending) => ending,
-    }
+    let loaded = load_command(alloc, &command.guest, files)?;
+    run_files(alloc, command, loaded, files, out, err)
 }
 
 // Runs the demo, and puts its summary.
-fn show_demo<F: Files, O: Sink, E: Sink>(
-    alloc: Global,
-    number: u32,
-    files: &mut F,
-    out: &mut O,
-    err: &mut E,
-) -> Ending
+fn show_demo<O: Sink>(alloc: Global, number: u32, out: &mut O) -> Result<Verdict, Ending>
     requires { (1 ≤ number) × (number ≤ DEMO_ROUTINES) }
-    ensures { AskedEnds (Demo number)
-        (outside (F.state files.old) (O.state out.old) (E.state err.old))
-        (outside (F.state files.new) (O.state out.new) (E.state err.new)) result }
+    ensures { (files : FilesState) (err : SinkState)
+        → AskedEnds (Demo number) (outside files (O.state out.old) err) (outside files (O.state out.new) err) (ending_by result) }
 {
-    match run_demo(alloc, number) {
-        Ok(product) => deliver(&product, files, out, err),
-        Err(ending) => ending,
-    }
+    let summary = run_demo(alloc, number)?;
+    put_all(summary.as_slice(), out)?;
+    Ok(Verdict::Summarized)
 }
 
 // Does what a command asks for.
@@ -81,15 +70,15 @@ fn do_command<F: Files, O: Sink, E: Sink>(
     files: &mut F,
     out: &mut O,
     err: &mut E,
-) -> Ending
+) -> Result<Verdict, Ending>
     requires { IsInRange command.now }
     ensures { AskedEnds (asked_in command.now)
         (outside (F.state files.old) (O.state out.old) (E.state err.old))
-        (outside (F.state files.new) (O.state out.new) (E.state err.new)) result }
+        (outside (F.state files.new) (O.state out.new) (E.state err.new)) (ending_by result) }
 {
     match command {
         Command::Run(command) => run_command(alloc, command, files, out, err),
-        Command::Demo(number) => show_demo(alloc, *number, files, out, err),
+        Command::Demo(number) => show_demo(alloc, *number, out),
     }
 }
 
@@ -125,7 +114,7 @@ pub fn aprof<F: Files, O: Sink, E: Sink>(
 {
     match read_command(alloc, words) {
         Ok(command) => {
-            let ending = do_command(alloc, &command, files, out, err);
+            let ending = ending_by(do_command(alloc, &command, files, out, err));
             tell(alloc, guest_of(&command), &ending, err)
         }
         Err(error) => tell(alloc, None, &Ending::from(error), err),

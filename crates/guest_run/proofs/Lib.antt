@@ -14,3 +14,4 @@ pub mod Output
 pub mod Observed
 pub mod Advances
 pub mod Ends
+pub mod Few

@@ -1,15 +1,18 @@
 //! Small guests, by hand, and how their runs end.
+ghost use Rattle.std.specs.Prelude.{IfOk};
+ghost use Rattle.guest_run.specs.RunEnds.{IsAtStart};
+
 use super::*;
 use elf_image::read_image;
 use guest_calls::Inputs;
 use guest_machine::Machine;
 use guest_words::{FaultKind, Finish, Tid};
 use host_io::{DropSink, MemorySink};
-use std::alloc::Global;
+use std::alloc::{AllocError, Global};
 use std::process::Abort;
 use std::test::Fail;
 use thread_sched::{Sched, Schedule};
-use trace_model::{Event, Events};
+use trace_model::{Event, Events, Observed, Observer};
 
 // The header of a file of 256 bytes, with one segment at 0x10000, which holds the whole file. The code stands behind it, at
 // 0x10054, and then zeros.
@@ -31,19 +34,39 @@ fn file_of(alloc: Global, code: &[u32]) -> Result<Vec<u8>, Fail> {
     Ok(file)
 }
 
-// The machine of a guest, and its turns.
-fn machine_of(alloc: Global, code: &[u32], schedule: &str) -> Result<(Machine, Sched), Fail> {
+// The machine of a guest.
+fn machine_of(alloc: Global, code: &[u32]) -> Result<Machine, Fail>
+    ensures { IfOk result IsAtStart }
+{
     let image = read_image(alloc, &file_of(alloc, code)?)?;
     let arguments = [String::from_str(alloc, "image")?];
-    let machine = Machine::new(
-        alloc,
-        &image,
-        &arguments,
-        Inputs::new(alloc)?,
-        Vec::new(alloc),
-    )?;
-    let turns = Sched::new(3, Schedule::read(alloc, schedule.as_bytes())?);
-    Ok((machine, turns))
+    let inputs = Inputs::new(alloc)?;
+    Ok(Machine::new(alloc, &image, &arguments, inputs, Vec::new(alloc))?)
+}
+
+// Takes so many events.
+struct FewEvents {
+    taken: usize,
+    most: usize,
+}
+
+impl Observer for FewEvents {
+    ghost use Rattle.std.specs.Prelude.{◌≡◌, length, nat_le};
+    ghost use Rattle.guest_run.proofs.Few.{few_closed};
+
+    ghost stands = { λ few past. few.taken ≡ length past };
+
+    ghost fits = { λ few past. nat_le (length past) few.most };
+
+    ghost fits_closed = { λ few. few_closed few.most };
+
+    fn observe(&mut self, _e: Event) -> Result<Observed, AllocError> {
+        if self.taken == self.most {
+            return Ok(Observed::Refused);
+        }
+        self.taken += 1;
+        Ok(Observed::Taken)
+    }
 }
 
 // How many steps there are.
@@ -68,7 +91,8 @@ fn assert_ends(
     end: Outcome,
 ) -> Result<(), Fail> {
     let (finish, steps, recording) = end;
-    let (machine, turns) = machine_of(alloc, code, schedule)?;
+    let machine = machine_of(alloc, code)?;
+    let turns = Sched::new(3, Schedule::read(alloc, schedule.as_bytes())?);
     let mut events = Events::new(alloc)?;
     let mut out = DropSink;
     let mut err = DropSink;
@@ -153,7 +177,8 @@ fn assert_puts(
     end: Result<Finish, RunError>,
     wanted: (&[u8], &[u8]),
 ) -> Result<(), Fail> {
-    let (machine, turns) = machine_of(alloc, &WRITES, "")?;
+    let machine = machine_of(alloc, &WRITES)?;
+    let turns = Sched::new(3, Schedule::empty(alloc)?);
     let mut events = Events::new(alloc)?;
     let mut out = MemorySink::new(alloc)?;
     let mut err = MemorySink::new(alloc)?;
@@ -193,5 +218,23 @@ fn a_put_that_fails_ends_the_run(rt: HostRuntime) -> Result<(), Fail> {
     for (failing, end, out, err) in rows {
         assert_puts(&rt, alloc, failing, end, (&whole[..out], &whole[..err]))?;
     }
+    Ok(())
+}
+
+// The step whose event is one too many is the last, and what it wrote is put: the start and five steps are taken, and then
+// the read of a write.
+#[test]
+fn an_event_too_many_ends_the_run(rt: HostRuntime) -> Result<(), Fail> {
+    let alloc = rt.alloc();
+    let machine = machine_of(alloc, &WRITES)?;
+    let turns = Sched::new(3, Schedule::empty(alloc)?);
+    let mut few = FewEvents { taken: 0, most: 6 };
+    let mut out = MemorySink::new(alloc)?;
+    let mut err = MemorySink::new(alloc)?;
+    let ended = run_guest(alloc, machine, turns, 1000, &mut few, &mut out, &mut err)?;
+    assert_eq!(rt; ended.finish, Finish::Deep);
+    assert_eq!(rt; ended.recording.text(alloc)?.as_slice(), b"1 3\n1 2\n".as_slice());
+    assert_eq!(rt; out.bytes(), b"\x7fELF".as_slice());
+    assert_eq!(rt; few.taken, 6);
     Ok(())
 }

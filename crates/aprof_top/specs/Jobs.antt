@@ -1,0 +1,85 @@
+-- How the run of a guest ends, and what is made of it.
+use Rattle.std.specs.Prelude.{◌≡◌, ◌⊎◌, ℕ, List, [], take, Option, Some, None, Result, Ok, Err}
+use Rattle.command_line.specs.Options.{RunOptions}
+use Rattle.guest_machine.specs.declared.setup.SetupError.{SetupError}
+use Rattle.guest_run.specs.declared.run.Ended.{Ended}
+use Rattle.guest_run.specs.declared.run_error.Channel.TheVariants as channel
+use Rattle.guest_run.specs.Output.{Sinks}
+use Rattle.guest_run.specs.Profiled.{Profiled}
+use Rattle.guest_run.specs.RunEnds.{IsGivenUp, IsWhole, StopsAtPut}
+use Rattle.host_io.specs.Files.{FilesState}
+use Rattle.host_io.specs.declared.files.StoreError.{StoreError}
+use Rattle.host_io.specs.declared.files.StoreError.TheVariants.{Failed, Memory}
+use Rattle.trace_model.specs.declared.event_kinds.Event.{Event}
+use Rattle.aprof_top.specs.declared.ending.Ending.{Ending}
+use Rattle.aprof_top.specs.declared.ending.Ending.TheVariants.{Decided, CannotRead, CannotWrite, CannotPut, OutOfMemory}
+use Rattle.aprof_top.specs.declared.ending.Verdict.{Verdict}
+use Rattle.aprof_top.specs.declared.ending.Verdict.TheVariants.{Summarized, TooLarge}
+use Rattle.aprof_top.specs.declared.delivery.Store.{Store}
+use Rattle.aprof_top.specs.Delivery.{DoesAll, FailsAtStore, FailsOnErr, FailsOnOut, StoreFails, StopsShort}
+use Rattle.aprof_top.specs.Loads.{Loaded}
+use Rattle.aprof_top.specs.Outcome.{IsRun, Outcome}
+use Rattle.aprof_top.specs.Outside.{Outside, with_stores}
+use Rattle.aprof_top.specs.Verdicts.{IsOfRun}
+
+-- the ending that a command's result is
+abbrev pub ending_by : Result Verdict Ending → Ending
+ending_by (Ok verdict) = Decided verdict
+ending_by (Err ending) = ending
+
+-- The guest can't begin.
+abbrev pub IsRefused : Option SetupError → Type 0
+IsRefused None = ⊥
+IsRefused (Some why) = Unit {0}
+
+-- How the run of an executable ends, by whether its guest can begin and by what is observed of its run.
+abbrev pub ImageRuns : {W : Type 0} → (W → List Event → Type 0) → Option SetupError → Profiled → Sinks → W → Sinks → Result Ended Ending → Type 0
+ImageRuns Stands setup run before observer after (Ok ended) = (setup ≡ None) × IsWhole Stands run before observer after ended
+ImageRuns Stands setup run before observer after (Err (Decided verdict)) = (verdict ≡ TooLarge) × IsRefused setup × (after ≡ before)
+ImageRuns Stands setup run before observer after (Err (CannotRead source)) = ⊥
+ImageRuns Stands setup run before observer after (Err CannotWrite) = (setup ≡ None) × StopsAtPut channel.Out run.moves before after
+ImageRuns Stands setup run before observer after (Err CannotPut) = (setup ≡ None) × StopsAtPut channel.Err run.moves before after
+ImageRuns Stands setup run before observer after (Err OutOfMemory) = (after ≡ before) ⊎ ((setup ≡ None) × IsGivenUp run.moves before after)
+
+-- the path and the bytes of a file to store
+abbrev pub store_of : Store → List ℕ × List ℕ
+store_of store = (store.path.now, store.bytes.items)
+
+-- how stores end: all are done; or one fails, after those before it; or the first are done
+abbrev pub StoresEnd : List (List ℕ × List ℕ) → FilesState → FilesState → Result Unit StoreError → Type 0
+StoresEnd stores old new (Ok done) = new ≡ with_stores stores old
+StoresEnd stores old new (Err Failed) = StoreFails stores old new
+StoresEnd stores old new (Err Memory) = (count : ℕ) × (new ≡ with_stores (take count stores) old)
+
+-- how the stores of an outcome end
+abbrev pub RunIsStored : Outcome → FilesState → FilesState → Result Verdict Ending → Type 0
+RunIsStored outcome old new (Ok verdict) = (outcome.verdict ≡ verdict) × (new ≡ with_stores outcome.stores old)
+RunIsStored outcome old new (Err CannotWrite) = StoreFails outcome.stores old new
+RunIsStored outcome old new (Err OutOfMemory) = (count : ℕ) × (new ≡ with_stores (take count outcome.stores) old)
+RunIsStored outcome old new (Err (Decided verdict)) = ⊥
+RunIsStored outcome old new (Err (CannotRead source)) = ⊥
+RunIsStored outcome old new (Err CannotPut) = ⊥
+
+-- The outcome of a run of these files is handed out so.
+pub record IsHandedOut (options : RunOptions) (loaded : Loaded) (Delivered : Outcome → Type 0) : Type 0 where
+  pub outcome : Outcome
+  pub is_run : IsRun options loaded outcome
+  pub delivered : Delivered outcome
+
+-- it is that of a run that came to an end, or was given up
+abbrev pub IsOfRunAnd : (Outcome → Type 0) → Outcome → Type 0
+IsOfRunAnd Fails outcome = IsOfRun outcome.verdict × Fails outcome
+
+-- How the run of a command's files ends.
+abbrev pub FilesRun : RunOptions → Loaded → Outside → Outside → Ending → Type 0
+FilesRun options loaded before after (Decided verdict) =
+    IsHandedOut options loaded (λ outcome. (outcome.verdict ≡ verdict) × DoesAll outcome before after)
+FilesRun options loaded before after (CannotRead source) = ⊥
+FilesRun options loaded before after CannotWrite =
+    IsHandedOut options loaded (IsOfRunAnd (λ outcome. FailsAtStore outcome before after ⊎ FailsOnOut outcome before after))
+FilesRun options loaded before after CannotPut = IsHandedOut options loaded (IsOfRunAnd (λ outcome. FailsOnErr outcome before after))
+FilesRun options loaded before after OutOfMemory = (after ≡ before) ⊎ IsHandedOut options loaded (λ outcome. StopsShort outcome before after)
+
+-- the outcome of a demo with this summary
+abbrev pub summed : List ℕ → Outcome
+summed out = record { verdict = Summarized; out = out; err = []; stores = [] }
