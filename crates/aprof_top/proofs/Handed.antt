@@ -35,9 +35,9 @@ fails_within on moves earlier later move are old new fails =
     let some = take fails.failed.front piece in
     let whole : before ++ piece ++ rest ≡ bytes_on on moves = sym (bytes_on-append on earlier (move ∷ later)) ∙ ap (bytes_on on) are in
     let cut : (before ++ some) ++ drop fails.failed.front piece ++ rest ≡ bytes_on on moves =
-        append_assoc before some (drop fails.failed.front piece ++ rest)
-        ∙ ap (λ bytes. before ++ bytes) (sym (append_assoc some (drop fails.failed.front piece) rest) ∙ ap (λ bytes. bytes ++ rest) (take-append-drop fails.failed.front piece))
-        ∙ whole in
+    append_assoc before some (drop fails.failed.front piece ++ rest)
+    ∙ ap (λ bytes. before ++ bytes) (sym (append_assoc some (drop fails.failed.front piece) rest) ∙ ap (λ bytes. bytes ++ rest) (take-append-drop fails.failed.front piece))
+    ∙ whole in
     let long : length (bytes_on on moves) ≡ length before + length (piece ++ rest) = sym (ap length whole) ∙ length-append before (piece ++ rest) in
     record {
       some = omega (arith, long, length-append piece rest, fails.some);

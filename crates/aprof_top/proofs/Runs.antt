@@ -169,10 +169,13 @@ module _ (options : RunOptions) (loaded : Loaded) (accepted : first_refusal load
   FilesRun-stored Stands observer ended begins whole new (Ok v) (same, stored) = record {
     outcome = run_outcome options image seen;
     is_run = is_outcome begins;
-    delivered = (same, record {
-      output = puts_all (run_outcome options image seen) seen.moves refl refl files before after whole.output;
-      stored = subst (λ f. AreFiles f new) stored (same_files new);
-    });
+    delivered = (
+      same,
+      record {
+        output = puts_all (run_outcome options image seen) seen.moves refl refl files before after whole.output;
+        stored = subst (λ f. AreFiles f new) stored (same_files new);
+      },
+    );
   }
   FilesRun-stored Stands observer ended begins whole new (Err ending.CannotWrite) fails = record {
     outcome = run_outcome options image seen;

@@ -51,9 +51,7 @@ pub(crate) fn run_demo(alloc: Global, number: u32) -> Result<Vec<u8>, Ending>
     let mut trace = KeptTrace::new(alloc, u32::MAX)?;
     let mut out = DropSink;
     let mut err = DropSink;
-    let ended = run_image(
-        alloc, &guest, &image, files, &mut trace, &mut out, &mut err,
-    )?;
+    let ended = run_image(alloc, &guest, &image, files, &mut trace, &mut out, &mut err)?;
     let report = report_of(alloc, &image, &trace, ended.finish)?;
     Ok(summary(alloc, number, &report)?)
 }

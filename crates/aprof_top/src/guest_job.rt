@@ -43,7 +43,7 @@ pub(crate) fn run_image<W: Observer, O: Sink, E: Sink>(
     requires first { W.fits observer.old (first_past image.now.entry) ≡ true }
     ensures { ImageRuns W.stands (setup_refusal image.now (arguments (guest_in options.now)))
         (observed_from (W.fits observer.old) (guest_in options.now) files.schedule image.now.entry
-            (start image.now (arguments (guest_in options.now)) files.inputs files.stdin.items))
+        (start image.now (arguments (guest_in options.now)) files.inputs files.stdin.items))
         (sinks (O.state out.old) (E.state err.old)) observer.new (sinks (O.state out.new) (E.state err.new)) result }
 {
     let words = options.arguments(alloc)?;

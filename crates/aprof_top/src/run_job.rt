@@ -93,8 +93,8 @@ pub(crate) fn run_files<F: Files, O: Sink, E: Sink>(
     requires { AreInRange (guest_in command.now.guest) }
     ensures { (found : loads.Loaded) → Keeps (options_in command.now).guest found loaded
         → FilesRun (options_in command.now) found
-            (outside (F.state files.old) (O.state out.old) (E.state err.old))
-            (outside (F.state files.new) (O.state out.new) (E.state err.new)) (ending_by result) }
+        (outside (F.state files.old) (O.state out.old) (E.state err.old))
+        (outside (F.state files.new) (O.state out.new) (E.state err.new)) (ending_by result) }
 {
     let image = read_image(alloc, loaded.image.as_slice())?;
     let schedule = Schedule::read(alloc, loaded.schedule.as_slice())?;

@@ -98,8 +98,8 @@ module _ {W : Type 0} (Stands : W → List Event → Type 0) (fits : List Event 
   over-none finish n rest new same =
       let p : Profiled = record { moves = moves ++ []; past = past_by first moves; finish = finish } in
       let ends : observed fits first start (length moves + n) ≡ p =
-          whole n ∙ ap (λ run. with_first moves (profiled fits (past_by first moves) run)) rest
-          ∙ ap (with_first moves) (profiled-none fits closed (past_by first moves) finish goes.fitting) in
+      whole n ∙ ap (λ run. with_first moves (profiled fits (past_by first moves) run)) rest
+      ∙ ap (with_first moves) (profiled-none fits closed (past_by first moves) finish goes.fitting) in
       subst (λ q. IsOver Stands q before new watcher mid finish) (sym ends) (record {
         past = goes.stands;
         output = put ∙ ap (λ ms. with_output ms before) (sym (append-nil moves));
@@ -130,8 +130,8 @@ module _ {W : Type 0} (Stands : W → List Event → Type 0) (fits : List Event 
         let kept = profiled-head fits closed (past_by first moves) (made_of old turn opens) run.0 in (
           kept.0,
           sym (ap (λ (p : Profiled). p.moves) (whole (suc n))
-          ∙ ap (λ r. moves ++ (profiled fits (past_by first moves) r).moves) (run-by_status n ∙ run.1)
-          ∙ ap (λ ms. moves ++ ms) kept.1),
+              ∙ ap (λ r. moves ++ (profiled fits (past_by first moves) r).moves) (run-by_status n ∙ run.1)
+              ∙ ap (λ ms. moves ++ ms) kept.1),
         )
 
     -- the put of its bytes fails

@@ -99,7 +99,10 @@ fn assert_ends(
     let ended = run_guest(alloc, machine, turns, 1000, &mut events, &mut out, &mut err)?;
     assert_eq!(rt; ended.finish, finish);
     assert_eq!(rt; count_steps(events.list()), steps);
-    assert_eq!(rt; ended.recording.text(alloc)?.as_slice(), recording.as_bytes());
+    assert_eq!(rt;
+        ended.recording.text(alloc)?.as_slice(),
+        recording.as_bytes()
+    );
     Ok(())
 }
 
@@ -119,13 +122,7 @@ fn each_run_ends_by_its_cause(rt: HostRuntime) -> Result<(), Fail> {
     assert_ends(&rt, alloc, &[0x0010_0073], "", (fault, 0, "1 1\n"))?;
     // a futex wait at 0x10000 for the word that stands there
     let waits = [0x0001_0537, 0x0005_2603, 0x593, 0x693, 0x1a60_0893, 0x73];
-    assert_ends(
-        &rt,
-        alloc,
-        &waits,
-        "",
-        (Finish::Deadlock, 6, "1 3\n1 3\n"),
-    )?;
+    assert_ends(&rt, alloc, &waits, "", (Finish::Deadlock, 6, "1 3\n1 3\n"))?;
     runs_replay();
     runs_stay_within();
     Ok(())
@@ -233,7 +230,10 @@ fn an_event_too_many_ends_the_run(rt: HostRuntime) -> Result<(), Fail> {
     let mut err = MemorySink::new(alloc)?;
     let ended = run_guest(alloc, machine, turns, 1000, &mut few, &mut out, &mut err)?;
     assert_eq!(rt; ended.finish, Finish::Deep);
-    assert_eq!(rt; ended.recording.text(alloc)?.as_slice(), b"1 3\n1 2\n".as_slice());
+    assert_eq!(rt;
+        ended.recording.text(alloc)?.as_slice(),
+        b"1 3\n1 2\n".as_slice()
+    );
     assert_eq!(rt; out.bytes(), b"\x7fELF".as_slice());
     assert_eq!(rt; few.taken, 6);
     Ok(())

@@ -48,8 +48,8 @@ returns-in-Some-clause-ends g c =
     let after = sinks (g.O.Sink.state c.advance.new.out) (g.E.Sink.state c.advance.new.err) in
     let fits = g.W.Observer.fits c.args.observer.now in
     let advances = advances_by g.W.Observer.stands fits (first_past c.args.machine.entry) begin before c.loop-count.count c.loop-count.runner c.loop-count.observer now remains
-        (g.W.Observer.fits c.loop-count.observer) c.loop-count.invariant.same (omega (arith, c.loop-count-test.true, c.requires.budget))
-        c.advance.new.self c.advance.new.observer after (Ok c.in_ok-finish.field-0) c.in_ok-finish.ensures.advances in
+    (g.W.Observer.fits c.loop-count.observer) c.loop-count.invariant.same (omega (arith, c.loop-count-test.true, c.requires.budget))
+    c.advance.new.self c.advance.new.observer after (Ok c.in_ok-finish.field-0) c.in_ok-finish.ensures.advances in
     let over = subst (λ (end : Option Finish). Advances g.W.Observer.stands fits (first_past c.args.machine.entry) begin remains.moves before c.advance.new.self c.advance.new.observer after (Ok end)) c.in-Some.is advances in
     ends_over g.W.Observer.stands _ before c.advance.new.self c.advance.new.observer after c.in-Some.finish
     (over_by g.W.Observer.stands fits (first_past c.args.machine.entry) begin before c.loop-count.count c.loop-count.runner c.loop-count.observer now remains
@@ -65,8 +65,8 @@ loop-count-preserved g c =
     let after = sinks (g.O.Sink.state c.advance.new.out) (g.E.Sink.state c.advance.new.err) in
     let fits = g.W.Observer.fits c.args.observer.now in
     let advances = advances_by g.W.Observer.stands fits (first_past c.args.machine.entry) begin before c.loop-count.count c.loop-count.runner c.loop-count.observer now remains
-        (g.W.Observer.fits c.loop-count.observer) c.loop-count.invariant.same (omega (arith, c.loop-count-test.true, c.requires.budget))
-        c.advance.new.self c.advance.new.observer after (Ok c.in_ok-finish.field-0) c.in_ok-finish.ensures.advances in
+    (g.W.Observer.fits c.loop-count.observer) c.loop-count.invariant.same (omega (arith, c.loop-count-test.true, c.requires.budget))
+    c.advance.new.self c.advance.new.observer after (Ok c.in_ok-finish.field-0) c.in_ok-finish.ensures.advances in
     record {
       remains = next_by g.W.Observer.stands fits (first_past c.args.machine.entry) begin before c.loop-count.count c.loop-count.runner c.loop-count.observer now remains
           c.advance.new.self c.advance.new.observer after c.in_ok-finish.field-0 c.in_default.is advances;
