@@ -1,5 +1,5 @@
 -- Traces of few events.
-use Rattle.std.proofs.Common.{◌≡◌, ℕ, suc, Bool, true, List, ◌∷◌, length, arith}
+use Rattle.std.proofs.Common.{ℕ, suc, List, length, arith}
 use Rattle.std.specs.Prelude.{nat_le}
 use Rattle.std.proofs.lemmas.Bool.{le-leb, leb-true}
 use Rattle.trace_model.specs.declared.event_kinds.Event.{Event}

@@ -45,6 +45,7 @@ fn machine_of(alloc: Global, code: &[u32]) -> Result<Machine, Fail>
 }
 
 // Takes so many events.
+#[derive(Drop)]
 struct FewEvents {
     taken: usize,
     most: usize,
