@@ -7,5 +7,3 @@ pub mod Sound
 pub mod Parts
 pub mod Setup
 pub mod Laws
-
--- What the private parts owe one another.
