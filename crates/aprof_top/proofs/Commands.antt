@@ -1,5 +1,5 @@
 -- From the loads and the run of a command to how it ends.
-use Rattle.std.proofs.Common.{◌≡◌, ℕ, ◌<◌, Bool, true, false, cond, List, [], Some, None, Result, Ok, Err, OnErr, refl, sym, ap, subst, inl, inr, arith, length, slice_get}
+use Rattle.std.proofs.Common.{◌≡◌, ℕ, ◌<◌, Bool, true, false, cond, List, [], Some, None, Err, refl, sym, ap, subst, inl, inr, arith, length, slice_get}
 use Rattle.std.specs.Prelude.{nat_lt}
 use Rattle.std.specs.List.{list_any}
 use Rattle.std.proofs.lemmas.Bool.Decides.{nat_tests}
@@ -7,7 +7,7 @@ use Rattle.std.proofs.lemmas.Option.{slice_get_within}
 use Rattle.command_line.specs.Options.{AsksFor, GuestOptions, RunOptions, has_zero}
 use Rattle.command_line.specs.Options.Asked.{Run, Demo}
 use Rattle.host_io.specs.Files.{FilesState}
-use Rattle.host_io.specs.Sink.{PutEnds, SinkState}
+use Rattle.host_io.specs.Sink.{PutEnds, SinkState, appended}
 use Rattle.host_io.specs.declared.sink.PutError.{PutError}
 use Rattle.host_io.specs.declared.sink.PutError.TheVariants as refused
 use Rattle.command_line.proofs.Refusals.{no_zero}
@@ -18,7 +18,7 @@ use Rattle.aprof_top.specs.declared.ending.Ending.TheVariants as ending
 use Rattle.aprof_top.specs.declared.ending.Verdict as verdicts
 use Rattle.aprof_top.specs.declared.ending.Verdict.TheVariants as verdict
 use Rattle.aprof_top.specs.declared.loaded.Loaded as kept
-use Rattle.aprof_top.specs.Ending.{AskedEnds, Delivers, end_of, guest_of, of_command}
+use Rattle.aprof_top.specs.Ending.{AskedEnds, Delivers, end_of, guest_of, of_command, of_put}
 use Rattle.aprof_top.specs.Ends.{Reaches}
 use Rattle.aprof_top.specs.Ends.End.{Decided}
 use Rattle.aprof_top.specs.Found.{Decision, Found}
@@ -27,7 +27,7 @@ use Rattle.aprof_top.specs.Loads.{loaded_of, loaded_paths, passes_limit, shared_
 use Rattle.aprof_top.specs.Outcome.{Follows, IsDemo, IsOutcome, IsRun, Outcome, refusal, stage}
 use Rattle.aprof_top.specs.Outcome.Stage.{Complete, Loading, PastLimit}
 use Rattle.aprof_top.specs.Outside.{AreFiles, Outside, outside}
-use Rattle.aprof_top.specs.Jobs.{FilesRun, ending_by, summed}
+use Rattle.aprof_top.specs.Jobs.{FilesRun, summed}
 use Rattle.aprof_top.specs.Loading.{LoadsAll}
 use Rattle.aprof_top.specs.Sources.{path_of}
 use Rattle.aprof_top.specs.Verdicts.{IsOfRun}
@@ -128,37 +128,35 @@ module _ (options : RunOptions) (files loaded : FilesState) (out err : SinkState
 -- ---- the demo
 -- its outcome was handed out
 module _ (number : ℕ) (outcome : Outcome) (before after : Outside) (is_demo : IsDemo number outcome) where
-  abbrev summed : (words : List (List ℕ)) → AsksFor words (Some (Demo number)) → Decision words before after
-  summed words asks = record {
+  abbrev demo_decision : (words : List (List ℕ)) → AsksFor words (Some (Demo number)) → Decision words before after
+  demo_decision words asks = record {
     found = record { asked = Some (Demo number); asks = asks; files = []; held = tt; limit = inl tt };
     outcome = outcome;
     written = is_demo;
   }
 
   pub AskedEnds-shown : (e : declared.Ending) → IsOfRun outcome.verdict → Delivers outcome before after e → AskedEnds (Demo number) before after e
-  AskedEnds-shown (ending.Decided v) ran (same, done) words asks = (summed words asks, same, done)
+  AskedEnds-shown (ending.Decided v) ran (same, done) words asks = (demo_decision words asks, same, done)
   AskedEnds-shown (ending.CannotRead source) ran fails words asks = absurd fails
-  AskedEnds-shown ending.CannotWrite ran fails words asks = record { decision = summed words asks; ran = ran; fails = fails }
-  AskedEnds-shown ending.CannotPut ran fails words asks = record { decision = summed words asks; ran = ran; fails = fails }
-  AskedEnds-shown ending.OutOfMemory ran short words asks = record { no_zero = no_zero words (Demo number) asks; done = inr (summed words asks, short) }
+  AskedEnds-shown ending.CannotWrite ran fails words asks = record { decision = demo_decision words asks; ran = ran; fails = fails }
+  AskedEnds-shown ending.CannotPut ran fails words asks = record { decision = demo_decision words asks; ran = ran; fails = fails }
+  AskedEnds-shown ending.OutOfMemory ran short words asks = record { no_zero = no_zero words (Demo number) asks; done = inr (demo_decision words asks, short) }
 
 -- it has no summary for want of memory alone
 pub AskedEnds-unshown : (number : ℕ) (before : Outside) (e : declared.Ending) → e ≡ ending.OutOfMemory → AskedEnds (Demo number) before before e
 AskedEnds-unshown number before e is words asks =
     subst (λ x. Reaches words (end_of (guest_of (Demo number)) x) before before) (sym is) (record { no_zero = no_zero words (Demo number) asks; done = inl refl })
 
--- how the put of the summary ends it
-abbrev pub by_put : Result Unit PutError → declared.Ending
-by_put (Ok done) = ending.Decided verdict.Summarized
-by_put (Err refused.Failed) = ending.CannotWrite
-by_put (Err refused.Memory) = ending.OutOfMemory
-
-pub AskedEnds-put : (number : ℕ) (summary : List ℕ) (files : FilesState) (out new err : SinkState) → IsDemo number (summed summary) → (put : Result Unit PutError) →
-    PutEnds summary out new put → OnErr put (0 < length summary) → AskedEnds (Demo number) (outside files out err) (outside files new err) (by_put put)
-AskedEnds-put number summary files out new err is_demo (Ok done) gained some =
+-- its summary was put, or that failed
+pub AskedEnds-put : (number : ℕ) (summary : List ℕ) (files : FilesState) (out new err : SinkState) → IsDemo number (summed summary) → new ≡ appended out summary →
+    AskedEnds (Demo number) (outside files out err) (outside files new err) (ending.Decided verdict.Summarized)
+AskedEnds-put number summary files out new err is_demo gained =
     AskedEnds-shown number (summed summary) (outside files out err) (outside files new err) is_demo (ending.Decided verdict.Summarized) tt
     (refl, record { output = record { out = gained; err = appended-nothing err }; stored = same_files files })
-AskedEnds-put number summary files out new err is_demo (Err refused.Failed) fails some =
+
+pub AskedEnds-unput : (number : ℕ) (summary : List ℕ) (files : FilesState) (out new err : SinkState) → IsDemo number (summed summary) → (e : PutError) →
+    PutEnds summary out new (Err e) → 0 < length summary → AskedEnds (Demo number) (outside files out err) (outside files new err) (of_put e)
+AskedEnds-unput number summary files out new err is_demo refused.Failed fails some =
     AskedEnds-shown number (summed summary) (outside files out err) (outside files new err) is_demo ending.CannotWrite tt
     (inr (record {
       out = record { some = some; faults = fails.faults; count = fails.front; gained = fails.gained };
@@ -166,7 +164,7 @@ AskedEnds-put number summary files out new err is_demo (Err refused.Failed) fail
       err = takes_none [] err err refl;
       files = refl;
     }))
-AskedEnds-put number summary files out new err is_demo (Err refused.Memory) same some =
+AskedEnds-unput number summary files out new err is_demo refused.Memory same some =
     AskedEnds-shown number (summed summary) (outside files out err) (outside files new err) is_demo ending.OutOfMemory tt
     (record {
       out_count = 0;

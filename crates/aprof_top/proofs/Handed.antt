@@ -33,8 +33,8 @@ fails_within on moves earlier later move are old new fails =
     let piece = sent on move.out in
     let rest = bytes_on on later in
     let some = take fails.failed.front piece in
-    let whole : before ++ piece ++ rest ≡ bytes_on on moves = sym (bytes_on-append on earlier (move ∷ later)) ∙ ap (bytes_on on) are in
-    let cut : (before ++ some) ++ drop fails.failed.front piece ++ rest ≡ bytes_on on moves =
+    let whole : before ++ (piece ++ rest) ≡ bytes_on on moves = sym (bytes_on-append on earlier (move ∷ later)) ∙ ap (bytes_on on) are in
+    let cut : (before ++ some) ++ (drop fails.failed.front piece ++ rest) ≡ bytes_on on moves =
     append_assoc before some (drop fails.failed.front piece ++ rest)
     ∙ ap (λ bytes. before ++ bytes) (sym (append_assoc some (drop fails.failed.front piece) rest) ∙ ap (λ bytes. bytes ++ rest) (take-append-drop fails.failed.front piece))
     ∙ whole in
@@ -47,13 +47,14 @@ fails_within on moves earlier later move are old new fails =
           ∙ ap (append_known old.bytes) (sym (ap (take (length (before ++ some))) (sym cut) ∙ first_of (before ++ some) (drop fails.failed.front piece ++ rest)));
     }
 
-module _ (outcome : Outcome) (moves : List Move) (out_is : outcome.out ≡ bytes_on 1 moves) (err_is : outcome.err ≡ bytes_on 2 moves) (files : FilesState) (before after : Sinks) where
-  pub puts_all : after ≡ with_output moves before → PutsOutput outcome (outside files before.out before.err) (outside files after.out after.err)
-  puts_all is = record {
-    out = ap (λ (s : Sinks). s.out) is ∙ ap (appended before.out) (sym out_is);
-    err = ap (λ (s : Sinks). s.err) is ∙ ap (appended before.err) (sym err_is);
-  }
+pub puts_all : (outcome : Outcome) (moves : List Move) → outcome.out ≡ bytes_on 1 moves → outcome.err ≡ bytes_on 2 moves → (files new : FilesState) (before after : Sinks) →
+    after ≡ with_output moves before → PutsOutput outcome (outside files before.out before.err) (outside new after.out after.err)
+puts_all outcome moves out_is err_is files new before after is = record {
+  out = ap (λ (s : Sinks). s.out) is ∙ ap (appended before.out) (sym out_is);
+  err = ap (λ (s : Sinks). s.err) is ∙ ap (appended before.err) (sym err_is);
+}
 
+module _ (outcome : Outcome) (moves : List Move) (out_is : outcome.out ≡ bytes_on 1 moves) (err_is : outcome.err ≡ bytes_on 2 moves) (files : FilesState) (before after : Sinks) where
   pub fails_on_out : StopsAtPut channel.Out moves before after → FailsOnOut outcome (outside files before.out before.err) (outside files after.out after.err)
   fails_on_out stops = record {
     out = subst (λ bytes. FailsWithin bytes before.out after.out) (sym out_is) (fails_within 1 moves stops.earlier stops.later stops.move stops.are before.out after.out stops.failed.0);

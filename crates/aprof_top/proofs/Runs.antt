@@ -78,11 +78,19 @@ none_refused None m same = refl
 none_refused (Some why) m same = absurd (grind (arith, same))
 
 -- the run of the machine that began so
-pub same_run : (options : GuestOptions) (loaded : Loaded) (turns : List Entry) (image : Executable) (files : List Input) (stdin : List ℕ) → image ≡ image_of loaded.image → files ≡ with_inputs [] (inputs options) loaded.inputs → stdin ≡ loaded.stdin → observed_from (is_within greatest_stamp) options turns image.entry (start image (arguments options) files stdin) ≡ run_of options loaded turns
+same_run : (options : GuestOptions) (loaded : Loaded) (turns : List Entry) (image : Executable) (files : List Input) (stdin : List ℕ) → image ≡ image_of loaded.image → files ≡ with_inputs [] (inputs options) loaded.inputs → stdin ≡ loaded.stdin → observed_from (is_within greatest_stamp) options turns image.entry (start image (arguments options) files stdin) ≡ run_of options loaded turns
 unfolding first_state
 same_run options loaded turns image files stdin is files_are stdin_is =
     ap (λ i. observed_from (is_within greatest_stamp) options turns i.entry (start i (arguments options) files stdin)) is
     ∙ ap₂ (λ f s. observed_from (is_within greatest_stamp) options turns (image_of loaded.image).entry (start (image_of loaded.image) (arguments options) f s)) files_are stdin_is
+
+-- by the stamps that the program has
+pub seen_run : (options : GuestOptions) (loaded : Loaded) (turns : List Entry) (image : Executable) (files : List Input) (stdin : List ℕ) (greatest : ℕ) → greatest ≡ greatest_stamp →
+    image ≡ image_of loaded.image → files ≡ with_inputs [] (inputs options) loaded.inputs → stdin ≡ loaded.stdin →
+    observed_from (is_within greatest) options turns image.entry (start image (arguments options) files stdin) ≡ run_of options loaded turns
+seen_run options loaded turns image files stdin greatest greatest_is is files_are stdin_is =
+    ap (λ n. observed_from (is_within n) options turns image.entry (start image (arguments options) files stdin)) greatest_is
+    ∙ same_run options loaded turns image files stdin is files_are stdin_is
 
 -- the image was taken
 pub image_accepted : (files : Loaded) (k : kept.Loaded) (bytes : List ℕ) → k.image.items ≡ files.image → bytes ≡ k.image.items → first_refusal bytes ≡ None → first_refusal files.image ≡ None
@@ -172,7 +180,7 @@ module _ (options : RunOptions) (loaded : Loaded) (accepted : first_refusal load
     delivered = (
       same,
       record {
-        output = puts_all (run_outcome options image seen) seen.moves refl refl files before after whole.output;
+        output = puts_all (run_outcome options image seen) seen.moves refl refl files new before after whole.output;
         stored = subst (λ f. AreFiles f new) stored (same_files new);
       },
     );
@@ -180,11 +188,11 @@ module _ (options : RunOptions) (loaded : Loaded) (accepted : first_refusal load
   FilesRun-stored Stands observer ended begins whole new (Err ending.CannotWrite) fails = record {
     outcome = run_outcome options image seen;
     is_run = is_outcome begins;
-    delivered = (tt, inl (record { output = puts_all (run_outcome options image seen) seen.moves refl refl files before after whole.output; stored = fails }));
+    delivered = (tt, inl (record { output = puts_all (run_outcome options image seen) seen.moves refl refl files new before after whole.output; stored = fails }));
   }
   FilesRun-stored Stands observer ended begins whole new (Err ending.OutOfMemory) (count, stored) =
       let outcome = run_outcome options image seen in
-      let output = puts_all outcome seen.moves refl refl files before after whole.output in
+      let output = puts_all outcome seen.moves refl refl files new before after whole.output in
       inr (record {
         outcome = outcome;
         is_run = is_outcome begins;

@@ -43,9 +43,11 @@ pub(crate) fn run_demo(alloc: Global, number: u32) -> Result<Vec<u8>, Ending>
     // It passes all tests, so it is refused only for want of memory.
     let image = read_image(alloc, file.as_slice())?;
     let guest = demo_guest(alloc);
+    let schedule = Schedule::empty(alloc)?;
+    let inputs = Inputs::new(alloc)?;
     let files = GuestFiles {
-        schedule: Schedule::empty(alloc)?,
-        inputs: Inputs::new(alloc)?,
+        schedule,
+        inputs,
         stdin: Vec::new(alloc),
     };
     let mut trace = KeptTrace::new(alloc, u32::MAX)?;
@@ -53,5 +55,6 @@ pub(crate) fn run_demo(alloc: Global, number: u32) -> Result<Vec<u8>, Ending>
     let mut err = DropSink;
     let ended = run_image(alloc, &guest, &image, files, &mut trace, &mut out, &mut err)?;
     let report = report_of(alloc, &image, &trace, ended.finish)?;
-    Ok(summary(alloc, number, &report)?)
+    let text = summary(alloc, number, &report)?;
+    Ok(text)
 }

@@ -1,5 +1,5 @@
 //! The command `run`: a guest's output, its recording and its report.
-ghost use Rattle.std.specs.Prelude.{◌≡◌, map, option_map, IfOk};
+ghost use Rattle.std.specs.Prelude.{◌≡◌, List, map, option_map, IfOk};
 ghost use Rattle.command_line.specs.Read.{AreInRange, guest_in, options_in};
 ghost use Rattle.guest_run.specs.Profiled.{Profiled};
 ghost use Rattle.guest_run.specs.Run.{recording};

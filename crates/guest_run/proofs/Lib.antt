@@ -14,4 +14,3 @@ pub mod Output
 pub mod Observed
 pub mod Advances
 pub mod Ends
-pub mod Few

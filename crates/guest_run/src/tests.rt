@@ -52,14 +52,15 @@ struct FewEvents {
 }
 
 impl Observer for FewEvents {
-    ghost use Rattle.std.specs.Prelude.{◌≡◌, length, nat_le};
-    ghost use Rattle.guest_run.proofs.Few.{few_closed};
+    ghost use Rattle.std.specs.Prelude.{◌≡◌, ◌∷◌, length, nat_le};
+    ghost use Rattle.std.proofs.Math.Nat.{le_of_lt};
+    ghost use Rattle.std.proofs.lemmas.Bool.{le-leb, leb-true};
 
     ghost stands = { λ few past. few.taken ≡ length past };
 
     ghost fits = { λ few past. nat_le (length past) few.most };
 
-    ghost fits_closed = { λ few. few_closed few.most };
+    ghost fits_closed = { λ few e past fits. le-leb (length past) few.most (le_of_lt (leb-true (length (e ∷ past)) few.most fits)) };
 
     fn observe(&mut self, _e: Event) -> Result<Observed, AllocError> {
         if self.taken == self.most {
