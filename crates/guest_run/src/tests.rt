@@ -201,20 +201,15 @@ fn a_put_that_fails_ends_the_run(rt: HostRuntime) -> Result<(), Fail> {
     let whole: &[u8] = b"\x7fELF\x7fELF\x7fELF";
     let exit = Finish::Exit { status: 0 };
     assert_puts(&rt, alloc, (None, None), Ok(exit), (whole, &whole[..8]))?;
-    let on_out = Err(RunError::CannotPut {
-        channel: Channel::Out,
-    });
-    let on_err = Err(RunError::CannotPut {
-        channel: Channel::Err,
-    });
     let rows = [
-        ((Some(0), None), on_out, 2, 0),
-        ((Some(1), None), on_out, 6, 4),
-        ((Some(2), None), on_out, 10, 8),
-        ((None, Some(0)), on_err, 4, 2),
-        ((None, Some(1)), on_err, 8, 6),
+        ((Some(0), None), Channel::Out, 2, 0),
+        ((Some(1), None), Channel::Out, 6, 4),
+        ((Some(2), None), Channel::Out, 10, 8),
+        ((None, Some(0)), Channel::Err, 4, 2),
+        ((None, Some(1)), Channel::Err, 8, 6),
     ];
-    for (failing, end, out, err) in rows {
+    for (failing, channel, out, err) in rows {
+        let end = Err(RunError::CannotPut { channel });
         assert_puts(&rt, alloc, failing, end, (&whole[..out], &whole[..err]))?;
     }
     Ok(())

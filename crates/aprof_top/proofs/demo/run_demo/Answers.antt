@@ -1,5 +1,5 @@
-use Rattle.std.proofs.Common.{◌≡◌, ◌∙◌, [], ap, sym}
-use Rattle.command_line.specs.Options.{arguments}
+use Rattle.std.proofs.Common.{◌≡◌, ◌∙◌, [], ap, sym, arith}
+use Rattle.command_line.specs.Options.{GuestOptions, arguments}
 use Rattle.command_line.specs.Read.{guest_in}
 use Rattle.elf_image.specs.Reading.{image_of}
 use Rattle.guest_machine.specs.Start.{start}
@@ -14,11 +14,12 @@ use Rattle.aprof_top.proofs.demo.run_demo.Goals as goal
 pub report_of-requires : goal.report_of-requires
 report_of-requires c =
     let options = guest_in c.demo_guest-guest.result in
+    let budget = ap (λ (o : GuestOptions). o.budget) c.demo_guest-guest.ensures in
     let image = c.in_ok-image.image in
     record {
       past = (observed_from (is_within c.in_ok-trace.trace.greatest) options c.in_ok-schedule.schedule image.entry (start image (arguments options) c.in_ok-inputs.inputs c.new-2.result.items)).past;
       now = c.in_ok-ended.ensures.1.past;
-      light = light_observed (is_within c.in_ok-trace.trace.greatest) options c.in_ok-schedule.schedule image c.in_ok-inputs.inputs c.new-2.result.items ?;
+      light = light_observed (is_within c.in_ok-trace.trace.greatest) options c.in_ok-schedule.schedule image c.in_ok-inputs.inputs c.new-2.result.items (omega (arith, budget));
     }
 
 pub returns-clause-summary : goal.returns-clause-summary
