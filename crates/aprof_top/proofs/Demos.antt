@@ -1,5 +1,5 @@
 -- The run of a demo.
-use Rattle.std.proofs.Common.{◌≡◌, ℕ, List, [], refl, sym, ap, ap₂, ◌∙◌}
+use Rattle.std.proofs.Common.{◌≡◌, ℕ, List, [], ap, ap₂, ◌∙◌}
 use Rattle.trace_model.specs.Depth.{is_within}
 use Rattle.command_line.specs.Options.{GuestOptions, arguments}
 use Rattle.elf_image.specs.Image.{Executable}

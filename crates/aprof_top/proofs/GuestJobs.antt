@@ -1,5 +1,5 @@
 -- The run of an executable, by the parts that make it.
-use Rattle.std.proofs.Common.{◌≡◌, ℕ, Bool, true, List, Option, Some, None, IfSome, IfNone, Result, Ok, Err, refl, sym, ap, subst, ◌∙◌, inl, inr}
+use Rattle.std.proofs.Common.{◌≡◌, ℕ, Bool, List, Option, Some, None, IfSome, IfNone, Ok, Err, refl, ap, ◌∙◌, inl, inr}
 use Rattle.trace_model.specs.declared.event_kinds.Event.{Event}
 use Rattle.command_line.specs.Options.{GuestOptions}
 use Rattle.guest_machine.specs.declared.setup.SetupError.{SetupError}

@@ -1,5 +1,5 @@
 -- How the output and the files of a run are handed out, by how its run ended.
-use Rattle.std.proofs.Common.{◌≡◌, ◌⊎◌, ℕ, ◌+◌, ◌<◌, ◌≤◌, List, [], ◌∷◌, ◌++◌, length, length-append, take, drop, refl, sym, ap, ap₂, subst, ◌∙◌, append_assoc, inl, inr, arith}
+use Rattle.std.proofs.Common.{◌≡◌, ℕ, ◌+◌, List, [], ◌∷◌, ◌++◌, length, length-append, take, drop, refl, sym, ap, subst, ◌∙◌, append_assoc, inr, arith}
 use Rattle.std.specs.Io.KnownBytes.{append_known}
 use Rattle.std.proofs.lemmas.List.{take-append-drop}
 use Rattle.host_io.specs.Files.{FilesState}
@@ -11,8 +11,7 @@ use Rattle.guest_run.specs.RunEnds.{IsGivenUp, StopsAtPut}
 use Rattle.guest_run.proofs.Output.{appended-more, bytes_on-append}
 use Rattle.aprof_top.specs.Delivery.{FailsOnErr, FailsOnOut, FailsWithin, PutsOutput, StopsShort, TakesFirst}
 use Rattle.aprof_top.specs.Outcome.{Outcome}
-use Rattle.aprof_top.specs.Outside.{Outside, outside}
-use Rattle.aprof_top.proofs.Sinks.{takes_all}
+use Rattle.aprof_top.specs.Outside.{outside}
 
 -- what bytes begin with is their first ones
 first_of : (p q : List ℕ) → take (length p) (p ++ q) ≡ p

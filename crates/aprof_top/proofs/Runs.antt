@@ -1,5 +1,5 @@
 -- What the run of a command's files comes to.
-use Rattle.std.proofs.Common.{◌≡◌, ◌≢◌, ◌⊎◌, IfSome, Ok, arith, ℕ, Bool, true, List, [], length, take, Option, Some, None, Result, Err, ◌≤◌, refl, sym, ap, ap₂, ◌∙◌, subst, inl, inr}
+use Rattle.std.proofs.Common.{◌≡◌, ◌≢◌, IfSome, Ok, arith, ℕ, Bool, List, [], length, Option, Some, None, Result, Err, ◌≤◌, refl, sym, ap, ap₂, ◌∙◌, subst, inl, inr}
 use Rattle.std.specs.List.{AllByRecursion}
 use Rattle.std.proofs.Math.Seq.{take-length}
 use Rattle.guest_words.specs.declared.limits.TheConstants.{RUN_STEPS}
@@ -16,7 +16,6 @@ use Rattle.guest_calls.specs.Inputs.{Input}
 use Rattle.guest_machine.specs.declared.setup.SetupError.{SetupError}
 use Rattle.guest_machine.specs.Setup.{setup_refusal}
 use Rattle.guest_machine.specs.Start.{start}
-use Rattle.guest_machine.specs.Machine.{MachineState}
 use Rattle.guest_run.specs.declared.run.Ended.{Ended}
 use Rattle.guest_run.specs.Laws.{scheduler}
 use Rattle.guest_run.specs.Output.{Sinks}
@@ -35,7 +34,7 @@ use Rattle.aprof_top.specs.declared.ending.Verdict.{Verdict}
 use Rattle.aprof_top.specs.declared.ending.Verdict.TheVariants.{BadImage, BadSchedule, TooLarge}
 use Rattle.aprof_top.specs.declared.loaded.Loaded as kept
 use Rattle.aprof_top.specs.Ending.{of_image, of_schedule}
-use Rattle.aprof_top.specs.Jobs.{FilesRun, ImageRuns, IsHandedOut, IsRefused, RunIsStored, ending_by}
+use Rattle.aprof_top.specs.Jobs.{FilesRun, ImageRuns, IsRefused, RunIsStored, ending_by}
 use Rattle.aprof_top.specs.Loads.{Loaded, with_inputs}
 use Rattle.aprof_top.specs.Outcome.{ByImage, IsRun, IsScheduled, Outcome, begun_outcome, refusal, run_outcome}
 use Rattle.aprof_top.specs.Outside.{AreFiles, Outside, outside}

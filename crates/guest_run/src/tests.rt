@@ -63,7 +63,7 @@ impl Observer for FewEvents {
     ghost fits_closed = { λ few e past fits. le-leb (length past) few.most (le_of_lt (leb-true (length (e ∷ past)) few.most fits)) };
 
     fn observe(&mut self, _e: Event) -> Result<Observed, AllocError> {
-        if self.taken == self.most {
+        if self.taken >= self.most {
             return Ok(Observed::Refused);
         }
         self.taken += 1;

@@ -1,4 +1,4 @@
-use Rattle.std.proofs.Common.{◌≡◌, ◌∙◌, [], ap, sym, arith}
+use Rattle.std.proofs.Common.{◌∙◌, ap, arith}
 use Rattle.command_line.specs.Options.{GuestOptions, arguments}
 use Rattle.command_line.specs.Read.{guest_in}
 use Rattle.elf_image.specs.Reading.{image_of}

@@ -1,4 +1,4 @@
-use Rattle.std.proofs.Common.{◌≡◌, ◌∙◌, ℕ, List, [], ◌∷◌, ◌++◌, map, ap, ap₂}
+use Rattle.std.proofs.Common.{◌∙◌, ℕ, List, [], ◌∷◌, ◌++◌, map, ap, ap₂}
 use Rattle.std.proofs.lemmas.List.{map-append}
 use Rattle.profile_report.specs.ReportText.{report_text}
 use Rattle.aprof_top.specs.declared.delivery.Store.{Store}

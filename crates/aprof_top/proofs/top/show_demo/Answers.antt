@@ -1,4 +1,4 @@
-use Rattle.std.proofs.Common.{◌≡◌, ◌<◌, Err, Ok, length, subst, sym}
+use Rattle.std.proofs.Common.{◌≡◌, ◌<◌, Err, length, subst}
 use Rattle.std.proofs.lemmas.Result.{err_from_is_err_and}
 use Rattle.host_io.specs.Sink.{PutEnds, appended}
 use Rattle.aprof_top.specs.Outside.{outside}
