@@ -73,10 +73,10 @@ impl Observer for FewEvents {
 
 // How many steps there are.
 fn count_steps(events: &[Event]) -> usize {
-    let mut count = 0;
+    let mut count: usize = 0;
     for e in events {
         if let Event::Step { .. } = *e {
-            count += 1;
+            count = count.saturating_add(1);
         }
     }
     count
