@@ -31,7 +31,7 @@ const WHOLE: Left = Left {
     out: "out\n",
     err: "err\n",
     report: Some(
-        "aprof 1\nend exit 0\nsteps 12\nopen 0\nroutine 00010054 -\n2 1 12 12 12\ndone 1\n",
+        "aprof 2\nend exit 0\nsteps 12\nopen 0\nroutine 00010054 -\n2 1 12 12 12 2 0 0 2\ndone 1\n",
     ),
     recording: Some("1 12\n"),
 };
@@ -174,7 +174,7 @@ pub(crate) const FAILED_PUTS: &[Failure] = &[
             out: "out\nout\nout\n",
             err: "err\nerr\n",
             report: Some(
-                "aprof 1\nend exit 0\nsteps 21\nopen 0\nroutine 00010054 -\n2 1 21 21 21\ndone 1\n",
+                "aprof 2\nend exit 0\nsteps 21\nopen 0\nroutine 00010054 -\n2 1 21 21 21 2 0 0 2\ndone 1\n",
             ),
             recording: Some("1 21\n"),
             ..NOTHING

@@ -4,6 +4,7 @@ ghost use Rattle.std.specs.List.{All};
 ghost use Rattle.trace_model.specs.declared.slow_profile.Done.{Done};
 ghost use Rattle.elf_image.specs.Image.{name_of};
 ghost use Rattle.trace_model.specs.declared.event_kinds.Event.{Event};
+ghost use Rattle.trace_model.specs.Profile.{HasParts};
 ghost use Rattle.cost_points.specs.Points.{points};
 ghost use Rattle.cost_points.specs.Contents.{contents_of};
 ghost use Rattle.aprof_top.specs.Kept.{IsKept, IsKeptLight};
@@ -14,13 +15,14 @@ use crate::kept_trace::KeptTrace;
 use cost_points::Table;
 use elf_image::Image;
 use guest_words::{Addr, Finish, Name};
-use profile_report::{Report, Routine};
+use profile_report::{Report, ReportVersion, Routine};
 use std::alloc::{AllocError, Global};
 use trace_model::{Done, slow_done};
 
 // Adds an ended activation, whose size and cost are numbers of 64 bits.
 fn add_ended(table: &mut Table, ended: Done) -> Result<(), AllocError>
-    requires { table.old.members < 2 ^ 63 }
+    requires few { table.old.members < 2 ^ 63 }
+    requires parts { HasParts ended }
     ensures added { (added : List Done) → table.old ≡ contents_of added → OnOk result (table.new ≡ contents_of (added ++ ended ∷ [])) }
     ensures size { ended.size < 2 ^ 64 }
     ensures cost { ended.cost < 2 ^ 64 }
@@ -30,7 +32,8 @@ fn add_ended(table: &mut Table, ended: Done) -> Result<(), AllocError>
 
 // The points of ended activations.
 fn table_of(alloc: Global, done: &[Done]) -> Result<Table, AllocError>
-    requires { length done.now < 2 ^ 63 }
+    requires few { length done.now < 2 ^ 63 }
+    requires parts { All HasParts done.now }
     ensures table { IfOk result (λ table. table ≡ contents_of done.now) }
     ensures sizes { OnOk result (All (λ d. d.size < 2 ^ 64) done.now) }
     ensures costs { OnOk result (All (λ d. d.cost < 2 ^ 64) done.now) }
@@ -72,7 +75,8 @@ fn named_routines(alloc: Global, image: &Image, table: &Table) -> Result<Vec<Rou
 
 // The routines of ended activations, with their names.
 fn routines_of(alloc: Global, image: &Image, done: &[Done]) -> Result<Vec<Routine>, AllocError>
-    requires { length done.now < 2 ^ 63 }
+    requires few { length done.now < 2 ^ 63 }
+    requires parts { All HasParts done.now }
     ensures routines { IfOk result (λ routines. routines.items ≡ map (named image.now) (points done.now)) }
     ensures totals { IfOk result (λ routines. FitsTotals routines.items) }
 {
@@ -80,7 +84,7 @@ fn routines_of(alloc: Global, image: &Image, done: &[Done]) -> Result<Vec<Routin
     named_routines(alloc, image, &table)
 }
 
-/// The report of a run of an executable that ended so. Its totals are numbers of 128 bits.
+/// The report, of version 2, of a run of an executable that ended so. Its totals are numbers of 128 bits.
 pub(crate) fn report_of(
     alloc: Global,
     image: &Image,
@@ -94,6 +98,7 @@ pub(crate) fn report_of(
     let done = slow_done(alloc, trace.events.list())?;
     let routines = routines_of(alloc, image, done.as_slice())?;
     Ok(Report {
+        version: ReportVersion::Two,
         finish,
         steps: trace.steps,
         pending: trace.stacks.pending(),

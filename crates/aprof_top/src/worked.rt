@@ -68,7 +68,7 @@ pub(crate) const THREADED: Guest = Guest {
     left: Left {
         out: "ok\n",
         report: Some(
-            "aprof 1\nend exit 0\nsteps 62\nopen 0\nroutine 00010054 -\n4 1 48 48 48\nroutine 000100bc -\n0 1 14 14 14\ndone 2\n",
+            "aprof 2\nend exit 0\nsteps 62\nopen 0\nroutine 00010054 -\n4 1 48 48 48 2 2 0 3\nroutine 000100bc -\n0 1 14 14 14 0 0 0 0\ndone 2\n",
         ),
         recording: Some("1 32\n2 14\n1 16\n"),
         ..NOTHING
@@ -82,7 +82,7 @@ pub(crate) const ROUTINES: &[Guest] = &[
         name: "the smallest guest",
         left: Left {
             report: Some(
-                "aprof 1\nend exit 0\nsteps 3\nopen 0\nroutine 00010054 -\n0 1 3 3 3\ndone 1\n",
+                "aprof 2\nend exit 0\nsteps 3\nopen 0\nroutine 00010054 -\n0 1 3 3 3 0 0 0 0\ndone 1\n",
             ),
             ..NOTHING
         },
@@ -93,7 +93,7 @@ pub(crate) const ROUTINES: &[Guest] = &[
         code: REPEATED_READ,
         left: Left {
             report: Some(
-                "aprof 1\nend exit 0\nsteps 7\nopen 0\nroutine 00010054 -\n1 1 7 7 7\nroutine 00010064 -\n1 1 3 3 3\ndone 2\n",
+                "aprof 2\nend exit 0\nsteps 7\nopen 0\nroutine 00010054 -\n1 1 7 7 7 1 0 0 1\nroutine 00010064 -\n1 1 3 3 3 1 0 0 1\ndone 2\n",
             ),
             ..NOTHING
         },
@@ -104,7 +104,7 @@ pub(crate) const ROUTINES: &[Guest] = &[
         code: FIRST_A_WRITE,
         left: Left {
             report: Some(
-                "aprof 1\nend exit 0\nsteps 7\nopen 0\nroutine 00010054 -\n0 1 7 7 7\nroutine 00010064 -\n0 1 3 3 3\ndone 2\n",
+                "aprof 2\nend exit 0\nsteps 7\nopen 0\nroutine 00010054 -\n0 1 7 7 7 0 0 0 0\nroutine 00010064 -\n0 1 3 3 3 0 0 0 0\ndone 2\n",
             ),
             ..NOTHING
         },
@@ -115,7 +115,7 @@ pub(crate) const ROUTINES: &[Guest] = &[
         code: READ_BY_CALLEE,
         left: Left {
             report: Some(
-                "aprof 1\nend exit 0\nsteps 9\nopen 0\nroutine 00010054 -\n1 1 9 9 9\nroutine 00010064 -\n1 1 5 5 5\nroutine 00010070 -\n1 1 2 2 2\ndone 3\n",
+                "aprof 2\nend exit 0\nsteps 9\nopen 0\nroutine 00010054 -\n1 1 9 9 9 1 0 0 1\nroutine 00010064 -\n1 1 5 5 5 1 0 0 1\nroutine 00010070 -\n1 1 2 2 2 1 0 0 1\ndone 3\n",
             ),
             ..NOTHING
         },
@@ -126,7 +126,7 @@ pub(crate) const ROUTINES: &[Guest] = &[
         code: READ_BY_CALLER,
         left: Left {
             report: Some(
-                "aprof 1\nend exit 0\nsteps 9\nopen 0\nroutine 00010054 -\n1 1 9 9 9\nroutine 00010064 -\n1 1 5 5 5\nroutine 00010070 -\n1 1 2 2 2\ndone 3\n",
+                "aprof 2\nend exit 0\nsteps 9\nopen 0\nroutine 00010054 -\n1 1 9 9 9 1 0 0 1\nroutine 00010064 -\n1 1 5 5 5 1 0 0 1\nroutine 00010070 -\n1 1 2 2 2 1 0 0 1\ndone 3\n",
             ),
             ..NOTHING
         },
@@ -137,7 +137,7 @@ pub(crate) const ROUTINES: &[Guest] = &[
         code: PARTIAL_LOADS,
         left: Left {
             report: Some(
-                "aprof 1\nend exit 0\nsteps 12\nopen 0\nroutine 00010054 -\n3 1 12 12 12\nroutine 00010068 -\n1 1 5 5 5\nroutine 0001007c -\n2 1 2 2 2\ndone 3\n",
+                "aprof 2\nend exit 0\nsteps 12\nopen 0\nroutine 00010054 -\n3 1 12 12 12 3 0 0 3\nroutine 00010068 -\n1 1 5 5 5 1 0 0 1\nroutine 0001007c -\n2 1 2 2 2 2 0 0 2\ndone 3\n",
             ),
             ..NOTHING
         },
@@ -148,7 +148,7 @@ pub(crate) const ROUTINES: &[Guest] = &[
         code: UNMATCHED_RETURN,
         left: Left {
             report: Some(
-                "aprof 1\nend exit 0\nsteps 7\nopen 0\nroutine 00010054 -\n0 1 7 7 7\nroutine 00010060 -\n0 1 4 4 4\nroutine 0001006c -\n0 1 3 3 3\ndone 3\n",
+                "aprof 2\nend exit 0\nsteps 7\nopen 0\nroutine 00010054 -\n0 1 7 7 7 0 0 0 0\nroutine 00010060 -\n0 1 4 4 4 0 0 0 0\nroutine 0001006c -\n0 1 3 3 3 0 0 0 0\ndone 3\n",
             ),
             ..NOTHING
         },
@@ -163,7 +163,7 @@ pub(crate) const ROUTINES: &[Guest] = &[
         code: REPEATED_READ,
         left: Left {
             report: Some(
-                "aprof 1\nend exit 0\nsteps 7\nopen 0\nroutine 00010054 _start\n1 1 7 7 7\nroutine 00010064 f\n1 1 3 3 3\ndone 2\n",
+                "aprof 2\nend exit 0\nsteps 7\nopen 0\nroutine 00010054 _start\n1 1 7 7 7 1 0 0 1\nroutine 00010064 f\n1 1 3 3 3 1 0 0 1\ndone 2\n",
             ),
             ..NOTHING
         },
@@ -179,7 +179,7 @@ pub(crate) const CALLS: &[Guest] = &[
         code: KERNEL_FILLS,
         left: Left {
             report: Some(
-                "aprof 1\nend exit 0\nsteps 17\nopen 0\nroutine 00010054 -\n4 1 17 17 17\nroutine 00010074 -\n4 1 9 9 9\ndone 2\n",
+                "aprof 2\nend exit 0\nsteps 17\nopen 0\nroutine 00010054 -\n4 1 17 17 17 0 0 4 2\nroutine 00010074 -\n4 1 9 9 9 0 0 4 2\ndone 2\n",
             ),
             ..NOTHING
         },
@@ -192,7 +192,7 @@ pub(crate) const CALLS: &[Guest] = &[
         left: Left {
             out: "hello\n",
             report: Some(
-                "aprof 1\nend exit 0\nsteps 16\nopen 0\nroutine 00010054 -\n6 1 16 16 16\ndone 1\n",
+                "aprof 2\nend exit 0\nsteps 16\nopen 0\nroutine 00010054 -\n6 1 16 16 16 4 0 2 6\ndone 1\n",
             ),
             ..NOTHING
         },
@@ -203,7 +203,7 @@ pub(crate) const CALLS: &[Guest] = &[
         code: BREAK,
         left: Left {
             report: Some(
-                "aprof 1\nend exit 0\nsteps 5\nopen 0\nroutine 00010054 -\n0 1 5 5 5\ndone 1\n",
+                "aprof 2\nend exit 0\nsteps 5\nopen 0\nroutine 00010054 -\n0 1 5 5 5 0 0 0 0\ndone 1\n",
             ),
             ..NOTHING
         },
@@ -214,7 +214,7 @@ pub(crate) const CALLS: &[Guest] = &[
         code: UNKNOWN_CALL,
         left: Left {
             report: Some(
-                "aprof 1\nend exit 218\nsteps 4\nopen 0\nroutine 00010054 -\n0 1 4 4 4\ndone 1\n",
+                "aprof 2\nend exit 218\nsteps 4\nopen 0\nroutine 00010054 -\n0 1 4 4 4 0 0 0 0\ndone 1\n",
             ),
             ..NOTHING
         },
@@ -231,7 +231,7 @@ pub(crate) const ENDS: &[Guest] = &[
         left: Left {
             status: 5,
             err: "aprof: fault 1 thread 1 at 00010054\n",
-            report: Some("aprof 1\nend fault 1 1 00010054\nsteps 0\nopen 1\ndone 0\n"),
+            report: Some("aprof 2\nend fault 1 1 00010054\nsteps 0\nopen 1\ndone 0\n"),
             recording: Some("1 1\n"),
             ..NOTHING
         },
@@ -244,7 +244,7 @@ pub(crate) const ENDS: &[Guest] = &[
         left: Left {
             status: 6,
             err: "aprof: budget\n",
-            report: Some("aprof 1\nend budget\nsteps 5\nopen 1\ndone 0\n"),
+            report: Some("aprof 2\nend budget\nsteps 5\nopen 1\ndone 0\n"),
             ..NOTHING
         },
         ..PLAIN
@@ -255,7 +255,7 @@ pub(crate) const ENDS: &[Guest] = &[
         left: Left {
             status: 7,
             err: "aprof: deadlock\n",
-            report: Some("aprof 1\nend deadlock\nsteps 11\nopen 2\ndone 0\n"),
+            report: Some("aprof 2\nend deadlock\nsteps 11\nopen 2\ndone 0\n"),
             ..NOTHING
         },
         ..PLAIN
@@ -269,7 +269,7 @@ pub(crate) const THREADS: &[Guest] = &[
         code: FOREIGN_WRITE,
         left: Left {
             report: Some(
-                "aprof 1\nend exit 0\nsteps 14\nopen 0\nroutine 00010054 -\n1 1 14 14 14\nroutine 00010068 -\n0 1 0 0 0\nroutine 0001007c -\n1 1 4 4 4\ndone 3\n",
+                "aprof 2\nend exit 0\nsteps 14\nopen 0\nroutine 00010054 -\n1 1 14 14 14 1 0 0 1\nroutine 00010068 -\n0 1 0 0 0 0 0 0 0\nroutine 0001007c -\n1 1 4 4 4 1 0 0 1\ndone 3\n",
             ),
             ..NOTHING
         },
@@ -281,7 +281,7 @@ pub(crate) const THREADS: &[Guest] = &[
         code: FOREIGN_WRITE,
         left: Left {
             report: Some(
-                "aprof 1\nend exit 0\nsteps 23\nopen 0\nroutine 00010054 -\n2 1 14 14 14\nroutine 00010068 -\n0 1 9 9 9\nroutine 0001007c -\n2 1 4 4 4\ndone 3\n",
+                "aprof 2\nend exit 0\nsteps 23\nopen 0\nroutine 00010054 -\n2 1 14 14 14 1 1 0 1\nroutine 00010068 -\n0 1 9 9 9 0 0 0 0\nroutine 0001007c -\n2 1 4 4 4 1 1 0 1\ndone 3\n",
             ),
             ..NOTHING
         },
@@ -293,7 +293,7 @@ pub(crate) const THREADS: &[Guest] = &[
         code: OWN_WRITE,
         left: Left {
             report: Some(
-                "aprof 1\nend exit 0\nsteps 23\nopen 0\nroutine 00010054 -\n1 1 14 14 14\nroutine 00010068 -\n0 1 9 9 9\nroutine 0001007c -\n1 1 4 4 4\ndone 3\n",
+                "aprof 2\nend exit 0\nsteps 23\nopen 0\nroutine 00010054 -\n1 1 14 14 14 1 0 0 1\nroutine 00010068 -\n0 1 9 9 9 0 0 0 0\nroutine 0001007c -\n1 1 4 4 4 1 0 0 1\ndone 3\n",
             ),
             ..NOTHING
         },
@@ -305,7 +305,7 @@ pub(crate) const THREADS: &[Guest] = &[
         code: FAILED_STORE,
         left: Left {
             report: Some(
-                "aprof 1\nend exit 1\nsteps 23\nopen 0\nroutine 00010054 -\n1 1 14 14 14\nroutine 00010068 -\n0 1 9 9 9\nroutine 0001007c -\n1 1 4 4 4\ndone 3\n",
+                "aprof 2\nend exit 1\nsteps 23\nopen 0\nroutine 00010054 -\n1 1 14 14 14 1 0 0 1\nroutine 00010068 -\n0 1 9 9 9 0 0 0 0\nroutine 0001007c -\n1 1 4 4 4 1 0 0 1\ndone 3\n",
             ),
             ..NOTHING
         },
@@ -322,7 +322,7 @@ pub(crate) const SCHEDULES: &[Guest] = &[
         code: TWO_THREADS,
         left: Left {
             report: Some(
-                "aprof 1\nend exit 0\nsteps 10\nopen 0\nroutine 00010054 -\n0 1 7 7 7\nroutine 00010064 -\n0 1 3 3 3\ndone 2\n",
+                "aprof 2\nend exit 0\nsteps 10\nopen 0\nroutine 00010054 -\n0 1 7 7 7 0 0 0 0\nroutine 00010064 -\n0 1 3 3 3 0 0 0 0\ndone 2\n",
             ),
             recording: Some("1 7\n2 3\n"),
             ..NOTHING
@@ -335,7 +335,7 @@ pub(crate) const SCHEDULES: &[Guest] = &[
         code: TWO_THREADS,
         left: Left {
             report: Some(
-                "aprof 1\nend exit 0\nsteps 10\nopen 0\nroutine 00010054 -\n0 1 7 7 7\nroutine 00010064 -\n0 1 3 3 3\ndone 2\n",
+                "aprof 2\nend exit 0\nsteps 10\nopen 0\nroutine 00010054 -\n0 1 7 7 7 0 0 0 0\nroutine 00010064 -\n0 1 3 3 3 0 0 0 0\ndone 2\n",
             ),
             recording: Some("1 7\n2 3\n"),
             ..NOTHING
@@ -351,7 +351,7 @@ pub(crate) const SCHEDULES: &[Guest] = &[
             status: 9,
             err: "aprof: schedule 3\n",
             report: Some(
-                "aprof 1\nend schedule 3\nsteps 7\nopen 1\nroutine 00010064 -\n0 1 3 3 3\ndone 1\n",
+                "aprof 2\nend schedule 3\nsteps 7\nopen 1\nroutine 00010064 -\n0 1 3 3 3 0 0 0 0\ndone 1\n",
             ),
             ..NOTHING
         },
@@ -377,7 +377,7 @@ pub(crate) const SCHEDULES: &[Guest] = &[
         left: Left {
             out: "ok\n",
             report: Some(
-                "aprof 1\nend exit 0\nsteps 62\nopen 0\nroutine 00010054 -\n4 1 48 48 48\nroutine 000100bc -\n0 1 14 14 14\ndone 2\n",
+                "aprof 2\nend exit 0\nsteps 62\nopen 0\nroutine 00010054 -\n4 1 48 48 48 2 2 0 3\nroutine 000100bc -\n0 1 14 14 14 0 0 0 0\ndone 2\n",
             ),
             recording: Some("1 32\n2 14\n1 16\n"),
             ..NOTHING

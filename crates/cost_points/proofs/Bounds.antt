@@ -1,15 +1,17 @@
 -- What holds of each point and of each routine of a list of activations.
-use Rattle.std.proofs.Common.{◌≡◌, ℕ, suc, ◌+◌, ◌*◌, ◌<◌, ◌≤◌, ◌^◌, List, [], ◌∷◌, length, get_or, map, min, max, sum, nat_eq, sym, ap, subst, arith}
+use Rattle.std.proofs.Common.{◌≡◌, ℕ, suc, ◌+◌, ◌*◌, ◌<◌, ◌≤◌, ◌^◌, List, [], ◌∷◌, length, get_or, map, min, max, sum, nat_eq, true, is_some, refl, sym, ap, subst, arith}
 use Rattle.std.specs.List.{All, fold, sum_by}
 use Rattle.std.proofs.lemmas.Bool.Decides.{nat_tests}
 use Rattle.std.proofs.lemmas.List.{length-map}
 use Rattle.std.proofs.lemmas.List.Sums.{sum_by-cons, sum_by-le, sum-map, length-filter, count_by-le-length}
-use Rattle.std.proofs.lemmas.List.Elements.{All-nil, All-cons, All-head, All-tail, All-weaker, All-map, All-filter}
+use Rattle.std.proofs.lemmas.List.Elements.{All-nil, All-cons, All-head, All-tail, All-weaker, All-map, All-filter, filter_passes}
 use Rattle.trace_model.specs.declared.slow_profile.Done.{Done}
+use Rattle.trace_model.specs.Profile.{HasParts}
 use Rattle.cost_points.specs.Keys.{insert_rising, rising, IsRising, grouped}
-use Rattle.cost_points.specs.Points.{Routine, least_of, greatest_of, point_of, routine_of, points}
+use Rattle.cost_points.specs.Points.{Routine, least_of, greatest_of, split_of, point_of, routine_of, points}
 use Rattle.cost_points.specs.Search.{HasRoom, IsAt}
-use Rattle.cost_points.specs.Valid.{IsPoint, IsRoutine, IsProfile}
+use Rattle.cost_points.specs.Contents.{IsMember}
+use Rattle.cost_points.specs.Valid.{IsSplit, IsPoint, IsRoutine, IsProfile}
 use Rattle.cost_points.proofs.Grouped.{having, having_some, grouped_is}
 use Rattle.cost_points.proofs.Tables.{sizes_rise, points_rise}
 
@@ -72,48 +74,90 @@ low_sum m (x ∷ xs) all =
 abbrev costs_of : List Done → List ℕ
 costs_of members = map (λ d. d.cost) members
 
-pub IsPoint-of : (size : ℕ) (members : List Done) → 1 ≤ length members → IsPoint (point_of size members)
-IsPoint-of size members some = record {
+-- the parts of activations of one size
+IsSplit-of : (size : ℕ) (members : List Done) → All (λ d. d.size ≡ size) members → All HasParts members → IsSplit (size * length members) (split_of members)
+IsSplit-of size [] sized fits = record { parts = grind arith; low = omega arith; high = omega arith }
+IsSplit-of size (d ∷ members) sized fits =
+    let here : d.size ≡ size = All-head (λ m. m.size ≡ size) d members sized in
+    let fit : HasParts d = All-head HasParts d members fits in
+    let rest : IsSplit (size * length members) (split_of members) = IsSplit-of size members (All-tail (λ m. m.size ≡ size) d members sized) (All-tail HasParts d members fits) in
+    let whole : size * suc (length members) ≡ size + size * length members = grind arith in
+    let plain = sum_by-cons (λ (m : Done). m.plain) d members in
+    let thread = sum_by-cons (λ (m : Done). m.thread) d members in
+    let kernel = sum_by-cons (λ (m : Done). m.kernel) d members in
+    let bare = sum_by-cons (λ (m : Done). m.bare) d members in
+    record {
+      parts = omega (arith, here, whole, plain, thread, kernel, fit.parts, rest.parts);
+      low = omega (arith, plain, bare, fit.low, rest.low);
+      high = omega (arith, here, whole, bare, fit.high, rest.high);
+    }
+
+pub IsPoint-of : (size : ℕ) (members : List Done) → 1 ≤ length members → All (λ d. d.size ≡ size) members → All HasParts members → IsPoint (point_of size members)
+IsPoint-of size members some sized fits = record {
   some = omega (arith, length-map members (λ (d : Done). d.cost));
   ordered = least-greatest (costs_of members);
   low = low_sum (least_of (costs_of members)) (costs_of members) (least-all (costs_of members));
   high = sum_by-le (λ x. x) (greatest_of (costs_of members)) (costs_of members) (greatest-all (costs_of members));
+  split = subst (λ n. IsSplit (size * n) (split_of members)) (sym (length-map members (λ (d : Done). d.cost))) (IsSplit-of size members sized fits);
 }
 
-pub IsRoutine-of : (entry : ℕ) (members : List Done) → 1 ≤ length members → IsRoutine (routine_of entry members)
-IsRoutine-of entry members some = record {
-  some = some-grouped (λ (d : Done). d.size) point_of IsPoint members (λ k h. IsPoint-of k _ h) some;
-  sizes = sizes_rise members;
-  each = All-grouped (λ (d : Done). d.size) point_of IsPoint members (λ k h. IsPoint-of k _ h);
-}
+-- the members of a size have it
+having_sized : (size : ℕ) (members : List Done) → All (λ d. d.size ≡ size) (having (λ (d : Done). d.size) size members)
+having_sized size members =
+    All-weaker (λ (d : Done). nat_eq d.size size ≡ true) (λ d. d.size ≡ size) (λ d h. grind (arith, nat_tests)) (having (λ (d : Done). d.size) size members)
+    (filter_passes (λ (d : Done). nat_eq d.size size) members)
 
--- the routines of any list are in order, and each is one of the kind
-pub IsProfile-points : (all : List Done) → IsProfile (points all)
-IsProfile-points all = record {
+pub IsRoutine-of : (entry : ℕ) (members : List Done) → 1 ≤ length members → All HasParts members → IsRoutine (routine_of entry members)
+IsRoutine-of entry members some fits =
+    let point : (k : ℕ) → 1 ≤ length (having (λ (d : Done). d.size) k members) → IsPoint (point_of k (having (λ (d : Done). d.size) k members)) =
+    λ k h. IsPoint-of k (having (λ (d : Done). d.size) k members) h (having_sized k members) (All-filter (λ (d : Done). nat_eq d.size k) HasParts members fits) in
+    record {
+      some = some-grouped (λ (d : Done). d.size) point_of IsPoint members point some;
+      sizes = sizes_rise members;
+      each = All-grouped (λ (d : Done). d.size) point_of IsPoint members point;
+      split = All-grouped (λ (d : Done). d.size) point_of (λ p. is_some p.split ≡ true) members (λ k h. refl);
+    }
+
+-- the routines of activations whose parts fit are in order, and each is one of the kind
+pub IsProfile-points : (all : List Done) → All HasParts all → IsProfile (points all)
+IsProfile-points all fits = record {
   entries = points_rise all;
-  each = All-grouped (λ (d : Done). d.entry) routine_of IsRoutine all (λ k h. IsRoutine-of k _ h);
+  each = All-grouped (λ (d : Done). d.entry) routine_of IsRoutine all (λ k h. IsRoutine-of k (having (λ (d : Done). d.entry) k all) h (All-filter (λ (d : Done). nat_eq d.entry k) HasParts all fits));
 }
 
-HasRoom-of : (size : ℕ) (members : List Done) → length members < 2 ^ 63 → All (λ d. d.cost < 2 ^ 64) members → HasRoom (point_of size members)
-HasRoom-of size members few costs =
-    let bound : sum_by (λ (d : Done). d.cost) members ≤ length members * 18446744073709551615 =
-    sum_by-le (λ (d : Done). d.cost) 18446744073709551615 members (All-weaker (λ d. d.cost < 2 ^ 64) (λ d. d.cost ≤ 18446744073709551615) (λ d h. omega arith) members costs) in
-    record { calls = omega (arith, length-map members (λ (d : Done). d.cost)); sum = omega (arith, bound, sum-map (λ (d : Done). d.cost) members) }
+-- a sum over few activations of a number of 64 bits
+few_sum : (number : Done → ℕ) (members : List Done) → length members < 2 ^ 63 → All (λ d. number d < 2 ^ 64) members → sum_by number members < 2 ^ 127
+few_sum number members few each =
+    let bound : sum_by number members ≤ length members * 18446744073709551615 =
+    sum_by-le number 18446744073709551615 members (All-weaker (λ d. number d < 2 ^ 64) (λ d. number d ≤ 18446744073709551615) (λ d h. omega arith) members each) in
+    omega (arith, few, bound)
+
+HasRoom-of : (size : ℕ) (members : List Done) → length members < 2 ^ 63 → All IsMember members → HasRoom (point_of size members)
+HasRoom-of size members few each = record {
+  calls = omega (arith, length-map members (λ (d : Done). d.cost));
+  sum = omega (arith, sum-map (λ (d : Done). d.cost) members, few_sum (λ d. d.cost) members few (All-weaker IsMember (λ d. d.cost < 2 ^ 64) (λ d h. h.cost) members each));
+  split = record {
+    plain = few_sum (λ d. d.plain) members few (All-weaker IsMember (λ d. d.plain < 2 ^ 64) (λ d h. omega (arith, h.size, h.parts.parts)) members each);
+    thread = few_sum (λ d. d.thread) members few (All-weaker IsMember (λ d. d.thread < 2 ^ 64) (λ d h. omega (arith, h.size, h.parts.parts)) members each);
+    kernel = few_sum (λ d. d.kernel) members few (All-weaker IsMember (λ d. d.kernel < 2 ^ 64) (λ d h. omega (arith, h.size, h.parts.parts)) members each);
+    bare = few_sum (λ d. d.bare) members few (All-weaker IsMember (λ d. d.bare < 2 ^ 64) (λ d h. omega (arith, h.size, h.parts.high)) members each);
+  };
+}
 
 having-few : {A : Type 0} (key : A → ℕ) (k : ℕ) (all : List A) → length (having key k all) ≤ length all
 having-few key k all = omega (arith, length-filter (λ a. nat_eq (key a) k) all, count_by-le-length (λ a. nat_eq (key a) k) all)
 
 -- a routine of few activations has room in each of its points
-pub HasRoom-routine : (entry : ℕ) (members : List Done) → length members < 2 ^ 63 → All (λ d. d.cost < 2 ^ 64) members → All HasRoom (routine_of entry members).points
-HasRoom-routine entry members few costs =
+pub HasRoom-routine : (entry : ℕ) (members : List Done) → length members < 2 ^ 63 → All IsMember members → All HasRoom (routine_of entry members).points
+HasRoom-routine entry members few each =
     All-grouped (λ (d : Done). d.size) point_of HasRoom members (λ k h. HasRoom-of k (having (λ (d : Done). d.size) k members)
-    (omega (arith, having-few (λ (d : Done). d.size) k members)) (All-filter (λ (d : Done). nat_eq d.size k) (λ d. d.cost < 2 ^ 64) members costs))
+    (omega (arith, having-few (λ (d : Done). d.size) k members)) (All-filter (λ (d : Done). nat_eq d.size k) IsMember members each))
 
 -- and so has each routine of few activations
-pub HasRoom-points : (all : List Done) → length all < 2 ^ 63 → All (λ d. d.cost < 2 ^ 64) all → All (λ r. All HasRoom r.points) (points all)
-HasRoom-points all few costs =
+pub HasRoom-points : (all : List Done) → length all < 2 ^ 63 → All IsMember all → All (λ r. All HasRoom r.points) (points all)
+HasRoom-points all few each =
     All-grouped (λ (d : Done). d.entry) routine_of (λ r. All HasRoom r.points) all (λ k h. HasRoom-routine k (having (λ (d : Done). d.entry) k all)
-    (omega (arith, having-few (λ (d : Done). d.entry) k all)) (All-filter (λ (d : Done). nat_eq d.entry k) (λ d. d.cost < 2 ^ 64) all costs))
+    (omega (arith, having-few (λ (d : Done). d.entry) k all)) (All-filter (λ (d : Done). nat_eq d.entry k) IsMember all each))
 
 pub sizes_rise-points : (all : List Done) → All (λ r. IsRising (map (λ p. p.size) r.points)) (points all)
 sizes_rise-points all = All-grouped (λ (d : Done). d.entry) routine_of (λ r. IsRising (map (λ p. p.size) r.points)) all (λ k h. sizes_rise (having (λ (d : Done). d.entry) k all))

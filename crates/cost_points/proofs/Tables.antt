@@ -1,13 +1,14 @@
 -- One more activation among the points of a routine, and among the routines.
-use Rattle.std.proofs.Common.{◌≡◌, ℕ, ◌+◌, ◌≤◌, List, [], ◌∷◌, ◌++◌, length, get_or, set, map, min, max, sum, refl, sym, ap, ◌∙◌, subst, arith, Result, Ok, Err, OnOk}
-use Rattle.std.specs.List.{insert}
+use Rattle.std.proofs.Common.{◌≡◌, ℕ, ◌+◌, ◌≤◌, List, [], ◌∷◌, ◌++◌, length, get_or, set, map, min, max, sum, refl, sym, ap, ◌∙◌, subst, arith, Result, Ok, Err, OnOk, Some, option_map}
+use Rattle.std.specs.List.{insert, sum_by}
 use Rattle.std.proofs.lemmas.List.{map-append, length-append, length-map}
 use Rattle.std.proofs.lemmas.List.Sums.{fold_push, sum_by_push}
 use Rattle.trace_model.specs.declared.slow_profile.Done.{Done}
 use Rattle.cost_points.specs.declared.point.Point.{Point}
+use Rattle.cost_points.specs.declared.point.Split.{Split}
 use Rattle.cost_points.specs.Keys.{rising, IsRising, grouped}
-use Rattle.cost_points.specs.Points.{Routine, least_of, greatest_of, point_of, routine_of, points}
-use Rattle.cost_points.specs.Search.{IsAt, IsInsertionPoint}
+use Rattle.cost_points.specs.Points.{Routine, least_of, greatest_of, split_of, point_of, routine_of, points}
+use Rattle.cost_points.specs.Search.{IsAt, IsInsertionPoint, split_with}
 use Rattle.cost_points.specs.Contents.{TableContents}
 use Rattle.cost_points.proofs.Rising.{IsRising-rising}
 use Rattle.cost_points.proofs.Grouped.{having, having_some, grouped_insertion, grouped_at, grouped_there, grouped_labels}
@@ -20,8 +21,24 @@ pub routine_same : (e f : ℕ) (ps qs : List Point) → e ≡ f → ps ≡ qs �
 routine_same e f ps qs same_entry same_points = ap (λ place. routine place ps) same_entry ∙ ap (λ all. routine f all) same_points
 
 -- a point with one activation more
-abbrev pub point_with : Point → ℕ → Point
-point_with p cost = record { size = p.size; calls = p.calls + 1; least = min p.least cost; most = max p.most cost; sum = p.sum + cost }
+abbrev pub point_with : Point → Done → Point
+point_with p d = record {
+  size = p.size;
+  calls = p.calls + 1;
+  least = min p.least d.cost;
+  most = max p.most d.cost;
+  sum = p.sum + d.cost;
+  split = option_map (λ s. split_with s d) p.split;
+}
+
+-- the parts, with those of one activation more
+split_push : (members : List Done) (d : Done) → split_with (split_of members) d ≡ split_of (members ++ d ∷ [])
+split_push members d =
+    let plain : sum_by (λ (m : Done). m.plain) (members ++ d ∷ []) ≡ sum_by (λ (m : Done). m.plain) members + d.plain = sum_by_push (λ (m : Done). m.plain) members d in
+    let thread : sum_by (λ (m : Done). m.thread) (members ++ d ∷ []) ≡ sum_by (λ (m : Done). m.thread) members + d.thread = sum_by_push (λ (m : Done). m.thread) members d in
+    let kernel : sum_by (λ (m : Done). m.kernel) (members ++ d ∷ []) ≡ sum_by (λ (m : Done). m.kernel) members + d.kernel = sum_by_push (λ (m : Done). m.kernel) members d in
+    let bare : sum_by (λ (m : Done). m.bare) (members ++ d ∷ []) ≡ sum_by (λ (m : Done). m.bare) members + d.bare = sum_by_push (λ (m : Done). m.bare) members d in
+    rw (plain, thread, kernel, bare) refl
 
 least_push : (costs : List ℕ) (cost : ℕ) → 1 ≤ length costs → least_of (costs ++ cost ∷ []) ≡ min (least_of costs) cost
 least_push [] cost some = absurd (omega arith)
@@ -34,30 +51,32 @@ greatest_push (x ∷ xs) cost some = fold_push max x xs cost
 abbrev costs_of : List Done → List ℕ
 costs_of members = map (λ d. d.cost) members
 
--- a point, by the costs
-abbrev point_by : ℕ → List ℕ → Point
-point_by size costs = record { size = size; calls = length costs; least = least_of costs; most = greatest_of costs; sum = sum costs }
+abbrev point_from : ℕ → ℕ → ℕ → ℕ → ℕ → Split → Point
+point_from size calls least most all split = record { size = size; calls = calls; least = least; most = most; sum = all; split = Some split }
 
-abbrev point_from : ℕ → ℕ → ℕ → ℕ → ℕ → Point
-point_from size calls least most all = record { size = size; calls = calls; least = least; most = most; sum = all }
+-- a point, by the costs and the parts
+abbrev point_by : ℕ → List ℕ → Split → Point
+point_by size costs split = point_from size (length costs) (least_of costs) (greatest_of costs) (sum costs) split
 
-point_by_push : (size : ℕ) (costs : List ℕ) (cost : ℕ) → 1 ≤ length costs → point_with (point_by size costs) cost ≡ point_by size (costs ++ cost ∷ [])
-point_by_push size costs cost some =
+point_by_push : (size : ℕ) (costs : List ℕ) (cost : ℕ) (split : Split) → 1 ≤ length costs → point_from size (length costs + 1) (min (least_of costs) cost) (max (greatest_of costs) cost) (sum costs + cost) split ≡ point_by size (costs ++ cost ∷ []) split
+point_by_push size costs cost split some =
     let more = costs ++ cost ∷ [] in
     let calls : length costs + 1 ≡ length more = sym (length-append costs (cost ∷ [])) in
     let least : min (least_of costs) cost ≡ least_of more = sym (least_push costs cost some) in
     let most : max (greatest_of costs) cost ≡ greatest_of more = sym (greatest_push costs cost some) in
     let all : sum costs + cost ≡ sum more = sym (sum_by_push (λ x. x) costs cost) in
-    ap (λ n. point_from size n (min (least_of costs) cost) (max (greatest_of costs) cost) (sum costs + cost)) calls
-    ∙ ap (λ n. point_from size (length more) n (max (greatest_of costs) cost) (sum costs + cost)) least
-    ∙ ap (λ n. point_from size (length more) (least_of more) n (sum costs + cost)) most
-    ∙ ap (λ n. point_from size (length more) (least_of more) (greatest_of more) n) all
+    ap (λ n. point_from size n (min (least_of costs) cost) (max (greatest_of costs) cost) (sum costs + cost) split) calls
+    ∙ ap (λ n. point_from size (length more) n (max (greatest_of costs) cost) (sum costs + cost) split) least
+    ∙ ap (λ n. point_from size (length more) (least_of more) n (sum costs + cost) split) most
+    ∙ ap (λ n. point_from size (length more) (least_of more) (greatest_of more) n split) all
 
 -- the point of a size, with one activation more
-pub point_push : (size : ℕ) (members : List Done) (d : Done) → 1 ≤ length members → point_with (point_of size members) d.cost ≡ point_of size (members ++ d ∷ [])
+pub point_push : (size : ℕ) (members : List Done) (d : Done) → 1 ≤ length members → point_with (point_of size members) d ≡ point_of size (members ++ d ∷ [])
 point_push size members d some =
-    point_by_push size (costs_of members) d.cost (subst (λ n. 1 ≤ n) (sym (length-map members (λ m. m.cost))) some)
-    ∙ ap (point_by size) (sym (map-append (λ m. m.cost) members (d ∷ [])))
+    let more = split_with (split_of members) d in
+    point_by_push size (costs_of members) d.cost more (subst (λ n. 1 ≤ n) (sym (length-map members (λ m. m.cost))) some)
+    ∙ ap (λ costs. point_by size costs more) (sym (map-append (λ m. m.cost) members (d ∷ [])))
+    ∙ ap (point_by size (costs_of (members ++ d ∷ []))) (split_push members d)
 
 abbrev size_of : Done → ℕ
 size_of d = d.size
@@ -78,12 +97,12 @@ some_at : (key : Done → ℕ) (all : List Done) (x i : ℕ) → IsAt (rising (m
 some_at key all x i place = subst (λ k. 1 ≤ length (having key k all)) place.here (having_some key all i 0 place.in_range)
 
 -- the point that stands at the place takes the activation
-pub sized_at : (members : List Done) (d : Done) (items : List Point) (i : ℕ) (old new : Point) → items ≡ sized members → IsAt (map (λ p. p.size) items) d.size i → old ≡ get_or items i old → new ≡ point_with old d.cost → set items i new ≡ sized (members ++ d ∷ [])
+pub sized_at : (members : List Done) (d : Done) (items : List Point) (i : ℕ) (old new : Point) → items ≡ sized members → IsAt (map (λ p. p.size) items) d.size i → old ≡ get_or items i old → new ≡ point_with old d → set items i new ≡ sized (members ++ d ∷ [])
 sized_at members d items i old new is place read made =
     let here : IsAt (rising (map size_of members)) d.size i = subst (λ ks. IsAt ks d.size i) (ap (map (λ p. p.size)) is ∙ sizes_are members) place in
     let was : old ≡ point_of d.size (having size_of d.size members) = read ∙ ap (λ ps. get_or ps i old) is ∙ grouped_there size_of point_of members d.size i old here in
     let now : new ≡ point_of d.size (having size_of d.size members ++ d ∷ []) =
-    made ∙ ap (λ p. point_with p d.cost) was ∙ point_push d.size (having size_of d.size members) d (some_at size_of members d.size i here) in
+    made ∙ ap (λ p. point_with p d) was ∙ point_push d.size (having size_of d.size members) d (some_at size_of members d.size i here) in
     ap (λ ps. set ps i new) is ∙ ap (set (sized members) i) now ∙ sym (grouped_at size_of point_of members d i here)
 
 -- a new size takes its place

@@ -8,7 +8,7 @@ mod point;
 mod routine;
 mod table;
 
-pub use point::Point;
+pub use point::{Point, Split};
 pub use table::Table;
 
 #[cfg(test)]

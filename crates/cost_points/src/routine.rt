@@ -56,7 +56,7 @@ impl RoutinePoints {
     {
         match search(&self.points, ended.size) {
             Ok(at) => {
-                self.points[at] = self.points[at].with(ended.cost);
+                self.points[at] = self.points[at].with(ended);
                 Ok(())
             }
             Err(at) => Ok(self.points.insert(at, Point::of_one(ended))?),

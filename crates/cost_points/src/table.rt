@@ -1,6 +1,7 @@
 //! The table of all routines.
 ghost use Rattle.std.specs.Prelude.{◌≡◌, ◌+◌, ◌<◌, ◌^◌, [], ◌∷◌, ◌++◌, List, length, map, slice_get, IfOk, OnOk, OnErr};
 ghost use Rattle.trace_model.specs.declared.slow_profile.Done.{Done};
+ghost use Rattle.trace_model.specs.Profile.{HasParts};
 ghost use Rattle.cost_points.specs.Keys.{IsRising};
 ghost use Rattle.cost_points.specs.Search.{FindsKey};
 ghost use Rattle.cost_points.specs.Points.{points};
@@ -80,7 +81,8 @@ impl Table {
 
     /// One more activation. A refused one changes nothing.
     pub fn add(&mut self, ended: Done) -> Result<(), AllocError>
-        requires { self.old.members < 2 ^ 63 }
+        requires few { self.old.members < 2 ^ 63 }
+        requires parts { HasParts ended }
         ensures ok { (added : List Done) → self.old ≡ contents_of added
             → OnOk result (self.new ≡ contents_of (added ++ ended ∷ [])) }
         ensures members { OnOk result (self.new.members ≡ self.old.members + 1) }

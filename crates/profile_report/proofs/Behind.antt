@@ -12,9 +12,9 @@ use Rattle.profile_report.specs.Grammar.{FitsLine, line_text, may_stand, rises, 
 use Rattle.profile_report.specs.LineForms.{ended}
 use Rattle.profile_report.specs.Reading.{led, lines_text, is_over, IsRefused, Leads, RefusesLine, RefusesRest}
 use Rattle.profile_report.specs.Reported.{Reported}
+use Rattle.profile_report.specs.declared.report.ReportVersion.{ReportVersion}
 use Rattle.profile_report.specs.declared.reader.ReportError.{ReportError}
 use Rattle.profile_report.specs.declared.reader.ReportError.TheVariants as errors
-use Rattle.profile_report.specs.ReportText.{version_1}
 use Rattle.guest_words.specs.Separators.{lacks}
 use Rattle.guest_words.proofs.Cuts.{cut_once, lacks_not}
 use Rattle.guest_words.proofs.Found.{nothing, same}
@@ -25,9 +25,9 @@ pub record Behind (text : List ℕ) (number : ℕ) (state : ParseState) (rest : 
   pub lines : List Line
   pub fit : AllByRecursion FitsLine lines
   pub many : length lines + 1 ≡ number
-  pub whole : text ≡ lines_text version_1 lines ++ rest
+  pub whole : text ≡ lines_text lines ++ rest
   pub lead : led AtVersion lines ≡ Some state
-  pub follow : (all : List Line) → AllByRecursion FitsLine all → text ≡ lines_text version_1 all → (more : List Line) × (all ≡ lines ++ more) × (rest ≡ lines_text version_1 more)
+  pub follow : (all : List Line) → AllByRecursion FitsLine all → text ≡ lines_text all → (more : List Line) × (all ≡ lines ++ more) × (rest ≡ lines_text more)
 
 -- at first nothing is read
 pub behind_none : (text : List ℕ) → Behind text 1 AtVersion text
@@ -60,30 +60,30 @@ pub led_first : (p q : ParseState) (x : Line) (xs : List Line) → led p (x ∷ 
 led_first p q x xs h = and_parts (may_stand p x) (rises p x) (chosen (may_stand p x && rises p x) (led (next p x) xs) q h).0
 
 -- the text of lines begins with the first
-pub lines_first : (l : Line) (ls : List Line) → lines_text version_1 (l ∷ ls) ≡ line_text version_1 l ++ 10 ∷ lines_text version_1 ls
-lines_first l ls = append_assoc (line_text version_1 l) (10 ∷ []) (lines_text version_1 ls)
+pub lines_first : (l : Line) (ls : List Line) → lines_text (l ∷ ls) ≡ line_text l ++ 10 ∷ lines_text ls
+lines_first l ls = append_assoc (line_text l) (10 ∷ []) (lines_text ls)
 
-push_text : (ls : List Line) (l : Line) (after : List ℕ) → lines_text version_1 ls ++ (line_text version_1 l ++ 10 ∷ after) ≡ lines_text version_1 (ls ++ l ∷ []) ++ after
+push_text : (ls : List Line) (l : Line) (after : List ℕ) → lines_text ls ++ (line_text l ++ 10 ∷ after) ≡ lines_text (ls ++ l ∷ []) ++ after
 push_text ls l after =
-    let text = λ (k : Line). ended (line_text version_1 k) in
+    let text = λ (k : Line). ended (line_text k) in
     sym (ap (λ t. t ++ after) (flat_map-append text ls (l ∷ [])) ∙ simp (append_assoc, append-nil))
 
 -- lines that begin with a whole line
-pub next_line : (more : List Line) (bytes after : List ℕ) → AllByRecursion FitsLine more → lacks 10 bytes ≡ true → lines_text version_1 more ≡ bytes ++ 10 ∷ after
-    → (l : Line) × (ls : List Line) × (more ≡ l ∷ ls) × FitsLine l × (bytes ≡ line_text version_1 l) × (after ≡ lines_text version_1 ls)
+pub next_line : (more : List Line) (bytes after : List ℕ) → AllByRecursion FitsLine more → lacks 10 bytes ≡ true → lines_text more ≡ bytes ++ 10 ∷ after
+    → (l : Line) × (ls : List Line) × (more ≡ l ∷ ls) × FitsLine l × (bytes ≡ line_text l) × (after ≡ lines_text ls)
 next_line [] bytes after fit lack is = absurd (omega (arith, ap length is, length-append bytes (10 ∷ after)))
 next_line (l ∷ ls) bytes after fit lack is =
-    let cut = cut_once 10 bytes (line_text version_1 l) after (lines_text version_1 ls) lack (line_lacks l fit.0) (sym is ∙ lines_first l ls) in
+    let cut = cut_once 10 bytes (line_text l) after (lines_text ls) lack (line_lacks l fit.0) (sym is ∙ lines_first l ls) in
     (l, ls, refl, fit.0, cut.0, cut.1)
 
 -- lines whose text has no whole line
-pub no_line : (more : List Line) → lacks 10 (lines_text version_1 more) ≡ true → more ≡ []
+pub no_line : (more : List Line) → lacks 10 (lines_text more) ≡ true → more ≡ []
 no_line [] h = refl
-no_line (l ∷ ls) h = absurd (lacks_not 10 (line_text version_1 l) (lines_text version_1 ls) (subst (λ t. lacks 10 t ≡ true) (lines_first l ls) h))
+no_line (l ∷ ls) h = absurd (lacks_not 10 (line_text l) (lines_text ls) (subst (λ t. lacks 10 t ≡ true) (lines_first l ls) h))
 
 -- one more line is read
 pub behind_more : (text : List ℕ) (number : ℕ) (state : ParseState) (rest bytes after : List ℕ) (p : ParseState) → Behind text number state rest
-    → lacks 10 bytes ≡ true → rest ≡ bytes ++ 10 ∷ after → Leads version_1 state bytes p → Behind text (number + 1) p after
+    → lacks 10 bytes ≡ true → rest ≡ bytes ++ 10 ∷ after → Leads state bytes p → Behind text (number + 1) p after
 behind_more text number state rest bytes after p b lack is l =
     let line = l.0 in
     let says = l.1 in
@@ -91,7 +91,7 @@ behind_more text number state rest bytes after p b lack is l =
       lines = b.lines ++ line ∷ [];
       fit = fit_push b.lines line b.fit says.fits;
       many = omega (arith, length_push b.lines line, b.many);
-      whole = b.whole ∙ ap (λ r. lines_text version_1 b.lines ++ r) (is ∙ ap (λ t. t ++ 10 ∷ after) says.text) ∙ push_text b.lines line after;
+      whole = b.whole ∙ ap (λ r. lines_text b.lines ++ r) (is ∙ ap (λ t. t ++ 10 ∷ after) says.text) ∙ push_text b.lines line after;
       lead = led_append AtVersion state b.lines (line ∷ []) b.lead ∙ cond-true _ (Some (next state line)) None (and_from _ _ l.2 l.3) ∙ ap Some (sym l.4);
       follow = λ all fit whole.
           let m = b.follow all fit whole in
@@ -101,18 +101,18 @@ behind_more text number state rest bytes after p b lack is l =
     }
 
 -- Where no whole line is left, any lines that make up the text are those that were read.
-pub behind_all : (text : List ℕ) (number : ℕ) (state : ParseState) (rest : List ℕ) (b : Behind text number state rest) (all : List Line) (end : ParseState) → AllByRecursion FitsLine all → text ≡ lines_text version_1 all
+pub behind_all : (text : List ℕ) (number : ℕ) (state : ParseState) (rest : List ℕ) (b : Behind text number state rest) (all : List Line) (end : ParseState) → AllByRecursion FitsLine all → text ≡ lines_text all
     → led AtVersion all ≡ Some end → lacks 10 rest ≡ true → (state ≡ end) × (rest ≡ [])
 behind_all text number state rest b all end fit whole lead lack =
     let m = b.follow all fit whole in
     let none = no_line m.0 (subst (λ t. lacks 10 t ≡ true) m.2 lack) in
     let same_lines : all ≡ b.lines = m.1 ∙ ap (λ ls. b.lines ++ ls) none ∙ append-nil b.lines in
-    (same (led AtVersion b.lines) state end b.lead (ap (led AtVersion) (sym same_lines) ∙ lead), m.2 ∙ ap (lines_text version_1) none)
+    (same (led AtVersion b.lines) state end b.lead (ap (led AtVersion) (sym same_lines) ∙ lead), m.2 ∙ ap lines_text none)
 
 -- Where a whole line is left, any lines that make up the text and lead somewhere go on with one that may stand there.
-pub behind_next : (text : List ℕ) (number : ℕ) (state : ParseState) (rest bytes after : List ℕ) (b : Behind text number state rest) (all : List Line) (end : ParseState) → AllByRecursion FitsLine all → text ≡ lines_text version_1 all
+pub behind_next : (text : List ℕ) (number : ℕ) (state : ParseState) (rest bytes after : List ℕ) (b : Behind text number state rest) (all : List Line) (end : ParseState) → AllByRecursion FitsLine all → text ≡ lines_text all
     → led AtVersion all ≡ Some end → lacks 10 bytes ≡ true → rest ≡ bytes ++ 10 ∷ after
-    → (l : Line) × FitsLine l × (bytes ≡ line_text version_1 l) × (may_stand state l ≡ true) × (rises state l ≡ true)
+    → (l : Line) × FitsLine l × (bytes ≡ line_text l) × (may_stand state l ≡ true) × (rises state l ≡ true)
 behind_next text number state rest bytes after b all end fit whole lead lack is =
     let m = b.follow all fit whole in
     let found = next_line m.0 bytes after (fit_later b.lines m.0 (subst (AllByRecursion FitsLine) m.1 fit)) lack (sym m.2 ∙ is) in
@@ -122,22 +122,24 @@ behind_next text number state rest bytes after b all end fit whole lead lack is 
 
 -- the refusal of a line, and of a rest that has none
 pub refused_line : (text : List ℕ) (number : ℕ) (state : ParseState) (rest bytes after : List ℕ) (e : ReportError) (b : Behind text number state rest) → lacks 10 bytes ≡ true → rest ≡ bytes ++ 10 ∷ after
-    → RefusesLine version_1 number state bytes e → IsRefused version_1 text e
+    → RefusesLine number state bytes e → IsRefused text e
 refused_line text number state rest bytes after e b lack is why = (
   length b.lines,
   state,
   rest,
   record { lines = b.lines; fit = b.fit; many = refl; whole = b.whole; lead = b.lead },
-  inl (bytes, after, lack, is, subst (λ n. RefusesLine version_1 n state bytes e) (sym b.many) why),
+  inl (bytes, after, lack, is, subst (λ n. RefusesLine n state bytes e) (sym b.many) why),
 )
 
 -- Only want of memory refuses a line that may stand where it stands.
-pub allowed : (number : ℕ) (state : ParseState) (bytes : List ℕ) (e : ReportError) (l : Line) → FitsLine l → bytes ≡ line_text version_1 l → may_stand state l ≡ true → rises state l ≡ true
-    → RefusesLine version_1 number state bytes e → e ≡ errors.Memory
-allowed number state bytes errors.Version l fits text may rise why = absurd (why.1 (text ∙ ap (line_text version_1) (first l (subst (λ p. may_stand p l ≡ true) why.0 may))))
+pub allowed : (number : ℕ) (state : ParseState) (bytes : List ℕ) (e : ReportError) (l : Line) → FitsLine l → bytes ≡ line_text l → may_stand state l ≡ true → rises state l ≡ true
+    → RefusesLine number state bytes e → e ≡ errors.Memory
+allowed number state bytes errors.Version l fits text may rise why =
+    let version = first l (subst (λ p. may_stand p l ≡ true) why.0 may) in
+    absurd (why.1 version.0 (text ∙ ap line_text version.1))
   where
-    first : (k : Line) → may_stand AtVersion k ≡ true → k ≡ First
-    first First h = refl
+    first : (k : Line) → may_stand AtVersion k ≡ true → (v : ReportVersion) × (k ≡ First v)
+    first (First v) h = (v, refl)
     first k h = absurd (apart h)
 allowed number state bytes (errors.Line n) l fits text may rise why = absurd (apart (sym (why.2 l fits text) ∙ may))
 allowed number state bytes (errors.Order n) l fits text may rise why =

@@ -6,5 +6,6 @@ pub mod Rising
 pub mod Written
 pub mod Read
 pub mod Digits
+pub mod PointWords
 pub mod OneText
 pub mod OneReading

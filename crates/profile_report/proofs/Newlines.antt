@@ -1,5 +1,6 @@
 -- No line has the byte that ends it.
 use Rattle.std.proofs.Common.{◌≡◌, ℕ, ◌<◌, ◌^◌, true, codes, not, eqb, List, [], ◌∷◌, ◌++◌, Option, Some, None, refl, ◌∙◌, arith}
+use Rattle.std.specs.Option.{IfSome}
 use Rattle.std.specs.Fmt.{decimal}
 use Rattle.std.specs.List.{list_all}
 use Rattle.std.proofs.lemmas.Bool.{and_from, and_parts}
@@ -10,12 +11,13 @@ use Rattle.guest_words.specs.declared.endings.Finish.TheVariants.{Exit, Fault, B
 use Rattle.guest_words.specs.declared.endings.FaultKind.TheVariants.{Illegal, Fetch, Load, Store, JumpAlign, AtomicAlign, Break}
 use Rattle.guest_words.specs.declared.endings.FaultKind.{FaultKind}
 use Rattle.cost_points.specs.declared.point.Point.{Point}
+use Rattle.cost_points.specs.declared.point.Split.{Split}
 use Rattle.profile_report.specs.declared.line.Line.{Line}
 use Rattle.profile_report.specs.declared.line.Line.TheVariants.{First, End, Steps, Open, OfRoutine, OfPoint, Done}
-use Rattle.profile_report.specs.Fits.{FitsName, FitsPoint}
+use Rattle.profile_report.specs.declared.report.ReportVersion.TheVariants.{One, Two}
+use Rattle.profile_report.specs.Fits.{FitsName, FitsPoint, FitsSplit}
 use Rattle.profile_report.specs.Grammar.{FitsLine, line_text}
-use Rattle.profile_report.specs.LineForms.{hex_address, kind_number, labelled, name_word, point_line}
-use Rattle.profile_report.specs.ReportText.{version_1}
+use Rattle.profile_report.specs.LineForms.{hex_address, kind_number, labelled, name_word, point_line, split_words}
 use Rattle.guest_words.specs.Separators.{lacks}
 use Rattle.guest_words.proofs.Cuts.{lacks_decimal}
 use Rattle.profile_report.proofs.Digits.{lacks_address}
@@ -39,17 +41,29 @@ name : (n : Option (List ℕ)) → FitsName n → lacks 10 (name_word n) ≡ tru
 name None fits = refl
 name (Some bytes) fits = visible bytes (and_parts _ _ fits).1
 
+split : (o : Option Split) → IfSome o FitsSplit → lacks 10 (split_words o) ≡ true
+split None fits = refl
+split (Some s) fits =
+    let plain = labelled (codes " ") s.plain in
+    let thread = labelled (codes " ") s.thread in
+    let kernel = labelled (codes " ") s.kernel in
+    both (plain ++ thread ++ kernel) (labelled (codes " ") s.bare)
+    (both (plain ++ thread) kernel
+    (both plain thread (number s.plain fits.plain) (number s.thread fits.thread))
+    (number s.kernel fits.kernel)) (number s.bare fits.bare)
+
 point : (p : Point) → FitsPoint p → lacks 10 (point_line p) ≡ true
 point p fits =
     let calls = labelled (codes " ") p.calls in
     let least = labelled (codes " ") p.least in
     let most = labelled (codes " ") p.most in
     let sum = labelled (codes " ") p.sum in
-    both (decimal p.size ++ calls ++ least ++ most) sum
+    both (decimal p.size ++ calls ++ least ++ most ++ sum) (split_words p.split)
+    (both (decimal p.size ++ calls ++ least ++ most) sum
     (both (decimal p.size ++ calls ++ least) most
     (both (decimal p.size ++ calls) least
     (both (decimal p.size) calls (number p.size (omega (arith, fits.size))) (number p.calls (omega (arith, fits.calls))))
-    (number p.least (omega (arith, fits.least)))) (number p.most (omega (arith, fits.most)))) (number p.sum fits.sum)
+    (number p.least (omega (arith, fits.least)))) (number p.most (omega (arith, fits.most)))) (number p.sum fits.sum)) (split p.split fits.split)
 
 pub kind_small : (k : FaultKind) → kind_number k < 2 ^ 128
 kind_small Illegal = omega arith
@@ -60,8 +74,9 @@ kind_small JumpAlign = omega arith
 kind_small AtomicAlign = omega arith
 kind_small Break = omega arith
 
-pub line_lacks : (l : Line) → FitsLine l → lacks 10 (line_text version_1 l) ≡ true
-line_lacks First fits = refl
+pub line_lacks : (l : Line) → FitsLine l → lacks 10 (line_text l) ≡ true
+line_lacks (First One) fits = refl
+line_lacks (First Two) fits = refl
 line_lacks (End (Exit s)) fits = number s (omega arith)
 line_lacks (End (Fault k t a)) fits = both (decimal (kind_number k) ++ labelled (codes " ") t ++ codes " ") (hex_address a) (both (decimal (kind_number k) ++ labelled (codes " ") t) (codes " ") (both (decimal (kind_number k)) (labelled (codes " ") t) (number (kind_number k) (kind_small k)) (number t (omega arith))) refl) (lacks_address 10 a refl)
 line_lacks (End Budget) fits = refl

@@ -3,57 +3,35 @@ use Rattle.std.proofs.Common.{◌≡◌, ℕ, ◌+◌, ◌*◌, ◌/◌, ◌%◌
 use Rattle.std.specs.Bool.{MatchBool}
 use Rattle.std.specs.Fmt.{decimal}
 use Rattle.std.specs.List.{AllByRecursion}
-use Rattle.std.specs.Str.Parse.{digits_value}
 use Rattle.std.proofs.lemmas.Bool.{agree_below_at, eqb-true}
-use Rattle.std.proofs.lemmas.Fmt.{decimal_is_IsNumeral_wide}
 use Rattle.std.proofs.lemmas.List.{append_assoc, append_cancel_left}
 use Rattle.guest_words.specs.Names.{is_name}
 use Rattle.guest_words.specs.declared.endings.Finish.{Finish}
 use Rattle.guest_words.specs.declared.endings.Finish.TheVariants.{Exit, Fault, Budget, Deadlock, Deep, Schedule}
 use Rattle.guest_words.specs.declared.endings.FaultKind.{FaultKind}
 use Rattle.guest_words.specs.declared.endings.FaultKind.TheVariants.{Illegal, Fetch, Load, Store, JumpAlign, AtomicAlign, Break}
-use Rattle.cost_points.specs.declared.point.Point.{Point}
 use Rattle.profile_report.specs.declared.line.Line.{Line}
 use Rattle.profile_report.specs.declared.line.Line.TheVariants.{First, End, Steps, Open, OfRoutine, OfPoint, Done}
-use Rattle.profile_report.specs.Fits.{FitsEnd, FitsName, FitsPoint}
+use Rattle.profile_report.specs.Fits.{FitsEnd, FitsName}
 use Rattle.profile_report.specs.Grammar.{FitsLine, line_text}
-use Rattle.profile_report.specs.LineForms.{end_line, fault_words, hex_address, hex_glyph, kind_number, name_word, point_line, routine_line}
+use Rattle.profile_report.specs.LineForms.{end_line, fault_words, first_line, hex_address, hex_glyph, kind_number, name_word, routine_line}
 use Rattle.profile_report.specs.Reading.{led, lines_text, Says}
 use Rattle.profile_report.specs.Reported.{Reported}
-use Rattle.profile_report.specs.ReportText.{report_text, version_1}
+use Rattle.profile_report.specs.ReportText.{report_text}
+use Rattle.profile_report.specs.declared.report.ReportVersion.{ReportVersion}
+use Rattle.profile_report.specs.declared.report.ReportVersion.TheVariants.{One, Two}
 use Rattle.guest_words.specs.Separators.{lacks}
 use Rattle.profile_report.specs.Valid.{IsValid}
 use Rattle.profile_report.specs.declared.parse_state.ParseState.TheVariants.{AtVersion, Over}
 use Rattle.profile_report.proofs.Behind.{lines_first, next_line, no_line, over_one}
-use Rattle.guest_words.proofs.Cuts.{cut_once, lacks_decimal}
+use Rattle.guest_words.proofs.Cuts.{cut_once}
 use Rattle.profile_report.proofs.Digits.{lacks_address}
 use Rattle.profile_report.proofs.Digits.{by_digits}
 use Rattle.guest_words.proofs.Found.{same}
 use Rattle.profile_report.proofs.Letters.{alike}
 use Rattle.profile_report.proofs.Newlines.{kind_small, line_lacks}
+use Rattle.profile_report.proofs.PointWords.{number_same, point_same, words_same}
 use Rattle.profile_report.proofs.Written.{lines_of, lines_of-fit, lines_of-lead, lines_of-text}
-
-number_same : (m n : ℕ) → m < 2 ^ 128 → n < 2 ^ 128 → decimal m ≡ decimal n → m ≡ n
-number_same m n fm fn is = sym (decimal_is_IsNumeral_wide m (omega arith)).1 ∙ ap (digits_value 10) is ∙ (decimal_is_IsNumeral_wide n (omega arith)).1
-
--- the first of two numbers, and what stands behind them
-words_same : (m n : ℕ) (a b : List ℕ) → m < 2 ^ 128 → n < 2 ^ 128 → decimal m ++ 32 ∷ a ≡ decimal n ++ 32 ∷ b → (m ≡ n) × (a ≡ b)
-words_same m n a b fm fn is =
-    let parts = cut_once 32 (decimal m) (decimal n) a b (lacks_decimal 32 m (λ r. omega arith) fm) (lacks_decimal 32 n (λ r. omega arith) fn) is in
-    (number_same m n fm fn parts.0, parts.1)
-
-point_words : (p : Point) → point_line p ≡ decimal p.size ++ 32 ∷ (decimal p.calls ++ 32 ∷ (decimal p.least ++ 32 ∷ (decimal p.most ++ 32 ∷ decimal p.sum)))
-point_words p = simp append_assoc
-
-point_same : (p q : Point) → FitsPoint p → FitsPoint q → point_line p ≡ point_line q → p ≡ q
-point_same p q fp fq is =
-    let size = words_same p.size q.size _ _ (omega (arith, fp.size)) (omega (arith, fq.size)) (sym (point_words p) ∙ is ∙ point_words q) in
-    let calls = words_same p.calls q.calls _ _ (omega (arith, fp.calls)) (omega (arith, fq.calls)) size.1 in
-    let least = words_same p.least q.least _ _ (omega (arith, fp.least)) (omega (arith, fq.least)) calls.1 in
-    let most = words_same p.most q.most _ _ (omega (arith, fp.most)) (omega (arith, fq.most)) least.1 in
-    let sum : p.sum ≡ q.sum = number_same p.sum q.sum fp.sum fq.sum most.1 in
-    ap (λ n. record p { size = n }) size.0 ∙ ap (λ n. record p { size = q.size; calls = n }) calls.0 ∙ ap (λ n. record p { size = q.size; calls = q.calls; least = n }) least.0
-    ∙ ap (λ n. record q { most = n; sum = p.sum }) most.0 ∙ ap (λ n. record q { sum = n }) sum
 
 -- the digit of a glyph in base 16
 abbrev digit_of : ℕ → ℕ
@@ -190,39 +168,52 @@ routine_same a b m n fa fb is =
     let parts = cut_once 32 (hex_address a) (hex_address b) (name_word m) (name_word n) (lacks_address 32 a refl) (lacks_address 32 b refl) words in
     ap₂ OfRoutine (address_same a b fa.0 fb.0 parts.0) (name_same m n fa.1 fb.1 parts.1)
 
+-- the version of a first line
+abbrev version_at : ℕ → ReportVersion
+version_at glyph = cond (eqb glyph 49) One Two
+
+version_back : (v : ReportVersion) → version_at (get_or (first_line v) 6 0) ≡ v
+version_back One = refl
+version_back Two = refl
+
+version_same : (v w : ReportVersion) → first_line v ≡ first_line w → v ≡ w
+version_same v w is = sym (version_back v) ∙ ap (λ xs. version_at (get_or xs 6 0)) is ∙ version_back w
+
 -- lines with one text say the same
-pub line_same : (l k : Line) → FitsLine l → FitsLine k → line_text version_1 l ≡ line_text version_1 k → l ≡ k
-line_same First k fl fk is = sym (alike First k fl fk is)
+pub line_same : (l k : Line) → FitsLine l → FitsLine k → line_text l ≡ line_text k → l ≡ k
+line_same (First v) k fl fk is =
+    let e = alike (First v) k fl fk is in
+    ap First (version_same v e.0 (is ∙ ap line_text e.1)) ∙ sym e.1
 line_same (End f) k fl fk is =
     let e = alike (End f) k fl fk is in
-    ap End (finish_same f e.0 fl (subst FitsLine e.1 fk) (is ∙ ap (line_text version_1) e.1)) ∙ sym e.1
+    ap End (finish_same f e.0 fl (subst FitsLine e.1 fk) (is ∙ ap line_text e.1)) ∙ sym e.1
 line_same (Steps n) k fl fk is =
     let e = alike (Steps n) k fl fk is in
     let fits : e.0 < 2 ^ 64 = subst FitsLine e.1 fk in
-    ap Steps (number_same n e.0 (omega arith) (omega arith) (append_cancel_left (codes "steps ") (decimal n) (decimal e.0) (is ∙ ap (line_text version_1) e.1))) ∙ sym e.1
+    ap Steps (number_same n e.0 (omega arith) (omega arith) (append_cancel_left (codes "steps ") (decimal n) (decimal e.0) (is ∙ ap line_text e.1))) ∙ sym e.1
 line_same (Open n) k fl fk is =
     let e = alike (Open n) k fl fk is in
     let fits : e.0 < 2 ^ 64 = subst FitsLine e.1 fk in
-    ap Open (number_same n e.0 (omega arith) (omega arith) (append_cancel_left (codes "open ") (decimal n) (decimal e.0) (is ∙ ap (line_text version_1) e.1))) ∙ sym e.1
+    ap Open (number_same n e.0 (omega arith) (omega arith) (append_cancel_left (codes "open ") (decimal n) (decimal e.0) (is ∙ ap line_text e.1))) ∙ sym e.1
 line_same (OfRoutine entry name) k fl fk is =
     let e = alike (OfRoutine entry name) k fl fk is in
-    routine_same entry e.0 name e.1 fl (subst FitsLine e.2 fk) (is ∙ ap (line_text version_1) e.2) ∙ sym e.2
+    routine_same entry e.0 name e.1 fl (subst FitsLine e.2 fk) (is ∙ ap line_text e.2) ∙ sym e.2
 line_same (OfPoint p) k fl fk is =
     let e = alike (OfPoint p) k fl fk is in
-    ap OfPoint (point_same p e.0 fl (subst FitsLine e.1 fk) (is ∙ ap (line_text version_1) e.1)) ∙ sym e.1
+    ap OfPoint (point_same p e.0 fl (subst FitsLine e.1 fk) (is ∙ ap line_text e.1)) ∙ sym e.1
 line_same (Done n) k fl fk is =
     let e = alike (Done n) k fl fk is in
     let fits : e.0 < 2 ^ 64 = subst FitsLine e.1 fk in
-    ap Done (number_same n e.0 (omega arith) (omega arith) (append_cancel_left (codes "done ") (decimal n) (decimal e.0) (is ∙ ap (line_text version_1) e.1))) ∙ sym e.1
+    ap Done (number_same n e.0 (omega arith) (omega arith) (append_cancel_left (codes "done ") (decimal n) (decimal e.0) (is ∙ ap line_text e.1))) ∙ sym e.1
 
 -- bytes that say a line say no other
-pub says_one : (bytes : List ℕ) (l : Line) → FitsLine l → bytes ≡ line_text version_1 l → Says version_1 bytes l
+pub says_one : (bytes : List ℕ) (l : Line) → FitsLine l → bytes ≡ line_text l → Says bytes l
 says_one bytes l fits is = record { fits = fits; text = is; alone = λ k fk also. line_same k l fk fits (sym also ∙ is) }
 
-lines_same : (ls ks : List Line) → AllByRecursion FitsLine ls → AllByRecursion FitsLine ks → lines_text version_1 ls ≡ lines_text version_1 ks → ls ≡ ks
+lines_same : (ls ks : List Line) → AllByRecursion FitsLine ls → AllByRecursion FitsLine ks → lines_text ls ≡ lines_text ks → ls ≡ ks
 lines_same [] ks fl fk is = sym (no_line ks (subst (λ t. lacks 10 t ≡ true) is refl))
 lines_same (l ∷ ls) ks fl fk is =
-    let next = next_line ks (line_text version_1 l) (lines_text version_1 ls) fk (line_lacks l fl.0) (sym is ∙ lines_first l ls) in
+    let next = next_line ks (line_text l) (lines_text ls) fk (line_lacks l fl.0) (sym is ∙ lines_first l ls) in
     let rest : AllByRecursion FitsLine next.1 = (subst (AllByRecursion FitsLine) next.2 fk).1 in
     ap₂ (λ k xs. k ∷ xs) (line_same l next.0 fl.0 next.3 next.4) (lines_same ls next.1 fl.1 rest next.5) ∙ sym next.2
 

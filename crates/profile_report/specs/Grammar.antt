@@ -6,23 +6,22 @@ use Rattle.profile_report.specs.declared.line.Line.TheVariants.{First, End, Step
 use Rattle.profile_report.specs.declared.parse_state.ParseState.{ParseState}
 use Rattle.profile_report.specs.declared.parse_state.ParseState.TheVariants.{AtVersion, AtEnd, AtSteps, AtOpen, AtRoutines, Over}
 use Rattle.profile_report.specs.Reported.{ReportedRoutine, Reported}
-use Rattle.profile_report.specs.Fits.{FitsEnd, FitsName, FitsPoint}
-use Rattle.profile_report.specs.LineForms.{labelled, end_line, routine_line}
-use Rattle.profile_report.specs.ReportText.{Version}
+use Rattle.profile_report.specs.Fits.{FitsEnd, FitsName, FitsPoint, is_of_version}
+use Rattle.profile_report.specs.LineForms.{first_line, labelled, end_line, routine_line, point_line}
 
 -- what a line says, as its text, without the byte that ends it
-abbrev pub line_text : Version → Line → List ℕ
-line_text v First = v.first_line
-line_text v (End finish) = end_line finish
-line_text v (Steps steps) = labelled (codes "steps ") steps
-line_text v (Open pending) = labelled (codes "open ") pending
-line_text v (OfRoutine entry name) = routine_line entry name
-line_text v (OfPoint p) = v.point_line p
-line_text v (Done routines) = labelled (codes "done ") routines
+abbrev pub line_text : Line → List ℕ
+line_text (First version) = first_line version
+line_text (End finish) = end_line finish
+line_text (Steps steps) = labelled (codes "steps ") steps
+line_text (Open pending) = labelled (codes "open ") pending
+line_text (OfRoutine entry name) = routine_line entry name
+line_text (OfPoint p) = point_line p
+line_text (Done routines) = labelled (codes "done ") routines
 
 -- the numbers of a line are in their widths, a name is a name, and a point is one of activations
 abbrev pub FitsLine : Line → Type 0
-FitsLine First = Unit {0}
+FitsLine (First version) = Unit {0}
 FitsLine (End finish) = FitsEnd finish
 FitsLine (Steps steps) = steps < 2 ^ 64
 FitsLine (Open pending) = pending < 2 ^ 64
@@ -50,14 +49,14 @@ abbrev pub count_of : Reported → Option ReportedRoutine → ℕ
 count_of r None = length r.routines
 count_of r (Some routine) = length r.routines + 1
 
--- Which line may come next. A point comes behind a routine's line, and a routine or the end behind a point.
+-- Which line may come next. A point of the text's version comes behind a routine's line or a point, and a routine or the end behind a point.
 abbrev pub may_stand : ParseState → Line → Bool
-may_stand AtVersion First = true
-may_stand AtEnd (End finish) = true
-may_stand (AtSteps f) (Steps steps) = true
-may_stand (AtOpen f n) (Open pending) = true
+may_stand AtVersion (First version) = true
+may_stand (AtEnd v) (End finish) = true
+may_stand (AtSteps v f) (Steps steps) = true
+may_stand (AtOpen v f n) (Open pending) = true
 may_stand (AtRoutines r begun) (OfRoutine entry name) = has_points begun
-may_stand (AtRoutines r begun) (OfPoint p) = is_some begun
+may_stand (AtRoutines r begun) (OfPoint p) = is_some begun && is_of_version r.version p
 may_stand (AtRoutines r begun) (Done routines) = has_points begun && (routines == count_of r begun)
 may_stand state line = false
 
@@ -84,10 +83,10 @@ rises state line = true
 
 -- the state behind a line that may come in this one
 abbrev pub next : ParseState → Line → ParseState
-next AtVersion First = AtEnd
-next AtEnd (End finish) = AtSteps finish
-next (AtSteps f) (Steps steps) = AtOpen f steps
-next (AtOpen f n) (Open pending) = AtRoutines (record { finish = f; steps = n; pending = pending; routines = [] }) None
+next AtVersion (First version) = AtEnd version
+next (AtEnd v) (End finish) = AtSteps v finish
+next (AtSteps v f) (Steps steps) = AtOpen v f steps
+next (AtOpen v f n) (Open pending) = AtRoutines (record { version = v; finish = f; steps = n; pending = pending; routines = [] }) None
 next (AtRoutines r begun) (OfRoutine entry name) = AtRoutines (closed r begun) (Some (record { entry = entry; name = name; points = [] }))
 next (AtRoutines r (Some routine)) (OfPoint p) = AtRoutines r (Some (record routine { points = routine.points ++ p ∷ [] }))
 next (AtRoutines r begun) (Done routines) = Over (closed r begun)

@@ -6,10 +6,18 @@ use Rattle.guest_words.specs.declared.endings.Finish.TheVariants.{Exit, Fault, B
 use Rattle.guest_words.specs.declared.endings.FaultKind.{FaultKind}
 use Rattle.guest_words.specs.declared.endings.FaultKind.TheVariants.{Illegal, Fetch, Load, Store, JumpAlign, AtomicAlign, Break}
 use Rattle.cost_points.specs.declared.point.Point.{Point}
+use Rattle.cost_points.specs.declared.point.Split.{Split}
+use Rattle.profile_report.specs.declared.report.ReportVersion.{ReportVersion}
+use Rattle.profile_report.specs.declared.report.ReportVersion.TheVariants.{One, Two}
 
 -- the line with the newline byte that ends it
 abbrev pub ended : List ℕ → List ℕ
 ended line = line ++ 10 ∷ []
+
+-- the version of the text
+abbrev pub first_line : ReportVersion → List ℕ
+first_line One = codes "aprof 1"
+first_line Two = codes "aprof 2"
 
 -- a digit in base 16, in lower case
 abbrev pub hex_glyph : ℕ → ℕ
@@ -64,6 +72,11 @@ name_word (Some name) = name
 abbrev pub routine_line : ℕ → Option (List ℕ) → List ℕ
 routine_line entry name = codes "routine " ++ hex_address entry ++ codes " " ++ name_word name
 
--- a point: its size, how many calls had it, and the least, the greatest and the sum of their costs
+-- the parts of a point's sizes, where they are told: plain, by other threads, by the kernel; and the plain read memory size
+abbrev pub split_words : Option Split → List ℕ
+split_words None = []
+split_words (Some s) = labelled (codes " ") s.plain ++ labelled (codes " ") s.thread ++ labelled (codes " ") s.kernel ++ labelled (codes " ") s.bare
+
+-- a point: its size, how many calls had it, the least, the greatest and the sum of their costs, and the parts of their sizes
 abbrev pub point_line : Point → List ℕ
-point_line p = decimal p.size ++ labelled (codes " ") p.calls ++ labelled (codes " ") p.least ++ labelled (codes " ") p.most ++ labelled (codes " ") p.sum
+point_line p = decimal p.size ++ labelled (codes " ") p.calls ++ labelled (codes " ") p.least ++ labelled (codes " ") p.most ++ labelled (codes " ") p.sum ++ split_words p.split

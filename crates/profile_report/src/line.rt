@@ -1,4 +1,5 @@
 //! What a line of a report says.
+use crate::ReportVersion;
 use cost_points::Point;
 use guest_words::{Addr, Finish, Name};
 
@@ -6,7 +7,7 @@ use guest_words::{Addr, Finish, Name};
 #[derive(Drop)]
 pub enum Line {
     /// The version of the text.
-    First,
+    First(ReportVersion),
     /// How the run ended.
     End(Finish),
     /// How many instructions ran.

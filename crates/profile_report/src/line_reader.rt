@@ -5,22 +5,19 @@ ghost use Rattle.std.specs.Option.{SomeIff};
 ghost use Rattle.guest_words.specs.Names.{is_name};
 ghost use Rattle.guest_words.specs.declared.endings.FaultKind.{FaultKind};
 ghost use Rattle.guest_words.specs.declared.endings.Finish.{Finish};
-ghost use Rattle.cost_points.specs.declared.point.Point.{Point};
-ghost use Rattle.cost_points.specs.Valid.{IsPoint};
-ghost use Rattle.profile_report.specs.LineForms.{end_line, fault_words, hex_address, kind_number, labelled, name_word, point_line};
+ghost use Rattle.profile_report.specs.LineForms.{end_line, fault_words, first_line, hex_address, kind_number, labelled, name_word};
 ghost use Rattle.profile_report.specs.declared.line.Line.{Line};
+ghost use Rattle.profile_report.specs.declared.report.ReportVersion.{ReportVersion};
 ghost use Rattle.profile_report.specs.Grammar.{FitsLine, IsPlain, line_text};
-ghost use Rattle.profile_report.specs.ReportText.{version_1};
 ghost use Rattle.profile_report.specs.Reading.{HasName};
-ghost use Rattle.profile_report.specs.Fits.{FitsEnd, FitsName, FitsPoint};
+ghost use Rattle.profile_report.specs.Fits.{FitsEnd, FitsName};
 
+use crate::ReportVersion;
 use crate::addresses::address;
 use crate::line::{Line, LineError};
-use cost_points::Point;
+use crate::point_reader::point_of;
 use guest_words::limits::LAST_TID;
-use guest_words::{
-    FaultKind, Finish, Name, NameError, Tid, cut, decimal_number, first_number, wide_decimal_number,
-};
+use guest_words::{FaultKind, Finish, Name, NameError, Tid, cut, decimal_number, first_number};
 use std::alloc::Global;
 
 /// What stands behind a label.
@@ -32,15 +29,18 @@ fn behind<'a>(label: &[u8], line: &'a [u8]) -> Option<&'a [u8]>
     line.strip_prefix(label)
 }
 
-/// Whether a point can be one of activations: the sum is one of as many costs from the least up to the greatest.
-fn is_point(point: Point) -> bool
-    ensures { IsTrue result ↔ IsPoint point }
+/// The version whose first line this is.
+fn version_of(line: &[u8]) -> Option<ReportVersion>
+    ensures found { IfSome result (λ v. line.now ≡ first_line v) }
+    ensures only { (v : ReportVersion) → line.now ≡ first_line v → result ≡ Some v }
 {
-    let calls = u128::from(point.calls);
-    1 <= point.calls
-        && point.least <= point.most
-        && calls * u128::from(point.least) <= point.sum
-        && point.sum <= calls * u128::from(point.most)
+    if line == b"aprof 1".as_slice() {
+        return Some(ReportVersion::One);
+    }
+    if line == b"aprof 2".as_slice() {
+        return Some(ReportVersion::Two);
+    }
+    None
 }
 
 /// The kind of a fault by its number.
@@ -142,25 +142,6 @@ fn end_of(line: &[u8]) -> Option<Finish>
     plain_end_of(line)
 }
 
-/// The four numbers and the sum of a point.
-fn point_of(line: &[u8]) -> Option<Point>
-    ensures found { IfSome result (λ p. FitsPoint p × (line.now ≡ point_line p)) }
-    ensures only { (p : Point) → FitsPoint p → line.now ≡ point_line p → result ≡ Some p }
-{
-    let (size, rest) = first_number(line)?;
-    let (calls, rest) = first_number(rest)?;
-    let (least, rest) = first_number(rest)?;
-    let (most, rest) = first_number(rest)?;
-    let point = Point {
-        size,
-        calls,
-        least,
-        most,
-        sum: wide_decimal_number(rest)?,
-    };
-    if is_point(point) { Some(point) } else { None }
-}
-
 /// A name, or the dash that stands for none.
 fn name_of(alloc: Global, word: &[u8]) -> Result<Option<Name>, LineError>
     ensures found { IfOk result (λ name. FitsName name × (word.now ≡ name_word name)) }
@@ -181,12 +162,12 @@ fn name_of(alloc: Global, word: &[u8]) -> Result<Option<Name>, LineError>
 /// A routine's entry and its name.
 fn routine_of(alloc: Global, words: &[u8]) -> Result<Line, LineError>
     ensures found { IfOk result (λ l. FitsLine l × (codes "routine " ++ words.now
-        ≡ line_text version_1 l)) }
+        ≡ line_text l)) }
     ensures only { (entry : ℕ) (name : Option (List ℕ)) → FitsLine (Line.OfRoutine entry name)
         → words.now ≡ hex_address entry ++ 32 ∷ name_word name
         → MatchResult result (λ l. l ≡ Line.OfRoutine entry name) (λ e. e ≡ LineError.Memory) }
     ensures memory { IfErr result (λ e. e ≡ LineError.Memory → (l : Line) × FitsLine l
-        × (codes "routine " ++ words.now ≡ line_text version_1 l) × HasName l) }
+        × (codes "routine " ++ words.now ≡ line_text l) × HasName l) }
 {
     let Some((entry, name)) = cut(words, b' ') else {
         return Err(LineError::NoForm);
@@ -200,7 +181,7 @@ fn routine_of(alloc: Global, words: &[u8]) -> Result<Line, LineError>
 /// The number of instructions that is written so.
 fn steps_of(word: &[u8]) -> Option<Line>
     ensures found { IfSome result (λ l. FitsLine l × (codes "steps " ++ word.now
-        ≡ line_text version_1 l)) }
+        ≡ line_text l)) }
     ensures only { (n : ℕ) → n < 2 ^ 64 → word.now ≡ decimal n → result ≡ Some (Line.Steps n) }
 {
     Some(Line::Steps(decimal_number(word)?))
@@ -209,7 +190,7 @@ fn steps_of(word: &[u8]) -> Option<Line>
 /// The number of open activations that is written so.
 fn pending_of(word: &[u8]) -> Option<Line>
     ensures found { IfSome result (λ l. FitsLine l × (codes "open " ++ word.now
-        ≡ line_text version_1 l)) }
+        ≡ line_text l)) }
     ensures only { (n : ℕ) → n < 2 ^ 64 → word.now ≡ decimal n → result ≡ Some (Line.Open n) }
 {
     Some(Line::Open(decimal_number(word)?))
@@ -218,7 +199,7 @@ fn pending_of(word: &[u8]) -> Option<Line>
 /// The number of routines that is written so.
 fn count_of(word: &[u8]) -> Option<Line>
     ensures found { IfSome result (λ l. FitsLine l × (codes "done " ++ word.now
-        ≡ line_text version_1 l)) }
+        ≡ line_text l)) }
     ensures only { (n : ℕ) → n < 2 ^ 64 → word.now ≡ decimal n → result ≡ Some (Line.Done n) }
 {
     Some(Line::Done(decimal_number(word)?))
@@ -226,12 +207,12 @@ fn count_of(word: &[u8]) -> Option<Line>
 
 /// A line that has no name.
 fn plain_line(line: &[u8]) -> Option<Line>
-    ensures found { IfSome result (λ l. FitsLine l × (line.now ≡ line_text version_1 l)) }
-    ensures only { (l : Line) → IsPlain l → FitsLine l → line.now ≡ line_text version_1 l
+    ensures found { IfSome result (λ l. FitsLine l × (line.now ≡ line_text l)) }
+    ensures only { (l : Line) → IsPlain l → FitsLine l → line.now ≡ line_text l
         → result ≡ Some l }
 {
-    if line == b"aprof 1".as_slice() {
-        return Some(Line::First);
+    if let Some(version) = version_of(line) {
+        return Some(Line::First(version));
     }
     if let Some(word) = behind(b"steps ", line) {
         return steps_of(word);
@@ -250,11 +231,11 @@ fn plain_line(line: &[u8]) -> Option<Line>
 
 /// What a line says.
 pub fn read_line(alloc: Global, line: &[u8]) -> Result<Line, LineError>
-    ensures found { IfOk result (λ l. FitsLine l × (line.now ≡ line_text version_1 l)) }
-    ensures only { (l : Line) → FitsLine l → line.now ≡ line_text version_1 l
+    ensures found { IfOk result (λ l. FitsLine l × (line.now ≡ line_text l)) }
+    ensures only { (l : Line) → FitsLine l → line.now ≡ line_text l
         → MatchResult result (λ x. x ≡ l) (λ e. e ≡ LineError.Memory) }
     ensures memory { IfErr result (λ e. e ≡ LineError.Memory → (l : Line) × FitsLine l
-        × (line.now ≡ line_text version_1 l) × HasName l) }
+        × (line.now ≡ line_text l) × HasName l) }
 {
     if let Some(words) = behind(b"routine ", line) {
         return routine_of(alloc, words);

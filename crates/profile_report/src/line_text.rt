@@ -1,9 +1,10 @@
 //! The lines of a report, one function a form.
 ghost use Rattle.std.specs.Prelude.{◌≡◌, ◌++◌, ◌<◌, codes, OnErr, OnOk};
 ghost use Rattle.std.specs.Fmt.{decimal};
-ghost use Rattle.profile_report.specs.LineForms.{end_line, ended, fault_words, hex_address, hex_glyph, kind_number, labelled, name_word, point_line, routine_line};
+ghost use Rattle.profile_report.specs.LineForms.{end_line, ended, fault_words, first_line, hex_address, hex_glyph, kind_number, labelled, name_word, point_line, routine_line, split_words};
 
-use cost_points::Point;
+use crate::ReportVersion;
+use cost_points::{Point, Split};
 use guest_words::{Addr, FaultKind, Finish, Name, Tid, push_decimal};
 use std::alloc::AllocError;
 
@@ -13,6 +14,24 @@ fn push_labelled(text: &mut Vec<u8>, label: &[u8], number: u64) -> Result<(), Al
 {
     text.extend_from_slice(label)?;
     push_decimal(text, u128::from(number))
+}
+
+/// Appends a number in 128 bits after a space.
+fn push_wide(text: &mut Vec<u8>, number: u128) -> Result<(), AllocError>
+    ensures { OnOk result (text.new.items ≡ text.old.items ++ labelled (codes " ") number) }
+{
+    text.extend_from_slice(b" ")?;
+    push_decimal(text, number)
+}
+
+/// Appends the line of a version.
+pub fn push_first_line(text: &mut Vec<u8>, version: ReportVersion) -> Result<(), AllocError>
+    ensures { OnOk result (text.new.items ≡ text.old.items ++ ended (first_line version)) }
+{
+    match version {
+        ReportVersion::One => text.extend_from_slice(b"aprof 1\n"),
+        ReportVersion::Two => text.extend_from_slice(b"aprof 2\n"),
+    }
 }
 
 /// The glyph of a digit in base 16.
@@ -123,6 +142,21 @@ pub fn push_routine_line(
     text.extend_from_slice(b"\n")
 }
 
+/// Appends the parts of a point's sizes, where they are told.
+fn push_split(text: &mut Vec<u8>, split: Option<Split>) -> Result<(), AllocError>
+    ensures { OnOk result (text.new.items ≡ text.old.items ++ split_words split) }
+{
+    match split {
+        Some(split) => {
+            push_wide(text, split.plain)?;
+            push_wide(text, split.thread)?;
+            push_wide(text, split.kernel)?;
+            push_wide(text, split.bare)
+        }
+        None => Ok(()),
+    }
+}
+
 /// Appends the line of a point.
 pub fn push_point_line(text: &mut Vec<u8>, point: Point) -> Result<(), AllocError>
     ensures { OnOk result (text.new.items ≡ text.old.items ++ ended (point_line point)) }
@@ -131,7 +165,7 @@ pub fn push_point_line(text: &mut Vec<u8>, point: Point) -> Result<(), AllocErro
     push_labelled(text, b" ", point.calls)?;
     push_labelled(text, b" ", point.least)?;
     push_labelled(text, b" ", point.most)?;
-    text.extend_from_slice(b" ")?;
-    push_decimal(text, point.sum)?;
+    push_wide(text, point.sum)?;
+    push_split(text, point.split)?;
     text.extend_from_slice(b"\n")
 }

@@ -1,10 +1,11 @@
 //! How far a report has been read.
 ghost use Rattle.std.specs.Prelude.{◌≡◌, true, [], ◌∷◌, ◌++◌, is_some, IfErr, IfOk};
 ghost use Rattle.profile_report.specs.Grammar.{closed, count_of, has_points, is_above, last_entry, last_size, may_stand, next, rises};
+ghost use Rattle.profile_report.specs.Fits.{is_of_version};
 ghost use Rattle.profile_report.specs.Reading.{has_begun};
 
 use crate::line::Line;
-use crate::{Report, Routine};
+use crate::{Report, ReportVersion, Routine};
 use cost_points::Point;
 use guest_words::{Addr, Finish, Name};
 use std::alloc::{AllocError, Global};
@@ -15,11 +16,11 @@ pub enum ParseState {
     /// The version comes next.
     AtVersion,
     /// How the run ended comes next.
-    AtEnd,
+    AtEnd(ReportVersion),
     /// The number of instructions comes next.
-    AtSteps(Finish),
+    AtSteps(ReportVersion, Finish),
     /// The number of open activations comes next.
-    AtOpen(Finish, u64),
+    AtOpen(ReportVersion, Finish, u64),
     /// Routines and their points come, or the end: the routines that are whole, and the one that began last.
     AtRoutines(Report, Option<Routine>),
     /// Nothing comes.
@@ -47,17 +48,29 @@ fn count_of(report: &Report, begun: &Option<Routine>) -> u64
     }
 }
 
+/// Whether a point is one of the version: the parts of its sizes are told in version 2 only.
+fn is_of_version(version: ReportVersion, point: &Point) -> bool
+    ensures { result ≡ is_of_version version point.now }
+{
+    match version {
+        ReportVersion::One => point.split.is_none(),
+        ReportVersion::Two => point.split.is_some(),
+    }
+}
+
 /// Whether a line may come in a state, apart from its order.
 pub fn may_stand(state: &ParseState, line: &Line) -> bool
     ensures { result ≡ may_stand state.now line.now }
 {
     match (state, line) {
-        (ParseState::AtVersion, Line::First) => true,
-        (ParseState::AtEnd, Line::End(_)) => true,
-        (ParseState::AtSteps(_), Line::Steps(_)) => true,
-        (ParseState::AtOpen(_, _), Line::Open(_)) => true,
+        (ParseState::AtVersion, Line::First(_)) => true,
+        (ParseState::AtEnd(_), Line::End(_)) => true,
+        (ParseState::AtSteps(_, _), Line::Steps(_)) => true,
+        (ParseState::AtOpen(_, _, _), Line::Open(_)) => true,
         (ParseState::AtRoutines(_, begun), Line::OfRoutine(_, _)) => has_points(begun),
-        (ParseState::AtRoutines(_, begun), Line::OfPoint(_)) => begun.is_some(),
+        (ParseState::AtRoutines(report, begun), Line::OfPoint(point)) => {
+            begun.is_some() && is_of_version(report.version, point)
+        }
         (ParseState::AtRoutines(report, begun), Line::Done(routines)) => {
             has_points(begun) && *routines == count_of(report, begun)
         }
@@ -126,10 +139,17 @@ fn closed(mut report: Report, begun: Option<Routine>) -> Result<Report, AllocErr
 }
 
 /// A report that has no routine yet.
-fn without_routines(alloc: Global, finish: Finish, steps: u64, pending: u64) -> Report
-    ensures { result ≡ record { finish = finish; steps = steps; pending = pending; routines = [] } }
+fn without_routines(
+    alloc: Global,
+    version: ReportVersion,
+    finish: Finish,
+    steps: u64,
+    pending: u64,
+) -> Report
+    ensures { result ≡ record { version = version; finish = finish; steps = steps; pending = pending; routines = [] } }
 {
     Report {
+        version,
         finish,
         steps,
         pending,
@@ -162,11 +182,15 @@ pub fn next(alloc: Global, state: ParseState, line: Line) -> Result<ParseState, 
     ensures err { IfErr result (λ _. has_begun state ≡ true) }
 {
     match (state, line) {
-        (ParseState::AtVersion, Line::First) => Ok(ParseState::AtEnd),
-        (ParseState::AtEnd, Line::End(finish)) => Ok(ParseState::AtSteps(finish)),
-        (ParseState::AtSteps(finish), Line::Steps(steps)) => Ok(ParseState::AtOpen(finish, steps)),
-        (ParseState::AtOpen(finish, steps), Line::Open(pending)) => {
-            let report = without_routines(alloc, finish, steps, pending);
+        (ParseState::AtVersion, Line::First(version)) => Ok(ParseState::AtEnd(version)),
+        (ParseState::AtEnd(version), Line::End(finish)) => {
+            Ok(ParseState::AtSteps(version, finish))
+        }
+        (ParseState::AtSteps(version, finish), Line::Steps(steps)) => {
+            Ok(ParseState::AtOpen(version, finish, steps))
+        }
+        (ParseState::AtOpen(version, finish, steps), Line::Open(pending)) => {
+            let report = without_routines(alloc, version, finish, steps, pending);
             Ok(ParseState::AtRoutines(report, None))
         }
         (ParseState::AtRoutines(report, begun), Line::OfRoutine(entry, name)) => {

@@ -2,7 +2,7 @@
 ghost use Rattle.std.specs.Prelude.{◌≡◌, ℕ, ◌≤◌, ◌<◌, ◌^◌, ◌+◌, List, [], IfOk, IfErr, MatchResult};
 ghost use Rattle.profile_report.specs.Reading.{IsMisplaced, IsRefused, Leads, RefusesLine, RefusesRest};
 ghost use Rattle.profile_report.specs.Reported.{Reported};
-ghost use Rattle.profile_report.specs.ReportText.{report_text, version_1};
+ghost use Rattle.profile_report.specs.ReportText.{report_text};
 ghost use Rattle.profile_report.specs.Valid.{IsValid};
 ghost use Rattle.profile_report.specs.declared.parse_state.ParseState.TheVariants.{Over};
 
@@ -47,8 +47,8 @@ impl From<AllocError> for ReportError {
 
 /// The refusal of a line that may not come in a state.
 fn misplaced(state: &ParseState, number: u64) -> ReportError
-    ensures { (bytes : List ℕ) → IsMisplaced version_1 state.now bytes
-        → RefusesLine version_1 number state.now bytes result }
+    ensures { (bytes : List ℕ) → IsMisplaced state.now bytes
+        → RefusesLine number state.now bytes result }
 {
     match state {
         ParseState::AtVersion => ReportError::Version,
@@ -63,8 +63,8 @@ fn step(
     bytes: &[u8],
     number: u64,
 ) -> Result<ParseState, ReportError>
-    ensures ok { IfOk result (λ after. Leads version_1 state bytes.now after) }
-    ensures err { IfErr result (λ e. RefusesLine version_1 number state bytes.now e) }
+    ensures ok { IfOk result (λ after. Leads state bytes.now after) }
+    ensures err { IfErr result (λ e. RefusesLine number state bytes.now e) }
 {
     let line = match read_line(alloc, bytes) {
         Ok(line) => line,
@@ -102,7 +102,7 @@ pub fn read_report(alloc: Global, text: &[u8]) -> Result<Report, ReportError>
     ensures found { IfOk result (λ r. IsValid r × (text.now ≡ report_text r)) }
     ensures only { (r : Reported) → IsValid r → text.now ≡ report_text r
         → MatchResult result (λ x. x ≡ r) (λ e. e ≡ ReportError.Memory) }
-    ensures refused { IfErr result (λ e. IsRefused version_1 text.now e) }
+    ensures refused { IfErr result (λ e. IsRefused text.now e) }
 {
     let mut state = ParseState::AtVersion;
     let mut rest = text;

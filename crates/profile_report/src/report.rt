@@ -19,10 +19,20 @@ impl Model for Routine {
     ghost view = { λ r. record { entry = r.entry; name = r.name; points = r.points.items } };
 }
 
-/// A report: how the run ended, how many instructions it ran, how many activations had begun and not ended, and the
-/// routines of those that had ended.
+/// The version of a report's text.
+#[derive(Clone, Copy, Debug, PartialEq, Eq)]
+pub enum ReportVersion {
+    /// The points alone.
+    One,
+    /// The points, and the parts of their sizes by cause.
+    Two,
+}
+
+/// A report: the version of its text, how the run ended, how many instructions it ran, how many activations had begun and
+/// not ended, and the routines of those that had ended.
 #[derive(Drop)]
 pub struct Report {
+    pub version: ReportVersion,
     pub finish: Finish,
     pub steps: u64,
     pub pending: u64,
@@ -34,5 +44,5 @@ impl Model for Report {
 
     ghost Value = { Reported };
 
-    ghost view = { λ r. record { finish = r.finish; steps = r.steps; pending = r.pending; routines = r.routines.items } };
+    ghost view = { λ r. record { version = r.version; finish = r.finish; steps = r.steps; pending = r.pending; routines = r.routines.items } };
 }

@@ -1,5 +1,5 @@
 use super::*;
-use cost_points::Point;
+use cost_points::{Point, Split};
 use guest_words::{Addr, FaultKind, Finish, Name, Tid};
 use std::alloc::Global;
 use std::test::Fail;
@@ -23,6 +23,7 @@ fn point(size: u64, calls: u64, least: u64, most: u64, sum: u128) -> Point {
         least,
         most,
         sum,
+        split: None,
     }
 }
 
@@ -31,6 +32,7 @@ fn point(size: u64, calls: u64, least: u64, most: u64, sum: u128) -> Point {
 fn a_report_is_its_lines(rt: HostRuntime) -> Result<(), Fail> {
     let alloc = rt.alloc();
     let plain = Report {
+        version: ReportVersion::One,
         finish: Finish::Exit { status: 0 },
         steps: 7,
         pending: 0,
@@ -58,6 +60,7 @@ done 2
 
 fn without_routines(alloc: Global, finish: Finish, steps: u64, pending: u64) -> Report {
     Report {
+        version: ReportVersion::One,
         finish,
         steps,
         pending,
@@ -125,11 +128,48 @@ fn a_report_is_read_as_what_it_was_written_from(rt: HostRuntime) -> Result<(), F
     Ok(())
 }
 
+const BY_CAUSE: &str = "aprof 2
+end exit 0
+steps 14
+open 0
+routine 00010054 -
+2 1 14 14 14 1 1 0 1
+done 1
+";
+
+#[test]
+fn the_parts_of_sizes_are_written_and_read(rt: HostRuntime) -> Result<(), Fail> {
+    let alloc = rt.alloc();
+    let told = Point {
+        split: Some(Split {
+            plain: 1,
+            thread: 1,
+            kernel: 0,
+            bare: 1,
+        }),
+        ..point(2, 1, 14, 14, 14)
+    };
+    let report = Report {
+        version: ReportVersion::Two,
+        finish: Finish::Exit { status: 0 },
+        steps: 14,
+        pending: 0,
+        routines: vec![in alloc; routine(alloc, 0x10054, b"-", told)?]?,
+    };
+    let text = write_report(alloc, &report)?;
+    assert_eq!(rt; text.as_slice(), BY_CAUSE.as_bytes());
+    let read = read_report(alloc, &text)?;
+    assert_eq!(rt; read.version, ReportVersion::Two);
+    assert_eq!(rt; write_report(alloc, &read)?.as_slice(), BY_CAUSE.as_bytes());
+    Ok(())
+}
+
 #[test]
 fn the_first_line_that_fails_gives_the_refusal(rt: HostRuntime) -> Result<(), Fail> {
     let alloc = rt.alloc();
     let rows = [
         ("", ReportError::Short),
+        ("aprof 2", ReportError::Short),
         ("aprof 3\n", ReportError::Version),
         ("aprof 1\nend exit 256\n", ReportError::Line { line: 2 }),
         (
@@ -159,6 +199,28 @@ fn the_first_line_that_fails_gives_the_refusal(rt: HostRuntime) -> Result<(), Fa
     ];
     for (text, refusal) in &rows {
         assert_eq!(rt; read_report(alloc, text.as_bytes()).err(), Some(*refusal));
+    }
+    Ok(())
+}
+
+#[test]
+fn a_version_has_its_own_points(rt: HostRuntime) -> Result<(), Fail> {
+    let alloc = rt.alloc();
+    let refused = Some(ReportError::Line { line: 6 });
+    let rows = [
+        ("aprof 1", "2 1 7 7 7", Some(ReportError::Short)),
+        ("aprof 1", "2 1 7 7 7 1 1 0 1", refused),
+        ("aprof 2", "2 1 7 7 7", refused),
+        ("aprof 2", "2 1 7 7 7 1 1 0 1", Some(ReportError::Short)),
+        ("aprof 2", "2 1 7 7 7 1 1 1 1", refused),
+        ("aprof 2", "2 1 7 7 7 1 1 0 0", refused),
+        ("aprof 2", "2 1 7 7 7 1 1 0 3", refused),
+    ];
+    for (version, point, refusal) in &rows {
+        let text = format!(in alloc;
+            "{version}\nend deep\nsteps 7\nopen 0\nroutine 00010054 -\n{point}\n"
+        )?;
+        assert_eq!(rt; read_report(alloc, text.as_bytes()).err(), *refusal);
     }
     Ok(())
 }

@@ -2,9 +2,11 @@
 ghost use Rattle.std.specs.Prelude.{◌≡◌, ◌++◌, IfOk, OnOk};
 ghost use Rattle.std.specs.List.{flat_map};
 ghost use Rattle.profile_report.specs.LineForms.{ended, point_line};
-ghost use Rattle.profile_report.specs.ReportText.{report_text, routine_text, version_1};
+ghost use Rattle.profile_report.specs.ReportText.{report_text, routine_text};
 
-use crate::line_text::{push_end_line, push_number_line, push_point_line, push_routine_line};
+use crate::line_text::{
+    push_end_line, push_first_line, push_number_line, push_point_line, push_routine_line,
+};
 use crate::{Report, Routine};
 use cost_points::Point;
 use std::alloc::{AllocError, Global};
@@ -22,7 +24,7 @@ fn push_points(text: &mut Vec<u8>, points: &[Point]) -> Result<(), AllocError>
 
 /// Appends a routine's line and those of its points.
 fn push_routine(text: &mut Vec<u8>, routine: &Routine) -> Result<(), AllocError>
-    ensures { OnOk result (text.new.items ≡ text.old.items ++ routine_text version_1 routine.now) }
+    ensures { OnOk result (text.new.items ≡ text.old.items ++ routine_text routine.now) }
 {
     push_routine_line(text, routine.entry, &routine.name)?;
     push_points(text, &routine.points)
@@ -31,7 +33,7 @@ fn push_routine(text: &mut Vec<u8>, routine: &Routine) -> Result<(), AllocError>
 /// Appends the lines of all routines.
 fn push_routines(text: &mut Vec<u8>, routines: &[Routine]) -> Result<(), AllocError>
     ensures { OnOk result (text.new.items
-        ≡ text.old.items ++ flat_map (routine_text version_1) routines.now) }
+        ≡ text.old.items ++ flat_map routine_text routines.now) }
 {
     for routine in routines {
         push_routine(text, routine)?;
@@ -39,11 +41,13 @@ fn push_routines(text: &mut Vec<u8>, routines: &[Routine]) -> Result<(), AllocEr
     Ok(())
 }
 
-/// The text of a report, in version 1.
+/// The text of a report, in its version. Whether each point is one of this version is not looked at: where one isn't, the
+/// text is refused when it is read.
 pub fn write_report(alloc: Global, report: &Report) -> Result<Vec<u8>, AllocError>
     ensures { IfOk result (λ text. text.items ≡ report_text report.now) }
 {
-    let mut text = Vec::from_slice(alloc, b"aprof 1\n")?;
+    let mut text = Vec::new(alloc);
+    push_first_line(&mut text, report.version)?;
     push_end_line(&mut text, report.finish)?;
     push_number_line(&mut text, b"steps ", report.steps)?;
     push_number_line(&mut text, b"open ", report.pending)?;

@@ -1,5 +1,5 @@
 -- Sizes and costs are bounded by the weight of the events, and the weight of a part by that of the whole.
-use Rattle.std.proofs.Common.{◌≡◌, ℕ, zero, suc, ◌+◌, ◌≤◌, Bool, true, false, not, cond, eqb, List, [], ◌∷◌, ◌++◌, length, take, drop, reverse, sym, ap, ◌∙◌, arith}
+use Rattle.std.proofs.Common.{◌≡◌, ℕ, zero, suc, ◌+◌, ◌≤◌, Bool, true, false, cond, eqb, List, [], ◌∷◌, ◌++◌, length, take, drop, reverse, sym, ap, ◌∙◌, arith}
 use Rattle.std.specs.List.{count_by, range_with_len}
 use Rattle.std.proofs.lemmas.List.{reverse-append, take-append-drop}
 use Rattle.std.proofs.lemmas.List.Sums.{count_by-le-length, sum_by_push}
@@ -7,7 +7,7 @@ use Rattle.std.proofs.lemmas.List.FromFn.{length-range_with_len}
 use Rattle.trace_model.specs.declared.event_kinds.Event.{Event}
 use Rattle.trace_model.specs.declared.event_kinds.Event.TheVariants.{Step, Read, Write, Fill, Call, Ret, Start, End}
 use Rattle.trace_model.specs.Events.{words_read, steps_run}
-use Rattle.trace_model.specs.Sizes.{known, size, cost}
+use Rattle.trace_model.specs.Sizes.{count_pairs, cost}
 use Rattle.trace_model.specs.WellFormed.{weight, weight_of}
 
 pub weight-append : (xs ys : List Event) → weight (xs ++ ys) ≡ weight xs + weight ys
@@ -40,10 +40,10 @@ length-words_read (Ret a target) t = omega arith
 length-words_read (Start a entry) t = omega arith
 length-words_read (End a) t = omega arith
 
-pub size-le-weight : (inside : List Event) (t : ℕ) → size inside t ≤ weight inside
-size-le-weight [] t = omega arith
-size-le-weight (e ∷ inside) t =
-    omega (arith, size-le-weight inside t, count_by-le-length (λ l. not (known inside t l)) (words_read e t), length-words_read e t)
+pub pairs-le-weight : (test : List Event → ℕ → Bool) (inside : List Event) (t : ℕ) → count_pairs test inside t ≤ weight inside
+pairs-le-weight test [] t = omega arith
+pairs-le-weight test (e ∷ inside) t =
+    omega (arith, pairs-le-weight test inside t, count_by-le-length (test inside) (words_read e t), length-words_read e t)
 
 one_or_none : (b : Bool) → cond b 1 0 ≤ 1
 one_or_none true = omega arith

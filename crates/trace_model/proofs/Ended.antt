@@ -1,16 +1,16 @@
 -- The slow program's lists, the oldest or outermost first, against the definitions, the newest or innermost first.
-use Rattle.std.proofs.Common.{◌≡◌, ℕ, suc, ◌+◌, ◌-◌, ◌<◌, ◌≤◌, ◌^◌, Bool, true, false, cond, eqb, List, [], ◌∷◌, ◌++◌, length, take, drop, map, get_or, reverse, Option, Some, None, add-one, sym, ap, subst, ◌∙◌, arith}
+use Rattle.std.proofs.Common.{◌≡◌, ℕ, suc, ◌+◌, ◌-◌, ◌<◌, ◌≤◌, Bool, true, false, cond, eqb, List, [], ◌∷◌, ◌++◌, length, take, drop, map, get_or, reverse, Option, Some, None, add-one, sym, ap, subst, ◌∙◌, arith}
 use Rattle.std.specs.List.{All}
 use Rattle.std.proofs.lemmas.Bool.{eq-eqb}
-use Rattle.std.proofs.lemmas.List.{reverse-append, take-append-drop, append_assoc, take_at, drop_at, length-reverse, length-drop, take_more, map-append, get_or-reverse, take_rest}
+use Rattle.std.proofs.lemmas.List.{reverse-append, take-append-drop, append_assoc, take_at, drop_at, length-reverse, length-drop, take_more, map-append, get_or-reverse}
 use Rattle.std.proofs.lemmas.List.Elements.{All-nil, All-cons, All-append, All-drop, All-weaker, All-get_or}
 use Rattle.trace_model.specs.declared.event_kinds.Event.{Event}
 use Rattle.trace_model.specs.declared.event_kinds.Event.TheVariants.{Step, Read, Write, Fill, Call, Ret, Start, End}
 use Rattle.trace_model.specs.declared.activations.Activation.{Activation}
 use Rattle.trace_model.specs.declared.slow_profile.Done.{Done}
 use Rattle.trace_model.specs.Activations.{begun, count_ending, count_returned, backs, calls_after, open_calls}
-use Rattle.trace_model.specs.Sizes.{since}
-use Rattle.trace_model.specs.WellFormed.{weight}
+use Rattle.trace_model.specs.Sizes.{since, before}
+use Rattle.trace_model.specs.WellFormed.{IsLight, weight}
 use Rattle.trace_model.proofs.Bounds.{weight-drop}
 
 split : {A : Type 0} (n : ℕ) (xs : List A) → reverse xs ≡ reverse (drop n xs) ++ reverse (take n xs)
@@ -42,11 +42,18 @@ follows e t at n calls b new count within =
 pub since-reverse : (past : List Event) (at : ℕ) → since (reverse past) at ≡ reverse (drop (at + 1) past)
 since-reverse past at = ap (λ n. take (n - (at + 1)) (reverse past)) (length-reverse past) ∙ take-reverse (at + 1) past
 
-pub part_light : (past : List Event) (at : ℕ) → weight (reverse past) < 2 ^ 62 →
-    weight (reverse (take (length past - (at + 1)) (drop (at + 1) past))) < 2 ^ 62
-part_light past at light =
-    subst (λ (inside : List Event). weight (reverse inside) < 2 ^ 62) (sym (take_rest past (at + 1)))
-    (omega (arith, weight-drop past (at + 1)))
+-- what lies before the inside is the earlier part
+pub before-reverse : (past : List Event) (q : ℕ) → q ≤ length past → before (reverse past) q ≡ reverse (take q past)
+before-reverse past q within =
+    ap (λ n. drop (n - q) (reverse past)) (length-reverse past)
+    ∙ sym (reverse-take (length past - q) past (omega arith))
+    ∙ ap (λ n. reverse (take n past)) (rest (length past) q within)
+  where
+    rest : (n q : ℕ) → q ≤ n → n - (n - q) ≡ q
+    rest n q h = omega arith
+
+pub part_light : (past : List Event) (n : ℕ) (rest : List Event) → rest ≡ drop n past → IsLight (reverse past) → IsLight (reverse rest)
+part_light past n rest is light = omega (arith, light, weight-drop past n, ap (λ (part : List Event). weight (reverse part)) is)
 
 abbrev IsBefore : ℕ → Activation → Type 0
 IsBefore n a = a.at < n

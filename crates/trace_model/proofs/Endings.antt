@@ -4,7 +4,7 @@ use Rattle.std.specs.Prelude.{All, Contains}
 use Rattle.std.proofs.Math.Seq.{drop-nil}
 use Rattle.std.proofs.lemmas.Bool.{cases_eq, cases_lt, ne_eqb}
 use Rattle.std.proofs.lemmas.List.{take-append-drop, map-append}
-use Rattle.std.proofs.lemmas.List.Elements.{All-nil, All-append, All-contains, All-map, All-weaker, Contains-append_cases, Contains-append_left, Contains-append_right}
+use Rattle.std.proofs.lemmas.List.Elements.{All-nil, All-append, All-contains, All-map, All-take, All-weaker, Contains-append_cases, Contains-append_left, Contains-append_right}
 use Rattle.std.proofs.lemmas.Option.{none-some, same_Some}
 use Rattle.trace_model.specs.declared.event_kinds.Event.{Event}
 use Rattle.trace_model.specs.declared.event_kinds.Event.TheVariants.{Step, Read, Write, Fill, Call, Ret, Start, End}
@@ -12,9 +12,9 @@ use Rattle.trace_model.specs.declared.activations.Activation.{Activation}
 use Rattle.trace_model.specs.declared.slow_profile.Done.{Done}
 use Rattle.trace_model.specs.Events.{thread_of}
 use Rattle.trace_model.specs.Activations.{begun, count_ending, count_returned, backs, open_calls, ending_calls}
-use Rattle.trace_model.specs.Sizes.{since, size, cost}
-use Rattle.trace_model.specs.Profile.{done, done_of, ended_of}
-use Rattle.trace_model.specs.Positions.{before, Ending, IsEnding, IsRetOrEnd, ComesBefore, done_at, DoneIsByEndings}
+use Rattle.trace_model.specs.Sizes.{since, before}
+use Rattle.trace_model.specs.Profile.{done, done_of, done_with, ended_of}
+use Rattle.trace_model.specs.Positions.{Ending, IsEnding, IsRetOrEnd, ComesBefore, done_at, DoneIsByEndings}
 use Rattle.trace_model.proofs.Ended.{open_calls_begun}
 use Rattle.trace_model.proofs.OpenPositions.{IsAfter, innermost_last}
 use Rattle.trace_model.proofs.Pairs.{Later, pairs, later_take, later_map, later_weaker, later_append, later_across, contains_first, contains_map, contains_from_map}
@@ -32,21 +32,29 @@ abbrev endings : List Event → List Ending
 endings [] = []
 endings (e ∷ past) = endings past ++ ended_by e past (thread_of e)
 
+-- it ends before the position, and began before it ends
 abbrev IsWithin : ℕ → Ending → Type 0
-IsWithin n x = x.at < n
+IsWithin n x = (x.at < n) × (x.call.at < x.at)
 
-by_within : (e : Event) (past : List Event) (o : Option ℕ) → All (λ x. x.at ≡ length past) (ended_by e past o)
-by_within e past None = All-nil (λ (x : Ending). x.at ≡ length past)
+abbrev IsNow : ℕ → Ending → Type 0
+IsNow n x = (x.at ≡ n) × (x.call.at < n)
+
+ending_begun : (e : Event) (past : List Event) (t : ℕ) → All (λ a. a.at < length past) (ending_calls e past t)
+ending_begun e past t =
+    All-take (λ (a : Activation). a.at < length past) (count_ending e t (backs (open_calls past t))) (open_calls past t) (open_calls_begun past t)
+
+by_within : (e : Event) (past : List Event) (o : Option ℕ) → All (IsNow (length past)) (ended_by e past o)
+by_within e past None = All-nil (IsNow (length past))
 by_within e past (Some t) =
-    All-map (λ (x : Ending). x.at ≡ length past) (ending t (length past)) (ending_calls e past t) (λ k d in'. refl)
+    All-map (IsNow (length past)) (ending t (length past)) (ending_calls e past t) (λ k d in'. (refl, ending_begun e past t k d in'))
 
 within : (past : List Event) → All (IsWithin (length past)) (endings past)
 within [] = All-nil (IsWithin 0)
 within (e ∷ past) =
     let n = length past in
     All-append (IsWithin (suc n)) (endings past) (ended_by e past (thread_of e))
-    (All-weaker (IsWithin n) (IsWithin (suc n)) (λ x h. omega (arith, h)) (endings past) (within past))
-    (All-weaker (λ x. x.at ≡ n) (IsWithin (suc n)) (λ x h. omega (arith, h)) (ended_by e past (thread_of e)) (by_within e past (thread_of e)))
+    (All-weaker (IsWithin n) (IsWithin (suc n)) (λ x h. (omega (arith, h.0), h.1)) (endings past) (within past))
+    (All-weaker (IsNow n) (IsWithin (suc n)) (λ x h. (omega (arith, h.0), omega (arith, h.0, h.1))) (ended_by e past (thread_of e)) (by_within e past (thread_of e)))
 
 -- what the profile has of them
 
@@ -58,30 +66,34 @@ map_map : {A B C : Type 0} (f : A → B) (g : B → C) (xs : List A) → map g (
 map_map f g [] = refl
 map_map f g (x ∷ xs) = ap (λ ys. g (f x) ∷ ys) (map_map f g xs)
 
-abbrev done_in : List Event → Ending → Done
-done_in part x =
-    let inside = since part x.call.at in
-    record { tid = x.tid; entry = x.call.entry; size = size inside x.tid; cost = cost inside x.tid }
+-- what the profile has of an ending by what lies before its end, and what lies before its begin
+abbrev done_in : List Event → List Event → Ending → Done
+done_in part until x = done_with (since part x.call.at) until x.tid x.call.entry
 
-done_old : (e : Event) (past : List Event) (x : Ending) → x.at < length past → done_at past x ≡ done_at (e ∷ past) x
-done_old e past x h = ap (λ part. done_in part x) (sym (before_more e past x.at (omega (arith, h))))
+-- it began no later than it ended
+done_old : (e : Event) (past : List Event) (x : Ending) → x.at < length past → x.call.at < x.at → done_at past x ≡ done_at (e ∷ past) x
+done_old e past x h begun =
+    ap₂ (λ part until. done_in part until x) (sym (before_more e past x.at (omega (arith, h))))
+    (sym (before_more e past (x.call.at + 1) (omega (arith, h, begun))))
 
-done_new : (e : Event) (past : List Event) (t : ℕ) (a : Activation) → done_of past t a ≡ done_at (e ∷ past) (ending t (length past) a)
-done_new e past t a = ap (λ part. done_in part (ending t (length past) a)) (sym (before_new e past))
+done_new : (e : Event) (past : List Event) (t : ℕ) (a : Activation) → a.at < length past → done_of past t a ≡ done_at (e ∷ past) (ending t (length past) a)
+done_new e past t a begun =
+    ap₂ (λ part until. done_in part until (ending t (length past) a)) (sym (before_new e past))
+    (sym (before_more e past (a.at + 1) (omega (arith, begun))))
 
 ended_done : (e : Event) (past : List Event) (o : Option ℕ) → ended_of past e o ≡ map (done_at (e ∷ past)) (ended_by e past o)
 ended_done e past None = refl
 ended_done e past (Some t) =
     let calls = ending_calls e past t in
     let f = ending t (length past) in
-    map_same (done_of past t) (λ a. done_at (e ∷ past) (f a)) calls (λ k d in'. done_new e past t (get_or calls k d)) ∙ sym (map_map f (done_at (e ∷ past)) calls)
+    map_same (done_of past t) (λ a. done_at (e ∷ past) (f a)) calls (λ k d in'. done_new e past t (get_or calls k d) (ending_begun e past t k d in')) ∙ sym (map_map f (done_at (e ∷ past)) calls)
 
 profile : (past : List Event) → done past ≡ map (done_at past) (endings past)
 profile [] = refl
 profile (e ∷ past) =
     let new = ended_by e past (thread_of e) in
     ap₂ (λ xs ys. xs ++ ys)
-    (profile past ∙ map_same (done_at past) (done_at (e ∷ past)) (endings past) (All-weaker (IsWithin (length past)) (λ x. done_at past x ≡ done_at (e ∷ past) x) (done_old e past) (endings past) (within past)))
+    (profile past ∙ map_same (done_at past) (done_at (e ∷ past)) (endings past) (All-weaker (IsWithin (length past)) (λ x. done_at past x ≡ done_at (e ∷ past) x) (λ x h. done_old e past x h.0 h.1) (endings past) (within past)))
     (ended_done e past (thread_of e))
     ∙ sym (map-append (done_at (e ∷ past)) (endings past) new)
 
@@ -137,7 +149,7 @@ order (e ∷ past) =
     let new = ended_by e past (thread_of e) in
     later_append ComesBefore (endings past) new (order past) (by_order e past (thread_of e))
     (All-weaker (IsWithin n) (λ x. All (ComesBefore x) new)
-    (λ x h. All-weaker (λ y. y.at ≡ n) (ComesBefore x) (λ y here. inl (omega (arith, h, here))) new (by_within e past (thread_of e)))
+    (λ x h. All-weaker (IsNow n) (ComesBefore x) (λ y here. inl (omega (arith, h.0, here.0))) new (by_within e past (thread_of e)))
     (endings past) (within past))
 
 -- each is an activation that was open before and is not after
@@ -254,7 +266,7 @@ is_ending : (past : List Event) (x : Ending) → Contains (endings past) x → I
 is_ending [] x c = absurd (omega (arith, c.1))
 is_ending (e ∷ past) x c =
     elim (Contains-append_cases (endings past) (ended_by e past (thread_of e)) x c) [
-      | inl old ↦ ending_old e past x (All-contains (IsWithin (length past)) (endings past) x (within past) old) (is_ending past x old)
+      | inl old ↦ ending_old e past x (All-contains (IsWithin (length past)) (endings past) x (within past) old).0 (is_ending past x old)
       | inr new ↦ is_new e past x (thread_of e) new
     ]
 

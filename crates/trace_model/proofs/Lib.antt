@@ -2,12 +2,15 @@ pub mod Bounds
 pub mod Returned
 pub mod Ended
 pub mod Known
+pub mod Causes
+pub mod SizeParts
 pub mod Cut
 pub mod Feeding
 pub mod Exit
 pub mod Pending
 pub mod Parts
 pub mod Positions
+pub mod Numbers
 pub mod Counted
 pub mod Pairs
 pub mod OpenPositions

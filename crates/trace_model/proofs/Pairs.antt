@@ -15,6 +15,13 @@ pairs R (x ∷ xs) h zero (suc j) d lt in' = h.0 j d (omega (arith, in'))
 pairs R (x ∷ xs) h (suc i) zero d lt in' = absurd (omega (arith, lt))
 pairs R (x ∷ xs) h (suc i) (suc j) d lt in' = pairs R xs h.1 i j d (omega (arith, lt)) (omega (arith, in'))
 
+pub laters : {A : Type 0} (R : A → A → Type 0) (xs : List A) → AllPairs R xs → Later R xs
+laters R [] h = tt
+laters R (x ∷ xs) h = (
+  (λ k d in'. h 0 (suc k) d (omega arith) (omega (arith, in'))),
+  laters R xs (λ i j d lt in'. h (suc i) (suc j) d (omega (arith, lt)) (omega (arith, in'))),
+)
+
 pub later_take : {A : Type 0} (R : A → A → Type 0) (n : ℕ) (xs : List A) → Later R xs → Later R (take n xs)
 later_take R zero xs h = tt
 later_take R (suc n) [] h = tt

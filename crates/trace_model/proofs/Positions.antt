@@ -6,8 +6,8 @@ use Rattle.std.proofs.lemmas.Bool.{cases_lt}
 use Rattle.std.proofs.lemmas.List.{reverse-append, reverse-reverse, length-reverse, length-drop, drop-drop, take_all}
 use Rattle.std.proofs.lemmas.Option.{slice_get_within}
 use Rattle.trace_model.specs.declared.event_kinds.Event.{Event}
-use Rattle.trace_model.specs.Sizes.{since}
-use Rattle.trace_model.specs.Positions.{event_at, before, PartsAreInTime}
+use Rattle.trace_model.specs.Sizes.{since, before}
+use Rattle.trace_model.specs.Positions.{event_at, PartsAreInTime}
 use Rattle.trace_model.proofs.Ended.{take-reverse, since-reverse}
 
 reversed : (e : Event) (past : List Event) → reverse (e ∷ past) ≡ reverse past ++ e ∷ []

@@ -1,12 +1,13 @@
 -- What the definitions by recursion say of a whole trace.
-use Rattle.std.specs.Prelude.{◌≡◌, ◌≢◌, ◌↔◌, ℕ, ◌+◌, ◌*◌, ◌<◌, ◌≤◌, Bool, true, List, [], ◌∷◌, ◌++◌, length, drop, replicate, All, IfSome, sum_by}
+use Rattle.std.specs.Prelude.{◌≡◌, ◌≢◌, ◌↔◌, ℕ, ◌+◌, ◌*◌, ◌<◌, ◌≤◌, Bool, true, List, [], ◌∷◌, ◌++◌, length, drop, replicate, All, Contains, IfSome, sum_by}
 use Rattle.std.specs.List.{range_with_len}
 use Rattle.trace_model.specs.declared.event_kinds.Event.{Event}
 use Rattle.trace_model.specs.declared.event_kinds.Event.TheVariants.{Step, Read, Write, Fill, Start, End}
 use Rattle.trace_model.specs.Events.{thread_of}
 use Rattle.trace_model.specs.Activations.{open_calls}
-use Rattle.trace_model.specs.Sizes.{known}
-use Rattle.trace_model.specs.Profile.{done, steps}
+use Rattle.trace_model.specs.Sizes.{accessed, known, last_touch, size, bare}
+use Rattle.trace_model.specs.Causes.{Plain, OtherThread, Kernel, is_by, part, caused}
+use Rattle.trace_model.specs.Profile.{HasParts, done, steps}
 use Rattle.trace_model.specs.Cut.{cut}
 use Rattle.trace_model.specs.Depth.{count_begun, is_within, pending}
 
@@ -26,17 +27,59 @@ IsForeignWrite (Write tid first count) t l = (tid ≢ t) × IsInRange first coun
 IsForeignWrite (Fill first count) t l = IsInRange first count l
 IsForeignWrite _ t l = ⊥
 
--- going back over the events, the first that is an access by thread t or a foreign write exists, and is an access by t
-pub record IsLatestByItself (inside : List Event) (t l : ℕ) : Type 0 where
+-- the event is a Write of the word by another thread
+abbrev pub IsWriteByOther : Event → ℕ → ℕ → Type 0
+IsWriteByOther (Write tid first count) t l = (tid ≢ t) × IsInRange first count l
+IsWriteByOther _ t l = ⊥
+
+-- the event is a Fill of the word
+abbrev pub IsFill : Event → ℕ → ℕ → Type 0
+IsFill (Fill first count) t l = IsInRange first count l
+IsFill _ t l = ⊥
+
+-- going back over the events, the first that is an access by thread t or a foreign write exists, and is such a one
+pub record IsLatest (IsSuch : Event → ℕ → ℕ → Type 0) (events : List Event) (t l : ℕ) : Type 0 where
   pub later : List Event
   pub latest : Event
   pub earlier : List Event
-  pub parts : inside ≡ later ++ latest ∷ earlier
-  pub own : IsAccess latest t l
+  pub parts : events ≡ later ++ latest ∷ earlier
+  pub such : IsSuch latest t l
   pub passed : All (λ e. (¬ IsAccess e t l) × (¬ IsForeignWrite e t l)) later
 
 abbrev pub KnownIsByTheLatestTouch : Type 0
-KnownIsByTheLatestTouch = (inside : List Event) (t l : ℕ) → (known inside t l ≡ true) ↔ IsLatestByItself inside t l
+KnownIsByTheLatestTouch = (inside : List Event) (t l : ℕ) → (known inside t l ≡ true) ↔ IsLatest IsAccess inside t l
+
+-- A read counts as another thread's or the kernel's where that first event is a Write by another thread or a Fill, and as
+-- plain in all other cases.
+pub record CausesAreByTheLatestTouch : Type 0 where
+  pub thread : (past : List Event) (t l : ℕ) → (is_by OtherThread (last_touch past t l) ≡ true) ↔ IsLatest IsWriteByOther past t l
+  pub kernel : (past : List Event) (t l : ℕ) → (is_by Kernel (last_touch past t l) ≡ true) ↔ IsLatest IsFill past t l
+  pub plain :
+      (past : List Event) (t l : ℕ) →
+      (is_by Plain (last_touch past t l) ≡ true) ↔ ((¬ IsLatest IsWriteByOther past t l) × (¬ IsLatest IsFill past t l))
+
+-- a word was accessed where some event is an access of it
+abbrev pub AccessedIsByAnAccess : Type 0
+AccessedIsByAnAccess =
+    (inside : List Event) (t l : ℕ) → (accessed inside t l ≡ true) ↔ ((e : Event) × Contains inside e × IsAccess e t l)
+
+-- The three parts add up to the size, and the plain read memory size lies between the plain part and the size.
+pub record SizesAreParts : Type 0 where
+  pub sum :
+      (inside past : List Event) (t : ℕ) →
+      part Plain inside past t + part OtherThread inside past t + part Kernel inside past t ≡ size inside t
+  pub low : (inside past : List Event) (t : ℕ) → part Plain inside past t ≤ bare inside t
+  pub high : (inside : List Event) (t : ℕ) → bare inside t ≤ size inside t
+  pub done : (past : List Event) → All HasParts (done past)
+
+-- The parts of the other threads and of the kernel are what the thread's counts over the whole past rise by: what others
+-- wrote last is known in no activation.
+pub record ForeignPartsAreCounts : Type 0 where
+  pub thread :
+      (inside past : List Event) (t : ℕ) →
+      caused OtherThread past t + part OtherThread inside past t ≡ caused OtherThread (inside ++ past) t
+  pub kernel :
+      (inside past : List Event) (t : ℕ) → caused Kernel past t + part Kernel inside past t ≡ caused Kernel (inside ++ past) t
 
 -- each event of a thread is of one below n
 abbrev pub AreThreadsBelow : ℕ → List Event → Type 0
@@ -84,7 +127,9 @@ pub record IsOneActivation (t entry count : ℕ) : Type 0 where
   pub none_done : done (plain_trace t entry count) ≡ []
   pub run : steps (plain_trace t entry count) ≡ count
   pub none_open : pending (End t ∷ plain_trace t entry count) ≡ 0
-  pub one_done : done (End t ∷ plain_trace t entry count) ≡ record { tid = t; entry = entry; size = 0; cost = count } ∷ []
+  pub one_done :
+      done (End t ∷ plain_trace t entry count)
+      ≡ record { tid = t; entry = entry; size = 0; cost = count; plain = 0; thread = 0; kernel = 0; bare = 0 } ∷ []
   pub all_run : steps (End t ∷ plain_trace t entry count) ≡ count
 
 abbrev pub ExitIsOneActivation : Type 0

@@ -1,6 +1,7 @@
 pub mod Events
 pub mod Activations
 pub mod Sizes
+pub mod Causes
 pub mod Profile
 pub mod WellFormed
 pub mod Parts
@@ -11,3 +12,5 @@ pub mod EventList
 pub mod Laws
 pub mod Positions
 pub mod WorkedTraces
+-- What the private parts owe one another.
+pub mod SizeParts

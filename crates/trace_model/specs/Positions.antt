@@ -1,21 +1,18 @@
 -- What the recursions say of a trace by the positions of its events, which count from 0 in time.
-use Rattle.std.specs.Prelude.{◌≡◌, ◌≢◌, ◌⊎◌, ◌↔◌, ℕ, ◌+◌, ◌-◌, ◌<◌, false, List, [], ◌∷◌, ◌++◌, length, reverse, take, drop, map, slice_get, Option, Some, None, All, AllPairs, Contains}
+use Rattle.std.specs.Prelude.{◌≡◌, ◌≢◌, ◌⊎◌, ◌↔◌, ℕ, ◌+◌, ◌<◌, false, true, List, [], ◌∷◌, ◌++◌, length, reverse, take, drop, map, slice_get, Option, Some, None, All, AllPairs, Contains}
 use Rattle.trace_model.specs.declared.event_kinds.Event.{Event}
 use Rattle.trace_model.specs.declared.event_kinds.Event.TheVariants.{Step, Read, Call, Ret, Start, End}
 use Rattle.trace_model.specs.declared.activations.Activation.{Activation}
 use Rattle.trace_model.specs.declared.slow_profile.Done.{Done}
 use Rattle.trace_model.specs.Activations.{open_calls}
-use Rattle.trace_model.specs.Sizes.{since, known, size, cost}
-use Rattle.trace_model.specs.Profile.{done}
+use Rattle.trace_model.specs.Sizes.{since, before, last_touch, accessed, known, size, bare, cost}
+use Rattle.trace_model.specs.Causes.{Cause, is_by, part}
+use Rattle.trace_model.specs.Profile.{done, done_with}
 use Rattle.trace_model.specs.Laws.{IsInRange}
 
 -- the event at the position, if there is one
 abbrev pub event_at : List Event → ℕ → Option Event
 event_at past p = slice_get (reverse past) p
-
--- the events before the position
-abbrev pub before : List Event → ℕ → List Event
-before past q = drop (length past - q) past
 
 -- the events between two positions, without those at the two
 abbrev pub between : List Event → ℕ → ℕ → List Event
@@ -62,6 +59,29 @@ pub record IsUnknownRead (past : List Event) (t a q : ℕ) (w : WordAt) : Type 0
 -- The size of thread t's activation from position a to position q is the number of the unknown words that it reads between them.
 abbrev pub SizeCountsUnknownReads : Type 0
 SizeCountsUnknownReads = (past : List Event) (t a q : ℕ) → IsNumberOf (IsUnknownRead past t a q) (size (between past a q) t)
+
+-- it does so, and the read counts by the cause, as the word was touched last in the whole past
+pub record IsUnknownReadBy (cause : Cause) (past : List Event) (t a q : ℕ) (w : WordAt) : Type 0 where
+  pub unknown : IsUnknownRead past t a q w
+  pub by : is_by cause (last_touch (before past w.at) t w.word) ≡ true
+
+-- Each part of that size is the number of the unknown words that it reads by the cause.
+abbrev pub PartsCountUnknownReads : Type 0
+PartsCountUnknownReads =
+    (cause : Cause) (past : List Event) (t a q : ℕ) →
+    IsNumberOf (IsUnknownReadBy cause past t a q) (part cause (between past a q) (before past (a + 1)) t)
+
+-- thread t reads the word between the two positions, and does not access it before that since the first
+pub record IsReadFirst (past : List Event) (t a q : ℕ) (l : ℕ) : Type 0 where
+  pub at : ℕ
+  pub after : a < at
+  pub until : at < q
+  pub read : IsReadOf past t (record { at = at; word = l })
+  pub first : accessed (between past a at) t l ≡ false
+
+-- The plain read memory size is the number of the words that are read first.
+abbrev pub BareCountsWords : Type 0
+BareCountsWords = (past : List Event) (t a q : ℕ) → IsNumberOf (IsReadFirst past t a q) (bare (between past a q) t)
 
 -- where the open activations of thread t began, the innermost first
 abbrev pub open_positions : List Event → ℕ → List ℕ
@@ -121,11 +141,9 @@ IsRetOrEnd past x = ((target : ℕ) × (event_at past x.at ≡ Some (Ret x.tid t
 abbrev pub ComesBefore : Ending → Ending → Type 0
 ComesBefore x y = (x.at < y.at) ⊎ ((x.at ≡ y.at) × (y.call.at < x.call.at))
 
--- what the profile has of it: the size and the cost are those of the events between begin and end
+-- what the profile has of it, by the events between begin and end and those before
 abbrev pub done_at : List Event → Ending → Done
-done_at past x =
-    let inside = between past x.call.at x.at in
-    record { tid = x.tid; entry = x.call.entry; size = size inside x.tid; cost = cost inside x.tid }
+done_at past x = done_with (between past x.call.at x.at) (before past (x.call.at + 1)) x.tid x.call.entry
 
 -- The profile has each ending of an activation, in their order.
 pub record IsByEndings (past : List Event) : Type 0 where

@@ -1,5 +1,5 @@
 -- What an activation has read and run, by the events inside it, the newest first.
-use Rattle.std.specs.Prelude.{ℕ, ◌+◌, ◌-◌, Bool, true, false, not, List, [], ◌∷◌, length, take, count_by}
+use Rattle.std.specs.Prelude.{ℕ, ◌+◌, ◌-◌, Bool, true, false, not, ◌||◌, List, [], ◌∷◌, length, take, drop, count_by}
 use Rattle.trace_model.specs.declared.event_kinds.Event.{Event}
 use Rattle.trace_model.specs.declared.event_kinds.Touch.{Touch}
 use Rattle.trace_model.specs.declared.event_kinds.Touch.TheVariants.{Untouched, ByItself, ByOther, ByKernel}
@@ -8,6 +8,10 @@ use Rattle.trace_model.specs.Events.{touch, words_read, steps_run}
 -- the events after the one at the position: what lies inside an activation that began there
 abbrev pub since : List Event → ℕ → List Event
 since past at = take (length past - (at + 1)) past
+
+-- the events before the position
+abbrev pub before : List Event → ℕ → List Event
+before past q = drop (length past - q) past
 
 -- the later of two touches
 abbrev pub newer : Touch → Touch → Touch
@@ -29,14 +33,23 @@ is_own _ = false
 abbrev pub known : List Event → ℕ → ℕ → Bool
 known inside t l = is_own (last_touch inside t l)
 
--- how many of the words thread t does not know
-abbrev pub count_unknown : List Event → ℕ → List ℕ → ℕ
-count_unknown inside t words = count_by (λ l. not (known inside t l)) words
+-- how many pairs of a read by thread t and a word of it pass a test, which is given the events before the read and the word
+abbrev pub count_pairs : (List Event → ℕ → Bool) → List Event → ℕ → ℕ
+count_pairs test [] t = 0
+count_pairs test (e ∷ inside) t = count_pairs test inside t + count_by (test inside) (words_read e t)
 
--- the size: each pair of a read and a word of it that was not known then counts
+-- the size: each pair of a read and a word that was not known then
 abbrev pub size : List Event → ℕ → ℕ
-size [] t = 0
-size (e ∷ inside) t = size inside t + count_unknown inside t (words_read e t)
+size inside t = count_pairs (λ earlier l. not (known earlier t l)) inside t
+
+-- thread t read or wrote the word
+abbrev pub accessed : List Event → ℕ → ℕ → Bool
+accessed [] t l = false
+accessed (e ∷ inside) t l = is_own (touch e t l) || accessed inside t l
+
+-- the plain read memory size: each pair of a read and a word that the thread had not accessed then
+abbrev pub bare : List Event → ℕ → ℕ
+bare inside t = count_pairs (λ earlier l. not (accessed earlier t l)) inside t
 
 -- the cost: the instructions that thread t ran
 abbrev pub cost : List Event → ℕ → ℕ

@@ -1,13 +1,27 @@
 -- The profiles of short runs, worked out by hand from the meaning of each event. Traces stand in order of time.
-use Rattle.std.specs.Prelude.{◌≡◌, ℕ, List, [], ◌∷◌, reverse}
+use Rattle.std.specs.Prelude.{◌≡◌, ℕ, ◌+◌, List, [], ◌∷◌, reverse}
 use Rattle.trace_model.specs.declared.event_kinds.Event.{Event}
 use Rattle.trace_model.specs.declared.event_kinds.Event.TheVariants.{Step, Read, Write, Fill, Call, Ret, Start, End}
 use Rattle.trace_model.specs.declared.slow_profile.Done.{Done}
 use Rattle.trace_model.specs.Profile.{done}
 use Rattle.trace_model.specs.WellFormed.{IsWellFormed}
 
+-- an activation that read words in so many pairs: plain ones, others, and words that it read first
+abbrev pub of_reads : ℕ → ℕ → ℕ → ℕ → ℕ → ℕ → ℕ → Done
+of_reads t entry cost plain thread kernel bare = record {
+  tid = t;
+  entry = entry;
+  size = plain + thread + kernel;
+  cost = cost;
+  plain = plain;
+  thread = thread;
+  kernel = kernel;
+  bare = bare;
+}
+
+-- an activation all of whose reads were plain and first
 abbrev pub of_thread : ℕ → ℕ → ℕ → ℕ → Done
-of_thread t entry size cost = record { tid = t; entry = entry; size = size; cost = cost }
+of_thread t entry size cost = of_reads t entry cost size 0 0 size
 
 -- three instructions, no access
 abbrev pub smallest_guest : List Event
@@ -87,10 +101,10 @@ pub record WorkedTraces : Type 0 where
   pub caller :
       done (reverse caller_has_read)
       ≡ of_thread 1 0x10070 1 2 ∷ of_thread 1 0x10064 1 5 ∷ of_thread 1 0x10054 1 9 ∷ []
-  pub filled : done (reverse kernel_fills) ≡ of_thread 1 0x10074 4 9 ∷ of_thread 1 0x10054 4 17 ∷ []
+  pub filled : done (reverse kernel_fills) ≡ of_reads 1 0x10074 9 0 0 4 2 ∷ of_reads 1 0x10054 17 0 0 4 2 ∷ []
   pub other_writes :
       done (reverse other_thread_writes)
-      ≡ of_thread 1 0x1007c 2 4 ∷ of_thread 1 0x10054 2 14 ∷ of_thread 2 0x10068 0 9 ∷ []
+      ≡ of_reads 1 0x1007c 4 1 1 0 1 ∷ of_reads 1 0x10054 14 1 1 0 1 ∷ of_thread 2 0x10068 0 9 ∷ []
   pub other_waits :
       done (reverse other_thread_waits)
       ≡ of_thread 1 0x1007c 1 4 ∷ of_thread 1 0x10054 1 14 ∷ of_thread 2 0x10068 0 0 ∷ []

@@ -1,7 +1,7 @@
 //! Laws of the definitions: each is the contract of a function that does nothing.
-ghost use Rattle.trace_model.specs.Laws.{CutIsTheLongestPrefix, KnownIsByTheLatestTouch, PendingIsOfAllThreads, EachBegunIsDoneOrPending, ExitIsOneActivation, WithinIsOfEachPrefix};
+ghost use Rattle.trace_model.specs.Laws.{AccessedIsByAnAccess, CausesAreByTheLatestTouch, CutIsTheLongestPrefix, ForeignPartsAreCounts, KnownIsByTheLatestTouch, PendingIsOfAllThreads, EachBegunIsDoneOrPending, ExitIsOneActivation, SizesAreParts, WithinIsOfEachPrefix};
 ghost use Rattle.trace_model.specs.Parts.{ShortPartsAreLight};
-ghost use Rattle.trace_model.specs.Positions.{CostCountsSteps, DoneIsByEndings, OpenActivationsArePositions, PartsAreInTime, SizeCountsUnknownReads};
+ghost use Rattle.trace_model.specs.Positions.{BareCountsWords, CostCountsSteps, DoneIsByEndings, OpenActivationsArePositions, PartsAreInTime, PartsCountUnknownReads, SizeCountsUnknownReads};
 ghost use Rattle.trace_model.specs.WorkedTraces.{WorkedTraces};
 
 /// The cut is the longest prefix of the trace that fits. The test by the greatest stamp is one of each prefix.
@@ -10,9 +10,19 @@ pub fn cut_is_the_longest_prefix()
     ensures within { WithinIsOfEachPrefix }
 {}
 
-/// A word is known exactly where the latest touch of it inside the activation is the thread's own.
+/// A word is known exactly where the latest touch of it inside the activation is the thread's own. The cause of a read is
+/// by the latest touch in the whole past.
 pub fn known_is_by_the_latest_touch()
-    ensures { KnownIsByTheLatestTouch }
+    ensures known { KnownIsByTheLatestTouch }
+    ensures causes { CausesAreByTheLatestTouch }
+    ensures accessed { AccessedIsByAnAccess }
+{}
+
+/// The parts of a size by cause add up to it, and the plain read memory size lies between the plain part and the size. The
+/// other two parts are differences of counts that only rise.
+pub fn sizes_are_parts()
+    ensures parts { SizesAreParts }
+    ensures counts { ForeignPartsAreCounts }
 {}
 
 /// The pending activations are the open ones of all threads.
@@ -51,9 +61,12 @@ pub fn done_is_by_endings()
     ensures { DoneIsByEndings }
 {}
 
-/// The size of an activation is the number of the words that it reads and does not know.
+/// The size of an activation is the number of the words that it reads and does not know, each time that it does, and each
+/// part of it that of those with its cause. The plain read memory size is the number of words that it reads first.
 pub fn size_counts_unknown_reads()
-    ensures { SizeCountsUnknownReads }
+    ensures size { SizeCountsUnknownReads }
+    ensures parts { PartsCountUnknownReads }
+    ensures bare { BareCountsWords }
 {}
 
 /// The cost of an activation is the number of the steps of its thread.

@@ -18,7 +18,7 @@ pub use laws::{
     an_exit_is_one_activation, cost_counts_steps, cut_is_the_longest_prefix, done_is_by_endings,
     each_begun_is_done_or_pending, known_is_by_the_latest_touch, open_activations_are_positions,
     parts_are_in_time, pending_is_of_all_threads, short_parts_are_light, size_counts_unknown_reads,
-    worked_traces_are_as_written,
+    sizes_are_parts, worked_traces_are_as_written,
 };
 pub use observer::{Observed, Observer, feed};
 pub use slow_profile::{Done, slow_done};

@@ -6,18 +6,24 @@ ghost use Rattle.trace_model.specs.WellFormed.{IsLight};
 
 use crate::Event;
 use crate::activations::{Activation, count_ending, open_calls};
-use crate::sizes::{cost_of, size_of};
+use crate::sizes::{bare_of, cost_of, parts_of};
 use guest_words::{Addr, Tid};
 use std::alloc::{AllocError, Global};
 
 /// An activation that ended: its thread, the entry of its routine, the size of its input in words, and its cost in
-/// instructions.
+/// instructions. The size is the sum of three parts, by the last touch of a word before the read that counts: another thread
+/// wrote it (`thread`), the kernel filled it (`kernel`), or the thread itself touched it or no one did (`plain`). Beside them
+/// stands the plain read memory size (`bare`): the words whose first access in the activation is a read.
 #[derive(Clone, Copy, Debug, PartialEq, Eq)]
 pub struct Done {
     pub tid: Tid,
     pub entry: Addr,
     pub size: u64,
     pub cost: u64,
+    pub plain: u64,
+    pub thread: u64,
+    pub kernel: u64,
+    pub bare: u64,
 }
 
 /// What the profile has of the thread's activation, which ends after the past.
@@ -26,12 +32,17 @@ fn done_of(past: &[Event], tid: Tid, call: Activation) -> Done
     requires begun { call.at < length past.now }
     ensures { result ≡ done_of (reverse past.now) tid call }
 {
-    let inside = &past[call.at + 1..];
+    let (until, inside) = past.split_at(call.at + 1);
+    let parts = parts_of(inside, until, tid);
     Done {
         tid,
         entry: call.entry,
-        size: size_of(inside, tid),
+        size: parts.plain + parts.thread + parts.kernel,
         cost: cost_of(inside, tid),
+        plain: parts.plain,
+        thread: parts.thread,
+        kernel: parts.kernel,
+        bare: bare_of(inside, tid),
     }
 }
 

@@ -60,12 +60,15 @@ fn a_repeated_read_counts_once(rt: HostRuntime) {
         entry: 0x10064,
         size: 1,
         cost: 3,
+        plain: 1,
+        thread: 0,
+        kernel: 0,
+        bare: 1,
     };
     let root = Done {
-        tid: t,
         entry: 0x10054,
-        size: 1,
         cost: 7,
+        ..routine
     };
     assert_eq!(rt; done.as_slice(), [routine, root].as_slice());
 }
@@ -107,7 +110,11 @@ fn foreign_writes_and_fills_count_again(rt: HostRuntime) {
             tid: t,
             entry: 16,
             size: 5,
-            cost: 7
+            cost: 7,
+            plain: 2,
+            thread: 1,
+            kernel: 2,
+            bare: 2,
         }
     );
 }

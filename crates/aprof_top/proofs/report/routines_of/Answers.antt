@@ -8,5 +8,5 @@ use Rattle.aprof_top.proofs.report.routines_of.Goals as goal
 
 pub returns-clause-totals : goal.returns-clause-totals
 returns-clause-totals c =
-    let fits : FitsTotals (map (named c.args.image.now) (points c.args.done.now)) = FitsTotals-points c.args.image.now c.args.done.now c.requires c.in_ok-table.ensures.sizes c.in_ok-table.ensures.costs in
+    let fits : FitsTotals (map (named c.args.image.now) (points c.args.done.now)) = FitsTotals-points c.args.image.now c.args.done.now c.requires.few c.in_ok-table.ensures.sizes c.in_ok-table.ensures.costs in
     IfOk-weaker c.named_routines.result _ _ (λ routines h. subst FitsTotals (sym (h ∙ ap (λ t. map (named c.args.image.now) t.routines) c.in_ok-table.ensures.table)) fits) c.named_routines.ensures

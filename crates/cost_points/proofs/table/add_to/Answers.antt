@@ -19,7 +19,7 @@ pub add-requires-clause-room : goal.add-requires-clause-room
 add-requires-clause-room c =
     let place = subst (λ (rs : List Routine). IsAt (map (λ r. r.entry) rs) c.args.ended.entry c.in-Ok.at) c.deref.ensures.value c.in-Ok.ensures in
     at_routine (λ r. All HasRoom r.points) c.requires.contents.added c.args.routines.now.items c.args.ended.entry c.in-Ok.at _ c.requires.contents.routines place c.index_mut-routine.ensures.value
-    (HasRoom-points c.requires.contents.added (rw (← c.requires.contents.members) c.requires.few) c.requires.contents.costs)
+    (HasRoom-points c.requires.contents.added (rw (← c.requires.contents.members) c.requires.few) c.requires.contents.each)
 
 pub returns-in-Ok-clause-ok : goal.returns-in-Ok-clause-ok
 returns-in-Ok-clause-ok c added is =

@@ -8,7 +8,6 @@ use Rattle.profile_report.specs.declared.line.LineError.TheVariants.{Memory}
 use Rattle.profile_report.specs.Grammar.{FitsLine, line_text}
 use Rattle.profile_report.specs.LineForms.{hex_address}
 use Rattle.profile_report.specs.Reading.{HasName}
-use Rattle.profile_report.specs.ReportText.{version_1}
 use Rattle.guest_words.proofs.Cuts.{cut_once}
 use Rattle.profile_report.proofs.Digits.{lacks_address}
 use Rattle.guest_words.proofs.Found.{nothing, same}
@@ -23,7 +22,7 @@ returns-in_err-name_of-in-Some-address-clause-only c entry name fits is =
     subst (λ r. MatchResult r (λ l. l ≡ OfRoutine entry name) (λ e. e ≡ Memory)) (sym given.1) (given.2 ∙ memory)
 
 abbrev SaysName : List ℕ → Type 0
-SaysName words = (l : Line) × FitsLine l × (codes "routine " ++ words ≡ line_text version_1 l) × HasName l
+SaysName words = (l : Line) × FitsLine l × (codes "routine " ++ words ≡ line_text l) × HasName l
 
 named : (words entry name : List ℕ) (at : ℕ) → words ≡ entry ++ 32 ∷ name → at < 2 ^ 32 → entry ≡ hex_address at → is_name name ≡ true → SaysName words
 named words entry name at is fits here names =

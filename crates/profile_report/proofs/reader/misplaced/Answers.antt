@@ -7,4 +7,4 @@ apart : true ≡ false → ⊥
 apart e = cc
 
 pub returns-in-AtVersion : goal.returns-in-AtVersion
-returns-in-AtVersion c bytes misplaced = (c.in-AtVersion.is, λ e. apart (sym (ap (λ p. may_stand p First) c.in-AtVersion.is) ∙ misplaced First tt e))
+returns-in-AtVersion c bytes misplaced = (c.in-AtVersion.is, λ v e. apart (sym (ap (λ p. may_stand p (First v)) c.in-AtVersion.is) ∙ misplaced (First v) tt e))

@@ -1,0 +1,56 @@
+-- Frames as a struct keeps them, and as contracts see them: what is changed at one place.
+use Rattle.std.proofs.Common.{◌≡◌, ℕ, zero, suc, ◌+◌, ◌-◌, ◌<◌, ◌≤◌, List, [], ◌∷◌, ◌++◌, length, map, get_or, Option, Some, None, refl, sym, ap, ◌∙◌, subst, arith}
+use Rattle.std.specs.Prelude.{slice_get, slice_index, slice_set, IfSome}
+use Rattle.std.proofs.lemmas.List.{length-append, get_or_append_left}
+use Rattle.std.proofs.lemmas.Simd.{map-map}
+use Rattle.shadow_stack.specs.declared.sums.Sums.{Sums}
+use Rattle.shadow_stack.specs.Frames.{Frame, FitsPop, FitsSums, starts_of, IsRising, changed, added, added_to_last, plus}
+
+-- the things kept, each with a start and sums
+module _ {X : Type 0} (start : X → ℕ) (sums : X → Sums) where
+  abbrev pub seen : X → Frame
+  seen x = record { start = start x; sums = sums x }
+
+  pub starts_seen : (xs : List X) → map start xs ≡ starts_of (map seen xs)
+  starts_seen [] = refl
+  starts_seen (x ∷ xs) = ap (λ ss. start x ∷ ss) (starts_seen xs)
+
+  pub changed-set : (xs : List X) (i : ℕ) (old new : X) (change : Frame → Frame) → i < length xs → old ≡ get_or xs i old → seen new ≡ change (seen old) → map seen (slice_set xs i new) ≡ changed i change (map seen xs)
+  changed-set [] i old new change within was is = absurd (omega (arith, within))
+  changed-set (y ∷ xs) zero old new change within was is = ap (λ f. f ∷ map seen xs) (is ∙ ap (λ x. change (seen x)) was)
+  changed-set (y ∷ xs) (suc i) old new change within was is = ap (λ fs. seen y ∷ fs) (changed-set xs i old new change (omega (arith, within)) was is)
+
+  -- where a start stays, all starts do
+  pub starts-set : (xs : List X) (i : ℕ) (old new : X) → i < length xs → old ≡ get_or xs i old → start new ≡ start old → map start (slice_set xs i new) ≡ map start xs
+  starts-set [] i old new within was is = absurd (omega (arith, within))
+  starts-set (y ∷ xs) zero old new within was is = ap (λ s. s ∷ map start xs) (is ∙ ap start was)
+  starts-set (y ∷ xs) (suc i) old new within was is = ap (λ ss. start y ∷ ss) (starts-set xs i old new (omega (arith, within)) was is)
+
+-- the part of rising starts is rising
+pub rising_front : (starts : List ℕ) (last : ℕ) → IsRising (starts ++ last ∷ []) → IsRising starts
+rising_front starts last rising i j lt within =
+    let long = length-append starts (last ∷ []) in
+    let here = rising i j lt (omega (arith, within, long)) in
+    rw (← get_or_append_left starts (last ∷ []) 0 i (omega (arith, lt, within)), ← get_or_append_left starts (last ∷ []) 0 j within) here
+
+-- the place of the last
+pub last_added : (n : ℕ) (by : Sums) (frames : List Frame) → length frames ≡ suc n → added n by frames ≡ added_to_last by frames
+last_added n by [] long = absurd (omega (arith, long))
+last_added zero by (f ∷ []) long = refl
+last_added zero by (f ∷ g ∷ frames) long = absurd (omega (arith, long))
+last_added (suc n) by (f ∷ []) long = absurd (omega (arith, long))
+last_added (suc n) by (f ∷ g ∷ frames) long = ap (λ fs. f ∷ fs) (last_added n by (g ∷ frames) (omega (arith, long)))
+
+-- there is none
+pub none_added : (by : Sums) (frames : List Frame) → ¬ (0 < length frames) → frames ≡ added_to_last by frames
+none_added by [] none = refl
+none_added by (f ∷ frames) none = absurd (none (omega arith))
+
+-- what a pop asks of the frame below the top is what it asks of the last of the others
+pub below_fits : (n : ℕ) (outer : List Frame) (top : Frame) → length outer ≡ suc n → FitsPop (outer ++ top ∷ []) → IfSome (slice_get outer n) (λ f. FitsSums (plus f.sums top.sums))
+below_fits n [] top long fits = absurd (omega (arith, long))
+below_fits zero (f ∷ []) top long fits = fits
+below_fits zero (f ∷ g ∷ outer) top long fits = absurd (omega (arith, long))
+below_fits (suc n) (f ∷ []) top long fits = absurd (omega (arith, long))
+below_fits (suc n) (f ∷ g ∷ []) top long fits = below_fits n (g ∷ []) top (omega (arith, long)) fits
+below_fits (suc n) (f ∷ g ∷ h ∷ outer) top long fits = below_fits n (g ∷ h ∷ outer) top (omega (arith, long)) fits

@@ -1,0 +1,174 @@
+//! The frames and their search.
+ghost use Rattle.std.specs.Prelude.{◌≡◌, ◌≤◌, ◌<◌, ◌+◌, ◌-◌, ◌*◌, ◌^◌, ◌++◌, ◌∷◌, [], ℕ, List, length, map, All, IfSome, IsOk, OnOk, OnErr, slice_get, slice_index};
+ghost use Rattle.shadow_stack.specs.Frames.{FitsPop, FitsSums, IsLastAtMost, IsPopped, IsRising, added, new_frame, plus, restarted, starts_of};
+
+use crate::{Steps, Sums};
+use stamps::Stamp;
+use std::alloc::{AllocError, Global};
+use std::marker::{Brand, Model};
+use std::sync::ledger::{Blank, Ledger};
+
+/// One frame.
+#[derive(Clone, Copy)]
+struct Frame<S: Stamp> {
+    start: S,
+    sums: Sums,
+}
+
+/// Frames by rising start stamps, the outermost first. No call but `push` and `reserve` takes memory, and none but `push`
+/// lowers the room.
+#[derive(Drop)]
+pub struct Frames<S: Stamp> {
+    frames: Vec<Frame<S>>,
+}
+
+impl<S: Stamp> Model for Frames<S> {
+    ghost use Rattle.std.specs.Prelude.{◌-◌, map, vec_len};
+    ghost use Rattle.std.specs.Vec.{vec_capacity};
+    ghost use Rattle.shadow_stack.specs.Frames.{IsRising, Stack};
+
+    ghost Value = { Stack };
+
+    ghost view = { λ f. record {
+      list = map (λ x. record { start = S.number_of x.start; sums = x.sums }) f.frames.items;
+      spare = vec_capacity f.frames - vec_len f.frames;
+    } };
+
+    ghost invariant = { λ f. IsRising (map (λ x. S.number_of x.start) f.frames.items) };
+}
+
+impl<S: Stamp> Frames<S> {
+    /// No frame.
+    pub fn new(alloc: Global) -> Frames<S>
+        ensures { result.list ≡ [] }
+    {
+        Frames {
+            frames: Vec::new(alloc),
+        }
+    }
+
+    /// How many frames there are.
+    pub fn depth(&self) -> usize
+        ensures { result ≡ length self.now.list }
+    {
+        self.frames.len()
+    }
+
+    /// The start stamp of the frame at the place. The starts rise.
+    pub fn start_at(&self, i: usize) -> S
+        requires { i < length self.now.list }
+        ensures start { S.number_of result ≡ slice_index (starts_of self.now.list) i }
+        ensures rising { IsRising (starts_of self.now.list) }
+    {
+        self.frames[i].start
+    }
+
+    /// Makes the room for one more frame.
+    pub fn reserve(&mut self) -> Result<(), AllocError>
+        ensures room { OnOk result (1 ≤ self.new.spare) }
+        ensures list { self.new.list ≡ self.old.list }
+        ensures kept { self.old.spare ≤ self.new.spare }
+    {
+        self.frames.reserve(1)
+    }
+
+    /// One more frame inside all the others, with no sums. It is not refused where there is room.
+    pub fn push(&mut self, start: S) -> Result<(), AllocError>
+        requires { All (λ s. s < S.number_of start) (starts_of self.old.list) }
+        ensures ok { OnOk result (self.new.list ≡ self.old.list ++ new_frame (S.number_of start) ∷ []) }
+        ensures err { OnErr result (self.new.list ≡ self.old.list) }
+        ensures room { 1 ≤ self.old.spare → IsOk result }
+        ensures lowered { self.old.spare ≤ self.new.spare + 1 }
+    {
+        self.frames.push(Frame {
+            start,
+            sums: Sums::NONE,
+        })?;
+        Ok(())
+    }
+
+    /// Adds to the sums of the frame at the place.
+    pub fn add(&mut self, i: usize, by: Sums)
+        requires within { i < length self.old.list }
+        requires fits { IfSome (slice_get self.old.list i) (λ f. FitsSums (plus f.sums by)) }
+        ensures list { self.new.list ≡ added i by self.old.list }
+        ensures kept { self.old.spare ≤ self.new.spare }
+    {
+        let frame = &mut self.frames[i];
+        frame.sums = frame.sums.plus(by);
+    }
+
+    /// Takes the innermost frame, and hands its sums down: they are added to the frame below, if there is one.
+    pub fn pop(&mut self) -> Option<Sums>
+        requires { FitsPop self.old.list }
+        ensures popped { IsPopped self.old.list result self.new.list }
+        ensures kept { self.old.spare ≤ self.new.spare }
+    {
+        let top = self.frames.pop()?;
+        let depth = self.frames.len();
+        if depth > 0 {
+            self.add(depth - 1, top.sums);
+        }
+        Some(top.sums)
+    }
+
+    /// Another start for the frame at the place, where the starts still rise.
+    pub fn renew(&mut self, i: usize, start: S)
+        requires within { i < length self.old.list }
+        requires rising { IsRising (starts_of (restarted i (S.number_of start) self.old.list)) }
+        ensures list { self.new.list ≡ restarted i (S.number_of start) self.old.list }
+        ensures kept { self.old.spare ≤ self.new.spare }
+    {
+        let frame = &mut self.frames[i];
+        frame.start = start;
+    }
+
+    /// The innermost frame whose start is at most the stamp. A step is one comparison with a start.
+    pub fn find<L: Ledger>(&self, stamp: S, steps: &mut Steps<L>) -> Option<usize>
+        ensures found { IsLastAtMost (starts_of self.now.list) (S.number_of stamp) result }
+        ensures cost { 2 ^ (steps.new - steps.old) ≤ 2 * length self.now.list + 1 }
+    {
+        first_above(&self.frames, stamp.number(), steps).checked_sub(1)
+    }
+}
+
+/// How many frames, from the outermost on, have a start at most n.
+fn first_above<S: Stamp, L: Ledger>(frames: &[Frame<S>], n: u32, steps: &mut Steps<L>) -> usize
+    requires { IsRising (map (λ x. S.number_of x.start) frames.now) }
+    ensures within { result ≤ length frames.now }
+    ensures below { (i : ℕ) → i < result → slice_index (map (λ x. S.number_of x.start) frames.now) i ≤ n }
+    ensures above { (i : ℕ) → result ≤ i → i < length frames.now → n < slice_index (map (λ x. S.number_of x.start) frames.now) i }
+    ensures cost { 2 ^ (steps.new - steps.old) ≤ 2 * length frames.now + 1 }
+{
+    let mut low = 0;
+    let mut high = frames.len();
+    while low < high {
+        let middle = low + (high - low) / 2;
+        let start = frames[middle].start.number();
+        steps.tick();
+        if start <= n {
+            low = middle + 1;
+        } else {
+            high = middle;
+        }
+    }
+    low
+}
+
+/// The same search, with a count of its own in the ledger of `blank`.
+fn find_with<S: Stamp, L: Ledger>(frames: &Frames<S>, stamp: S, blank: Blank) -> Option<usize>
+    requires name { blank.name ≡ L.name }
+    requires parts { blank.parts ≡ L.parts }
+    requires some { 0 < blank.parts }
+    ensures { IsLastAtMost (starts_of frames.now.list) (S.number_of stamp) result }
+{
+    let mut steps = Steps::<L>::new(blank);
+    frames.find(stamp, &mut steps)
+}
+
+/// The innermost frame whose start is at most the stamp, for a caller that keeps no count.
+pub fn last_at_most<S: Stamp>(frames: &Frames<S>, stamp: S) -> Option<usize>
+    ensures { IsLastAtMost (starts_of frames.now.list) (S.number_of stamp) result }
+{
+    find_with::<S, Brand>(frames, stamp, Blank::new(1))
+}

@@ -1,0 +1,15 @@
+//! The frames of a thread, one for each open activation: when it began, and its partial sums, as in the algorithm of Coppa,
+//! Demetrescu and Finocchi ("Input-Sensitive Profiling", PLDI 2012). Contracts see a list of frames, the outermost first, and
+//! beside it the room for further ones.
+#![tactic(auto)]
+
+mod frames;
+mod steps;
+mod sums;
+
+pub use frames::{Frames, last_at_most};
+pub use steps::Steps;
+pub use sums::Sums;
+
+#[cfg(test)]
+mod tests;

@@ -1,0 +1,9 @@
+pub mod Compared
+pub mod Loaded
+pub mod Columns
+pub mod Mapped
+pub mod Folds
+pub mod Read
+pub mod Written
+pub mod Classed
+pub mod Renewed

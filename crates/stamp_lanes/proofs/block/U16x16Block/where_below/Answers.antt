@@ -1,0 +1,6 @@
+use Rattle.std.proofs.Common.{nat_lt, w16}
+use Rattle.stamp_lanes.proofs.Compared.{chosen_lanes}
+use Rattle.stamp_lanes.proofs.block.U16x16Block.where_below.Goals as goal
+
+pub returns : goal.returns
+returns c = chosen_lanes w16 nat_lt _ _ _ _

@@ -1,0 +1,6 @@
+use Rattle.std.proofs.Common.{nat_lt, w32}
+use Rattle.stamp_lanes.proofs.Compared.{counted_lanes}
+use Rattle.stamp_lanes.proofs.block.U32x16Block.count_below.Goals as goal
+
+pub returns : goal.returns
+returns c = counted_lanes w32 nat_lt _ _ c.requires
