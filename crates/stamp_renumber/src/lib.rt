@@ -1,0 +1,7 @@
+//! The tick of a bounded counter. At the greatest stamp all stamps are renumbered: each gets a number of its class, which is
+//! how many activations that are open had begun by then, and the order that a profiler looks at stays.
+#![tactic(auto)]
+
+mod laws;
+
+pub use laws::renumbering_keeps_order;
