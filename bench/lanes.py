@@ -1,0 +1,277 @@
+#!/usr/bin/env python3
+"""bench/lanes.py: host instructions of the lane kernels against plain loops over the same 1024 stamps, at each width, by
+callgrind, as the difference of two numbers of rounds. It proves and builds a program of its own in a folder of its own, over
+this repository's crates stamps and stamp_lanes. It prints a table, and the vector instructions that stand in the kernels."""
+import os
+import re
+import shutil
+import subprocess
+import sys
+import tempfile
+
+TOP = os.path.dirname(os.path.dirname(os.path.abspath(__file__)))
+KERNELS = ["least_greatest", "classes_into", "renew_into", "bulk_read"]
+WIDTHS = {"u8": 255, "u16": 65535, "u32": 4294967295}
+
+HEAD = """\
+//! The lane kernels, and plain loops that do the same.
+#![tactic(auto)]
+ghost use Rattle.std.specs.Prelude.{◌≡◌, ◌≤◌, ◌+◌, ◌*◌, All, map, true};
+
+use stamp_lanes::{Bulk, Lanes};
+use std::env;
+use std::process::ExitCode;
+
+const PLACES: usize = 1024;
+"""
+
+# One width: STAMP is the type, and NAME stands in the names of the functions.
+WIDTH = """
+// Stamps that are at most 15.
+fn column_NAME(seed: u32) -> [STAMP; PLACES] {
+    let mut number = seed;
+    let mut column = [0; PLACES];
+    for i in 0..PLACES {
+        number = number.wrapping_mul(1_664_525).wrapping_add(1_013_904_223);
+        column[i] = ((number >> 28) & 15) as STAMP;
+    }
+    column
+}
+
+fn plain_extremes_NAME(stamps: &[STAMP]) -> Option<(STAMP, STAMP)> {
+    let mut found = None;
+    for stamp in stamps {
+        let n = *stamp;
+        found = match found {
+            None => Some((n, n)),
+            Some((least, greatest)) => Some((n.min(least), n.max(greatest))),
+        };
+    }
+    found
+}
+
+fn extremes_NAME(by_lanes: bool, rounds: usize) -> u32 {
+    let mut stamps = column_NAME(1);
+    let mut sum = 0_u32;
+    for round in 0..rounds {
+        let at = round % PLACES;
+        stamps[at] = stamps[PLACES - 1 - at];
+        let found = if by_lanes {
+            STAMP::least_greatest(&stamps)
+        } else {
+            plain_extremes_NAME(&stamps)
+        };
+        if let Some((least, greatest)) = found {
+            sum = sum.wrapping_add(u32::from(least ^ greatest));
+        }
+    }
+    sum
+}
+
+fn plain_classes_NAME(stamps: &[STAMP], starts: &[STAMP], into: &mut [STAMP]) {
+    for i in 0..stamps.len().min(into.len()) {
+        let mut class: STAMP = 0;
+        for start in starts {
+            if *start <= stamps[i] {
+                class = class.wrapping_add(1);
+            }
+        }
+        into[i] = class;
+    }
+}
+
+fn classes_NAME(by_lanes: bool, rounds: usize) -> u32 {
+    let mut stamps = column_NAME(2);
+    let starts: [STAMP; 4] = [3, 5, 8, 12];
+    let mut into: [STAMP; PLACES] = [0; PLACES];
+    let mut sum = 0_u32;
+    for round in 0..rounds {
+        let at = round % PLACES;
+        stamps[at] = stamps[PLACES - 1 - at];
+        if by_lanes {
+            STAMP::classes_into(&stamps, &starts, 0, &mut into);
+        } else {
+            plain_classes_NAME(&stamps, &starts, &mut into);
+        }
+        sum = sum.wrapping_add(u32::from(into[at]));
+    }
+    sum
+}
+
+fn plain_renewals_NAME(own: &[STAMP], own_class: &[STAMP], write: &[STAMP], write_class: &[STAMP], into: &mut [STAMP]) {
+    let places = own.len().min(own_class.len()).min(write.len()).min(write_class.len()).min(into.len());
+    for i in 0..places {
+        let first = own_class[i].wrapping_mul(3);
+        into[i] = if own[i] == 0 {
+            0
+        } else if own_class[i] != write_class[i] || own[i] < write[i] {
+            first
+        } else if own[i] == write[i] {
+            first.wrapping_add(1)
+        } else {
+            first.wrapping_add(2)
+        };
+    }
+}
+
+// Whether there are three stamps for each class.
+fn are_few_NAME(classes: &[STAMP]) -> bool
+    ensures { result ≡ true → All (λ k. 3 * k + 2 ≤ MOST) classes.now }
+{
+    classes.iter().all(|class| 3 * u64::from(*class) + 2 <= MOST)
+}
+
+fn renewals_NAME(by_lanes: bool, rounds: usize) -> u32 {
+    let mut own = column_NAME(3);
+    let write = column_NAME(4);
+    let class: [STAMP; PLACES] = [2; PLACES];
+    let mut into: [STAMP; PLACES] = [0; PLACES];
+    let mut sum = 0_u32;
+    if !are_few_NAME(&class) {
+        return 0;
+    }
+    for round in 0..rounds {
+        let at = round % PLACES;
+        own[at] = own[PLACES - 1 - at];
+        if by_lanes {
+            STAMP::renew_into(&own, &class, &write, &class, &mut into);
+        } else {
+            plain_renewals_NAME(&own, &class, &write, &class, &mut into);
+        }
+        sum = sum.wrapping_add(u32::from(into[at]));
+    }
+    sum
+}
+
+fn plain_read_NAME(own: &mut [STAMP], write: &[STAMP], marks: &[u8], start: STAMP, now: STAMP) -> Bulk {
+    let mut counts = Bulk {
+        plain: 0,
+        thread: 0,
+        kernel: 0,
+        untouched: 0,
+        old: 0,
+    };
+    let places = own.len().min(write.len()).min(marks.len());
+    for i in 0..places {
+        let (touch, other) = (own[i], write[i]);
+        if touch == 0 {
+            counts.untouched = counts.untouched.wrapping_add(1);
+            if other == 0 {
+                counts.plain = counts.plain.wrapping_add(1);
+            }
+        } else if touch < start {
+            counts.old = counts.old.wrapping_add(1);
+        }
+        if touch < other {
+            match marks[i] {
+                0 => counts.thread = counts.thread.wrapping_add(1),
+                _ => counts.kernel = counts.kernel.wrapping_add(1),
+            }
+        }
+    }
+    if counts.old == 0 {
+        for i in 0..places {
+            own[i] = now;
+        }
+    }
+    counts
+}
+
+fn reads_NAME(by_lanes: bool, rounds: usize) -> u32 {
+    let mut own = column_NAME(5);
+    let mut write = column_NAME(6);
+    let marks = [0_u8; PLACES];
+    let mut sum = 0_u32;
+    for round in 0..rounds {
+        let at = round % PLACES;
+        write[at] = write[PLACES - 1 - at];
+        let counts = if by_lanes {
+            STAMP::bulk_read(&mut own, &write, &marks, 1, 9)
+        } else {
+            plain_read_NAME(&mut own, &write, &marks, 1, 9)
+        };
+        sum = sum.wrapping_add(counts.thread ^ counts.plain);
+    }
+    sum
+}
+
+fn run_NAME(kernel: usize, by_lanes: bool, rounds: usize) -> u32 {
+    match kernel {
+        0 => extremes_NAME(by_lanes, rounds),
+        1 => classes_NAME(by_lanes, rounds),
+        2 => renewals_NAME(by_lanes, rounds),
+        _ => reads_NAME(by_lanes, rounds),
+    }
+}
+"""
+
+MAIN = """
+// The words: the kernel's number, the width's number, whether by lanes, the rounds.
+fn main(rt: HostRuntime) -> ExitCode {
+    let mut numbers = [0_usize; 4];
+    if let Ok(args) = env::args(&rt) {
+        let mut place = 0_usize;
+        for word in args.skip(1).take(4) {
+            if let Ok(number) = word.parse::<u32>() {
+                if place < 4 {
+                    numbers[place] = number as usize;
+                    place += 1;
+                }
+            }
+        }
+    }
+    let [kernel, width, by_lanes, rounds] = numbers;
+    let sum = match width {
+        0 => run_u8(kernel, by_lanes == 1, rounds),
+        1 => run_u16(kernel, by_lanes == 1, rounds),
+        _ => run_u32(kernel, by_lanes == 1, rounds),
+    };
+    ExitCode::from((sum & 1) as u8)
+}
+"""
+
+
+def build(room):
+    """Builds the program in the folder and returns its path."""
+    for crate in ("stamps", "stamp_lanes"):
+        shutil.copytree(f"{TOP}/crates/{crate}", f"{room}/crates/{crate}")
+    os.makedirs(f"{room}/crates/lanes_bench/src")
+    with open(f"{room}/crates/lanes_bench/src/main.rt", "w", encoding="utf-8") as it:
+        it.write(HEAD)
+        for width, most in WIDTHS.items():
+            it.write(WIDTH.replace("STAMP", width).replace("NAME", width).replace("MOST", str(most)))
+        it.write(MAIN)
+    with open(f"{room}/crates.txt", "w", encoding="utf-8") as it:
+        it.write("stamps:\nstamp_lanes: stamps\nlanes_bench: stamps stamp_lanes\n")
+    ran = subprocess.run(["rt", "run"], cwd=f"{room}/crates/lanes_bench", capture_output=True, text=True)
+    program = f"{room}/crates/lanes_bench/out/lanes_bench"
+    if not os.path.exists(program):
+        sys.exit(ran.stdout[-3000:] + ran.stderr[-3000:])
+    return program
+
+
+def instructions(program, words):
+    """The host instructions of one run."""
+    how = ["valgrind", "--tool=callgrind", "--callgrind-out-file=/dev/null", program, *map(str, words)]
+    said = subprocess.run(how, capture_output=True, text=True).stderr
+    return int(re.search(r"Collected : (\d+)", said)[1])
+
+
+def main():
+    with tempfile.TemporaryDirectory(prefix="lanes-") as room:
+        program = build(room)
+        print("| Kernel | Width | Plain | Lanes | Times |")
+        print("|---|---|---|---|---|")
+        for k, kernel in enumerate(KERNELS):
+            for w, width in enumerate(WIDTHS):
+                costs = []
+                for by_lanes in (0, 1):
+                    few, many = (instructions(program, [k, w, by_lanes, rounds]) for rounds in (10, 110))
+                    costs.append((many - few) / 100)
+                print(f"| {kernel} | {width} | {costs[0]:.0f} | {costs[1]:.0f} | {costs[0] / costs[1]:.1f} |")
+        said = subprocess.run(["objdump", "-d", program], capture_output=True, text=True).stdout
+        found = sorted(set(re.findall(r"\t(p(?:min|max|cmp|add|and|or|sub|unpck|shuf)\w*)\s", said)))
+        print("\nVector instructions in the program:", " ".join(found))
+
+
+main()
