@@ -1,5 +1,5 @@
 -- The places of pages by page number, in tables of 1024 entries.
-use Rattle.std.specs.Prelude.{◌≡◌, ℕ, ◌<◌, ◌≤◌, ◌/◌, ◌%◌, ◌^◌, ◌⊎◌, List, [], Option, None, length, get_or}
+use Rattle.std.specs.Prelude.{◌≡◌, ◌≢◌, ℕ, ◌<◌, ◌≤◌, ◌/◌, ◌%◌, ◌^◌, ◌⊎◌, List, [], Option, None, length, get_or}
 
 -- the table of a page: empty where there is none
 abbrev pub table_of : List (List (Option ℕ)) → ℕ → List (Option ℕ)
@@ -21,3 +21,7 @@ pub record HasTable (d : List (List (Option ℕ))) (number : ℕ) : Type 0 where
 
 abbrev pub HaveTables : List (List (Option ℕ)) → ℕ → ℕ → Type 0
 HaveTables d first end = (n : ℕ) → first ≤ n → n < end → HasTable d n
+
+-- none of the pages has its entry in the table of this one
+abbrev pub IsApart : ℕ → ℕ → ℕ → Type 0
+IsApart first end number = (m : ℕ) → first ≤ m → m < end → number / 2 ^ 10 ≢ m / 2 ^ 10

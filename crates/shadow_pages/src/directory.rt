@@ -1,6 +1,6 @@
 //! The places of pages, by page number.
-ghost use Rattle.std.specs.Prelude.{◌≡◌, ◌≢◌, ◌<◌, ◌≤◌, ◌^◌, ℕ, List, [], None, Some, IfOk, OnOk, map, replicate};
-ghost use Rattle.shadow_pages.specs.Directory.{IsDirectory, HasTable, HaveTables, entry};
+ghost use Rattle.std.specs.Prelude.{◌≡◌, ◌≢◌, ◌<◌, ◌≤◌, ◌/◌, ◌^◌, ℕ, List, [], None, Some, IfOk, OnOk, map, replicate};
+ghost use Rattle.shadow_pages.specs.Directory.{IsApart, IsDirectory, HasTable, HaveTables, entry, table_of};
 
 use std::alloc::{AllocError, Global};
 use std::marker::Model;
@@ -52,6 +52,7 @@ impl Directory {
         ensures entries { (n : ℕ) → entry self.new n ≡ entry self.old n }
         ensures placed { OnOk result (HasTable self.new number) }
         ensures others { (n : ℕ) → HasTable self.old n → HasTable self.new n }
+        ensures only { (n : ℕ) → n / 2 ^ 10 ≢ number / 2 ^ 10 → table_of self.new n ≡ table_of self.old n }
     {
         let index = (number >> 10) as usize;
         if self.tables[index].is_empty() {
@@ -61,11 +62,12 @@ impl Directory {
         Ok(())
     }
 
-    /// Makes the tables of all pages from the first on, up to the end.
+    /// Makes the tables of all pages from the first on, up to the end, and no others.
     pub fn reserve_all(&mut self, alloc: Global, first: u32, end: u32) -> Result<(), AllocError>
         requires { end ≤ 2 ^ 20 }
         ensures entries { (n : ℕ) → entry self.new n ≡ entry self.old n }
         ensures placed { OnOk result (HaveTables self.new first end) }
+        ensures only { (n : ℕ) → IsApart first end n → table_of self.new n ≡ table_of self.old n }
     {
         for number in first..end {
             self.reserve(alloc, number)?;

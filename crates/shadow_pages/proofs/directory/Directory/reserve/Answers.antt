@@ -1,6 +1,7 @@
-use Rattle.std.proofs.Common.{◌≡◌, ◌∙◌, ◌<◌, ◌==◌, true, ℕ, [], ap, sym, subst, length, map, ◌/◌, ◌^◌, arith, get_or, set}
+use Rattle.std.proofs.Common.{◌≡◌, ◌∙◌, ◌<◌, ◌==◌, true, ℕ, [], ap, sym, subst, length, map, ◌/◌, ◌^◌, arith, get_or, set, replicate, None}
 use Rattle.std.proofs.lemmas.Bool.Decides.{nat_tests}
-use Rattle.shadow_pages.specs.Directory.{HasTable, IsDirectory, entry}
+use Rattle.std.proofs.lemmas.List.{get_or-set_other}
+use Rattle.shadow_pages.specs.Directory.{HasTable, IsDirectory, entry, table_of}
 use Rattle.shadow_pages.proofs.Directories.{table_seen, with_table, table_added, table_read, directory_with_table, entry_with_table, has_new_table, table_with_table}
 use Rattle.shadow_pages.proofs.directory.Directory.reserve.Goals as goal
 use Rattle.shadow_pages.proofs.directory.Directory.reserve.Goals.{After-drop-index_mut}
@@ -33,3 +34,6 @@ returns-in_ok-table-clause-placed c = subst (λ (d : _). HasTable d c.args.numbe
 
 pub returns-in_ok-table-clause-others : goal.returns-in_ok-table-clause-others
 returns-in_ok-table-clause-others c = λ n has. subst (λ (d : _). HasTable d n) (sym (after c)) (table_with_table c.args.self.now (c.args.number / 2 ^ 10) n (inside c) (was_empty c) has)
+
+pub returns-in_ok-table-clause-only : goal.returns-in_ok-table-clause-only
+returns-in_ok-table-clause-only c = λ n ne. ap (λ d. table_of d n) (after c) ∙ get_or-set_other c.args.self.now (c.args.number / 2 ^ 10) (n / 2 ^ 10) (replicate 1024 None) [] ne
