@@ -1,0 +1,47 @@
+-- The stamp table gives the sizes of the definitions, whatever the greatest stamp is.
+use Rattle.std.specs.Prelude.{◌≡◌, ℕ, ◌≤◌, true, List, [], ◌∷◌}
+use Rattle.trace_model.specs.declared.event_kinds.Event.{Event}
+use Rattle.trace_model.specs.Depth.{is_within}
+use Rattle.trace_model.specs.Profile.{ended, done}
+use Rattle.trace_model.specs.WellFormed.{IsWellFormed}
+use Rattle.shadow_core.specs.Table.{Table, empty_table, table_at, table_after, table_of, finished, finished_of}
+use Rattle.shadow_core.specs.Renewal.{bounded_tick}
+use Rattle.shadow_core.specs.Counting.{counter_of}
+use Rattle.shadow_core.specs.Stands.{Agrees, IsCounted, Stands}
+
+-- the empty table stands for the empty past
+abbrev pub EmptyStands : Type 0
+EmptyStands = (most : ℕ) → 3 ≤ most → Stands most empty_table []
+
+-- each event that may follow keeps that the table agrees with the past, renumbered or not
+abbrev pub AgreesOn : Type 0
+AgreesOn = (most : ℕ) (e : Event) (table : Table) (past : List Event) → IsWellFormed (e ∷ past) → Agrees table past →
+    Agrees (table_after (bounded_tick most) e table) (e ∷ past)
+
+-- and that it counts what the trace counts
+abbrev pub CountsOn : Type 0
+CountsOn = (most : ℕ) (e : Event) (table : Table) (past : List Event) → IsWellFormed (e ∷ past) → Agrees table past → IsCounted most table past →
+    IsCounted most (table_after (bounded_tick most) e table) (e ∷ past)
+
+-- so each that fits keeps that the table stands for the past
+abbrev pub StandsOn : Type 0
+StandsOn = (most : ℕ) (e : Event) (table : Table) (past : List Event) → IsWellFormed (e ∷ past) → is_within most (e ∷ past) ≡ true →
+    Stands most table past → Stands most (table_after (bounded_tick most) e table) (e ∷ past)
+
+-- what is popped at the event is what the definitions say of the activations that it ends
+abbrev pub FinishesWhatEnds : Type 0
+FinishesWhatEnds = (most : ℕ) (e : Event) (table : Table) (past : List Event) → IsWellFormed (e ∷ past) → Agrees table past →
+    finished e (table_at (bounded_tick most) e table) ≡ ended e past
+
+-- over a whole run the table records each ended activation with its size, its parts and its cost
+abbrev pub FinishesWhatIsDone : Type 0
+FinishesWhatIsDone = (most : ℕ) (past : List Event) → IsWellFormed past → finished_of (bounded_tick most) past ≡ done past
+
+-- the table of a run agrees with its trace, and counts what it counts
+abbrev pub RunsAgree : Type 0
+RunsAgree = (most : ℕ) (past : List Event) → IsWellFormed past →
+    Agrees (table_of (bounded_tick most) past) past × IsCounted most (table_of (bounded_tick most) past) past
+
+-- where a past fits, so does the counter at the event that follows
+abbrev pub CounterFits : Type 0
+CounterFits = (most : ℕ) (e : Event) (past : List Event) → is_within most past ≡ true → counter_of most (e ∷ past) ≤ most

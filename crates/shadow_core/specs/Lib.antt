@@ -1,0 +1,9 @@
+pub mod Frames
+pub mod Table
+pub mod Renewal
+pub mod Counting
+pub mod Stands
+pub mod Laws
+pub mod Allows
+pub mod Bulk
+pub mod Worked

@@ -1,0 +1,216 @@
+-- The stamp table, and what each event makes of it. The frames and the calls of a thread come the innermost first.
+use Rattle.std.specs.Prelude.{ℕ, ◌+◌, ◌-◌, ℤ, pos, negsuc, Bool, true, false, not, if◌then◌else◌, nat_eq, List, [], ◌∷◌, ◌++◌, drop, map, Option, Some, None, count_by}
+use Rattle.std.specs.List.{range_with_len}
+use Rattle.std.specs.Option.{option_map_or}
+use Rattle.guest_words.specs.ByThread.{value_of, with_value, without_thread}
+use Rattle.trace_model.specs.declared.event_kinds.Event.{Event}
+use Rattle.trace_model.specs.declared.event_kinds.Event.TheVariants.{Step, Read, Write, Fill, Call, Ret, Start, End}
+use Rattle.trace_model.specs.declared.slow_profile.Done.{Done}
+use Rattle.trace_model.specs.Events.{covers}
+use Rattle.trace_model.specs.Activations.{count_ending}
+use Rattle.trace_model.specs.WellFormed.{weight_of}
+use Rattle.stamp_lanes.specs.Plain.{Place, is_by_thread, is_by_kernel}
+use Rattle.shadow_stack.specs.declared.sums.Sums.{Sums}
+use Rattle.shadow_stack.specs.Frames.{Frame, new_frame}
+use Rattle.shadow_core.specs.Frames.{after_reads, after_pops, popped}
+
+-- What a thread has counted: its steps, and the words that it read where another thread, or the kernel, had written last.
+pub record Counts : Type 0 where
+  pub steps : ℕ
+  pub thread : ℕ
+  pub kernel : ℕ
+
+abbrev pub no_counts : Counts
+no_counts = record { steps = 0; thread = 0; kernel = 0 }
+
+-- What is kept of an open activation beside its frame: entry and return address, and the thread's counts when it began.
+pub record OpenCall : Type 0 where
+  pub entry : ℕ
+  pub back : Option ℕ
+  pub earlier : Counts
+
+-- A thread: its frames and open calls, which are as many; the stamp of its last access of each word, 0 for none; its counts.
+pub record Thread : Type 0 where
+  pub frames : List Frame
+  pub calls : List OpenCall
+  pub access : ℕ → ℕ
+  pub counts : Counts
+
+-- The table: the counter; for each word the stamp of the latest write, 0 for none, and a mark, which is 1 where the kernel
+-- made it; the live threads by rising number; and what else tells which event may follow.
+pub record Table : Type 0 where
+  pub counter : ℕ
+  pub write : ℕ → ℕ
+  pub marks : ℕ → ℕ
+  pub threads : List (ℕ × Thread)
+  pub last : Option ℕ
+  pub greatest : ℕ
+  pub weight : ℕ
+  -- how often the stamps were renumbered
+  pub renumbered : ℕ
+
+abbrev pub empty_table : Table
+empty_table = record { counter = 0; write = λ l. 0; marks = λ l. 0; threads = []; last = None; greatest = 0; weight = 0; renumbered = 0 }
+
+-- the words of a range get the stamp
+abbrev pub stamped : ℕ → ℕ → ℕ → (ℕ → ℕ) → ℕ → ℕ
+stamped stamp first count stamps = λ l. if covers first count l then stamp else stamps l
+
+-- the stamps and the marks of words, as a thread's read finds them
+abbrev pub places_read : Table → Thread → List ℕ → List Place
+places_read table thread words = map (λ l. record { own = thread.access l; write = table.write l; mark = table.marks l }) words
+
+-- the thread is changed, if it is there
+abbrev pub changed : ℕ → (Thread → Thread) → List (ℕ × Thread) → List (ℕ × Thread)
+changed t change threads = option_map_or (λ thread. with_value threads t (change thread)) (value_of threads t) threads
+
+-- an activation begins
+abbrev pub begun : ℕ → ℕ → Option ℕ → Thread → Thread
+begun now entry back thread = record thread {
+  frames = new_frame now ∷ thread.frames;
+  calls = record { entry = entry; back = back; earlier = thread.counts } ∷ thread.calls;
+}
+
+abbrev pub no_thread : Thread
+no_thread = record { frames = []; calls = []; access = λ l. 0; counts = no_counts }
+
+-- how many of the thread's activations the event ends
+abbrev pub count_pops : Event → ℕ → Thread → ℕ
+count_pops e t thread = count_ending e t (map (λ c. c.back) thread.calls)
+
+-- ---- The rows: the table after each kind of event, where its tick was made.
+abbrev pub after_start : ℕ → ℕ → Table → Table
+after_start t entry table = record table {
+  threads = table.threads ++ (t, begun table.counter entry None no_thread) ∷ [];
+  greatest = t;
+}
+
+abbrev pub after_call : ℕ → ℕ → ℕ → Table → Table
+after_call t entry back table = record table { threads = changed t (begun table.counter entry (Some back)) table.threads }
+
+abbrev pub after_step : ℕ → Table → Table
+after_step t table = record table {
+  threads = changed t (λ thread. record thread { counts = record thread.counts { steps = thread.counts.steps + 1 } }) table.threads;
+  last = Some t;
+}
+
+-- the words of a Read differ, so each has the stamps from before the event
+abbrev pub thread_after_read : ℕ → ℕ → Table → Thread → Thread
+thread_after_read first count table thread =
+    let places = places_read table thread (range_with_len first count) in
+    record thread {
+      frames = after_reads places thread.frames;
+      access = stamped table.counter first count thread.access;
+      counts = record thread.counts {
+        thread = thread.counts.thread + count_by is_by_thread places;
+        kernel = thread.counts.kernel + count_by is_by_kernel places;
+      };
+    }
+
+abbrev pub after_read : ℕ → ℕ → ℕ → Table → Table
+after_read t first count table = record table { threads = changed t (thread_after_read first count table) table.threads }
+
+abbrev pub after_write : ℕ → ℕ → ℕ → Table → Table
+after_write t first count table = record table {
+  threads = changed t (λ thread. record thread { access = stamped table.counter first count thread.access }) table.threads;
+  write = stamped table.counter first count table.write;
+  marks = stamped 0 first count table.marks;
+}
+
+abbrev pub after_fill : ℕ → ℕ → Table → Table
+after_fill first count table = record table {
+  write = stamped table.counter first count table.write;
+  marks = stamped 1 first count table.marks;
+}
+
+abbrev pub thread_after_ret : ℕ → ℕ → Thread → Thread
+thread_after_ret t target thread =
+    let n = count_pops (Ret t target) t thread in
+    record thread { frames = after_pops n thread.frames; calls = drop n thread.calls }
+
+abbrev pub after_ret : ℕ → ℕ → Table → Table
+after_ret t target table = record table { threads = changed t (thread_after_ret t target) table.threads }
+
+abbrev pub after_end : ℕ → Table → Table
+after_end t table = record table { threads = without_thread table.threads t }
+
+abbrev pub row : Event → Table → Table
+row (Start t entry) table = after_start t entry table
+row (Call t entry back) table = after_call t entry back table
+row (Step t) table = after_step t table
+row (Read t first count) table = after_read t first count table
+row (Write t first count) table = after_write t first count table
+row (Fill first count) table = after_fill first count table
+row (Ret t target) table = after_ret t target table
+row (End t) table = after_end t table
+
+-- ---- Ticks.
+-- the step is by another thread than the step before; the first step is no switch
+abbrev pub is_switch : Option ℕ → ℕ → Bool
+is_switch None t = false
+is_switch (Some last) t = not (nat_eq last t)
+
+-- a tick comes before each Start, Call and Fill, and before a Step by another thread
+abbrev pub ticks : Event → Option ℕ → Bool
+ticks (Start _ _) last = true
+ticks (Call _ _ _) last = true
+ticks (Fill _ _) last = true
+ticks (Step t) last = is_switch last t
+ticks _ last = false
+
+-- the table at the event, by a way to tick
+abbrev pub table_at : (Table → Table) → Event → Table → Table
+table_at tick e table = if ticks e table.last then tick table else table
+
+-- the table after an event whose tick was made
+abbrev pub event_after : Event → Table → Table
+event_after e table = record (row e table) { weight = table.weight + weight_of e }
+
+abbrev pub table_after : (Table → Table) → Event → Table → Table
+table_after tick e table = event_after e (table_at tick e table)
+
+-- the table after all events of the past
+abbrev pub table_of : (Table → Table) → List Event → Table
+table_of tick [] = empty_table
+table_of tick (e ∷ past) = table_after tick e (table_of tick past)
+
+-- ---- What is recorded of activations that end.
+abbrev pub nat_of : ℤ → ℕ
+nat_of (pos n) = n
+nat_of (negsuc n) = 0
+
+-- the sums are those of the popped frame, and the counts those of the thread now
+abbrev pub record_of : ℕ → Counts → Sums → OpenCall → Done
+record_of t counts sums call =
+    let plain = nat_of sums.plain in
+    let by_thread = counts.thread - call.earlier.thread in
+    let by_kernel = counts.kernel - call.earlier.kernel in
+    record {
+      tid = t;
+      entry = call.entry;
+      size = plain + by_thread + by_kernel;
+      cost = counts.steps - call.earlier.steps;
+      plain = plain;
+      thread = by_thread;
+      kernel = by_kernel;
+      bare = nat_of sums.bare;
+    }
+
+abbrev pub records : ℕ → Counts → List Sums → List OpenCall → List Done
+records t counts (s ∷ sums) (c ∷ calls) = record_of t counts s c ∷ records t counts sums calls
+records t counts sums calls = []
+
+abbrev pub records_of : Event → ℕ → Option Thread → List Done
+records_of e t None = []
+records_of e t (Some thread) = records t thread.counts (popped (count_pops e t thread) thread.frames) thread.calls
+
+-- what is recorded at the event, the innermost activation first
+abbrev pub finished : Event → Table → List Done
+finished (Ret t target) table = records_of (Ret t target) t (value_of table.threads t)
+finished (End t) table = records_of (End t) t (value_of table.threads t)
+finished _ table = []
+
+-- over the whole past, in order of ending
+abbrev pub finished_of : (Table → Table) → List Event → List Done
+finished_of tick [] = []
+finished_of tick (e ∷ past) = finished_of tick past ++ finished e (table_at tick e (table_of tick past))
