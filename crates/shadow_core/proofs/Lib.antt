@@ -1,0 +1,5 @@
+pub mod Frames
+pub mod Events
+pub mod Inside
+pub mod Past
+pub mod Threads
