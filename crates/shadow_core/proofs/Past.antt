@@ -30,14 +30,14 @@ still_dead past a t live dead same = false≢true (sym dead ∙ (sym (ap (is_liv
 
 -- an event is of a thread that started
 not_own : (e : Event) (past : List Event) (t : ℕ) → MayFollow e past → is_live past t ≡ false → greatest_start (e ∷ past) < t → thread_of e ≢ Some t
-not_own (Step a) past t may dead low = still_dead past a t may dead
-not_own (Read a first count) past t may dead low = still_dead past a t may.0.0 dead
-not_own (Write a first count) past t may dead low = still_dead past a t may.0.0 dead
+not_own (Step a) past t may dead low own = still_dead past a t may dead own
+not_own (Read a first count) past t may dead low own = still_dead past a t may.0.0 dead own
+not_own (Write a first count) past t may dead low own = still_dead past a t may.0.0 dead own
 not_own (Fill first count) past t may dead low own = cc
-not_own (Call a entry back) past t may dead low = still_dead past a t may.0 dead
-not_own (Ret a target) past t may dead low = still_dead past a t may.0 dead
+not_own (Call a entry back) past t may dead low own = still_dead past a t may.0 dead own
+not_own (Ret a target) past t may dead low own = still_dead past a t may.0 dead own
 not_own (Start a entry) past t may dead low own = omega (arith, low, same_thread a t own)
-not_own (End a) past t may dead low = still_dead past a t may dead
+not_own (End a) past t may dead low own = still_dead past a t may dead own
 
 -- it has done nothing, and sees each write as another's
 pub record IsUnstarted (past : List Event) (t : ℕ) : Type 0 where
