@@ -3,3 +3,4 @@ pub mod Events
 pub mod Inside
 pub mod Past
 pub mod Threads
+pub mod Kept
