@@ -4,3 +4,4 @@ pub mod Inside
 pub mod Past
 pub mod Threads
 pub mod Kept
+pub mod Own
