@@ -5,3 +5,4 @@ pub mod Past
 pub mod Threads
 pub mod Kept
 pub mod Own
+pub mod Whole

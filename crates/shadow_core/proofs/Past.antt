@@ -108,7 +108,7 @@ rooted-drop (suc n) (b ∷ c ∷ bs) low h = rooted-drop n (c ∷ bs) (omega (ar
 abbrev IsRooted : List Event → ℕ → Type 0
 IsRooted past t = is_live past t ≡ true → ends_in_root (backs (open_calls past t)) ≡ true
 
-of_thread : (o : Option ℕ) (t : ℕ) → (o ≡ Some t) ⊎ (o ≢ Some t)
+pub of_thread : (o : Option ℕ) (t : ℕ) → (o ≡ Some t) ⊎ (o ≢ Some t)
 of_thread None t = inr (λ e. cc)
 of_thread (Some a) t = elim (cases_eq a t) [ inl e ↦ inl (ap (λ n. Some n) e) | inr n ↦ inr (λ e. n (same_thread a t e)) ]
 
