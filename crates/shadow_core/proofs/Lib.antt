@@ -6,3 +6,4 @@ pub mod Threads
 pub mod Kept
 pub mod Own
 pub mod Whole
+pub mod Renewed

@@ -303,9 +303,4 @@ popped_are e table past t i =
 pub event_finishes : (e : Event) (table : Table) (past : List Event) → MayFollow e past → Agrees table past → finished e table ≡ ended e past
 event_finishes (Ret t target) table past may s = popped_are (Ret t target) table past t (there table past t s may.0)
 event_finishes (End t) table past may s = popped_are (End t) table past t (there table past t s may)
-event_finishes (Step t) table past may s = refl
-event_finishes (Read t first count) table past may s = refl
-event_finishes (Write t first count) table past may s = refl
-event_finishes (Fill first count) table past may s = refl
-event_finishes (Call t entry back) table past may s = refl
-event_finishes (Start t entry) table past may s = refl
+event_finishes e table past may s = refl
