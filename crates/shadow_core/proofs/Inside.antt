@@ -57,7 +57,7 @@ gained past t a l = record {
   bare = pos (cond (not (accessed (since past a.at) t l)) 1 0);
 }
 
-gains : (p q : ℕ → Bool) (words : List ℕ) (n m : ℕ) →
+pub gains : (p q : ℕ → Bool) (words : List ℕ) (n m : ℕ) →
     with_gains (λ l. record { plain = pos (cond (p l) 1 0); bare = pos (cond (q l) 1 0) }) words (record { plain = pos n; bare = pos m })
     ≡ record { plain = pos (n + count_by p words); bare = pos (m + count_by q words) }
 gains p q [] n m = same_sums _ _ (omega (arith, ints)) (omega (arith, ints))

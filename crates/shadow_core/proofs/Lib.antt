@@ -7,3 +7,5 @@ pub mod Kept
 pub mod Own
 pub mod Whole
 pub mod Renewed
+pub mod Counted
+pub mod Runs

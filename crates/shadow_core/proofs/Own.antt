@@ -52,7 +52,7 @@ there table past t s live = by (value_of table.threads t) refl
     by None found = absurd (false≢true (sym (ap is_some found) ∙ s.live t ∙ live))
     by (Some thread) found = record { thread = thread; found = found; stands = s.threads t thread found }
 
-zip-length : {A B : Type 0} (P : A → B → Type 0) (xs : List A) (ys : List B) → AllZip P xs ys → length xs ≡ length ys
+pub zip-length : {A B : Type 0} (P : A → B → Type 0) (xs : List A) (ys : List B) → AllZip P xs ys → length xs ≡ length ys
 zip-length P [] [] h = refl
 zip-length P [] (y ∷ ys) h = absurd h
 zip-length P (x ∷ xs) [] h = absurd h

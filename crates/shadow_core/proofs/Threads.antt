@@ -45,7 +45,7 @@ abbrev pub frames_of : Option Thread → ℕ
 frames_of None = 0
 frames_of (Some thread) = length (starts_of thread.frames)
 
-count-cons : (x : ℕ × Thread) (xs : List (ℕ × Thread)) → frame_count (x ∷ xs) ≡ length (starts_of x.1.frames) + frame_count xs
+pub count-cons : (x : ℕ × Thread) (xs : List (ℕ × Thread)) → frame_count (x ∷ xs) ≡ length (starts_of x.1.frames) + frame_count xs
 count-cons x xs = length-append (starts_of x.1.frames) (all_starts xs)
 
 count-with : (xs : List (ℕ × Thread)) (t : ℕ) (v w : Thread) → value_of xs t ≡ Some w →

@@ -93,7 +93,7 @@ pub record IsOther (e : Event) (table : Table) (q : ℕ) : Type 0 where
   pub other : thread_of e ≢ Some q
   pub value : value_of (event_after e table).threads q ≡ value_of table.threads q
 
-of_none : (e : Event) (table : Table) → thread_of e ≡ None → (event_after e table).threads ≡ table.threads
+pub of_none : (e : Event) (table : Table) → thread_of e ≡ None → (event_after e table).threads ≡ table.threads
 of_none (Fill first count) table none = refl
 of_none (Step a) table none = absurd (cc)
 of_none (Read a first count) table none = absurd (cc)
