@@ -9,3 +9,5 @@ pub mod Whole
 pub mod Renewed
 pub mod Counted
 pub mod Runs
+pub mod Room
+pub mod Bulk
