@@ -1,5 +1,5 @@
 -- Frames, the counter and the renumberings are counted as the trace says.
-use Rattle.std.proofs.Common.{inl, inr, ◌≡◌, ℕ, suc, ◌+◌, ◌-◌, ◌*◌, ◌≤◌, Bool, true, false, not, cond, eqb, ltb, ◌&&◌, ◌||◌, List, [], ◌∷◌, ◌++◌, length, drop, map, Option, Some, None, refl, sym, ap, ◌∙◌, arith}
+use Rattle.std.proofs.Common.{inl, inr, ◌≡◌, ℕ, ◌+◌, ◌-◌, ◌*◌, ◌≤◌, Bool, true, false, not, cond, eqb, ltb, ◌&&◌, ◌||◌, List, [], ◌∷◌, length, drop, map, Option, Some, None, refl, sym, ap, ◌∙◌, arith}
 use Rattle.std.specs.Prelude.{is_some}
 use Rattle.std.proofs.lemmas.Bool.{cond-true, eq-eqb, leb-true, ltb-true, and_parts, false≢true}
 use Rattle.std.proofs.lemmas.Bool.Decides.{nat_tests}
@@ -23,7 +23,7 @@ use Rattle.shadow_core.specs.Laws.{CounterFits}
 use Rattle.shadow_core.proofs.Events.{apart, open_calls-apart}
 use Rattle.shadow_core.proofs.Past.{of_thread, same_thread}
 use Rattle.shadow_core.proofs.Threads.{frame_count, frames_of, count-cons}
-use Rattle.shadow_core.proofs.Own.{IsFresh, Change, change, zip-length}
+use Rattle.shadow_core.proofs.Own.{IsFresh, change, zip-length}
 use Rattle.shadow_core.proofs.Whole.{event_agrees, of_none}
 
 -- ---- a thread that does not live has no open activation
@@ -87,10 +87,20 @@ frames_after e table past formed fresh s counted = by (thread_of e) refl
         let c = change e t table past is formed fresh s in
         let old = depth_at table past t formed.2 s in
         let new = ap frames_of (sym (c.value t ∙ cond-true (eqb t t) c.new (value_of table.threads t) (eq-eqb t t refl)))
-            ∙ depth_at (event_after e table) (e ∷ past) t formed (event_agrees e table past formed fresh s) in
+        ∙ depth_at (event_after e table) (e ∷ past) t formed (event_agrees e table past formed fresh s) in
         let ending = length-take (count_ending e t (backs (open_calls past t))) (open_calls past t) in
-        omega (arith, c.frames, old, new, calls_counted e past t, begun_own e t (length past) is, open_calls-le-pending past t, counted, ending,
-          ap (λ o. (pending past - count_ended e past o) + count_begun e) is)
+        omega (
+          arith,
+          c.frames,
+          old,
+          new,
+          calls_counted e past t,
+          begun_own e t (length past) is,
+          open_calls-le-pending past t,
+          counted,
+          ending,
+          ap (λ o. (pending past - count_ended e past o) + count_begun e) is,
+        )
 
 -- ---- a tick keeps the frames
 count-renewed : (starts : List ℕ) (write : ℕ → ℕ) (xs : List (ℕ × Thread)) → frame_count (map (λ (x : ℕ × Thread). (x.0, renewed_thread starts write x.1)) xs) ≡ frame_count xs

@@ -1,5 +1,5 @@
 -- What is kept of open activations, as an event follows.
-use Rattle.std.proofs.Common.{◌≡◌, ℕ, suc, ◌+◌, ◌-◌, ◌<◌, ◌≤◌, Bool, true, false, not, cond, ◌&&◌, ◌||◌, List, [], ◌∷◌, ◌++◌, length, map, refl, sym, ap, ◌∙◌, arith, pos}
+use Rattle.std.proofs.Common.{◌≡◌, ℕ, ◌+◌, ◌-◌, ◌<◌, Bool, true, false, not, cond, ◌&&◌, ◌||◌, List, [], ◌∷◌, ◌++◌, length, map, refl, sym, ap, ◌∙◌, arith, pos}
 use Rattle.std.specs.Prelude.{All}
 use Rattle.std.specs.List.{count_by}
 use Rattle.std.proofs.lemmas.Int.{ints}
@@ -7,17 +7,17 @@ use Rattle.std.proofs.lemmas.List.{take-append-drop}
 use Rattle.std.proofs.lemmas.List.Sums.{sum_by-cons}
 use Rattle.std.proofs.lemmas.List.Elements.{All-head, All-tail}
 use Rattle.trace_model.specs.declared.event_kinds.Event.{Event}
-use Rattle.trace_model.specs.declared.event_kinds.Event.TheVariants.{Step, Read, Write, Fill, Call, Ret, Start, End}
+use Rattle.trace_model.specs.declared.event_kinds.Event.TheVariants.{Read, Write, Fill}
 use Rattle.trace_model.specs.declared.event_kinds.Touch.{Touch}
 use Rattle.trace_model.specs.declared.event_kinds.Touch.TheVariants.{Untouched, ByItself, ByOther, ByKernel}
 use Rattle.trace_model.specs.declared.activations.Activation.{Activation}
 use Rattle.trace_model.specs.Events.{covers, words_read, steps_run}
-use Rattle.trace_model.specs.Sizes.{since, before, newer, last_touch, accessed, bare, cost}
+use Rattle.trace_model.specs.Sizes.{since, before, newer, last_touch, accessed, bare}
 use Rattle.trace_model.specs.Causes.{Plain, OtherThread, Kernel, is_by, counts_by, part}
 use Rattle.trace_model.proofs.Causes.{is_foreign, counts_by_is}
 use Rattle.trace_model.proofs.Positions.{since_more, since_none, before_more, before_all}
 use Rattle.shadow_stack.specs.declared.sums.Sums.{Sums}
-use Rattle.shadow_core.specs.Table.{Counts, OpenCall}
+use Rattle.shadow_core.specs.Table.{Counts}
 use Rattle.shadow_core.specs.Stands.{is_by_others, is_filled, counts_of, call_of, sums_of}
 use Rattle.shadow_core.proofs.Frames.{same_sums, with_gains}
 
@@ -72,7 +72,7 @@ sum_more e past t a h =
     let outside = before_more e past (a.at + 1) (omega (arith, h)) in
     (λ i. record { plain = pos (part Plain (inside i) (outside i) t); bare = pos (bare (inside i) t) })
     ∙ sym (gains (λ l. counts_by Plain (since past a.at) (before past (a.at + 1)) t l) (λ l. not (accessed (since past a.at) t l)) (words_read e t)
-      (part Plain (since past a.at) (before past (a.at + 1)) t) (bare (since past a.at) t))
+    (part Plain (since past a.at) (before past (a.at + 1)) t) (bare (since past a.at) t))
 
 pub sums_more : (e : Event) (past : List Event) (t : ℕ) (words : List ℕ) → words_read e t ≡ words → (calls : List Activation) → All (IsBegun past) calls →
     map (sums_of (e ∷ past) t) calls ≡ map (λ a. with_gains (gained past t a) words (sums_of past t a)) calls

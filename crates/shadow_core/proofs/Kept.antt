@@ -1,5 +1,5 @@
 -- What a live thread's part of the table says, after an event that begins or ends activations of it, or does neither.
-use Rattle.std.proofs.Common.{◌≡◌, ◌≢◌, ℕ, zero, suc, ◌+◌, ◌<◌, ◌≤◌, Bool, true, false, not, cond, ltb, leb, ◌&&◌, ◌||◌, List, [], ◌∷◌, ◌++◌, length, drop, map, Option, Some, None, refl, sym, ap, subst, ◌∙◌, arith, pos}
+use Rattle.std.proofs.Common.{◌≡◌, ◌≢◌, ℕ, zero, suc, ◌+◌, ◌<◌, ◌≤◌, Bool, true, false, not, cond, ltb, leb, ◌&&◌, ◌||◌, List, [], ◌∷◌, ◌++◌, length, drop, map, Option, Some, refl, sym, ap, subst, ◌∙◌, arith, pos}
 use Rattle.std.specs.Prelude.{All}
 use Rattle.std.specs.List.{AllZip}
 use Rattle.std.proofs.lemmas.Bool.{lt-leb}
@@ -15,8 +15,8 @@ use Rattle.trace_model.proofs.Ended.{open_calls_begun}
 use Rattle.trace_model.proofs.Positions.{since_more, since_none}
 use Rattle.stamp_lanes.specs.Plain.{Place}
 use Rattle.shadow_stack.specs.declared.sums.Sums.{Sums}
-use Rattle.shadow_stack.specs.Frames.{Frame, starts_of}
-use Rattle.shadow_core.specs.Frames.{no_sums, gain, after_reads, after_pops}
+use Rattle.shadow_stack.specs.Frames.{starts_of}
+use Rattle.shadow_core.specs.Frames.{no_sums, after_reads, after_pops}
 use Rattle.shadow_core.specs.Table.{Counts, OpenCall, Thread, Table, places_read, count_pops}
 use Rattle.shadow_core.specs.Table as rows
 use Rattle.shadow_core.specs.Stands.{is_by_others, counts_of, call_of, sums_of, totals, IsStartOf, IsFalling, outermost, ThreadStands}
@@ -88,8 +88,8 @@ tells : (table : Table) (past : List Event) (t : ℕ) (thread : Thread) → Thre
 tells table past t thread stands l =
     zip-map (IsStartOf past t thread.access) (Tells (place_of table thread) (gained past t) l)
     (λ s a h. ap (λ b. record { plain = pos (cond b 1 0); bare = pos (cond (not (accessed (since past a.at) t l)) 1 0) }) (plain_is past t a.at l)
-        ∙ told (accessed (since past a.at) t l) (is_by_others (last_touch past t l))
-        ∙ (λ i. cond (sym (h l) i) no_sums (record { plain = cond (sym (stands.overwritten l) i) (pos 0) (pos 1); bare = pos 1 })))
+    ∙ told (accessed (since past a.at) t l) (is_by_others (last_touch past t l))
+    ∙ (λ i. cond (sym (h l) i) no_sums (record { plain = cond (sym (stands.overwritten l) i) (pos 0) (pos 1); bare = pos 1 })))
     (starts_of thread.frames) (open_calls past t) stands.starts
 
 -- the totals after a read of words

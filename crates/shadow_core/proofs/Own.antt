@@ -1,6 +1,6 @@
 -- What each event makes of the table's part for its own thread.
-use Rattle.std.proofs.Common.{inl, inr, ◌≡◌, ◌≢◌, ◌⊎◌, ℕ, suc, ◌+◌, ◌<◌, ◌≤◌, Bool, true, false, not, cond, eqb, ltb, leb, ◌&&◌, ◌||◌, List, [], ◌∷◌, ◌++◌, length, take, drop, map, Option, Some, None, refl, sym, ap, subst, ◌∙◌, arith, pos}
-use Rattle.std.specs.Prelude.{◌==◌, All, Contains, is_some}
+use Rattle.std.proofs.Common.{inl, inr, ◌≡◌, ◌⊎◌, ℕ, suc, ◌+◌, ◌<◌, ◌≤◌, Bool, true, false, not, cond, eqb, ltb, leb, ◌&&◌, ◌||◌, List, [], ◌∷◌, length, take, drop, map, Option, Some, None, refl, sym, ap, subst, ◌∙◌, arith}
+use Rattle.std.specs.Prelude.{◌==◌, Contains, is_some}
 use Rattle.std.specs.List.{AllZip, count_by, range_with_len}
 use Rattle.std.proofs.lemmas.Bool.{cond-true, eq-eqb, false≢true, le-leb, le-ltb}
 use Rattle.std.proofs.lemmas.List.{length-map, take-append-drop}
@@ -19,15 +19,15 @@ use Rattle.trace_model.specs.Sizes.{newer, is_own, last_touch}
 use Rattle.trace_model.specs.Causes.{OtherThread, Kernel, is_by}
 use Rattle.trace_model.specs.WellFormed.{is_live, greatest_start, MayFollow, IsWellFormed}
 use Rattle.trace_model.proofs.Pairs.{contains_first}
-use Rattle.stamp_lanes.specs.Plain.{Place, is_by_thread, is_by_kernel}
+use Rattle.stamp_lanes.specs.Plain.{is_by_thread, is_by_kernel}
 use Rattle.shadow_stack.specs.Frames.{starts_of}
-use Rattle.shadow_core.specs.Table.{Counts, Thread, Table, begun, changed, count_pops, event_after, no_counts, no_thread, places_read, stamped, thread_after_read, thread_after_ret, ticks}
+use Rattle.shadow_core.specs.Table.{Counts, Thread, Table, begun, changed, count_pops, event_after, no_thread, places_read, stamped, thread_after_read, thread_after_ret, ticks}
 use Rattle.shadow_core.specs.Stands.{is_by_others, is_filled, counts_of, IsFalling, IsStartOf, outermost, ThreadStands, HasStart, Agrees}
 use Rattle.shadow_core.proofs.Frames.{starts-reads, starts-pops}
 use Rattle.shadow_core.proofs.Inside.{counts_idle, same_counts, kernel_is, other_is}
 use Rattle.shadow_core.proofs.Past.{IsUnstarted, unstarted, rooted, rooted-positive, returned-lt, same_thread}
 use Rattle.shadow_core.proofs.Threads.{value_of-changed, frame_count, frames_of, count-changed, count-pushed, count-without}
-use Rattle.shadow_core.proofs.Kept.{IsStill, StillStands, still_stands, still_thread, BeginsOne, begun_stands, backs-stand, popped_stands, outermost-le}
+use Rattle.shadow_core.proofs.Kept.{IsStill, still_stands, still_thread, begun_stands, backs-stand, popped_stands, outermost-le}
 
 -- the counter is above each stamp of the thread
 pub record IsAbove (stamp : ℕ) (thread : Thread) : Type 0 where

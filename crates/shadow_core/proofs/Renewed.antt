@@ -1,17 +1,17 @@
 -- A tick keeps that the table agrees with the past, and leaves the counter above all stamps, renumbered or not.
-use Rattle.std.proofs.Common.{inl, inr, ◌≡◌, ◌≢◌, ℕ, zero, suc, ◌+◌, ◌*◌, ◌<◌, ◌≤◌, Bool, true, false, not, cond, eqb, ltb, leb, List, [], ◌∷◌, length, map, Option, Some, None, refl, sym, ap, subst, ◌∙◌, arith}
+use Rattle.std.proofs.Common.{inl, inr, ◌≡◌, ℕ, suc, ◌+◌, ◌*◌, ◌<◌, ◌≤◌, true, false, not, cond, eqb, ltb, leb, List, [], ◌∷◌, length, map, Option, Some, None, refl, sym, ap, subst, ◌∙◌, arith}
 use Rattle.std.specs.Prelude.{All, Contains, is_some}
 use Rattle.std.specs.Option.{option_map}
 use Rattle.std.specs.List.{AllZip}
 use Rattle.std.proofs.lemmas.Bool.{cases_lt, lt-ltb, ltb-true, leb-true, le-leb}
 use Rattle.std.proofs.lemmas.Bool.Decides.{nat_tests}
-use Rattle.guest_words.specs.ByThread.{IsRising, numbers, value_of}
+use Rattle.guest_words.specs.ByThread.{IsRising, value_of}
 use Rattle.guest_words.proofs.ThreadTables.{numbers-seen, value_of-seen}
 use Rattle.trace_model.specs.declared.event_kinds.Event.{Event}
 use Rattle.trace_model.specs.declared.activations.Activation.{Activation}
 use Rattle.trace_model.specs.Activations.{open_calls}
 use Rattle.trace_model.specs.WellFormed.{greatest_start}
-use Rattle.trace_model.proofs.Pairs.{contains_first, contains_from_map}
+use Rattle.trace_model.proofs.Pairs.{contains_from_map}
 use Rattle.shadow_stack.specs.declared.sums.Sums.{Sums}
 use Rattle.shadow_stack.specs.Frames.{Frame, plus, starts_of}
 use Rattle.stamp_renumber.specs.Classes.{new_start, new_write, new_access}

@@ -1,5 +1,5 @@
 -- What a table allows, what fits, and how great sums and counts are.
-use Rattle.std.proofs.Common.{◌≡◌, ℕ, zero, suc, ◌+◌, ◌-◌, ◌*◌, ◌≤◌, Bool, true, false, not, cond, eqb, leb, ◌&&◌, ◌||◌, List, [], ◌∷◌, ◌++◌, length, map, get_or, Some, refl, sym, ap, subst, ◌∙◌, arith, pos}
+use Rattle.std.proofs.Common.{◌≡◌, ℕ, ◌+◌, ◌*◌, ◌≤◌, Bool, true, false, not, eqb, leb, ◌&&◌, ◌||◌, List, [], ◌∷◌, length, get_or, refl, sym, ap, subst, ◌∙◌, arith, pos}
 use Rattle.std.specs.Prelude.{All, ◌≤ℤ◌}
 use Rattle.std.specs.List.{count_by, range_with_len}
 use Rattle.std.proofs.lemmas.Bool.{le-leb}
@@ -12,14 +12,14 @@ use Rattle.trace_model.specs.Activations.{open_calls}
 use Rattle.trace_model.specs.Sizes.{since, before, accessed, bare, last_touch}
 use Rattle.trace_model.specs.Causes.{Plain, OtherThread, Kernel, counts_by, is_by, part}
 use Rattle.trace_model.specs.WellFormed.{weight}
-use Rattle.trace_model.specs.Depth.{count_begun, is_within, pending}
+use Rattle.trace_model.specs.Depth.{count_begun, pending}
 use Rattle.trace_model.proofs.Bounds.{weight-append, pairs-le-weight, cost-le-weight, count_range-le}
 use Rattle.shadow_stack.specs.declared.sums.Sums.{Sums}
 use Rattle.shadow_stack.specs.Frames.{Frame, plus}
 use Rattle.shadow_core.specs.Frames.{no_sums, after_reads}
-use Rattle.shadow_core.specs.Table.{Counts, Table, places_read}
+use Rattle.shadow_core.specs.Table.{Counts, places_read}
 use Rattle.shadow_core.specs.Renewal.{all_starts}
-use Rattle.shadow_core.specs.Stands.{sums_of, totals, Agrees, Stands}
+use Rattle.shadow_core.specs.Stands.{sums_of, totals}
 use Rattle.shadow_core.specs.Allows.{IsWithin, AllowsWhatMayFollow, CountsStayWithin, FitsByFrames, SumsStayWithin}
 use Rattle.shadow_core.proofs.Frames.{with_gains}
 use Rattle.shadow_core.proofs.Inside.{gained, gains, inside_before}

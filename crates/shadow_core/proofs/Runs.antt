@@ -1,13 +1,12 @@
 -- The laws of the table, by what an event and a tick make of it.
-use Rattle.std.proofs.Common.{◌≡◌, ℕ, ◌+◌, ◌≤◌, Bool, true, false, not, cond, ltb, ◌&&◌, List, [], ◌∷◌, ◌++◌, refl, sym, ap, ◌∙◌, arith}
+use Rattle.std.proofs.Common.{◌≡◌, ℕ, ◌+◌, ◌≤◌, Bool, true, false, not, cond, ltb, ◌&&◌, List, [], ◌∷◌, ◌++◌, refl, sym, ◌∙◌, arith}
 use Rattle.std.proofs.lemmas.Bool.{false≢true, le-leb}
 use Rattle.std.proofs.lemmas.List.Elements.{All-nil}
 use Rattle.trace_model.specs.declared.event_kinds.Event.{Event}
-use Rattle.trace_model.specs.WellFormed.{greatest_start, IsWellFormed}
-use Rattle.shadow_core.specs.Table.{Table, empty_table, event_after, table_at, table_of, ticks}
+use Rattle.shadow_core.specs.Table.{Table, empty_table, table_at, table_of, ticks}
 use Rattle.shadow_core.specs.Renewal.{bounded_tick}
 use Rattle.shadow_core.specs.Counting.{next_counter}
-use Rattle.shadow_core.specs.Stands.{Agrees, IsCounted, Stands}
+use Rattle.shadow_core.specs.Stands.{Agrees}
 use Rattle.shadow_core.specs.Laws.{AgreesOn, EmptyStands, CountsOn, StandsOn, FinishesWhatEnds, FinishesWhatIsDone, RunsAgree}
 use Rattle.shadow_core.proofs.Own.{IsFresh}
 use Rattle.shadow_core.proofs.Whole.{counter_after, event_agrees, event_finishes}

@@ -1,6 +1,6 @@
 -- The table agrees with the past after each event, and what it pops is what ends there.
-use Rattle.std.proofs.Common.{inl, inr, ◌≡◌, ◌≢◌, ◌⊎◌, ℕ, zero, suc, ◌+◌, ◌-◌, ◌<◌, ◌≤◌, Bool, true, false, not, cond, eqb, ltb, leb, ◌&&◌, ◌||◌, List, [], ◌∷◌, ◌++◌, length, take, map, Option, Some, None, refl, sym, ap, subst, ◌∙◌, arith, pos}
-use Rattle.std.specs.Prelude.{◌==◌, All, is_some, max}
+use Rattle.std.proofs.Common.{inl, inr, ◌≡◌, ◌≢◌, ◌⊎◌, ℕ, zero, suc, ◌+◌, ◌-◌, ◌<◌, ◌≤◌, Bool, true, false, not, cond, eqb, ltb, leb, ◌&&◌, ◌||◌, List, [], ◌∷◌, ◌++◌, take, map, Option, Some, None, refl, sym, ap, subst, ◌∙◌, arith}
+use Rattle.std.specs.Prelude.{◌==◌, All, is_some}
 use Rattle.std.proofs.lemmas.Bool.{cond-true, cond-false, eq-eqb, ne_eqb, eqb-true, false≢true, lt-ltb}
 use Rattle.std.proofs.lemmas.List.{map-append, take-map}
 use Rattle.std.proofs.lemmas.List.Elements.{All-nil, All-cons, All-append, All-contains, All-same, All-weaker}
@@ -16,9 +16,9 @@ use Rattle.trace_model.specs.Causes.{OtherThread, Kernel, part, caused}
 use Rattle.trace_model.specs.Profile.{done_of, ended}
 use Rattle.trace_model.specs.WellFormed.{is_live, last_step, greatest_start, weight_of, MayFollow, IsWellFormed}
 use Rattle.trace_model.proofs.Causes.{foreign_parts_are_counts, parts-sum}
-use Rattle.shadow_core.specs.Frames.{no_sums, popped}
-use Rattle.shadow_core.specs.Table.{Counts, OpenCall, Thread, Table, begun, count_pops, event_after, finished, is_switch, no_thread, record_of, records, records_of, thread_after_read, thread_after_ret, ticks}
-use Rattle.shadow_core.specs.Stands.{is_by_others, is_written, is_filled, writes_word, counts_of, call_of, sums_of, totals, IsFalling, ThreadStands, HasStart, Agrees}
+use Rattle.shadow_core.specs.Frames.{popped}
+use Rattle.shadow_core.specs.Table.{Thread, Table, begun, count_pops, event_after, finished, is_switch, no_thread, record_of, records, records_of, ticks}
+use Rattle.shadow_core.specs.Stands.{is_by_others, is_written, is_filled, writes_word, counts_of, call_of, sums_of, IsFalling, ThreadStands, HasStart, Agrees}
 use Rattle.shadow_core.proofs.Frames.{popped-totals}
 use Rattle.shadow_core.proofs.Events.{apart}
 use Rattle.shadow_core.proofs.Inside.{inside_before, counts_idle}

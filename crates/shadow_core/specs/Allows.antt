@@ -1,5 +1,5 @@
 -- Which event may come next, by the table alone, and what then fits.
-use Rattle.std.specs.Prelude.{◌≡◌, ◌↔◌, ℕ, ◌+◌, ◌*◌, ◌<◌, ◌≤◌, ℤ, pos, neg_ℤ, ◌≤ℤ◌, Bool, true, ◌||◌, nat_eq, nat_le, List, ◌∷◌, Some, All, is_some, length}
+use Rattle.std.specs.Prelude.{◌≡◌, ◌↔◌, ℕ, ◌+◌, ◌*◌, ◌<◌, ◌≤◌, ℤ, pos, neg_ℤ, ◌≤ℤ◌, true, ◌||◌, nat_eq, nat_le, List, ◌∷◌, Some, All, is_some, length}
 use Rattle.std.specs.List.{range_with_len}
 use Rattle.guest_words.specs.ByThread.{value_of}
 use Rattle.trace_model.specs.declared.event_kinds.Event.{Event}

@@ -1,6 +1,6 @@
 -- What a read and a return make of the frames of a thread. Here the innermost frame comes first.
 use Rattle.std.proofs.Common.{zero, suc}
-use Rattle.std.specs.Prelude.{ℕ, ℤ, pos, neg_ℤ, if◌then◌else◌, nat_le, List, [], ◌∷◌}
+use Rattle.std.specs.Prelude.{ℕ, pos, neg_ℤ, if◌then◌else◌, nat_le, List, [], ◌∷◌}
 use Rattle.stamp_lanes.specs.Plain.{Place, is_foreign}
 use Rattle.shadow_stack.specs.declared.sums.Sums.{Sums}
 use Rattle.shadow_stack.specs.Frames.{Frame, plus}
