@@ -19,11 +19,11 @@ use Rattle.shadow_core.specs.Table.{Thread, Table, event_after, table_at, ticks}
 use Rattle.shadow_core.specs.Stands.{Agrees}
 use Rattle.shadow_core.specs.Renewal.{all_starts, renewed_thread, renewed, plain_tick, bounded_tick}
 use Rattle.shadow_core.specs.Counting.{next_counter, counter_of}
-use Rattle.shadow_core.specs.Laws.{CounterFits}
+use Rattle.shadow_core.specs.Laws.{CounterFits, IsFresh}
 use Rattle.shadow_core.proofs.Events.{apart, open_calls-apart}
 use Rattle.shadow_core.proofs.Past.{of_thread, same_thread}
 use Rattle.shadow_core.proofs.Threads.{frame_count, frames_of, count-cons}
-use Rattle.shadow_core.proofs.Own.{IsFresh, change, zip-length}
+use Rattle.shadow_core.proofs.Own.{change, zip-length}
 use Rattle.shadow_core.proofs.Whole.{event_agrees, of_none}
 
 -- ---- a thread that does not live has no open activation

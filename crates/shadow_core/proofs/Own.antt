@@ -23,21 +23,16 @@ use Rattle.stamp_lanes.specs.Plain.{is_by_thread, is_by_kernel}
 use Rattle.shadow_stack.specs.Frames.{starts_of}
 use Rattle.shadow_core.specs.Table.{Counts, Thread, Table, begun, changed, count_pops, event_after, no_thread, places_read, stamped, thread_after_read, thread_after_ret, ticks}
 use Rattle.shadow_core.specs.Stands.{is_by_others, is_filled, counts_of, IsFalling, IsStartOf, outermost, ThreadStands, HasStart, Agrees}
+use Rattle.shadow_core.specs.Laws.{IsAbove, IsFresh}
 use Rattle.shadow_core.proofs.Frames.{starts-reads, starts-pops}
 use Rattle.shadow_core.proofs.Inside.{counts_idle, same_counts, kernel_is, other_is}
 use Rattle.shadow_core.proofs.Past.{IsUnstarted, unstarted, rooted, rooted-positive, returned-lt, same_thread}
 use Rattle.shadow_core.proofs.Threads.{value_of-changed, frame_count, frames_of, count-changed, count-pushed, count-without}
 use Rattle.shadow_core.proofs.Kept.{IsStill, still_stands, still_thread, begun_stands, backs-stand, popped_stands, outermost-le}
 
--- the counter is above each stamp of the thread
-pub record IsAbove (stamp : ℕ) (thread : Thread) : Type 0 where
-  pub access : (l : ℕ) → thread.access l < stamp
-  pub starts : IsFalling stamp (starts_of thread.frames)
-
--- the counter is above each stamp of each thread, as it is after a tick
-pub record IsFresh (table : Table) : Type 0 where
-  pub positive : 0 < table.counter
-  pub above : (t : ℕ) (thread : Thread) → value_of table.threads t ≡ Some thread → IsAbove table.counter thread
+-- after a tick the counter is not 0
+pub positive_by : {table : Table} → IsFresh table → 0 < table.counter
+positive_by fresh = omega (arith, fresh.writes 0)
 
 -- ---- a live thread is in the table
 pub record IsThere (table : Table) (past : List Event) (t : ℕ) : Type 0 where
@@ -243,7 +238,7 @@ call_stands table past t entry back thread fresh above some s =
     let a : Activation = record { at = length past; entry = entry; back = Some back } in
     begun_stands (Call t entry back) table (event_after (Call t entry back) table) past t thread a
     (record { begun = cond-true (eqb t t) (a ∷ []) [] (eq-eqb t t refl); ends = λ bs. refl; here = refl; reads = refl; steps = refl; touches = λ l. refl })
-    refl (λ l. refl) refl fresh.positive above.access above.starts (λ l p. some) s
+    refl (λ l. refl) refl (positive_by fresh) above.access above.starts (λ l p. some) s
 
 -- a thread that is yet to start has no frame, no stamp and no count
 unstarted_stands : (table : Table) (past : List Event) (t : ℕ) → IsFresh table → IsUnstarted past t → Agrees table past → ThreadStands table past t no_thread
@@ -254,7 +249,7 @@ unstarted_stands table past t fresh h s = record {
   reached = λ l p. absurd (omega (arith, p));
   overwritten = λ l. s.written l ∙ sym (h.touched l);
   bounded = λ l. omega arith;
-  away = λ other l. fresh.positive;
+  away = λ other l. (positive_by fresh);
   falling = tt;
   sums = sym (ap (map _) h.calls);
 }
@@ -265,7 +260,7 @@ start_stands table past t entry fresh h s =
     let a : Activation = record { at = length past; entry = entry; back = None } in
     begun_stands (Start t entry) table (event_after (Start t entry) table) past t no_thread a
     (record { begun = cond-true (eqb t t) (a ∷ []) [] (eq-eqb t t refl); ends = λ bs. refl; here = refl; reads = refl; steps = refl; touches = λ l. refl })
-    refl (λ l. refl) refl fresh.positive (λ l. fresh.positive) tt (λ l p. absurd (omega (arith, p))) (unstarted_stands table past t fresh h s)
+    refl (λ l. refl) refl (positive_by fresh) (λ l. (positive_by fresh)) tt (λ l p. absurd (omega (arith, p))) (unstarted_stands table past t fresh h s)
 
 -- ---- activations that end
 few_pops : (table : Table) (past : List Event) (t target : ℕ) (thread : Thread) → IsWellFormed past → is_live past t ≡ true → ThreadStands table past t thread →

@@ -20,15 +20,10 @@ use Rattle.shadow_core.specs.Frames.{no_sums}
 use Rattle.shadow_core.specs.Table.{Thread, Table}
 use Rattle.shadow_core.specs.Renewal.{all_starts, renewed_thread, renewed, plain_tick, bounded_tick}
 use Rattle.shadow_core.specs.Stands.{totals, IsStartOf, IsFalling, outermost, ThreadStands, HasStart, AreDistinct, Agrees}
+use Rattle.shadow_core.specs.Laws.{IsAbove, IsFresh, IsTick, TicksKeepTheTable}
 use Rattle.shadow_core.proofs.Threads.{starts_among}
 use Rattle.shadow_core.proofs.Kept.{falling-weaker}
-use Rattle.shadow_core.proofs.Own.{IsAbove, IsFresh, the_same}
-
--- what a tick has to do
-pub record IsTick (tick : Table → Table) : Type 0 where
-  pub agrees : (table : Table) (past : List Event) → Agrees table past → Agrees (tick table) past
-  pub fresh : (table : Table) (past : List Event) → Agrees table past → IsFresh (tick table)
-  pub last : (table : Table) → (tick table).last ≡ table.last
+use Rattle.shadow_core.proofs.Own.{the_same}
 
 -- ---- the counter rises by one
 plain_tick_is_tick : IsTick plain_tick
@@ -59,7 +54,7 @@ plain_tick_is_tick = record {
     weight = s.weight;
   };
   fresh = λ table past s. record {
-    positive = omega arith;
+    writes = λ l. omega (arith, s.writes l);
     above = λ t thread found.
         let h = s.threads t thread found in
         record { access = λ l. omega (arith, h.bounded l); starts = h.falling };
@@ -266,14 +261,14 @@ module _ (table : Table) where
 
   renewed_fresh : (past : List Event) → Agrees table past → IsFresh (renewed table)
   renewed_fresh past s = record {
-    positive = omega arith;
+    writes = λ l. (new_stamps_fit starts 0 (table.write l)).1;
     above = λ t thread is.
         let w = was_thread t thread is in
         subst (IsAbove (3 * length starts + 3)) w.new
         (record { access = λ l. access_fits (w.old.access l) (table.write l); starts = falling_after (table.counter + 1) t w.old w.found (s.threads t w.old w.found).falling });
   }
 
-pub bounded_tick_is_tick : (most : ℕ) → IsTick (bounded_tick most)
+pub bounded_tick_is_tick : TicksKeepTheTable
 bounded_tick_is_tick most = record {
   agrees = λ table past s.
       elim (ltb table.counter most) as (λ b. Agrees (cond b (plain_tick table) (renewed table)) past) [

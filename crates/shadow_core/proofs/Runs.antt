@@ -7,10 +7,9 @@ use Rattle.shadow_core.specs.Table.{Table, empty_table, table_at, table_of, tick
 use Rattle.shadow_core.specs.Renewal.{bounded_tick}
 use Rattle.shadow_core.specs.Counting.{next_counter}
 use Rattle.shadow_core.specs.Stands.{Agrees}
-use Rattle.shadow_core.specs.Laws.{AgreesOn, EmptyStands, CountsOn, StandsOn, FinishesWhatEnds, FinishesWhatIsDone, RunsAgree}
-use Rattle.shadow_core.proofs.Own.{IsFresh}
+use Rattle.shadow_core.specs.Laws.{IsFresh, IsTick, AgreesOn, EmptyStands, CountsOn, StandsOn, FinishesWhatEnds, FinishesWhatIsDone, RunsAgree}
 use Rattle.shadow_core.proofs.Whole.{counter_after, event_agrees, event_finishes}
-use Rattle.shadow_core.proofs.Renewed.{IsTick, bounded_tick_is_tick}
+use Rattle.shadow_core.proofs.Renewed.{bounded_tick_is_tick}
 use Rattle.shadow_core.proofs.Counted.{frames_after, renumbered_after, ticked_counter, ticked_frames, ticked_renumbered}
 
 module _ (tick : Table → Table) (is_tick : IsTick tick) where

@@ -19,13 +19,14 @@ use Rattle.trace_model.proofs.Causes.{foreign_parts_are_counts, parts-sum}
 use Rattle.shadow_core.specs.Frames.{popped}
 use Rattle.shadow_core.specs.Table.{Thread, Table, begun, count_pops, event_after, finished, is_switch, no_thread, record_of, records, records_of, ticks}
 use Rattle.shadow_core.specs.Stands.{is_by_others, is_written, is_filled, writes_word, counts_of, call_of, sums_of, IsFalling, ThreadStands, HasStart, Agrees}
+use Rattle.shadow_core.specs.Laws.{IsAbove, IsFresh}
 use Rattle.shadow_core.proofs.Frames.{popped-totals}
 use Rattle.shadow_core.proofs.Events.{apart}
 use Rattle.shadow_core.proofs.Inside.{inside_before, counts_idle}
 use Rattle.shadow_core.proofs.Past.{of_thread, same_thread}
 use Rattle.shadow_core.proofs.Threads.{numbers-changed}
 use Rattle.shadow_core.proofs.Kept.{still_stands, backs-stand}
-use Rattle.shadow_core.proofs.Own.{IsAbove, IsFresh, IsThere, there, positive, Change, change, at_most}
+use Rattle.shadow_core.proofs.Own.{IsThere, there, positive, positive_by, Change, change, at_most}
 
 -- ---- what each event makes of the counter and the write stamps
 pub counter_after : (e : Event) (table : Table) → (event_after e table).counter ≡ table.counter
@@ -176,7 +177,7 @@ module _ (e : Event) (table : Table) (past : List Event) (formed : IsWellFormed 
     where
       by : (e : Event) → MayFollow e past → (ticks e table.last ≡ true → IsFresh table) → writes_word e l ≡ true → 0 < table.counter
       by (Write a first count) may fresh writes = positive table past a formed.2 s may.0.0
-      by (Fill first count) may fresh writes = (fresh refl).positive
+      by (Fill first count) may fresh writes = positive_by (fresh refl)
       by e may fresh writes = absurd (false≢true writes)
 
 -- ---- words

@@ -1,14 +1,38 @@
 -- The stamp table gives the sizes of the definitions, whatever the greatest stamp is.
-use Rattle.std.specs.Prelude.{◌≡◌, ℕ, ◌≤◌, true, List, [], ◌∷◌}
+use Rattle.std.specs.Prelude.{◌≡◌, ℕ, ◌<◌, ◌≤◌, true, List, [], ◌∷◌, Some}
+use Rattle.guest_words.specs.ByThread.{value_of}
 use Rattle.trace_model.specs.declared.event_kinds.Event.{Event}
 use Rattle.trace_model.specs.Depth.{is_within}
 use Rattle.trace_model.specs.Profile.{ended, done}
 use Rattle.trace_model.specs.WellFormed.{IsWellFormed}
-use Rattle.shadow_core.specs.Table.{Table, empty_table, table_at, table_after, table_of, finished, finished_of}
+use Rattle.shadow_stack.specs.Frames.{starts_of}
+use Rattle.shadow_core.specs.Table.{Thread, Table, empty_table, table_at, table_after, table_of, finished, finished_of}
 use Rattle.shadow_core.specs.Renewal.{bounded_tick}
 use Rattle.shadow_core.specs.Counting.{counter_of}
-use Rattle.shadow_core.specs.Stands.{Agrees, IsCounted, Stands}
+use Rattle.shadow_core.specs.Stands.{IsFalling, Agrees, IsCounted, Stands}
 
+-- ---- What a tick has to do.
+-- the stamp is above each stamp of the thread
+pub record IsAbove (stamp : ℕ) (thread : Thread) : Type 0 where
+  pub access : (l : ℕ) → thread.access l < stamp
+  pub starts : IsFalling stamp (starts_of thread.frames)
+
+-- the counter is above all stamps
+pub record IsFresh (table : Table) : Type 0 where
+  pub writes : (l : ℕ) → table.write l < table.counter
+  pub above : (t : ℕ) (thread : Thread) → value_of table.threads t ≡ Some thread → IsAbove table.counter thread
+
+-- after the tick the table still agrees with the past, and its counter is above all stamps
+pub record IsTick (tick : Table → Table) : Type 0 where
+  pub agrees : (table : Table) (past : List Event) → Agrees table past → Agrees (tick table) past
+  pub fresh : (table : Table) (past : List Event) → Agrees table past → IsFresh (tick table)
+  pub last : (table : Table) → (tick table).last ≡ table.last
+
+-- the bounded counter does so, renumbered or not
+abbrev pub TicksKeepTheTable : Type 0
+TicksKeepTheTable = (most : ℕ) → IsTick (bounded_tick most)
+
+-- ---- What events do.
 -- the empty table stands for the empty past
 abbrev pub EmptyStands : Type 0
 EmptyStands = (most : ℕ) → 3 ≤ most → Stands most empty_table []

@@ -1,8 +1,13 @@
 //! Laws of the table: each is the contract of a function that does nothing.
 ghost use Rattle.shadow_core.specs.Allows.{AllowsWhatMayFollow, CountsStayWithin, FitsByFrames, SumsStayWithin};
 ghost use Rattle.shadow_core.specs.Bulk.{ReadsAtOnce};
-ghost use Rattle.shadow_core.specs.Laws.{AgreesOn, CounterFits, CountsOn, EmptyStands, FinishesWhatEnds, FinishesWhatIsDone, RunsAgree, StandsOn};
+ghost use Rattle.shadow_core.specs.Laws.{AgreesOn, CounterFits, CountsOn, EmptyStands, FinishesWhatEnds, FinishesWhatIsDone, RunsAgree, StandsOn, TicksKeepTheTable};
 ghost use Rattle.shadow_core.specs.Worked.{WorkedTables};
+
+/// A tick keeps what the table says of the past, renumbered or not, and leaves the counter above all stamps.
+pub fn a_tick_keeps_the_table()
+    ensures { TicksKeepTheTable }
+{}
 
 /// The empty table stands for the empty past. After each event that may follow, the table stands for the longer past, renumbered
 /// or not, and what it pops is what ends there, with its size, the size's parts and its cost. So over a whole run it
