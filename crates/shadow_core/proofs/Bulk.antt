@@ -8,7 +8,7 @@ use Rattle.std.proofs.lemmas.List.Sums.{sum_by-cons}
 use Rattle.stamp_lanes.specs.Plain.{Place, is_old, is_plain, is_untouched}
 use Rattle.shadow_stack.specs.declared.sums.Sums.{Sums}
 use Rattle.shadow_stack.specs.Frames.{Frame, plus, starts_of}
-use Rattle.shadow_core.specs.Frames.{added_to_top, negated, no_sums, taken_at, gain, after_read, after_reads}
+use Rattle.shadow_core.specs.Frames.{added_to_top, negated, no_sums, taken_at, gain, frames_after_read, frames_after_reads}
 use Rattle.shadow_core.specs.Stands.{IsFalling}
 use Rattle.shadow_core.specs.Bulk.{ReadsAtOnce}
 use Rattle.shadow_core.proofs.Frames.{same_sums, none-plus}
@@ -42,10 +42,10 @@ gain_is own write h =
     by false = refl
 
 read_one : (p : Place) (limit : ℕ) (f : Frame) (frames : List Frame) → IsFalling limit (starts_of (f ∷ frames)) → is_old f.start p ≡ false →
-    after_read p (f ∷ frames) ≡ added_to_top (added_by p) (f ∷ frames)
+    frames_after_read p (f ∷ frames) ≡ added_to_top (added_by p) (f ∷ frames)
 read_one p limit f frames falling young = by (eqb p.own 0) refl
   where
-    by : (b : Bool) → eqb p.own 0 ≡ b → after_read p (f ∷ frames) ≡ added_to_top (added_by p) (f ∷ frames)
+    by : (b : Bool) → eqb p.own 0 ≡ b → frames_after_read p (f ∷ frames) ≡ added_to_top (added_by p) (f ∷ frames)
     by true h =
         let none : p.own ≡ 0 = eqb-true p.own 0 h in
         let high : leb f.start p.own ≡ false = lt-leb f.start p.own (omega (arith, none, falling.0)) in
@@ -69,7 +69,7 @@ none_of_two true n h = absurd (omega (arith, h))
 none_of_two false n h = refl
 
 at_once : (places : List Place) (limit : ℕ) (f : Frame) (frames : List Frame) → IsFalling limit (starts_of (f ∷ frames)) → count_by (is_old f.start) places ≡ 0 →
-    after_reads places (f ∷ frames) ≡ added_to_top (record { plain = pos (count_by is_plain places); bare = pos (count_by is_untouched places) }) (f ∷ frames)
+    frames_after_reads places (f ∷ frames) ≡ added_to_top (record { plain = pos (count_by is_plain places); bare = pos (count_by is_untouched places) }) (f ∷ frames)
 at_once [] limit f frames falling none = λ i. record f { sums = sym (none-plus f.sums) i } ∷ frames
 at_once (p ∷ places) limit f frames falling none =
     let split = sum_by-cons (λ p. one_if (is_old f.start p)) p places in
@@ -78,7 +78,7 @@ at_once (p ∷ places) limit f frames falling none =
     let sums : plus f'.sums (record { plain = pos (count_by is_plain places); bare = pos (count_by is_untouched places) })
     ≡ plus f.sums (record { plain = pos (count_by is_plain (p ∷ places)); bare = pos (count_by is_untouched (p ∷ places)) }) =
     same_sums _ _ (omega (arith, ints, sum_by-cons (λ p. one_if (is_plain p)) p places)) (omega (arith, ints, sum_by-cons (λ p. one_if (is_untouched p)) p places)) in
-    ap (after_reads places) (read_one p limit f frames falling young)
+    ap (frames_after_reads places) (read_one p limit f frames falling young)
     ∙ at_once places limit f' frames falling (omega (arith, none, split))
     ∙ (λ i. record f { sums = sums i } ∷ frames)
 

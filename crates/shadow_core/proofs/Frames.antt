@@ -7,7 +7,7 @@ use Rattle.std.proofs.lemmas.Int.{ints}
 use Rattle.stamp_lanes.specs.Plain.{Place}
 use Rattle.shadow_stack.specs.declared.sums.Sums.{Sums}
 use Rattle.shadow_stack.specs.Frames.{Frame, plus, starts_of}
-use Rattle.shadow_core.specs.Frames.{no_sums, negated, added_to_top, taken_at, gain, after_read, after_reads, after_pops, popped}
+use Rattle.shadow_core.specs.Frames.{no_sums, negated, added_to_top, taken_at, gain, frames_after_read, frames_after_reads, frames_after_pops, popped}
 use Rattle.shadow_core.specs.Stands.{totals, IsFalling}
 
 -- ---- sums
@@ -43,14 +43,14 @@ starts-taken by stamp (f ∷ frames) = at (leb f.start stamp) (starts-taken by s
     at true rest = refl
     at false rest = ap (λ starts. f.start ∷ starts) rest
 
-pub starts-read : (p : Place) (frames : List Frame) → starts_of (after_read p frames) ≡ starts_of frames
+pub starts-read : (p : Place) (frames : List Frame) → starts_of (frames_after_read p frames) ≡ starts_of frames
 starts-read p frames = starts-added (gain p) (taken_at (gain p) p.own frames) ∙ starts-taken (gain p) p.own frames
 
-pub starts-reads : (places : List Place) (frames : List Frame) → starts_of (after_reads places frames) ≡ starts_of frames
+pub starts-reads : (places : List Place) (frames : List Frame) → starts_of (frames_after_reads places frames) ≡ starts_of frames
 starts-reads [] frames = refl
-starts-reads (p ∷ places) frames = starts-reads places (after_read p frames) ∙ starts-read p frames
+starts-reads (p ∷ places) frames = starts-reads places (frames_after_read p frames) ∙ starts-read p frames
 
-pub starts-pops : (n : ℕ) (frames : List Frame) → starts_of (after_pops n frames) ≡ drop n (starts_of frames)
+pub starts-pops : (n : ℕ) (frames : List Frame) → starts_of (frames_after_pops n frames) ≡ drop n (starts_of frames)
 starts-pops zero frames = refl
 starts-pops (suc n) [] = starts-pops n [] ∙ drop-nil n
 starts-pops (suc n) (f ∷ frames) = starts-pops n (added_to_top f.sums frames) ∙ ap (drop n) (starts-added f.sums frames)
@@ -60,7 +60,7 @@ totals-added : (by above : Sums) (frames : List Frame) → totals above (added_t
 totals-added by above [] = refl
 totals-added by above (f ∷ frames) = ap (λ s. s ∷ totals s frames) (inner above f.sums by)
 
-pub totals-pops : (n : ℕ) (frames : List Frame) → totals no_sums (after_pops n frames) ≡ drop n (totals no_sums frames)
+pub totals-pops : (n : ℕ) (frames : List Frame) → totals no_sums (frames_after_pops n frames) ≡ drop n (totals no_sums frames)
 totals-pops zero frames = refl
 totals-pops (suc n) [] = totals-pops n [] ∙ drop-nil n
 totals-pops (suc n) (f ∷ frames) = totals-pops n (added_to_top f.sums frames) ∙ ap (drop n) (totals-added f.sums no_sums frames)
@@ -129,16 +129,16 @@ module _ {A : Type 0} where
 
   pub totals-reads : (place : ℕ → Place) (gained : A → ℕ → Sums) (words : List ℕ) (z : A → Sums) (limit : ℕ) (frames : List Frame) (calls : List A) →
       IsFalling limit (starts_of frames) → ((l : ℕ) → AllZip (Tells place gained l) (starts_of frames) calls) →
-      totals no_sums frames ≡ map z calls → totals no_sums (after_reads (map place words) frames) ≡ map (λ a. with_gains (gained a) words (z a)) calls
+      totals no_sums frames ≡ map z calls → totals no_sums (frames_after_reads (map place words) frames) ≡ map (λ a. with_gains (gained a) words (z a)) calls
   totals-reads place gained [] z limit frames calls falling tells is = is
   totals-reads place gained (l ∷ words) z limit frames calls falling tells is =
       let p = place l in
       let z' : A → Sums = λ a. plus (z a) (gained a l) in
       let same = sym (starts-read p frames) in
       let rises = zip-map (Tells place gained l) (Rises (gain p) p.own z z') (λ s a told. ap (plus (z a)) told ∙ chosen (leb s p.own) (z a) (gain p)) (starts_of frames) calls (tells l) in
-      let one : totals no_sums (after_read p frames) ≡ map z' calls =
+      let one : totals no_sums (frames_after_read p frames) ≡ map z' calls =
       totals-added (gain p) no_sums (taken_at (gain p) p.own frames) ∙ totals-taken (gain p) p.own limit z z' no_sums frames calls falling rises is in
-      totals-reads place gained words z' limit (after_read p frames) calls (subst (IsFalling limit) same falling)
+      totals-reads place gained words z' limit (frames_after_read p frames) calls (subst (IsFalling limit) same falling)
       (λ k. subst (λ starts. AllZip (Tells place gained k) starts calls) same (tells k)) one
     where
       chosen : (b : Bool) (s by : Sums) → plus s (cond b no_sums by) ≡ cond b s (plus s by)

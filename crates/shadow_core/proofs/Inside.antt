@@ -91,21 +91,8 @@ sums_now e past t a here =
     λ i. record { plain = pos (part Plain (none i) (before (e ∷ past) (a.at + 1)) t); bare = pos (bare (none i) t) }
 
 -- ---- causes by the last writer
-same_foreign : (w : Touch) → is_by_others w ≡ is_foreign w
-same_foreign Untouched = refl
-same_foreign ByItself = refl
-same_foreign ByOther = refl
-same_foreign ByKernel = refl
-
 plain_by : (within : Bool) (last : Touch) → (not (within && not (is_foreign last)) && is_by Plain last) ≡ (not within && not (is_by_others last))
-plain_by true Untouched = refl
-plain_by true ByItself = refl
-plain_by true ByOther = refl
-plain_by true ByKernel = refl
-plain_by false Untouched = refl
-plain_by false ByItself = refl
-plain_by false ByOther = refl
-plain_by false ByKernel = refl
+plain_by within last = grind arith
 
 -- a read counts as plain where it is the first access inside, and no one else wrote the word last
 pub plain_is : (past : List Event) (t at l : ℕ) →
@@ -119,19 +106,15 @@ plain_is past t at l =
 by_write : (c b : Bool) (earlier : Touch) (filled : Bool) → is_by Kernel earlier ≡ (is_by_others earlier && filled) →
     is_by Kernel (newer (cond c (cond b ByItself ByOther) Untouched) earlier)
     ≡ (is_by_others (newer (cond c (cond b ByItself ByOther) Untouched) earlier) && (not c && filled))
-by_write true true earlier filled h = refl
-by_write true false earlier filled h = refl
-by_write false b earlier filled h = h
+by_write c b earlier filled h = grind (arith, h)
 
 by_fill : (c : Bool) (earlier : Touch) (filled : Bool) → is_by Kernel earlier ≡ (is_by_others earlier && filled) →
     is_by Kernel (newer (cond c ByKernel Untouched) earlier) ≡ (is_by_others (newer (cond c ByKernel Untouched) earlier) && (c || filled))
-by_fill true earlier filled h = refl
-by_fill false earlier filled h = h
+by_fill c earlier filled h = grind (arith, h)
 
 by_read : (c : Bool) (earlier : Touch) (filled : Bool) → is_by Kernel earlier ≡ (is_by_others earlier && filled) →
     is_by Kernel (newer (cond c ByItself Untouched) earlier) ≡ (is_by_others (newer (cond c ByItself Untouched) earlier) && filled)
-by_read true earlier filled h = refl
-by_read false earlier filled h = h
+by_read c earlier filled h = grind (arith, h)
 
 pub kernel_is : (past : List Event) (t l : ℕ) → is_by Kernel (last_touch past t l) ≡ (is_by_others (last_touch past t l) && is_filled past l)
 kernel_is [] t l = refl
@@ -141,10 +124,7 @@ kernel_is (Fill first count ∷ past) t l = by_fill (covers first count l) (last
 kernel_is (e ∷ past) t l = kernel_is past t l
 
 not_kernel : (w : Touch) (filled : Bool) → is_by Kernel w ≡ (is_by_others w && filled) → is_by OtherThread w ≡ (is_by_others w && not filled)
-not_kernel Untouched filled h = refl
-not_kernel ByItself filled h = refl
-not_kernel ByOther filled h = ap not h
-not_kernel ByKernel filled h = ap not h
+not_kernel w filled h = grind (arith, h)
 
 pub other_is : (past : List Event) (t l : ℕ) → is_by OtherThread (last_touch past t l) ≡ (is_by_others (last_touch past t l) && not (is_filled past l))
 other_is past t l = not_kernel (last_touch past t l) (is_filled past l) (kernel_is past t l)

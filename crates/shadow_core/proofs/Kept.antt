@@ -16,9 +16,8 @@ use Rattle.trace_model.proofs.Positions.{since_more, since_none}
 use Rattle.stamp_lanes.specs.Plain.{Place}
 use Rattle.shadow_stack.specs.declared.sums.Sums.{Sums}
 use Rattle.shadow_stack.specs.Frames.{starts_of}
-use Rattle.shadow_core.specs.Frames.{no_sums, after_reads, after_pops}
-use Rattle.shadow_core.specs.Table.{Counts, OpenCall, Thread, Table, places_read, count_pops}
-use Rattle.shadow_core.specs.Table as rows
+use Rattle.shadow_core.specs.Frames.{no_sums, frames_after_reads, frames_after_pops}
+use Rattle.shadow_core.specs.Table.{Counts, OpenCall, Thread, Table, places_read, count_pops, with_frame}
 use Rattle.shadow_core.specs.Stands.{is_by_others, counts_of, call_of, sums_of, totals, IsStartOf, IsFalling, outermost, ThreadStands}
 use Rattle.shadow_core.proofs.Frames.{starts-reads, starts-pops, totals-reads, totals-pops, Tells, with_gains, zip-map}
 use Rattle.shadow_core.proofs.Inside.{IsBegun, gained, calls_more, sums_more, call_now, sums_now, counts_idle, plain_is}
@@ -94,7 +93,7 @@ tells table past t thread stands l =
 
 -- the totals after a read of words
 pub totals_after : (table : Table) (past : List Event) (t : ℕ) (thread : Thread) (words : List ℕ) → ThreadStands table past t thread →
-    totals no_sums (after_reads (places_read table thread words) thread.frames)
+    totals no_sums (frames_after_reads (places_read table thread words) thread.frames)
     ≡ map (λ a. with_gains (gained past t a) words (sums_of past t a)) (open_calls past t)
 totals_after table past t thread words stands =
     totals-reads (place_of table thread) (gained past t) words (sums_of past t) (table.counter + 1) thread.frames (open_calls past t)
@@ -108,7 +107,7 @@ pub record IsStill (e : Event) (t : ℕ) : Type 0 where
 -- the thread after it: it read these words, and has these stamps and counts
 abbrev pub still_thread : Table → List ℕ → (ℕ → ℕ) → Counts → Thread → Thread
 still_thread table words access counts thread =
-    record thread { frames = after_reads (places_read table thread words) thread.frames; access = access; counts = counts }
+    record thread { frames = frames_after_reads (places_read table thread words) thread.frames; access = access; counts = counts }
 
 pub record StillStands (e : Event) (table table' : Table) (past : List Event) (t : ℕ) (thread : Thread) (words : List ℕ) (access : ℕ → ℕ) (counts : Counts) : Type 0 where
   pub counter : table'.counter ≡ table.counter
@@ -133,13 +132,13 @@ still_stands e table table' past t thread words access counts still h s =
     record {
       calls = s.calls ∙ sym (calls_more e past t calls begun_all) ∙ ap (map (call_of (e ∷ past) t)) opens;
       counts = h.counted;
-      starts = subst (λ cs. AllZip (IsStartOf (e ∷ past) t access) (starts_of (after_reads (places_read table thread words) thread.frames)) cs) opens
+      starts = subst (λ cs. AllZip (IsStartOf (e ∷ past) t access) (starts_of (frames_after_reads (places_read table thread words) thread.frames)) cs) opens
           (subst (λ ss. AllZip (IsStartOf (e ∷ past) t access) ss calls) same starts);
       reached = λ l p. subst (λ ss. outermost ss ≤ access l) same (h.reached l p);
       overwritten = h.overwritten;
       bounded = λ l. omega (arith, h.bounded l, h.counter);
       away = λ other l. omega (arith, h.away other l, h.counter);
-      falling = subst (λ n. IsFalling (n + 1) (starts_of (after_reads (places_read table thread words) thread.frames))) (sym h.counter)
+      falling = subst (λ n. IsFalling (n + 1) (starts_of (frames_after_reads (places_read table thread words) thread.frames))) (sym h.counter)
           (subst (IsFalling (table.counter + 1)) same s.falling);
       sums = totals_after table past t thread words s ∙ sym (sums_more e past t words h.read calls begun_all) ∙ ap (map (sums_of (e ∷ past) t)) opens;
     }
@@ -157,7 +156,7 @@ pub begun_stands : (e : Event) (table table' : Table) (past : List Event) (t : �
     table'.counter ≡ table.counter → ((l : ℕ) → table'.write l ≡ table.write l) → table'.last ≡ table.last →
     0 < table.counter → ((l : ℕ) → thread.access l < table.counter) → IsFalling table.counter (starts_of thread.frames) →
     ((l : ℕ) → 0 < thread.access l → 0 < length (starts_of thread.frames)) → ThreadStands table past t thread →
-    ThreadStands table' (e ∷ past) t (rows.begun table.counter a.entry a.back thread)
+    ThreadStands table' (e ∷ past) t (with_frame table.counter a.entry a.back thread)
 begun_stands e table table' past t thread a one counter write last positive below falling some s =
     let calls = open_calls past t in
     let begun_all = open_calls_begun past t in
@@ -198,7 +197,7 @@ pub popped_stands : (e : Event) (table table' : Table) (past : List Event) (t : 
     words_read e t ≡ [] → steps_run e t ≡ 0 → ((l : ℕ) → touch e t l ≡ Untouched) →
     table'.counter ≡ table.counter → ((l : ℕ) → table'.write l ≡ table.write l) → table'.last ≡ table.last →
     count_pops e t thread < length (starts_of thread.frames) → ThreadStands table past t thread →
-    ThreadStands table' (e ∷ past) t (record thread { frames = after_pops (count_pops e t thread) thread.frames; calls = drop (count_pops e t thread) thread.calls })
+    ThreadStands table' (e ∷ past) t (record thread { frames = frames_after_pops (count_pops e t thread) thread.frames; calls = drop (count_pops e t thread) thread.calls })
 popped_stands e table table' past t thread none reads idle touches counter write last few s =
     let calls = open_calls past t in
     let begun_all = open_calls_begun past t in
@@ -213,7 +212,7 @@ popped_stands e table table' past t thread none reads idle touches counter write
     record {
       calls = ap (drop n) older ∙ drop-map (call_of (e ∷ past) t) n calls ∙ ap (map (call_of (e ∷ past) t)) opens;
       counts = s.counts ∙ sym (counts_idle e past t reads idle);
-      starts = subst (λ cs. AllZip (IsStartOf (e ∷ past) t thread.access) (starts_of (after_pops n thread.frames)) cs) opens
+      starts = subst (λ cs. AllZip (IsStartOf (e ∷ past) t thread.access) (starts_of (frames_after_pops n thread.frames)) cs) opens
           (subst (λ ss. AllZip (IsStartOf (e ∷ past) t thread.access) ss (drop n calls)) same
           (zip-drop (IsStartOf (e ∷ past) t thread.access) n (starts_of thread.frames) calls starts));
       reached = λ l p. subst (λ ss. outermost ss ≤ thread.access l) same
@@ -221,7 +220,7 @@ popped_stands e table table' past t thread none reads idle touches counter write
       overwritten = λ l. ap (ltb (thread.access l)) (write l) ∙ s.overwritten l ∙ sym (ap (λ w. is_by_others (newer w (last_touch past t l))) (touches l));
       bounded = λ l. omega (arith, s.bounded l, counter);
       away = λ other l. omega (arith, s.away (λ is. other (last ∙ is)) l, counter);
-      falling = subst (λ m. IsFalling (m + 1) (starts_of (after_pops n thread.frames))) (sym counter)
+      falling = subst (λ m. IsFalling (m + 1) (starts_of (frames_after_pops n thread.frames))) (sym counter)
           (subst (IsFalling (table.counter + 1)) same (falling-drop n (table.counter + 1) (starts_of thread.frames) s.falling));
       sums = totals-pops n thread.frames ∙ ap (drop n) sums ∙ drop-map (sums_of (e ∷ past) t) n calls ∙ ap (map (sums_of (e ∷ past) t)) opens;
     }

@@ -3,6 +3,7 @@ use Rattle.std.proofs.Common.{inl, inr, ◌≡◌, ◌⊎◌, ℕ, suc, ◌+◌,
 use Rattle.std.specs.Prelude.{◌==◌, Contains, is_some}
 use Rattle.std.specs.List.{AllZip, count_by, range_with_len}
 use Rattle.std.proofs.lemmas.Bool.{cond-true, eq-eqb, false≢true, le-leb, le-ltb}
+use Rattle.std.proofs.lemmas.Bool.Decides.{nat_tests}
 use Rattle.std.proofs.lemmas.List.{length-map, take-append-drop}
 use Rattle.std.proofs.lemmas.List.Elements.{All-weaker, Contains-append_right}
 use Rattle.std.proofs.lemmas.List.Sums.{sum_by-cons}
@@ -21,7 +22,7 @@ use Rattle.trace_model.specs.WellFormed.{is_live, greatest_start, MayFollow, IsW
 use Rattle.trace_model.proofs.Pairs.{contains_first}
 use Rattle.stamp_lanes.specs.Plain.{is_by_thread, is_by_kernel}
 use Rattle.shadow_stack.specs.Frames.{starts_of}
-use Rattle.shadow_core.specs.Table.{Counts, Thread, Table, begun, changed, count_pops, event_after, no_thread, places_read, stamped, thread_after_read, thread_after_ret, ticks}
+use Rattle.shadow_core.specs.Table.{Counts, Thread, Table, with_frame, changed, count_pops, event_after, no_thread, places_read, stamped, thread_after_read, thread_after_ret, ticks}
 use Rattle.shadow_core.specs.Stands.{is_by_others, is_filled, counts_of, IsFalling, IsStartOf, outermost, ThreadStands, HasStart, Agrees}
 use Rattle.shadow_core.specs.Laws.{IsAbove, IsFresh}
 use Rattle.shadow_core.proofs.Frames.{starts-reads, starts-pops}
@@ -128,22 +129,18 @@ step_stands table past t thread s =
 
 -- ---- accesses
 reach_by : (c : Bool) (s now ts : ℕ) → s < now + 1 → leb s (cond c now ts) ≡ (is_own (cond c ByItself Untouched) || leb s ts)
-reach_by true s now ts h = le-leb s now (omega (arith, h))
-reach_by false s now ts h = refl
+reach_by c s now ts h = grind (arith, nat_tests)
 
 reached_by : (c : Bool) (now ts low : ℕ) → low ≤ now → (0 < ts → low ≤ ts) → 0 < cond c now ts → low ≤ cond c now ts
-reached_by true now ts low h k p = h
-reached_by false now ts low h k p = k p
+reached_by c now ts low h k p = grind (arith, nat_tests)
 
 over_read : (c : Bool) (now ts ws : ℕ) (before : Touch) → ws ≤ now → ltb ts ws ≡ is_by_others before →
     ltb (cond c now ts) ws ≡ is_by_others (newer (cond c ByItself Untouched) before)
-over_read true now ts ws before w h = le-ltb now ws w
-over_read false now ts ws before w h = h
+over_read c now ts ws before w h = grind (arith, nat_tests)
 
 over_write : (c : Bool) (now ts ws : ℕ) (before : Touch) → ltb ts ws ≡ is_by_others before →
     ltb (cond c now ts) (cond c now ws) ≡ is_by_others (newer (cond c ByItself Untouched) before)
-over_write true now ts ws before h = le-ltb now now (omega arith)
-over_write false now ts ws before h = h
+over_write c now ts ws before h = grind (arith, nat_tests)
 
 pub at_most : (c : Bool) (now ts : ℕ) → ts ≤ now → cond c now ts ≤ now
 at_most true now ts h = omega arith
@@ -174,13 +171,11 @@ access_stands e table past t first count thread words counts still read counted 
 -- the words that the stamps and the mark count are those that the past counts
 by_kernel : (own write mark : ℕ) (filled : Bool) (w : Touch) → ltb own write ≡ is_by_others w → mark ≡ cond filled 1 0 →
     is_by Kernel w ≡ (is_by_others w && filled) → is_by_kernel (record { own = own; write = write; mark = mark }) ≡ is_by Kernel w
-by_kernel own write mark true w over marked kernel = (λ i. over i && not (eqb (marked i) 0)) ∙ sym kernel
-by_kernel own write mark false w over marked kernel = (λ i. over i && not (eqb (marked i) 0)) ∙ sym kernel
+by_kernel own write mark filled w over marked kernel = grind (arith, nat_tests)
 
 by_thread : (own write mark : ℕ) (filled : Bool) (w : Touch) → ltb own write ≡ is_by_others w → mark ≡ cond filled 1 0 →
     is_by OtherThread w ≡ (is_by_others w && not filled) → is_by_thread (record { own = own; write = write; mark = mark }) ≡ is_by OtherThread w
-by_thread own write mark true w over marked other = (λ i. over i && eqb (marked i) 0) ∙ sym other
-by_thread own write mark false w over marked other = (λ i. over i && eqb (marked i) 0) ∙ sym other
+by_thread own write mark filled w over marked other = grind (arith, nat_tests)
 
 count_by-map : {A : Type 0} (test : A → Bool) (f : ℕ → A) (words : List ℕ) → count_by test (map f words) ≡ count_by (λ l. test (f l)) words
 count_by-map test f [] = refl
@@ -227,13 +222,13 @@ first_or_rest : (x : ℕ) (xs : List ℕ) (s : ℕ) → Contains (x ∷ xs) s �
 first_or_rest x xs s c = elim (contains_first x xs s c) [ inl here ↦ inr (sym here) | inr rest ↦ inl rest ]
 
 begun_starts : (e : Event) (table : Table) (thread : Thread) (entry : ℕ) (back : Option ℕ) → ticks e table.last ≡ true → (s : ℕ) →
-    Contains (starts_of (begun table.counter entry back thread).frames) s → Contains (starts_of thread.frames) s ⊎ ((s ≡ table.counter) × (ticks e table.last ≡ true))
+    Contains (starts_of (with_frame table.counter entry back thread).frames) s → Contains (starts_of thread.frames) s ⊎ ((s ≡ table.counter) × (ticks e table.last ≡ true))
 begun_starts e table thread entry back tick s c =
     elim (first_or_rest table.counter (starts_of thread.frames) s c) [ inl old ↦ inl old | inr now ↦ inr (now, tick) ]
 
 call_stands : (table : Table) (past : List Event) (t entry back : ℕ) (thread : Thread) → IsFresh table → IsAbove table.counter thread →
     0 < length (starts_of thread.frames) → ThreadStands table past t thread →
-    ThreadStands (event_after (Call t entry back) table) (Call t entry back ∷ past) t (begun table.counter entry (Some back) thread)
+    ThreadStands (event_after (Call t entry back) table) (Call t entry back ∷ past) t (with_frame table.counter entry (Some back) thread)
 call_stands table past t entry back thread fresh above some s =
     let a : Activation = record { at = length past; entry = entry; back = Some back } in
     begun_stands (Call t entry back) table (event_after (Call t entry back) table) past t thread a
@@ -255,7 +250,7 @@ unstarted_stands table past t fresh h s = record {
 }
 
 start_stands : (table : Table) (past : List Event) (t entry : ℕ) → IsFresh table → IsUnstarted past t → Agrees table past →
-    ThreadStands (event_after (Start t entry) table) (Start t entry ∷ past) t (begun table.counter entry None no_thread)
+    ThreadStands (event_after (Start t entry) table) (Start t entry ∷ past) t (with_frame table.counter entry None no_thread)
 start_stands table past t entry fresh h s =
     let a : Activation = record { at = length past; entry = entry; back = None } in
     begun_stands (Start t entry) table (event_after (Start t entry) table) past t no_thread a
@@ -321,7 +316,7 @@ change e t table past own formed fresh s = at e own formed fresh
 
     of_start : (a entry : ℕ) → greatest_start past < a → IsWellFormed past → IsFresh table → Change (Start a entry) table past a
     of_start a entry may before fresh =
-        let new = begun table.counter entry None no_thread in
+        let new = with_frame table.counter entry None no_thread in
         let below = All-weaker (λ n. n ≤ greatest_start past) (λ n. n < a) (λ n h. omega (arith, h, may)) (numbers table.threads) s.started in
         record {
           new = Some new;

@@ -16,7 +16,7 @@ use Rattle.trace_model.specs.Depth.{count_begun, pending}
 use Rattle.trace_model.proofs.Bounds.{weight-append, pairs-le-weight, cost-le-weight, count_range-le}
 use Rattle.shadow_stack.specs.declared.sums.Sums.{Sums}
 use Rattle.shadow_stack.specs.Frames.{Frame, plus}
-use Rattle.shadow_core.specs.Frames.{no_sums, after_reads}
+use Rattle.shadow_core.specs.Frames.{no_sums, frames_after_reads}
 use Rattle.shadow_core.specs.Table.{Counts, places_read}
 use Rattle.shadow_core.specs.Renewal.{all_starts}
 use Rattle.shadow_core.specs.Stands.{sums_of, totals}
@@ -104,7 +104,7 @@ sums_stay_within table past t first count thread s found =
     let words = range_with_len first count in
     let most = weight past + count in
     let calls = open_calls past t in
-    totals_fit most no_sums (after_reads (places_read table thread words) thread.frames)
+    totals_fit most no_sums (frames_after_reads (places_read table thread words) thread.frames)
     ((omega (arith, ints), omega (arith, ints)), (omega (arith, ints), omega (arith, ints)))
     (subst (All (AreNumbers most)) (sym (totals_after table past t thread words (s.threads t thread found)))
     (All-map (AreNumbers most) (λ a. with_gains (gained past t a) words (sums_of past t a)) calls (λ k d in'. numbers_after past t first count (get_or calls k d))))

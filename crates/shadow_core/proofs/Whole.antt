@@ -2,6 +2,7 @@
 use Rattle.std.proofs.Common.{inl, inr, ◌≡◌, ◌≢◌, ◌⊎◌, ℕ, zero, suc, ◌+◌, ◌-◌, ◌<◌, ◌≤◌, Bool, true, false, not, cond, eqb, ltb, leb, ◌&&◌, ◌||◌, List, [], ◌∷◌, ◌++◌, take, map, Option, Some, None, refl, sym, ap, subst, ◌∙◌, arith}
 use Rattle.std.specs.Prelude.{◌==◌, All, is_some}
 use Rattle.std.proofs.lemmas.Bool.{cond-true, cond-false, eq-eqb, ne_eqb, eqb-true, false≢true, lt-ltb}
+use Rattle.std.proofs.lemmas.Bool.Decides.{nat_tests}
 use Rattle.std.proofs.lemmas.List.{map-append, take-map}
 use Rattle.std.proofs.lemmas.List.Elements.{All-nil, All-cons, All-append, All-contains, All-same, All-weaker}
 use Rattle.guest_words.specs.ByThread.{IsRising, numbers, value_of}
@@ -17,7 +18,7 @@ use Rattle.trace_model.specs.Profile.{done_of, ended}
 use Rattle.trace_model.specs.WellFormed.{is_live, last_step, greatest_start, weight_of, MayFollow, IsWellFormed}
 use Rattle.trace_model.proofs.Causes.{foreign_parts_are_counts, parts-sum}
 use Rattle.shadow_core.specs.Frames.{popped}
-use Rattle.shadow_core.specs.Table.{Thread, Table, begun, count_pops, event_after, finished, is_switch, no_thread, record_of, records, records_of, ticks}
+use Rattle.shadow_core.specs.Table.{Thread, Table, with_frame, count_pops, event_after, finished, is_switch, no_thread, record_of, records, records_of, ticks}
 use Rattle.shadow_core.specs.Stands.{is_by_others, is_written, is_filled, writes_word, counts_of, call_of, sums_of, IsFalling, ThreadStands, HasStart, Agrees}
 use Rattle.shadow_core.specs.Laws.{IsAbove, IsFresh}
 use Rattle.shadow_core.proofs.Frames.{popped-totals}
@@ -39,8 +40,7 @@ write_after e table l = refl
 
 -- a stamp that is below the counter is below the stamps that words get
 over : (c : Bool) (stamp now write : ℕ) (before : Bool) → (c ≡ true → stamp < now) → ltb stamp write ≡ before → ltb stamp (cond c now write) ≡ (c || before)
-over true stamp now write before low h = lt-ltb stamp now (low refl)
-over false stamp now write before low h = h
+over c stamp now write before low h = grind (arith, nat_tests)
 
 -- ---- a thread that the event is not of
 moved_on : (e : Event) (table : Table) (past : List Event) (t l stamp : ℕ) → thread_of e ≢ Some t → MayFollow e past → table.last ≡ last_step past →
@@ -95,14 +95,7 @@ pub record IsOther (e : Event) (table : Table) (q : ℕ) : Type 0 where
   pub value : value_of (event_after e table).threads q ≡ value_of table.threads q
 
 pub of_none : (e : Event) (table : Table) → thread_of e ≡ None → (event_after e table).threads ≡ table.threads
-of_none (Fill first count) table none = refl
-of_none (Step a) table none = absurd (cc)
-of_none (Read a first count) table none = absurd (cc)
-of_none (Write a first count) table none = absurd (cc)
-of_none (Call a entry back) table none = absurd (cc)
-of_none (Ret a target) table none = absurd (cc)
-of_none (Start a entry) table none = absurd (cc)
-of_none (End a) table none = absurd (cc)
+of_none e table none = grind (arith, none)
 
 module _ (e : Event) (table : Table) (past : List Event) (formed : IsWellFormed (e ∷ past)) (fresh : ticks e table.last ≡ true → IsFresh table)
     (s : Agrees table past) where
@@ -182,12 +175,10 @@ module _ (e : Event) (table : Table) (past : List Event) (formed : IsWellFormed 
 
 -- ---- words
 marked_by_write : (c : Bool) (mark : ℕ) (filled : Bool) → mark ≡ cond filled 1 0 → cond c 0 mark ≡ cond (not c && filled) 1 0
-marked_by_write true mark filled h = refl
-marked_by_write false mark filled h = h
+marked_by_write c mark filled h = grind (arith, h)
 
 marked_by_fill : (c : Bool) (mark : ℕ) (filled : Bool) → mark ≡ cond filled 1 0 → cond c 1 mark ≡ cond (c || filled) 1 0
-marked_by_fill true mark filled h = refl
-marked_by_fill false mark filled h = h
+marked_by_fill c mark filled h = grind (arith, h)
 
 marks_after : (e : Event) (table : Table) (past : List Event) → ((l : ℕ) → table.marks l ≡ cond (is_filled past l) 1 0) →
     (l : ℕ) → (event_after e table).marks l ≡ cond (is_filled (e ∷ past) l) 1 0
@@ -198,7 +189,7 @@ marks_after e table past marks l = marks l
 -- ---- the numbers of the threads
 rising_after : (e : Event) (table : Table) (past : List Event) → MayFollow e past → Agrees table past → IsRising (numbers (event_after e table).threads)
 rising_after (Start t entry) table past may s =
-    rising_pushed table.threads t (begun table.counter entry None no_thread) s.rising
+    rising_pushed table.threads t (with_frame table.counter entry None no_thread) s.rising
     (All-weaker (λ n. n ≤ greatest_start past) (λ n. n < t) (λ n h. omega (arith, h, may)) (numbers table.threads) s.started)
 rising_after (End t) table past may s = rising_without table.threads t s.rising
 rising_after (Fill first count) table past may s = s.rising
@@ -213,7 +204,7 @@ IsStarted past n = n ≤ greatest_start past
 
 started_after : (e : Event) (table : Table) (past : List Event) → Agrees table past → All (IsStarted (e ∷ past)) (numbers (event_after e table).threads)
 started_after (Start t entry) table past s =
-    let new = begun table.counter entry None no_thread in
+    let new = with_frame table.counter entry None no_thread in
     All-same (IsStarted (Start t entry ∷ past)) _ (numbers table.threads ++ t ∷ []) (map-append (λ (x : ℕ × Thread). x.0) table.threads ((t, new) ∷ []))
     (All-append (IsStarted (Start t entry ∷ past)) (numbers table.threads) (t ∷ [])
     (All-weaker (IsStarted past) (IsStarted (Start t entry ∷ past)) (λ n h. omega (arith, h)) (numbers table.threads) s.started)

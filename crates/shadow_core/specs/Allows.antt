@@ -7,7 +7,7 @@ use Rattle.trace_model.specs.declared.event_kinds.Event.TheVariants.{Step, Read,
 use Rattle.trace_model.specs.WellFormed.{weight, AreWords, MayFollow}
 use Rattle.trace_model.specs.Depth.{count_begun, is_within}
 use Rattle.shadow_stack.specs.Frames.{Frame}
-use Rattle.shadow_core.specs.Frames.{after_reads}
+use Rattle.shadow_core.specs.Frames.{frames_after_reads}
 use Rattle.shadow_core.specs.Table.{Thread, Table, places_read}
 use Rattle.shadow_core.specs.Renewal.{all_starts}
 use Rattle.shadow_core.specs.Stands.{Agrees, Stands}
@@ -49,7 +49,7 @@ IsWithin most sum = (neg_ℤ (pos most) ≤ℤ sum) × (sum ≤ℤ pos most)
 abbrev pub SumsStayWithin : Type 0
 SumsStayWithin = (table : Table) (past : List Event) (t first count : ℕ) (thread : Thread) → Agrees table past → value_of table.threads t ≡ Some thread →
     All (λ (f : Frame). IsWithin (weight past + count) f.sums.plain × IsWithin (weight past + count) f.sums.bare)
-    (after_reads (places_read table thread (range_with_len first count)) thread.frames)
+    (frames_after_reads (places_read table thread (range_with_len first count)) thread.frames)
 
 -- the counts of a thread are at most the weight
 abbrev pub CountsStayWithin : Type 0

@@ -27,12 +27,12 @@ abbrev pub gain : Place → Sums
 gain p = record { plain = if is_foreign p then pos 0 else pos 1; bare = pos 1 }
 
 -- It counts in each open activation but those that were open at that access.
-abbrev pub after_read : Place → List Frame → List Frame
-after_read p frames = added_to_top (gain p) (taken_at (gain p) p.own frames)
+abbrev pub frames_after_read : Place → List Frame → List Frame
+frames_after_read p frames = added_to_top (gain p) (taken_at (gain p) p.own frames)
 
-abbrev pub after_reads : List Place → List Frame → List Frame
-after_reads [] frames = frames
-after_reads (p ∷ places) frames = after_reads places (after_read p frames)
+abbrev pub frames_after_reads : List Place → List Frame → List Frame
+frames_after_reads [] frames = frames
+frames_after_reads (p ∷ places) frames = frames_after_reads places (frames_after_read p frames)
 
 -- the innermost frame is popped, and its sums are added to the frame below
 abbrev pub pop : List Frame → List Frame
@@ -40,9 +40,9 @@ pop [] = []
 pop (f ∷ frames) = added_to_top f.sums frames
 
 -- so many frames are popped, one after the other
-abbrev pub after_pops : ℕ → List Frame → List Frame
-after_pops zero frames = frames
-after_pops (suc n) frames = after_pops n (pop frames)
+abbrev pub frames_after_pops : ℕ → List Frame → List Frame
+frames_after_pops zero frames = frames
+frames_after_pops (suc n) frames = frames_after_pops n (pop frames)
 
 -- and these are their sums, each as it is popped
 abbrev pub popped : ℕ → List Frame → List Sums

@@ -12,7 +12,7 @@ use Rattle.trace_model.specs.WellFormed.{weight_of}
 use Rattle.stamp_lanes.specs.Plain.{Place, is_by_thread, is_by_kernel}
 use Rattle.shadow_stack.specs.declared.sums.Sums.{Sums}
 use Rattle.shadow_stack.specs.Frames.{Frame, new_frame}
-use Rattle.shadow_core.specs.Frames.{after_reads, after_pops, popped}
+use Rattle.shadow_core.specs.Frames.{frames_after_reads, frames_after_pops, popped}
 
 -- What a thread has counted: its steps, and the words that it read where another thread, or the kernel, had written last.
 pub record Counts : Type 0 where
@@ -65,8 +65,8 @@ abbrev pub changed : ℕ → (Thread → Thread) → List (ℕ × Thread) → Li
 changed t change threads = option_map_or (λ thread. with_value threads t (change thread)) (value_of threads t) threads
 
 -- an activation begins
-abbrev pub begun : ℕ → ℕ → Option ℕ → Thread → Thread
-begun now entry back thread = record thread {
+abbrev pub with_frame : ℕ → ℕ → Option ℕ → Thread → Thread
+with_frame now entry back thread = record thread {
   frames = new_frame now ∷ thread.frames;
   calls = record { entry = entry; back = back; earlier = thread.counts } ∷ thread.calls;
 }
@@ -81,12 +81,12 @@ count_pops e t thread = count_ending e t (map (λ c. c.back) thread.calls)
 -- ---- The rows: the table after each kind of event, where its tick was made.
 abbrev pub after_start : ℕ → ℕ → Table → Table
 after_start t entry table = record table {
-  threads = table.threads ++ (t, begun table.counter entry None no_thread) ∷ [];
+  threads = table.threads ++ (t, with_frame table.counter entry None no_thread) ∷ [];
   greatest = t;
 }
 
 abbrev pub after_call : ℕ → ℕ → ℕ → Table → Table
-after_call t entry back table = record table { threads = changed t (begun table.counter entry (Some back)) table.threads }
+after_call t entry back table = record table { threads = changed t (with_frame table.counter entry (Some back)) table.threads }
 
 abbrev pub after_step : ℕ → Table → Table
 after_step t table = record table {
@@ -99,7 +99,7 @@ abbrev pub thread_after_read : ℕ → ℕ → Table → Thread → Thread
 thread_after_read first count table thread =
     let places = places_read table thread (range_with_len first count) in
     record thread {
-      frames = after_reads places thread.frames;
+      frames = frames_after_reads places thread.frames;
       access = stamped table.counter first count thread.access;
       counts = record thread.counts {
         thread = thread.counts.thread + count_by is_by_thread places;
@@ -126,7 +126,7 @@ after_fill first count table = record table {
 abbrev pub thread_after_ret : ℕ → ℕ → Thread → Thread
 thread_after_ret t target thread =
     let n = count_pops (Ret t target) t thread in
-    record thread { frames = after_pops n thread.frames; calls = drop n thread.calls }
+    record thread { frames = frames_after_pops n thread.frames; calls = drop n thread.calls }
 
 abbrev pub after_ret : ℕ → ℕ → Table → Table
 after_ret t target table = record table { threads = changed t (thread_after_ret t target) table.threads }
