@@ -1,6 +1,6 @@
 -- What each event makes of the table's part for its own thread.
 use Rattle.std.proofs.Common.{inl, inr, ◌≡◌, ◌⊎◌, ℕ, suc, ◌+◌, ◌<◌, ◌≤◌, Bool, true, false, not, cond, eqb, ltb, leb, ◌&&◌, ◌||◌, List, [], ◌∷◌, length, take, drop, map, Option, Some, None, refl, sym, ap, subst, ◌∙◌, arith}
-use Rattle.std.specs.Prelude.{◌==◌, Contains, is_some}
+use Rattle.std.specs.Prelude.{◌==◌, Contains, IfSome, is_some}
 use Rattle.std.specs.List.{AllZip, count_by, range_with_len}
 use Rattle.std.proofs.lemmas.Bool.{cond-true, eq-eqb, false≢true, le-leb, le-ltb}
 use Rattle.std.proofs.lemmas.Bool.Decides.{nat_tests}
@@ -221,9 +221,9 @@ write_stands table past t first count thread last h =
 first_or_rest : (x : ℕ) (xs : List ℕ) (s : ℕ) → Contains (x ∷ xs) s → Contains xs s ⊎ (s ≡ x)
 first_or_rest x xs s c = elim (contains_first x xs s c) [ inl here ↦ inr (sym here) | inr rest ↦ inl rest ]
 
-begun_starts : (e : Event) (table : Table) (thread : Thread) (entry : ℕ) (back : Option ℕ) → ticks e table.last ≡ true → (s : ℕ) →
+new_starts : (e : Event) (table : Table) (thread : Thread) (entry : ℕ) (back : Option ℕ) → ticks e table.last ≡ true → (s : ℕ) →
     Contains (starts_of (with_frame table.counter entry back thread).frames) s → Contains (starts_of thread.frames) s ⊎ ((s ≡ table.counter) × (ticks e table.last ≡ true))
-begun_starts e table thread entry back tick s c =
+new_starts e table thread entry back tick s c =
     elim (first_or_rest table.counter (starts_of thread.frames) s c) [ inl old ↦ inl old | inr now ↦ inr (now, tick) ]
 
 call_stands : (table : Table) (past : List Event) (t entry back : ℕ) (thread : Thread) → IsFresh table → IsAbove table.counter thread →
@@ -278,74 +278,59 @@ ret_starts table t target thread s c =
     inl (drop_contains n (starts_of thread.frames) s (subst (λ ss. Contains ss s) (starts-pops n thread.frames) c))
 
 -- ---- each event
+changes : (e : Event) (table : Table) (past : List Event) → IsWellFormed (e ∷ past) → (ticks e table.last ≡ true → IsFresh table) → Agrees table past →
+    IfSome (thread_of e) (Change e table past)
+changes (Step a) table past formed fresh s =
+    let i = there table past a s formed.0 in
+    changed_by (Step a) table past a _ i refl formed.0 (step_stands table past a i.thread i.stands) (same_starts (Step a) table _ _ refl)
+changes (Read a first count) table past formed fresh s =
+    let running = formed.0.0 in
+    let i = there table past a s running.0 in
+    changed_by (Read a first count) table past a _ i refl running.0 (read_stands table past a first count i.thread (s.last ∙ running.1) s i.stands)
+    (same_starts (Read a first count) table _ _ (starts-reads (places_read table i.thread (range_with_len first count)) i.thread.frames))
+changes (Write a first count) table past formed fresh s =
+    let running = formed.0.0 in
+    let i = there table past a s running.0 in
+    changed_by (Write a first count) table past a _ i refl running.0 (write_stands table past a first count i.thread (s.last ∙ running.1) i.stands)
+    (same_starts (Write a first count) table _ _ refl)
+changes (Fill first count) table past formed fresh s = tt
+changes (Call a entry back) table past formed fresh s =
+    let live = formed.0.0 in
+    let i = there table past a s live in
+    let new = fresh refl in
+    changed_by (Call a entry back) table past a _ i refl live
+    (call_stands table past a entry back i.thread new (new.above a i.thread i.found) (has_frame table past a i.thread formed.2 live i.stands) i.stands)
+    (new_starts (Call a entry back) table i.thread entry (Some back) refl)
+changes (Ret a target) table past formed fresh s =
+    let live = formed.0.0 in
+    let i = there table past a s live in
+    changed_by (Ret a target) table past a _ i refl live
+    (popped_stands (Ret a target) table (event_after (Ret a target) table) past a i.thread (λ at. refl) refl refl (λ l. refl) refl (λ l. refl) refl
+    (few_pops table past a target i.thread formed.2 live i.stands) i.stands)
+    (ret_starts table a target i.thread)
+changes (Start a entry) table past formed fresh s =
+    let new = with_frame table.counter entry None no_thread in
+    let below = All-weaker (λ n. n ≤ greatest_start past) (λ n. n < a) (λ n h. omega (arith, h, formed.0)) (numbers table.threads) s.started in
+    record {
+      new = Some new;
+      value = value_of-pushed table.threads a new below;
+      stands = λ thread same. subst (ThreadStands (event_after (Start a entry) table) (Start a entry ∷ past) a) (the_same new thread same)
+          (start_stands table past a entry (fresh refl) (unstarted past a formed.2 formed.0) s);
+      live = sym (ap (λ b. b || is_live past a) (eq-eqb a a refl));
+      starts = λ k c. elim (first_or_rest table.counter [] k c) [ inl old ↦ absurd (omega (arith, old.1)) | inr now ↦ inr (now, refl) ];
+      frames = omega (arith, count-pushed table.threads a new, ap frames_of (value_of-above table.threads a below));
+    }
+changes (End a) table past formed fresh s =
+    let i = there table past a s formed.0 in
+    record {
+      new = None;
+      value = value_of-without table.threads a;
+      stands = λ thread same. absurd (cc);
+      live = sym (ap (λ b. not b && is_live past a) (eq-eqb a a refl));
+      starts = λ k has. absurd has;
+      frames = omega (arith, count-without table.threads a i.thread s.rising i.found, ap frames_of i.found);
+    }
+
 pub change : (e : Event) (t : ℕ) (table : Table) (past : List Event) → thread_of e ≡ Some t → IsWellFormed (e ∷ past) →
     (ticks e table.last ≡ true → IsFresh table) → Agrees table past → Change e table past t
-change e t table past own formed fresh s = at e own formed fresh
-  where
-    of_step : (a : ℕ) → is_live past a ≡ true → Change (Step a) table past a
-    of_step a live =
-        let i = there table past a s live in
-        changed_by (Step a) table past a _ i refl live (step_stands table past a i.thread i.stands) (same_starts (Step a) table _ _ refl)
-
-    of_read : (a first count : ℕ) → MayFollow (Read a first count) past → Change (Read a first count) table past a
-    of_read a first count may =
-        let i = there table past a s may.0.0 in
-        changed_by (Read a first count) table past a _ i refl may.0.0 (read_stands table past a first count i.thread (s.last ∙ may.0.1) s i.stands)
-        (same_starts (Read a first count) table _ _ (starts-reads (places_read table i.thread (range_with_len first count)) i.thread.frames))
-
-    of_write : (a first count : ℕ) → MayFollow (Write a first count) past → Change (Write a first count) table past a
-    of_write a first count may =
-        let i = there table past a s may.0.0 in
-        changed_by (Write a first count) table past a _ i refl may.0.0 (write_stands table past a first count i.thread (s.last ∙ may.0.1) i.stands)
-        (same_starts (Write a first count) table _ _ refl)
-
-    of_call : (a entry back : ℕ) → MayFollow (Call a entry back) past → IsWellFormed past → IsFresh table → Change (Call a entry back) table past a
-    of_call a entry back may before fresh =
-        let i = there table past a s may.0 in
-        changed_by (Call a entry back) table past a _ i refl may.0
-        (call_stands table past a entry back i.thread fresh (fresh.above a i.thread i.found) (has_frame table past a i.thread before may.0 i.stands) i.stands)
-        (begun_starts (Call a entry back) table i.thread entry (Some back) refl)
-
-    of_ret : (a target : ℕ) → MayFollow (Ret a target) past → IsWellFormed past → Change (Ret a target) table past a
-    of_ret a target may before =
-        let i = there table past a s may.0 in
-        changed_by (Ret a target) table past a _ i refl may.0
-        (popped_stands (Ret a target) table (event_after (Ret a target) table) past a i.thread (λ at. refl) refl refl (λ l. refl) refl (λ l. refl) refl
-        (few_pops table past a target i.thread before may.0 i.stands) i.stands)
-        (ret_starts table a target i.thread)
-
-    of_start : (a entry : ℕ) → greatest_start past < a → IsWellFormed past → IsFresh table → Change (Start a entry) table past a
-    of_start a entry may before fresh =
-        let new = with_frame table.counter entry None no_thread in
-        let below = All-weaker (λ n. n ≤ greatest_start past) (λ n. n < a) (λ n h. omega (arith, h, may)) (numbers table.threads) s.started in
-        record {
-          new = Some new;
-          value = value_of-pushed table.threads a new below;
-          stands = λ thread same. subst (ThreadStands (event_after (Start a entry) table) (Start a entry ∷ past) a) (the_same new thread same)
-              (start_stands table past a entry fresh (unstarted past a before may) s);
-          live = sym (ap (λ b. b || is_live past a) (eq-eqb a a refl));
-          starts = λ k c. elim (first_or_rest table.counter [] k c) [ inl old ↦ absurd (omega (arith, old.1)) | inr now ↦ inr (now, refl) ];
-          frames = omega (arith, count-pushed table.threads a new, ap frames_of (value_of-above table.threads a below));
-        }
-
-    of_end : (a : ℕ) → is_live past a ≡ true → Change (End a) table past a
-    of_end a live =
-        let i = there table past a s live in
-        record {
-          new = None;
-          value = value_of-without table.threads a;
-          stands = λ thread same. absurd (cc);
-          live = sym (ap (λ b. not b && is_live past a) (eq-eqb a a refl));
-          starts = λ k has. absurd has;
-          frames = omega (arith, count-without table.threads a i.thread s.rising i.found, ap frames_of i.found);
-        }
-
-    at : (e : Event) → thread_of e ≡ Some t → IsWellFormed (e ∷ past) → (ticks e table.last ≡ true → IsFresh table) → Change e table past t
-    at (Step a) own formed fresh = subst (Change (Step a) table past) (same_thread a t own) (of_step a formed.0)
-    at (Read a first count) own formed fresh = subst (Change (Read a first count) table past) (same_thread a t own) (of_read a first count formed.0)
-    at (Write a first count) own formed fresh = subst (Change (Write a first count) table past) (same_thread a t own) (of_write a first count formed.0)
-    at (Fill first count) own formed fresh = absurd (cc)
-    at (Call a entry back) own formed fresh = subst (Change (Call a entry back) table past) (same_thread a t own) (of_call a entry back formed.0 formed.2 (fresh refl))
-    at (Ret a target) own formed fresh = subst (Change (Ret a target) table past) (same_thread a t own) (of_ret a target formed.0 formed.2)
-    at (Start a entry) own formed fresh = subst (Change (Start a entry) table past) (same_thread a t own) (of_start a entry formed.0 formed.2 (fresh refl))
-    at (End a) own formed fresh = subst (Change (End a) table past) (same_thread a t own) (of_end a formed.0)
+change e t table past own formed fresh s = subst (λ o. IfSome o (Change e table past)) own (changes e table past formed fresh s)

@@ -1,10 +1,10 @@
 -- The table agrees with the past after each event, and what it pops is what ends there.
-use Rattle.std.proofs.Common.{inl, inr, ◌≡◌, ◌≢◌, ◌⊎◌, ℕ, zero, suc, ◌+◌, ◌-◌, ◌<◌, ◌≤◌, Bool, true, false, not, cond, eqb, ltb, leb, ◌&&◌, ◌||◌, List, [], ◌∷◌, ◌++◌, take, map, Option, Some, None, refl, sym, ap, subst, ◌∙◌, arith}
+use Rattle.std.proofs.Common.{inl, inr, ◌≡◌, ◌≢◌, ◌⊎◌, ℕ, zero, suc, ◌+◌, ◌-◌, ◌<◌, ◌≤◌, Bool, true, false, not, cond, eqb, ltb, leb, ◌&&◌, ◌||◌, List, [], ◌∷◌, ◌++◌, length, take, map, Option, Some, None, refl, sym, ap, subst, ◌∙◌, arith}
 use Rattle.std.specs.Prelude.{◌==◌, All, is_some}
 use Rattle.std.proofs.lemmas.Bool.{cond-true, cond-false, eq-eqb, ne_eqb, eqb-true, false≢true, lt-ltb}
 use Rattle.std.proofs.lemmas.Bool.Decides.{nat_tests}
-use Rattle.std.proofs.lemmas.List.{map-append, take-map}
-use Rattle.std.proofs.lemmas.List.Elements.{All-nil, All-cons, All-append, All-contains, All-same, All-weaker}
+use Rattle.std.proofs.lemmas.List.{length-map, map-append, take_all, take-map}
+use Rattle.std.proofs.lemmas.List.Elements.{All-nil, All-cons, All-contains, All-push, All-same, All-weaker}
 use Rattle.guest_words.specs.ByThread.{IsRising, numbers, value_of}
 use Rattle.guest_words.proofs.ThreadTables.{All-numbers-without, rising_pushed, rising_without}
 use Rattle.trace_model.specs.declared.event_kinds.Event.{Event}
@@ -17,17 +17,18 @@ use Rattle.trace_model.specs.Causes.{OtherThread, Kernel, part, caused}
 use Rattle.trace_model.specs.Profile.{done_of, ended}
 use Rattle.trace_model.specs.WellFormed.{is_live, last_step, greatest_start, weight_of, MayFollow, IsWellFormed}
 use Rattle.trace_model.proofs.Causes.{foreign_parts_are_counts, parts-sum}
+use Rattle.shadow_stack.specs.Frames.{Frame, starts_of}
 use Rattle.shadow_core.specs.Frames.{popped}
-use Rattle.shadow_core.specs.Table.{Thread, Table, with_frame, count_pops, event_after, finished, is_switch, no_thread, record_of, records, records_of, ticks}
+use Rattle.shadow_core.specs.Table.{Thread, Table, with_frame, count_pops, event_after, finished, is_switch, no_thread, record_of, records, records_of, ticks, changed}
 use Rattle.shadow_core.specs.Stands.{is_by_others, is_written, is_filled, writes_word, counts_of, call_of, sums_of, IsFalling, ThreadStands, HasStart, Agrees}
-use Rattle.shadow_core.specs.Laws.{IsAbove, IsFresh}
+use Rattle.shadow_core.specs.Laws.{IsAbove, IsFresh, OpenAreAsDefined}
 use Rattle.shadow_core.proofs.Frames.{popped-totals}
 use Rattle.shadow_core.proofs.Events.{apart}
 use Rattle.shadow_core.proofs.Inside.{inside_before, counts_idle}
 use Rattle.shadow_core.proofs.Past.{of_thread, same_thread}
 use Rattle.shadow_core.proofs.Threads.{numbers-changed}
 use Rattle.shadow_core.proofs.Kept.{still_stands, backs-stand}
-use Rattle.shadow_core.proofs.Own.{IsThere, there, positive, positive_by, Change, change, at_most}
+use Rattle.shadow_core.proofs.Own.{IsThere, there, positive, positive_by, Change, change, at_most, zip-length}
 
 -- ---- what each event makes of the counter and the write stamps
 pub counter_after : (e : Event) (table : Table) → (event_after e table).counter ≡ table.counter
@@ -187,35 +188,31 @@ marks_after (Fill first count) table past marks l = marked_by_fill (covers first
 marks_after e table past marks l = marks l
 
 -- ---- the numbers of the threads
-rising_after : (e : Event) (table : Table) (past : List Event) → MayFollow e past → Agrees table past → IsRising (numbers (event_after e table).threads)
-rising_after (Start t entry) table past may s =
-    rising_pushed table.threads t (with_frame table.counter entry None no_thread) s.rising
-    (All-weaker (λ n. n ≤ greatest_start past) (λ n. n < t) (λ n h. omega (arith, h, may)) (numbers table.threads) s.started)
-rising_after (End t) table past may s = rising_without table.threads t s.rising
-rising_after (Fill first count) table past may s = s.rising
-rising_after (Step t) table past may s = subst IsRising (sym (numbers-changed table.threads t _)) s.rising
-rising_after (Read t first count) table past may s = subst IsRising (sym (numbers-changed table.threads t _)) s.rising
-rising_after (Write t first count) table past may s = subst IsRising (sym (numbers-changed table.threads t _)) s.rising
-rising_after (Call t entry back) table past may s = subst IsRising (sym (numbers-changed table.threads t _)) s.rising
-rising_after (Ret t target) table past may s = subst IsRising (sym (numbers-changed table.threads t _)) s.rising
-
 abbrev IsStarted : List Event → ℕ → Type 0
 IsStarted past n = n ≤ greatest_start past
 
-started_after : (e : Event) (table : Table) (past : List Event) → Agrees table past → All (IsStarted (e ∷ past)) (numbers (event_after e table).threads)
-started_after (Start t entry) table past s =
+-- they rise, and all satisfy a condition
+abbrev AreKept : (ℕ → Type 0) → List (ℕ × Thread) → Type 0
+AreKept P xs = IsRising (numbers xs) × All P (numbers xs)
+
+kept : (P : ℕ → Type 0) (xs : List (ℕ × Thread)) (t : ℕ) (change : Thread → Thread) → AreKept P xs → AreKept P (changed t change xs)
+kept P xs t change h = let same = sym (numbers-changed xs t change) in (subst IsRising same h.0, subst (All P) same h.1)
+
+numbers_after : (e : Event) (table : Table) (past : List Event) → MayFollow e past → Agrees table past → AreKept (IsStarted (e ∷ past)) (event_after e table).threads
+numbers_after (Start t entry) table past may s =
     let new = with_frame table.counter entry None no_thread in
-    All-same (IsStarted (Start t entry ∷ past)) _ (numbers table.threads ++ t ∷ []) (map-append (λ (x : ℕ × Thread). x.0) table.threads ((t, new) ∷ []))
-    (All-append (IsStarted (Start t entry ∷ past)) (numbers table.threads) (t ∷ [])
-    (All-weaker (IsStarted past) (IsStarted (Start t entry ∷ past)) (λ n h. omega (arith, h)) (numbers table.threads) s.started)
-    (All-cons (IsStarted (Start t entry ∷ past)) t [] (omega arith) (All-nil (IsStarted (Start t entry ∷ past)))))
-started_after (End t) table past s = All-numbers-without (IsStarted past) table.threads t s.started
-started_after (Fill first count) table past s = s.started
-started_after (Step t) table past s = All-same (IsStarted past) _ _ (numbers-changed table.threads t _) s.started
-started_after (Read t first count) table past s = All-same (IsStarted past) _ _ (numbers-changed table.threads t _) s.started
-started_after (Write t first count) table past s = All-same (IsStarted past) _ _ (numbers-changed table.threads t _) s.started
-started_after (Call t entry back) table past s = All-same (IsStarted past) _ _ (numbers-changed table.threads t _) s.started
-started_after (Ret t target) table past s = All-same (IsStarted past) _ _ (numbers-changed table.threads t _) s.started
+    let after = IsStarted (Start t entry ∷ past) in (
+      rising_pushed table.threads t new s.rising (All-weaker (IsStarted past) (λ n. n < t) (λ n h. omega (arith, h, may)) (numbers table.threads) s.started),
+      All-same after _ (numbers table.threads ++ t ∷ []) (map-append (λ (x : ℕ × Thread). x.0) table.threads ((t, new) ∷ []))
+          (All-push after (numbers table.threads) t (All-weaker (IsStarted past) after (λ n h. omega (arith, h)) (numbers table.threads) s.started) (omega arith)),
+    )
+numbers_after (End t) table past may s = (rising_without table.threads t s.rising, All-numbers-without (IsStarted past) table.threads t s.started)
+numbers_after (Fill first count) table past may s = (s.rising, s.started)
+numbers_after (Step t) table past may s = kept (IsStarted past) table.threads t _ (s.rising, s.started)
+numbers_after (Read t first count) table past may s = kept (IsStarted past) table.threads t _ (s.rising, s.started)
+numbers_after (Write t first count) table past may s = kept (IsStarted past) table.threads t _ (s.rising, s.started)
+numbers_after (Call t entry back) table past may s = kept (IsStarted past) table.threads t _ (s.rising, s.started)
+numbers_after (Ret t target) table past may s = kept (IsStarted past) table.threads t _ (s.rising, s.started)
 
 last_after : (e : Event) (table : Table) (past : List Event) → table.last ≡ last_step past → (event_after e table).last ≡ last_step (e ∷ past)
 last_after (Step t) table past is = refl
@@ -238,8 +235,8 @@ event_agrees e table past formed fresh s = record {
       (subst (λ n. n ≤ table.counter) (sym (write_after e table l)) (at_most (writes_word e l) table.counter (table.write l) (s.writes l)));
   distinct = distinct_after e table past formed fresh s;
   live = live_after e table past formed fresh s;
-  rising = rising_after e table past formed.0 s;
-  started = started_after e table past s;
+  rising = (numbers_after e table past formed.0 s).0;
+  started = (numbers_after e table past formed.0 s).1;
   last = last_after e table past s.last;
   greatest = greatest_after e table past formed.0 s.greatest;
   weight = ap (λ n. n + weight_of e) s.weight;
@@ -279,20 +276,31 @@ records_are past t zero calls = refl
 records_are past t (suc n) [] = refl
 records_are past t (suc n) (a ∷ calls) = λ i. record_is past t a i ∷ records_are past t n calls i
 
-popped_are : (e : Event) (table : Table) (past : List Event) (t : ℕ) (i : IsThere table past t) →
-    records_of e t (value_of table.threads t) ≡ map (done_of past t) (take (count_ending e t (backs (open_calls past t))) (open_calls past t))
-popped_are e table past t i =
-    let thread = i.thread in
-    let s = i.stands in
-    let n = count_pops e t thread in
+-- what is recorded of a thread's innermost activations, where so many are popped
+popped_are : (table : Table) (past : List Event) (t n : ℕ) (thread : Thread) → ThreadStands table past t thread →
+    records t thread.counts (popped n thread.frames) thread.calls ≡ map (done_of past t) (take n (open_calls past t))
+popped_are table past t n thread s =
     let calls = open_calls past t in
-    let sums : popped n thread.frames ≡ map (sums_of past t) (take n calls) = popped-totals n thread.frames ∙ ap (take n) s.sums ∙ take-map (sums_of past t) n calls in
+    let sums = popped-totals n thread.frames ∙ ap (take n) s.sums ∙ take-map (sums_of past t) n calls in
+    (λ i. records t (s.counts i) (sums i) (s.calls i)) ∙ records_are past t n calls
+
+ending_are : (e : Event) (table : Table) (past : List Event) (t : ℕ) (i : IsThere table past t) →
+    records_of e t (value_of table.threads t) ≡ map (done_of past t) (take (count_ending e t (backs (open_calls past t))) (open_calls past t))
+ending_are e table past t i =
     ap (records_of e t) i.found
-    ∙ (λ i. records t (s.counts i) (sums i) (s.calls i))
-    ∙ records_are past t n calls
-    ∙ ap (λ bs. map (done_of past t) (take (count_ending e t bs) calls)) (backs-stand past t thread.calls s.calls)
+    ∙ popped_are table past t (count_pops e t i.thread) i.thread i.stands
+    ∙ ap (λ bs. map (done_of past t) (take (count_ending e t bs) (open_calls past t))) (backs-stand past t i.thread.calls i.stands.calls)
 
 pub event_finishes : (e : Event) (table : Table) (past : List Event) → MayFollow e past → Agrees table past → finished e table ≡ ended e past
-event_finishes (Ret t target) table past may s = popped_are (Ret t target) table past t (there table past t s may.0)
-event_finishes (End t) table past may s = popped_are (End t) table past t (there table past t s may)
+event_finishes (Ret t target) table past may s = ending_are (Ret t target) table past t (there table past t s may.0)
+event_finishes (End t) table past may s = ending_are (End t) table past t (there table past t s may)
 event_finishes e table past may s = refl
+
+-- all of a thread
+pub open_are_as_defined : OpenAreAsDefined
+open_are_as_defined table past t thread s found =
+    let h = s.threads t thread found in
+    let n = length thread.frames in
+    let deep = zip-length _ (starts_of thread.frames) (open_calls past t) h.starts in
+    popped_are table past t n thread h
+    ∙ ap (map (done_of past t)) (take_all n (open_calls past t) (omega (arith, deep, length-map thread.frames (λ (f : Frame). f.start))))

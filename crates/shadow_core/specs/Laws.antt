@@ -1,12 +1,14 @@
 -- The stamp table gives the sizes of the definitions, whatever the greatest stamp is.
-use Rattle.std.specs.Prelude.{◌≡◌, ℕ, ◌<◌, ◌≤◌, true, List, [], ◌∷◌, Some}
+use Rattle.std.specs.Prelude.{◌≡◌, ℕ, ◌<◌, ◌≤◌, true, List, [], ◌∷◌, length, map, Some}
 use Rattle.guest_words.specs.ByThread.{value_of}
 use Rattle.trace_model.specs.declared.event_kinds.Event.{Event}
+use Rattle.trace_model.specs.Activations.{open_calls}
 use Rattle.trace_model.specs.Depth.{is_within}
-use Rattle.trace_model.specs.Profile.{ended, done}
+use Rattle.trace_model.specs.Profile.{done_of, ended, done}
 use Rattle.trace_model.specs.WellFormed.{IsWellFormed}
 use Rattle.shadow_stack.specs.Frames.{starts_of}
-use Rattle.shadow_core.specs.Table.{Thread, Table, empty_table, table_at, table_after, table_of, finished, finished_of}
+use Rattle.shadow_core.specs.Frames.{popped}
+use Rattle.shadow_core.specs.Table.{Thread, Table, empty_table, table_at, table_after, table_of, finished, finished_of, records}
 use Rattle.shadow_core.specs.Renewal.{bounded_tick}
 use Rattle.shadow_core.specs.Counting.{counter_of}
 use Rattle.shadow_core.specs.Stands.{IsFalling, Agrees, IsCounted, Stands}
@@ -56,6 +58,11 @@ StandsOn = (most : ℕ) (e : Event) (table : Table) (past : List Event) → IsWe
 abbrev pub FinishesWhatEnds : Type 0
 FinishesWhatEnds = (most : ℕ) (e : Event) (table : Table) (past : List Event) → IsWellFormed (e ∷ past) → Agrees table past →
     finished e (table_at (bounded_tick most) e table) ≡ ended e past
+
+-- all open activations of a thread, were they to end now, would be recorded as the definitions say
+abbrev pub OpenAreAsDefined : Type 0
+OpenAreAsDefined = (table : Table) (past : List Event) (t : ℕ) (thread : Thread) → Agrees table past → value_of table.threads t ≡ Some thread →
+    records t thread.counts (popped (length thread.frames) thread.frames) thread.calls ≡ map (done_of past t) (open_calls past t)
 
 -- over a whole run the table records each ended activation with its size, its parts and its cost
 abbrev pub FinishesWhatIsDone : Type 0

@@ -1,7 +1,7 @@
 //! Laws of the table: each is the contract of a function that does nothing.
 ghost use Rattle.shadow_core.specs.Allows.{AllowsWhatMayFollow, CountsStayWithin, FitsByFrames, SumsStayWithin};
 ghost use Rattle.shadow_core.specs.Bulk.{ReadsAtOnce};
-ghost use Rattle.shadow_core.specs.Laws.{AgreesOn, CounterFits, CountsOn, EmptyStands, FinishesWhatEnds, FinishesWhatIsDone, RunsAgree, StandsOn, TicksKeepTheTable};
+ghost use Rattle.shadow_core.specs.Laws.{AgreesOn, CounterFits, CountsOn, EmptyStands, FinishesWhatEnds, FinishesWhatIsDone, OpenAreAsDefined, RunsAgree, StandsOn, TicksKeepTheTable};
 ghost use Rattle.shadow_core.specs.Worked.{WorkedTables};
 
 /// A tick keeps what the table says of the past, renumbered or not, and leaves the counter above all stamps.
@@ -10,13 +10,14 @@ pub fn a_tick_keeps_the_table()
 {}
 
 /// The empty table stands for the empty past. After each event that may follow, the table stands for the longer past, renumbered
-/// or not, and what it pops is what ends there, with its size, the size's parts and its cost. So over a whole run it
-/// records what the definitions say.
+/// or not, and what it pops is what ends there, with its size, the size's parts and its cost; what is still open stands there
+/// with the same. So over a whole run it records what the definitions say.
 pub fn each_event_keeps_the_table()
     ensures empty { EmptyStands }
     ensures agrees_on { AgreesOn }
     ensures stands_on { StandsOn }
     ensures finishes { FinishesWhatEnds }
+    ensures open_ones { OpenAreAsDefined }
     ensures whole_run { FinishesWhatIsDone }
 {}
 
@@ -39,7 +40,7 @@ pub fn a_table_tells_what_may_follow()
     ensures at_once { ReadsAtOnce }
 {}
 
-/// Two worked traces with renumberings.
+/// Worked traces with renumberings.
 pub fn worked_tables_are_as_written()
     ensures { WorkedTables }
 {}
