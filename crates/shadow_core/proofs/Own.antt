@@ -2,7 +2,7 @@
 use Rattle.std.proofs.Common.{inl, inr, ◌≡◌, ◌⊎◌, ℕ, suc, ◌+◌, ◌<◌, ◌≤◌, Bool, true, false, not, cond, eqb, ltb, leb, ◌&&◌, ◌||◌, List, [], ◌∷◌, length, take, drop, map, Option, Some, None, refl, sym, ap, subst, ◌∙◌, arith}
 use Rattle.std.specs.Prelude.{◌==◌, Contains, IfSome, is_some}
 use Rattle.std.specs.List.{AllZip, count_by, range_with_len}
-use Rattle.std.proofs.lemmas.Bool.{cond-true, eq-eqb, false≢true, le-leb, le-ltb}
+use Rattle.std.proofs.lemmas.Bool.{cond-true, eq-eqb, false≢true}
 use Rattle.std.proofs.lemmas.Bool.Decides.{nat_tests}
 use Rattle.std.proofs.lemmas.List.{length-map, take-append-drop}
 use Rattle.std.proofs.lemmas.List.Elements.{All-weaker, Contains-append_right}
@@ -18,7 +18,7 @@ use Rattle.trace_model.specs.Events.{thread_of, touch, covers, words_read}
 use Rattle.trace_model.specs.Activations.{count_returned, open_calls, backs}
 use Rattle.trace_model.specs.Sizes.{newer, is_own, last_touch}
 use Rattle.trace_model.specs.Causes.{OtherThread, Kernel, is_by}
-use Rattle.trace_model.specs.WellFormed.{is_live, greatest_start, MayFollow, IsWellFormed}
+use Rattle.trace_model.specs.WellFormed.{is_live, greatest_start, IsWellFormed}
 use Rattle.trace_model.proofs.Pairs.{contains_first}
 use Rattle.stamp_lanes.specs.Plain.{is_by_thread, is_by_kernel}
 use Rattle.shadow_stack.specs.Frames.{starts_of}
@@ -27,7 +27,7 @@ use Rattle.shadow_core.specs.Stands.{is_by_others, is_filled, counts_of, IsFalli
 use Rattle.shadow_core.specs.Laws.{IsAbove, IsFresh}
 use Rattle.shadow_core.proofs.Frames.{starts-reads, starts-pops}
 use Rattle.shadow_core.proofs.Inside.{counts_idle, same_counts, kernel_is, other_is}
-use Rattle.shadow_core.proofs.Past.{IsUnstarted, unstarted, rooted, rooted-positive, returned-lt, same_thread}
+use Rattle.shadow_core.proofs.Past.{IsUnstarted, unstarted, rooted, rooted-positive, returned-lt}
 use Rattle.shadow_core.proofs.Threads.{value_of-changed, frame_count, frames_of, count-changed, count-pushed, count-without}
 use Rattle.shadow_core.proofs.Kept.{IsStill, still_stands, still_thread, begun_stands, backs-stand, popped_stands, outermost-le}
 

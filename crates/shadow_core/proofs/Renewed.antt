@@ -18,7 +18,7 @@ use Rattle.stamp_renumber.specs.Classes.{new_start, new_write, new_access}
 use Rattle.stamp_renumber.proofs.Order.{class-strict, starts_keep_order, accesses_keep_order, writes_keep_order, writes_stay, new_stamps_fit}
 use Rattle.shadow_core.specs.Frames.{no_sums}
 use Rattle.shadow_core.specs.Table.{Thread, Table}
-use Rattle.shadow_core.specs.Renewal.{all_starts, renewed_thread, renewed, plain_tick, bounded_tick}
+use Rattle.shadow_core.specs.Renewal.{all_starts, renewed_thread, renewed, plain_tick}
 use Rattle.shadow_core.specs.Stands.{totals, IsStartOf, IsFalling, outermost, ThreadStands, HasStart, AreDistinct, Agrees}
 use Rattle.shadow_core.specs.Laws.{IsAbove, IsFresh, IsTick, TicksKeepTheTable}
 use Rattle.shadow_core.proofs.Threads.{starts_among}

@@ -1,10 +1,10 @@
 -- What a table allows, what fits, and how great sums and counts are.
-use Rattle.std.proofs.Common.{◌≡◌, ℕ, ◌+◌, ◌*◌, ◌≤◌, Bool, true, false, not, eqb, leb, ◌&&◌, ◌||◌, List, [], ◌∷◌, length, get_or, refl, sym, ap, subst, ◌∙◌, arith, pos}
+use Rattle.std.proofs.Common.{◌≡◌, ℕ, ◌+◌, ◌*◌, ◌≤◌, Bool, true, false, not, eqb, leb, ◌&&◌, ◌||◌, List, [], ◌∷◌, length, drop, map, get_or, refl, sym, ap, subst, ◌∙◌, arith, pos}
 use Rattle.std.specs.Prelude.{All, ◌≤ℤ◌}
 use Rattle.std.specs.List.{count_by, range_with_len}
 use Rattle.std.proofs.lemmas.Bool.{le-leb}
 use Rattle.std.proofs.lemmas.Int.{ints}
-use Rattle.std.proofs.lemmas.List.Elements.{All-nil, All-cons, All-head, All-map, All-tail}
+use Rattle.std.proofs.lemmas.List.Elements.{All-nil, All-cons, All-drop, All-head, All-map, All-tail}
 use Rattle.trace_model.specs.declared.event_kinds.Event.{Event}
 use Rattle.trace_model.specs.declared.event_kinds.Event.TheVariants.{Step, Read, Write, Fill, Call, Ret, Start, End}
 use Rattle.trace_model.specs.declared.activations.Activation.{Activation}
@@ -16,12 +16,12 @@ use Rattle.trace_model.specs.Depth.{count_begun, pending}
 use Rattle.trace_model.proofs.Bounds.{weight-append, pairs-le-weight, cost-le-weight, count_range-le}
 use Rattle.shadow_stack.specs.declared.sums.Sums.{Sums}
 use Rattle.shadow_stack.specs.Frames.{Frame, plus}
-use Rattle.shadow_core.specs.Frames.{no_sums, frames_after_reads}
+use Rattle.shadow_core.specs.Frames.{no_sums, frames_after_reads, frames_after_pops}
 use Rattle.shadow_core.specs.Table.{Counts, places_read}
 use Rattle.shadow_core.specs.Renewal.{all_starts}
 use Rattle.shadow_core.specs.Stands.{sums_of, totals}
-use Rattle.shadow_core.specs.Allows.{IsWithin, AllowsWhatMayFollow, CountsStayWithin, FitsByFrames, SumsStayWithin}
-use Rattle.shadow_core.proofs.Frames.{with_gains}
+use Rattle.shadow_core.specs.Allows.{IsWithin, AllowsWhatMayFollow, AreWithin, CountsStayWithin, FitsByFrames, PopsStayWithin, SumsStayWithin}
+use Rattle.shadow_core.proofs.Frames.{totals-pops, with_gains}
 use Rattle.shadow_core.proofs.Inside.{gained, gains, inside_before}
 use Rattle.shadow_core.proofs.Kept.{totals_after}
 use Rattle.shadow_core.proofs.Counted.{room}
@@ -68,17 +68,20 @@ fits_by_frames most e table past s = ap (λ b. leb (3 * (pending (e ∷ past) + 
 abbrev AreNumbers : ℕ → Sums → Type 0
 AreNumbers most s = ((pos 0 ≤ℤ s.plain) × (s.plain ≤ℤ pos most)) × ((pos 0 ≤ℤ s.bare) × (s.bare ≤ℤ pos most))
 
-abbrev AreWithin : ℕ → Frame → Type 0
-AreWithin most f = IsWithin most f.sums.plain × IsWithin most f.sums.bare
+abbrev SumsFit : ℕ → Frame → Type 0
+SumsFit most f = IsWithin most f.sums.plain × IsWithin most f.sums.bare
 
 -- where the totals are numbers, each sum is the difference of two
-totals_fit : (most : ℕ) (above : Sums) (frames : List Frame) → AreNumbers most above → All (AreNumbers most) (totals above frames) → All (AreWithin most) frames
-totals_fit most above [] low all = All-nil (AreWithin most)
+totals_fit : (most : ℕ) (above : Sums) (frames : List Frame) → AreNumbers most above → All (AreNumbers most) (totals above frames) → AreWithin most frames
+totals_fit most above [] low all = All-nil (SumsFit most)
 totals_fit most above (f ∷ frames) low all =
     let here = All-head (AreNumbers most) (plus above f.sums) (totals (plus above f.sums) frames) all in
-    All-cons (AreWithin most) f frames
+    All-cons (SumsFit most) f frames
     ((omega (arith, ints, low.0, here.0), omega (arith, ints, low.0, here.0)), (omega (arith, ints, low.1, here.1), omega (arith, ints, low.1, here.1)))
     (totals_fit most (plus above f.sums) frames here (All-tail (AreNumbers most) (plus above f.sums) (totals (plus above f.sums) frames) all))
+
+none_fit : (most : ℕ) → AreNumbers most no_sums
+none_fit most = ((omega (arith, ints), omega (arith, ints)), (omega (arith, ints), omega (arith, ints)))
 
 weight-since : (past : List Event) (at : ℕ) → weight (since past at) ≤ weight past
 weight-since past at = omega (arith, weight-append (since past at) (before past (at + 1)), ap weight (inside_before past at))
@@ -99,13 +102,23 @@ numbers_after past t first count a =
     subst (AreNumbers (weight past + count)) (sym (gains p q words (part Plain inside outside t) (bare inside t)))
     ((omega (arith, ints), omega (arith, ints, plain)), (omega (arith, ints), omega (arith, ints, first_reads)))
 
+pub pops_stay_within : PopsStayWithin
+pops_stay_within table past t n thread s found =
+    let calls = open_calls past t in
+    let h = s.threads t thread found in
+    let numbers : All (AreNumbers (weight past)) (map (sums_of past t) calls) =
+    All-map (AreNumbers (weight past)) (sums_of past t) calls
+    (λ k d in'. subst (λ most. AreNumbers most (sums_of past t (get_or calls k d))) (omega arith) (numbers_after past t 0 0 (get_or calls k d))) in
+    totals_fit (weight past) no_sums (frames_after_pops n thread.frames) (none_fit (weight past))
+    (subst (All (AreNumbers (weight past))) (sym (totals-pops n thread.frames ∙ ap (drop n) h.sums)) (All-drop (AreNumbers (weight past)) n _ numbers))
+
 pub sums_stay_within : SumsStayWithin
 sums_stay_within table past t first count thread s found =
     let words = range_with_len first count in
     let most = weight past + count in
     let calls = open_calls past t in
     totals_fit most no_sums (frames_after_reads (places_read table thread words) thread.frames)
-    ((omega (arith, ints), omega (arith, ints)), (omega (arith, ints), omega (arith, ints)))
+    (none_fit most)
     (subst (All (AreNumbers most)) (sym (totals_after table past t thread words (s.threads t thread found)))
     (All-map (AreNumbers most) (λ a. with_gains (gained past t a) words (sums_of past t a)) calls (λ k d in'. numbers_after past t first count (get_or calls k d))))
 

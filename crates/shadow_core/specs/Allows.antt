@@ -7,7 +7,7 @@ use Rattle.trace_model.specs.declared.event_kinds.Event.TheVariants.{Step, Read,
 use Rattle.trace_model.specs.WellFormed.{weight, AreWords, MayFollow}
 use Rattle.trace_model.specs.Depth.{count_begun, is_within}
 use Rattle.shadow_stack.specs.Frames.{Frame}
-use Rattle.shadow_core.specs.Frames.{frames_after_reads}
+use Rattle.shadow_core.specs.Frames.{frames_after_reads, frames_after_pops}
 use Rattle.shadow_core.specs.Table.{Thread, Table, places_read}
 use Rattle.shadow_core.specs.Renewal.{all_starts}
 use Rattle.shadow_core.specs.Stands.{Agrees, Stands}
@@ -45,11 +45,18 @@ FitsByFrames = (most : ℕ) (e : Event) (table : Table) (past : List Event) → 
 abbrev pub IsWithin : ℕ → ℤ → Type 0
 IsWithin most sum = (neg_ℤ (pos most) ≤ℤ sum) × (sum ≤ℤ pos most)
 
--- after a read of words, each sum is within the weight and the words
+abbrev pub AreWithin : ℕ → List Frame → Type 0
+AreWithin most frames = All (λ (f : Frame). IsWithin most f.sums.plain × IsWithin most f.sums.bare) frames
+
+-- after so many pops, each sum is within the weight
+abbrev pub PopsStayWithin : Type 0
+PopsStayWithin = (table : Table) (past : List Event) (t n : ℕ) (thread : Thread) → Agrees table past → value_of table.threads t ≡ Some thread →
+    AreWithin (weight past) (frames_after_pops n thread.frames)
+
+-- and after a read of words, within the weight and the words
 abbrev pub SumsStayWithin : Type 0
 SumsStayWithin = (table : Table) (past : List Event) (t first count : ℕ) (thread : Thread) → Agrees table past → value_of table.threads t ≡ Some thread →
-    All (λ (f : Frame). IsWithin (weight past + count) f.sums.plain × IsWithin (weight past + count) f.sums.bare)
-    (frames_after_reads (places_read table thread (range_with_len first count)) thread.frames)
+    AreWithin (weight past + count) (frames_after_reads (places_read table thread (range_with_len first count)) thread.frames)
 
 -- the counts of a thread are at most the weight
 abbrev pub CountsStayWithin : Type 0

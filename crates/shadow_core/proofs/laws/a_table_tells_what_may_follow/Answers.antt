@@ -1,4 +1,4 @@
-use Rattle.shadow_core.proofs.Room.{allows_what_may_follow, fits_by_frames, sums_stay_within, counts_stay_within}
+use Rattle.shadow_core.proofs.Room.{allows_what_may_follow, fits_by_frames, pops_stay_within, sums_stay_within, counts_stay_within}
 use Rattle.shadow_core.proofs.Bulk.{reads_at_once}
 use Rattle.shadow_core.proofs.laws.a_table_tells_what_may_follow.Goals as goal
 
@@ -16,3 +16,6 @@ returns-clause-counts c = counts_stay_within
 
 pub returns-clause-at_once : goal.returns-clause-at_once
 returns-clause-at_once c = reads_at_once
+
+pub returns-clause-pops : goal.returns-clause-pops
+returns-clause-pops c = pops_stay_within
