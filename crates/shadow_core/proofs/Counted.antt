@@ -15,10 +15,11 @@ use Rattle.trace_model.specs.Depth.{pending, count_begun, count_ended, is_within
 use Rattle.trace_model.proofs.Pending.{open_calls-le-pending}
 use Rattle.stamp_renumber.specs.Classes.{new_start}
 use Rattle.shadow_stack.specs.Frames.{Frame, starts_of}
-use Rattle.shadow_core.specs.Table.{Thread, Table, event_after, table_at, ticks}
-use Rattle.shadow_core.specs.Stands.{Agrees}
+use Rattle.shadow_core.specs.Table.{Thread, Table, event_after}
+use Rattle.shadow_core.specs.Ticks.{table_at, ticks}
 use Rattle.shadow_core.specs.Renewal.{all_starts, renewed_thread, renewed, plain_tick, bounded_tick}
 use Rattle.shadow_core.specs.Counting.{next_counter, counter_of}
+use Rattle.shadow_core.specs.Stands.{Agrees}
 use Rattle.shadow_core.specs.Laws.{CounterFits, IsFresh}
 use Rattle.shadow_core.proofs.Events.{apart, open_calls-apart}
 use Rattle.shadow_core.proofs.Past.{of_thread, same_thread}

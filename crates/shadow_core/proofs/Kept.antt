@@ -18,7 +18,8 @@ use Rattle.shadow_stack.specs.declared.sums.Sums.{Sums}
 use Rattle.shadow_stack.specs.Frames.{starts_of}
 use Rattle.shadow_core.specs.Frames.{no_sums, frames_after_reads, frames_after_pops}
 use Rattle.shadow_core.specs.Table.{Counts, OpenCall, Thread, Table, places_read, count_pops, with_frame}
-use Rattle.shadow_core.specs.Stands.{is_by_others, counts_of, call_of, sums_of, totals, IsStartOf, IsFalling, outermost, ThreadStands}
+use Rattle.shadow_core.specs.Past.{is_by_others, counts_of, call_of, sums_of}
+use Rattle.shadow_core.specs.Stands.{totals, IsStartOf, IsFalling, outermost, ThreadStands}
 use Rattle.shadow_core.proofs.Frames.{starts-reads, starts-pops, totals-reads, totals-pops, Tells, with_gains, zip-map}
 use Rattle.shadow_core.proofs.Inside.{IsBegun, gained, calls_more, sums_more, call_now, sums_now, counts_idle, plain_is}
 

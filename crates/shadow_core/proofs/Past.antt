@@ -12,7 +12,7 @@ use Rattle.trace_model.specs.Activations.{is_back, count_returned, open_calls, b
 use Rattle.trace_model.specs.Sizes.{last_touch}
 use Rattle.trace_model.specs.WellFormed.{is_live, greatest_start, MayFollow, IsWellFormed}
 use Rattle.shadow_core.specs.Table.{no_counts}
-use Rattle.shadow_core.specs.Stands.{is_by_others, is_written, writes_word, counts_of}
+use Rattle.shadow_core.specs.Past.{is_by_others, is_written, writes_word, counts_of}
 use Rattle.shadow_core.proofs.Events.{apart, open_calls-apart}
 use Rattle.shadow_core.proofs.Inside.{counts_idle}
 

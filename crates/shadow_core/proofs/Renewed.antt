@@ -59,7 +59,6 @@ plain_tick_is_tick = record {
         let h = s.threads t thread found in
         record { access = λ l. omega (arith, h.bounded l); starts = h.falling };
   };
-  last = λ table. refl;
 }
 
 -- ---- all stamps are renumbered
@@ -280,6 +279,4 @@ bounded_tick_is_tick most = record {
         | true ↦ plain_tick_is_tick.fresh table past s
         | false ↦ renewed_fresh table past s
       ];
-  last = λ table.
-      elim (ltb table.counter most) as (λ b. (cond b (plain_tick table) (renewed table)).last ≡ table.last) [ true ↦ refl | false ↦ refl ];
 }

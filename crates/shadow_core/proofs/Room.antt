@@ -19,7 +19,8 @@ use Rattle.shadow_stack.specs.Frames.{Frame, plus}
 use Rattle.shadow_core.specs.Frames.{no_sums, frames_after_reads, frames_after_pops}
 use Rattle.shadow_core.specs.Table.{Counts, places_read}
 use Rattle.shadow_core.specs.Renewal.{all_starts}
-use Rattle.shadow_core.specs.Stands.{sums_of, totals}
+use Rattle.shadow_core.specs.Past.{sums_of}
+use Rattle.shadow_core.specs.Stands.{totals}
 use Rattle.shadow_core.specs.Allows.{IsWithin, AllowsWhatMayFollow, AreWithin, CountsStayWithin, FitsByFrames, PopsStayWithin, SumsStayWithin}
 use Rattle.shadow_core.proofs.Frames.{totals-pops, with_gains}
 use Rattle.shadow_core.proofs.Inside.{gained, gains, inside_before}

@@ -3,7 +3,8 @@ use Rattle.std.proofs.Common.{◌≡◌, ℕ, ◌+◌, ◌≤◌, Bool, true, fa
 use Rattle.std.proofs.lemmas.Bool.{false≢true, le-leb}
 use Rattle.std.proofs.lemmas.List.Elements.{All-nil}
 use Rattle.trace_model.specs.declared.event_kinds.Event.{Event}
-use Rattle.shadow_core.specs.Table.{Table, empty_table, table_at, table_of, ticks}
+use Rattle.shadow_core.specs.Table.{Table, empty_table}
+use Rattle.shadow_core.specs.Ticks.{table_at, table_of, ticks}
 use Rattle.shadow_core.specs.Renewal.{bounded_tick}
 use Rattle.shadow_core.specs.Counting.{next_counter}
 use Rattle.shadow_core.specs.Stands.{Agrees}

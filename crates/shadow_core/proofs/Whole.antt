@@ -19,8 +19,11 @@ use Rattle.trace_model.specs.WellFormed.{is_live, last_step, greatest_start, wei
 use Rattle.trace_model.proofs.Causes.{foreign_parts_are_counts, parts-sum}
 use Rattle.shadow_stack.specs.Frames.{Frame, starts_of}
 use Rattle.shadow_core.specs.Frames.{popped}
-use Rattle.shadow_core.specs.Table.{Thread, Table, with_frame, count_pops, event_after, finished, is_switch, no_thread, record_of, records, records_of, ticks, changed}
-use Rattle.shadow_core.specs.Stands.{is_by_others, is_written, is_filled, writes_word, counts_of, call_of, sums_of, IsFalling, ThreadStands, HasStart, Agrees}
+use Rattle.shadow_core.specs.Table.{Thread, Table, with_frame, count_pops, event_after, no_thread, changed}
+use Rattle.shadow_core.specs.Ticks.{is_switch, ticks}
+use Rattle.shadow_core.specs.Records.{finished, record_of, records, records_of}
+use Rattle.shadow_core.specs.Past.{is_by_others, is_written, is_filled, writes_word, counts_of, call_of, sums_of}
+use Rattle.shadow_core.specs.Stands.{IsFalling, ThreadStands, HasStart, Agrees}
 use Rattle.shadow_core.specs.Laws.{IsAbove, IsFresh, OpenAreAsDefined}
 use Rattle.shadow_core.proofs.Frames.{popped-totals}
 use Rattle.shadow_core.proofs.Events.{apart}

@@ -5,9 +5,11 @@ use Rattle.stamp_lanes.specs.Plain.{Place, is_foreign}
 use Rattle.shadow_stack.specs.declared.sums.Sums.{Sums}
 use Rattle.shadow_stack.specs.Frames.{Frame, plus}
 
+-- no word
 abbrev pub no_sums : Sums
 no_sums = record { plain = pos 0; bare = pos 0 }
 
+-- both sums, below zero
 abbrev pub negated : Sums → Sums
 negated s = record { plain = neg_ℤ s.plain; bare = neg_ℤ s.bare }
 
@@ -22,7 +24,7 @@ taken_at by stamp [] = []
 taken_at by stamp (f ∷ frames) =
     if nat_le f.start stamp then record f { sums = plus f.sums (negated by) } ∷ frames else f ∷ taken_at by stamp frames
 
--- what a read of a word is: a first read, and a plain one where no one else wrote the word since the thread's access
+-- what a read of a word counts: one first read, and one plain read where no one else wrote the word since the thread's access
 abbrev pub gain : Place → Sums
 gain p = record { plain = if is_foreign p then pos 0 else pos 1; bare = pos 1 }
 

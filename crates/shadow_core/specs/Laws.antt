@@ -8,9 +8,11 @@ use Rattle.trace_model.specs.Profile.{done_of, ended, done}
 use Rattle.trace_model.specs.WellFormed.{IsWellFormed}
 use Rattle.shadow_stack.specs.Frames.{starts_of}
 use Rattle.shadow_core.specs.Frames.{popped}
-use Rattle.shadow_core.specs.Table.{Thread, Table, empty_table, table_at, table_after, table_of, finished, finished_of, records}
+use Rattle.shadow_core.specs.Table.{Thread, Table, empty_table}
+use Rattle.shadow_core.specs.Ticks.{table_at, table_after, table_of}
 use Rattle.shadow_core.specs.Renewal.{bounded_tick}
 use Rattle.shadow_core.specs.Counting.{counter_of}
+use Rattle.shadow_core.specs.Records.{finished, finished_of, records}
 use Rattle.shadow_core.specs.Stands.{IsFalling, Agrees, IsCounted, Stands}
 
 -- ---- What a tick has to do.
@@ -28,7 +30,6 @@ pub record IsFresh (table : Table) : Type 0 where
 pub record IsTick (tick : Table → Table) : Type 0 where
   pub agrees : (table : Table) (past : List Event) → Agrees table past → Agrees (tick table) past
   pub fresh : (table : Table) (past : List Event) → Agrees table past → IsFresh (tick table)
-  pub last : (table : Table) → (tick table).last ≡ table.last
 
 -- the bounded counter does so, renumbered or not
 abbrev pub TicksKeepTheTable : Type 0

@@ -1,7 +1,10 @@
 pub mod Frames
 pub mod Table
+pub mod Ticks
 pub mod Renewal
 pub mod Counting
+pub mod Records
+pub mod Past
 pub mod Stands
 pub mod Laws
 pub mod Allows

@@ -1,18 +1,16 @@
 -- The stamp table, and what each event makes of it. The frames and the calls of a thread come the innermost first.
-use Rattle.std.specs.Prelude.{ℕ, ◌+◌, ◌-◌, ℤ, pos, negsuc, Bool, true, false, not, if◌then◌else◌, nat_eq, List, [], ◌∷◌, ◌++◌, drop, map, Option, Some, None, count_by}
+use Rattle.std.specs.Prelude.{ℕ, ◌+◌, if◌then◌else◌, List, [], ◌∷◌, ◌++◌, drop, map, Option, Some, None, count_by}
 use Rattle.std.specs.List.{range_with_len}
 use Rattle.std.specs.Option.{option_map_or}
 use Rattle.guest_words.specs.ByThread.{value_of, with_value, without_thread}
 use Rattle.trace_model.specs.declared.event_kinds.Event.{Event}
 use Rattle.trace_model.specs.declared.event_kinds.Event.TheVariants.{Step, Read, Write, Fill, Call, Ret, Start, End}
-use Rattle.trace_model.specs.declared.slow_profile.Done.{Done}
 use Rattle.trace_model.specs.Events.{covers}
 use Rattle.trace_model.specs.Activations.{count_ending}
 use Rattle.trace_model.specs.WellFormed.{weight_of}
 use Rattle.stamp_lanes.specs.Plain.{Place, is_by_thread, is_by_kernel}
-use Rattle.shadow_stack.specs.declared.sums.Sums.{Sums}
 use Rattle.shadow_stack.specs.Frames.{Frame, new_frame}
-use Rattle.shadow_core.specs.Frames.{frames_after_reads, frames_after_pops, popped}
+use Rattle.shadow_core.specs.Frames.{frames_after_reads, frames_after_pops}
 
 -- What a thread has counted: its steps, and the words that it read where another thread, or the kernel, had written last.
 pub record Counts : Type 0 where
@@ -144,73 +142,6 @@ row (Fill first count) table = after_fill first count table
 row (Ret t target) table = after_ret t target table
 row (End t) table = after_end t table
 
--- ---- Ticks.
--- the step is by another thread than the step before; the first step is no switch
-abbrev pub is_switch : Option ℕ → ℕ → Bool
-is_switch None t = false
-is_switch (Some last) t = not (nat_eq last t)
-
--- a tick comes before each Start, Call and Fill, and before a Step by another thread
-abbrev pub ticks : Event → Option ℕ → Bool
-ticks (Start _ _) last = true
-ticks (Call _ _ _) last = true
-ticks (Fill _ _) last = true
-ticks (Step t) last = is_switch last t
-ticks _ last = false
-
--- the table at the event, by a way to tick
-abbrev pub table_at : (Table → Table) → Event → Table → Table
-table_at tick e table = if ticks e table.last then tick table else table
-
 -- the table after an event whose tick was made
 abbrev pub event_after : Event → Table → Table
 event_after e table = record (row e table) { weight = table.weight + weight_of e }
-
-abbrev pub table_after : (Table → Table) → Event → Table → Table
-table_after tick e table = event_after e (table_at tick e table)
-
--- the table after all events of the past
-abbrev pub table_of : (Table → Table) → List Event → Table
-table_of tick [] = empty_table
-table_of tick (e ∷ past) = table_after tick e (table_of tick past)
-
--- ---- What is recorded of activations that end.
-abbrev pub nat_of : ℤ → ℕ
-nat_of (pos n) = n
-nat_of (negsuc n) = 0
-
--- the sums are those of the popped frame, and the counts those of the thread now
-abbrev pub record_of : ℕ → Counts → Sums → OpenCall → Done
-record_of t counts sums call =
-    let plain = nat_of sums.plain in
-    let by_thread = counts.thread - call.earlier.thread in
-    let by_kernel = counts.kernel - call.earlier.kernel in
-    record {
-      tid = t;
-      entry = call.entry;
-      size = plain + by_thread + by_kernel;
-      cost = counts.steps - call.earlier.steps;
-      plain = plain;
-      thread = by_thread;
-      kernel = by_kernel;
-      bare = nat_of sums.bare;
-    }
-
-abbrev pub records : ℕ → Counts → List Sums → List OpenCall → List Done
-records t counts (s ∷ sums) (c ∷ calls) = record_of t counts s c ∷ records t counts sums calls
-records t counts sums calls = []
-
-abbrev pub records_of : Event → ℕ → Option Thread → List Done
-records_of e t None = []
-records_of e t (Some thread) = records t thread.counts (popped (count_pops e t thread) thread.frames) thread.calls
-
--- what is recorded at the event, the innermost activation first
-abbrev pub finished : Event → Table → List Done
-finished (Ret t target) table = records_of (Ret t target) t (value_of table.threads t)
-finished (End t) table = records_of (End t) t (value_of table.threads t)
-finished _ table = []
-
--- over the whole past, in order of ending
-abbrev pub finished_of : (Table → Table) → List Event → List Done
-finished_of tick [] = []
-finished_of tick (e ∷ past) = finished_of tick past ++ finished e (table_at tick e (table_of tick past))

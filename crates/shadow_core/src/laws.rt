@@ -1,7 +1,7 @@
 //! Laws of the table: each is the contract of a function that does nothing.
+ghost use Rattle.shadow_core.specs.Laws.{AgreesOn, CounterFits, CountsOn, EmptyStands, FinishesWhatEnds, FinishesWhatIsDone, OpenAreAsDefined, RunsAgree, StandsOn, TicksKeepTheTable};
 ghost use Rattle.shadow_core.specs.Allows.{AllowsWhatMayFollow, CountsStayWithin, FitsByFrames, PopsStayWithin, SumsStayWithin};
 ghost use Rattle.shadow_core.specs.Bulk.{ReadsAtOnce};
-ghost use Rattle.shadow_core.specs.Laws.{AgreesOn, CounterFits, CountsOn, EmptyStands, FinishesWhatEnds, FinishesWhatIsDone, OpenAreAsDefined, RunsAgree, StandsOn, TicksKeepTheTable};
 ghost use Rattle.shadow_core.specs.Worked.{WorkedTables};
 
 /// A tick keeps what the table says of the past, renumbered or not, and leaves the counter above all stamps.
