@@ -46,6 +46,7 @@ plain_tick_is_tick = record {
     marks = s.marks;
     writes = λ l. omega (arith, s.writes l);
     distinct = s.distinct;
+    formed = s.formed;
     live = s.live;
     rising = s.rising;
     started = s.started;
@@ -246,6 +247,7 @@ module _ (table : Table) where
     marks = s.marks;
     writes = λ l. omega (arith, (new_stamps_fit starts 0 (table.write l)).1);
     distinct = distinct_renewed s.distinct;
+    formed = s.formed;
     live = λ t. ap is_some (value_after t) ∙ kept (value_of table.threads t) ∙ s.live t;
     rising = subst IsRising (sym (numbers-seen after table.threads)) s.rising;
     started = subst (All (λ n. n ≤ greatest_start past)) (sym (numbers-seen after table.threads)) s.started;

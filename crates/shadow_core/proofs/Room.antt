@@ -1,6 +1,6 @@
 -- What a table allows, what fits, and how great sums and counts are.
 use Rattle.std.proofs.Common.{◌≡◌, ℕ, ◌+◌, ◌*◌, ◌≤◌, Bool, true, false, not, eqb, leb, ◌&&◌, ◌||◌, List, [], ◌∷◌, length, drop, map, get_or, refl, sym, ap, subst, ◌∙◌, arith, pos}
-use Rattle.std.specs.Prelude.{All, ◌≤ℤ◌}
+use Rattle.std.specs.Prelude.{◌↔◌, All, ◌≤ℤ◌}
 use Rattle.std.specs.List.{count_by, range_with_len}
 use Rattle.std.proofs.lemmas.Bool.{le-leb}
 use Rattle.std.proofs.lemmas.Int.{ints}
@@ -11,33 +11,38 @@ use Rattle.trace_model.specs.declared.activations.Activation.{Activation}
 use Rattle.trace_model.specs.Activations.{open_calls}
 use Rattle.trace_model.specs.Sizes.{since, before, accessed, bare, last_touch}
 use Rattle.trace_model.specs.Causes.{Plain, OtherThread, Kernel, counts_by, is_by, part}
-use Rattle.trace_model.specs.WellFormed.{weight}
+use Rattle.trace_model.specs.WellFormed.{weight, MayFollow}
 use Rattle.trace_model.specs.Depth.{count_begun, pending}
 use Rattle.trace_model.proofs.Bounds.{weight-append, pairs-le-weight, cost-le-weight, count_range-le}
 use Rattle.shadow_stack.specs.declared.sums.Sums.{Sums}
 use Rattle.shadow_stack.specs.Frames.{Frame, plus}
 use Rattle.shadow_core.specs.Frames.{no_sums, frames_after_reads, frames_after_pops}
-use Rattle.shadow_core.specs.Table.{Counts, places_read}
+use Rattle.shadow_core.specs.Table.{Counts, Table, places_read}
 use Rattle.shadow_core.specs.Renewal.{all_starts}
 use Rattle.shadow_core.specs.Past.{sums_of}
-use Rattle.shadow_core.specs.Stands.{totals}
-use Rattle.shadow_core.specs.Allows.{IsWithin, AllowsWhatMayFollow, AreWithin, CountsStayWithin, FitsByFrames, PopsStayWithin, SumsStayWithin}
+use Rattle.shadow_core.specs.Stands.{totals, Agrees}
+use Rattle.shadow_core.specs.Allows.{Allows, IsWithin, AllowsWhatMayFollow, AreWithin, CountsStayWithin, FitsByFrames, PopsStayWithin, SumsStayWithin}
 use Rattle.shadow_core.proofs.Frames.{totals-pops, with_gains}
 use Rattle.shadow_core.proofs.Inside.{gained, gains, inside_before}
 use Rattle.shadow_core.proofs.Kept.{totals_after}
 use Rattle.shadow_core.proofs.Counted.{room}
 
+may : (e : Event) (table : Table) (past : List Event) → Agrees table past → Allows e table ↔ MayFollow e past
+may (Step t) table past s = ((λ h. sym (s.live t) ∙ h), (λ h. s.live t ∙ h))
+may (Read t first count) table past s =
+    ((λ h. ((sym (s.live t) ∙ h.0.0, sym s.last ∙ h.0.1), h.1)), (λ h. ((s.live t ∙ h.0.0, s.last ∙ h.0.1), h.1)))
+may (Write t first count) table past s =
+    ((λ h. ((sym (s.live t) ∙ h.0.0, sym s.last ∙ h.0.1), h.1)), (λ h. ((s.live t ∙ h.0.0, s.last ∙ h.0.1), h.1)))
+may (Fill first count) table past s = ((λ h. h), (λ h. h))
+may (Call t entry back) table past s = ((λ h. (sym (s.live t) ∙ h.0, sym s.last ∙ h.1)), (λ h. (s.live t ∙ h.0, s.last ∙ h.1)))
+may (Ret t target) table past s = ((λ h. (sym (s.live t) ∙ h.0, sym s.last ∙ h.1)), (λ h. (s.live t ∙ h.0, s.last ∙ h.1)))
+may (Start t entry) table past s = ((λ h. omega (arith, h, s.greatest)), (λ h. omega (arith, h, s.greatest)))
+may (End t) table past s = ((λ h. sym (s.live t) ∙ h), (λ h. s.live t ∙ h))
+
 pub allows_what_may_follow : AllowsWhatMayFollow
-allows_what_may_follow (Step t) table past s = ((λ h. sym (s.live t) ∙ h), (λ h. s.live t ∙ h))
-allows_what_may_follow (Read t first count) table past s =
-    ((λ h. ((sym (s.live t) ∙ h.0.0, sym s.last ∙ h.0.1), h.1)), (λ h. ((s.live t ∙ h.0.0, s.last ∙ h.0.1), h.1)))
-allows_what_may_follow (Write t first count) table past s =
-    ((λ h. ((sym (s.live t) ∙ h.0.0, sym s.last ∙ h.0.1), h.1)), (λ h. ((s.live t ∙ h.0.0, s.last ∙ h.0.1), h.1)))
-allows_what_may_follow (Fill first count) table past s = ((λ h. h), (λ h. h))
-allows_what_may_follow (Call t entry back) table past s = ((λ h. (sym (s.live t) ∙ h.0, sym s.last ∙ h.1)), (λ h. (s.live t ∙ h.0, s.last ∙ h.1)))
-allows_what_may_follow (Ret t target) table past s = ((λ h. (sym (s.live t) ∙ h.0, sym s.last ∙ h.1)), (λ h. (s.live t ∙ h.0, s.last ∙ h.1)))
-allows_what_may_follow (Start t entry) table past s = ((λ h. omega (arith, h, s.greatest)), (λ h. omega (arith, h, s.greatest)))
-allows_what_may_follow (End t) table past s = ((λ h. sym (s.live t) ∙ h), (λ h. s.live t ∙ h))
+allows_what_may_follow e table past s =
+    let each = may e table past s in
+    ((λ h. (each.0 h.0, omega (arith, h.1, s.weight), s.formed)), (λ h. (each.1 h.0, omega (arith, h.1, s.weight))))
 
 -- ---- what fits
 and_true : (b : Bool) → (b && true) ≡ b

@@ -62,6 +62,7 @@ empty_agrees = record {
   marks = λ l. refl;
   writes = λ l. omega arith;
   distinct = λ s t u here there. absurd here;
+  formed = tt;
   live = λ t. refl;
   rising = tt;
   started = All-nil (λ t. t ≤ 0);

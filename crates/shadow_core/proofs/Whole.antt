@@ -237,6 +237,7 @@ event_agrees e table past formed fresh s = record {
   writes = λ l. subst (λ n. (event_after e table).write l ≤ n) (sym (counter_after e table))
       (subst (λ n. n ≤ table.counter) (sym (write_after e table l)) (at_most (writes_word e l) table.counter (table.write l) (s.writes l)));
   distinct = distinct_after e table past formed fresh s;
+  formed = formed;
   live = live_after e table past formed fresh s;
   rising = (numbers_after e table past formed.0 s).0;
   started = (numbers_after e table past formed.0 s).1;

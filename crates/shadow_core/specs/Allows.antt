@@ -2,9 +2,10 @@
 use Rattle.std.specs.Prelude.{◌≡◌, ◌↔◌, ℕ, ◌+◌, ◌*◌, ◌<◌, ◌≤◌, ℤ, pos, neg_ℤ, ◌≤ℤ◌, true, ◌||◌, nat_eq, nat_le, List, ◌∷◌, Some, All, is_some, length}
 use Rattle.std.specs.List.{range_with_len}
 use Rattle.guest_words.specs.ByThread.{value_of}
+use Rattle.guest_words.specs.declared.limits.TheConstants.{TRACE_WEIGHT}
 use Rattle.trace_model.specs.declared.event_kinds.Event.{Event}
 use Rattle.trace_model.specs.declared.event_kinds.Event.TheVariants.{Step, Read, Write, Fill, Call, Ret, Start, End}
-use Rattle.trace_model.specs.WellFormed.{weight, AreWords, MayFollow}
+use Rattle.trace_model.specs.WellFormed.{weight, weight_of, AreWords, IsWellFormed}
 use Rattle.trace_model.specs.Depth.{count_begun, is_within}
 use Rattle.shadow_stack.specs.Frames.{Frame}
 use Rattle.shadow_core.specs.Frames.{frames_after_reads, frames_after_pops}
@@ -31,9 +32,13 @@ Allows (Ret tid _) table = IsRunningIn table tid
 Allows (Start tid _) table = table.greatest < tid
 Allows (End tid) table = IsThere table tid
 
--- a table that stands for a past allows what may follow it, and no more
+-- and the whole stays light
+abbrev pub IsAllowed : Event → Table → Type 0
+IsAllowed e table = Allows e table × (table.weight + weight_of e < TRACE_WEIGHT)
+
+-- A table allows what may follow the past with which it agrees, and no more; so it tells for all such pasts at once.
 abbrev pub AllowsWhatMayFollow : Type 0
-AllowsWhatMayFollow = (e : Event) (table : Table) (past : List Event) → Agrees table past → Allows e table ↔ MayFollow e past
+AllowsWhatMayFollow = (e : Event) (table : Table) (past : List Event) → Agrees table past → IsAllowed e table ↔ IsWellFormed (e ∷ past)
 
 -- What follows fits unless it begins an activation for which there are too few stamps: three for each frame, that of the new
 -- one too, and three more.
