@@ -9,5 +9,6 @@ pub mod Whole
 pub mod Renewed
 pub mod Counted
 pub mod Runs
+pub mod Observing
 pub mod Room
 pub mod Bulk

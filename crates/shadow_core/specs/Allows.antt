@@ -1,5 +1,5 @@
 -- Which event may come next, by the table alone, and what then fits.
-use Rattle.std.specs.Prelude.{◌≡◌, ◌↔◌, ℕ, ◌+◌, ◌*◌, ◌<◌, ◌≤◌, ℤ, pos, neg_ℤ, ◌≤ℤ◌, true, ◌||◌, nat_eq, nat_le, List, ◌∷◌, Some, All, is_some, length}
+use Rattle.std.specs.Prelude.{◌≡◌, ◌↔◌, ℕ, ◌+◌, ◌*◌, ◌<◌, ◌≤◌, ℤ, pos, neg_ℤ, ◌≤ℤ◌, Bool, true, ◌||◌, nat_eq, nat_le, List, ◌∷◌, Some, All, is_some, length}
 use Rattle.std.specs.List.{range_with_len}
 use Rattle.guest_words.specs.ByThread.{value_of}
 use Rattle.guest_words.specs.declared.limits.TheConstants.{TRACE_WEIGHT}
@@ -40,11 +40,14 @@ IsAllowed e table = Allows e table × (table.weight + weight_of e < TRACE_WEIGHT
 abbrev pub AllowsWhatMayFollow : Type 0
 AllowsWhatMayFollow = (e : Event) (table : Table) (past : List Event) → Agrees table past → IsAllowed e table ↔ IsWellFormed (e ∷ past)
 
--- What follows fits unless it begins an activation for which there are too few stamps: three for each frame, that of the new
--- one too, and three more.
+-- The event begins no activation, or there are stamps for it: three for each frame, that of the new one too, and three more.
+abbrev pub has_stamps : ℕ → Event → Table → Bool
+has_stamps most e table = nat_eq (count_begun e) 0 || nat_le (3 * (length (all_starts table.threads) + 2)) most
+
+-- what follows fits exactly where there are stamps for it
 abbrev pub FitsByFrames : Type 0
 FitsByFrames = (most : ℕ) (e : Event) (table : Table) (past : List Event) → Stands most table past →
-    is_within most (e ∷ past) ≡ (nat_eq (count_begun e) 0 || nat_le (3 * (length (all_starts table.threads) + 2)) most)
+    is_within most (e ∷ past) ≡ has_stamps most e table
 
 -- the sum is at most so great, and minus it at least
 abbrev pub IsWithin : ℕ → ℤ → Type 0

@@ -8,5 +8,6 @@ pub mod Past
 pub mod Stands
 pub mod Laws
 pub mod Allows
+pub mod Observing
 pub mod Bulk
 pub mod Worked

@@ -1,6 +1,7 @@
 //! Laws of the table: each is the contract of a function that does nothing.
 ghost use Rattle.shadow_core.specs.Laws.{AgreesOn, CounterFits, CountsOn, EmptyStands, FinishesWhatEnds, FinishesWhatIsDone, OpenAreAsDefined, RunsAgree, StandsOn, TicksKeepTheTable};
 ghost use Rattle.shadow_core.specs.Allows.{AllowsWhatMayFollow, CountsStayWithin, FitsByFrames, PopsStayWithin, SumsStayWithin};
+ghost use Rattle.shadow_core.specs.Observing.{TakesEvents};
 ghost use Rattle.shadow_core.specs.Bulk.{ReadsAtOnce};
 ghost use Rattle.shadow_core.specs.Worked.{WorkedTables};
 
@@ -19,6 +20,12 @@ pub fn each_event_keeps_the_table()
     ensures finishes { FinishesWhatEnds }
     ensures open_ones { OpenAreAsDefined }
     ensures whole_run { FinishesWhatIsDone }
+{}
+
+/// The table is an observer of events: whatever past it stands for, it takes what fits, and what it records is what the
+/// profile gains; and what does not fit leaves it as it is.
+pub fn the_table_takes_events()
+    ensures { TakesEvents }
 {}
 
 /// The frames are as many as the open activations, and the counter and the renumberings are folds over the trace. The

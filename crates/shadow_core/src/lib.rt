@@ -7,5 +7,5 @@ mod laws;
 
 pub use laws::{
     a_table_tells_what_may_follow, a_tick_keeps_the_table, each_event_keeps_the_table,
-    the_counter_is_that_of_the_trace, worked_tables_are_as_written,
+    the_counter_is_that_of_the_trace, the_table_takes_events, worked_tables_are_as_written,
 };
