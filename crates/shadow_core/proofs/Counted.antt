@@ -24,7 +24,8 @@ use Rattle.shadow_core.specs.Laws.{CounterFits, IsFresh}
 use Rattle.shadow_core.proofs.Events.{apart, open_calls-apart}
 use Rattle.shadow_core.proofs.Past.{of_thread, same_thread}
 use Rattle.shadow_core.proofs.Threads.{frame_count, frames_of, count-cons}
-use Rattle.shadow_core.proofs.Own.{change, zip-length}
+use Rattle.shadow_core.proofs.There.{zip-length}
+use Rattle.shadow_core.proofs.Own.{change}
 use Rattle.shadow_core.proofs.Whole.{event_agrees, of_none}
 
 -- ---- a thread that does not live has no open activation

@@ -4,6 +4,7 @@ pub mod Inside
 pub mod Past
 pub mod Threads
 pub mod Kept
+pub mod There
 pub mod Own
 pub mod Whole
 pub mod Renewed

@@ -1,10 +1,10 @@
 -- What each event makes of the table's part for its own thread.
-use Rattle.std.proofs.Common.{inl, inr, ◌≡◌, ◌⊎◌, ℕ, suc, ◌+◌, ◌<◌, ◌≤◌, Bool, true, false, not, cond, eqb, ltb, leb, ◌&&◌, ◌||◌, List, [], ◌∷◌, length, take, drop, map, Option, Some, None, refl, sym, ap, subst, ◌∙◌, arith}
+use Rattle.std.proofs.Common.{inl, inr, ◌≡◌, ◌⊎◌, ℕ, ◌+◌, ◌<◌, ◌≤◌, Bool, true, false, not, cond, eqb, ltb, leb, ◌&&◌, ◌||◌, List, [], ◌∷◌, length, take, drop, map, Option, Some, None, refl, sym, ap, subst, ◌∙◌, arith}
 use Rattle.std.specs.Prelude.{◌==◌, Contains, IfSome, is_some}
 use Rattle.std.specs.List.{AllZip, count_by, range_with_len}
-use Rattle.std.proofs.lemmas.Bool.{cond-true, eq-eqb, false≢true}
+use Rattle.std.proofs.lemmas.Bool.{cond-true, eq-eqb}
 use Rattle.std.proofs.lemmas.Bool.Decides.{nat_tests}
-use Rattle.std.proofs.lemmas.List.{length-map, take-append-drop}
+use Rattle.std.proofs.lemmas.List.{take-append-drop}
 use Rattle.std.proofs.lemmas.List.Elements.{All-weaker, Contains-append_right}
 use Rattle.std.proofs.lemmas.List.Sums.{sum_by-cons}
 use Rattle.guest_words.specs.ByThread.{numbers, value_of}
@@ -25,55 +25,14 @@ use Rattle.shadow_stack.specs.Frames.{starts_of}
 use Rattle.shadow_core.specs.Table.{Counts, Thread, Table, with_frame, changed, count_pops, event_after, no_thread, places_read, stamped, thread_after_read, thread_after_ret}
 use Rattle.shadow_core.specs.Ticks.{ticks}
 use Rattle.shadow_core.specs.Past.{is_by_others, is_filled, counts_of}
-use Rattle.shadow_core.specs.Stands.{IsFalling, IsStartOf, outermost, ThreadStands, HasStart, Agrees}
+use Rattle.shadow_core.specs.Stands.{IsStartOf, outermost, ThreadStands, HasStart, Agrees}
 use Rattle.shadow_core.specs.Laws.{IsAbove, IsFresh}
 use Rattle.shadow_core.proofs.Frames.{starts-reads, starts-pops}
 use Rattle.shadow_core.proofs.Inside.{counts_idle, same_counts, kernel_is, other_is}
-use Rattle.shadow_core.proofs.Past.{IsUnstarted, unstarted, rooted, rooted-positive, returned-lt}
+use Rattle.shadow_core.proofs.Past.{IsUnstarted, unstarted, rooted, returned-lt}
 use Rattle.shadow_core.proofs.Threads.{value_of-changed, frame_count, frames_of, count-changed, count-pushed, count-without}
+use Rattle.shadow_core.proofs.There.{IsThere, there, depth_is, has_frame, positive_by}
 use Rattle.shadow_core.proofs.Kept.{IsStill, still_stands, still_thread, begun_stands, backs-stand, popped_stands, outermost-le}
-
--- after a tick the counter is not 0
-pub positive_by : {table : Table} → IsFresh table → 0 < table.counter
-positive_by fresh = omega (arith, fresh.writes 0)
-
--- ---- a live thread is in the table
-pub record IsThere (table : Table) (past : List Event) (t : ℕ) : Type 0 where
-  pub thread : Thread
-  pub found : value_of table.threads t ≡ Some thread
-  pub stands : ThreadStands table past t thread
-
-pub there : (table : Table) (past : List Event) (t : ℕ) → Agrees table past → is_live past t ≡ true → IsThere table past t
-there table past t s live = by (value_of table.threads t) refl
-  where
-    by : (o : Option Thread) → value_of table.threads t ≡ o → IsThere table past t
-    by None found = absurd (false≢true (sym (ap is_some found) ∙ s.live t ∙ live))
-    by (Some thread) found = record { thread = thread; found = found; stands = s.threads t thread found }
-
-pub zip-length : {A B : Type 0} (P : A → B → Type 0) (xs : List A) (ys : List B) → AllZip P xs ys → length xs ≡ length ys
-zip-length P [] [] h = refl
-zip-length P [] (y ∷ ys) h = absurd h
-zip-length P (x ∷ xs) [] h = absurd h
-zip-length P (x ∷ xs) (y ∷ ys) h = ap suc (zip-length P xs ys h.1)
-
--- it has as many frames as open activations, and at least one
-pub depth_is : (table : Table) (past : List Event) (t : ℕ) (thread : Thread) → ThreadStands table past t thread →
-    length (starts_of thread.frames) ≡ length (backs (open_calls past t))
-depth_is table past t thread s =
-    zip-length _ (starts_of thread.frames) (open_calls past t) s.starts ∙ sym (length-map (open_calls past t) (λ (a : Activation). a.back))
-
-has_frame : (table : Table) (past : List Event) (t : ℕ) (thread : Thread) → IsWellFormed past → is_live past t ≡ true → ThreadStands table past t thread →
-    0 < length (starts_of thread.frames)
-has_frame table past t thread formed live s = omega (arith, rooted-positive (backs (open_calls past t)) (rooted past t formed live), depth_is table past t thread s)
-
-pub positive : (table : Table) (past : List Event) (t : ℕ) → IsWellFormed past → Agrees table past → is_live past t ≡ true → 0 < table.counter
-positive table past t formed s live =
-    let i = there table past t s live in
-    by (starts_of i.thread.frames) (has_frame table past t i.thread formed live i.stands) i.stands.falling
-  where
-    by : (starts : List ℕ) → 0 < length starts → IsFalling (table.counter + 1) starts → 0 < table.counter
-    by [] some falling = absurd (omega (arith, some))
-    by (s ∷ starts) some falling = omega (arith, falling.0, falling.1)
 
 -- ---- what an event makes of its thread
 pub record Change (e : Event) (table : Table) (past : List Event) (t : ℕ) : Type 0 where

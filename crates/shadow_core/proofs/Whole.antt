@@ -31,7 +31,8 @@ use Rattle.shadow_core.proofs.Inside.{inside_before, counts_idle}
 use Rattle.shadow_core.proofs.Past.{of_thread, same_thread}
 use Rattle.shadow_core.proofs.Threads.{numbers-changed}
 use Rattle.shadow_core.proofs.Kept.{still_stands, backs-stand}
-use Rattle.shadow_core.proofs.Own.{IsThere, there, positive, positive_by, Change, change, at_most, zip-length}
+use Rattle.shadow_core.proofs.There.{IsThere, there, positive, positive_by, zip-length}
+use Rattle.shadow_core.proofs.Own.{Change, change, at_most}
 
 -- ---- what each event makes of the counter and the write stamps
 pub counter_after : (e : Event) (table : Table) → (event_after e table).counter ≡ table.counter
