@@ -1,0 +1,12 @@
+use Rattle.shadow_core.proofs.Counted.{counter_fits}
+use Rattle.shadow_core.proofs.Runs.{counts_on, runs_agree}
+use Rattle.shadow_core.proofs.laws.the_counter_is_that_of_the_trace.Goals as goal
+
+pub returns-clause-counts_on : goal.returns-clause-counts_on
+returns-clause-counts_on c = counts_on
+
+pub returns-clause-runs : goal.returns-clause-runs
+returns-clause-runs c = runs_agree
+
+pub returns-clause-fits : goal.returns-clause-fits
+returns-clause-fits c = counter_fits
