@@ -1,8 +1,12 @@
 #!/usr/bin/env python3
 """bench/run.py [PROGRAM]: times the built program on guests of its own, each at two lengths of run, and prints the steps, the
 seconds, the nanoseconds for a step, and how these compare with the first guest's. Growth with the length of a run shows as a
-second ratio above the first. The figures are of one run on one machine; docs/PERFORMANCE.md has a table of them."""
+second ratio above the first. The figures are of one run on one machine; docs/PERFORMANCE.md has a table of them.
+
+bench/run.py --host [PROGRAM] counts the host's instructions for one of the guest's in place of time: by callgrind, as the
+difference of two lengths of run, so that neither the start of the program nor the machine's load changes the figure."""
 import os
+import re
 import struct
 import subprocess
 import sys
@@ -10,7 +14,8 @@ import tempfile
 import time
 
 HERE = os.path.dirname(os.path.abspath(__file__))
-PROGRAM = sys.argv[1] if len(sys.argv) > 1 else os.path.join(HERE, "../crates/aprof/out/aprof")
+WORDS = [word for word in sys.argv[1:] if word != "--host"]
+PROGRAM = WORDS[0] if WORDS else os.path.join(HERE, "../crates/aprof/out/aprof")
 
 
 def i_type(opcode, funct3, rd, rs1, immediate):
@@ -110,6 +115,21 @@ def handing(steps):
     return begin + clone + [branch(0, 10, 0, 4 * (1 + len(parent)))] + parent + child
 
 
+def recursing(steps):
+    """A loop that calls a routine which calls itself 1000 levels deep."""
+    routine = [addi(2, 2, -16), sw(1, 0, 2), branch(0, 10, 0, 12), addi(10, 10, -1), jal(1, -16)]
+    routine += [lw(1, 0, 2), addi(2, 2, 16), RETURN]
+    loop = [addi(10, 0, 1000), jal(1, 24), addi(8, 8, -1), branch(1, 8, 0, -12)]
+    return number(8, steps // 8000) + loop + EXIT + routine
+
+
+def copying(steps):
+    """A loop that reads 64 KiB from standard input and writes them again."""
+    begin = number(8, steps // 8) + number(11, 0x7FC00000) + number(12, 65536)
+    loop = [addi(10, 0, 0), addi(17, 0, 63), ECALL, addi(10, 0, 1), addi(17, 0, 64), ECALL, addi(8, 8, -1)]
+    return begin + loop + [branch(1, 8, 0, -4 * len(loop))] + EXIT
+
+
 GUESTS = [
     ("a loop", counting, 5_000_000),
     ("calls and returns", calling, 20_000),
@@ -120,25 +140,68 @@ GUESTS = [
 ]
 
 
-def run(code, folder):
-    """The steps of a run and its seconds, the least of three."""
-    path = os.path.join(folder, "guest")
-    report = os.path.join(folder, "report")
+# The guests whose host instructions are counted, with the lesser of the two numbers of steps.
+COUNTED = [
+    ("a loop", counting, 20_000),
+    ("a load and a store, 1 page", lambda steps: touching(steps, 1), 20_000),
+    ("a load and a store, 1024 pages", lambda steps: touching(steps, 1024), 20_000),
+    ("calls and returns", calling, 2_000),
+    ("recursion, 1000 deep", recursing, 8_000),
+    ("two threads and a futex", handing, 20_000),
+    ("64 KiB read and written", copying, 32),
+]
+
+
+def words(code, folder):
+    """The command line of a run, whose standard input is as long as a guest wants it."""
+    path, report, stdin = (os.path.join(folder, name) for name in ("guest", "report", "stdin"))
     with open(path, "wb") as file:
         file.write(image(code))
+    if not os.path.exists(stdin):
+        with open(stdin, "wb") as file:
+            file.write(bytes(16 * 65536))
+    return [PROGRAM, "run", "--stdin", stdin, "-o", report, path]
+
+
+def steps_of(folder):
+    """The steps that the last report tells."""
+    with open(os.path.join(folder, "report")) as file:
+        lines = file.read().splitlines()
+    assert lines[1] == "end exit 0", lines[1]
+    return int(lines[2].split()[1])
+
+
+def run(code, folder):
+    """The steps of a run and its seconds, the least of three."""
+    command = words(code, folder)
     best = None
     for _ in range(3):
         began = time.monotonic()
-        subprocess.run([PROGRAM, "run", "-o", report, path], check=True)
+        subprocess.run(command, check=True, stdout=subprocess.DEVNULL)
         taken = time.monotonic() - began
         best = taken if best is None else min(best, taken)
-    with open(report) as file:
-        lines = file.read().splitlines()
-    assert lines[1] == "end exit 0", lines[1]
-    return int(lines[2].split()[1]), best
+    return steps_of(folder), best
 
 
-def main():
+def host(code, folder):
+    """The steps of a run and the host's instructions."""
+    counting = ["valgrind", "--tool=callgrind", "--callgrind-out-file=/dev/null", *words(code, folder)]
+    said = subprocess.run(counting, check=True, stdout=subprocess.DEVNULL, stderr=subprocess.PIPE, text=True).stderr
+    return steps_of(folder), int(re.search(r"Collected : (\d+)", said)[1])
+
+
+def count():
+    """Prints the host's instructions for one of the guest's."""
+    print("| Guest | Steps | Host instructions a step |")
+    print("|---|---|---|")
+    with tempfile.TemporaryDirectory() as folder:
+        for name, make, steps in COUNTED:
+            (few, less), (many, more) = (host(make(length), folder) for length in (steps, 2 * steps))
+            print("| %s | %d to %d | %.0f |" % (name, few, many, (more - less) / (many - few)), flush=True)
+
+
+def measure():
+    """Prints the time of each guest."""
     first = None
     print("| Guest | Steps | Seconds | ns a step | to the first |")
     print("|---|---|---|---|---|")
@@ -151,4 +214,7 @@ def main():
                 print("| %s | %d | %.3f | %.0f | %.1f |" % (name, made, seconds, nanoseconds, nanoseconds / first), flush=True)
 
 
-main()
+if "--host" in sys.argv:
+    count()
+else:
+    measure()

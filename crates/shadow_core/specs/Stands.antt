@@ -79,8 +79,9 @@ pub record Agrees (table : Table) (past : List Event) : Type 0 where
   pub writes : (l : ℕ) → table.write l ≤ table.counter
   -- (e) Starts of different threads differ, so each has a class of its own when stamps are renumbered.
   pub distinct : AreDistinct table.threads
-  -- (g) The past is one that a run can have. The threads are the live ones by rising number, none above the greatest that started, so a new one comes last. These,
-  -- the thread of the last step, the greatest number and the weight tell which event may follow.
+  -- (g) The past is one that a run can have. The threads are the live ones by rising number, none above the greatest that
+  -- started, so a new one comes last. These, the thread of the last step, the greatest number and the weight tell which event
+  -- may follow.
   pub formed : IsWellFormed past
   pub live : (t : ℕ) → is_some (value_of table.threads t) ≡ is_live past t
   pub rising : IsRising (numbers table.threads)
