@@ -1,0 +1,4 @@
+pub mod Recent
+pub mod Rows
+pub mod Stands
+pub mod Touches
