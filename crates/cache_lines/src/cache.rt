@@ -1,5 +1,5 @@
 //! The cache.
-ghost use Rattle.std.specs.Prelude.{◌≡◌, ◌-◌, ◌^◌, ◌/◌, ◌≤◌, ◌∷◌, [], ℕ, List, IfOk};
+ghost use Rattle.std.specs.Prelude.{◌≡◌, ◌∷◌, [], ℕ, List, IfOk};
 ghost use Rattle.cache_lines.specs.Kept.{StandsFor};
 ghost use Rattle.cache_lines.specs.Misses.{misses};
 
@@ -45,9 +45,8 @@ impl Cache {
         })
     }
 
-    /// An access of a line: whether it misses.
+    /// An access of the line of this number: whether it misses.
     pub fn access(&mut self, line: u32) -> bool
-        requires line { line ≤ 2 ^ 32 / self.old.shape.line - 1 }
         ensures shape { self.new.shape ≡ self.old.shape }
         ensures misses { (accesses : List ℕ) → StandsFor self.old accesses → result ≡ misses self.old.shape accesses line }
         ensures after { (accesses : List ℕ) → StandsFor self.old accesses → StandsFor self.new (line ∷ accesses) }

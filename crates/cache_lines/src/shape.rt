@@ -10,9 +10,10 @@ pub const SETS: u32 = 65_536;
 /// How many lines a set can hold.
 pub const WAYS: u32 = 64;
 
-/// How few bytes a line can have, and how many.
+/// The fewest bytes of a line.
 pub const LEAST_LINE: u32 = 4;
 
+/// The most bytes of a line.
 pub const LINE: u32 = 4096;
 
 /// How many sets a cache has, how many lines each can hold, and how many bytes a line has.

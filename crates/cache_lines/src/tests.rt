@@ -4,7 +4,6 @@ use std::test::Fail;
 #[test]
 fn the_least_recently_used_line_is_dropped(rt: HostRuntime) -> Result<(), Fail> {
     let shape = Shape::new(1, 2, 64).ok_or("no shape")?;
-    assert_eq!(rt; shape.line, 64);
     let mut cache = Cache::new(rt.alloc(), shape)?;
     // line, whether it misses
     let rows = [
@@ -16,7 +15,6 @@ fn the_least_recently_used_line_is_dropped(rt: HostRuntime) -> Result<(), Fail> 
         (1, true),
     ];
     for (line, misses) in rows {
-        assert!(rt; line < 4);
         assert_eq!(rt; cache.access(line), misses);
     }
     Ok(())
