@@ -2,6 +2,10 @@
 //! how many activations that are open had begun by then, and the order that a profiler looks at stays.
 #![tactic(auto)]
 
+mod frames;
 mod laws;
+mod pages;
+mod rows;
+mod starts;
 
 pub use laws::renumbering_keeps_order;
