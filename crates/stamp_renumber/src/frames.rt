@@ -43,14 +43,12 @@ pub(crate) fn renew_frames<S: Stamp>(frames: &mut Frames<S>, starts: &[S], renew
     requires sorted { IsNonDecreasingBy S.number_of starts.now }
     requires fit { 3 * length starts.now + 2 ≤ S.MAX }
     requires among { All (Contains (map S.number_of starts.now)) (starts_of frames.old.list) }
-    requires empty { vec_len renewed.old ≡ 0 }
     requires room { length frames.old.list ≤ vec_capacity renewed.old }
     ensures list { frames.new.list ≡ renewed_frames (map S.number_of starts.now) frames.old.list }
     ensures spare { frames.new.spare ≡ frames.old.spare }
-    ensures empty { vec_len renewed.new ≡ 0 }
     ensures capacity { vec_capacity renewed.old ≤ vec_capacity renewed.new }
 {
+    renewed.clear();
     renewed_starts(frames, starts, renewed);
     frames.renew(renewed);
-    renewed.clear();
 }

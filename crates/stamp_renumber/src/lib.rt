@@ -7,5 +7,7 @@ mod laws;
 mod pages;
 mod rows;
 mod starts;
+mod thread_stamps;
+mod threads;
 
 pub use laws::renumbering_keeps_order;
