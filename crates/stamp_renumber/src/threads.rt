@@ -66,15 +66,22 @@ impl<S: Lanes> Threads<S> {
         self.threads.insert(tid, thread)
     }
 
+    // How many frames the thread has.
+    fn depth(&self, tid: Tid) -> usize
+        ensures { result ≡ length (frames_of self.now.threads tid) }
+    {
+        match self.threads.get(tid) {
+            Some(thread) => thread.frames().depth(),
+            None => 0,
+        }
+    }
+
     /// Takes the thread out.
     pub fn remove(&mut self, tid: Tid)
         ensures threads { self.new.threads ≡ without_thread self.old.threads tid }
         ensures marks { self.old.marks ≤ self.new.marks }
     {
-        let depth = match self.threads.get(tid) {
-            Some(thread) => thread.frames().depth(),
-            None => 0,
-        };
+        let depth = self.depth(tid);
         self.threads.remove(tid);
         self.frames -= depth;
         self.marks += depth;
