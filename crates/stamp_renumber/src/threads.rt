@@ -40,6 +40,8 @@ impl<S: Lanes> Model for Threads<S> {
 }
 
 impl<S: Lanes> Threads<S> {
+    ghost use Rattle.stamp_renumber.specs.LentThread.{LendsStamps};
+
     /// No thread.
     pub fn new(alloc: Global) -> Result<Threads<S>, AllocError>
         ensures { IfOk result (λ t. t.threads ≡ []) }
@@ -178,6 +180,7 @@ impl<S: Lanes> Threads<S> {
     /// The stamps of the thread's accesses, for writing.
     pub fn shadow_mut(&mut self, tid: Tid) -> &mut Shadow<S>
         requires { is_some (value_of self.old.threads tid) ≡ true }
+        ensures* writes_back { sem 𝓛 (LendsStamps S.row S.Stamp self.entry tid result) }
         ensures value { result.now ≡ record { pages = pages_of self.old.threads tid } }
     {
         let thread = self.threads.get_mut(tid).unwrap();
