@@ -16,7 +16,7 @@ same_test : (t : ℕ) → (t == t) ≡ true
 same_test t = grind (arith, nat_tests)
 
 -- ---- how many frames there are
-starts_long : (x : ℕ × Stamped) (xs : List (ℕ × Stamped)) → length (all_starts (x ∷ xs)) ≡ length x.1.frames + length (all_starts xs)
+pub starts_long : (x : ℕ × Stamped) (xs : List (ℕ × Stamped)) → length (all_starts (x ∷ xs)) ≡ length x.1.frames + length (all_starts xs)
 starts_long x xs = length-append (starts_of x.1.frames) (all_starts xs) ∙ ap (λ n. n + length (all_starts xs)) (length-map x.1.frames (λ (f : Frame). f.start))
 
 pub starts-with : (xs : List (ℕ × Stamped)) (t : ℕ) (old new : Stamped) → value_of xs t ≡ Some old →

@@ -5,9 +5,13 @@
 mod frames;
 mod laws;
 mod pages;
+mod renumbering;
 mod rows;
 mod starts;
 mod thread_stamps;
 mod threads;
+mod ticks;
 
-pub use laws::renumbering_keeps_order;
+pub use laws::{renumbering_keeps_order, ticks_stay_above};
+pub use threads::Threads;
+pub use ticks::{Ticked, tick};

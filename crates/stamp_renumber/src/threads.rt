@@ -1,10 +1,13 @@
 //! The live threads.
-ghost use Rattle.std.specs.Prelude.{◌≡◌, ◌≤◌, ◌<◌, ◌+◌, ◌++◌, ◌∷◌, [], true, All, IfOk, IfSome, IsOk, OnErr, OnOk, is_some, length, slice_get};
+ghost use Rattle.std.specs.Prelude.{◌≡◌, ◌≤◌, ◌<◌, ◌+◌, ◌*◌, ◌++◌, ◌∷◌, [], true, All, IfOk, IfSome, IsOk, OnErr, OnOk, is_some, length, slice_get};
 ghost use Rattle.std.specs.Borrow.{sem};
 ghost use Rattle.guest_words.specs.ByThread.{numbers, value_of, with_value, without_thread};
 ghost use Rattle.shadow_stack.specs.Frames.{FitsPop, FitsSums, IsPopped, added, new_frame, plus, starts_of};
-ghost use Rattle.stamp_renumber.specs.Threads.{frames_of, pages_of, spare_of, stamped};
+ghost use Rattle.stamp_renumber.specs.Threads.{all_starts, frames_of, pages_of, spare_of, stamped};
+ghost use Rattle.stamp_renumber.specs.Ticks.{IsRenumbered};
 
+use crate::pages::renew_writes;
+use crate::renumbering::{renumber_threads, sorted_starts};
 use crate::rows::WorkRows;
 use crate::thread_stamps::ThreadStamps;
 use guest_words::{ByThread, Tid};
@@ -185,5 +188,17 @@ impl<S: Lanes> Threads<S> {
     {
         let thread = self.threads.get_mut(tid).unwrap();
         thread.shadow_mut()
+    }
+
+    /// Gives all stamps their new numbers, and says how many frames there are.
+    pub(crate) fn renumber(&mut self, writes: &mut Shadow<S>) -> usize
+        requires { 3 * length (all_starts self.old.threads) + 2 ≤ S.MAX }
+        ensures count { result ≡ length (all_starts self.old.threads) }
+        ensures all { IsRenumbered self.old self.new writes.old.pages writes.new.pages }
+    {
+        sorted_starts(self.threads.list(), &mut self.starts);
+        renumber_threads(&mut self.threads, writes, &self.starts, &mut self.renewed, &mut self.rows);
+        renew_writes(writes, &self.starts, &mut self.rows);
+        self.frames
     }
 }
