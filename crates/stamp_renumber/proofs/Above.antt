@@ -1,5 +1,5 @@
 -- The counter stays above all stamps.
-use Rattle.std.proofs.Common.{◌≡◌, ℕ, zero, suc, ◌+◌, ◌*◌, ◌<◌, ◌≤◌, Bool, true, false, cond, nat_lt, List, [], ◌∷◌, length, map, get_or, Option, Some, None, refl, sym, ap, ◌∙◌, subst, arith, All, inl, inr}
+use Rattle.std.proofs.Common.{◌≡◌, ℕ, ◌+◌, ◌*◌, ◌<◌, Bool, true, false, cond, List, [], ◌∷◌, length, get_or, Some, refl, sym, ap, ◌∙◌, subst, arith, All, inl, inr}
 use Rattle.std.specs.Prelude.{◌==◌}
 use Rattle.std.proofs.lemmas.Bool.{cases_lt, lt-ltb, le-ltb}
 use Rattle.std.proofs.lemmas.List.Elements.{All-map}
@@ -7,9 +7,8 @@ use Rattle.guest_words.specs.ByThread.{numbers, value_of}
 use Rattle.shadow_stack.specs.Frames.{Frame}
 use Rattle.shadow_pages.specs.Pages.{Page, stamp_at}
 use Rattle.stamp_renumber.specs.Classes.{new_start}
-use Rattle.stamp_renumber.specs.Renumbered.{renewed_frames}
 use Rattle.stamp_renumber.specs.Threads.{Live, Stamped, all_starts}
-use Rattle.stamp_renumber.specs.Ticks.{AreBelow, IsRenumbered, TicksStayAbove, ticked}
+use Rattle.stamp_renumber.specs.Ticks.{AreBelow, IsRenumbered, TicksStayAbove}
 use Rattle.stamp_renumber.specs.declared.ticks.Ticked.{Ticked}
 use Rattle.stamp_renumber.proofs.Order.{new_stamps_fit}
 

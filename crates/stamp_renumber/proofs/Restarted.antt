@@ -1,9 +1,9 @@
 -- The new starts of frames.
-use Rattle.std.proofs.Common.{◌≡◌, ℕ, ◌+◌, ◌*◌, ◌<◌, ◌≤◌, List, [], ◌∷◌, length, map, get_or, refl, sym, ap, ◌∙◌, arith, All}
-use Rattle.std.specs.Prelude.{Contains, slice_index}
+use Rattle.std.proofs.Common.{◌≡◌, ℕ, ◌<◌, List, [], ◌∷◌, length, map, get_or, refl, ap, arith, All}
+use Rattle.std.specs.Prelude.{Contains}
 use Rattle.std.proofs.lemmas.List.{get_or-map, length-map}
 use Rattle.shadow_stack.specs.Frames.{Frame, IsRising, restarted, starts_of}
-use Rattle.stamp_renumber.specs.Classes.{class, new_start}
+use Rattle.stamp_renumber.specs.Classes.{new_start}
 use Rattle.stamp_renumber.specs.Renumbered.{renewed_frames}
 use Rattle.stamp_renumber.proofs.Order.{class-strict}
 

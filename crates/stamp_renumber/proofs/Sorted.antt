@@ -1,10 +1,10 @@
 -- Classes among starts that do not fall.
 use Rattle.std.proofs.Common.{◌≡◌, ℕ, zero, suc, ◌+◌, ◌-◌, ◌<◌, ◌≤◌, Bool, true, false, cond, leb, List, [], ◌∷◌, ◌++◌, length, map, get_or, take, drop, min, max, Some, None, refl, sym, ap, ◌∙◌, inl, inr, arith}
-use Rattle.std.specs.Prelude.{slice_index, count_by, fold}
+use Rattle.std.specs.Prelude.{slice_index, fold}
 use Rattle.std.specs.List.Sorted.{IsPartitionPoint}
 use Rattle.std.proofs.lemmas.Bool.{lt-leb, le-leb, leb-true, leb-false, cases_lt}
 use Rattle.std.proofs.lemmas.List.{get_or-map, length-map, length-take-le, length-drop, get_or-take, get_or-drop, take-append-drop}
-use Rattle.std.proofs.lemmas.List.Sums.{sum_by-cons, sum_by-append}
+use Rattle.std.proofs.lemmas.List.Sums.{sum_by-append}
 use Rattle.stamp_lanes.specs.Plain.{class_of, extremes}
 use Rattle.stamp_renumber.specs.Classes.{class}
 use Rattle.stamp_renumber.proofs.Order.{class-cons}
@@ -103,9 +103,9 @@ pub row_classes : (xs starts : List ℕ) (least greatest low high : ℕ) → Som
 row_classes xs starts least greatest low high is order within below above =
     let s = spans xs least greatest is in
     same_at (class_of (take (high - low) (drop low starts)) low) (class starts) xs (λ i lt.
-        let l = s.low i lt in
-        let h = s.high i lt in
-        class_between starts low high (slice_index xs i) order within (λ j b. let at = below j b in omega (arith, at, l)) (λ j a b. let at = above j a b in omega (arith, at, h)))
+    let l = s.low i lt in
+    let h = s.high i lt in
+    class_between starts low high (slice_index xs i) order within (λ j b. let at = below j b in omega (arith, at, l)) (λ j a b. let at = above j a b in omega (arith, at, h)))
 
 -- where the starts that are at most s end
 pub record Parts (xs : List ℕ) (n s : ℕ) : Type 0 where

@@ -1,11 +1,11 @@
 -- All threads renumbered, one after another.
-use Rattle.std.proofs.Common.{◌≡◌, ℕ, zero, suc, ◌+◌, ◌*◌, ◌<◌, ◌≤◌, Bool, true, false, cond, leb, List, [], ◌∷◌, ◌++◌, length, map, get_or, set, take, Option, Some, None, refl, sym, ap, ap₂, ◌∙◌, subst, arith, All, MutBor, inl, inr}
+use Rattle.std.proofs.Common.{◌≡◌, ℕ, zero, suc, ◌+◌, ◌*◌, ◌<◌, ◌≤◌, Bool, true, false, cond, leb, List, [], ◌∷◌, ◌++◌, length, get_or, set, take, Option, Some, None, refl, sym, ap, ap₂, ◌∙◌, subst, arith, All, MutBor, inl, inr}
 use Rattle.std.specs.Prelude.{◌==◌, Contains}
 use Rattle.std.specs.Option.{IsSome, option_copied_mut}
 use Rattle.std.specs.List.Sorted.{IsPermutation}
 use Rattle.std.proofs.lemmas.Bool.{cases_lt}
 use Rattle.std.proofs.lemmas.Bool.Decides.{nat_tests}
-use Rattle.std.proofs.lemmas.List.{length-append, length-map, get_or-set_same, get_or-set_other, get_or_default, get_or_append_left, get_or-append-add}
+use Rattle.std.proofs.lemmas.List.{length-append, length-map, get_or-set_same, get_or-set_other, get_or_append_left, get_or-append-add}
 use Rattle.std.proofs.lemmas.List.Elements.{All-contains_itself}
 use Rattle.std.proofs.lemmas.List.Sorted.{Contains-permutation, sum_by-IsPermutation}
 use Rattle.guest_words.specs.ByThread.{IsRising, numbers, value_of, with_value}
@@ -13,7 +13,7 @@ use Rattle.shadow_stack.specs.Frames.{Frame, starts_of}
 use Rattle.shadow_pages.specs.Pages.{Page, stamp_at}
 use Rattle.stamp_lanes.specs.Plain.{renewed}
 use Rattle.stamp_renumber.specs.Classes.{class, new_access, new_start, new_write}
-use Rattle.stamp_renumber.specs.Renumbered.{AreRenumbered, IsThreadRenumbered, renewed_frames}
+use Rattle.stamp_renumber.specs.Renumbered.{IsThreadRenumbered, renewed_frames}
 use Rattle.stamp_renumber.specs.Threads.{Stamped, all_starts}
 use Rattle.stamp_renumber.proofs.Changed.{starts_long}
 

@@ -2,9 +2,8 @@
 use Rattle.std.proofs.Common.{◌≡◌, ◌==◌, ℕ, zero, suc, ◌+◌, ◌*◌, ◌/◌, ◌%◌, ◌<◌, ◌≤◌, Bool, true, false, cond, List, [], ◌∷◌, ◌++◌, length, map, get_or, set, take, drop, Option, Some, None, refl, sym, ap, ap₂, ◌∙◌, subst, arith, All}
 use Rattle.std.specs.Prelude.{slice_index}
 use Rattle.std.specs.Option.{is_some, option_map}
-use Rattle.std.specs.List.{range_with_len}
 use Rattle.std.proofs.lemmas.Bool.Decides.{nat_tests}
-use Rattle.std.proofs.lemmas.List.{append-nil, drop_all, take_all, get_or_default, get_or-replicate, length-replicate, length-map}
+use Rattle.std.proofs.lemmas.List.{append-nil, drop_all, take_all, get_or_default, get_or-replicate, length-replicate}
 use Rattle.std.proofs.lemmas.List.Edits.{map_over_more}
 use Rattle.std.proofs.lemmas.List.Elements.{All-same, All-map, All-head, All-tail}
 use Rattle.std.proofs.lemmas.List.FromFn.{fill_by_all, get_or-map-range_with_len, length-map-range_with_len}
@@ -69,8 +68,8 @@ written_row writes number first row is long stamps =
 pub unwritten_row : (writes : List Page) (number first : ℕ) → first ≡ 1024 * number → covers writes first ≡ false → zeros ≡ writes_of writes number
 unwritten_row writes number first is none =
     fill_by_all (λ k. stamp_at writes (1024 * number + k)) zeros 1024 0 zeros_long (λ k lt. zero_at k lt ∙ by k (page_of writes ((1024 * number + k) / 1024)) (
-      let here : (1024 * number + k) / 1024 ≡ first / 1024 = omega arith in
-      ap (λ n. is_some (page_of writes n)) here ∙ none
+    let here : (1024 * number + k) / 1024 ≡ first / 1024 = omega arith in
+    ap (λ n. is_some (page_of writes n)) here ∙ none
     ))
   where
     by : (k : ℕ) (o : Option Page) → is_some o ≡ false → 0 ≡ stamp_in o ((1024 * number + k) % 1024)

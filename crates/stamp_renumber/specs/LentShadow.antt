@@ -1,5 +1,4 @@
 -- What the threads end as, where a `&mut` to the stamps of one is returned.
-use Rattle.std.specs.Prelude.{ℕ}
 use Rattle.std.specs.Borrow.{Fml, Lends, MutBor, RattleType}
 use Rattle.shadow_pages.specs.Pages.{Pages}
 use Rattle.shadow_pages.specs.Lending.{StampMembers, shadow_row}

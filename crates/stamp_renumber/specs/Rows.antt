@@ -1,5 +1,5 @@
 -- New stamps row by row and page by page.
-use Rattle.std.specs.Prelude.{◌≡◌, ℕ, ◌+◌, ◌*◌, List, length, map}
+use Rattle.std.specs.Prelude.{ℕ, ◌+◌, ◌*◌, List, map}
 use Rattle.std.specs.List.{range_with_len}
 use Rattle.stamp_lanes.specs.Plain.{renewals, renewed}
 use Rattle.shadow_pages.specs.Pages.{Page, stamp_at}

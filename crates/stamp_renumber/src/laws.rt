@@ -10,11 +10,9 @@ pub fn renumbering_keeps_order()
     ensures writes_stay { WritesStay }
     ensures accesses_stay { AccessesStay }
     ensures fit { NewStampsFit }
-{
-}
+{}
 
 /// The counter stays above all stamps.
 pub fn ticks_stay_above()
     ensures { TicksStayAbove }
-{
-}
+{}

@@ -69,11 +69,7 @@ pub(crate) fn renew_accesses<S: Lanes>(
 }
 
 /// New write stamps.
-pub(crate) fn renew_writes<S: Lanes>(
-    writes: &mut Shadow<S>,
-    starts: &[S],
-    rows: &mut WorkRows<S>,
-)
+pub(crate) fn renew_writes<S: Lanes>(writes: &mut Shadow<S>, starts: &[S], rows: &mut WorkRows<S>)
     requires sorted { IsNonDecreasingBy S.number_of starts.now }
     requires room { 3 * length starts.now + 2 ≤ S.MAX }
     ensures stamps { (w : ℕ) → stamp_at writes.new.pages w ≡ new_write (map S.number_of starts.now) (stamp_at writes.old.pages w) }

@@ -109,7 +109,14 @@ impl<S: Lanes> WorkRows<S> {
         requires lengths { (length own.now ≡ 1024) × (length write.now ≡ 1024) }
         ensures { self.new ≡ new_accesses (map S.number_of starts.now) (map S.number_of own.now) (map S.number_of write.now) }
     {
-        renew_row(own, write, starts, &mut self.own_classes, &mut self.write_classes, &mut self.renewed);
+        renew_row(
+            own,
+            write,
+            starts,
+            &mut self.own_classes,
+            &mut self.write_classes,
+            &mut self.renewed,
+        );
     }
 
     /// The same where none of the words was written.
@@ -119,7 +126,14 @@ impl<S: Lanes> WorkRows<S> {
         requires lengths { length own.now ≡ 1024 }
         ensures { self.new ≡ new_accesses (map S.number_of starts.now) (map S.number_of own.now) zeros }
     {
-        renew_row(own, &self.untouched, starts, &mut self.own_classes, &mut self.write_classes, &mut self.renewed);
+        renew_row(
+            own,
+            &self.untouched,
+            starts,
+            &mut self.own_classes,
+            &mut self.write_classes,
+            &mut self.renewed,
+        );
     }
 
     /// The new stamps of a row of write stamps.

@@ -197,7 +197,13 @@ impl<S: Lanes> Threads<S> {
         ensures all { IsRenumbered self.old self.new writes.old.pages writes.new.pages }
     {
         sorted_starts(self.threads.list(), &mut self.starts);
-        renumber_threads(&mut self.threads, writes, &self.starts, &mut self.renewed, &mut self.rows);
+        renumber_threads(
+            &mut self.threads,
+            writes,
+            &self.starts,
+            &mut self.renewed,
+            &mut self.rows,
+        );
         renew_writes(writes, &self.starts, &mut self.rows);
         self.frames
     }

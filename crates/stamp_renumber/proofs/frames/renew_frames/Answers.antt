@@ -1,6 +1,5 @@
-use Rattle.std.proofs.Common.{◌≡◌, ◌∙◌, ℕ, List, map, ap, sym, subst}
+use Rattle.std.proofs.Common.{◌∙◌, ℕ, List, map, ap, sym, subst}
 use Rattle.shadow_stack.specs.Frames.{IsRising, restarted, starts_of}
-use Rattle.stamp_renumber.specs.Classes.{new_start}
 use Rattle.stamp_renumber.proofs.Restarted.{renewed_rising, restarted_all}
 use Rattle.stamp_renumber.proofs.frames.renew_frames.Goals as goal
 

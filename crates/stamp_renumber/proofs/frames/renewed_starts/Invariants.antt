@@ -1,4 +1,4 @@
-use Rattle.std.proofs.Common.{◌≡◌, ◌≤◌, ◌<◌, ◌+◌, ◌++◌, length, map, take, vec_len}
+use Rattle.std.proofs.Common.{◌≡◌, ◌≤◌, ◌<◌, map, take, vec_len}
 use Rattle.std.specs.Vec.{vec_capacity}
 use Rattle.shadow_stack.specs.Frames.{IsRising, starts_of}
 use Rattle.stamp_renumber.specs.Classes.{new_start}

@@ -1,5 +1,5 @@
-use Rattle.std.proofs.Common.{◌≡◌, ◌∙◌, ◌+◌, ◌++◌, ◌<◌, ℕ, List, length, map, take, drop, ap, ap₂, sym, refl, arith}
-use Rattle.std.proofs.lemmas.List.{length-set, take_all, drop_all, append-nil}
+use Rattle.std.proofs.Common.{◌∙◌, ◌<◌, length, map, ap, refl, arith}
+use Rattle.std.proofs.lemmas.List.{length-set}
 use Rattle.shadow_pages.specs.Pages.{Page, covers, stamp_at}
 use Rattle.stamp_renumber.specs.Rows.{renewed_accesses}
 use Rattle.stamp_renumber.proofs.Words.{all_pages, covers-map, page_more, renewed_word}

@@ -1,4 +1,4 @@
-use Rattle.std.proofs.Common.{◌≡◌, ◌≤◌, ◌+◌, ◌∙◌, ℕ, List, length, map, take, vec_len, ap, sym, arith}
+use Rattle.std.proofs.Common.{◌≡◌, ◌∙◌, length, take, ap, sym, arith}
 use Rattle.std.proofs.lemmas.List.{length-map}
 use Rattle.shadow_stack.specs.Frames.{Stack}
 use Rattle.stamp_renumber.specs.Threads.{all_starts}

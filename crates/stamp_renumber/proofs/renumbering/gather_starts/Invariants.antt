@@ -1,4 +1,4 @@
-use Rattle.std.proofs.Common.{◌≡◌, ◌≤◌, length, map, take, vec_len}
+use Rattle.std.proofs.Common.{◌≡◌, ◌≤◌, map, take}
 use Rattle.std.specs.Vec.{vec_capacity}
 use Rattle.stamp_renumber.specs.Threads.{all_starts}
 use Rattle.stamp_renumber.proofs.renumbering.gather_starts.Given as goal

@@ -1,4 +1,4 @@
-use Rattle.std.proofs.Common.{◌≡◌, ◌≤◌, ◌<◌, ◌+◌, ◌∙◌, ℕ, List, length, map, get_or, set, Option, Some, ap, sym, subst, arith, All}
+use Rattle.std.proofs.Common.{◌≡◌, ◌<◌, ◌∙◌, ℕ, List, length, map, get_or, set, Some, ap, sym, subst, arith, All}
 use Rattle.std.specs.Prelude.{Contains}
 use Rattle.std.specs.Option.{option_copied_mut}
 use Rattle.std.proofs.lemmas.List.{get_or_default}
@@ -85,7 +85,7 @@ loop-i-preserved g c =
     record {
       same = numbers-with now (get_or c.list.result.now i d).0 new ∙ same;
       done = λ k e lt. subst (λ (xs : List (ℕ × Stamped)). R (get_or old k e).1 (get_or xs k e).1) (sym changed)
-      (done_more R old now i t new long inside (λ e. subst (λ s. R s new) (was ∙ ap (λ (x : ℕ × Stamped). x.1) (get_or_default old i d e inside)) c.renumber.ensures.thread) c.loop-i.invariant.done k e lt);
+          (done_more R old now i t new long inside (λ e. subst (λ s. R s new) (was ∙ ap (λ (x : ℕ × Stamped). x.1) (get_or_default old i d e inside)) c.renumber.ensures.thread) c.loop-i.invariant.done k e lt);
       left = λ k e le. ap (λ (xs : List (ℕ × Stamped)). get_or xs k e) changed ∙ left_more R old now i t new long inside c.loop-i.invariant.left k e le;
       capacity = omega (arith, c.renumber.ensures.capacity, c.loop-i.invariant.capacity);
     }

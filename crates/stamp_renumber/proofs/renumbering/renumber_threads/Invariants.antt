@@ -1,4 +1,4 @@
-use Rattle.std.proofs.Common.{◌≡◌, ◌≤◌, ◌<◌, ℕ, length, map, take, get_or}
+use Rattle.std.proofs.Common.{◌≡◌, ◌≤◌, ◌<◌, ℕ, map, get_or}
 use Rattle.std.specs.Vec.{vec_capacity}
 use Rattle.guest_words.specs.ByThread.{numbers}
 use Rattle.stamp_renumber.specs.Renumbered.{IsThreadRenumbered}

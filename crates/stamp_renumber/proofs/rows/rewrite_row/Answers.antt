@@ -1,4 +1,4 @@
-use Rattle.std.proofs.Common.{◌≡◌, ◌∙◌, ℕ, List, map, ap}
+use Rattle.std.proofs.Common.{◌∙◌, ℕ, List, map, ap}
 use Rattle.std.proofs.lemmas.List.{length-map}
 use Rattle.stamp_lanes.specs.Plain.{renewals, renewed}
 use Rattle.stamp_renumber.proofs.Words.{class_room, own_renewed}

@@ -1,8 +1,6 @@
-use Rattle.std.proofs.Common.{◌≡◌, ℕ, List, ◌<◌, ◌≤◌, ◌-◌, Some, length, map, take, drop, refl, sym, ap, ◌∙◌, arith, rules}
-use Rattle.std.specs.Prelude.{slice_index}
+use Rattle.std.proofs.Common.{ℕ, List, ◌≤◌, ◌-◌, length, map, take, drop, sym, ap, ◌∙◌, arith, rules}
 use Rattle.stamp_lanes.specs.Plain.{class_of}
 use Rattle.std.proofs.lemmas.List.{length-map, take-map, drop-map}
-use Rattle.stamp_renumber.specs.Classes.{class}
 use Rattle.stamp_renumber.proofs.Sorted.{Parts, parts_in_order, row_classes}
 use Rattle.stamp_renumber.proofs.starts.classes_into.Goals as goal
 

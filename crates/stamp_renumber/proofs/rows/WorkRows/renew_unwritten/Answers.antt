@@ -1,4 +1,4 @@
-use Rattle.std.proofs.Common.{◌≡◌, length, map, ap, arith}
+use Rattle.std.proofs.Common.{length, ap, arith}
 use Rattle.std.proofs.lemmas.List.{length-map}
 use Rattle.stamp_renumber.proofs.Words.{zeros_long}
 use Rattle.stamp_renumber.proofs.rows.WorkRows.renew_unwritten.Goals as goal

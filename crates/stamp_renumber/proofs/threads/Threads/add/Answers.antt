@@ -1,15 +1,11 @@
-use Rattle.std.proofs.Common.{◌≡◌, ◌≤◌, ◌<◌, ◌+◌, Option, ◌++◌, ◌∷◌, [], ◌∙◌, ℕ, List, length, refl, ap, sym, subst, arith, Some, None, All, rules}
+use Rattle.std.proofs.Common.{◌≡◌, ◌<◌, ◌++◌, ◌∷◌, [], ℕ, List, ap, sym, subst, All}
 use Rattle.std.specs.Vec.{vec_capacity}
-use Rattle.std.specs.Option.{option_copied_mut, option_map_or}
-use Rattle.std.proofs.lemmas.Result.{err_from_is_err_and, on_err_weaker, on_ok_weaker}
+use Rattle.std.proofs.lemmas.Result.{on_err_weaker, on_ok_weaker}
 use Rattle.std.proofs.lemmas.List.Elements.{All-same}
-use Rattle.guest_words.specs.ByThread.{numbers, value_of, with_value, without_thread}
-use Rattle.shadow_stack.specs.Frames.{Frame, IsPopped, added, new_frame}
-use Rattle.stamp_renumber.specs.Threads.{Live, Stamped, frames_of, pages_of, spare_of, stamped}
+use Rattle.guest_words.specs.ByThread.{numbers}
+use Rattle.stamp_renumber.specs.Threads.{Live, Stamped, stamped}
 use Rattle.stamp_renumber.specs.Kept.{IsKept}
-use Rattle.shadow_stack.specs.declared.sums.Sums.{Sums}
-use Rattle.std.proofs.lemmas.List.{length_push}
-use Rattle.stamp_renumber.proofs.Changed.{either, length_changed, added_thread, changed_to, frames_are, frames_were, kept_changed, kept_pushed, kept_without, pages_were, popped_none, popped_one, spare_is, spare_was, starts_of_one, unchanged}
+use Rattle.stamp_renumber.proofs.Changed.{either, added_thread, kept_pushed}
 use Rattle.stamp_renumber.proofs.threads.Threads.add.Goals as goal
 
 pub invariant_of-self : goal.invariant_of-self
@@ -33,4 +29,4 @@ returns-clause-ok g c =
     let new : Stamped = c.in_ok-thread.thread in
     let above : All (λ n. n < t) (numbers xs) = All-same (λ n. n < t) (numbers xs) (numbers threads) (ap numbers is) c.requires.above in
     on_ok_weaker c.insert.result (λ e.
-        subst (λ (ys : List (ℕ × Stamped)). ys ≡ threads ++ (t, stamped ys t [] []) ∷ []) (sym e) (added_thread xs threads is t new above c.in_ok-thread.ensures.frames c.in_ok-thread.ensures.pages)) c.insert.ensures.ok
+    subst (λ (ys : List (ℕ × Stamped)). ys ≡ threads ++ (t, stamped ys t [] []) ∷ []) (sym e) (added_thread xs threads is t new above c.in_ok-thread.ensures.frames c.in_ok-thread.ensures.pages)) c.insert.ensures.ok

@@ -1,15 +1,9 @@
-use Rattle.std.proofs.Common.{◌≡◌, ◌≤◌, ◌<◌, ◌+◌, ◌-◌, ◌^◌, Option, ◌++◌, ◌∷◌, [], ◌∙◌, ℕ, List, length, refl, ap, sym, subst, arith, Some, None, All, rules}
+use Rattle.std.proofs.Common.{◌≡◌, ◌≤◌, ◌<◌, ◌+◌, ◌-◌, ◌^◌, ◌∙◌, ℕ, List, length, ap, sym, subst, arith, rules}
 use Rattle.std.specs.Vec.{vec_capacity}
-use Rattle.std.specs.Option.{option_copied_mut, option_map_or}
-use Rattle.std.proofs.lemmas.Result.{err_from_is_err_and, on_err_weaker, on_ok_weaker}
-use Rattle.std.proofs.lemmas.List.Elements.{All-same}
-use Rattle.guest_words.specs.ByThread.{numbers, value_of, with_value, without_thread}
-use Rattle.shadow_stack.specs.Frames.{Frame, IsPopped, added, new_frame}
-use Rattle.stamp_renumber.specs.Threads.{Live, Stamped, frames_of, pages_of, spare_of, stamped}
+use Rattle.guest_words.specs.ByThread.{without_thread}
+use Rattle.stamp_renumber.specs.Threads.{Live, Stamped, frames_of}
 use Rattle.stamp_renumber.specs.Kept.{IsKept}
-use Rattle.shadow_stack.specs.declared.sums.Sums.{Sums}
-use Rattle.std.proofs.lemmas.List.{length_push}
-use Rattle.stamp_renumber.proofs.Changed.{either, length_changed, added_thread, changed_to, frames_are, frames_were, kept_changed, kept_pushed, kept_without, pages_were, popped_none, popped_one, spare_is, spare_was, starts_of_one, starts-without, unchanged}
+use Rattle.stamp_renumber.proofs.Changed.{kept_without, starts-without}
 use Rattle.stamp_renumber.proofs.threads.Threads.remove.Goals as goal
 
 pub overflow_sub-self : goal.overflow_sub-self

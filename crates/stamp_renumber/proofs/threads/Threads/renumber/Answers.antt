@@ -1,11 +1,10 @@
-use Rattle.std.proofs.Common.{◌≡◌, ◌≤◌, ◌<◌, ◌+◌, ◌*◌, ◌∙◌, ℕ, List, length, map, get_or, Some, ap, sym, subst, arith, All}
+use Rattle.std.proofs.Common.{◌≡◌, ◌∙◌, ℕ, List, length, map, Some, ap, sym, subst, arith, All}
 use Rattle.std.specs.Prelude.{Contains}
-use Rattle.std.specs.Vec.{vec_capacity}
 use Rattle.std.specs.List.Sorted.{IsPermutation}
 use Rattle.std.proofs.lemmas.List.{length-map}
 use Rattle.std.proofs.lemmas.List.Sorted.{length_permutation}
-use Rattle.guest_words.specs.ByThread.{IsRising, numbers, value_of}
-use Rattle.stamp_renumber.specs.Renumbered.{AreRenumbered, IsThreadRenumbered}
+use Rattle.guest_words.specs.ByThread.{IsRising, value_of}
+use Rattle.stamp_renumber.specs.Renumbered.{IsThreadRenumbered}
 use Rattle.stamp_renumber.specs.Threads.{Live, Stamped, all_starts}
 use Rattle.stamp_renumber.specs.Ticks.{IsRenumbered}
 use Rattle.stamp_renumber.specs.Classes.{new_write}
