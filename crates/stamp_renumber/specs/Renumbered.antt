@@ -1,5 +1,5 @@
 -- Threads whose stamps are renumbered.
-use Rattle.std.specs.Prelude.{◌≡◌, ℕ, ◌<◌, ◌≤◌, List, length, map, slice_index_or}
+use Rattle.std.specs.Prelude.{◌≡◌, ℕ, ◌<◌, List, length, map, slice_index_or}
 use Rattle.guest_words.specs.ByThread.{numbers}
 use Rattle.shadow_stack.specs.Frames.{Frame}
 use Rattle.shadow_pages.specs.Pages.{Page, covers, stamp_at}
@@ -14,7 +14,7 @@ renewed_frames starts frames = map (λ (f : Frame). record f { start = new_start
 -- stamps before they are renumbered.
 pub record IsThreadRenumbered (starts : List ℕ) (writes : List Page) (old new : Stamped) : Type 0 where
   pub frames : new.frames ≡ renewed_frames starts old.frames
-  pub spare : old.spare ≤ new.spare
+  pub spare : new.spare ≡ old.spare
   pub stamps : (w : ℕ) → stamp_at new.pages w ≡ new_access starts (stamp_at old.pages w) (stamp_at writes w)
   pub covered : (w : ℕ) → covers new.pages w ≡ covers old.pages w
 

@@ -17,7 +17,7 @@ ticked greatest counter n =
 pub record IsRenumbered (old new : Live) (writes written : List Page) : Type 0 where
   pub same : numbers new.threads ≡ numbers old.threads
   pub each : (t : ℕ) (was is : Stamped) → value_of old.threads t ≡ Some was → value_of new.threads t ≡ Some is → IsThreadRenumbered (all_starts old.threads) writes was is
-  pub marks : old.marks ≤ new.marks
+  pub marks : new.marks ≡ old.marks
   pub stamps : (w : ℕ) → stamp_at written w ≡ new_write (all_starts old.threads) (stamp_at writes w)
   pub covered : (w : ℕ) → covers written w ≡ covers writes w
 

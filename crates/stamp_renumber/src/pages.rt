@@ -6,11 +6,8 @@ ghost use Rattle.stamp_renumber.specs.Classes.{new_access, new_write};
 ghost use Rattle.stamp_renumber.specs.Rows.{renewed_accesses, renewed_writes};
 
 use crate::rows::WorkRows;
-use shadow_pages::Shadow;
+use shadow_pages::{PAGE_WORDS, Shadow};
 use stamp_lanes::Lanes;
-
-/// How many words a page has.
-const ROW_WORDS: u32 = 1024;
 
 /// A thread's page of access stamps. A page without write stamps was not written.
 fn renew_access_page<S: Lanes>(
@@ -27,7 +24,7 @@ fn renew_access_page<S: Lanes>(
 {
     let (first, own) = shadow.page(i);
     if writes.covers(first) {
-        rows.renew_accesses(own, writes.row(first, ROW_WORDS), starts);
+        rows.renew_accesses(own, writes.row(first, PAGE_WORDS as u32), starts);
     } else {
         rows.renew_unwritten(own, starts);
     }

@@ -18,7 +18,7 @@ use std::marker::Model;
 
 /// The frames of a thread, and the stamps of its accesses.
 #[derive(Drop)]
-pub struct ThreadStamps<S: Stamp> {
+pub(crate) struct ThreadStamps<S: Stamp> {
     frames: Frames<S>,
     shadow: Shadow<S>,
 }

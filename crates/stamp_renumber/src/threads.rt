@@ -17,8 +17,9 @@ use stamp_lanes::Lanes;
 use std::alloc::{AllocError, Global};
 use std::marker::Model;
 
-/// Live threads, each with its frames and the stamps of its accesses, and the memory that a renumbering needs, which it
-/// takes beforehand: work rows, and a mark for each frame. No call but `push` lowers the room for frames and their marks.
+/// Live threads, each with its frames and the stamps of its accesses. A renumbering takes no memory: the threads hold work rows
+/// for it from the start, and room for the starts of all their frames, `frames` of them and `marks` more. No call but `push`
+/// lowers the room for frames and their marks.
 #[derive(Drop)]
 pub struct Threads<S: Lanes> {
     alloc: Global,
