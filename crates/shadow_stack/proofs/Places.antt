@@ -1,10 +1,9 @@
 -- Frames as a struct keeps them, and as contracts see them: what is changed at one place.
-use Rattle.std.proofs.Common.{◌≡◌, ℕ, zero, suc, ◌+◌, ◌-◌, ◌<◌, ◌≤◌, List, [], ◌∷◌, ◌++◌, length, map, get_or, Option, Some, None, refl, sym, ap, ◌∙◌, subst, arith}
+use Rattle.std.proofs.Common.{◌≡◌, ℕ, zero, suc, ◌<◌, List, [], ◌∷◌, ◌++◌, length, map, get_or, take, refl, ap, ◌∙◌, arith}
 use Rattle.std.specs.Prelude.{slice_get, slice_index, slice_set, IfSome}
 use Rattle.std.proofs.lemmas.List.{length-append, get_or_append_left}
-use Rattle.std.proofs.lemmas.Simd.{map-map}
 use Rattle.shadow_stack.specs.declared.sums.Sums.{Sums}
-use Rattle.shadow_stack.specs.Frames.{Frame, FitsPop, FitsSums, starts_of, IsRising, changed, added, added_to_last, plus}
+use Rattle.shadow_stack.specs.Frames.{Frame, FitsPop, FitsSums, starts_of, IsRising, changed, added, added_to_last, plus, restarted}
 
 -- the things kept, each with a start and sums
 module _ {X : Type 0} (start : X → ℕ) (sums : X → Sums) where
@@ -25,6 +24,22 @@ module _ {X : Type 0} (start : X → ℕ) (sums : X → Sums) where
   starts-set [] i old new within was is = absurd (omega (arith, within))
   starts-set (y ∷ xs) zero old new within was is = ap (λ s. s ∷ map start xs) (is ∙ ap start was)
   starts-set (y ∷ xs) (suc i) old new within was is = ap (λ ss. start y ∷ ss) (starts-set xs i old new (omega (arith, within)) was is)
+
+-- one more frame has its new start
+pub restarted_next : (starts : List ℕ) (frames : List Frame) (i : ℕ) → i < length starts → i < length frames →
+    changed i (λ f. record f { start = slice_index starts i }) (restarted (take i starts) frames) ≡ restarted (take (suc i) starts) frames
+restarted_next [] frames i low within = absurd (omega (arith, low))
+restarted_next (s ∷ starts) [] i low within = absurd (omega (arith, within))
+restarted_next (s ∷ starts) (f ∷ frames) zero low within = refl
+restarted_next (s ∷ starts) (f ∷ frames) (suc i) low within =
+    ap (λ fs. record f { start = s } ∷ fs) (restarted_next starts frames i (omega (arith, low)) (omega (arith, within)))
+
+-- all have theirs
+pub restarted_starts : (starts : List ℕ) (frames : List Frame) → length starts ≡ length frames → starts_of (restarted starts frames) ≡ starts
+restarted_starts [] [] long = refl
+restarted_starts [] (f ∷ frames) long = absurd (omega (arith, long))
+restarted_starts (s ∷ starts) [] long = absurd (omega (arith, long))
+restarted_starts (s ∷ starts) (f ∷ frames) long = ap (λ ss. s ∷ ss) (restarted_starts starts frames (omega (arith, long)))
 
 -- the part of rising starts is rising
 pub rising_front : (starts : List ℕ) (last : ℕ) → IsRising (starts ++ last ∷ []) → IsRising starts

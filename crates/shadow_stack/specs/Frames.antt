@@ -50,9 +50,10 @@ changed (suc i) change (f ∷ frames) = f ∷ changed i change frames
 abbrev pub added : ℕ → Sums → List Frame → List Frame
 added i by frames = changed i (λ f. record f { sums = plus f.sums by }) frames
 
--- it has another start
-abbrev pub restarted : ℕ → ℕ → List Frame → List Frame
-restarted i start frames = changed i (λ f. record f { start = start }) frames
+-- the frames have these starts
+abbrev pub restarted : List ℕ → List Frame → List Frame
+restarted (start ∷ starts) (f ∷ frames) = record f { start = start } ∷ restarted starts frames
+restarted _ frames = frames
 
 -- something is added to the sums of the innermost frame, if there is one
 abbrev pub added_to_last : Sums → List Frame → List Frame

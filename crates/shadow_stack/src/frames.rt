@@ -112,15 +112,14 @@ impl<S: Stamp> Frames<S> {
         Some(top.sums)
     }
 
-    /// Another start for the frame at the place, where the starts still rise.
-    pub fn renew(&mut self, i: usize, start: S)
-        requires within { i < length self.old.list }
-        requires rising { IsRising (starts_of (restarted i (S.number_of start) self.old.list)) }
-        ensures list { self.new.list ≡ restarted i (S.number_of start) self.old.list }
-        ensures kept { self.old.spare ≤ self.new.spare }
+    /// Other starts for all frames, the outermost first. They rise too.
+    pub fn renew(&mut self, starts: &[S])
+        requires each { length starts.now ≡ length self.old.list }
+        requires rising { IsRising (map S.number_of starts.now) }
+        ensures list { self.new.list ≡ restarted (map S.number_of starts.now) self.old.list }
+        ensures kept { self.new.spare ≡ self.old.spare }
     {
-        let frame = &mut self.frames[i];
-        frame.start = start;
+        restart(&mut self.frames, starts);
     }
 
     /// The innermost frame whose start is at most the stamp. A step is one comparison with a start.
@@ -129,6 +128,18 @@ impl<S: Stamp> Frames<S> {
         ensures cost { 2 ^ (steps.new - steps.old) ≤ 2 * length self.now.list + 1 }
     {
         first_above(&self.frames, stamp.number(), steps).checked_sub(1)
+    }
+}
+
+/// Gives each frame its new start.
+fn restart<S: Stamp>(frames: &mut [Frame<S>], starts: &[S])
+    requires { length starts.now ≡ length frames.old }
+    ensures list { map (λ x. record { start = S.number_of x.start; sums = x.sums }) frames.new ≡ restarted (map S.number_of starts.now) (map (λ x. record { start = S.number_of x.start; sums = x.sums }) frames.old) }
+    ensures length { length frames.new ≡ length frames.old }
+{
+    for i in 0..frames.len() {
+        let frame = &mut frames[i];
+        frame.start = starts[i];
     }
 }
 

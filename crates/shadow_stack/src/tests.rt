@@ -32,7 +32,7 @@ fn the_last_frame_that_began_by_then_is_found(rt: HostRuntime) -> Result<(), Fai
     for (stamp, place) in &rows {
         assert_eq!(rt; last_at_most(&frames, *stamp), *place);
     }
-    frames.renew(2, 6);
-    assert_eq!(rt; frames.start_at(2), 6);
+    frames.renew(&[2, 6, 699]);
+    assert_eq!(rt; last_at_most(&frames, 698), Some(1));
     Ok(())
 }

@@ -11,7 +11,7 @@ use Rattle.stamp_lanes.specs.Plain.{renewed}
 use Rattle.stamp_renumber.specs.Classes.{class, new_access}
 use Rattle.stamp_renumber.specs.Laws.{StartsKeepOrder, AccessesKeepOrder, WritesKeepOrder, WritesStay, AccessesStay, NewStampsFit}
 
-class-cons : (x : ℕ) (starts : List ℕ) (s : ℕ) → class (x ∷ starts) s ≡ cond (leb x s) 1 0 + class starts s
+pub class-cons : (x : ℕ) (starts : List ℕ) (s : ℕ) → class (x ∷ starts) s ≡ cond (leb x s) 1 0 + class starts s
 class-cons x starts s = sum_by-cons (λ x. cond (leb x s) 1 0) x starts
 
 one_mono : (x s r : ℕ) → s ≤ r → cond (leb x s) 1 0 ≤ cond (leb x r) 1 0

@@ -2,6 +2,19 @@
 //! how many activations that are open had begun by then, and the order that a profiler looks at stays.
 #![tactic(auto)]
 
+mod frames;
 mod laws;
+mod pages;
+mod renumbering;
+mod rows;
+mod starts;
+mod thread_stamps;
+mod threads;
+mod ticks;
 
-pub use laws::renumbering_keeps_order;
+pub use laws::{renumbering_keeps_order, ticks_stay_above};
+pub use threads::Threads;
+pub use ticks::{Ticked, tick};
+
+#[cfg(test)]
+mod tests;

@@ -1,6 +1,6 @@
-use Rattle.std.proofs.Common.{◌≡◌, ◌<◌, length, map, refl, ap, subst, sym, ◌∙◌, arith}
+use Rattle.std.proofs.Common.{◌<◌, length, refl, ap, subst, sym, ◌∙◌, arith}
 use Rattle.std.proofs.lemmas.List.{length-map}
-use Rattle.shadow_stack.specs.Frames.{Frame, Stack, IsRising, added, plus, starts_of}
+use Rattle.shadow_stack.specs.Frames.{Stack, IsRising, added, plus}
 use Rattle.shadow_stack.proofs.Places.{seen, changed-set, starts-set}
 use Rattle.shadow_stack.proofs.frames.Frames.add.Goals as goal
 

@@ -1,6 +1,6 @@
-use Rattle.std.proofs.Common.{◌≡◌, ◌≤◌, ◌<◌, ◌∙◌, ap, subst, map, length, slice_index}
+use Rattle.std.proofs.Common.{◌∙◌, ap, map}
 use Rattle.std.proofs.lemmas.List.{length-map}
-use Rattle.shadow_stack.specs.Frames.{Stack, IsLastAtMost, starts_of}
+use Rattle.shadow_stack.specs.Frames.{Stack, starts_of}
 use Rattle.shadow_stack.proofs.Places.{starts_seen}
 use Rattle.shadow_stack.proofs.Rising.{counted_last}
 use Rattle.shadow_stack.proofs.frames.Frames.find.Goals as goal

@@ -1,7 +1,7 @@
-use Rattle.std.proofs.Common.{◌≡◌, ℕ, suc, ◌+◌, ◌-◌, ◌<◌, ◌++◌, ◌∷◌, [], List, length, map, refl, ap, subst, sym, ◌∙◌, arith}
+use Rattle.std.proofs.Common.{◌≡◌, suc, ◌-◌, ◌∷◌, [], length, map, refl, ap, subst, sym, ◌∙◌, arith}
 use Rattle.std.proofs.lemmas.List.{length-map, map-append}
 use Rattle.shadow_stack.specs.declared.frames.Frame.{Frame as Kept}
-use Rattle.shadow_stack.specs.Frames.{Frame, Stack, FitsPop, IsRising, added_to_last}
+use Rattle.shadow_stack.specs.Frames.{Frame, Stack, FitsPop, IsRising}
 use Rattle.shadow_stack.proofs.Places.{seen, last_added, none_added, below_fits, rising_front}
 use Rattle.shadow_stack.proofs.frames.Frames.pop.Goals as goal
 use Rattle.shadow_stack.proofs.frames.Frames.pop.Goals.{then-depth-gt0, else-depth-gt0}

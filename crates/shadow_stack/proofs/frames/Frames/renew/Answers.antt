@@ -1,24 +1,30 @@
-use Rattle.std.proofs.Common.{◌≡◌, ◌<◌, length, map, refl, ap, subst, sym, ◌∙◌, arith}
-use Rattle.std.specs.Prelude.{slice_set}
-use Rattle.std.proofs.lemmas.List.{length-map}
+use Rattle.std.proofs.Common.{◌≡◌, length, map, ap, subst, sym, ◌∙◌}
+use Rattle.std.specs.Vec.{with_items}
+use Rattle.std.proofs.lemmas.List.{length-map, with_items_is}
+use Rattle.shadow_stack.specs.declared.frames.Frame.{Frame as Kept}
 use Rattle.shadow_stack.specs.Frames.{Frame, Stack, IsRising, restarted, starts_of}
-use Rattle.shadow_stack.proofs.Places.{seen, changed-set, starts_seen}
+use Rattle.shadow_stack.proofs.Places.{seen, restarted_starts, starts_seen}
 use Rattle.shadow_stack.proofs.frames.Frames.renew.Goals as goal
 
 pub invariant_of-self : goal.invariant_of-self
 invariant_of-self g c =
-    let items = c.self.inside.frames.items in
-    let within : c.args.i < length items = omega (arith, c.requires.within, length-map items (seen (λ x. g.S.Stamp.number_of x.start) (λ x. x.sums)), ap (λ (s : Stack). length s.list) c.self.view_is) in
-    let frame = c.index_mut-frame.result.now in
-    let list_is =
-    changed-set (λ x. g.S.Stamp.number_of x.start) (λ x. x.sums) items c.args.i frame (record { start = c.args.start; sums = frame.sums }) (λ f. record f { start = g.S.Stamp.number_of c.args.start }) within c.index_mut-frame.ensures.value refl
-    ∙ ap (λ (s : Stack). restarted c.args.i (g.S.Stamp.number_of c.args.start) s.list) c.self.view_is in
-    subst IsRising (sym (starts_seen (λ x. g.S.Stamp.number_of x.start) (λ x. x.sums) (slice_set items c.args.i (record { start = c.args.start; sums = frame.sums })) ∙ ap starts_of list_is)) c.requires.rising
+    let look : Kept g.row.S.Denot → Frame = seen (λ x. g.S.Stamp.number_of x.start) (λ x. x.sums) in
+    let frames = c.self.inside.frames in
+    let starts = map g.S.Stamp.number_of c.args.starts.now in
+    let here = c.deref_mut.result.now in
+    let list_is = ap (λ (s : Stack). s.list) c.self.view_is in
+    let long : length starts ≡ length (map look here) =
+    length-map c.args.starts.now g.S.Stamp.number_of ∙ c.requires.each ∙ ap length (sym list_is) ∙ ap (λ xs. length (map look xs)) (sym c.deref_mut.ensures.value)
+    in
+    let are : (with_items frames c.restart.new.frames).items ≡ c.restart.new.frames = with_items_is frames c.restart.new.frames (c.restart.ensures.length ∙ c.deref_mut.ensures.len) in
+    subst IsRising
+    (sym (ap (map (λ x. g.S.Stamp.number_of x.start)) are ∙ starts_seen (λ x. g.S.Stamp.number_of x.start) (λ x. x.sums) c.restart.new.frames ∙ ap starts_of c.restart.ensures.list ∙ restarted_starts starts (map look here) long))
+    c.requires.rising
 
 pub returns-clause-list : goal.returns-clause-list
 returns-clause-list g c =
-    let items = c.self.inside.frames.items in
-    let within : c.args.i < length items = omega (arith, c.requires.within, length-map items (seen (λ x. g.S.Stamp.number_of x.start) (λ x. x.sums)), ap (λ (s : Stack). length s.list) c.self.view_is) in
-    let frame = c.index_mut-frame.result.now in
-    changed-set (λ x. g.S.Stamp.number_of x.start) (λ x. x.sums) items c.args.i frame (record { start = c.args.start; sums = frame.sums }) (λ f. record f { start = g.S.Stamp.number_of c.args.start }) within c.index_mut-frame.ensures.value refl
-    ∙ ap (λ (s : Stack). restarted c.args.i (g.S.Stamp.number_of c.args.start) s.list) c.self.view_is
+    let look : Kept g.row.S.Denot → Frame = seen (λ x. g.S.Stamp.number_of x.start) (λ x. x.sums) in
+    let frames = c.self.inside.frames in
+    let starts = map g.S.Stamp.number_of c.args.starts.now in
+    let are : (with_items frames c.restart.new.frames).items ≡ c.restart.new.frames = with_items_is frames c.restart.new.frames (c.restart.ensures.length ∙ c.deref_mut.ensures.len) in
+    ap (map look) are ∙ c.restart.ensures.list ∙ ap (λ xs. restarted starts (map look xs)) c.deref_mut.ensures.value ∙ ap (λ (s : Stack). restarted starts s.list) c.self.view_is

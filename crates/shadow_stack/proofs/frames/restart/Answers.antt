@@ -1,0 +1,28 @@
+use Rattle.std.proofs.Common.{◌≡◌, ◌<◌, length, map, get_or, take, sym, ap, ◌∙◌, arith, add-one}
+use Rattle.std.specs.Prelude.{slice_index}
+use Rattle.std.proofs.lemmas.List.{get_or-map, length-map, length-set}
+use Rattle.shadow_stack.specs.declared.frames.Frame.{Frame as Kept}
+use Rattle.shadow_stack.specs.Frames.{Frame, changed, restarted}
+use Rattle.shadow_stack.proofs.Places.{seen, changed-set, restarted_next}
+use Rattle.shadow_stack.proofs.frames.restart.Goals as goal
+
+pub loop-i-preserved : goal.loop-i-preserved
+loop-i-preserved g c =
+    let look : Kept g.row.S.Denot → Frame = seen (λ x. g.S.Stamp.number_of x.start) (λ x. x.sums) in
+    let old : Kept g.row.S.Denot = get_or c.loop-i.frames c.loop-i.i c.index-frames-i.result in
+    let new : Kept g.row.S.Denot = record { start = c.index-starts-i.result; sums = old.sums } in
+    let starts = map g.S.Stamp.number_of c.args.starts.now in
+    let inside : c.loop-i.i < length c.loop-i.frames = omega (arith, c.loop-i-test.true, c.loop-i.invariant.long) in
+    let low : c.loop-i.i < length starts = omega (arith, inside, c.loop-i.invariant.long, c.requires, length-map c.args.starts.now g.S.Stamp.number_of) in
+    let high : c.loop-i.i < length (map look c.args.frames.now) = omega (arith, inside, c.loop-i.invariant.long, length-map c.args.frames.now look) in
+    let read : slice_index starts c.loop-i.i ≡ g.S.Stamp.number_of c.index-starts-i.result =
+    get_or-map g.S.Stamp.number_of c.args.starts.now c.loop-i.i c.index-starts-i.result 0 (omega (arith, low, length-map c.args.starts.now g.S.Stamp.number_of)) ∙ ap g.S.Stamp.number_of (sym c.index-starts-i.is)
+    in
+    record {
+      long = length-set c.loop-i.frames c.loop-i.i new ∙ c.loop-i.invariant.long;
+      list =
+          changed-set (λ x. g.S.Stamp.number_of x.start) (λ x. x.sums) c.loop-i.frames c.loop-i.i old new (λ f. record f { start = slice_index starts c.loop-i.i }) inside (ap (λ x. get_or c.loop-i.frames c.loop-i.i x) c.index-frames-i.is) (ap (λ n. record { start = n; sums = old.sums }) (sym read))
+          ∙ ap (λ fs. changed c.loop-i.i (λ f. record f { start = slice_index starts c.loop-i.i }) fs) c.loop-i.invariant.list
+          ∙ restarted_next starts (map look c.args.frames.now) c.loop-i.i low high
+          ∙ ap (λ n. restarted (take n starts) (map look c.args.frames.now)) (sym (add-one c.loop-i.i));
+    }

@@ -1,0 +1,10 @@
+use Rattle.std.proofs.Common.{◌≡◌, length, map, take}
+use Rattle.shadow_stack.specs.Frames.{restarted}
+use Rattle.shadow_stack.proofs.Places.{seen}
+use Rattle.shadow_stack.proofs.frames.restart.Given as goal
+
+abbrev pub invariant-loop-i : goal.invariant-loop-i
+invariant-loop-i g l = record {
+  long : length l.frames ≡ length l.fn.frames;
+  list : map (seen (λ x. g.S.Stamp.number_of x.start) (λ x. x.sums)) l.frames ≡ restarted (take l.i (map g.S.Stamp.number_of l.starts)) (map (seen (λ x. g.S.Stamp.number_of x.start) (λ x. x.sums)) l.fn.frames);
+}

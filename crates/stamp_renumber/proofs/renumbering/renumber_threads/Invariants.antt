@@ -1,0 +1,14 @@
+use Rattle.std.proofs.Common.{◌≡◌, ◌≤◌, ◌<◌, ℕ, map, get_or}
+use Rattle.std.specs.Vec.{vec_capacity}
+use Rattle.guest_words.specs.ByThread.{numbers}
+use Rattle.stamp_renumber.specs.Renumbered.{IsThreadRenumbered}
+use Rattle.stamp_renumber.specs.Threads.{Stamped}
+use Rattle.stamp_renumber.proofs.renumbering.renumber_threads.Given as goal
+
+abbrev pub invariant-loop-i : goal.invariant-loop-i
+invariant-loop-i g l = record {
+  same : numbers l.threads.list ≡ numbers l.fn.threads.list;
+  done : (k : ℕ) (d : ℕ × Stamped) → k < l.i → IsThreadRenumbered (map g.S.Stamp.number_of l.starts) l.writes.pages (get_or l.fn.threads.list k d).1 (get_or l.threads.list k d).1;
+  left : (k : ℕ) (d : ℕ × Stamped) → l.i ≤ k → get_or l.threads.list k d ≡ get_or l.fn.threads.list k d;
+  capacity : vec_capacity l.fn.renewed ≤ vec_capacity l.renewed;
+}

@@ -1,0 +1,39 @@
+-- The live threads, with their frames and the stamps of their accesses.
+use Rattle.std.specs.Prelude.{ℕ, List, []}
+use Rattle.std.specs.List.{flat_map}
+use Rattle.std.specs.Option.{option_map_or}
+use Rattle.shadow_stack.specs.Frames.{Frame, starts_of}
+use Rattle.shadow_pages.specs.Pages.{Page}
+use Rattle.guest_words.specs.ByThread.{value_of}
+
+-- What is kept of a thread: its frames, the outermost first, how many more can be pushed without memory, and the pages of its
+-- access stamps.
+pub record Stamped : Type 0 where
+  pub frames : List Frame
+  pub spare : ℕ
+  pub pages : List Page
+
+-- The live threads by rising number, and for how many more frames there is room to mark them in a renumbering.
+pub record Live : Type 0 where
+  pub threads : List (ℕ × Stamped)
+  pub marks : ℕ
+
+-- the starts of the frames of all threads
+abbrev pub all_starts : List (ℕ × Stamped) → List ℕ
+all_starts threads = flat_map (λ x. starts_of x.1.frames) threads
+
+-- the frames of a thread
+abbrev pub frames_of : List (ℕ × Stamped) → ℕ → List Frame
+frames_of threads t = option_map_or (λ (s : Stamped). s.frames) (value_of threads t) []
+
+-- its room
+abbrev pub spare_of : List (ℕ × Stamped) → ℕ → ℕ
+spare_of threads t = option_map_or (λ (s : Stamped). s.spare) (value_of threads t) 0
+
+-- its pages
+abbrev pub pages_of : List (ℕ × Stamped) → ℕ → List Page
+pages_of threads t = option_map_or (λ (s : Stamped). s.pages) (value_of threads t) []
+
+-- a thread with these frames and pages, and the room that it has among the threads
+abbrev pub stamped : List (ℕ × Stamped) → ℕ → List Frame → List Page → Stamped
+stamped threads t frames pages = record { frames = frames; spare = spare_of threads t; pages = pages }

@@ -1,0 +1,133 @@
+//! What is kept of a thread.
+ghost use Rattle.std.specs.Prelude.{◌≡◌, ◌≤◌, ◌<◌, ◌+◌, ◌*◌, ◌++◌, ◌∷◌, [], All, Contains, IfOk, IfSome, IsOk, OnErr, OnOk, length, map, slice_get};
+ghost use Rattle.std.specs.Borrow.{sem};
+ghost use Rattle.std.specs.Vec.{vec_capacity};
+ghost use Rattle.std.specs.List.Sorted.{IsNonDecreasingBy};
+ghost use Rattle.shadow_stack.specs.Frames.{FitsPop, FitsSums, IsPopped, added, new_frame, plus, starts_of};
+ghost use Rattle.stamp_renumber.specs.Renumbered.{IsThreadRenumbered};
+
+use crate::frames::renew_frames;
+use crate::pages::renew_accesses;
+use crate::rows::WorkRows;
+use shadow_pages::Shadow;
+use shadow_stack::{Frames, Sums};
+use stamp_lanes::Lanes;
+use stamps::Stamp;
+use std::alloc::{AllocError, Global};
+use std::marker::Model;
+
+/// The frames of a thread, and the stamps of its accesses.
+#[derive(Drop)]
+pub(crate) struct ThreadStamps<S: Stamp> {
+    frames: Frames<S>,
+    shadow: Shadow<S>,
+}
+
+impl<S: Stamp> Model for ThreadStamps<S> {
+    ghost use Rattle.stamp_renumber.specs.Threads.{Stamped};
+
+    ghost Value = { Stamped };
+
+    ghost view = { λ t. record { frames = t.frames.list; spare = t.frames.spare; pages = t.shadow.pages } };
+}
+
+impl<S: Stamp> ThreadStamps<S> {
+    ghost use Rattle.stamp_renumber.specs.LentShadow.{LendsShadow};
+
+    /// No frame, and no stamp.
+    pub(crate) fn new(alloc: Global) -> Result<ThreadStamps<S>, AllocError>
+        ensures frames { IfOk result (λ t. t.frames ≡ []) }
+        ensures pages { IfOk result (λ t. t.pages ≡ []) }
+    {
+        Ok(ThreadStamps {
+            frames: Frames::new(alloc),
+            shadow: Shadow::new(alloc)?,
+        })
+    }
+
+    /// The frames.
+    pub(crate) fn frames(&self) -> &Frames<S>
+        ensures { result.now ≡ record { list = self.now.frames; spare = self.now.spare } }
+    {
+        &self.frames
+    }
+
+    /// The stamps of its accesses.
+    pub(crate) fn shadow(&self) -> &Shadow<S>
+        ensures { result.now ≡ record { pages = self.now.pages } }
+    {
+        &self.shadow
+    }
+
+    /// The stamps of its accesses, for writing.
+    pub(crate) fn shadow_mut(&mut self) -> &mut Shadow<S>
+        ensures* writes_back { sem 𝓛 (LendsShadow S.row S.Stamp self.entry result) }
+        ensures value { result.now ≡ record { pages = self.old.pages } }
+    {
+        &mut self.shadow
+    }
+
+    /// Makes the room for one more frame.
+    pub(crate) fn reserve(&mut self) -> Result<(), AllocError>
+        ensures room { OnOk result (1 ≤ self.new.spare) }
+        ensures frames { self.new.frames ≡ self.old.frames }
+        ensures pages { self.new.pages ≡ self.old.pages }
+        ensures kept { self.old.spare ≤ self.new.spare }
+    {
+        self.frames.reserve()
+    }
+
+    /// One more frame.
+    pub(crate) fn push(&mut self, start: S) -> Result<(), AllocError>
+        requires { All (λ s. s < S.number_of start) (starts_of self.old.frames) }
+        ensures ok { OnOk result (self.new.frames ≡ self.old.frames ++ new_frame (S.number_of start) ∷ []) }
+        ensures err { OnErr result (self.new.frames ≡ self.old.frames) }
+        ensures pages { self.new.pages ≡ self.old.pages }
+        ensures room { 1 ≤ self.old.spare → IsOk result }
+        ensures lowered { self.old.spare ≤ self.new.spare + 1 }
+    {
+        self.frames.push(start)
+    }
+
+    /// Adds to the sums of the frame at the place.
+    pub(crate) fn add(&mut self, i: usize, by: Sums)
+        requires within { i < length self.old.frames }
+        requires fits { IfSome (slice_get self.old.frames i) (λ f. FitsSums (plus f.sums by)) }
+        ensures frames { self.new.frames ≡ added i by self.old.frames }
+        ensures pages { self.new.pages ≡ self.old.pages }
+        ensures kept { self.old.spare ≤ self.new.spare }
+    {
+        self.frames.add(i, by);
+    }
+
+    /// Takes the innermost frame.
+    pub(crate) fn pop(&mut self) -> Option<Sums>
+        requires { FitsPop self.old.frames }
+        ensures popped { IsPopped self.old.frames result self.new.frames }
+        ensures pages { self.new.pages ≡ self.old.pages }
+        ensures kept { self.old.spare ≤ self.new.spare }
+    {
+        self.frames.pop()
+    }
+}
+
+impl<S: Lanes> ThreadStamps<S> {
+    /// Gives the frames their new starts and the words their new access stamps. The write stamps are still the old ones.
+    pub(crate) fn renumber(
+        &mut self,
+        writes: &Shadow<S>,
+        starts: &[S],
+        renewed: &mut Vec<S>,
+        rows: &mut WorkRows<S>,
+    )
+        requires sorted { IsNonDecreasingBy S.number_of starts.now }
+        requires fit { 3 * length starts.now + 2 ≤ S.MAX }
+        requires among { All (Contains (map S.number_of starts.now)) (starts_of self.old.frames) }
+        requires room { length self.old.frames ≤ vec_capacity renewed.old }
+        ensures thread { IsThreadRenumbered (map S.number_of starts.now) writes.now.pages self.old self.new }
+        ensures capacity { vec_capacity renewed.old ≤ vec_capacity renewed.new }
+    {
+        renew_frames(&mut self.frames, starts, renewed);
+        renew_accesses(&mut self.shadow, writes, starts, rows);
+    }
+}

@@ -1,0 +1,211 @@
+//! The live threads.
+ghost use Rattle.std.specs.Prelude.{◌≡◌, ◌≤◌, ◌<◌, ◌+◌, ◌*◌, ◌++◌, ◌∷◌, [], true, All, IfOk, IfSome, IsOk, OnErr, OnOk, is_some, length, slice_get};
+ghost use Rattle.std.specs.Borrow.{sem};
+ghost use Rattle.guest_words.specs.ByThread.{numbers, value_of, with_value, without_thread};
+ghost use Rattle.shadow_stack.specs.Frames.{FitsPop, FitsSums, IsPopped, added, new_frame, plus, starts_of};
+ghost use Rattle.stamp_renumber.specs.Threads.{all_starts, frames_of, pages_of, spare_of, stamped};
+ghost use Rattle.stamp_renumber.specs.Ticks.{IsRenumbered};
+
+use crate::pages::renew_writes;
+use crate::renumbering::{renumber_threads, sorted_starts};
+use crate::rows::WorkRows;
+use crate::thread_stamps::ThreadStamps;
+use guest_words::{ByThread, Tid};
+use shadow_pages::Shadow;
+use shadow_stack::{Frames, Sums};
+use stamp_lanes::Lanes;
+use std::alloc::{AllocError, Global};
+use std::marker::Model;
+
+/// Live threads, each with its frames and the stamps of its accesses. A renumbering takes no memory: the threads hold work rows
+/// for it from the start, and room for the starts of all their frames, `frames` of them and `marks` more. No call but `push`
+/// lowers the room for frames and their marks.
+#[derive(Drop)]
+pub struct Threads<S: Lanes> {
+    alloc: Global,
+    threads: ByThread<ThreadStamps<S>>,
+    frames: usize,
+    marks: usize,
+    starts: Vec<S>,
+    renewed: Vec<S>,
+    rows: WorkRows<S>,
+}
+
+impl<S: Lanes> Model for Threads<S> {
+    ghost use Rattle.std.specs.Vec.{vec_capacity};
+    ghost use Rattle.stamp_renumber.specs.Kept.{IsKept};
+    ghost use Rattle.stamp_renumber.specs.Threads.{Live};
+
+    ghost Value = { Live };
+
+    ghost view = { λ t. record { threads = t.threads.list; marks = t.marks } };
+
+    ghost invariant = { λ t. IsKept t.threads.list t.frames t.marks (vec_capacity t.starts) (vec_capacity t.renewed) };
+}
+
+impl<S: Lanes> Threads<S> {
+    ghost use Rattle.stamp_renumber.specs.LentThread.{LendsStamps};
+
+    /// No thread.
+    pub fn new(alloc: Global) -> Result<Threads<S>, AllocError>
+        ensures { IfOk result (λ t. t.threads ≡ []) }
+    {
+        Ok(Threads {
+            alloc,
+            threads: ByThread::new(alloc),
+            frames: 0,
+            marks: 0,
+            starts: Vec::new(alloc),
+            renewed: Vec::new(alloc),
+            rows: WorkRows::new(alloc)?,
+        })
+    }
+
+    /// One more thread, whose number is above all others.
+    pub fn add(&mut self, tid: Tid) -> Result<(), AllocError>
+        requires above { All (λ n. n < tid) (numbers self.old.threads) }
+        ensures ok { OnOk result (self.new.threads ≡ self.old.threads ++ (tid, stamped self.new.threads tid [] []) ∷ []) }
+        ensures err { OnErr result (self.new ≡ self.old) }
+        ensures marks { self.new.marks ≡ self.old.marks }
+    {
+        let thread = ThreadStamps::new(self.alloc)?;
+        self.threads.insert(tid, thread)
+    }
+
+    // How many frames the thread has.
+    fn depth(&self, tid: Tid) -> usize
+        ensures { result ≡ length (frames_of self.now.threads tid) }
+    {
+        match self.threads.get(tid) {
+            Some(thread) => thread.frames().depth(),
+            None => 0,
+        }
+    }
+
+    /// Takes the thread out.
+    pub fn remove(&mut self, tid: Tid)
+        ensures threads { self.new.threads ≡ without_thread self.old.threads tid }
+        ensures marks { self.old.marks ≤ self.new.marks }
+    {
+        let depth = self.depth(tid);
+        self.threads.remove(tid);
+        self.frames -= depth;
+        self.marks += depth;
+    }
+
+    // Makes the room for the mark of one more frame.
+    fn reserve_mark(&mut self) -> Result<(), AllocError>
+        ensures room { OnOk result (1 ≤ self.new.marks) }
+        ensures threads { self.new.threads ≡ self.old.threads }
+        ensures kept { self.old.marks ≤ self.new.marks }
+        ensures there { 1 ≤ self.old.marks → IsOk result }
+    {
+        if self.marks == 0 {
+            let marks = self.frames.checked_add(1).ok_or(AllocError)?;
+            self.starts.reserve(marks)?;
+            self.renewed.reserve(marks)?;
+            self.marks = 1;
+        }
+        Ok(())
+    }
+
+    /// Makes the room for one more frame of the thread and for its mark.
+    pub fn reserve(&mut self, tid: Tid) -> Result<(), AllocError>
+        requires lives { is_some (value_of self.old.threads tid) ≡ true }
+        ensures room { OnOk result ((1 ≤ spare_of self.new.threads tid) × (1 ≤ self.new.marks)) }
+        ensures threads { self.new.threads ≡ with_value self.old.threads tid (stamped self.new.threads tid (frames_of self.old.threads tid) (pages_of self.old.threads tid)) }
+        ensures kept { spare_of self.old.threads tid ≤ spare_of self.new.threads tid }
+        ensures marks { self.old.marks ≤ self.new.marks }
+    {
+        self.reserve_mark()?;
+        self.threads.get_mut(tid).unwrap().reserve()
+    }
+
+    /// One more frame of the thread, inside all its others. It is not refused where there is room for it and its mark.
+    pub fn push(&mut self, tid: Tid, start: S) -> Result<(), AllocError>
+        requires lives { is_some (value_of self.old.threads tid) ≡ true }
+        requires above { All (λ s. s < S.number_of start) (starts_of (frames_of self.old.threads tid)) }
+        ensures ok { OnOk result (self.new.threads ≡ with_value self.old.threads tid (stamped self.new.threads tid (frames_of self.old.threads tid ++ new_frame (S.number_of start) ∷ []) (pages_of self.old.threads tid))) }
+        ensures err { OnErr result (self.new.threads ≡ with_value self.old.threads tid (stamped self.new.threads tid (frames_of self.old.threads tid) (pages_of self.old.threads tid))) }
+        ensures room { 1 ≤ spare_of self.old.threads tid → 1 ≤ self.old.marks → IsOk result }
+        ensures lowered { spare_of self.old.threads tid ≤ spare_of self.new.threads tid + 1 }
+        ensures marks { self.old.marks ≤ self.new.marks + 1 }
+    {
+        self.reserve_mark()?;
+        self.threads.get_mut(tid).unwrap().push(start)?;
+        self.frames += 1;
+        self.marks -= 1;
+        Ok(())
+    }
+
+    /// Adds to the sums of the thread's frame at the place.
+    pub fn add_sum(&mut self, tid: Tid, i: usize, by: Sums)
+        requires lives { is_some (value_of self.old.threads tid) ≡ true }
+        requires within { i < length (frames_of self.old.threads tid) }
+        requires fits { IfSome (slice_get (frames_of self.old.threads tid) i) (λ f. FitsSums (plus f.sums by)) }
+        ensures threads { self.new.threads ≡ with_value self.old.threads tid (stamped self.new.threads tid (added i by (frames_of self.old.threads tid)) (pages_of self.old.threads tid)) }
+        ensures kept { spare_of self.old.threads tid ≤ spare_of self.new.threads tid }
+        ensures marks { self.new.marks ≡ self.old.marks }
+    {
+        self.threads.get_mut(tid).unwrap().add(i, by);
+    }
+
+    /// Takes the thread's innermost frame, and adds its sums to the frame below.
+    pub fn pop(&mut self, tid: Tid) -> Option<Sums>
+        requires lives { is_some (value_of self.old.threads tid) ≡ true }
+        requires fits { FitsPop (frames_of self.old.threads tid) }
+        ensures popped { IsPopped (frames_of self.old.threads tid) result (frames_of self.new.threads tid) }
+        ensures threads { self.new.threads ≡ with_value self.old.threads tid (stamped self.new.threads tid (frames_of self.new.threads tid) (pages_of self.old.threads tid)) }
+        ensures kept { spare_of self.old.threads tid ≤ spare_of self.new.threads tid }
+        ensures marks { self.old.marks ≤ self.new.marks }
+    {
+        let sums = self.threads.get_mut(tid).unwrap().pop()?;
+        self.frames -= 1;
+        self.marks += 1;
+        Some(sums)
+    }
+
+    /// The thread's frames.
+    pub fn frames(&self, tid: Tid) -> &Frames<S>
+        requires { is_some (value_of self.now.threads tid) ≡ true }
+        ensures { result.now ≡ record { list = frames_of self.now.threads tid; spare = spare_of self.now.threads tid } }
+    {
+        self.threads.get(tid).unwrap().frames()
+    }
+
+    /// The stamps of the thread's accesses.
+    pub fn shadow(&self, tid: Tid) -> &Shadow<S>
+        requires { is_some (value_of self.now.threads tid) ≡ true }
+        ensures { result.now ≡ record { pages = pages_of self.now.threads tid } }
+    {
+        self.threads.get(tid).unwrap().shadow()
+    }
+
+    /// The stamps of the thread's accesses, for writing.
+    pub fn shadow_mut(&mut self, tid: Tid) -> &mut Shadow<S>
+        requires { is_some (value_of self.old.threads tid) ≡ true }
+        ensures* writes_back { sem 𝓛 (LendsStamps S.row S.Stamp self.entry tid result) }
+        ensures value { result.now ≡ record { pages = pages_of self.old.threads tid } }
+    {
+        let thread = self.threads.get_mut(tid).unwrap();
+        thread.shadow_mut()
+    }
+
+    /// Gives all stamps their new numbers, and says how many frames there are.
+    pub(crate) fn renumber(&mut self, writes: &mut Shadow<S>) -> usize
+        requires { 3 * length (all_starts self.old.threads) + 2 ≤ S.MAX }
+        ensures count { result ≡ length (all_starts self.old.threads) }
+        ensures all { IsRenumbered self.old self.new writes.old.pages writes.new.pages }
+    {
+        sorted_starts(self.threads.list(), &mut self.starts);
+        renumber_threads(
+            &mut self.threads,
+            writes,
+            &self.starts,
+            &mut self.renewed,
+            &mut self.rows,
+        );
+        renew_writes(writes, &self.starts, &mut self.rows);
+        self.frames
+    }
+}

@@ -1,0 +1,37 @@
+//! The tick of the counter.
+ghost use Rattle.std.specs.Prelude.{◌≡◌, ◌≤◌, ◌<◌, ◌+◌, ◌*◌, length};
+ghost use Rattle.stamp_renumber.specs.Threads.{all_starts};
+ghost use Rattle.stamp_renumber.specs.Ticks.{IsRenumbered, ticked};
+
+use crate::Threads;
+use shadow_pages::Shadow;
+use stamp_lanes::Lanes;
+
+/// The counter after a tick, and whether all stamps were renumbered.
+#[derive(Clone, Copy, Debug, PartialEq, Eq)]
+pub struct Ticked {
+    pub counter: u32,
+    pub renewed: bool,
+}
+
+/// Counts one more. Where the counter is at the greatest stamp, all stamps are renumbered in the order that a profiler looks
+/// at, and it goes on above them. It takes no memory.
+pub fn tick<S: Lanes>(threads: &mut Threads<S>, writes: &mut Shadow<S>, counter: u32) -> Ticked
+    requires within { counter ≤ S.MAX }
+    requires room { 3 * length (all_starts threads.old.threads) + 3 ≤ S.MAX }
+    ensures answer { result ≡ ticked S.MAX counter (length (all_starts threads.old.threads)) }
+    ensures below { counter < S.MAX → (threads.new ≡ threads.old) × (writes.new ≡ writes.old) }
+    ensures renewed { counter ≡ S.MAX → IsRenumbered threads.old threads.new writes.old.pages writes.new.pages }
+{
+    if counter < S::MAX {
+        return Ticked {
+            counter: counter + 1,
+            renewed: false,
+        };
+    }
+    let frames = threads.renumber(writes);
+    Ticked {
+        counter: 3 * frames as u32 + 3,
+        renewed: true,
+    }
+}
