@@ -1,4 +1,4 @@
-use Rattle.std.proofs.Common.{◌≡◌, ◌∙◌, ◌<◌, ◌≤◌, ℕ, ap, arith, get_or, length, map, sym}
+use Rattle.std.proofs.Common.{◌∙◌, ◌<◌, ◌≤◌, ap, arith, get_or, length, map}
 use Rattle.std.proofs.lemmas.List.{length-map, length-set, map-set}
 use Rattle.shadow_pages.proofs.Filled.{row_more}
 use Rattle.shadow_pages.proofs.shadow.fill_row.Goals as goal

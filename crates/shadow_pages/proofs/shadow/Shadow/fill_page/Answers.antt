@@ -1,4 +1,4 @@
-use Rattle.std.proofs.Common.{◌≡◌, ◌∙◌, ◌/◌, ap, arith, length, map, sym, Some}
+use Rattle.std.proofs.Common.{◌≡◌, ◌∙◌, ◌/◌, ap, arith, map, sym, Some}
 use Rattle.std.proofs.lemmas.List.{length-map}
 use Rattle.shadow_pages.specs.Pages.{changed, page_of, refilled, stamp_at}
 use Rattle.shadow_pages.proofs.CallerLemmas.{written_cover}
