@@ -13,3 +13,4 @@ pub mod Runs
 pub mod Observing
 pub mod Room
 pub mod Bulk
+pub mod Reversed

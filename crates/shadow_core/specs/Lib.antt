@@ -11,3 +11,4 @@ pub mod Allows
 pub mod Observing
 pub mod Bulk
 pub mod Worked
+pub mod Parts
