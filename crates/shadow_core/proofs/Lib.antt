@@ -14,3 +14,4 @@ pub mod Observing
 pub mod Room
 pub mod Bulk
 pub mod Reversed
+pub mod StateTicks

@@ -12,3 +12,5 @@ pub mod Observing
 pub mod Bulk
 pub mod Worked
 pub mod Parts
+pub mod State
+pub mod StateTicks

@@ -4,6 +4,7 @@ ghost use Rattle.shadow_core.specs.Allows.{AllowsWhatMayFollow, CountsStayWithin
 ghost use Rattle.shadow_core.specs.Observing.{TakesEvents};
 ghost use Rattle.shadow_core.specs.Bulk.{ReadsAtOnce};
 ghost use Rattle.shadow_core.specs.Worked.{WorkedTables};
+ghost use Rattle.shadow_core.specs.StateTicks.{CountsPlainly, RenewsAll, TicksByParts};
 ghost use Rattle.shadow_core.specs.Parts.{AddsAtTheLast, AddsToTheTop, CountsGoOn, PopsGoOn, PopsInOrder, PopsTheTop, PushesInFront, ReadsGoOn, ReadsOneMore, ReadsWhereFound, TakesWhereFound};
 
 /// A tick keeps what the table says of the past, renumbered or not, and leaves the counter above all stamps.
@@ -72,4 +73,11 @@ pub fn reads_go_on()
     ensures reads { ReadsGoOn }
     ensures one_more { ReadsOneMore }
     ensures counts { CountsGoOn }
+{}
+
+/// A tick of the parts is one of the table that they are, renumbered or not, where the threads' numbers rise.
+pub fn a_tick_is_by_parts()
+    ensures plain { CountsPlainly }
+    ensures renewed { RenewsAll }
+    ensures tick { TicksByParts }
 {}
