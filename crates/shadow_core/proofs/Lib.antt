@@ -15,3 +15,4 @@ pub mod Room
 pub mod Bulk
 pub mod Reversed
 pub mod StateTicks
+pub mod StateThreads

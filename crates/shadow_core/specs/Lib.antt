@@ -14,3 +14,4 @@ pub mod Worked
 pub mod Parts
 pub mod State
 pub mod StateTicks
+pub mod StateThreads

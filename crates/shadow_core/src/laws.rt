@@ -4,6 +4,7 @@ ghost use Rattle.shadow_core.specs.Allows.{AllowsWhatMayFollow, CountsStayWithin
 ghost use Rattle.shadow_core.specs.Observing.{TakesEvents};
 ghost use Rattle.shadow_core.specs.Bulk.{ReadsAtOnce};
 ghost use Rattle.shadow_core.specs.Worked.{WorkedTables};
+ghost use Rattle.shadow_core.specs.StateThreads.{CallsChange, CallsCome, CallsGo, LastChanges, ThreadsChange, ThreadsChangeByCalls, ThreadsCome, ThreadsGo};
 ghost use Rattle.shadow_core.specs.StateTicks.{CountsPlainly, RenewsAll, TicksByParts};
 ghost use Rattle.shadow_core.specs.Parts.{AddsAtTheLast, AddsToTheTop, CountsGoOn, PopsGoOn, PopsInOrder, PopsTheTop, PushesInFront, ReadsGoOn, ReadsOneMore, ReadsWhereFound, TakesWhereFound};
 
@@ -80,4 +81,16 @@ pub fn a_tick_is_by_parts()
     ensures plain { CountsPlainly }
     ensures renewed { RenewsAll }
     ensures tick { TicksByParts }
+{}
+
+/// A change of one thread's stamps or calls is one of its thread in the table, and threads come and go in both.
+pub fn threads_are_by_parts()
+    ensures calls { CallsChange }
+    ensures calls_come { CallsCome }
+    ensures calls_go { CallsGo }
+    ensures change { ThreadsChange }
+    ensures by_calls { ThreadsChangeByCalls }
+    ensures come { ThreadsCome }
+    ensures go { ThreadsGo }
+    ensures last { LastChanges }
 {}
