@@ -13,3 +13,6 @@ pub mod Runs
 pub mod Observing
 pub mod Room
 pub mod Bulk
+pub mod Reversed
+pub mod StateTicks
+pub mod StateThreads

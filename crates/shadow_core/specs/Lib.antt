@@ -11,3 +11,7 @@ pub mod Allows
 pub mod Observing
 pub mod Bulk
 pub mod Worked
+pub mod Parts
+pub mod State
+pub mod StateTicks
+pub mod StateThreads

@@ -4,6 +4,9 @@ ghost use Rattle.shadow_core.specs.Allows.{AllowsWhatMayFollow, CountsStayWithin
 ghost use Rattle.shadow_core.specs.Observing.{TakesEvents};
 ghost use Rattle.shadow_core.specs.Bulk.{ReadsAtOnce};
 ghost use Rattle.shadow_core.specs.Worked.{WorkedTables};
+ghost use Rattle.shadow_core.specs.StateThreads.{CallsChange, CallsCome, CallsGo, LastChanges, ThreadsChange, ThreadsChangeByCalls, ThreadsCome, ThreadsGo};
+ghost use Rattle.shadow_core.specs.StateTicks.{CountsPlainly, RenewsAll, TicksByParts};
+ghost use Rattle.shadow_core.specs.Parts.{AddsAtTheLast, AddsToTheTop, CountsGoOn, PopsGoOn, PopsInOrder, PopsTheTop, PushesInFront, ReadsGoOn, ReadsOneMore, ReadsWhereFound, TakesWhereFound};
 
 /// A tick keeps what the table says of the past, renumbered or not, and leaves the counter above all stamps.
 pub fn a_tick_keeps_the_table()
@@ -51,4 +54,43 @@ pub fn a_table_tells_what_may_follow()
 /// Worked traces with renumberings.
 pub fn worked_tables_are_as_written()
     ensures { WorkedTables }
+{}
+
+/// The frames of a stack, the outermost first, are the table's in reverse: a push, a sum taken where a stamp is found, a sum
+/// added to the last frame, and pops are those of the table.
+pub fn stacks_are_frames()
+    ensures push { PushesInFront }
+    ensures taken { TakesWhereFound }
+    ensures top { AddsToTheTop }
+    ensures last { AddsAtTheLast }
+    ensures read { ReadsWhereFound }
+    ensures pop { PopsTheTop }
+    ensures pops { PopsInOrder }
+    ensures one_more { PopsGoOn }
+{}
+
+/// Words may be read one after the other, or in parts.
+pub fn reads_go_on()
+    ensures reads { ReadsGoOn }
+    ensures one_more { ReadsOneMore }
+    ensures counts { CountsGoOn }
+{}
+
+/// A tick of the parts is one of the table that they are, renumbered or not, where the threads' numbers rise.
+pub fn a_tick_is_by_parts()
+    ensures plain { CountsPlainly }
+    ensures renewed { RenewsAll }
+    ensures tick { TicksByParts }
+{}
+
+/// A change of one thread's stamps or calls is one of its thread in the table, and threads come and go in both.
+pub fn threads_are_by_parts()
+    ensures calls { CallsChange }
+    ensures calls_come { CallsCome }
+    ensures calls_go { CallsGo }
+    ensures change { ThreadsChange }
+    ensures by_calls { ThreadsChangeByCalls }
+    ensures come { ThreadsCome }
+    ensures go { ThreadsGo }
+    ensures last { LastChanges }
 {}
