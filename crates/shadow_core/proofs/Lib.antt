@@ -16,3 +16,4 @@ pub mod Bulk
 pub mod Reversed
 pub mod StateTicks
 pub mod StateThreads
+pub mod StateRows

@@ -65,7 +65,7 @@ rising_tail : (n : ℕ) (ns : List ℕ) → IsRising (n ∷ ns) → IsRising ns
 rising_tail n [] rising = tt
 rising_tail n (m ∷ ns) rising = rising.1
 
-value_as : (calls : List (ℕ × Calls)) (live : List (ℕ × Stamped)) (t : ℕ) (s : Stamped) → value_of live t ≡ Some s →
+pub value_as : (calls : List (ℕ × Calls)) (live : List (ℕ × Stamped)) (t : ℕ) (s : Stamped) → value_of live t ≡ Some s →
     value_of (as_threads calls live) t ≡ Some (as_thread calls t s)
 value_as calls [] t s found = absurd (cc)
 value_as calls (x ∷ live) t s found = by (x.0 == t) refl found (λ later. value_as calls live t s later)

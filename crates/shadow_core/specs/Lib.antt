@@ -15,3 +15,4 @@ pub mod Parts
 pub mod State
 pub mod StateTicks
 pub mod StateThreads
+pub mod StateRows

@@ -4,6 +4,7 @@ ghost use Rattle.shadow_core.specs.Allows.{AllowsWhatMayFollow, CountsStayWithin
 ghost use Rattle.shadow_core.specs.Observing.{TakesEvents};
 ghost use Rattle.shadow_core.specs.Bulk.{ReadsAtOnce};
 ghost use Rattle.shadow_core.specs.Worked.{WorkedTables};
+ghost use Rattle.shadow_core.specs.StateRows.{CallsByParts, EndsByParts, FillsByParts, FinishesByParts, ReadsByParts, ReturnsByParts, StartsByParts, StepsByParts, WeighsByParts, WritesByParts};
 ghost use Rattle.shadow_core.specs.StateThreads.{CallsChange, CallsCome, CallsGo, LastChanges, ThreadsChange, ThreadsChangeByCalls, ThreadsCome, ThreadsGo};
 ghost use Rattle.shadow_core.specs.StateTicks.{CountsPlainly, RenewsAll, TicksByParts};
 ghost use Rattle.shadow_core.specs.Parts.{AddsAtTheLast, AddsToTheTop, CountsGoOn, PopsGoOn, PopsInOrder, PopsTheTop, PushesInFront, ReadsGoOn, ReadsOneMore, ReadsWhereFound, TakesWhereFound};
@@ -93,4 +94,18 @@ pub fn threads_are_by_parts()
     ensures come { ThreadsCome }
     ensures go { ThreadsGo }
     ensures last { LastChanges }
+{}
+
+/// Each row of the table is a change of its parts, and what it records is the popped sums, each with its call.
+pub fn rows_are_by_parts()
+    ensures step { StepsByParts }
+    ensures start { StartsByParts }
+    ensures call { CallsByParts }
+    ensures read { ReadsByParts }
+    ensures write { WritesByParts }
+    ensures fill { FillsByParts }
+    ensures returns { ReturnsByParts }
+    ensures end { EndsByParts }
+    ensures finishes { FinishesByParts }
+    ensures weight { WeighsByParts }
 {}
