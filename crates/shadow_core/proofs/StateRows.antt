@@ -1,10 +1,8 @@
 -- The rows of the table, by the state's parts.
-use Rattle.std.proofs.Common.{◌≡◌, ℕ, ◌+◌, ◌<◌, List, [], ◌∷◌, ◌++◌, drop, length, map, reverse, Option, Some, None, refl, sym, ap, ◌∙◌}
+use Rattle.std.proofs.Common.{◌≡◌, ℕ, ◌+◌, List, [], ◌∷◌, ◌++◌, drop, length, reverse, Some, None, refl, sym, ap, ◌∙◌}
 use Rattle.std.specs.Prelude.{count_by}
 use Rattle.std.specs.Option.{option_map_or}
 use Rattle.guest_words.specs.ByThread.{value_of, with_value, without_thread}
-use Rattle.trace_model.specs.declared.event_kinds.Event.TheVariants.{Ret}
-use Rattle.trace_model.specs.Activations.{count_ending}
 use Rattle.trace_model.specs.WellFormed.{weight_of}
 use Rattle.stamp_lanes.specs.Plain.{is_by_thread, is_by_kernel}
 use Rattle.shadow_stack.specs.declared.sums.Sums.{Sums}
@@ -12,7 +10,7 @@ use Rattle.shadow_stack.specs.Frames.{Frame, new_frame}
 use Rattle.shadow_pages.specs.Pages.{stamp_at}
 use Rattle.stamp_renumber.specs.Threads.{Stamped}
 use Rattle.shadow_core.specs.Frames.{popped, frames_after_pops}
-use Rattle.shadow_core.specs.Table.{Thread, OpenCall, no_counts, no_thread, changed, stamped, with_frame, thread_after_read, thread_after_ret, after_start, after_read, after_write, after_fill, row}
+use Rattle.shadow_core.specs.Table.{Thread, no_counts, no_thread, changed, stamped, with_frame, thread_after_read, thread_after_ret, after_write}
 use Rattle.shadow_core.specs.Records.{records, records_of}
 use Rattle.shadow_core.specs.State.{Calls, State, calls_of, as_thread, as_threads, table_of_state}
 use Rattle.shadow_core.specs.StateRows.{Has, places_of, StepsByParts, StartsByParts, CallsByParts, ReadsByParts, WritesByParts, FillsByParts, ReturnsByParts, EndsByParts, FinishesByParts, WeighsByParts}
@@ -53,7 +51,7 @@ pub steps_by_parts : StepsByParts
 steps_by_parts s t was c h =
     with_threads (record s { last = Some t }) _ _
     (own_calls s t was c h (record c { counts = record c.counts { steps = c.counts.steps + 1 } })
-        (λ thread. record thread { counts = record thread.counts { steps = thread.counts.steps + 1 } }) refl)
+    (λ thread. record thread { counts = record thread.counts { steps = thread.counts.steps + 1 } }) refl)
 
 pub calls_by_parts : CallsByParts
 calls_by_parts s t entry back live was is c h threads frames pages =
@@ -124,8 +122,8 @@ starts_by_parts s t entry live is below low threads frames pages =
     let new = known (s.calls ++ (t, first) ∷ []) t is first calls.0 ∙ one in
     with_threads (record s { greatest = t }) _ _
     (ap (as_threads (s.calls ++ (t, first) ∷ [])) threads
-        ∙ threads_come s.live.threads s.calls (s.calls ++ (t, first) ∷ []) t is below calls.1
-        ∙ (λ i. as_threads s.calls s.live.threads ++ (t, new i) ∷ []))
+    ∙ threads_come s.live.threads s.calls (s.calls ++ (t, first) ∷ []) t is below calls.1
+    ∙ (λ i. as_threads s.calls s.live.threads ++ (t, new i) ∷ []))
 
 pub ends_by_parts : EndsByParts
 ends_by_parts s t live threads =

@@ -55,10 +55,12 @@ ReadsByParts = (s : State) (t first count : ℕ) (live : Live) (was is : Stamped
     live.threads ≡ with_value s.live.threads t is →
     let places = places_of s was first count in
     reverse is.frames ≡ frames_after_reads places (reverse was.frames) → AreStamped s.counter first count was.pages is.pages →
-    let more = record c { counts = record c.counts {
-      thread = c.counts.thread + count_by is_by_thread places;
-      kernel = c.counts.kernel + count_by is_by_kernel places;
-    } } in
+    let more = record c {
+      counts = record c.counts {
+        thread = c.counts.thread + count_by is_by_thread places;
+        kernel = c.counts.kernel + count_by is_by_kernel places;
+      };
+    } in
     table_of_state (record s { live = live; calls = with_value s.calls t more }) ≡ after_read t first count (table_of_state s)
 
 abbrev pub WritesByParts : Type 0
