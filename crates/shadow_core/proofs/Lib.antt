@@ -17,3 +17,5 @@ pub mod Reversed
 pub mod StateTicks
 pub mod StateThreads
 pub mod StateRows
+pub mod StateWords
+pub mod StateTold

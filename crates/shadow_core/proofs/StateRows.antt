@@ -18,10 +18,10 @@ use Rattle.shadow_core.proofs.Reversed.{pushes_in_front, pops_in_order}
 use Rattle.shadow_core.proofs.StateThreads.{calls_change, calls_come, calls_go, threads_change, threads_change_by_calls, threads_come, threads_go, value_as}
 
 -- a thread with its calls
-abbrev seen : Stamped → Calls → Thread
+abbrev pub seen : Stamped → Calls → Thread
 seen s c = record { frames = reverse s.frames; calls = c.list; access = stamp_at s.pages; counts = c.counts }
 
-known : (calls : List (ℕ × Calls)) (t : ℕ) (s : Stamped) (c : Calls) → value_of calls t ≡ Some c → as_thread calls t s ≡ seen s c
+pub known : (calls : List (ℕ × Calls)) (t : ℕ) (s : Stamped) (c : Calls) → value_of calls t ≡ Some c → as_thread calls t s ≡ seen s c
 known calls t s c found =
     let same : calls_of calls t ≡ c = ap (λ o. option_map_or (λ (c : Calls). c) o (record { list = []; counts = no_counts })) found in
     λ i. seen s (same i)
@@ -43,7 +43,7 @@ module _ (s : State) (t : ℕ) (was : Stamped) (c : Calls) (h : Has s t was c) w
       (known (with_value s.calls t new) t was new calls.0 ∙ same ∙ ap change (sym (known s.calls t was c h.calls)))
 
 -- the table with other threads
-with_threads : (s : State) (threads : List (ℕ × Thread)) (other : List (ℕ × Thread)) → threads ≡ other →
+pub with_threads : (s : State) (threads : List (ℕ × Thread)) (other : List (ℕ × Thread)) → threads ≡ other →
     record (table_of_state s) { threads = threads } ≡ record (table_of_state s) { threads = other }
 with_threads s threads other same = λ i. record (table_of_state s) { threads = same i }
 

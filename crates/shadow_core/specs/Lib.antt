@@ -16,3 +16,5 @@ pub mod State
 pub mod StateTicks
 pub mod StateThreads
 pub mod StateRows
+pub mod StateWords
+pub mod StateTold

@@ -4,6 +4,8 @@ ghost use Rattle.shadow_core.specs.Allows.{AllowsWhatMayFollow, CountsStayWithin
 ghost use Rattle.shadow_core.specs.Observing.{TakesEvents};
 ghost use Rattle.shadow_core.specs.Bulk.{ReadsAtOnce};
 ghost use Rattle.shadow_core.specs.Worked.{WorkedTables};
+ghost use Rattle.shadow_core.specs.StateTold.{EmptyIsTold, FramesAreTold, LifeIsTold, NumbersAreTold, PagesAreNotTold, RoomIsNotTold, ThreadIsTold};
+ghost use Rattle.shadow_core.specs.StateWords.{CountsNextWord, ReadsNextWord, StampsNone, StampsNotYet, StampsOneMore};
 ghost use Rattle.shadow_core.specs.StateRows.{CallsByParts, EndsByParts, FillsByParts, FinishesByParts, ReadsByParts, ReturnsByParts, StartsByParts, StepsByParts, WeighsByParts, WritesByParts};
 ghost use Rattle.shadow_core.specs.StateThreads.{CallsChange, CallsCome, CallsGo, LastChanges, ThreadsChange, ThreadsChangeByCalls, ThreadsCome, ThreadsGo};
 ghost use Rattle.shadow_core.specs.StateTicks.{CountsPlainly, RenewsAll, TicksByParts};
@@ -108,4 +110,24 @@ pub fn rows_are_by_parts()
     ensures end { EndsByParts }
     ensures finishes { FinishesByParts }
     ensures weight { WeighsByParts }
+{}
+
+/// The words of a range may be stamped and read one after the other.
+pub fn words_come_one_by_one()
+    ensures none { StampsNone }
+    ensures stamps { StampsOneMore }
+    ensures not_yet { StampsNotYet }
+    ensures reads { ReadsNextWord }
+    ensures counts { CountsNextWord }
+{}
+
+/// The parts tell the numbers, lives and frames of the table's threads, and room that is made ahead changes nothing.
+pub fn parts_tell_the_table()
+    ensures empty { EmptyIsTold }
+    ensures numbers { NumbersAreTold }
+    ensures life { LifeIsTold }
+    ensures frames { FramesAreTold }
+    ensures thread { ThreadIsTold }
+    ensures room { RoomIsNotTold }
+    ensures pages { PagesAreNotTold }
 {}
