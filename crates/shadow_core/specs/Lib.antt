@@ -18,3 +18,4 @@ pub mod StateThreads
 pub mod StateRows
 pub mod StateWords
 pub mod StateTold
+pub mod StateEvents

@@ -4,6 +4,7 @@ ghost use Rattle.shadow_core.specs.Allows.{AllowsWhatMayFollow, CountsStayWithin
 ghost use Rattle.shadow_core.specs.Observing.{TakesEvents};
 ghost use Rattle.shadow_core.specs.Bulk.{ReadsAtOnce};
 ghost use Rattle.shadow_core.specs.Worked.{WorkedTables};
+ghost use Rattle.shadow_core.specs.StateEvents.{EventIsMade, NoTickIsMade, StampsAreTold, ThreadsStay, TickIsMade};
 ghost use Rattle.shadow_core.specs.StateTold.{EmptyIsTold, FramesAreTold, LifeIsTold, NumbersAreTold, PagesAreNotTold, RoomIsNotTold, ThreadIsTold};
 ghost use Rattle.shadow_core.specs.StateWords.{CountsNextWord, ReadsNextWord, StampsNone, StampsNotYet, StampsOneMore};
 ghost use Rattle.shadow_core.specs.StateRows.{CallsByParts, EndsByParts, FillsByParts, FinishesByParts, ReadsByParts, ReturnsByParts, StartsByParts, StepsByParts, WeighsByParts, WritesByParts};
@@ -130,4 +131,13 @@ pub fn parts_tell_the_table()
     ensures thread { ThreadIsTold }
     ensures room { RoomIsNotTold }
     ensures pages { PagesAreNotTold }
+{}
+
+/// An event of the table is its tick, if it has one, its row and its weight, each by the parts.
+pub fn events_are_by_parts()
+    ensures stamps { StampsAreTold }
+    ensures tick { TickIsMade }
+    ensures no_tick { NoTickIsMade }
+    ensures event { EventIsMade }
+    ensures threads { ThreadsStay }
 {}
