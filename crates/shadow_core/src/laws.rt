@@ -6,7 +6,7 @@ ghost use Rattle.shadow_core.specs.Bulk.{ReadsAtOnce};
 ghost use Rattle.shadow_core.specs.Worked.{WorkedTables};
 ghost use Rattle.shadow_core.specs.StateEvents.{EventIsMade, NoTickIsMade, StampsAreTold, ThreadsStay, TickIsMade};
 ghost use Rattle.shadow_core.specs.StateTold.{EmptyIsTold, FramesAreTold, LifeIsTold, NumbersAreTold, PagesAreNotTold, RoomIsNotTold, ThreadIsTold};
-ghost use Rattle.shadow_core.specs.StateWords.{CountsNextWord, ReadsNextWord, StampsNone, StampsNotYet, StampsOneMore};
+ghost use Rattle.shadow_core.specs.StateWords.{CountsNextWord, ReadsAllWords, ReadsNextWord, StampsNone, StampsNotYet, StampsOneMore};
 ghost use Rattle.shadow_core.specs.StateRows.{CallsByParts, EndsByParts, FillsByParts, FinishesByParts, ReadsByParts, ReturnsByParts, StartsByParts, StepsByParts, WeighsByParts, WritesByParts};
 ghost use Rattle.shadow_core.specs.StateThreads.{CallsChange, CallsCome, CallsGo, LastChanges, ThreadsChange, ThreadsChangeByCalls, ThreadsCome, ThreadsGo};
 ghost use Rattle.shadow_core.specs.StateTicks.{CountsPlainly, RenewsAll, TicksByParts};
@@ -113,13 +113,14 @@ pub fn rows_are_by_parts()
     ensures weight { WeighsByParts }
 {}
 
-/// The words of a range may be stamped and read one after the other.
+/// The words of a range may be stamped and read one after the other, or read at once where none is old.
 pub fn words_come_one_by_one()
     ensures none { StampsNone }
     ensures stamps { StampsOneMore }
     ensures not_yet { StampsNotYet }
     ensures reads { ReadsNextWord }
     ensures counts { CountsNextWord }
+    ensures at_once { ReadsAllWords }
 {}
 
 /// The parts tell the numbers, lives and frames of the table's threads, and room that is made ahead changes nothing.

@@ -1,4 +1,4 @@
-use Rattle.shadow_core.proofs.StateWords.{stamps_none, stamps_one_more, stamps_not_yet, reads_next_word, counts_next_word}
+use Rattle.shadow_core.proofs.StateWords.{stamps_none, stamps_one_more, stamps_not_yet, reads_next_word, counts_next_word, reads_all_words}
 use Rattle.shadow_core.proofs.laws.words_come_one_by_one.Goals as goal
 
 pub returns-clause-none : goal.returns-clause-none
@@ -15,3 +15,6 @@ returns-clause-reads c = reads_next_word
 
 pub returns-clause-counts : goal.returns-clause-counts
 returns-clause-counts c = counts_next_word
+
+pub returns-clause-at_once : goal.returns-clause-at_once
+returns-clause-at_once c = reads_all_words
