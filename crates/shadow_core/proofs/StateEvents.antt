@@ -1,14 +1,16 @@
 -- Whole events, by the state's parts.
 use Rattle.std.proofs.Common.{◌≡◌, ℕ, ◌+◌, ◌*◌, Bool, true, false, cond, eqb, leb, ◌||◌, List, [], ◌∷◌, Some, refl, sym, ap, subst, ◌∙◌}
 use Rattle.std.specs.Prelude.{◌==◌}
-use Rattle.guest_words.specs.ByThread.{IsRising, numbers, value_of}
+use Rattle.guest_words.specs.ByThread.{IsRising, numbers, value_of, with_value}
+use Rattle.guest_words.proofs.ThreadTables.{numbers-with, value_of-with}
 use Rattle.trace_model.specs.Depth.{count_begun}
 use Rattle.stamp_renumber.specs.Threads.{Stamped}
 use Rattle.shadow_core.specs.Table.{event_after}
 use Rattle.shadow_core.specs.Renewal.{bounded_tick}
 use Rattle.shadow_core.specs.State.{table_of_state}
-use Rattle.shadow_core.specs.StateEvents.{StampsAreTold, TickIsMade, NoTickIsMade, EventIsMade, ThreadsStay}
+use Rattle.shadow_core.specs.StateEvents.{StampsAreTold, TickIsMade, NoTickIsMade, EventIsMade, ThreadsStay, ChangedIsThere, StampedIsThere, LastChangeCounts}
 use Rattle.shadow_core.proofs.StateRows.{weighs_by_parts}
+use Rattle.shadow_core.proofs.StateThreads.{calls_change, own_test}
 use Rattle.shadow_core.proofs.StateTold.{frames_are_told}
 
 pub stamps_are_told : StampsAreTold
@@ -42,3 +44,28 @@ pub threads_stay : ThreadsStay
 threads_stay s live writes t was c all h =
     let found = still_there s.live.threads live.threads all.same t was h.stamps in
     (found.0, record { rising = subst IsRising (sym all.same) h.rising; stamps = found.1; calls = h.calls })
+
+stamped_value : (live : List (ℕ × Stamped)) (t : ℕ) (was is : Stamped) → value_of live t ≡ Some was → value_of (with_value live t is) t ≡ Some is
+stamped_value live t was is found = value_of-with live t is was found t ∙ own_test t (Some is) (value_of live t)
+
+pub stamped_is_there : StampedIsThere
+stamped_is_there s live t was is c h threads = record {
+  rising = subst IsRising (sym (ap numbers threads ∙ numbers-with s.live.threads t is)) h.rising;
+  stamps = ap (λ (xs : List (ℕ × Stamped)). value_of xs t) threads ∙ stamped_value s.live.threads t was is h.stamps;
+  calls = h.calls;
+}
+
+pub changed_is_there : ChangedIsThere
+changed_is_there s live t was is c now h threads =
+    let there = stamped_is_there s live t was is c h threads in
+    record { rising = there.rising; stamps = there.stamps; calls = (calls_change s.calls t c now h.calls).0 }
+
+pub last_change_counts : LastChangeCounts
+last_change_counts [] t was is = refl
+last_change_counts (x ∷ live) t was is = by (x.0 == t) refl (last_change_counts live t was is)
+  where
+    by : (b : Bool) → (x.0 == t) ≡ b → with_value (with_value live t was) t is ≡ with_value live t is →
+        with_value (cond b ((x.0, was) ∷ live) (x ∷ with_value live t was)) t is ≡ cond b ((x.0, is) ∷ live) (x ∷ with_value live t is)
+    by true same later = ap (λ b. cond b ((x.0, is) ∷ live) ((x.0, was) ∷ with_value live t is)) same
+    by false same later =
+        ap (λ b. cond b ((x.0, is) ∷ with_value live t was) (x ∷ with_value (with_value live t was) t is)) same ∙ ap (λ (xs : List (ℕ × Stamped)). x ∷ xs) later

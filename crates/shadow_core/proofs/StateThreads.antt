@@ -25,7 +25,7 @@ not_same : (n t : ℕ) → (n == t) ≡ false → t ≢ n
 not_same n t is same = false≢true (sym is ∙ eq-eqb n t (sym same))
 
 -- ---- calls
-own_test : {X : Type 0} (t : ℕ) (a b : X) → cond (t == t) a b ≡ a
+pub own_test : {X : Type 0} (t : ℕ) (a b : X) → cond (t == t) a b ≡ a
 own_test t a b = ap (λ c. cond c a b) (eq-eqb t t refl)
 
 other_test : {X : Type 0} (t u : ℕ) (a b : X) → t ≢ u → cond (t == u) a b ≡ b

@@ -1,5 +1,6 @@
 -- A whole event, as changes of the state: its tick, if it has one, its row and its weight.
 use Rattle.std.specs.Prelude.{◌≡◌, ℕ, ◌+◌, ◌*◌, true, false, ◌||◌, nat_eq, nat_le, List, length}
+use Rattle.guest_words.specs.ByThread.{with_value}
 use Rattle.trace_model.specs.declared.event_kinds.Event.{Event}
 use Rattle.trace_model.specs.Depth.{count_begun}
 use Rattle.trace_model.specs.WellFormed.{weight_of}
@@ -38,3 +39,17 @@ EventIsMade = (most : ℕ) (e : Event) (s now new : State) → table_of_state no
 abbrev pub ThreadsStay : Type 0
 ThreadsStay = (s : State) (live : Live) (writes : List Page) (t : ℕ) (was : Stamped) (c : Calls) → IsRenumbered s.live live s.writes writes → Has s t was c →
     (is : Stamped) × Has (renumbered_to live writes s) t is c
+
+-- a changed thread is there with what it was changed to
+abbrev pub ChangedIsThere : Type 0
+ChangedIsThere = (s : State) (live : Live) (t : ℕ) (was is : Stamped) (c now : Calls) → Has s t was c → live.threads ≡ with_value s.live.threads t is →
+    Has (record s { live = live; calls = with_value s.calls t now }) t is now
+
+-- so where its calls stay
+abbrev pub StampedIsThere : Type 0
+StampedIsThere = (s : State) (live : Live) (t : ℕ) (was is : Stamped) (c : Calls) → Has s t was c → live.threads ≡ with_value s.live.threads t is →
+    Has (record s { live = live }) t is c
+
+-- the last of two changes of a thread counts
+abbrev pub LastChangeCounts : Type 0
+LastChangeCounts = (live : List (ℕ × Stamped)) (t : ℕ) (was is : Stamped) → with_value (with_value live t was) t is ≡ with_value live t is

@@ -4,7 +4,7 @@ ghost use Rattle.shadow_core.specs.Allows.{AllowsWhatMayFollow, CountsStayWithin
 ghost use Rattle.shadow_core.specs.Observing.{TakesEvents};
 ghost use Rattle.shadow_core.specs.Bulk.{ReadsAtOnce};
 ghost use Rattle.shadow_core.specs.Worked.{WorkedTables};
-ghost use Rattle.shadow_core.specs.StateEvents.{EventIsMade, NoTickIsMade, StampsAreTold, ThreadsStay, TickIsMade};
+ghost use Rattle.shadow_core.specs.StateEvents.{ChangedIsThere, EventIsMade, LastChangeCounts, NoTickIsMade, StampedIsThere, StampsAreTold, ThreadsStay, TickIsMade};
 ghost use Rattle.shadow_core.specs.StateTold.{EmptyIsTold, FramesAreTold, LifeIsTold, NumbersAreTold, PagesAreNotTold, RoomIsNotTold, ThreadIsTold};
 ghost use Rattle.shadow_core.specs.StateWords.{CountsNextWord, ReadsAllWords, ReadsNextWord, StampsNone, StampsNotYet, StampsOneMore};
 ghost use Rattle.shadow_core.specs.StateRows.{CallsByParts, EndsByParts, FillsByParts, FinishesByParts, ReadsByParts, ReturnsByParts, StartsByParts, StepsByParts, WeighsByParts, WritesByParts};
@@ -141,4 +141,7 @@ pub fn events_are_by_parts()
     ensures no_tick { NoTickIsMade }
     ensures event { EventIsMade }
     ensures threads { ThreadsStay }
+    ensures changed { ChangedIsThere }
+    ensures stamped { StampedIsThere }
+    ensures last { LastChangeCounts }
 {}
