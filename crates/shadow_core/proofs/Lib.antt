@@ -17,3 +17,7 @@ pub mod Reversed
 pub mod StateTicks
 pub mod StateThreads
 pub mod Reading
+pub mod StateRows
+pub mod StateWords
+pub mod StateTold
+pub mod StateEvents

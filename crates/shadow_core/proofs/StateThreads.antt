@@ -25,7 +25,7 @@ not_same : (n t : ℕ) → (n == t) ≡ false → t ≢ n
 not_same n t is same = false≢true (sym is ∙ eq-eqb n t (sym same))
 
 -- ---- calls
-own_test : {X : Type 0} (t : ℕ) (a b : X) → cond (t == t) a b ≡ a
+pub own_test : {X : Type 0} (t : ℕ) (a b : X) → cond (t == t) a b ≡ a
 own_test t a b = ap (λ c. cond c a b) (eq-eqb t t refl)
 
 other_test : {X : Type 0} (t u : ℕ) (a b : X) → t ≢ u → cond (t == u) a b ≡ b
@@ -65,7 +65,7 @@ rising_tail : (n : ℕ) (ns : List ℕ) → IsRising (n ∷ ns) → IsRising ns
 rising_tail n [] rising = tt
 rising_tail n (m ∷ ns) rising = rising.1
 
-value_as : (calls : List (ℕ × Calls)) (live : List (ℕ × Stamped)) (t : ℕ) (s : Stamped) → value_of live t ≡ Some s →
+pub value_as : (calls : List (ℕ × Calls)) (live : List (ℕ × Stamped)) (t : ℕ) (s : Stamped) → value_of live t ≡ Some s →
     value_of (as_threads calls live) t ≡ Some (as_thread calls t s)
 value_as calls [] t s found = absurd (cc)
 value_as calls (x ∷ live) t s found = by (x.0 == t) refl found (λ later. value_as calls live t s later)

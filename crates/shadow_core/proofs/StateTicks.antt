@@ -42,7 +42,7 @@ sum-starts f calls (x ∷ xs) =
     ∙ (λ i. turned i + sum-starts f calls xs i)
     ∙ sym (sum_by-append f own (parts.all_starts xs))
 
-length-starts : (calls : List (ℕ × Calls)) (xs : List (ℕ × Stamped)) → length (all_starts (as_threads calls xs)) ≡ length (parts.all_starts xs)
+pub length-starts : (calls : List (ℕ × Calls)) (xs : List (ℕ × Stamped)) → length (all_starts (as_threads calls xs)) ≡ length (parts.all_starts xs)
 length-starts calls [] = refl
 length-starts calls (x ∷ xs) =
     let own = x.1.frames in

@@ -16,3 +16,7 @@ pub mod State
 pub mod StateTicks
 pub mod StateThreads
 pub mod Reading
+pub mod StateRows
+pub mod StateWords
+pub mod StateTold
+pub mod StateEvents

@@ -4,6 +4,10 @@ ghost use Rattle.shadow_core.specs.Allows.{AllowsWhatMayFollow, CountsStayWithin
 ghost use Rattle.shadow_core.specs.Observing.{TakesEvents};
 ghost use Rattle.shadow_core.specs.Bulk.{ReadsAtOnce};
 ghost use Rattle.shadow_core.specs.Worked.{WorkedTables};
+ghost use Rattle.shadow_core.specs.StateEvents.{ChangedIsThere, EventIsMade, LastChangeCounts, NoTickIsMade, StampedIsThere, StampsAreTold, ThreadsStay, TickIsMade};
+ghost use Rattle.shadow_core.specs.StateTold.{EmptyIsTold, FramesAreTold, LifeIsTold, NumbersAreTold, PagesAreNotTold, RoomIsNotTold, ThreadIsTold};
+ghost use Rattle.shadow_core.specs.StateWords.{CountsNextWord, ReadsAllWords, ReadsNextWord, StampsNone, StampsNotYet, StampsOneMore};
+ghost use Rattle.shadow_core.specs.StateRows.{CallsByParts, EndsByParts, FillsByParts, FinishesByParts, ReadsByParts, ReturnsByParts, StartsByParts, StepsByParts, WeighsByParts, WritesByParts};
 ghost use Rattle.shadow_core.specs.StateThreads.{CallsChange, CallsCome, CallsGo, LastChanges, ThreadsChange, ThreadsChangeByCalls, ThreadsCome, ThreadsGo};
 ghost use Rattle.shadow_core.specs.StateTicks.{CountsPlainly, RenewsAll, TicksByParts};
 ghost use Rattle.shadow_core.specs.Parts.{AddsAtTheLast, AddsToTheTop, CountsGoOn, PopsGoOn, PopsInOrder, PopsTheTop, PushesInFront, ReadsGoOn, ReadsOneMore, ReadsWhereFound, TakesWhereFound};
@@ -93,4 +97,51 @@ pub fn threads_are_by_parts()
     ensures come { ThreadsCome }
     ensures go { ThreadsGo }
     ensures last { LastChanges }
+{}
+
+/// Each row of the table is a change of its parts, and what it records is the popped sums, each with its call.
+pub fn rows_are_by_parts()
+    ensures step { StepsByParts }
+    ensures start { StartsByParts }
+    ensures call { CallsByParts }
+    ensures read { ReadsByParts }
+    ensures write { WritesByParts }
+    ensures fill { FillsByParts }
+    ensures returns { ReturnsByParts }
+    ensures end { EndsByParts }
+    ensures finishes { FinishesByParts }
+    ensures weight { WeighsByParts }
+{}
+
+/// The words of a range may be stamped and read one after the other, or read at once where none is old.
+pub fn words_come_one_by_one()
+    ensures none { StampsNone }
+    ensures stamps { StampsOneMore }
+    ensures not_yet { StampsNotYet }
+    ensures reads { ReadsNextWord }
+    ensures counts { CountsNextWord }
+    ensures at_once { ReadsAllWords }
+{}
+
+/// The parts tell the numbers, lives and frames of the table's threads, and room that is made ahead changes nothing.
+pub fn parts_tell_the_table()
+    ensures empty { EmptyIsTold }
+    ensures numbers { NumbersAreTold }
+    ensures life { LifeIsTold }
+    ensures frames { FramesAreTold }
+    ensures thread { ThreadIsTold }
+    ensures room { RoomIsNotTold }
+    ensures pages { PagesAreNotTold }
+{}
+
+/// An event of the table is its tick, if it has one, its row and its weight, each by the parts.
+pub fn events_are_by_parts()
+    ensures stamps { StampsAreTold }
+    ensures tick { TickIsMade }
+    ensures no_tick { NoTickIsMade }
+    ensures event { EventIsMade }
+    ensures threads { ThreadsStay }
+    ensures changed { ChangedIsThere }
+    ensures stamped { StampedIsThere }
+    ensures last { LastChangeCounts }
 {}

@@ -8,6 +8,7 @@ pub mod reads;
 
 pub use laws::{
     a_table_tells_what_may_follow, a_tick_is_by_parts, a_tick_keeps_the_table,
-    each_event_keeps_the_table, reads_go_on, stacks_are_frames, the_counter_is_that_of_the_trace,
-    the_table_takes_events, threads_are_by_parts, worked_tables_are_as_written,
+    each_event_keeps_the_table, events_are_by_parts, parts_tell_the_table, reads_go_on,
+    rows_are_by_parts, stacks_are_frames, the_counter_is_that_of_the_trace, the_table_takes_events,
+    threads_are_by_parts, words_come_one_by_one, worked_tables_are_as_written,
 };

@@ -1,0 +1,55 @@
+-- A whole event, as changes of the state: its tick, if it has one, its row and its weight.
+use Rattle.std.specs.Prelude.{◌≡◌, ℕ, ◌+◌, ◌*◌, true, false, ◌||◌, nat_eq, nat_le, List, length}
+use Rattle.guest_words.specs.ByThread.{with_value}
+use Rattle.trace_model.specs.declared.event_kinds.Event.{Event}
+use Rattle.trace_model.specs.Depth.{count_begun}
+use Rattle.trace_model.specs.WellFormed.{weight_of}
+use Rattle.shadow_pages.specs.Pages.{Page}
+use Rattle.stamp_renumber.specs.Threads.{Live, Stamped, all_starts}
+use Rattle.stamp_renumber.specs.Ticks.{IsRenumbered}
+use Rattle.shadow_core.specs.Table.{row}
+use Rattle.shadow_core.specs.Ticks.{ticks, table_at, table_after}
+use Rattle.shadow_core.specs.Renewal.{bounded_tick}
+use Rattle.shadow_core.specs.Allows.{has_stamps}
+use Rattle.shadow_core.specs.State.{Calls, State, table_of_state}
+use Rattle.shadow_core.specs.StateRows.{Has}
+use Rattle.shadow_core.specs.StateTicks.{renumbered_to}
+
+-- there are stamps for the event, by how many frames there are
+abbrev pub StampsAreTold : Type 0
+StampsAreTold = (most : ℕ) (e : Event) (s : State) →
+    has_stamps most e (table_of_state s) ≡ (nat_eq (count_begun e) 0 || nat_le (3 * (length (all_starts s.live.threads) + 2)) most)
+
+-- where the event has a tick, `now` is the state after it
+abbrev pub TickIsMade : Type 0
+TickIsMade = (most : ℕ) (e : Event) (s now : State) → ticks e s.last ≡ true → table_of_state now ≡ bounded_tick most (table_of_state s) →
+    table_of_state now ≡ table_at (bounded_tick most) e (table_of_state s)
+
+-- and else it is the state before it
+abbrev pub NoTickIsMade : Type 0
+NoTickIsMade = (most : ℕ) (e : Event) (s : State) → ticks e s.last ≡ false → table_of_state s ≡ table_at (bounded_tick most) e (table_of_state s)
+
+-- then comes its row, and its weight is added
+abbrev pub EventIsMade : Type 0
+EventIsMade = (most : ℕ) (e : Event) (s now new : State) → table_of_state now ≡ table_at (bounded_tick most) e (table_of_state s) →
+    table_of_state new ≡ row e (table_of_state now) →
+    table_of_state (record new { weight = now.weight + weight_of e }) ≡ table_after (bounded_tick most) e (table_of_state s)
+
+-- a thread is still there after all stamps were renumbered, with the calls that it had
+abbrev pub ThreadsStay : Type 0
+ThreadsStay = (s : State) (live : Live) (writes : List Page) (t : ℕ) (was : Stamped) (c : Calls) → IsRenumbered s.live live s.writes writes → Has s t was c →
+    (is : Stamped) × Has (renumbered_to live writes s) t is c
+
+-- a changed thread is there with what it was changed to
+abbrev pub ChangedIsThere : Type 0
+ChangedIsThere = (s : State) (live : Live) (t : ℕ) (was is : Stamped) (c now : Calls) → Has s t was c → live.threads ≡ with_value s.live.threads t is →
+    Has (record s { live = live; calls = with_value s.calls t now }) t is now
+
+-- so where its calls stay
+abbrev pub StampedIsThere : Type 0
+StampedIsThere = (s : State) (live : Live) (t : ℕ) (was is : Stamped) (c : Calls) → Has s t was c → live.threads ≡ with_value s.live.threads t is →
+    Has (record s { live = live }) t is c
+
+-- the last of two changes of a thread counts
+abbrev pub LastChangeCounts : Type 0
+LastChangeCounts = (live : List (ℕ × Stamped)) (t : ℕ) (was is : Stamped) → with_value (with_value live t was) t is ≡ with_value live t is
