@@ -17,6 +17,7 @@ pub mod Reversed
 pub mod StateTicks
 pub mod StateThreads
 pub mod Reading
+pub mod RowParts
 pub mod StateRows
 pub mod StateWords
 pub mod StateTold

@@ -5,6 +5,7 @@
 
 mod laws;
 pub mod reads;
+pub mod rows;
 
 pub use laws::{
     a_table_tells_what_may_follow, a_tick_is_by_parts, a_tick_keeps_the_table,
