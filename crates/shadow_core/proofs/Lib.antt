@@ -18,6 +18,7 @@ pub mod StateTicks
 pub mod StateThreads
 pub mod Reading
 pub mod RowParts
+pub mod PartReads
 pub mod StateRows
 pub mod StateWords
 pub mod StateTold

@@ -160,7 +160,7 @@ in_one : (w v : ℕ) → in_range w 1 v ≡ (v == w)
 in_one w v = grind (arith, nat_tests)
 
 -- the thread's pages are lent and written
-lent_changed : (live : Live) (t : ℕ) (pages : List Page) → is_some (value_of live.threads t) ≡ true → IsChanged live (with_pages live t pages) t (frames_of live.threads t) pages
+pub lent_changed : (live : Live) (t : ℕ) (pages : List Page) → is_some (value_of live.threads t) ≡ true → IsChanged live (with_pages live t pages) t (frames_of live.threads t) pages
 lent_changed live t pages lives =
     let new : Stamped = record { frames = frames_of live.threads t; spare = spare_of live.threads t; pages = pages } in
     let room : spare_of (with_value live.threads t new) t ≡ spare_of live.threads t = ap (λ (o : Option Stamped). option_map_or (λ (s : Stamped). s.spare) o 0) (with_found live.threads t new lives) in record {
@@ -240,7 +240,7 @@ small_gain p = by (is_foreign p)
     by true = ((omega (arith, ints), omega (arith, ints)), (omega (arith, ints), omega (arith, ints)))
     by false = ((omega (arith, ints), omega (arith, ints)), (omega (arith, ints), omega (arith, ints)))
 
-All-reverse : {X : Type 0} (P : X → Type 0) (xs : List X) → All P xs → All P (reverse xs)
+pub All-reverse : {X : Type 0} (P : X → Type 0) (xs : List X) → All P xs → All P (reverse xs)
 All-reverse P [] all = All-nil P
 All-reverse P (x ∷ xs) all =
     subst (All P) (sym (reverse-append (x ∷ []) xs))
@@ -274,6 +274,21 @@ reads_within most [] fs within = subst (λ (k : ℕ). AreWithin k fs) (omega ari
 reads_within most (p ∷ ps) fs within =
     subst (λ (k : ℕ). AreWithin k (frames_after_reads (p ∷ ps) fs)) (omega arith) (reads_within (most + 1) ps (frames_after_read p fs) (read_one_within most p fs within))
 
+-- ---- starts
+pub starts_reverse : (fs : List Frame) → starts_of (reverse fs) ≡ reverse (starts_of fs)
+starts_reverse [] = refl
+starts_reverse (f ∷ fs) =
+    ap starts_of (reverse-append (f ∷ []) fs)
+    ∙ map-append (λ (f : Frame). f.start) (reverse fs) (f ∷ [])
+    ∙ ap (λ (ss : List ℕ). ss ++ f.start ∷ []) (starts_reverse fs)
+    ∙ sym (reverse-append (f.start ∷ []) (starts_of fs))
+
+starts_back : (fs gs : List Frame) → starts_of (reverse fs) ≡ starts_of (reverse gs) → starts_of fs ≡ starts_of gs
+starts_back fs gs same =
+    sym (reverse-reverse (starts_of fs))
+    ∙ ap (reverse {A = ℕ}) (sym (starts_reverse fs) ∙ same ∙ starts_reverse gs)
+    ∙ reverse-reverse (starts_of gs)
+
 module _ (old new : Live) (t : ℕ) (write marks : ℕ → ℕ) (first n stamp : ℕ) (lives : is_some (value_of old.threads t) ≡ true) (one : IsRead old new t write marks first n stamp) where
   pub lives_read : is_some (value_of new.threads t) ≡ true
   lives_read = lives_changed old new t (frames_of new.threads t) (pages_of new.threads t) lives one.changed
@@ -282,42 +297,35 @@ module _ (old new : Live) (t : ℕ) (write marks : ℕ → ℕ) (first n stamp :
   starts_read =
       let same = ap starts_of one.frames ∙ starts-reads (places_at (stamp_at (pages_of old.threads t)) write marks (range_with_len first n)) (reverse (frames_of old.threads t)) in
       starts_back (frames_of new.threads t) (frames_of old.threads t) same
-    where
-      starts_reverse : (fs : List Frame) → starts_of (reverse fs) ≡ reverse (starts_of fs)
-      starts_reverse [] = refl
-      starts_reverse (f ∷ fs) =
-          ap starts_of (reverse-append (f ∷ []) fs)
-          ∙ map-append (λ (f : Frame). f.start) (reverse fs) (f ∷ [])
-          ∙ ap (λ (ss : List ℕ). ss ++ f.start ∷ []) (starts_reverse fs)
-          ∙ sym (reverse-append (f.start ∷ []) (starts_of fs))
-
-      starts_back : (fs gs : List Frame) → starts_of (reverse fs) ≡ starts_of (reverse gs) → starts_of fs ≡ starts_of gs
-      starts_back fs gs same =
-          sym (reverse-reverse (starts_of fs))
-          ∙ ap (reverse {A = ℕ}) (sym (starts_reverse fs) ∙ same ∙ starts_reverse gs)
-          ∙ reverse-reverse (starts_of gs)
 
   pub length_read : length (frames_of new.threads t) ≡ length (frames_of old.threads t)
   length_read =
       sym (length-map (frames_of new.threads t) (λ (f : Frame). f.start)) ∙ ap (λ (ss : List ℕ). length ss) starts_read ∙ length-map (frames_of old.threads t) (λ (f : Frame). f.start)
 
-  pub read_on : (last : Live) (at m : ℕ) → at ≡ first + n → IsRead new last t write marks at m stamp → IsRead old last t write marks first (n + m) stamp
-  read_on last at m is two =
+  pub places_on : (at m : ℕ) → at ≡ first + n →
+      places_at (stamp_at (pages_of old.threads t)) write marks (range_with_len first (n + m))
+      ≡ places_at (stamp_at (pages_of old.threads t)) write marks (range_with_len first n) ++ places_at (stamp_at (pages_of new.threads t)) write marks (range_with_len at m)
+  places_on at m is =
       let was = stamp_at (pages_of old.threads t) in
       let mid = stamp_at (pages_of new.threads t) in
       let front = places_at was write marks (range_with_len first n) in
-      let back = places_at was write marks (range_with_len at m) in
-      let same : (w : ℕ) → at ≤ w → mid w ≡ was w = λ w le. one.stamps w ∙ ap (λ b. cond b stamp (was w)) (not_before first n w (omega (arith, le, is))) in
-      let parts : places_at was write marks (range_with_len first (n + m)) ≡ front ++ back =
-      ap (places_at was write marks) (range_append first n m at is) ∙ map-append (λ (l : ℕ). record { own = was l; write = write l; mark = marks l }) (range_with_len first n) (range_with_len at m) in
+      let same : (w : ℕ) → at ≤ w → was w ≡ mid w = λ w le. sym (one.stamps w ∙ ap (λ b. cond b stamp (was w)) (not_before first n w (omega (arith, le, is)))) in
+      ap (places_at was write marks) (range_append first n m at is)
+      ∙ map-append (λ (l : ℕ). record { own = was l; write = write l; mark = marks l }) (range_with_len first n) (range_with_len at m)
+      ∙ ap (λ (ps : List Place). front ++ ps) (places_same was mid write marks at m same)
+
+  pub read_on : (last : Live) (at m : ℕ) → at ≡ first + n → IsRead new last t write marks at m stamp → IsRead old last t write marks first (n + m) stamp
+  read_on last at m is two =
+      let was = stamp_at (pages_of old.threads t) in
+      let front = places_at was write marks (range_with_len first n) in
+      let back = places_at (stamp_at (pages_of new.threads t)) write marks (range_with_len at m) in
       record {
         changed = changed_twice old new t (frames_of new.threads t) (pages_of new.threads t) lives one.changed last (frames_of last.threads t) (pages_of last.threads t) two.changed;
         frames =
             two.frames
-            ∙ ap (λ (ps : List Place). frames_after_reads ps (reverse (frames_of new.threads t))) (places_same mid was write marks at m same)
             ∙ ap (frames_after_reads back) one.frames
             ∙ sym (reads_go_on front back (reverse (frames_of old.threads t)))
-            ∙ ap (λ (ps : List Place). frames_after_reads ps (reverse (frames_of old.threads t))) (sym parts);
+            ∙ ap (λ (ps : List Place). frames_after_reads ps (reverse (frames_of old.threads t))) (sym (places_on at m is));
         stamps = λ w. two.stamps w ∙ ap (λ s. cond (in_range at m w) stamp s) (one.stamps w) ∙ in_both first n m at w stamp (was w) is;
         covered = λ w. two.covered w ∙ one.covered w;
       }

@@ -1,17 +1,21 @@
 //! A read of words: what it changes in the frames and the stamps of the thread that reads.
-ghost use Rattle.std.specs.Prelude.{◌≡◌, ◌≤◌, ◌<◌, ◌+◌, ◌^◌, ℕ, Some, is_some, length, reverse, true};
+ghost use Rattle.std.specs.Prelude.{◌≡◌, ◌≤◌, ◌<◌, ◌+◌, ◌%◌, ◌^◌, ℕ, All, Some, count_by, is_some, length, pos, reverse, true};
+ghost use Rattle.std.specs.List.{range_with_len};
 ghost use Rattle.guest_words.specs.ByThread.{value_of};
 ghost use Rattle.shadow_pages.specs.Pages.{AreCovered, covers, stamp_at};
+ghost use Rattle.shadow_stack.specs.Frames.{starts_of};
+ghost use Rattle.stamp_lanes.specs.Plain.{is_by_kernel, is_by_thread};
 ghost use Rattle.stamp_renumber.specs.Threads.{frames_of, pages_of};
 ghost use Rattle.shadow_core.specs.Allows.{AreWithin};
 ghost use Rattle.shadow_core.specs.Frames.{frames_after_read, gain, negated};
 ghost use Rattle.shadow_core.specs.Parts.{taken};
-ghost use Rattle.shadow_core.specs.Reading.{AreSmall, IsChanged, IsRead};
+ghost use Rattle.shadow_core.specs.Reading.{AreSmall, IsChanged, IsRead, places_at};
 
+use crate::rows::{ZeroRows, read_page, row_of};
 use guest_words::{Tid, Word};
 use shadow_pages::Shadow;
 use shadow_stack::{Sums, last_at_most};
-use stamp_lanes::Lanes;
+use stamp_lanes::{Bulk, Lanes};
 use stamp_renumber::Threads;
 use stamps::Stamp;
 
@@ -111,4 +115,108 @@ fn read_words<S: Lanes>(
     for i in 0..count {
         read_word(threads, tid, word_at(first, i), writes, now);
     }
+}
+
+/// How many words of a read count as another thread's, and how many as the kernel's.
+#[derive(Clone, Copy, Debug, PartialEq, Eq)]
+pub struct Foreign {
+    pub thread: u64,
+    pub kernel: u64,
+}
+
+// What the words of one page add to the sums of the innermost frame, where none is old.
+fn sums_of_bulk(bulk: Bulk) -> Sums
+    ensures { result ≡ record { plain = pos bulk.plain; bare = pos bulk.untouched } }
+{
+    Sums {
+        plain: i64::from(bulk.plain),
+        bare: i64::from(bulk.untouched),
+    }
+}
+
+// A read of words of one page: all at once where none is old.
+fn read_part<S: Lanes>(
+    threads: &mut Threads<S>,
+    tid: Tid,
+    first: Word,
+    count: u32,
+    writes: &Shadow<S>,
+    marks: &Shadow<u8>,
+    zeros: &ZeroRows<S>,
+    now: S,
+) -> Foreign
+    requires some { 1 ≤ count }
+    requires end { first + count ≤ 2 ^ 30 }
+    requires within { first % 1024 + count ≤ 1024 }
+    requires lives { is_some (value_of threads.old.threads tid) ≡ true }
+    requires depth { 1 ≤ length (frames_of threads.old.threads tid) }
+    requires starts { All (λ s. 0 < s) (starts_of (frames_of threads.old.threads tid)) }
+    requires covered { AreCovered (pages_of threads.old.threads tid) first count }
+    requires sums { AreWithin (2 ^ 62 + 2 ^ 30) (frames_of threads.old.threads tid) }
+    ensures read { IsRead threads.old threads.new tid (stamp_at writes.now.pages) (stamp_at marks.now.pages) first count (S.number_of now) }
+    ensures thread { result.thread ≡ count_by is_by_thread (places_at (stamp_at (pages_of threads.old.threads tid)) (stamp_at writes.now.pages) (stamp_at marks.now.pages) (range_with_len first count)) }
+    ensures kernel { result.kernel ≡ count_by is_by_kernel (places_at (stamp_at (pages_of threads.old.threads tid)) (stamp_at writes.now.pages) (stamp_at marks.now.pages) (range_with_len first count)) }
+{
+    let write = row_of(writes, first, count, zeros.stamps());
+    let mark = row_of(marks, first, count, zeros.marks());
+    let top = threads.frames(tid).depth() - 1;
+    let start = threads.frames(tid).start_at(top);
+    let bulk = read_page(threads.shadow_mut(tid), first, write, mark, start, now);
+    if bulk.old == 0 {
+        threads.add_sum(tid, top, sums_of_bulk(bulk));
+    } else {
+        read_words(threads, tid, first, count, writes, now);
+    }
+    Foreign {
+        thread: u64::from(bulk.thread),
+        kernel: u64::from(bulk.kernel),
+    }
+}
+
+// How many of the words that are left lie in the page of the next one.
+fn part_size(at: Word, left: u32) -> u32
+    requires { 1 ≤ left }
+    ensures some { 1 ≤ result }
+    ensures left { result ≤ left }
+    ensures within { at % 1024 + result ≤ 1024 }
+{
+    left.min(1024 - at.number() % 1024)
+}
+
+/// A read of words by the thread, page by page. Its frames are those after the reads of the words in order, by the stamps from
+/// before the call, and each of the words gets the stamp. It takes no memory.
+pub fn read<S: Lanes>(
+    threads: &mut Threads<S>,
+    tid: Tid,
+    first: Word,
+    count: u32,
+    writes: &Shadow<S>,
+    marks: &Shadow<u8>,
+    zeros: &ZeroRows<S>,
+    now: S,
+) -> Foreign
+    requires end { first + count ≤ 2 ^ 30 }
+    requires lives { is_some (value_of threads.old.threads tid) ≡ true }
+    requires depth { 1 ≤ length (frames_of threads.old.threads tid) }
+    requires starts { All (λ s. 0 < s) (starts_of (frames_of threads.old.threads tid)) }
+    requires covered { AreCovered (pages_of threads.old.threads tid) first count }
+    requires sums { AreWithin (2 ^ 62) (frames_of threads.old.threads tid) }
+    ensures read { IsRead threads.old threads.new tid (stamp_at writes.now.pages) (stamp_at marks.now.pages) first count (S.number_of now) }
+    ensures thread { result.thread ≡ count_by is_by_thread (places_at (stamp_at (pages_of threads.old.threads tid)) (stamp_at writes.now.pages) (stamp_at marks.now.pages) (range_with_len first count)) }
+    ensures kernel { result.kernel ≡ count_by is_by_kernel (places_at (stamp_at (pages_of threads.old.threads tid)) (stamp_at writes.now.pages) (stamp_at marks.now.pages) (range_with_len first count)) }
+{
+    let mut found = Foreign {
+        thread: 0,
+        kernel: 0,
+    };
+    let mut done = 0;
+    while done < count {
+        let at = word_at(first, done);
+        let size = part_size(at, count - done);
+        let more = read_part(threads, tid, at, size, writes, marks, zeros, now);
+        found.thread += more.thread;
+        found.kernel += more.kernel;
+        done += size;
+    }
+    found
 }
