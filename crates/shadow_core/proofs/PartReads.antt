@@ -1,10 +1,12 @@
 -- A read of words of one page, at once or one by one.
-use Rattle.std.proofs.Common.{◌≡◌, ◌≢◌, ℕ, zero, suc, ◌+◌, ◌<◌, ◌≤◌, ◌^◌, Bool, true, false, cond, ◌&&◌, List, [], ◌∷◌, ◌++◌, length, map, get_or, reverse, Option, Some, None, refl, sym, ap, subst, ◌∙◌, arith, pos}
+use Rattle.std.proofs.Common.{◌≡◌, ◌≢◌, ℕ, zero, suc, ◌+◌, ◌<◌, ◌≤◌, ◌^◌, Bool, true, false, cond, ◌&&◌, List, [], ◌∷◌, ◌++◌, length, map, get_or, reverse, count_by, Option, Some, None, refl, sym, ap, subst, ◌∙◌, arith, pos}
 use Rattle.std.specs.Prelude.{All, IfSome, ◌==◌, is_some, slice_get, slice_index}
 use Rattle.std.specs.List.{range_with_len}
 use Rattle.std.proofs.lemmas.Bool.{eq-eqb}
 use Rattle.std.proofs.lemmas.Bool.Decides.{nat_tests}
 use Rattle.std.proofs.lemmas.Int.{ints}
+use Rattle.std.proofs.lemmas.List.FromFn.{length-map-range_with_len}
+use Rattle.std.proofs.lemmas.List.Sums.{count_by-le-length}
 use Rattle.std.proofs.lemmas.List.{get_or_default, map-id, reverse-append}
 use Rattle.std.proofs.lemmas.List.Elements.{All-head, All-tail}
 use Rattle.guest_words.specs.ByThread.{value_of}
@@ -22,7 +24,8 @@ use Rattle.shadow_core.specs.Stands.{IsFalling}
 use Rattle.shadow_core.proofs.Kept.{falling-weaker}
 use Rattle.shadow_core.proofs.StateThreads.{differ}
 use Rattle.shadow_core.proofs.StateWords.{reads_all_words}
-use Rattle.shadow_core.proofs.Reading.{All-reverse, changed_own, changed_twice, frames_changed, lent_changed, lives_changed, pages_changed, read_on, starts_reverse}
+use Rattle.shadow_core.proofs.Reading.{All-reverse, changed_own, changed_twice, frames_changed, lent_changed, lives_changed, pages_changed, places_on, read_on, starts_reverse}
+use Rattle.shadow_core.proofs.Reversed.{counts_go_on}
 
 -- ---- sums that grow by more than one
 abbrev SumsWithin : ℕ → Frame → Type 0
@@ -125,3 +128,18 @@ module _ (old : Live) (t : ℕ) (pages : List Page) (write marks : ℕ → ℕ) 
 pub stamps_from : (pages was now : List Page) (first m n stamp : ℕ) (b : Bool) → pages ≡ was → m ≡ n → ((w : ℕ) → stamp_at now w ≡ cond (b && in_range first m w) stamp (stamp_at pages w)) →
     (w : ℕ) → stamp_at now w ≡ cond (b && in_range first n w) stamp (stamp_at was w)
 stamps_from pages was now first m n stamp b same size each w = each w ∙ (λ i. cond (b && in_range first (size i) w) stamp (stamp_at (same i) w))
+
+-- ---- how many places
+pub count_few : (test : Place → Bool) (own write marks : ℕ → ℕ) (first n : ℕ) → count_by test (places_at own write marks (range_with_len first n)) ≤ n
+count_few test own write marks first n =
+    let most = count_by-le-length test (places_at own write marks (range_with_len first n)) in
+    let long : length (places_at own write marks (range_with_len first n)) ≡ n = length-map-range_with_len (λ (l : ℕ). record { own = own l; write = write l; mark = marks l }) first n in
+    omega (arith, most, long)
+
+pub counts_on : (test : Place → Bool) (old new : Live) (t : ℕ) (write marks : ℕ → ℕ) (first n stamp : ℕ) → is_some (value_of old.threads t) ≡ true → IsRead old new t write marks first n stamp → (at m a b : ℕ) → at ≡ first + n →
+    a ≡ count_by test (places_at (stamp_at (pages_of old.threads t)) write marks (range_with_len first n)) → b ≡ count_by test (places_at (stamp_at (pages_of new.threads t)) write marks (range_with_len at m)) →
+    a + b ≡ count_by test (places_at (stamp_at (pages_of old.threads t)) write marks (range_with_len first (n + m)))
+counts_on test old new t write marks first n stamp lives one at m a b is front back =
+    (λ i. front i + back i)
+    ∙ sym (counts_go_on test (places_at (stamp_at (pages_of old.threads t)) write marks (range_with_len first n)) (places_at (stamp_at (pages_of new.threads t)) write marks (range_with_len at m)))
+    ∙ ap (λ (ps : List Place). count_by test ps) (sym (places_on old new t write marks first n stamp lives one at m is))
