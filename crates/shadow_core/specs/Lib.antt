@@ -16,6 +16,7 @@ pub mod State
 pub mod StateTicks
 pub mod StateThreads
 pub mod Reading
+pub mod Writing
 pub mod StateRows
 pub mod StateWords
 pub mod StateTold

@@ -4,8 +4,9 @@
 #![tactic(auto)]
 
 mod laws;
-pub mod reads;
-pub mod rows;
+mod reads;
+mod rows;
+mod writes;
 
 pub use laws::{
     a_table_tells_what_may_follow, a_tick_is_by_parts, a_tick_keeps_the_table,

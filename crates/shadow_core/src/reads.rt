@@ -119,9 +119,9 @@ fn read_words<S: Lanes>(
 
 /// How many words of a read count as another thread's, and how many as the kernel's.
 #[derive(Clone, Copy, Debug, PartialEq, Eq)]
-pub struct Foreign {
-    pub thread: u64,
-    pub kernel: u64,
+pub(crate) struct Foreign {
+    pub(crate) thread: u64,
+    pub(crate) kernel: u64,
 }
 
 // What the words of one page add to the sums of the innermost frame, where none is old.
@@ -185,7 +185,7 @@ fn part_size(at: Word, left: u32) -> u32
 
 /// A read of words by the thread, page by page. Its frames are those after the reads of the words in order, by the stamps from
 /// before the call, and each of the words gets the stamp. It takes no memory.
-pub fn read<S: Lanes>(
+pub(crate) fn read<S: Lanes>(
     threads: &mut Threads<S>,
     tid: Tid,
     first: Word,

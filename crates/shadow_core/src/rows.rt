@@ -14,7 +14,7 @@ use std::marker::Model;
 
 /// A row of zero stamps and one of zero marks, each as long as a page.
 #[derive(Drop)]
-pub struct ZeroRows<S: Stamp> {
+pub(crate) struct ZeroRows<S: Stamp> {
     stamps: Vec<S>,
     marks: Vec<u8>,
 }
@@ -43,7 +43,7 @@ fn zero_row<S: Stamp>(alloc: Global) -> Result<Vec<S>, AllocError>
 
 impl<S: Stamp> ZeroRows<S> {
     /// Takes the memory of both.
-    pub fn new(alloc: Global) -> Result<ZeroRows<S>, AllocError> {
+    pub(crate) fn new(alloc: Global) -> Result<ZeroRows<S>, AllocError> {
         Ok(ZeroRows {
             stamps: zero_row(alloc)?,
             marks: zero_row(alloc)?,

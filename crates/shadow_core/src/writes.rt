@@ -1,0 +1,56 @@
+//! What writes of words change in the stamps.
+ghost use Rattle.std.specs.Prelude.{◌≡◌, ◌≤◌, ◌+◌, ◌^◌, is_some, true};
+ghost use Rattle.guest_words.specs.ByThread.{value_of};
+ghost use Rattle.shadow_pages.specs.Pages.{AreCovered};
+ghost use Rattle.stamp_renumber.specs.Threads.{frames_of, pages_of};
+ghost use Rattle.shadow_core.specs.Reading.{IsChanged};
+ghost use Rattle.shadow_core.specs.Writing.{IsFilled};
+
+use guest_words::{Tid, Word};
+use shadow_pages::Shadow;
+use stamp_lanes::Lanes;
+use stamp_renumber::Threads;
+
+/// A write of words by the kernel: each gets the stamp as that of its latest write, and a mark. It takes no memory.
+pub(crate) fn fill<S: Lanes>(
+    writes: &mut Shadow<S>,
+    marks: &mut Shadow<u8>,
+    first: Word,
+    count: u32,
+    now: S,
+)
+    requires end { first + count ≤ 2 ^ 30 }
+    requires written { AreCovered writes.old.pages first count }
+    requires marked { AreCovered marks.old.pages first count }
+    ensures writes { IsFilled (S.number_of now) first count writes.old.pages writes.new.pages }
+    ensures marks { IsFilled 1 first count marks.old.pages marks.new.pages }
+{
+    writes.fill(first, count, now);
+    marks.fill(first, count, 1);
+}
+
+/// A write of words by the thread: each gets the stamp, as that of the thread's access and as that of its latest write, and
+/// no mark. It takes no memory.
+pub(crate) fn write<S: Lanes>(
+    threads: &mut Threads<S>,
+    tid: Tid,
+    writes: &mut Shadow<S>,
+    marks: &mut Shadow<u8>,
+    first: Word,
+    count: u32,
+    now: S,
+)
+    requires end { first + count ≤ 2 ^ 30 }
+    requires lives { is_some (value_of threads.old.threads tid) ≡ true }
+    requires covered { AreCovered (pages_of threads.old.threads tid) first count }
+    requires written { AreCovered writes.old.pages first count }
+    requires marked { AreCovered marks.old.pages first count }
+    ensures changed { IsChanged threads.old threads.new tid (frames_of threads.old.threads tid) (pages_of threads.new.threads tid) }
+    ensures access { IsFilled (S.number_of now) first count (pages_of threads.old.threads tid) (pages_of threads.new.threads tid) }
+    ensures writes { IsFilled (S.number_of now) first count writes.old.pages writes.new.pages }
+    ensures marks { IsFilled 0 first count marks.old.pages marks.new.pages }
+{
+    threads.shadow_mut(tid).fill(first, count, now);
+    writes.fill(first, count, now);
+    marks.fill(first, count, 0);
+}
