@@ -1,5 +1,5 @@
 -- Stamps of words, in pages of 1024 words.
-use Rattle.std.specs.Prelude.{◌≡◌, ◌≢◌, ◌==◌, ℕ, ◌+◌, ◌/◌, ◌%◌, ◌<◌, ◌≤◌, ◌^◌, Bool, true, if◌then◌else◌, List, [], ◌∷◌, ◌++◌, All, drop, get_or, length, map, replicate, slice_index, slice_set, take, Option, Some, None}
+use Rattle.std.specs.Prelude.{◌≡◌, ◌≢◌, ◌==◌, ℕ, ◌+◌, ◌/◌, ◌%◌, ◌<◌, ◌≤◌, ◌^◌, ◌&&◌, Bool, true, if◌then◌else◌, List, [], ◌∷◌, ◌++◌, All, drop, get_or, length, map, nat_le, nat_lt, replicate, slice_index, slice_set, take, Option, Some, None}
 use Rattle.std.specs.Option.{is_some}
 use Rattle.shadow_pages.specs.Directory.{entry}
 
@@ -43,6 +43,10 @@ IsLow p = p.number < 2 ^ 20
 
 abbrev pub IsFull : Page → Type 0
 IsFull p = length p.stamps ≡ 1024
+
+-- the word is of the range
+abbrev pub in_range : ℕ → ℕ → ℕ → Bool
+in_range first count w = nat_le first w && nat_lt w (first + count)
 
 -- each word of the range is covered
 abbrev pub AreCovered : List Page → ℕ → ℕ → Type 0

@@ -1,8 +1,8 @@
 //! The pages, and the words by them.
-ghost use Rattle.std.specs.Prelude.{◌≡◌, ◌≢◌, ◌<◌, ◌≤◌, ◌+◌, ◌*◌, ◌/◌, ◌%◌, ◌^◌, ◌++◌, ◌∷◌, ◌↔◌, [], ℕ, Some, All, IfOk, IsOk, IsTrue, OnErr, OnOk, length, map, slice_index, slice_set, true};
+ghost use Rattle.std.specs.Prelude.{◌≡◌, ◌≢◌, ◌<◌, ◌≤◌, ◌+◌, ◌*◌, ◌/◌, ◌%◌, ◌^◌, ◌++◌, ◌∷◌, ◌↔◌, ◌&&◌, ◌==◌, if◌then◌else◌, [], ℕ, Some, All, IfOk, IsOk, IsTrue, OnErr, OnOk, length, map, nat_le, nat_lt, slice_index, slice_set, true};
 ghost use Rattle.std.specs.Borrow.{sem};
 ghost use Rattle.shadow_pages.specs.Directory.{HasTable};
-ghost use Rattle.shadow_pages.specs.Pages.{AreCovered, AreDistinct, AreFresh, HasWord, HaveAll, IsFull, IsIndexed, IsLow, IsReserved, changed, covers, page_at, page_of, stamp_at, zeros};
+ghost use Rattle.shadow_pages.specs.Pages.{AreCovered, AreDistinct, AreFresh, HasWord, HaveAll, IsFull, IsIndexed, IsLow, IsReserved, changed, covers, in_range, page_at, page_of, stamp_at, zeros};
 
 use crate::directory::Directory;
 use guest_words::Word;
@@ -140,6 +140,36 @@ impl<S: Stamp> Shadow<S> {
         stamps[w.number() as usize % PAGE_WORDS] = s;
     }
 
+    // Sets the stamps of the words of a range that lie in one page.
+    fn fill_page(&mut self, number: u32, first: Word, count: u32, s: S)
+        requires end { first + count ≤ 2 ^ 30 }
+        requires meets { HasWord first count number }
+        requires covered { AreCovered self.old.pages first count }
+        ensures stamps { (w : ℕ) → stamp_at self.new.pages w ≡ (if (w / 1024 == number) && in_range first count w then S.number_of s else stamp_at self.old.pages w) }
+        ensures covered { (w : ℕ) → covers self.new.pages w ≡ covers self.old.pages w }
+        ensures pages { length self.new.pages ≡ length self.old.pages }
+    {
+        let start = number << 10;
+        let from = first.number().max(start) - start;
+        let to = (first.number() + count).min(start + 1024) - start;
+        let row = self.page_of_mut(Word::of(number << 12));
+        fill_row(row, from as usize, to as usize, s);
+    }
+
+    /// Sets the stamps of all words of a range, page by page.
+    pub fn fill(&mut self, first: Word, count: u32, s: S)
+        requires end { first + count ≤ 2 ^ 30 }
+        requires covered { AreCovered self.old.pages first count }
+        ensures stamps { (w : ℕ) → stamp_at self.new.pages w ≡ (if in_range first count w then S.number_of s else stamp_at self.old.pages w) }
+        ensures covered { (w : ℕ) → covers self.new.pages w ≡ covers self.old.pages w }
+        ensures pages { length self.new.pages ≡ length self.old.pages }
+    {
+        let (low, end) = page_range(first, count);
+        for number in low..end {
+            self.fill_page(number, first, count, s);
+        }
+    }
+
     /// The stamps of words that lie in one page.
     pub fn row(&self, first: Word, count: u32) -> &[S]
         requires covered { covers self.now.pages first ≡ true }
@@ -203,6 +233,18 @@ fn page_range(first: Word, count: u32) -> (u32, u32)
         (low, low)
     } else {
         (low, ((first.number() + (count - 1)) >> 10) + 1)
+    }
+}
+
+/// Sets a part of a row.
+fn fill_row<S: Stamp>(row: &mut [S], from: usize, to: usize, s: S)
+    requires order { from ≤ to }
+    requires within { to ≤ length row.old }
+    ensures stamps { (k : ℕ) → slice_index (map S.number_of row.new) k ≡ (if nat_le from k && nat_lt k to then S.number_of s else slice_index (map S.number_of row.old) k) }
+    ensures count { length row.new ≡ length row.old }
+{
+    for at in from..to {
+        row[at] = s;
     }
 }
 

@@ -76,3 +76,24 @@ fn pages_and_rows_are_lent(rt: HostRuntime) -> Result<(), Fail> {
     }
     Ok(())
 }
+
+#[test]
+fn a_fill_goes_over_the_borders_of_pages_and_tables(rt: HostRuntime) -> Result<(), Fail> {
+    let mut shadow = Shadow::<u8>::new(rt.alloc())?;
+    put(&mut shadow, 1_047_550, 1)?;
+    put(&mut shadow, 1_048_577, 2)?;
+    shadow.reserve(word(1_047_551), 1026)?;
+    shadow.fill(word(1_047_551), 1026, 7);
+    let stamps = [
+        shadow.get(word(1_047_550)),
+        shadow.get(word(1_047_551)),
+        shadow.get(word(1_047_552)),
+        shadow.get(word(1_048_000)),
+        shadow.get(word(1_048_575)),
+        shadow.get(word(1_048_576)),
+        shadow.get(word(1_048_577)),
+    ];
+    assert_eq!(rt; stamps, [1, 7, 7, 7, 7, 7, 2]);
+    assert_eq!(rt; shadow.pages(), 3);
+    Ok(())
+}
