@@ -19,3 +19,4 @@ pub mod StateRows
 pub mod StateWords
 pub mod StateTold
 pub mod StateEvents
+pub mod Profiling
