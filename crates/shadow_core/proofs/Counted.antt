@@ -163,11 +163,11 @@ next_fits most n depth true h k = by (ltb n most) refl
     by true e = omega (arith, ltb-true n most e)
     by false e = k
 
+pub so_far : (most : ℕ) (past : List Event) → is_within most past ≡ true → counter_of most past ≤ most
+so_far most [] h = omega arith
+so_far most (e ∷ past) h =
+    let k : is_within most past ≡ true = (and_parts _ _ h).1 in
+    next_fits most (counter_of most past) (pending past) (ticks e (last_step past)) (so_far most past k) (room most past k)
+
 pub counter_fits : CounterFits
-counter_fits most e past h = next_fits most (counter_of most past) (pending past) (ticks e (last_step past)) (so_far past h) (room most past h)
-  where
-    so_far : (past : List Event) → is_within most past ≡ true → counter_of most past ≤ most
-    so_far [] h = omega arith
-    so_far (e ∷ past) h =
-        let k : is_within most past ≡ true = (and_parts _ _ h).1 in
-        next_fits most (counter_of most past) (pending past) (ticks e (last_step past)) (so_far past k) (room most past k)
+counter_fits most e past h = next_fits most (counter_of most past) (pending past) (ticks e (last_step past)) (so_far most past h) (room most past h)

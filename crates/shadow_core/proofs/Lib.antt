@@ -23,3 +23,5 @@ pub mod StateRows
 pub mod StateWords
 pub mod StateTold
 pub mod StateEvents
+pub mod Advanced
+pub mod Profiled

@@ -26,7 +26,7 @@ pub event_is_made : EventIsMade
 event_is_made most e s now new at changes = weighs_by_parts e now new changes ∙ ap (event_after e) at
 
 -- a thread of the one list is one of the other
-still_there : (old new : List (ℕ × Stamped)) → numbers new ≡ numbers old → (t : ℕ) (was : Stamped) → value_of old t ≡ Some was → (is : Stamped) × (value_of new t ≡ Some is)
+pub still_there : (old new : List (ℕ × Stamped)) → numbers new ≡ numbers old → (t : ℕ) (was : Stamped) → value_of old t ≡ Some was → (is : Stamped) × (value_of new t ≡ Some is)
 still_there [] [] same t was here = absurd (cc)
 still_there (x ∷ old) [] same t was here = absurd (cc)
 still_there [] (y ∷ new) same t was here = absurd (cc)

@@ -21,3 +21,4 @@ pub mod StateRows
 pub mod StateWords
 pub mod StateTold
 pub mod StateEvents
+pub mod Profiling

@@ -3,10 +3,13 @@
 //! parts by cause and the costs that it records are those of the definitions of `trace_model`, whatever the threads' order.
 #![tactic(auto)]
 
+mod advance;
+mod calls;
 mod laws;
 mod reads;
 mod rows;
 mod writes;
+mod profiler;
 
 pub use laws::{
     a_table_tells_what_may_follow, a_tick_is_by_parts, a_tick_keeps_the_table,
@@ -14,3 +17,4 @@ pub use laws::{
     rows_are_by_parts, stacks_are_frames, the_counter_is_that_of_the_trace, the_table_takes_events,
     threads_are_by_parts, words_come_one_by_one, worked_tables_are_as_written,
 };
+pub use profiler::Profiler;

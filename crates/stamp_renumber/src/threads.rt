@@ -61,6 +61,13 @@ impl<S: Lanes> Threads<S> {
         })
     }
 
+    /// How many frames all threads have.
+    pub fn frame_count(&self) -> usize
+        ensures { result ≡ length (all_starts self.now.threads) }
+    {
+        self.frames
+    }
+
     /// One more thread, whose number is above all others.
     pub fn add(&mut self, tid: Tid) -> Result<(), AllocError>
         requires above { All (λ n. n < tid) (numbers self.old.threads) }

@@ -1,0 +1,160 @@
+-- What holds of a profiler that may take an event.
+use Rattle.std.proofs.Common.{◌≡◌, ℕ, ◌+◌, ◌*◌, ◌<◌, ◌≤◌, ◌^◌, Bool, MutBor, true, false, cond, List, [], ◌∷◌, length, Some, None, refl, sym, ap, subst, ◌∙◌, arith}
+use Rattle.std.specs.Prelude.{◌==◌, ◌&&◌, not, nat_lt, is_some, reverse, Option}
+use Rattle.std.specs.Option.{IsSome, option_copied_mut}
+use Rattle.guest_words.proofs.ThreadTables.{numbers-with}
+use Rattle.guest_words.specs.ByThread.{IsRising, numbers, value_of, with_value}
+use Rattle.trace_model.specs.declared.event_kinds.Event.{Event}
+use Rattle.trace_model.specs.declared.event_kinds.Event.TheVariants.{Step}
+use Rattle.trace_model.specs.Depth.{is_within}
+use Rattle.trace_model.specs.Observing.{MayTake}
+use Rattle.trace_model.specs.WellFormed.{IsWellFormed, is_live, last_step, weight, weight_of}
+use Rattle.stamp_renumber.specs.Threads.{Stamped, all_starts}
+use Rattle.shadow_pages.specs.Pages.{stamp_at}
+use Rattle.shadow_core.specs.Table.{Thread}
+use Rattle.shadow_core.specs.Ticks.{is_switch, ticks, table_after}
+use Rattle.shadow_core.specs.Renewal.{bounded_tick}
+use Rattle.shadow_core.specs.Counting.{counter_of, next_counter, renumberings}
+use Rattle.shadow_core.specs.Stands.{Agrees, Stands}
+use Rattle.shadow_core.specs.State.{Calls, State, table_of_state}
+use Rattle.shadow_core.specs.StateRows.{Has}
+use Rattle.shadow_core.specs.Profiling.{Clock, IsAdvanced, IsWhole, StandsFor, with_clock}
+use Rattle.shadow_core.proofs.Counted.{room, so_far}
+use Rattle.shadow_core.proofs.Room.{counts_stay_within}
+use Rattle.shadow_core.proofs.StateEvents.{event_is_made}
+use Rattle.shadow_core.proofs.StateRows.{steps_by_parts}
+use Rattle.shadow_core.proofs.StateTold.{frames_are_told, life_is_told, numbers_are_told, thread_is_told}
+
+-- ---- What a tick asks.
+light_renewals : (most : ℕ) (past : List Event) → renumberings most past ≤ weight past
+light_renewals most [] = omega arith
+light_renewals most (e ∷ past) = omega (arith, light_renewals most past, some e, one (ticks e (last_step past) && not (nat_lt (counter_of most past) most)))
+  where
+    some : (e : Event) → 1 ≤ weight_of e
+    some (Rattle.trace_model.specs.declared.event_kinds.Event.TheVariants.Read t first count) = omega arith
+    some e = omega arith
+
+    one : (b : Bool) → cond b 1 0 ≤ 1
+    one true = omega arith
+    one false = omega arith
+
+-- A tick may come, and the weight of one more event fits 64 bits.
+pub record MayAdvance (most : ℕ) (e : Event) (s : State) : Type 0 where
+  pub within : s.counter ≤ most
+  pub room : 3 * length (all_starts s.live.threads) + 3 ≤ most
+  pub rising : IsRising (numbers s.live.threads)
+  pub few : s.renumbered + 1 < 2 ^ 64
+  pub light : s.weight + weight_of e < 2 ^ 62
+
+pub may_advance : (most : ℕ) (e : Event) (s : State) → MayTake (StandsFor most) s e → MayAdvance most e s
+may_advance most e s may =
+    let agrees = may.now.agrees in
+    let counted = may.now.counted in
+    let light = may.formed.1 in
+    record {
+      within = omega (arith, counted.counter, so_far most may.past may.now.within);
+      room = omega (arith, room most may.past may.now.within, counted.frames, frames_are_told s);
+      rising = subst IsRising (numbers_are_told s) agrees.rising;
+      few = omega (arith, counted.renumbered, light_renewals most may.past, light);
+      light = omega (arith, agrees.weight, light);
+    }
+
+-- ---- The threads that live.
+-- where the numbers are the same, a thread of the one list is one of the other
+pub there_too : {A B : Type 0} (old : List (ℕ × A)) (new : List (ℕ × B)) → numbers new ≡ numbers old → (t : ℕ) → is_some (value_of old t) ≡ true →
+    (is : B) × (value_of new t ≡ Some is)
+there_too [] [] same t here = absurd (cc)
+there_too (x ∷ old) [] same t here = absurd (cc)
+there_too [] (y ∷ new) same t here = absurd (cc)
+there_too {A} {B} (x ∷ old) (y ∷ new) same t here =
+    let first : y.0 ≡ x.0 = cc in
+    let rest : numbers new ≡ numbers old = cc in
+    by (y.0 == t) (ap (λ n. is_some (cond (n == t) (Some x.1) (value_of old t))) first ∙ here) (λ later. there_too old new rest t later)
+  where
+    by : (b : Bool) → is_some (cond b (Some x.1) (value_of old t)) ≡ true → (is_some (value_of old t) ≡ true → (is : B) × (value_of new t ≡ Some is)) →
+        (is : B) × (cond b (Some y.1) (value_of new t) ≡ Some is)
+    by true here later = (y.1, refl)
+    by false here later = later here
+
+-- A live thread has stamps and calls.
+pub record IsAlive (s : State) (t : ℕ) : Type 0 where
+  pub was : Stamped
+  pub calls : Calls
+  pub has : Has s t was calls
+
+pub alive : (s : State) (t : ℕ) (past : List Event) → Agrees (table_of_state s) past → IsWhole s → is_live past t ≡ true → IsAlive s t
+alive s t past agrees whole lives =
+    let live : is_some (value_of s.live.threads t) ≡ true = sym (life_is_told s t) ∙ agrees.live t ∙ lives in
+    let own = there_too s.live.threads s.live.threads refl t live in
+    let calls = there_too s.live.threads s.calls whole.same t live in
+    record { was = own.0; calls = calls.0; has = record { rising = subst IsRising (numbers_are_told s) agrees.rising; stamps = own.1; calls = calls.1 } }
+
+-- a thread of the state after a tick
+pub has_after : (most : ℕ) (ticks : Bool) (s : State) (t : ℕ) (was : Stamped) (c : Calls) (old new : Clock) → IsAdvanced most ticks old new →
+    old.live ≡ s.live → Has s t was c → (is : Stamped) × Has (with_clock new s) t is c
+has_after most ticks s t was c old new step same has =
+    let found = step.each t was (ap (λ (l : Rattle.stamp_renumber.specs.Threads.Live). value_of l.threads t) same ∙ has.stamps) in (
+      found.0,
+      record {
+        rising = subst IsRising (sym (step.same ∙ ap (λ (l : Rattle.stamp_renumber.specs.Threads.Live). numbers l.threads) same)) has.rising;
+        stamps = found.1;
+        calls = has.calls;
+      },
+    )
+
+-- the state's clock
+abbrev pub clock_of : State → Clock
+clock_of s = record { counter = s.counter; writes = s.writes; live = s.live; renumbered = s.renumbered }
+
+-- ---- Steps.
+pub few_steps : (s : State) (t : ℕ) (past : List Event) (was : Stamped) (c : Calls) → Agrees (table_of_state s) past → weight past < 2 ^ 62 → Has s t was c →
+    c.counts.steps + 1 < 2 ^ 64
+few_steps s t past was c agrees light has =
+    let counts = counts_stay_within (table_of_state s) past t (record { frames = reverse was.frames; calls = c.list; access = stamp_at was.pages; counts = c.counts }) agrees (thread_is_told s t was c has) in
+    omega (arith, counts.0, light)
+
+pub step_made : (most t : ℕ) (s : State) (was : Stamped) (c : Calls) (new : Clock) → Has s t was c → IsAdvanced most (is_switch s.last t) (clock_of s) new →
+    table_of_state (record (with_clock new s) {
+      calls = with_value s.calls t (record c { counts = record c.counts { steps = c.counts.steps + 1 } });
+      last = Some t;
+      weight = s.weight + 1;
+    })
+    ≡ table_after (bounded_tick most) (Step t) (table_of_state s)
+step_made most t s was c new has step =
+    let now = with_clock new s in
+    let here = has_after most (is_switch s.last t) s t was c (clock_of s) new step refl has in
+    let changed : State = record now { calls = with_value s.calls t (record c { counts = record c.counts { steps = c.counts.steps + 1 } }); last = Some t } in
+    event_is_made most (Step t) s now changed (step.table s) (steps_by_parts now t here.0 c here.1)
+
+-- ---- What the code finds.
+pub found : {A : Type 0} (r : Option (MutBor A)) (xs : List (ℕ × A)) (t : ℕ) → option_copied_mut r ≡ value_of xs t → (v : A) → value_of xs t ≡ Some v → IsSome r
+found None xs t is v here = absurd (let no : None ≡ Some v = is ∙ here in cc)
+found (Some r) xs t is v here = refl
+
+pub alive_for_step : (most t : ℕ) (s : State) → MayTake (StandsFor most) s (Step t) → IsWhole s → IsAlive s t
+alive_for_step most t s may whole = alive s t may.past may.now.agrees whole may.formed.0
+
+-- the thread has the calls that the code found
+pub has_found : (s : State) (t : ℕ) (was : Stamped) (c now : Calls) → Has s t was c → value_of s.calls t ≡ Some now → Has s t was now
+has_found s t was c now has here = record { rising = has.rising; stamps = has.stamps; calls = here }
+
+pub whole_after : (most : ℕ) (ticks : Bool) (s : State) (new : Clock) (t : ℕ) (v : Calls) → IsWhole s → IsAdvanced most ticks (clock_of s) new →
+    IsWhole (record (with_clock new s) { calls = with_value s.calls t v })
+whole_after most ticks s new t v whole step = record {
+  same = numbers-with s.calls t v ∙ whole.same ∙ sym step.same;
+  marked = λ w h. whole.marked w (sym (step.covered w) ∙ h);
+}
+
+pub step_fits : (most t : ℕ) (s : State) (c : Calls) → MayTake (StandsFor most) s (Step t) → IsWhole s → value_of s.calls t ≡ Some c → c.counts.steps + 1 < 2 ^ 64
+step_fits most t s c may whole here =
+    let a = alive_for_step most t s may whole in
+    few_steps s t may.past a.was c may.now.agrees (omega (arith, may.formed.1)) (has_found s t a.was a.calls c a.has here)
+
+pub stepped : (most t : ℕ) (ticks : Bool) (s : State) (c after : Calls) (new : Clock) → MayTake (StandsFor most) s (Step t) → IsWhole s → value_of s.calls t ≡ Some c →
+    ticks ≡ is_switch s.last t → IsAdvanced most ticks (clock_of s) new → after ≡ record c { counts = record c.counts { steps = c.counts.steps + 1 } } →
+    table_of_state (record (with_clock new s) { calls = with_value s.calls t after; last = Some t; weight = s.weight + 1 })
+    ≡ table_after (bounded_tick most) (Step t) (table_of_state s)
+stepped most t b s c after new may whole here is step more =
+    let a = alive_for_step most t s may whole in
+    ap (λ (k : Calls). table_of_state (record (with_clock new s) { calls = with_value s.calls t k; last = Some t; weight = s.weight + 1 })) more
+    ∙ step_made most t s a.was c new (has_found s t a.was a.calls c a.has here) (subst (λ (b : Bool). IsAdvanced most b (clock_of s) new) is step)

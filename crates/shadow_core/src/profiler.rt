@@ -1,0 +1,130 @@
+//! The online profiler.
+ghost use Rattle.std.specs.Prelude.{◌≡◌, List, IfOk, length};
+ghost use Rattle.trace_model.specs.declared.event_kinds.Event.{Event};
+ghost use Rattle.trace_model.specs.declared.event_kinds.Event.TheVariants.{Step};
+ghost use Rattle.trace_model.specs.Depth.{pending};
+ghost use Rattle.trace_model.specs.Observing.{MayTake};
+ghost use Rattle.stamp_renumber.specs.Threads.{all_starts};
+ghost use Rattle.shadow_core.specs.Counting.{renumberings};
+ghost use Rattle.shadow_core.specs.Profiling.{StandsFor};
+ghost use Rattle.shadow_core.specs.State.{table_of_state};
+ghost use Rattle.shadow_core.specs.Renewal.{bounded_tick};
+ghost use Rattle.shadow_core.specs.Table.{empty_table};
+ghost use Rattle.shadow_core.specs.Ticks.{is_switch, table_after};
+
+use crate::advance::advance;
+use crate::calls::ThreadCalls;
+use guest_words::{ByThread, Tid};
+use shadow_pages::Shadow;
+use stamp_lanes::Lanes;
+use stamp_renumber::Threads;
+use std::alloc::{AllocError, Global};
+use std::marker::Model;
+
+/// A profiler: it keeps the stamp table of the events so far, and no event.
+#[derive(Drop)]
+pub struct Profiler<S: Lanes> {
+    alloc: Global,
+    counter: u32,
+    writes: Shadow<S>,
+    marks: Shadow<u8>,
+    threads: Threads<S>,
+    calls: ByThread<ThreadCalls>,
+    last: Option<Tid>,
+    greatest: u32,
+    weight: u64,
+    renumbered: u64,
+}
+
+impl<S: Lanes> Model for Profiler<S> {
+    ghost use Rattle.shadow_core.specs.Profiling.{IsWhole};
+    ghost use Rattle.shadow_core.specs.State.{State};
+
+    ghost Value = { State };
+
+    ghost view = { λ p. record {
+      counter = p.counter;
+      writes = p.writes.pages;
+      marks = p.marks.pages;
+      live = p.threads;
+      calls = p.calls.list;
+      last = p.last;
+      greatest = p.greatest;
+      weight = p.weight;
+      renumbered = p.renumbered;
+    } };
+
+    ghost invariant = { λ p. IsWhole (record {
+      counter = p.counter;
+      writes = p.writes.pages;
+      marks = p.marks.pages;
+      live = p.threads;
+      calls = p.calls.list;
+      last = p.last;
+      greatest = p.greatest;
+      weight = p.weight;
+      renumbered = p.renumbered;
+    }) };
+}
+
+impl<S: Lanes> Profiler<S> {
+    /// No event so far.
+    pub fn new(alloc: Global) -> Result<Profiler<S>, AllocError>
+        ensures { IfOk result (λ p. table_of_state p ≡ empty_table) }
+    {
+        Ok(Profiler {
+            alloc,
+            counter: 0,
+            writes: Shadow::new(alloc)?,
+            marks: Shadow::new(alloc)?,
+            threads: Threads::new(alloc)?,
+            calls: ByThread::new(alloc),
+            last: None,
+            greatest: 0,
+            weight: 0,
+            renumbered: 0,
+        })
+    }
+
+    /// How many activations are open.
+    pub fn pending(&self) -> u64
+        ensures value { result ≡ length (all_starts self.now.live.threads) }
+        ensures stands { (past : List Event) → StandsFor S.MAX self.now past → result ≡ pending past }
+    {
+        self.threads.frame_count() as u64
+    }
+
+    /// How often the stamps were renumbered.
+    pub fn renumbered(&self) -> u64
+        ensures value { result ≡ self.now.renumbered }
+        ensures stands { (past : List Event) → StandsFor S.MAX self.now past → result ≡ renumberings S.MAX past }
+    {
+        self.renumbered
+    }
+    // A step of a thread that lives.
+    fn step(&mut self, tid: Tid)
+        requires { MayTake (StandsFor S.MAX) self.old (Step tid) }
+        ensures { table_of_state self.new ≡ table_after (bounded_tick S.MAX) (Step tid) (table_of_state self.old) }
+    {
+        advance(
+            is_switch(self.last, tid),
+            &mut self.threads,
+            &mut self.writes,
+            &mut self.counter,
+            &mut self.renumbered,
+        );
+        self.calls.get_mut(tid).unwrap().add_step();
+        self.last = Some(tid);
+        self.weight += 1;
+    }
+}
+
+/// Whether a step is by another thread than the step before. The first step is no switch.
+fn is_switch(last: Option<Tid>, tid: Tid) -> bool
+    ensures { result ≡ is_switch last tid }
+{
+    match last {
+        Some(last) => last != tid,
+        None => false,
+    }
+}
