@@ -1,5 +1,5 @@
 -- A read of words of one page, at once or one by one.
-use Rattle.std.proofs.Common.{◌≡◌, ◌≢◌, ℕ, zero, suc, ◌+◌, ◌<◌, ◌≤◌, ◌^◌, Bool, true, false, cond, ◌&&◌, List, [], ◌∷◌, ◌++◌, length, map, get_or, reverse, count_by, Option, Some, None, refl, sym, ap, subst, ◌∙◌, arith, pos}
+use Rattle.std.proofs.Common.{◌≡◌, ◌≢◌, ℕ, zero, suc, ◌+◌, ◌<◌, ◌≤◌, ◌^◌, Bool, true, false, cond, ◌&&◌, List, [], ◌∷◌, ◌++◌, length, map, reverse, count_by, refl, sym, ap, subst, ◌∙◌, arith, pos}
 use Rattle.std.specs.Prelude.{All, IfSome, ◌==◌, is_some, slice_get, slice_index}
 use Rattle.std.specs.List.{range_with_len}
 use Rattle.std.proofs.lemmas.Bool.{eq-eqb}
@@ -18,7 +18,6 @@ use Rattle.shadow_pages.specs.Pages.{Page, covers, in_range, stamp_at}
 use Rattle.stamp_renumber.specs.LentThread.{with_pages}
 use Rattle.stamp_renumber.specs.Threads.{Live, frames_of, pages_of}
 use Rattle.shadow_core.specs.Allows.{AreWithin, IsWithin}
-use Rattle.shadow_core.specs.Frames.{frames_after_reads}
 use Rattle.shadow_core.specs.Reading.{IsChanged, IsRead, places_at}
 use Rattle.shadow_core.specs.Stands.{IsFalling}
 use Rattle.shadow_core.proofs.Kept.{falling-weaker}
@@ -32,9 +31,10 @@ abbrev SumsWithin : ℕ → Frame → Type 0
 SumsWithin most f = IsWithin most f.sums.plain × IsWithin most f.sums.bare
 
 more_fits : (most more : ℕ) (s by : Sums) → most + more < 2 ^ 63 → IsWithin most s.plain × IsWithin most s.bare → IsWithin more by.plain × IsWithin more by.bare → FitsSums (plus s by)
-more_fits most more s by room within small =
-    ((omega (arith, ints, room, within.0, small.0), omega (arith, ints, room, within.0, small.0)),
-     (omega (arith, ints, room, within.1, small.1), omega (arith, ints, room, within.1, small.1)))
+more_fits most more s by room within small = (
+  (omega (arith, ints, room, within.0, small.0), omega (arith, ints, room, within.0, small.0)),
+  (omega (arith, ints, room, within.1, small.1), omega (arith, ints, room, within.1, small.1)),
+)
 
 pub some_fits : (most more i : ℕ) (by : Sums) (fs : List Frame) → most + more < 2 ^ 63 → AreWithin most fs → IsWithin more by.plain × IsWithin more by.bare → IfSome (slice_get fs i) (λ f. FitsSums (plus f.sums by))
 some_fits most more i by [] room within small = tt
@@ -55,9 +55,11 @@ falls [] rising some = (0, tt)
 falls (s ∷ ss) rising some =
     let rest = falls ss (λ i j lt in'. rising (suc i) (suc j) (omega (arith, lt)) (omega (arith, in'))) (All-tail (λ s. 0 < s) s ss some) in
     let above : All (λ r. s < r) ss = λ k d lt. subst (λ (r : ℕ). s < r) (sym (get_or_default ss k d 0 lt)) (rising 0 (suc k) (omega arith) (omega (arith, lt))) in
-    let limit = rest.0 + s + 1 in
-    (limit, subst (IsFalling limit) (sym (reverse-append (s ∷ []) ss))
-      (falls_append limit s (reverse ss) (falling-weaker rest.0 limit (reverse ss) (omega arith) rest.1) (All-reverse (λ r. s < r) ss above) (All-head (λ s. 0 < s) s ss some) (omega arith)))
+    let limit = rest.0 + s + 1 in (
+      limit,
+      subst (IsFalling limit) (sym (reverse-append (s ∷ []) ss))
+          (falls_append limit s (reverse ss) (falling-weaker rest.0 limit (reverse ss) (omega arith) rest.1) (All-reverse (λ r. s < r) ss above) (All-head (λ s. 0 < s) s ss some) (omega arith)),
+    )
 
 -- ---- the places
 columns : (own write marks : ℕ → ℕ) (words : List ℕ) → places (map own words) (map write words) (map marks words) ≡ places_at own write marks words

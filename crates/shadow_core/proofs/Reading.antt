@@ -1,6 +1,6 @@
 -- What reads of words make of frames and stamps, as the code makes them.
-use Rattle.std.proofs.Common.{inl, inr, ◌≢◌, ◌≡◌, ℕ, zero, suc, ◌+◌, ◌<◌, ◌≤◌, ◌^◌, Bool, true, false, cond, leb, List, [], ◌∷◌, ◌++◌, length, reverse, Option, Some, None, refl, sym, ap, subst, ◌∙◌, arith, pos, negsuc}
-use Rattle.std.specs.Prelude.{All, IfSome, ◌≤ℤ◌, is_some, slice_get, slice_index}
+use Rattle.std.proofs.Common.{inl, inr, ◌≢◌, ◌≡◌, ℕ, zero, suc, ◌+◌, ◌<◌, ◌≤◌, ◌^◌, Bool, true, false, cond, leb, List, [], ◌∷◌, ◌++◌, length, reverse, Option, Some, None, refl, sym, ap, subst, ◌∙◌, arith, pos}
+use Rattle.std.specs.Prelude.{All, IfSome, is_some, slice_get, slice_index}
 use Rattle.std.specs.Prelude.{◌==◌}
 use Rattle.std.specs.List.{range_with_len}
 use Rattle.std.specs.Option.{option_map_or}
@@ -8,7 +8,7 @@ use Rattle.std.proofs.lemmas.Bool.{cases_eq, eq-eqb}
 use Rattle.guest_words.proofs.ThreadTables.{value_of-with}
 use Rattle.std.proofs.lemmas.Int.{ints}
 use Rattle.std.proofs.lemmas.List.FromFn.{length-map-range_with_len}
-use Rattle.std.proofs.lemmas.List.{append_assoc, length-map, length-reverse, map-append, reverse-append, reverse-reverse}
+use Rattle.std.proofs.lemmas.List.{length-map, map-append, reverse-append, reverse-reverse}
 use Rattle.std.proofs.lemmas.Bool.Decides.{nat_tests}
 use Rattle.std.proofs.lemmas.List.Elements.{All-nil, All-cons, All-append, All-head, All-tail}
 use Rattle.guest_words.specs.ByThread.{value_of, with_value}
@@ -32,9 +32,10 @@ abbrev SumsWithin : ℕ → Frame → Type 0
 SumsWithin most f = IsWithin most f.sums.plain × IsWithin most f.sums.bare
 
 sum_fits : (most : ℕ) (s : Sums) (by : Sums) → most + 1 < 2 ^ 63 → IsWithin most s.plain × IsWithin most s.bare → AreSmall by → FitsSums (plus s by)
-sum_fits most s by room within small =
-    ((omega (arith, ints, room, within.0, small.0), omega (arith, ints, room, within.0, small.0)),
-     (omega (arith, ints, room, within.1, small.1), omega (arith, ints, room, within.1, small.1)))
+sum_fits most s by room within small = (
+  (omega (arith, ints, room, within.0, small.0), omega (arith, ints, room, within.0, small.0)),
+  (omega (arith, ints, room, within.1, small.1), omega (arith, ints, room, within.1, small.1)),
+)
 
 pub one_fits : (most i : ℕ) (by : Sums) (fs : List Frame) → most + 1 < 2 ^ 63 → AreWithin most fs → AreSmall by → IfSome (slice_get fs i) (λ f. FitsSums (plus f.sums by))
 one_fits most i by [] room within small = tt
@@ -144,8 +145,8 @@ module _ (old mid new : Live) (t top : ℕ) (p : Place) (place : Option ℕ) (by
   moved =
       let there = lives_changed old mid t (taken by place fs) (pages_of old.threads t) lives first in
       ap (reverse {A = Frame}) (frames_changed mid new t (added top by (frames_of mid.threads t)) (pages_of mid.threads t) there second
-        ∙ ap (added top by) (frames_changed old mid t (taken by place fs) (pages_of old.threads t) lives first)
-        ∙ ap (λ s. added top s (taken s place fs)) counted)
+      ∙ ap (added top by) (frames_changed old mid t (taken by place fs) (pages_of old.threads t) lives first)
+      ∙ ap (λ s. added top s (taken s place fs)) counted)
       ∙ reads_where_found p place top fs (subst (λ (gs : List Frame). IsLastAtMost (starts_of gs) p.own place) is last) long
 
   pub moved_alone : IsChanged old new t (frames_of new.threads t) (pages_of old.threads t)
@@ -331,7 +332,7 @@ module _ (old new : Live) (t : ℕ) (write marks : ℕ → ℕ) (first n stamp :
       }
 
   pub read_within : (most : ℕ) → AreWithin most (frames_of old.threads t) → AreWithin (most + n) (frames_of new.threads t)
-  read_within most within = 
+  read_within most within =
       let places = places_at (stamp_at (pages_of old.threads t)) write marks (range_with_len first n) in
       let size : length places ≡ n = length-map-range_with_len (λ (l : ℕ). record { own = stamp_at (pages_of old.threads t) l; write = write l; mark = marks l }) first n in
       let after = reads_within most places (reverse (frames_of old.threads t)) (All-reverse (SumsWithin most) (frames_of old.threads t) within) in

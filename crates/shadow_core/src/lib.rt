@@ -6,10 +6,10 @@
 mod advance;
 mod calls;
 mod laws;
+mod profiler;
 mod reads;
 mod rows;
 mod writes;
-mod profiler;
 
 pub use laws::{
     a_table_tells_what_may_follow, a_tick_is_by_parts, a_tick_keeps_the_table,

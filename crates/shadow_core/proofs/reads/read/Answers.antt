@@ -1,6 +1,6 @@
-use Rattle.std.proofs.Common.{◌≡◌, ◌∙◌, ◌+◌, ◌≤◌, ◌<◌, ◌^◌, ℕ, List, ap, sym, subst, arith, refl}
+use Rattle.std.proofs.Common.{◌+◌, ◌<◌, ◌^◌, sym, subst, arith, refl}
 use Rattle.std.specs.Prelude.{All}
-use Rattle.shadow_pages.specs.Pages.{covers, stamp_at}
+use Rattle.shadow_pages.specs.Pages.{stamp_at}
 use Rattle.stamp_lanes.specs.Plain.{is_by_kernel, is_by_thread}
 use Rattle.stamp_renumber.specs.Threads.{frames_of, pages_of}
 use Rattle.shadow_core.proofs.PartReads.{count_few, counts_on}

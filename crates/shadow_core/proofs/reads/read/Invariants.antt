@@ -1,4 +1,4 @@
-use Rattle.std.proofs.Common.{◌-◌, ◌≡◌, ◌≤◌, ℕ, count_by}
+use Rattle.std.proofs.Common.{◌-◌, ◌≡◌, ◌≤◌, count_by}
 use Rattle.std.specs.List.{range_with_len}
 use Rattle.shadow_pages.specs.Pages.{stamp_at}
 use Rattle.stamp_lanes.specs.Plain.{is_by_kernel, is_by_thread}

@@ -1,11 +1,10 @@
-use Rattle.std.proofs.Common.{◌≡◌, ◌∙◌, ◌+◌, ◌-◌, ◌<◌, ◌≤◌, ◌^◌, ℕ, List, length, ap, sym, subst, arith}
+use Rattle.std.proofs.Common.{◌+◌, ◌-◌, ◌≤◌, ◌^◌, ℕ, List, length, ap, sym, subst, arith}
 use Rattle.std.specs.Prelude.{slice_index}
 use Rattle.stamp_lanes.specs.Plain.{Place}
-use Rattle.shadow_stack.specs.Frames.{Frame, Stack, added, starts_of}
-use Rattle.stamp_renumber.specs.Threads.{Live, frames_of, pages_of}
+use Rattle.shadow_stack.specs.Frames.{Frame, Stack, starts_of}
+use Rattle.stamp_renumber.specs.Threads.{frames_of, pages_of}
 use Rattle.shadow_core.specs.Allows.{AreWithin}
 use Rattle.shadow_core.specs.Parts.{taken}
-use Rattle.shadow_core.specs.Reading.{IsChanged}
 use Rattle.shadow_core.proofs.Reading.{frames_changed, length_taken, lives_changed, moved, moved_alone, not_changed, one_fits, small_back, taken_within, unmoved}
 use Rattle.shadow_core.proofs.reads.read_frames.Goals as goal
 

@@ -1,16 +1,14 @@
-use Rattle.std.proofs.Common.{◌≡◌, ◌≢◌, ◌∙◌, ◌+◌, ◌-◌, ◌≤◌, ◌<◌, ◌^◌, ℕ, List, length, map, ap, sym, subst, arith}
-use Rattle.std.proofs.lemmas.List.{length-map}
+use Rattle.std.proofs.Common.{◌≡◌, ◌∙◌, ◌+◌, ◌-◌, ◌^◌, ℕ, List, length, map, ap, sym, subst, arith}
 use Rattle.std.specs.Prelude.{◌==◌}
-use Rattle.std.specs.List.{range_with_len}
 use Rattle.stamp_lanes.specs.Plain.{IsBulk, Place}
 use Rattle.shadow_stack.specs.declared.sums.Sums.{Sums}
-use Rattle.shadow_stack.specs.Frames.{Frame, Stack, starts_of}
+use Rattle.shadow_stack.specs.Frames.{Frame, Stack}
 use Rattle.shadow_pages.specs.Pages.{Pages, covers, stamp_at}
 use Rattle.stamp_renumber.specs.LentThread.{with_pages}
 use Rattle.stamp_renumber.specs.Threads.{Live, frames_of, pages_of}
 use Rattle.shadow_core.specs.Allows.{AreWithin, IsWithin}
-use Rattle.shadow_core.specs.Reading.{IsRead, places_at}
-use Rattle.shadow_core.proofs.PartReads.{frames_lent, lives_lent, number_within, pages_lent, places_are, read_at_once, read_singly, some_fits, stamps_from}
+use Rattle.shadow_core.specs.Reading.{IsRead}
+use Rattle.shadow_core.proofs.PartReads.{number_within, places_are, read_at_once, read_singly, some_fits, stamps_from}
 use Rattle.shadow_core.proofs.Reading.{frames_changed, lent_changed, lives_changed, pages_changed}
 use Rattle.shadow_core.proofs.reads.read_part.Goals as goal
 use Rattle.shadow_core.proofs.reads.read_part.Goals.{then-bulk-eq0, else-bulk-eq0}
@@ -37,8 +35,10 @@ add_sum-requires-clause-fits g c =
     let most : ℕ = 2 ^ 62 + 2 ^ 30 in
     let bulk = c.read_page-bulk.result in
     let by = c.sums_of_bulk.result in
-    let small : IsWithin (2 ^ 32) by.plain × IsWithin (2 ^ 32) by.bare = (subst (λ (s : Sums). IsWithin (2 ^ 32) s.plain) (sym c.sums_of_bulk.ensures) (number_within bulk.plain (2 ^ 32) (omega arith)),
-      subst (λ (s : Sums). IsWithin (2 ^ 32) s.bare) (sym c.sums_of_bulk.ensures) (number_within bulk.untouched (2 ^ 32) (omega arith))) in
+    let small : IsWithin (2 ^ 32) by.plain × IsWithin (2 ^ 32) by.bare = (
+      subst (λ (s : Sums). IsWithin (2 ^ 32) s.plain) (sym c.sums_of_bulk.ensures) (number_within bulk.plain (2 ^ 32) (omega arith)),
+      subst (λ (s : Sums). IsWithin (2 ^ 32) s.bare) (sym c.sums_of_bulk.ensures) (number_within bulk.untouched (2 ^ 32) (omega arith)),
+    ) in
     some_fits most (2 ^ 32) (c.depth-top.result - 1) by (frames_of (with_pages old c.args.tid pages).threads c.args.tid) (omega arith)
     (subst (λ (gs : List Frame). AreWithin most gs) (sym same) c.requires.sums) small
 
@@ -105,13 +105,13 @@ returns-clause-read g c =
       | then-bulk-eq0 w ↦
           subst (λ (l : Live). IsRead old l t write marks c.args.first n (f c.args.now)) (sym w.threads-is)
           (read_at_once old t pages write marks c.args.first n (f c.args.now) bulk c.requires.lives stamps covered
-            w.add_sum.new.self (c.depth-top.result - 1) (f c.start_at-start.result) w.sums_of_bulk.result c.frames-2.result.now.list
-            w.if-bulk-eq0.true w.sums_of_bulk.ensures
-            (record { threads = w.add_sum.ensures.threads; kept = w.add_sum.ensures.kept; marks = w.add_sum.ensures.marks })
-            counts (ap (λ (s : Stack). s.list) c.frames-2.ensures) c.start_at-start.ensures.start c.start_at-start.ensures.rising c.requires.starts
-            (omega (arith, size, c.depth-top.ensures, c.requires.depth)))
+          w.add_sum.new.self (c.depth-top.result - 1) (f c.start_at-start.result) w.sums_of_bulk.result c.frames-2.result.now.list
+          w.if-bulk-eq0.true w.sums_of_bulk.ensures
+          (record { threads = w.add_sum.ensures.threads; kept = w.add_sum.ensures.kept; marks = w.add_sum.ensures.marks })
+          counts (ap (λ (s : Stack). s.list) c.frames-2.ensures) c.start_at-start.ensures.start c.start_at-start.ensures.rising c.requires.starts
+          (omega (arith, size, c.depth-top.ensures, c.requires.depth)))
       | else-bulk-eq0 w ↦
           subst (λ (l : Live). IsRead old l t write marks c.args.first n (f c.args.now)) (sym w.threads-is)
           (read_singly old t pages write marks c.args.first n (f c.args.now) bulk c.requires.lives stamps covered
-            w.read_words.new.threads w.if-bulk-eq0.false (w.read_words.ensures marks))
+          w.read_words.new.threads w.if-bulk-eq0.false (w.read_words.ensures marks))
     ]

@@ -1,4 +1,4 @@
-use Rattle.std.proofs.Common.{◌≡◌, ◌∙◌, ℕ, ap, sym}
+use Rattle.std.proofs.Common.{◌∙◌, ap}
 use Rattle.stamp_lanes.specs.Plain.{Place}
 use Rattle.shadow_pages.specs.Pages.{Pages, covers, stamp_at}
 use Rattle.stamp_renumber.specs.Threads.{frames_of, pages_of}

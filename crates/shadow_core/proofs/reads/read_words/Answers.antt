@@ -1,7 +1,6 @@
-use Rattle.std.proofs.Common.{◌≡◌, ◌∙◌, ◌+◌, ◌^◌, ℕ, ap, sym, subst, arith}
-use Rattle.shadow_pages.specs.Pages.{covers, stamp_at}
-use Rattle.stamp_renumber.specs.Threads.{frames_of, pages_of}
-use Rattle.shadow_core.specs.Allows.{AreWithin}
+use Rattle.std.proofs.Common.{◌∙◌, ◌+◌, ◌^◌, ℕ, subst, arith}
+use Rattle.shadow_pages.specs.Pages.{stamp_at}
+use Rattle.stamp_renumber.specs.Threads.{frames_of}
 use Rattle.shadow_core.proofs.Reading.{length_read, lives_read, nothing_read, read_on, read_within, within_more}
 use Rattle.shadow_core.specs.Reading.{IsRead}
 use Rattle.shadow_core.proofs.reads.read_words.Goals as goal

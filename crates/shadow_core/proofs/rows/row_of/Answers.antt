@@ -1,4 +1,4 @@
-use Rattle.std.proofs.Common.{◌≡◌, ◌∙◌, ◌≤◌, ℕ, length, map, take, ap, sym, arith}
+use Rattle.std.proofs.Common.{◌≡◌, ◌∙◌, length, map, take, ap, sym, arith}
 use Rattle.std.proofs.lemmas.List.{length-map, length-take-le, take-map}
 use Rattle.shadow_pages.specs.Pages.{stamp_at}
 use Rattle.stamp_renumber.proofs.Words.{zeros_long}
