@@ -25,3 +25,5 @@ pub mod StateTold
 pub mod StateEvents
 pub mod Advanced
 pub mod Profiled
+pub mod Marked
+pub mod Accessed
