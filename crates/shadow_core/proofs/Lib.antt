@@ -25,3 +25,4 @@ pub mod StateTold
 pub mod StateEvents
 pub mod Advanced
 pub mod Profiled
+pub mod ReadEvents
