@@ -27,3 +27,4 @@ pub mod Advanced
 pub mod Profiled
 pub mod Marked
 pub mod Accessed
+pub mod ReadEvents

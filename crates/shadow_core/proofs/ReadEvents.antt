@@ -1,0 +1,142 @@
+-- What holds of a profiler that may take a read, and what a read makes of its state.
+use Rattle.std.proofs.Common.{◌≡◌, ℕ, ◌+◌, ◌<◌, ◌≤◌, ◌^◌, true, List, [], ◌∷◌, length, refl, sym, ap, subst, ◌∙◌, arith}
+use Rattle.std.specs.Prelude.{All, Option, count_by, is_some, reverse}
+use Rattle.std.specs.List.{range_with_len}
+use Rattle.std.specs.Option.{option_map_or}
+use Rattle.std.proofs.lemmas.List.{length-map, length-reverse, reverse-reverse}
+use Rattle.std.proofs.lemmas.List.Elements.{All-cons, All-nil}
+use Rattle.guest_words.specs.ByThread.{value_of, with_value}
+use Rattle.guest_words.proofs.ThreadTables.{numbers-with}
+use Rattle.trace_model.specs.declared.event_kinds.Event.{Event}
+use Rattle.trace_model.specs.declared.event_kinds.Event.TheVariants.{Read}
+use Rattle.trace_model.specs.Observing.{MayTake}
+use Rattle.trace_model.specs.WellFormed.{weight, weight_of}
+use Rattle.stamp_lanes.specs.Plain.{is_by_kernel, is_by_thread}
+use Rattle.shadow_stack.specs.Frames.{Frame, starts_of}
+use Rattle.shadow_pages.specs.Pages.{Page, stamp_at}
+use Rattle.stamp_renumber.specs.LentThread.{with_pages}
+use Rattle.stamp_renumber.specs.Threads.{Live, Stamped, frames_of, pages_of, stamped}
+use Rattle.shadow_core.specs.Allows.{AreWithin, IsWithin}
+use Rattle.shadow_core.specs.Frames.{frames_after_reads}
+use Rattle.shadow_core.specs.Profiling.{IsWhole, StandsFor}
+use Rattle.shadow_core.specs.Reading.{IsRead, places_at}
+use Rattle.shadow_core.specs.Renewal.{bounded_tick}
+use Rattle.shadow_core.specs.Stands.{IsFalling, Stands}
+use Rattle.shadow_core.specs.State.{Calls, State, table_of_state}
+use Rattle.shadow_core.specs.StateRows.{Has}
+use Rattle.shadow_core.specs.Table.{Table, Thread}
+use Rattle.shadow_core.specs.Table.{stamped as stamped_as}
+use Rattle.shadow_core.specs.Ticks.{table_after}
+use Rattle.shadow_core.proofs.Profiled.{alive}
+use Rattle.shadow_core.proofs.Reading.{All-reverse, lent_changed, starts_reverse, within_more}
+use Rattle.shadow_core.proofs.Room.{counts_stay_within, pops_stay_within}
+use Rattle.shadow_core.proofs.StateEvents.{event_is_made, no_tick_is_made}
+use Rattle.shadow_core.proofs.StateRows.{reads_by_parts}
+use Rattle.shadow_core.proofs.StateTold.{room_is_not_told, thread_is_told}
+use Rattle.shadow_core.proofs.There.{has_frame}
+
+-- What a read asks of the parts.
+pub record MayRead (s : State) (t first count : ℕ) : Type 0 where
+  pub was : Stamped
+  pub calls : Calls
+  pub has : Has s t was calls
+  pub some : 1 ≤ count
+  pub words : first + count ≤ 2 ^ 30
+  pub lives : is_some (value_of s.live.threads t) ≡ true
+  pub depth : 1 ≤ length (frames_of s.live.threads t)
+  pub starts : All (λ r. 0 < r) (starts_of (frames_of s.live.threads t))
+  pub sums : AreWithin (2 ^ 62) (frames_of s.live.threads t)
+  -- the counts have room for the words
+  pub thread : calls.counts.thread + count < 2 ^ 64
+  pub kernel : calls.counts.kernel + count < 2 ^ 64
+
+-- the frames and the pages of a thread that is there
+frames_had : (s : State) (t : ℕ) (was : Stamped) (c : Calls) → Has s t was c → frames_of s.live.threads t ≡ was.frames
+frames_had s t was c has = ap (λ (o : Option Stamped). option_map_or (λ (x : Stamped). x.frames) o []) has.stamps
+
+pages_had : (s : State) (t : ℕ) (was : Stamped) (c : Calls) → Has s t was c → pages_of s.live.threads t ≡ was.pages
+pages_had s t was c has = ap (λ (o : Option Stamped). option_map_or (λ (x : Stamped). x.pages) o []) has.stamps
+
+none_is_zero : (limit : ℕ) (ss : List ℕ) → IsFalling limit ss → All (λ r. 0 < r) ss
+none_is_zero limit [] falling = All-nil (λ r. 0 < r)
+none_is_zero limit (s ∷ ss) falling = All-cons (λ r. 0 < r) s ss falling.0 (none_is_zero s ss falling.2)
+
+pub may_read : (most t first count : ℕ) (s : State) → MayTake (StandsFor most) s (Read t first count) → IsWhole s → MayRead s t first count
+may_read most t first count s may whole =
+    let agrees = may.now.agrees in
+    let follows = may.formed.0 in
+    let light = may.formed.1 in
+    let a = alive s t may.past agrees whole follows.0.0 in
+    let fs = a.was.frames in
+    let thread : Thread = record { frames = reverse fs; calls = a.calls.list; access = stamp_at a.was.pages; counts = a.calls.counts } in
+    let found = thread_is_told s t a.was a.calls a.has in
+    let stands = agrees.threads t thread found in
+    let had = frames_had s t a.was a.calls a.has in
+    let frame = has_frame (table_of_state s) may.past t thread agrees.formed follows.0.0 stands in
+    let counts = counts_stay_within (table_of_state s) may.past t thread agrees found in
+    let sums : AreWithin (2 ^ 62) (reverse fs) = within_more (weight may.past) (2 ^ 62) (reverse fs) (omega (arith, light)) (pops_stay_within (table_of_state s) may.past t 0 thread agrees found) in
+    let starts : All (λ r. 0 < r) (reverse (starts_of fs)) = subst (All (λ r. 0 < r)) (starts_reverse fs) (none_is_zero (s.counter + 1) (starts_of (reverse fs)) stands.falling) in
+    record {
+      was = a.was;
+      calls = a.calls;
+      has = a.has;
+      some = follows.1.0;
+      words = follows.1.1;
+      lives = ap (λ (o : Option Stamped). is_some o) a.has.stamps;
+      depth = omega (arith, frame, length-map (reverse fs) (λ (f : Frame). f.start), length-reverse fs, ap (λ (gs : List Frame). length gs) had);
+      starts =
+          subst (λ (gs : List Frame). All (λ r. 0 < r) (starts_of gs)) (sym had)
+          (subst (All (λ r. 0 < r)) (reverse-reverse (starts_of fs)) (All-reverse (λ r. 0 < r) (reverse (starts_of fs)) starts));
+      sums =
+          subst (λ (gs : List Frame). AreWithin (2 ^ 62) gs) (sym had)
+          (subst (λ (gs : List Frame). AreWithin (2 ^ 62) gs) (reverse-reverse fs) (All-reverse (λ (f : Frame). IsWithin (2 ^ 62) f.sums.plain × IsWithin (2 ^ 62) f.sums.bare) (reverse fs) sums));
+      thread = omega (arith, counts.1, light);
+      kernel = omega (arith, counts.2, light);
+    }
+
+-- ---- more pages
+-- where the tables are the same, the same event may come
+pub may_same : (most : ℕ) (e : Event) (s now : State) → table_of_state now ≡ table_of_state s → MayTake (StandsFor most) s e → MayTake (StandsFor most) now e
+may_same most e s now same may = record { past = may.past; now = subst (λ (table : Table). Stands most table may.past) (sym same) may.now; formed = may.formed }
+
+-- a thread with more pages
+abbrev pub with_room : State → ℕ → List Page → State
+with_room s t pages = record s { live = with_pages s.live t pages }
+
+pub room_changes_nothing : (s : State) (t : ℕ) (pages : List Page) (was : Stamped) (c : Calls) → Has s t was c → ((w : ℕ) → stamp_at pages w ≡ stamp_at (pages_of s.live.threads t) w) →
+    table_of_state (with_room s t pages) ≡ table_of_state s
+room_changes_nothing s t pages was c has same =
+    let live = with_pages s.live t pages in
+    let lent = lent_changed s.live t pages (ap (λ (o : Option Stamped). is_some o) has.stamps) in
+    room_is_not_told s t live was (stamped live.threads t (frames_of s.live.threads t) pages) has.rising has.stamps lent.threads (frames_had s t was c has)
+    (λ l. same l ∙ ap (λ ps. stamp_at ps l) (pages_had s t was c has))
+
+pub whole_with_room : (s : State) (t : ℕ) (pages : List Page) → IsWhole s → IsWhole (with_room s t pages)
+whole_with_room s t pages whole = record { same = whole.same ∙ sym (numbers-with s.live.threads t _); marked = whole.marked }
+
+-- ---- the read
+-- the calls with what was counted
+abbrev pub with_found : ℕ → ℕ → Calls → Calls
+with_found thread kernel c = record c { counts = record c.counts { thread = c.counts.thread + thread; kernel = c.counts.kernel + kernel } }
+
+pub read_made : (most t first count thread kernel : ℕ) (s : State) (live : Live) (was : Stamped) (c : Calls) → Has s t was c →
+    IsRead s.live live t (stamp_at s.writes) (stamp_at s.marks) first count s.counter →
+    thread ≡ count_by is_by_thread (places_at (stamp_at (pages_of s.live.threads t)) (stamp_at s.writes) (stamp_at s.marks) (range_with_len first count)) →
+    kernel ≡ count_by is_by_kernel (places_at (stamp_at (pages_of s.live.threads t)) (stamp_at s.writes) (stamp_at s.marks) (range_with_len first count)) →
+    table_of_state (record s { live = live; calls = with_value s.calls t (with_found thread kernel c); weight = s.weight + weight_of (Read t first count) })
+    ≡ table_after (bounded_tick most) (Read t first count) (table_of_state s)
+read_made most t first count thread kernel s live was c has read threads kernels =
+    let write = stamp_at s.writes in
+    let marks = stamp_at s.marks in
+    let words = range_with_len first count in
+    let pages = pages_had s t was c has in
+    let frames = frames_had s t was c has in
+    let is = stamped live.threads t (frames_of live.threads t) (pages_of live.threads t) in
+    let by_thread : thread ≡ count_by is_by_thread (places_at (stamp_at was.pages) write marks words) = threads ∙ ap (λ ps. count_by is_by_thread (places_at (stamp_at ps) write marks words)) pages in
+    let by_kernel : kernel ≡ count_by is_by_kernel (places_at (stamp_at was.pages) write marks words) = kernels ∙ ap (λ ps. count_by is_by_kernel (places_at (stamp_at ps) write marks words)) pages in
+    let new : State = record s { live = live; calls = with_value s.calls t (with_found thread kernel c) } in
+    event_is_made most (Read t first count) s s new (no_tick_is_made most (Read t first count) s refl)
+    ((λ i. table_of_state (record s { live = live; calls = with_value s.calls t (with_found (by_thread i) (by_kernel i) c) }))
+      ∙ reads_by_parts s t first count live was is c has read.changed.threads
+      (read.frames ∙ (λ i. frames_after_reads (places_at (stamp_at (pages i)) write marks words) (reverse (frames i))))
+      (λ l. read.stamps l ∙ ap (λ ps. stamped_as s.counter first count (stamp_at ps) l) pages))
