@@ -28,3 +28,4 @@ pub mod Profiled
 pub mod Marked
 pub mod Accessed
 pub mod ReadEvents
+pub mod Begun

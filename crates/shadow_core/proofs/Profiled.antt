@@ -1,6 +1,6 @@
 -- What holds of a profiler that may take an event.
 use Rattle.std.proofs.Common.{◌≡◌, Ok, Err, ℕ, ◌+◌, ◌*◌, ◌<◌, ◌≤◌, ◌^◌, Bool, MutBor, true, false, cond, List, [], ◌∷◌, length, Some, None, refl, sym, ap, subst, ◌∙◌, arith}
-use Rattle.std.specs.Prelude.{◌==◌, ◌&&◌, not, nat_lt, is_some, reverse, OnErr, Option, Result}
+use Rattle.std.specs.Prelude.{◌==◌, ◌&&◌, not, nat_lt, is_some, reverse, OnErr, OnOk, Option, Result}
 use Rattle.std.specs.Option.{IsSome, option_copied_mut}
 use Rattle.guest_words.proofs.ThreadTables.{numbers-with}
 use Rattle.guest_words.specs.ByThread.{IsRising, numbers, value_of, with_value}
@@ -175,3 +175,7 @@ lives_here s t a = ap is_some a.has.stamps
 pub on_err : {T E X : Type 0} (r : Result T E) → X → OnErr r X
 on_err (Ok v) x = tt
 on_err (Err e) x = x
+
+-- and where it was taken, what holds then
+pub when_ok : {T E X : Type 0} (r : Result T E) (v : T) → r ≡ Ok v → OnOk r X → X
+when_ok {T} {E} {X} r v is h = subst (λ (k : Result T E). OnOk k X) is h

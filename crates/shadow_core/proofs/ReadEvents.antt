@@ -137,6 +137,6 @@ read_made most t first count thread kernel s live was c has read threads kernels
     let new : State = record s { live = live; calls = with_value s.calls t (with_found thread kernel c) } in
     event_is_made most (Read t first count) s s new (no_tick_is_made most (Read t first count) s refl)
     ((λ i. table_of_state (record s { live = live; calls = with_value s.calls t (with_found (by_thread i) (by_kernel i) c) }))
-      ∙ reads_by_parts s t first count live was is c has read.changed.threads
-      (read.frames ∙ (λ i. frames_after_reads (places_at (stamp_at (pages i)) write marks words) (reverse (frames i))))
-      (λ l. read.stamps l ∙ ap (λ ps. stamped_as s.counter first count (stamp_at ps) l) pages))
+    ∙ reads_by_parts s t first count live was is c has read.changed.threads
+    (read.frames ∙ (λ i. frames_after_reads (places_at (stamp_at (pages i)) write marks words) (reverse (frames i))))
+    (λ l. read.stamps l ∙ ap (λ ps. stamped_as s.counter first count (stamp_at ps) l) pages))

@@ -1,7 +1,7 @@
 //! The online profiler.
 ghost use Rattle.std.specs.Prelude.{◌≡◌, List, IfOk, IsOk, OnErr, OnOk, length};
 ghost use Rattle.trace_model.specs.declared.event_kinds.Event.{Event};
-ghost use Rattle.trace_model.specs.declared.event_kinds.Event.TheVariants.{Fill, Step, Write};
+ghost use Rattle.trace_model.specs.declared.event_kinds.Event.TheVariants.{Call, Fill, Step, Write};
 ghost use Rattle.trace_model.specs.Depth.{pending};
 ghost use Rattle.trace_model.specs.Observing.{MayTake};
 ghost use Rattle.shadow_pages.specs.Pages.{AreCovered};
@@ -17,7 +17,7 @@ use crate::advance::advance;
 use crate::calls::ThreadCalls;
 use crate::cover::{cover, cover_own};
 use crate::writes::{fill, write};
-use guest_words::{ByThread, Tid, Word};
+use guest_words::{Addr, ByThread, Tid, Word};
 use shadow_pages::Shadow;
 use stamp_lanes::Lanes;
 use stamp_renumber::Threads;
@@ -161,6 +161,27 @@ impl<S: Lanes> Profiler<S> {
             count,
             now,
         );
+        self.weight += 1;
+        Ok(())
+    }
+
+    // A call by the thread that runs.
+    fn call(&mut self, tid: Tid, entry: Addr, back: Addr) -> Result<(), AllocError>
+        requires { MayTake (StandsFor S.MAX) self.old (Call tid entry back) }
+        ensures table { OnOk result (table_of_state self.new ≡ table_after (bounded_tick S.MAX) (Call tid entry back) (table_of_state self.old)) }
+        ensures refused { OnErr result (table_of_state self.new ≡ table_of_state self.old) }
+    {
+        self.threads.reserve(tid)?;
+        self.calls.get_mut(tid).unwrap().push(entry, back)?;
+        advance(
+            true,
+            &mut self.threads,
+            &mut self.writes,
+            &mut self.counter,
+            &mut self.renumbered,
+        );
+        let now = S::from_number(self.counter);
+        self.threads.push(tid, now).unwrap();
         self.weight += 1;
         Ok(())
     }
