@@ -26,3 +26,5 @@ pub mod StateEvents
 pub mod Advanced
 pub mod Profiled
 pub mod ReadEvents
+pub mod Marked
+pub mod Accessed

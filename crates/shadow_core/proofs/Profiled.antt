@@ -1,6 +1,6 @@
 -- What holds of a profiler that may take an event.
-use Rattle.std.proofs.Common.{◌≡◌, ℕ, ◌+◌, ◌*◌, ◌<◌, ◌≤◌, ◌^◌, Bool, MutBor, true, false, cond, List, [], ◌∷◌, length, Some, None, refl, sym, ap, subst, ◌∙◌, arith}
-use Rattle.std.specs.Prelude.{◌==◌, ◌&&◌, not, nat_lt, is_some, reverse, Option}
+use Rattle.std.proofs.Common.{◌≡◌, Ok, Err, ℕ, ◌+◌, ◌*◌, ◌<◌, ◌≤◌, ◌^◌, Bool, MutBor, true, false, cond, List, [], ◌∷◌, length, Some, None, refl, sym, ap, subst, ◌∙◌, arith}
+use Rattle.std.specs.Prelude.{◌==◌, ◌&&◌, not, nat_lt, is_some, reverse, OnErr, Option, Result}
 use Rattle.std.specs.Option.{IsSome, option_copied_mut}
 use Rattle.guest_words.proofs.ThreadTables.{numbers-with}
 use Rattle.guest_words.specs.ByThread.{IsRising, numbers, value_of, with_value}
@@ -158,3 +158,20 @@ stepped most t b s c after new may whole here is step more =
     let a = alive_for_step most t s may whole in
     ap (λ (k : Calls). table_of_state (record (with_clock new s) { calls = with_value s.calls t k; last = Some t; weight = s.weight + 1 })) more
     ∙ step_made most t s a.was c new (has_found s t a.was a.calls c a.has here) (subst (λ (b : Bool). IsAdvanced most b (clock_of s) new) is step)
+
+-- a tick may come, by the fields that the code has
+pub advance_here : (most : ℕ) (e : Event) (s now : State) → s ≡ now → MayTake (StandsFor most) now e → MayAdvance most e s
+advance_here most e s now is may = may_advance most e s (subst (λ (k : State). MayTake (StandsFor most) k e) (sym is) may)
+
+-- a thread lives, by the fields that the code has
+pub alive_here : (most : ℕ) (e : Event) (t : ℕ) (s now : State) → s ≡ now → (may : MayTake (StandsFor most) now e) → IsWhole s → is_live may.past t ≡ true → IsAlive s t
+alive_here most e t s now is may whole lives = alive s t may.past (subst (λ (k : State). Agrees (table_of_state k) may.past) (sym is) may.now.agrees) whole lives
+
+-- and so it is one of the threads with stamps
+pub lives_here : (s : State) (t : ℕ) → IsAlive s t → is_some (value_of s.live.threads t) ≡ true
+lives_here s t a = ap is_some a.has.stamps
+
+-- what holds anyway holds where a call was refused
+pub on_err : {T E X : Type 0} (r : Result T E) → X → OnErr r X
+on_err (Ok v) x = tt
+on_err (Err e) x = x

@@ -5,6 +5,7 @@
 
 mod advance;
 mod calls;
+mod cover;
 mod laws;
 mod profiler;
 mod reads;

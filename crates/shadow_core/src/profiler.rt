@@ -1,10 +1,11 @@
 //! The online profiler.
-ghost use Rattle.std.specs.Prelude.{◌≡◌, List, IfOk, length};
+ghost use Rattle.std.specs.Prelude.{◌≡◌, List, IfOk, IsOk, OnErr, OnOk, length};
 ghost use Rattle.trace_model.specs.declared.event_kinds.Event.{Event};
-ghost use Rattle.trace_model.specs.declared.event_kinds.Event.TheVariants.{Step};
+ghost use Rattle.trace_model.specs.declared.event_kinds.Event.TheVariants.{Fill, Step, Write};
 ghost use Rattle.trace_model.specs.Depth.{pending};
 ghost use Rattle.trace_model.specs.Observing.{MayTake};
-ghost use Rattle.stamp_renumber.specs.Threads.{all_starts};
+ghost use Rattle.shadow_pages.specs.Pages.{AreCovered};
+ghost use Rattle.stamp_renumber.specs.Threads.{all_starts, pages_of};
 ghost use Rattle.shadow_core.specs.Counting.{renumberings};
 ghost use Rattle.shadow_core.specs.Profiling.{StandsFor};
 ghost use Rattle.shadow_core.specs.State.{table_of_state};
@@ -14,7 +15,9 @@ ghost use Rattle.shadow_core.specs.Ticks.{is_switch, table_after};
 
 use crate::advance::advance;
 use crate::calls::ThreadCalls;
-use guest_words::{ByThread, Tid};
+use crate::cover::{cover, cover_own};
+use crate::writes::{fill, write};
+use guest_words::{ByThread, Tid, Word};
 use shadow_pages::Shadow;
 use stamp_lanes::Lanes;
 use stamp_renumber::Threads;
@@ -116,6 +119,50 @@ impl<S: Lanes> Profiler<S> {
         self.calls.get_mut(tid).unwrap().add_step();
         self.last = Some(tid);
         self.weight += 1;
+    }
+
+    // A fill by the kernel.
+    fn fill(&mut self, first: Word, count: u32) -> Result<(), AllocError>
+        requires { MayTake (StandsFor S.MAX) self.old (Fill first count) }
+        ensures table { OnOk result (table_of_state self.new ≡ table_after (bounded_tick S.MAX) (Fill first count) (table_of_state self.old)) }
+        ensures refused { OnErr result (table_of_state self.new ≡ table_of_state self.old) }
+        ensures no_memory { AreCovered self.old.writes first count → IsOk result }
+    {
+        cover(&mut self.writes, &mut self.marks, first, count)?;
+        advance(
+            true,
+            &mut self.threads,
+            &mut self.writes,
+            &mut self.counter,
+            &mut self.renumbered,
+        );
+        let now = S::from_number(self.counter);
+        fill(&mut self.writes, &mut self.marks, first, count, now);
+        self.weight += 1;
+        Ok(())
+    }
+
+    // A write by the thread that runs.
+    fn write(&mut self, tid: Tid, first: Word, count: u32) -> Result<(), AllocError>
+        requires { MayTake (StandsFor S.MAX) self.old (Write tid first count) }
+        ensures table { OnOk result (table_of_state self.new ≡ table_after (bounded_tick S.MAX) (Write tid first count) (table_of_state self.old)) }
+        ensures refused { OnErr result (table_of_state self.new ≡ table_of_state self.old) }
+        ensures no_memory { AreCovered (pages_of self.old.live.threads tid) first count → AreCovered self.old.writes first count → IsOk result }
+    {
+        cover_own(&mut self.threads, tid, first, count)?;
+        cover(&mut self.writes, &mut self.marks, first, count)?;
+        let now = S::from_number(self.counter);
+        write(
+            &mut self.threads,
+            tid,
+            &mut self.writes,
+            &mut self.marks,
+            first,
+            count,
+            now,
+        );
+        self.weight += 1;
+        Ok(())
     }
 }
 

@@ -1,0 +1,34 @@
+use Rattle.std.proofs.Common.{◌≡◌, ◌∙◌, ℕ, ap, cond}
+use Rattle.trace_model.specs.declared.event_kinds.Event.TheVariants.{Fill}
+use Rattle.shadow_pages.specs.Pages.{in_range, stamp_at}
+use Rattle.shadow_core.specs.Renewal.{bounded_tick}
+use Rattle.shadow_core.specs.State.{State, table_of_state}
+use Rattle.shadow_core.specs.Ticks.{table_after}
+use Rattle.shadow_core.proofs.Accessed.{filled}
+use Rattle.shadow_core.proofs.Profiled.{advance_here}
+use Rattle.shadow_core.proofs.profiler.Profiler.fill.Goals as goal
+
+pub advance-requires-clause-within : goal.advance-requires-clause-within
+advance-requires-clause-within g c = (advance_here g.S.Stamp.MAX (Fill c.args.first c.args.count) _ _ c.self.view_is c.requires).within
+
+pub advance-requires-clause-room : goal.advance-requires-clause-room
+advance-requires-clause-room g c = (advance_here g.S.Stamp.MAX (Fill c.args.first c.args.count) _ _ c.self.view_is c.requires).room
+
+pub advance-requires-clause-rising : goal.advance-requires-clause-rising
+advance-requires-clause-rising g c = (advance_here g.S.Stamp.MAX (Fill c.args.first c.args.count) _ _ c.self.view_is c.requires).rising
+
+pub advance-requires-clause-few : goal.advance-requires-clause-few
+advance-requires-clause-few g c = (advance_here g.S.Stamp.MAX (Fill c.args.first c.args.count) _ _ c.self.view_is c.requires).few
+
+pub returns-clause-table : goal.returns-clause-table
+returns-clause-table g c =
+    let first = c.args.first in
+    let count = c.args.count in
+    let covered = c.cover.ensures in
+    let number : g.S.Stamp.number_of c.from_number-now.result ≡ c.advance.new.counter =
+    ap g.S.Stamp.number_of c.from_number-now.ensures ∙ g.met.S.Stamp.number_back c.advance.new.counter c.advance.ensures.within in
+    filled g.S.Stamp.MAX first count _ c.cover.new.writes.pages c.cover.new.marks.pages _ c.fill.new.writes.pages c.fill.new.marks.pages
+    covered.stamps covered.kinds c.advance.ensures
+    (λ w. c.fill.ensures.writes.stamps w ∙ ap (λ (n : ℕ). cond (in_range first count w) n (stamp_at c.advance.new.writes.pages w)) number)
+    c.fill.ensures.marks.stamps
+    ∙ ap (λ (k : State). table_after (bounded_tick g.S.Stamp.MAX) (Fill first count) (table_of_state k)) c.self.view_is

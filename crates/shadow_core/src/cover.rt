@@ -1,0 +1,50 @@
+//! Memory for the stamps of words.
+ghost use Rattle.std.specs.Prelude.{◌≡◌, ◌+◌, ◌^◌, ◌≤◌, ℕ, true, is_some, IsOk, OnOk};
+ghost use Rattle.guest_words.specs.ByThread.{value_of};
+ghost use Rattle.shadow_pages.specs.Pages.{AreCovered, covers, stamp_at};
+ghost use Rattle.stamp_renumber.specs.Threads.{frames_of, pages_of};
+ghost use Rattle.shadow_core.specs.Reading.{IsChanged};
+
+use guest_words::{Tid, Word};
+use shadow_pages::Shadow;
+use stamp_lanes::Lanes;
+use stamp_renumber::Threads;
+use stamps::Stamp;
+use std::alloc::AllocError;
+
+/// Makes the pages of a range of words that are not there, of write stamps and of marks. No stamp changes.
+pub(crate) fn cover<S: Stamp>(
+    writes: &mut Shadow<S>,
+    marks: &mut Shadow<u8>,
+    first: Word,
+    count: u32,
+) -> Result<(), AllocError>
+    requires end { first + count ≤ 2 ^ 30 }
+    requires marked { (w : ℕ) → covers writes.old.pages w ≡ true → covers marks.old.pages w ≡ true }
+    ensures writes { OnOk result (AreCovered writes.new.pages first count) }
+    ensures marks { OnOk result (AreCovered marks.new.pages first count) }
+    ensures marked { (w : ℕ) → covers writes.new.pages w ≡ true → covers marks.new.pages w ≡ true }
+    ensures stamps { (w : ℕ) → stamp_at writes.new.pages w ≡ stamp_at writes.old.pages w }
+    ensures kinds { (w : ℕ) → stamp_at marks.new.pages w ≡ stamp_at marks.old.pages w }
+    ensures covered { AreCovered writes.old.pages first count → IsOk result }
+{
+    marks.reserve(first, count)?;
+    writes.reserve(first, count)
+}
+
+/// Makes the pages of a range of words that are not there, of the thread's access stamps. No stamp changes.
+pub(crate) fn cover_own<S: Lanes>(
+    threads: &mut Threads<S>,
+    tid: Tid,
+    first: Word,
+    count: u32,
+) -> Result<(), AllocError>
+    requires end { first + count ≤ 2 ^ 30 }
+    requires lives { is_some (value_of threads.old.threads tid) ≡ true }
+    ensures changed { IsChanged threads.old threads.new tid (frames_of threads.old.threads tid) (pages_of threads.new.threads tid) }
+    ensures stamps { (w : ℕ) → stamp_at (pages_of threads.new.threads tid) w ≡ stamp_at (pages_of threads.old.threads tid) w }
+    ensures ok { OnOk result (AreCovered (pages_of threads.new.threads tid) first count) }
+    ensures covered { AreCovered (pages_of threads.old.threads tid) first count → IsOk result }
+{
+    threads.shadow_mut(tid).reserve(first, count)
+}
