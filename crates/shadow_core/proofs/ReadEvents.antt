@@ -1,11 +1,11 @@
 -- What holds of a profiler that may take a read, and what a read makes of its state.
-use Rattle.std.proofs.Common.{◌≡◌, ℕ, ◌+◌, ◌<◌, ◌≤◌, ◌^◌, true, List, [], ◌∷◌, length, refl, sym, ap, subst, ◌∙◌, arith}
+use Rattle.std.proofs.Common.{None, Some, ◌≡◌, ℕ, ◌+◌, ◌<◌, ◌≤◌, ◌^◌, true, List, [], ◌∷◌, length, refl, sym, ap, subst, ◌∙◌, arith}
 use Rattle.std.specs.Prelude.{All, Option, count_by, is_some, reverse}
 use Rattle.std.specs.List.{range_with_len}
 use Rattle.std.specs.Option.{option_map_or}
 use Rattle.std.proofs.lemmas.List.{length-map, length-reverse, reverse-reverse}
 use Rattle.std.proofs.lemmas.List.Elements.{All-cons, All-nil}
-use Rattle.guest_words.specs.ByThread.{value_of, with_value}
+use Rattle.guest_words.specs.ByThread.{numbers, value_of, with_value}
 use Rattle.guest_words.proofs.ThreadTables.{numbers-with}
 use Rattle.trace_model.specs.declared.event_kinds.Event.{Event}
 use Rattle.trace_model.specs.declared.event_kinds.Event.TheVariants.{Read}
@@ -14,25 +14,25 @@ use Rattle.trace_model.specs.WellFormed.{weight, weight_of}
 use Rattle.stamp_lanes.specs.Plain.{is_by_kernel, is_by_thread}
 use Rattle.shadow_stack.specs.Frames.{Frame, starts_of}
 use Rattle.shadow_pages.specs.Pages.{Page, stamp_at}
-use Rattle.stamp_renumber.specs.LentThread.{with_pages}
 use Rattle.stamp_renumber.specs.Threads.{Live, Stamped, frames_of, pages_of, stamped}
 use Rattle.shadow_core.specs.Allows.{AreWithin, IsWithin}
 use Rattle.shadow_core.specs.Frames.{frames_after_reads}
 use Rattle.shadow_core.specs.Profiling.{IsWhole, StandsFor}
-use Rattle.shadow_core.specs.Reading.{IsRead, places_at}
+use Rattle.shadow_core.specs.Reading.{IsChanged, IsRead, places_at}
 use Rattle.shadow_core.specs.Renewal.{bounded_tick}
 use Rattle.shadow_core.specs.Stands.{IsFalling, Stands}
 use Rattle.shadow_core.specs.State.{Calls, State, table_of_state}
 use Rattle.shadow_core.specs.StateRows.{Has}
-use Rattle.shadow_core.specs.Table.{Table, Thread}
+use Rattle.shadow_core.specs.Table.{Table, Thread, empty_table}
 use Rattle.shadow_core.specs.Table.{stamped as stamped_as}
 use Rattle.shadow_core.specs.Ticks.{table_after}
-use Rattle.shadow_core.proofs.Profiled.{alive}
-use Rattle.shadow_core.proofs.Reading.{All-reverse, lent_changed, starts_reverse, within_more}
+use Rattle.shadow_core.proofs.Accessed.{own_room, whole_changed}
+use Rattle.shadow_core.proofs.Profiled.{alive, has_found}
+use Rattle.shadow_core.proofs.Reading.{All-reverse, starts_reverse, within_more}
 use Rattle.shadow_core.proofs.Room.{counts_stay_within, pops_stay_within}
 use Rattle.shadow_core.proofs.StateEvents.{event_is_made, no_tick_is_made}
 use Rattle.shadow_core.proofs.StateRows.{reads_by_parts}
-use Rattle.shadow_core.proofs.StateTold.{room_is_not_told, thread_is_told}
+use Rattle.shadow_core.proofs.StateTold.{empty_is_told, thread_is_told}
 use Rattle.shadow_core.proofs.There.{has_frame}
 
 -- What a read asks of the parts.
@@ -99,21 +99,6 @@ may_read most t first count s may whole =
 pub may_same : (most : ℕ) (e : Event) (s now : State) → table_of_state now ≡ table_of_state s → MayTake (StandsFor most) s e → MayTake (StandsFor most) now e
 may_same most e s now same may = record { past = may.past; now = subst (λ (table : Table). Stands most table may.past) (sym same) may.now; formed = may.formed }
 
--- a thread with more pages
-abbrev pub with_room : State → ℕ → List Page → State
-with_room s t pages = record s { live = with_pages s.live t pages }
-
-pub room_changes_nothing : (s : State) (t : ℕ) (pages : List Page) (was : Stamped) (c : Calls) → Has s t was c → ((w : ℕ) → stamp_at pages w ≡ stamp_at (pages_of s.live.threads t) w) →
-    table_of_state (with_room s t pages) ≡ table_of_state s
-room_changes_nothing s t pages was c has same =
-    let live = with_pages s.live t pages in
-    let lent = lent_changed s.live t pages (ap (λ (o : Option Stamped). is_some o) has.stamps) in
-    room_is_not_told s t live was (stamped live.threads t (frames_of s.live.threads t) pages) has.rising has.stamps lent.threads (frames_had s t was c has)
-    (λ l. same l ∙ ap (λ ps. stamp_at ps l) (pages_had s t was c has))
-
-pub whole_with_room : (s : State) (t : ℕ) (pages : List Page) → IsWhole s → IsWhole (with_room s t pages)
-whole_with_room s t pages whole = record { same = whole.same ∙ sym (numbers-with s.live.threads t _); marked = whole.marked }
-
 -- ---- the read
 -- the calls with what was counted
 abbrev pub with_found : ℕ → ℕ → Calls → Calls
@@ -140,3 +125,68 @@ read_made most t first count thread kernel s live was c has read threads kernels
     ∙ reads_by_parts s t first count live was is c has read.changed.threads
     (read.frames ∙ (λ i. frames_after_reads (places_at (stamp_at (pages i)) write marks words) (reverse (frames i))))
     (λ l. read.stamps l ∙ ap (λ ps. stamped_as s.counter first count (stamp_at ps) l) pages))
+
+-- ---- the whole event
+-- the thread has pages for the words, in `more`
+module _ (most t first count : ℕ) (s now : State) (more : Live) (is : s ≡ now) (may : MayTake (StandsFor most) now (Read t first count)) (whole : IsWhole s)
+    (changed : IsChanged s.live more t (frames_of s.live.threads t) (pages_of more.threads t)) (stamps : (w : ℕ) → stamp_at (pages_of more.threads t) w ≡ stamp_at (pages_of s.live.threads t) w) where
+  may_here : MayTake (StandsFor most) s (Read t first count)
+  may_here = subst (λ (k : State). MayTake (StandsFor most) k (Read t first count)) (sym is) may
+
+  abbrev large : State
+  large = record s { live = more }
+
+  pub same_there : table_of_state large ≡ table_of_state s
+  same_there = let m = may_read most t first count s may_here whole in own_room s t m.was m.calls more m.has changed stamps
+
+  pub may_read_there : MayRead large t first count
+  may_read_there =
+      may_read most t first count large (may_same most (Read t first count) s large same_there may_here)
+      (whole_changed s t more (frames_of s.live.threads t) (pages_of more.threads t) whole changed)
+
+  -- what is found fits
+  pub found_fits : (thread kernel : ℕ) (c : Calls) → value_of s.calls t ≡ Some c → thread ≤ count → kernel ≤ count → (c.counts.thread + thread < 2 ^ 64) × (c.counts.kernel + kernel < 2 ^ 64)
+  found_fits thread kernel c here few few' =
+      let m = may_read_there in
+      let one : Some m.calls ≡ Some c = sym m.has.calls ∙ here in
+      let same : m.calls ≡ c = cc in
+      (omega (arith, m.thread, few, ap (λ (k : Calls). k.counts.thread) same), omega (arith, m.kernel, few', ap (λ (k : Calls). k.counts.kernel) same))
+
+  module _ (live : Live) (thread kernel stamp : ℕ) (read : IsRead more live t (stamp_at s.writes) (stamp_at s.marks) first count stamp) where
+    pub whole_read : (after : Calls) (heavier : ℕ) → IsWhole (record s { live = live; calls = with_value s.calls t after; weight = heavier })
+    whole_read after heavier = record {
+      same =
+          numbers-with s.calls t after
+          ∙ whole.same
+          ∙ sym (ap (λ (xs : List (ℕ × Stamped)). numbers xs) read.changed.threads ∙ numbers-with more.threads t _ ∙ ap (λ (xs : List (ℕ × Stamped)). numbers xs) changed.threads ∙ numbers-with s.live.threads t _);
+      marked = whole.marked;
+    }
+
+    pub read_whole : (c after : Calls) (heavier : ℕ) → value_of s.calls t ≡ Some c → stamp ≡ s.counter →
+        thread ≡ count_by is_by_thread (places_at (stamp_at (pages_of more.threads t)) (stamp_at s.writes) (stamp_at s.marks) (range_with_len first count)) →
+        kernel ≡ count_by is_by_kernel (places_at (stamp_at (pages_of more.threads t)) (stamp_at s.writes) (stamp_at s.marks) (range_with_len first count)) →
+        after ≡ with_found thread kernel c → heavier ≡ s.weight + weight_of (Read t first count) →
+        table_of_state (record s { live = live; calls = with_value s.calls t after; weight = heavier }) ≡ table_after (bounded_tick most) (Read t first count) (table_of_state now)
+    read_whole c after heavier here counter threads kernels counted weighed =
+        let m = may_read_there in
+        (λ i. table_of_state (record s { live = live; calls = with_value s.calls t (counted i); weight = weighed i }))
+        ∙ read_made most t first count thread kernel large live m.was c (has_found large t m.was m.calls c m.has here)
+        (subst (λ (n : ℕ). IsRead more live t (stamp_at s.writes) (stamp_at s.marks) first count n) counter read) threads kernels
+        ∙ ap (λ (table : Table). table_after (bounded_tick most) (Read t first count) table) (same_there ∙ ap table_of_state is)
+
+-- ---- no event
+pub nothing_told : (writes marks : List Page) (live : Live) (calls : List (ℕ × Calls)) → writes ≡ [] → marks ≡ [] → live.threads ≡ [] →
+    table_of_state (record { counter = 0; writes = writes; marks = marks; live = live; calls = calls; last = None; greatest = 0; weight = 0; renumbered = 0 }) ≡ empty_table
+nothing_told writes marks live calls unwritten unmarked none =
+    (λ i. table_of_state (record {
+      counter = 0;
+      writes = unwritten i;
+      marks = unmarked i;
+      live = record live { threads = none i };
+      calls = calls;
+      last = None;
+      greatest = 0;
+      weight = 0;
+      renumbered = 0;
+    }))
+    ∙ empty_is_told (record live { threads = [] }) refl

@@ -103,4 +103,18 @@ impl ThreadCalls {
             kernel: counts.kernel,
         };
     }
+
+    /// The words that a read found written by another thread, and by the kernel.
+    pub(crate) fn add_found(&mut self, thread: u64, kernel: u64)
+        requires thread { self.old.counts.thread + thread < 2 ^ 64 }
+        requires kernel { self.old.counts.kernel + kernel < 2 ^ 64 }
+        ensures { self.new ≡ record self.old { counts = record self.old.counts { thread = self.old.counts.thread + thread; kernel = self.old.counts.kernel + kernel } } }
+    {
+        let counts = self.counts;
+        self.counts = Tally {
+            steps: counts.steps,
+            thread: counts.thread + thread,
+            kernel: counts.kernel + kernel,
+        };
+    }
 }

@@ -1,7 +1,7 @@
 //! The online profiler.
 ghost use Rattle.std.specs.Prelude.{◌≡◌, List, IfOk, IsOk, OnErr, OnOk, length};
 ghost use Rattle.trace_model.specs.declared.event_kinds.Event.{Event};
-ghost use Rattle.trace_model.specs.declared.event_kinds.Event.TheVariants.{Call, Fill, Step, Write};
+ghost use Rattle.trace_model.specs.declared.event_kinds.Event.TheVariants.{Call, Fill, Read, Step, Write};
 ghost use Rattle.trace_model.specs.Depth.{pending};
 ghost use Rattle.trace_model.specs.Observing.{MayTake};
 ghost use Rattle.shadow_pages.specs.Pages.{AreCovered};
@@ -16,6 +16,8 @@ ghost use Rattle.shadow_core.specs.Ticks.{is_switch, table_after};
 use crate::advance::advance;
 use crate::calls::ThreadCalls;
 use crate::cover::{cover, cover_own};
+use crate::reads::read;
+use crate::rows::ZeroRows;
 use crate::writes::{fill, write};
 use guest_words::{Addr, ByThread, Tid, Word};
 use shadow_pages::Shadow;
@@ -37,6 +39,7 @@ pub struct Profiler<S: Lanes> {
     greatest: u32,
     weight: u64,
     renumbered: u64,
+    zeros: ZeroRows<S>,
 }
 
 impl<S: Lanes> Model for Profiler<S> {
@@ -86,6 +89,7 @@ impl<S: Lanes> Profiler<S> {
             greatest: 0,
             weight: 0,
             renumbered: 0,
+            zeros: ZeroRows::new(alloc)?,
         })
     }
 
@@ -183,6 +187,31 @@ impl<S: Lanes> Profiler<S> {
         let now = S::from_number(self.counter);
         self.threads.push(tid, now).unwrap();
         self.weight += 1;
+        Ok(())
+    }
+
+    // A read by the thread that runs.
+    fn read(&mut self, tid: Tid, first: Word, count: u32) -> Result<(), AllocError>
+        requires { MayTake (StandsFor S.MAX) self.old (Read tid first count) }
+        ensures table { OnOk result (table_of_state self.new ≡ table_after (bounded_tick S.MAX) (Read tid first count) (table_of_state self.old)) }
+        ensures refused { OnErr result (table_of_state self.new ≡ table_of_state self.old) }
+        ensures no_memory { AreCovered (pages_of self.old.live.threads tid) first count → IsOk result }
+    {
+        cover_own(&mut self.threads, tid, first, count)?;
+        let now = S::from_number(self.counter);
+        let found = read(
+            &mut self.threads,
+            tid,
+            first,
+            count,
+            &self.writes,
+            &self.marks,
+            &self.zeros,
+            now,
+        );
+        let calls = self.calls.get_mut(tid).unwrap();
+        calls.add_found(found.thread, found.kernel);
+        self.weight += 1 + u64::from(count);
         Ok(())
     }
 }
