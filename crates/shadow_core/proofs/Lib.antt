@@ -29,3 +29,4 @@ pub mod Marked
 pub mod Accessed
 pub mod ReadEvents
 pub mod Begun
+pub mod Started

@@ -179,3 +179,7 @@ on_err (Err e) x = x
 -- and where it was taken, what holds then
 pub when_ok : {T E X : Type 0} (r : Result T E) (v : T) → r ≡ Ok v → OnOk r X → X
 when_ok {T} {E} {X} r v is h = subst (λ (k : Result T E). OnOk k X) is h
+
+pub on_ok : {T E X : Type 0} (r : Result T E) → X → OnOk r X
+on_ok (Ok v) x = x
+on_ok (Err e) x = tt

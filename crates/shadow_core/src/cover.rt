@@ -1,8 +1,8 @@
 //! Memory for the stamps of words.
-ghost use Rattle.std.specs.Prelude.{◌≡◌, ◌+◌, ◌^◌, ◌≤◌, ℕ, true, is_some, IsOk, OnOk};
-ghost use Rattle.guest_words.specs.ByThread.{value_of};
+ghost use Rattle.std.specs.Prelude.{◌≡◌, ◌+◌, ◌^◌, ◌<◌, ◌≤◌, ◌++◌, ◌∷◌, [], ℕ, true, is_some, All, IsOk, OnErr, OnOk};
+ghost use Rattle.guest_words.specs.ByThread.{numbers, value_of};
 ghost use Rattle.shadow_pages.specs.Pages.{AreCovered, covers, stamp_at};
-ghost use Rattle.stamp_renumber.specs.Threads.{frames_of, pages_of};
+ghost use Rattle.stamp_renumber.specs.Threads.{frames_of, pages_of, spare_of, stamped};
 ghost use Rattle.shadow_core.specs.Reading.{IsChanged};
 
 use guest_words::{Tid, Word};
@@ -47,4 +47,19 @@ pub(crate) fn cover_own<S: Lanes>(
     ensures covered { AreCovered (pages_of threads.old.threads tid) first count → IsOk result }
 {
     threads.shadow_mut(tid).reserve(first, count)
+}
+
+/// One more thread, whose number is above all others, with room for its first frame. A refused one changes no thread.
+pub(crate) fn add_with_room<S: Lanes>(threads: &mut Threads<S>, tid: Tid) -> Result<(), AllocError>
+    requires above { All (λ n. n < tid) (numbers threads.old.threads) }
+    ensures ok { OnOk result (threads.new.threads ≡ threads.old.threads ++ (tid, stamped threads.new.threads tid [] []) ∷ []) }
+    ensures room { OnOk result ((1 ≤ spare_of threads.new.threads tid) × (1 ≤ threads.new.marks)) }
+    ensures err { OnErr result (threads.new.threads ≡ threads.old.threads) }
+{
+    threads.add(tid)?;
+    let reserved = threads.reserve(tid);
+    if reserved.is_err() {
+        threads.remove(tid);
+    }
+    reserved
 }

@@ -1,7 +1,7 @@
 //! The online profiler.
 ghost use Rattle.std.specs.Prelude.{◌≡◌, List, IfOk, IsOk, OnErr, OnOk, length};
 ghost use Rattle.trace_model.specs.declared.event_kinds.Event.{Event};
-ghost use Rattle.trace_model.specs.declared.event_kinds.Event.TheVariants.{Call, Fill, Read, Step, Write};
+ghost use Rattle.trace_model.specs.declared.event_kinds.Event.TheVariants.{Call, Fill, Read, Start, Step, Write};
 ghost use Rattle.trace_model.specs.Depth.{pending};
 ghost use Rattle.trace_model.specs.Observing.{MayTake};
 ghost use Rattle.shadow_pages.specs.Pages.{AreCovered};
@@ -15,7 +15,7 @@ ghost use Rattle.shadow_core.specs.Ticks.{is_switch, table_after};
 
 use crate::advance::advance;
 use crate::calls::ThreadCalls;
-use crate::cover::{cover, cover_own};
+use crate::cover::{add_with_room, cover, cover_own};
 use crate::reads::read;
 use crate::rows::ZeroRows;
 use crate::writes::{fill, write};
@@ -165,6 +165,30 @@ impl<S: Lanes> Profiler<S> {
             count,
             now,
         );
+        self.weight += 1;
+        Ok(())
+    }
+
+    // A thread starts, with its first activation.
+    fn start(&mut self, tid: Tid, entry: Addr) -> Result<(), AllocError>
+        requires { MayTake (StandsFor S.MAX) self.old (Start tid entry) }
+        ensures table { OnOk result (table_of_state self.new ≡ table_after (bounded_tick S.MAX) (Start tid entry) (table_of_state self.old)) }
+        ensures refused { OnErr result (table_of_state self.new ≡ table_of_state self.old) }
+    {
+        let calls = ThreadCalls::first(self.alloc, entry)?;
+        self.calls.reserve(1)?;
+        add_with_room(&mut self.threads, tid)?;
+        self.calls.insert(tid, calls).unwrap();
+        advance(
+            true,
+            &mut self.threads,
+            &mut self.writes,
+            &mut self.counter,
+            &mut self.renumbered,
+        );
+        let now = S::from_number(self.counter);
+        self.threads.push(tid, now).unwrap();
+        self.greatest = tid.number();
         self.weight += 1;
         Ok(())
     }
