@@ -30,3 +30,4 @@ pub mod Accessed
 pub mod ReadEvents
 pub mod Begun
 pub mod Started
+pub mod Popped

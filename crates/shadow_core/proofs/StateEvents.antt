@@ -45,7 +45,7 @@ threads_stay s live writes t was c all h =
     let found = still_there s.live.threads live.threads all.same t was h.stamps in
     (found.0, record { rising = subst IsRising (sym all.same) h.rising; stamps = found.1; calls = h.calls })
 
-stamped_value : (live : List (ℕ × Stamped)) (t : ℕ) (was is : Stamped) → value_of live t ≡ Some was → value_of (with_value live t is) t ≡ Some is
+pub stamped_value : (live : List (ℕ × Stamped)) (t : ℕ) (was is : Stamped) → value_of live t ≡ Some was → value_of (with_value live t is) t ≡ Some is
 stamped_value live t was is found = value_of-with live t is was found t ∙ own_test t (Some is) (value_of live t)
 
 pub stamped_is_there : StampedIsThere

@@ -22,3 +22,4 @@ pub mod StateWords
 pub mod StateTold
 pub mod StateEvents
 pub mod Profiling
+pub mod Ending

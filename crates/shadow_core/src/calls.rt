@@ -1,6 +1,7 @@
 //! The open calls of a thread, and what it counts.
-ghost use Rattle.std.specs.Prelude.{◌≡◌, ◌+◌, ◌<◌, ◌^◌, ◌∷◌, [], None, Some, IfOk, OnErr, OnOk};
-ghost use Rattle.shadow_core.specs.Table.{no_counts};
+ghost use Rattle.std.specs.Prelude.{◌≡◌, ◌+◌, ◌-◌, ◌<◌, ◌≤◌, ◌^◌, ◌∷◌, [], None, Some, IfNone, IfOk, IfSome, OnErr, OnOk, length, map, reverse};
+ghost use Rattle.trace_model.specs.Activations.{count_returned};
+ghost use Rattle.shadow_core.specs.Table.{OpenCall, no_counts};
 
 use guest_words::Addr;
 use std::alloc::{AllocError, Global};
@@ -24,6 +25,21 @@ impl Model for Tally {
     ghost inverse = { λ c. record { steps = c.steps; thread = c.thread; kernel = c.kernel } };
 }
 
+impl Tally {
+    /// What was counted since: steps, words of other threads and words of the kernel.
+    pub(crate) fn since(self, earlier: Tally) -> (u64, u64, u64)
+        ensures steps { result.0 ≡ self.steps - earlier.steps }
+        ensures thread { result.1 ≡ self.thread - earlier.thread }
+        ensures kernel { result.2 ≡ self.kernel - earlier.kernel }
+    {
+        (
+            self.steps.saturating_sub(earlier.steps),
+            self.thread.saturating_sub(earlier.thread),
+            self.kernel.saturating_sub(earlier.kernel),
+        )
+    }
+}
+
 /// A call that has begun and not ended: the entry of its routine, its return address, if it has one, and what its thread had
 /// counted when it began.
 #[derive(Clone, Copy)]
@@ -41,6 +57,34 @@ impl Model for BegunCall {
     ghost view = { λ c. record { entry = c.entry; back = c.back; earlier = c.earlier } };
 
     ghost inverse = { λ c. record { entry = c.entry; back = c.back; earlier = c.earlier } };
+}
+
+impl BegunCall {
+    /// The entry of its routine.
+    pub(crate) fn entry(self) -> Addr
+        ensures { result ≡ self.entry }
+    {
+        self.entry
+    }
+
+    /// What its thread had counted when it began.
+    pub(crate) fn earlier(self) -> Tally
+        ensures { result ≡ self.earlier }
+    {
+        self.earlier
+    }
+}
+
+/// How many of the calls, the outermost first, a return to the target ends.
+fn count_returned(target: Addr, calls: &[BegunCall]) -> usize
+    ensures count { result ≡ count_returned target (map (λ (c : OpenCall). c.back) (reverse calls.now)) }
+    ensures within { result ≤ length calls.now }
+{
+    calls
+        .iter()
+        .rev()
+        .position(|call| call.back == Some(target))
+        .map_or(0, |k| k + 1)
 }
 
 /// The open calls of a thread, and what it has counted. Contracts see the innermost call first.
@@ -89,6 +133,37 @@ impl ThreadCalls {
             earlier: self.counts,
         })?;
         Ok(())
+    }
+
+    /// What it has counted.
+    pub(crate) fn counts(&self) -> Tally
+        ensures { result ≡ self.now.counts }
+    {
+        self.counts
+    }
+
+    /// How many calls there are.
+    pub(crate) fn depth(&self) -> usize
+        ensures { result ≡ length self.now.list }
+    {
+        self.calls.len()
+    }
+
+    /// How many calls a return to the target ends.
+    pub(crate) fn ending(&self, target: Addr) -> usize
+        ensures count { result ≡ count_returned target (map (λ (c : OpenCall). c.back) self.now.list) }
+        ensures within { result ≤ length self.now.list }
+    {
+        count_returned(target, &self.calls)
+    }
+
+    /// Takes the innermost call.
+    pub(crate) fn pop(&mut self) -> Option<BegunCall>
+        ensures some { IfSome result (λ c. self.old.list ≡ c ∷ self.new.list) }
+        ensures none { IfNone result (self.old.list ≡ []) }
+        ensures counts { self.new.counts ≡ self.old.counts }
+    {
+        self.calls.pop()
     }
 
     /// One more step.

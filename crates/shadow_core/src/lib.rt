@@ -6,6 +6,7 @@
 mod advance;
 mod calls;
 mod cover;
+mod endings;
 mod laws;
 mod profiler;
 mod reads;

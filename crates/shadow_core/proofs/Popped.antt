@@ -1,0 +1,172 @@
+-- Frames that are popped one after the other, and what is recorded of them.
+use Rattle.std.proofs.Common.{◌≡◌, ℕ, ◌+◌, ◌<◌, ◌≤◌, List, [], ◌∷◌, ◌++◌, length, drop, drop-drop, append_assoc, append-nil, true, ◌-◌, ◌^◌, refl, sym, ap, ◌∙◌, Some, arith, subst}
+use Rattle.shadow_stack.specs.declared.sums.Sums.{Sums}
+use Rattle.std.proofs.lemmas.List.{length-drop, length_push, reverse-reverse}
+use Rattle.trace_model.specs.declared.slow_profile.Done.{Done}
+use Rattle.stamp_renumber.specs.Threads.{Live, Stamped, frames_of, pages_of, stamped}
+use Rattle.guest_words.specs.ByThread.{value_of, with_value}
+use Rattle.std.proofs.lemmas.Int.{ints}
+use Rattle.std.proofs.lemmas.List.Elements.{All-head, All-tail}
+use Rattle.shadow_core.specs.Allows.{AreWithin, IsWithin}
+use Rattle.std.specs.Prelude.{Option, None, is_some, reverse}
+use Rattle.std.specs.Option.{option_map_or}
+use Rattle.guest_words.proofs.ThreadTables.{with_own}
+use Rattle.shadow_core.proofs.Accessed.{its_frames, its_pages}
+use Rattle.shadow_core.specs.Frames.{frames_after_pops}
+use Rattle.shadow_core.proofs.Reading.{All-reverse}
+use Rattle.shadow_core.proofs.Reversed.{pops_in_order}
+use Rattle.shadow_core.proofs.StateEvents.{last_change_counts, stamped_value}
+use Rattle.shadow_stack.specs.Frames.{FitsPop, Frame, IsPopped, added_to_last}
+use Rattle.shadow_core.specs.Ending.{IsEnded}
+use Rattle.shadow_core.specs.State.{Calls}
+use Rattle.shadow_core.specs.Parts.{ArePopped}
+use Rattle.shadow_core.specs.Records.{record_of, records}
+use Rattle.shadow_core.specs.Table.{Counts, OpenCall}
+
+-- one frame more
+pub popped_more : (fs gs hs : List Frame) (sums : List Sums) (s : Sums) → ArePopped fs sums gs → IsPopped gs (Some s) hs → ArePopped fs (sums ++ s ∷ []) hs
+popped_more fs gs hs [] s same last = (hs, subst (λ (xs : List Frame). IsPopped xs (Some s) hs) same last, refl)
+popped_more fs gs hs (x ∷ sums) s some last = (some.0, some.1, popped_more some.0 gs hs sums s some.2 last)
+
+-- and the records of more
+pub records_split : (t : ℕ) (counts : Counts) (sums more : List Sums) (calls : List OpenCall) →
+    records t counts (sums ++ more) calls ≡ records t counts sums calls ++ records t counts more (drop (length sums) calls)
+records_split t counts [] more calls = refl
+records_split t counts (x ∷ sums) [] [] = refl
+records_split t counts (x ∷ sums) (s ∷ more) [] = refl
+records_split t counts (x ∷ sums) more (c ∷ calls) = ap (λ (ds : List Done). record_of t counts x c ∷ ds) (records_split t counts sums more calls)
+
+pub popped_length : (fs gs : List Frame) (sums : List Sums) → ArePopped fs sums gs → length fs ≡ length gs + length sums
+popped_length fs gs [] same = omega (arith, ap (λ (xs : List Frame). length xs) same)
+popped_length fs gs (x ∷ sums) some =
+    let p = some.1 in
+    let later = popped_length some.0 gs sums some.2 in
+    omega (
+      arith,
+      later,
+      ap (λ (xs : List Frame). length xs) p.2,
+      length_push p.0 p.1,
+      ap (λ (xs : List Frame). length xs) p.4,
+      length-to_last x p.0,
+    )
+  where
+    length-to_last : (by : Sums) (xs : List Frame) → length (added_to_last by xs) ≡ length xs
+    length-to_last by [] = refl
+    length-to_last by (f ∷ []) = refl
+    length-to_last by (f ∷ g ∷ xs) = omega (arith, length-to_last by (g ∷ xs))
+
+-- no frame's sums are so great that a pop does not fit
+pub fits_pop : (frames : List Frame) → AreWithin (2 ^ 62 - 1) frames → FitsPop frames
+fits_pop [] within = tt
+fits_pop (f ∷ []) within = tt
+fits_pop (f ∷ g ∷ []) within =
+    let first = All-head (λ (k : Frame). IsWithin (2 ^ 62 - 1) k.sums.plain × IsWithin (2 ^ 62 - 1) k.sums.bare) f (g ∷ []) within in
+    let second = All-head (λ (k : Frame). IsWithin (2 ^ 62 - 1) k.sums.plain × IsWithin (2 ^ 62 - 1) k.sums.bare) g []
+    (All-tail (λ (k : Frame). IsWithin (2 ^ 62 - 1) k.sums.plain × IsWithin (2 ^ 62 - 1) k.sums.bare) f (g ∷ []) within) in
+    ((omega (arith, ints, first.0, second.0), omega (arith, ints, first.0, second.0)), (omega (arith, ints, first.1, second.1), omega (arith, ints, first.1, second.1)))
+fits_pop (f ∷ g ∷ h ∷ frames) within =
+    fits_pop (g ∷ h ∷ frames) (All-tail (λ (k : Frame). IsWithin (2 ^ 62 - 1) k.sums.plain × IsWithin (2 ^ 62 - 1) k.sums.bare) f (g ∷ h ∷ frames) within)
+
+-- calls ended, and one more
+pub ended_more : (t n : ℕ) (a b c : Live) (begun left rest : Calls) (done more most : List Done) (was : Stamped) → value_of a.threads t ≡ Some was →
+    IsEnded t n a b begun left done more → IsEnded t 1 b c left rest more most → IsEnded t (n + 1) a c begun rest done most
+ended_more t n a b c begun left rest done more most was here first one = by one.sums one.count one.frames one.recorded
+  where
+    by : (sums : List Sums) → length sums ≡ 1 → ArePopped (frames_of b.threads t) sums (frames_of c.threads t) → most ≡ more ++ records t left.counts sums left.list →
+        IsEnded t (n + 1) a c begun rest done most
+    by [] none popped recorded = absurd (omega (arith, none))
+    by (s ∷ r ∷ sums) many popped recorded = absurd (omega (arith, many))
+    by (s ∷ []) count popped recorded =
+        let last = subst (λ (xs : List Frame). IsPopped (frames_of b.threads t) (Some s) xs) (sym popped.2) popped.1 in
+        let middle = stamped b.threads t (frames_of b.threads t) (pages_of a.threads t) in
+        let there : value_of b.threads t ≡ Some middle =
+        ap (λ (xs : List (ℕ × Stamped)). value_of xs t) first.threads ∙ stamped_value a.threads t was middle here in
+        let ds = records t begun.counts first.sums begun.list in
+        record {
+          sums = first.sums ++ s ∷ [];
+          count = omega (arith, length_push first.sums s, first.count);
+          frames = popped_more (frames_of a.threads t) (frames_of b.threads t) (frames_of c.threads t) first.sums s first.frames last;
+          threads =
+              one.threads
+              ∙ (λ i. with_value (first.threads i) t (stamped c.threads t (frames_of c.threads t) (its_pages b.threads t middle there i)))
+              ∙ last_change_counts a.threads t middle (stamped c.threads t (frames_of c.threads t) (pages_of a.threads t));
+          rest =
+              one.rest
+              ∙ ap (λ (k : Calls). record k { list = drop 1 k.list }) first.rest
+              ∙ ap (λ (os : List OpenCall). record begun { list = os }) (drop-drop 1 n begun.list);
+          recorded =
+              recorded
+              ∙ (λ i. first.recorded i ++ records t (first.rest i).counts (s ∷ []) (first.rest i).list)
+              ∙ append_assoc done ds (records t begun.counts (s ∷ []) (drop n begun.list))
+              ∙ ap (λ (ds : List Done). done ++ ds)
+              (ap (λ k. ds ++ records t begun.counts (s ∷ []) (drop k begun.list)) (sym first.count) ∙ sym (records_split t begun.counts first.sums (s ∷ []) begun.list));
+        }
+
+pub one_ended : (t : ℕ) (a b : Live) (begun rest : Calls) (done more : List Done) (s : Sums) (call : OpenCall) → IsPopped (frames_of a.threads t) (Some s) (frames_of b.threads t) →
+    b.threads ≡ with_value a.threads t (stamped b.threads t (frames_of b.threads t) (pages_of a.threads t)) → begun.list ≡ call ∷ rest.list → rest.counts ≡ begun.counts →
+    more ≡ done ++ record_of t begun.counts s call ∷ [] → IsEnded t 1 a b begun rest done more
+one_ended t a b begun rest done more s call popped threads same counted recorded =
+    record {
+      sums = s ∷ [];
+      count = refl;
+      frames = (frames_of b.threads t, popped, refl);
+      threads = threads;
+      rest = (λ i. record { list = sym (ap (λ (os : List OpenCall). drop 1 os) same) i; counts = counted i });
+      recorded = recorded ∙ ap (λ (os : List OpenCall). done ++ records t begun.counts (s ∷ []) os) (sym same);
+    }
+
+pub none_ended : (t : ℕ) (a : Live) (begun : Calls) (done : List Done) → is_some (value_of a.threads t) ≡ true → IsEnded t 0 a a begun begun done done
+none_ended t a begun done lives = record {
+  sums = [];
+  count = refl;
+  frames = refl;
+  threads = sym (by (value_of a.threads t) refl lives);
+  rest = refl;
+  recorded = sym (append-nil done);
+}
+  where
+    by : (o : Option Stamped) → value_of a.threads t ≡ o → is_some o ≡ true → with_value a.threads t (stamped a.threads t (frames_of a.threads t) (pages_of a.threads t)) ≡ a.threads
+    by None none lives = absurd (cc)
+    by (Some was) here lives =
+        (λ i. with_value a.threads t (record {
+          frames = its_frames a.threads t was here i;
+          spare = option_map_or (λ (s : Stamped). s.spare) (here i) 0;
+          pages = its_pages a.threads t was here i;
+        }))
+        ∙ with_own a.threads t was here
+
+-- ---- What one more end asks, after so many.
+module _ (t n m : ℕ) (a b : Live) (begun left : Calls) (done more : List Done) (lives : is_some (value_of a.threads t) ≡ true) (ended : IsEnded t n a b begun left done more) where
+  pub frames_left : m ≤ length (frames_of a.threads t) → n < m → 1 ≤ length (frames_of b.threads t)
+  frames_left most few = omega (arith, popped_length (frames_of a.threads t) (frames_of b.threads t) ended.sums ended.frames, ended.count, most, few)
+
+  pub calls_left : m ≤ length begun.list → n < m → 1 ≤ length left.list
+  calls_left most few = omega (arith, ap (λ (k : Calls). length k.list) ended.rest, length-drop n begun.list, most, few)
+
+  pub counts_left : left.counts ≡ begun.counts
+  counts_left = ap (λ (k : Calls). k.counts) ended.rest
+
+  pub sums_left : ((k : ℕ) → AreWithin (2 ^ 62 - 1) (frames_after_pops k (reverse (frames_of a.threads t)))) → AreWithin (2 ^ 62 - 1) (frames_of b.threads t)
+  sums_left all =
+      let fs = frames_of b.threads t in
+      let order = pops_in_order (frames_of a.threads t) fs ended.sums ended.frames in
+      let turned : AreWithin (2 ^ 62 - 1) (reverse fs) = subst (λ (gs : List Frame). AreWithin (2 ^ 62 - 1) gs) order.1 (all (length ended.sums)) in
+      subst (λ (gs : List Frame). AreWithin (2 ^ 62 - 1) gs) (reverse-reverse fs)
+      (All-reverse (λ (k : Frame). IsWithin (2 ^ 62 - 1) k.sums.plain × IsWithin (2 ^ 62 - 1) k.sums.bare) (reverse fs) turned)
+
+pub lives_on : (t n : ℕ) (a b : Live) (begun left : Calls) (done more : List Done) → is_some (value_of a.threads t) ≡ true → IsEnded t n a b begun left done more →
+    is_some (value_of b.threads t) ≡ true
+lives_on t n a b begun left done more lives ended = by (value_of a.threads t) refl lives
+  where
+    by : (o : Option Stamped) → value_of a.threads t ≡ o → is_some o ≡ true → is_some (value_of b.threads t) ≡ true
+    by None none some = absurd (cc)
+    by (Some was) here some =
+        ap is_some (ap (λ (xs : List (ℕ × Stamped)). value_of xs t) ended.threads ∙ stamped_value a.threads t was (stamped b.threads t (frames_of b.threads t) (pages_of a.threads t)) here)
+
+pub ended_on : (t n : ℕ) (a b c : Live) (begun left rest : Calls) (done more most : List Done) → is_some (value_of a.threads t) ≡ true →
+    IsEnded t n a b begun left done more → IsEnded t 1 b c left rest more most → IsEnded t (n + 1) a c begun rest done most
+ended_on t n a b c begun left rest done more most lives first one = by (value_of a.threads t) refl lives
+  where
+    by : (o : Option Stamped) → value_of a.threads t ≡ o → is_some o ≡ true → IsEnded t (n + 1) a c begun rest done most
+    by None none some = absurd (cc)
+    by (Some was) here some = ended_more t n a b c begun left rest done more most was here first one

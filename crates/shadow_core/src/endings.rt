@@ -1,0 +1,90 @@
+//! What is recorded of calls that end.
+ghost use Rattle.std.specs.Prelude.{◌≡◌, ◌+◌, ◌-◌, ◌<◌, ◌≤◌, ◌^◌, ℕ, is_some, length, reverse, true, vec_len};
+ghost use Rattle.std.specs.Vec.{vec_capacity};
+ghost use Rattle.guest_words.specs.ByThread.{value_of};
+ghost use Rattle.stamp_renumber.specs.Threads.{frames_of};
+ghost use Rattle.shadow_core.specs.Allows.{AreWithin};
+ghost use Rattle.shadow_core.specs.Ending.{IsEnded};
+ghost use Rattle.shadow_core.specs.Frames.{frames_after_pops};
+ghost use Rattle.shadow_core.specs.Records.{nat_of, record_of};
+
+use crate::calls::{BegunCall, Tally, ThreadCalls};
+use guest_words::Tid;
+use shadow_stack::Sums;
+use stamp_lanes::Lanes;
+use stamp_renumber::Threads;
+use trace_model::Done;
+
+/// A number, and 0 for one below it.
+fn nat_of(n: i64) -> u64
+    ensures { result ≡ nat_of n }
+{
+    if n < 0 { 0 } else { n as u64 }
+}
+
+/// What is recorded of a call of the thread that ends, with the sums of its frame, by what the thread has counted.
+pub(crate) fn done_with(tid: Tid, counts: Tally, sums: Sums, call: BegunCall) -> Done
+    requires { nat_of sums.plain + (counts.thread - call.earlier.thread) + (counts.kernel - call.earlier.kernel) < 2 ^ 64 }
+    ensures { result ≡ record_of tid counts sums call }
+{
+    let plain = nat_of(sums.plain);
+    let (steps, thread, kernel) = counts.since(call.earlier());
+    Done {
+        tid,
+        entry: call.entry(),
+        size: plain + thread + kernel,
+        cost: steps,
+        plain,
+        thread,
+        kernel,
+        bare: nat_of(sums.bare),
+    }
+}
+
+/// Ends the innermost call of the thread, and records it. There is room for the record.
+fn end_call<S: Lanes>(
+    threads: &mut Threads<S>,
+    tid: Tid,
+    calls: &mut ThreadCalls,
+    done: &mut Vec<Done>,
+)
+    requires lives { is_some (value_of threads.old.threads tid) ≡ true }
+    requires frames { 1 ≤ length (frames_of threads.old.threads tid) }
+    requires calls { 1 ≤ length calls.old.list }
+    requires sums { AreWithin (2 ^ 62 - 1) (frames_of threads.old.threads tid) }
+    requires thread { calls.old.counts.thread < 2 ^ 62 }
+    requires kernel { calls.old.counts.kernel < 2 ^ 62 }
+    requires room { vec_len done.old + 1 ≤ vec_capacity done.old }
+    ensures ended { IsEnded tid 1 threads.old threads.new calls.old calls.new done.old.items done.new.items }
+    ensures capacity { vec_capacity done.old ≤ vec_capacity done.new }
+    ensures count { vec_len done.new ≡ vec_len done.old + 1 }
+{
+    let sums = threads.pop(tid).unwrap();
+    let counts = calls.counts();
+    let call = calls.pop().unwrap();
+    done.push(done_with(tid, counts, sums, call)).unwrap();
+}
+
+/// Ends so many calls of the thread, the innermost first, and records them. There is room for the records.
+pub(crate) fn end_calls<S: Lanes>(
+    threads: &mut Threads<S>,
+    tid: Tid,
+    calls: &mut ThreadCalls,
+    ended: usize,
+    done: &mut Vec<Done>,
+)
+    requires lives { is_some (value_of threads.old.threads tid) ≡ true }
+    requires frames { ended ≤ length (frames_of threads.old.threads tid) }
+    requires calls { ended ≤ length calls.old.list }
+    requires sums { (n : ℕ) → AreWithin (2 ^ 62 - 1) (frames_after_pops n (reverse (frames_of threads.old.threads tid))) }
+    requires thread { calls.old.counts.thread < 2 ^ 62 }
+    requires kernel { calls.old.counts.kernel < 2 ^ 62 }
+    requires room { vec_len done.old + ended ≤ vec_capacity done.old }
+    ensures { IsEnded tid ended threads.old threads.new calls.old calls.new done.old.items done.new.items }
+{
+    let mut count = 0;
+    while count < ended {
+        end_call(threads, tid, calls, done);
+        count += 1;
+    }
+}
