@@ -31,3 +31,4 @@ pub mod ReadEvents
 pub mod Begun
 pub mod Started
 pub mod Popped
+pub mod Ended

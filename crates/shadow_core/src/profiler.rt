@@ -1,7 +1,7 @@
 //! The online profiler.
-ghost use Rattle.std.specs.Prelude.{◌≡◌, List, IfOk, IsOk, OnErr, OnOk, length};
+ghost use Rattle.std.specs.Prelude.{◌≡◌, ◌++◌, List, IfOk, IsOk, OnErr, OnOk, length};
 ghost use Rattle.trace_model.specs.declared.event_kinds.Event.{Event};
-ghost use Rattle.trace_model.specs.declared.event_kinds.Event.TheVariants.{Call, Fill, Read, Start, Step, Write};
+ghost use Rattle.trace_model.specs.declared.event_kinds.Event.TheVariants.{Call, Fill, Read, Ret, Start, Step, Write};
 ghost use Rattle.trace_model.specs.Depth.{pending};
 ghost use Rattle.trace_model.specs.Observing.{MayTake};
 ghost use Rattle.shadow_pages.specs.Pages.{AreCovered};
@@ -9,6 +9,7 @@ ghost use Rattle.stamp_renumber.specs.Threads.{all_starts, pages_of};
 ghost use Rattle.shadow_core.specs.Counting.{renumberings};
 ghost use Rattle.shadow_core.specs.Profiling.{StandsFor};
 ghost use Rattle.shadow_core.specs.State.{table_of_state};
+ghost use Rattle.shadow_core.specs.Records.{finished};
 ghost use Rattle.shadow_core.specs.Renewal.{bounded_tick};
 ghost use Rattle.shadow_core.specs.Table.{empty_table};
 ghost use Rattle.shadow_core.specs.Ticks.{is_switch, table_after};
@@ -16,6 +17,7 @@ ghost use Rattle.shadow_core.specs.Ticks.{is_switch, table_after};
 use crate::advance::advance;
 use crate::calls::ThreadCalls;
 use crate::cover::{add_with_room, cover, cover_own};
+use crate::endings::end_calls;
 use crate::reads::read;
 use crate::rows::ZeroRows;
 use crate::writes::{fill, write};
@@ -25,6 +27,7 @@ use stamp_lanes::Lanes;
 use stamp_renumber::Threads;
 use std::alloc::{AllocError, Global};
 use std::marker::Model;
+use trace_model::Done;
 
 /// A profiler: it keeps the stamp table of the events so far, and no event.
 #[derive(Drop)]
@@ -210,6 +213,22 @@ impl<S: Lanes> Profiler<S> {
         );
         let now = S::from_number(self.counter);
         self.threads.push(tid, now).unwrap();
+        self.weight += 1;
+        Ok(())
+    }
+
+    // A return of the thread that runs: the calls that it ends are recorded.
+    fn return_to(&mut self, tid: Tid, target: Addr, done: &mut Vec<Done>) -> Result<(), AllocError>
+        requires { MayTake (StandsFor S.MAX) self.old (Ret tid target) }
+        ensures table { OnOk result (table_of_state self.new ≡ table_after (bounded_tick S.MAX) (Ret tid target) (table_of_state self.old)) }
+        ensures done { OnOk result (done.new.items ≡ done.old.items ++ finished (Ret tid target) (table_of_state self.old)) }
+        ensures refused { OnErr result (table_of_state self.new ≡ table_of_state self.old) }
+        ensures kept { OnErr result (done.new.items ≡ done.old.items) }
+    {
+        let ended = self.calls.get(tid).unwrap().ending(target);
+        done.reserve(ended)?;
+        let calls = self.calls.get_mut(tid).unwrap();
+        end_calls(&mut self.threads, tid, calls, ended, done);
         self.weight += 1;
         Ok(())
     }
