@@ -1,12 +1,12 @@
 -- Returns of a profiler.
-use Rattle.std.proofs.Common.{◌≡◌, Bor, ℕ, ◌+◌, ◌-◌, ◌<◌, ◌≤◌, ◌^◌, true, List, ◌++◌, length, drop, map, refl, sym, ap, subst, ◌∙◌, arith, cond, Some}
-use Rattle.std.specs.Prelude.{reverse, Option, None}
+use Rattle.std.proofs.Common.{◌≡◌, Bool, Bor, false, not, [], ◌∷◌, ℕ, ◌+◌, ◌-◌, ◌<◌, ◌≤◌, ◌^◌, true, List, ◌++◌, length, drop, map, refl, sym, ap, subst, ◌∙◌, arith, cond, Some}
+use Rattle.std.specs.Prelude.{◌==◌, reverse, Option, None}
 use Rattle.std.specs.Option.{IsSome, option_copied}
 use Rattle.std.proofs.lemmas.List.{length-map, length-reverse}
-use Rattle.guest_words.specs.ByThread.{value_of, with_value}
+use Rattle.guest_words.specs.ByThread.{numbers, value_of, with_value, without_thread}
 use Rattle.guest_words.proofs.ThreadTables.{numbers-with}
 use Rattle.trace_model.specs.declared.event_kinds.Event.{Event}
-use Rattle.trace_model.specs.declared.event_kinds.Event.TheVariants.{Ret}
+use Rattle.trace_model.specs.declared.event_kinds.Event.TheVariants.{End, Ret}
 use Rattle.trace_model.specs.declared.activations.Activation.{Activation}
 use Rattle.trace_model.specs.declared.slow_profile.Done.{Done}
 use Rattle.trace_model.specs.Activations.{count_returned, open_calls}
@@ -32,7 +32,7 @@ use Rattle.shadow_core.proofs.Profiled.{alive, has_found}
 use Rattle.shadow_core.proofs.Reading.{within_more}
 use Rattle.shadow_core.proofs.Room.{counts_stay_within, pops_stay_within}
 use Rattle.shadow_core.proofs.StateEvents.{event_is_made, no_tick_is_made}
-use Rattle.shadow_core.proofs.StateRows.{finishes_by_parts, returns_by_parts}
+use Rattle.shadow_core.proofs.StateRows.{ends_by_parts, finishes_by_parts, returns_by_parts}
 use Rattle.shadow_core.proofs.StateThreads.{own_test}
 use Rattle.shadow_core.proofs.StateTold.{thread_is_told}
 use Rattle.shadow_core.proofs.There.{depth_is}
@@ -113,3 +113,67 @@ module _ (t target n : ℕ) (s : State) (live : Live) (c left : Calls) (done mor
 pub found_there : {A : Type 0} (r : Option (Bor A)) (xs : List (ℕ × A)) (t : ℕ) → option_copied r ≡ value_of xs t → (v : A) → value_of xs t ≡ Some v → IsSome r
 found_there None xs t is v here = absurd (let no : None ≡ Some v = is ∙ here in cc)
 found_there (Some r) xs t is v here = refl
+
+-- ---- The end of a thread.
+without_changed : {X : Type 0} (xs : List (ℕ × X)) (t : ℕ) (v : X) → without_thread (with_value xs t v) t ≡ without_thread xs t
+without_changed [] t v = refl
+without_changed {X} (x ∷ xs) t v = by (x.0 == t) refl (without_changed xs t v)
+  where
+    by : (b : Bool) → (x.0 == t) ≡ b → without_thread (with_value xs t v) t ≡ without_thread xs t →
+        without_thread (cond b ((x.0, v) ∷ xs) (x ∷ with_value xs t v)) t ≡ without_thread (x ∷ xs) t
+    by true is later =
+        ap (λ d. cond (not d) ((x.0, v) ∷ without_thread xs t) (without_thread xs t)) is ∙ sym (ap (λ d. cond (not d) (x ∷ without_thread xs t) (without_thread xs t)) is)
+    by false is later =
+        ap (λ d. cond (not d) (x ∷ without_thread (with_value xs t v) t) (without_thread (with_value xs t v) t)) is
+        ∙ ap (λ (ys : List (ℕ × X)). x ∷ ys) later
+        ∙ sym (ap (λ d. cond (not d) (x ∷ without_thread xs t) (without_thread xs t)) is)
+
+numbers-without : {X Y : Type 0} (xs : List (ℕ × X)) (ys : List (ℕ × Y)) (t : ℕ) → numbers xs ≡ numbers ys → numbers (without_thread xs t) ≡ numbers (without_thread ys t)
+numbers-without [] [] t same = refl
+numbers-without (x ∷ xs) [] t same = absurd (cc)
+numbers-without [] (y ∷ ys) t same = absurd (cc)
+numbers-without (x ∷ xs) (y ∷ ys) t same =
+    let first : x.0 ≡ y.0 = cc in
+    let rest : numbers xs ≡ numbers ys = cc in
+    by (x.0 == t) refl (ap (λ n. n == t) (sym first)) first (numbers-without xs ys t rest)
+  where
+    by : (b : Bool) → (x.0 == t) ≡ b → (y.0 == t) ≡ (x.0 == t) → x.0 ≡ y.0 → numbers (without_thread xs t) ≡ numbers (without_thread ys t) →
+        numbers (without_thread (x ∷ xs) t) ≡ numbers (without_thread (y ∷ ys) t)
+    by b is alike first rest =
+        ap (λ d. numbers (cond (not d) (x ∷ without_thread xs t) (without_thread xs t))) is
+        ∙ both b
+        ∙ sym (ap (λ d. numbers (cond (not d) (y ∷ without_thread ys t) (without_thread ys t))) (alike ∙ is))
+      where
+        both : (b : Bool) → numbers (cond (not b) (x ∷ without_thread xs t) (without_thread xs t)) ≡ numbers (cond (not b) (y ∷ without_thread ys t) (without_thread ys t))
+        both true = rest
+        both false = (λ i. first i ∷ rest i)
+
+module _ (t n : ℕ) (s : State) (live out : Live) (c left : Calls) (done more : List Done) (may : MayEnd s t c) (count : n ≡ length c.list)
+    (ended : IsEnded t n s.live live c left done more) (gone : out.threads ≡ without_thread live.threads t) where
+  out_of : out.threads ≡ without_thread s.live.threads t
+  out_of = gone ∙ ap (λ (xs : List (ℕ × Stamped)). without_thread xs t) ended.threads ∙ without_changed s.live.threads t (stamped live.threads t (frames_of live.threads t) (pages_of s.live.threads t))
+
+  pub thread_ended : (most : ℕ) (calls : List (ℕ × Calls)) → calls ≡ without_thread (with_value s.calls t left) t →
+      table_of_state (record s { live = out; calls = calls; weight = s.weight + 1 }) ≡ table_after (bounded_tick most) (End t) (table_of_state s)
+  thread_ended most calls are =
+      ap (λ (cs : List (ℕ × Calls)). table_of_state (record s { live = out; calls = cs; weight = s.weight + 1 })) (are ∙ without_changed s.calls t left)
+      ∙ event_is_made most (End t) s s (record s { live = out; calls = without_thread s.calls t }) (no_tick_is_made most (End t) s refl) (ends_by_parts s t out out_of)
+
+  pub all_recorded : more ≡ done ++ finished (End t) (table_of_state s)
+  all_recorded =
+      let popped = subst (λ (fs : List Frame). ArePopped fs ended.sums (frames_of live.threads t)) (its_frames s.live.threads t may.was may.has.stamps) ended.frames in
+      let backs = map (λ (o : OpenCall). o.back) c.list in
+      let ending : length ended.sums ≡ cond (Rattle.std.specs.Prelude.nat_eq t t) (length backs) 0 =
+      ended.count ∙ count ∙ sym (length-map c.list (λ (o : OpenCall). o.back)) ∙ sym (own_test t (length backs) 0) in
+      ended.recorded
+      ∙ ap (λ (ds : List Done). done ++ ds) (sym (finishes_by_parts (End t) s t may.was c ended.sums (frames_of live.threads t) may.has popped ending))
+
+  pub whole_ended : (weight : ℕ) (calls : List (ℕ × Calls)) → IsWhole s → calls ≡ without_thread (with_value s.calls t left) t →
+      IsWhole (record s { live = out; calls = calls; weight = weight })
+  whole_ended weight calls whole are = record {
+    same =
+        ap (λ (cs : List (ℕ × Calls)). numbers cs) (are ∙ without_changed s.calls t left)
+        ∙ numbers-without s.calls s.live.threads t whole.same
+        ∙ sym (ap (λ (xs : List (ℕ × Stamped)). numbers xs) out_of);
+    marked = whole.marked;
+  }

@@ -1,7 +1,7 @@
 //! The online profiler.
 ghost use Rattle.std.specs.Prelude.{◌≡◌, ◌++◌, List, IfOk, IsOk, OnErr, OnOk, length};
 ghost use Rattle.trace_model.specs.declared.event_kinds.Event.{Event};
-ghost use Rattle.trace_model.specs.declared.event_kinds.Event.TheVariants.{Call, Fill, Read, Ret, Start, Step, Write};
+ghost use Rattle.trace_model.specs.declared.event_kinds.Event.TheVariants.{Call, End, Fill, Read, Ret, Start, Step, Write};
 ghost use Rattle.trace_model.specs.Depth.{pending};
 ghost use Rattle.trace_model.specs.Observing.{MayTake};
 ghost use Rattle.shadow_pages.specs.Pages.{AreCovered};
@@ -229,6 +229,24 @@ impl<S: Lanes> Profiler<S> {
         done.reserve(ended)?;
         let calls = self.calls.get_mut(tid).unwrap();
         end_calls(&mut self.threads, tid, calls, ended, done);
+        self.weight += 1;
+        Ok(())
+    }
+
+    // The end of a thread: all its calls are recorded.
+    fn end(&mut self, tid: Tid, done: &mut Vec<Done>) -> Result<(), AllocError>
+        requires { MayTake (StandsFor S.MAX) self.old (End tid) }
+        ensures table { OnOk result (table_of_state self.new ≡ table_after (bounded_tick S.MAX) (End tid) (table_of_state self.old)) }
+        ensures done { OnOk result (done.new.items ≡ done.old.items ++ finished (End tid) (table_of_state self.old)) }
+        ensures refused { OnErr result (table_of_state self.new ≡ table_of_state self.old) }
+        ensures kept { OnErr result (done.new.items ≡ done.old.items) }
+    {
+        let ended = self.calls.get(tid).unwrap().depth();
+        done.reserve(ended)?;
+        let calls = self.calls.get_mut(tid).unwrap();
+        end_calls(&mut self.threads, tid, calls, ended, done);
+        self.threads.remove(tid);
+        self.calls.remove(tid);
         self.weight += 1;
         Ok(())
     }
