@@ -1,17 +1,19 @@
 //! The online profiler.
-ghost use Rattle.std.specs.Prelude.{◌≡◌, ◌++◌, List, IfOk, IsOk, OnErr, OnOk, length};
+ghost use Rattle.std.specs.Prelude.{◌≡◌, ◌≤◌, ◌+◌, ◌++◌, List, map, vec_len, IfOk, IsOk, OnErr, OnOk, length};
 ghost use Rattle.trace_model.specs.declared.event_kinds.Event.{Event};
 ghost use Rattle.trace_model.specs.declared.event_kinds.Event.TheVariants.{Call, End, Fill, Read, Ret, Start, Step, Write};
+ghost use Rattle.std.specs.Vec.{vec_capacity};
+ghost use Rattle.trace_model.specs.Activations.{count_returned};
 ghost use Rattle.trace_model.specs.Depth.{pending};
 ghost use Rattle.trace_model.specs.Observing.{MayTake};
 ghost use Rattle.shadow_pages.specs.Pages.{AreCovered};
 ghost use Rattle.stamp_renumber.specs.Threads.{all_starts, pages_of};
 ghost use Rattle.shadow_core.specs.Counting.{renumberings};
 ghost use Rattle.shadow_core.specs.Profiling.{StandsFor};
-ghost use Rattle.shadow_core.specs.State.{table_of_state};
+ghost use Rattle.shadow_core.specs.State.{calls_of, table_of_state};
 ghost use Rattle.shadow_core.specs.Records.{finished};
 ghost use Rattle.shadow_core.specs.Renewal.{bounded_tick};
-ghost use Rattle.shadow_core.specs.Table.{empty_table};
+ghost use Rattle.shadow_core.specs.Table.{OpenCall, empty_table};
 ghost use Rattle.shadow_core.specs.Ticks.{is_switch, table_after};
 
 use crate::advance::advance;
@@ -224,6 +226,7 @@ impl<S: Lanes> Profiler<S> {
         ensures done { OnOk result (done.new.items ≡ done.old.items ++ finished (Ret tid target) (table_of_state self.old)) }
         ensures refused { OnErr result (table_of_state self.new ≡ table_of_state self.old) }
         ensures kept { OnErr result (done.new.items ≡ done.old.items) }
+        ensures no_memory { vec_len done.old + count_returned target (map (λ (c : OpenCall). c.back) (calls_of self.old.calls tid).list) ≤ vec_capacity done.old → IsOk result }
     {
         let ended = self.calls.get(tid).unwrap().ending(target);
         done.reserve(ended)?;

@@ -1,13 +1,13 @@
-use Rattle.std.proofs.Common.{◌≡◌, ◌∙◌, ◌++◌, Some, List, ap, arith, length, map, sym}
+use Rattle.std.proofs.Common.{◌≡◌, ◌∙◌, ◌++◌, Some, [], Option, List, ap, arith, length, map, sym}
 use Rattle.std.specs.Prelude.{is_some}
-use Rattle.std.specs.Option.{option_copied, option_copied_mut}
+use Rattle.std.specs.Option.{option_copied, option_copied_mut, option_map_or}
 use Rattle.guest_words.specs.ByThread.{value_of}
 use Rattle.trace_model.specs.declared.event_kinds.Event.TheVariants.{Ret}
 use Rattle.trace_model.specs.Activations.{count_returned}
 use Rattle.shadow_core.specs.Records.{finished}
 use Rattle.shadow_core.specs.Renewal.{bounded_tick}
-use Rattle.shadow_core.specs.State.{Calls, State, table_of_state}
-use Rattle.shadow_core.specs.Table.{OpenCall}
+use Rattle.shadow_core.specs.State.{Calls, State, calls_of, table_of_state}
+use Rattle.shadow_core.specs.Table.{OpenCall, no_counts}
 use Rattle.shadow_core.specs.Ticks.{table_after}
 use Rattle.shadow_core.proofs.Ended.{found_there, may_end, recorded, returned, whole_returned}
 use Rattle.shadow_core.proofs.Profiled.{alive_here}
@@ -87,3 +87,13 @@ returns-clause-done g c =
     let count = c.ending-ended.ensures.count ∙ ap (λ (k : Calls). count_returned c.args.target (map (λ (o : OpenCall). o.back) k.list)) same in
     recorded c.args.tid c.args.target c.ending-ended.result _ c.end_calls.new.threads c.unwrap-calls.result.now c.end_calls.new.calls c.reserve.new.self.items c.end_calls.new.done.items may count c.end_calls.ensures
     ∙ (λ i. c.in_ok-reserve.ensures.items i ++ finished (Ret c.args.tid c.args.target) (table_of_state (c.self.view_is i)))
+
+pub returns-in_err-reserve-clause-no_memory : goal.returns-in_err-reserve-clause-no_memory
+returns-in_err-reserve-clause-no_memory g c = λ fits.
+    let t = c.args.tid in
+    let one : value_of c.args.self.now.calls t ≡ Some c.unwrap.result.now =
+    sym (ap (λ (s : State). value_of s.calls t) c.self.view_is) ∙ sym c.get.ensures ∙ ap option_copied c.unwrap.ensures in
+    let own : calls_of c.args.self.now.calls t ≡ c.unwrap.result.now =
+    ap (λ (o : Option Calls). option_map_or (λ (k : Calls). k) o (record { list = []; counts = no_counts })) one in
+    let same = ap (λ (k : Calls). count_returned c.args.target (map (λ (o : OpenCall). o.back) k.list)) own in
+    absurd (omega (arith, fits, c.in_err-reserve.ensures.full, c.ending-ended.ensures.count, same))
