@@ -1,9 +1,9 @@
 -- Writes and fills of a profiler.
-use Rattle.std.proofs.Common.{◌≡◌, ℕ, ◌+◌, ◌≤◌, ◌<◌, true, List, [], Option, refl, sym, ap, subst, ◌∙◌, Some}
+use Rattle.std.proofs.Common.{◌≡◌, ℕ, ◌+◌, true, List, [], Option, sym, ap, ◌∙◌, Some}
 use Rattle.std.specs.Option.{option_map_or}
 use Rattle.guest_words.proofs.ThreadTables.{numbers-with}
 use Rattle.shadow_stack.specs.Frames.{Frame}
-use Rattle.guest_words.specs.ByThread.{IsRising, numbers, value_of, with_value}
+use Rattle.guest_words.specs.ByThread.{numbers, value_of}
 use Rattle.trace_model.specs.declared.event_kinds.Event.TheVariants.{Fill, Write}
 use Rattle.shadow_pages.specs.Pages.{Page, stamp_at}
 use Rattle.stamp_renumber.specs.Threads.{Live, Stamped, frames_of, pages_of, stamped}

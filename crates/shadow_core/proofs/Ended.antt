@@ -1,5 +1,5 @@
 -- Returns of a profiler.
-use Rattle.std.proofs.Common.{◌≡◌, Bool, Bor, false, not, [], ◌∷◌, ℕ, ◌+◌, ◌-◌, ◌<◌, ◌≤◌, ◌^◌, true, List, ◌++◌, length, drop, map, refl, sym, ap, subst, ◌∙◌, arith, cond, Some}
+use Rattle.std.proofs.Common.{◌≡◌, Bool, Bor, false, not, [], ◌∷◌, ℕ, ◌+◌, ◌-◌, ◌<◌, ◌^◌, true, List, ◌++◌, length, drop, map, refl, sym, ap, subst, ◌∙◌, arith, cond, Some}
 use Rattle.std.specs.Prelude.{◌==◌, reverse, Option, None}
 use Rattle.std.specs.Option.{IsSome, option_copied}
 use Rattle.std.proofs.lemmas.List.{length-map, length-reverse}
@@ -20,7 +20,7 @@ use Rattle.shadow_core.specs.Ending.{IsEnded}
 use Rattle.shadow_core.specs.Frames.{frames_after_pops}
 use Rattle.shadow_core.specs.Parts.{ArePopped}
 use Rattle.shadow_core.specs.Past.{call_of}
-use Rattle.shadow_core.specs.Records.{finished, records}
+use Rattle.shadow_core.specs.Records.{finished}
 use Rattle.shadow_core.specs.Renewal.{bounded_tick}
 use Rattle.shadow_core.specs.Table.{OpenCall, Thread}
 use Rattle.shadow_core.specs.Ticks.{table_after}

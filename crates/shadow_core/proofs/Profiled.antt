@@ -6,16 +6,14 @@ use Rattle.guest_words.proofs.ThreadTables.{numbers-with}
 use Rattle.guest_words.specs.ByThread.{IsRising, numbers, value_of, with_value}
 use Rattle.trace_model.specs.declared.event_kinds.Event.{Event}
 use Rattle.trace_model.specs.declared.event_kinds.Event.TheVariants.{Step}
-use Rattle.trace_model.specs.Depth.{is_within}
 use Rattle.trace_model.specs.Observing.{MayTake}
-use Rattle.trace_model.specs.WellFormed.{IsWellFormed, is_live, last_step, weight, weight_of}
+use Rattle.trace_model.specs.WellFormed.{is_live, last_step, weight, weight_of}
 use Rattle.stamp_renumber.specs.Threads.{Stamped, all_starts}
 use Rattle.shadow_pages.specs.Pages.{stamp_at}
-use Rattle.shadow_core.specs.Table.{Thread}
 use Rattle.shadow_core.specs.Ticks.{is_switch, ticks, table_after}
 use Rattle.shadow_core.specs.Renewal.{bounded_tick}
-use Rattle.shadow_core.specs.Counting.{counter_of, next_counter, renumberings}
-use Rattle.shadow_core.specs.Stands.{Agrees, Stands}
+use Rattle.shadow_core.specs.Counting.{counter_of, renumberings}
+use Rattle.shadow_core.specs.Stands.{Agrees}
 use Rattle.shadow_core.specs.State.{Calls, State, table_of_state}
 use Rattle.shadow_core.specs.StateRows.{Has}
 use Rattle.shadow_core.specs.Profiling.{Clock, IsAdvanced, IsWhole, StandsFor, with_clock}

@@ -2,7 +2,7 @@ use Rattle.std.proofs.Common.{◌≡◌, ◌+◌, ℕ, Bool, sym, subst, true, f
 use mir.Val.{bool_byte}
 use Rattle.stamp_renumber.specs.declared.ticks.Ticked.{Ticked}
 use Rattle.shadow_core.specs.Profiling.{Clock, IsAdvanced}
-use Rattle.shadow_core.proofs.Advanced.{advanced, clock_after, stays}
+use Rattle.shadow_core.proofs.Advanced.{advanced, clock_after}
 use Rattle.shadow_core.proofs.advance.advance.Goals as goal
 
 as_number : (b : Bool) → bool_byte b ≡ cond b 1 0

@@ -1,4 +1,4 @@
-use Rattle.std.proofs.Common.{ℕ, ◌∙◌, ap, sym, subst, List}
+use Rattle.std.proofs.Common.{◌∙◌, ap, sym, subst, List}
 use Rattle.std.proofs.lemmas.Result.{on_ok_weaker}
 use Rattle.shadow_pages.specs.Pages.{AreCovered, Page, Pages, stamp_at}
 use Rattle.stamp_renumber.specs.LentThread.{with_pages}

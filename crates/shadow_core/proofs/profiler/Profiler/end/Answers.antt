@@ -1,4 +1,4 @@
-use Rattle.std.proofs.Common.{◌≡◌, ◌∙◌, ◌++◌, Some, List, ap, arith, length, map, sym}
+use Rattle.std.proofs.Common.{◌≡◌, ◌∙◌, ◌++◌, Some, ap, arith, length, sym}
 use Rattle.std.specs.Prelude.{is_some}
 use Rattle.std.specs.Option.{option_copied, option_copied_mut}
 use Rattle.guest_words.specs.ByThread.{value_of}

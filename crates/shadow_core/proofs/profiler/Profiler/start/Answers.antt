@@ -1,4 +1,4 @@
-use Rattle.std.proofs.Common.{◌≡◌, ◌∙◌, ℕ, ◌<◌, ◌++◌, ◌∷◌, [], List, ap, sym, subst, All}
+use Rattle.std.proofs.Common.{◌≡◌, ◌∙◌, ℕ, ◌<◌, ◌++◌, ◌∷◌, [], List, ap}
 use Rattle.guest_words.specs.ByThread.{numbers}
 use Rattle.std.proofs.lemmas.List.Elements.{All-same}
 use Rattle.trace_model.specs.declared.event_kinds.Event.TheVariants.{Start}
