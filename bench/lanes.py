@@ -1,7 +1,8 @@
 #!/usr/bin/env python3
 """bench/lanes.py: host instructions of the lane kernels against plain loops over the same 1024 stamps, at each width, by
 callgrind, as the difference of two numbers of rounds. It proves and builds a program of its own in a folder of its own, over
-this repository's crates stamps and stamp_lanes. It prints a table, and the vector instructions that stand in the kernels."""
+this repository's crates stamps and stamp_lanes. It prints a table, and the vector instructions of the whole
+program, plain loops included."""
 import os
 import re
 import shutil
