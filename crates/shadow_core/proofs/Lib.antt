@@ -27,6 +27,7 @@ pub mod Advanced
 pub mod Profiled
 pub mod Marked
 pub mod Accessed
+pub mod Applied
 pub mod ReadEvents
 pub mod Begun
 pub mod Started

@@ -23,3 +23,4 @@ pub mod StateTold
 pub mod StateEvents
 pub mod Profiling
 pub mod Ending
+pub mod Applying

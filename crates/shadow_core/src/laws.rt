@@ -1,6 +1,7 @@
 //! Laws of the table: each is the contract of a function that does nothing.
 ghost use Rattle.shadow_core.specs.Laws.{AgreesOn, CounterFits, CountsOn, EmptyStands, FinishesWhatEnds, FinishesWhatIsDone, OpenAreAsDefined, RunsAgree, StandsOn, TicksKeepTheTable};
 ghost use Rattle.shadow_core.specs.Allows.{AllowsWhatMayFollow, CountsStayWithin, FitsByFrames, PopsStayWithin, SumsStayWithin};
+ghost use Rattle.shadow_core.specs.Applying.{DeepDoesNotFit};
 ghost use Rattle.shadow_core.specs.Observing.{TakesEvents};
 ghost use Rattle.shadow_core.specs.Bulk.{ReadsAtOnce};
 ghost use Rattle.shadow_core.specs.Worked.{WorkedTables};
@@ -53,6 +54,7 @@ pub fn a_table_tells_what_may_follow()
     ensures pops { PopsStayWithin }
     ensures counts { CountsStayWithin }
     ensures at_once { ReadsAtOnce }
+    ensures deep { DeepDoesNotFit }
 {}
 
 /// Worked traces with renumberings.

@@ -4,6 +4,7 @@
 #![tactic(auto)]
 
 mod advance;
+mod apply_error;
 mod calls;
 mod cover;
 mod endings;
@@ -13,6 +14,7 @@ mod reads;
 mod rows;
 mod writes;
 
+pub use apply_error::ApplyError;
 pub use laws::{
     a_table_tells_what_may_follow, a_tick_is_by_parts, a_tick_keeps_the_table,
     each_event_keeps_the_table, events_are_by_parts, parts_tell_the_table, reads_go_on,

@@ -1,13 +1,15 @@
 //! The online profiler.
-ghost use Rattle.std.specs.Prelude.{◌≡◌, ◌≤◌, ◌+◌, ◌++◌, List, map, vec_len, IfOk, IsOk, OnErr, OnOk, length};
+ghost use Rattle.std.specs.Prelude.{◌≡◌, ◌≤◌, ◌+◌, ◌*◌, ◌++◌, List, map, nat_lt, true, false, vec_len, Err, IfErr, IfOk, IsOk, OnErr, OnOk, length};
 ghost use Rattle.trace_model.specs.declared.event_kinds.Event.{Event};
 ghost use Rattle.trace_model.specs.declared.event_kinds.Event.TheVariants.{Call, End, Fill, Read, Ret, Start, Step, Write};
 ghost use Rattle.std.specs.Vec.{vec_capacity};
 ghost use Rattle.trace_model.specs.Activations.{count_returned};
-ghost use Rattle.trace_model.specs.Depth.{pending};
+ghost use Rattle.trace_model.specs.Depth.{count_begun, pending};
 ghost use Rattle.trace_model.specs.Observing.{MayTake};
 ghost use Rattle.shadow_pages.specs.Pages.{AreCovered};
 ghost use Rattle.stamp_renumber.specs.Threads.{all_starts, pages_of};
+ghost use Rattle.shadow_core.specs.declared.apply_error.ApplyError.TheVariants.{Memory, TooDeep};
+ghost use Rattle.shadow_core.specs.Applying.{IsTaken, NeedsNoMemory, is_too_deep};
 ghost use Rattle.shadow_core.specs.Counting.{renumberings};
 ghost use Rattle.shadow_core.specs.Profiling.{StandsFor};
 ghost use Rattle.shadow_core.specs.State.{calls_of, table_of_state};
@@ -16,6 +18,7 @@ ghost use Rattle.shadow_core.specs.Renewal.{bounded_tick};
 ghost use Rattle.shadow_core.specs.Table.{OpenCall, empty_table};
 ghost use Rattle.shadow_core.specs.Ticks.{is_switch, table_after};
 
+use crate::ApplyError;
 use crate::advance::advance;
 use crate::calls::ThreadCalls;
 use crate::cover::{add_with_room, cover, cover_own};
@@ -29,7 +32,7 @@ use stamp_lanes::Lanes;
 use stamp_renumber::Threads;
 use std::alloc::{AllocError, Global};
 use std::marker::Model;
-use trace_model::Done;
+use trace_model::{Done, Event};
 
 /// A profiler: it keeps the stamp table of the events so far, and no event.
 #[derive(Drop)]
@@ -277,6 +280,79 @@ impl<S: Lanes> Profiler<S> {
         calls.add_found(found.thread, found.kernel);
         self.weight += 1 + u64::from(count);
         Ok(())
+    }
+
+    // Whether one more open activation is too many.
+    fn is_full(&self) -> bool
+        requires { 3 * length (all_starts self.now.live.threads) + 3 ≤ S.MAX }
+        ensures { result ≡ nat_lt S.MAX (3 * (length (all_starts self.now.live.threads) + 2)) }
+    {
+        u64::from(S::MAX) < 3 * (self.threads.frame_count() as u64 + 2)
+    }
+
+    // Whether the event begins an activation too many.
+    fn is_too_deep(&self, e: &Event) -> bool
+        requires { MayTake (StandsFor S.MAX) self.now e.now }
+        ensures { (past : List Event) → StandsFor S.MAX self.now past → result ≡ is_too_deep S.MAX e.now past }
+    {
+        begins(e) && self.is_full()
+    }
+
+    // Takes an event that is not too deep.
+    fn take(&mut self, e: Event, done: &mut Vec<Done>) -> Result<(), AllocError>
+        requires { MayTake (StandsFor S.MAX) self.old e }
+        ensures table { OnOk result (table_of_state self.new ≡ table_after (bounded_tick S.MAX) e (table_of_state self.old)) }
+        ensures records { OnOk result (done.new.items ≡ done.old.items ++ finished e (table_of_state self.old)) }
+        ensures refused { OnErr result (table_of_state self.new ≡ table_of_state self.old) }
+        ensures kept { OnErr result (done.new.items ≡ done.old.items) }
+        ensures no_memory { NeedsNoMemory e (table_of_state self.old) (vec_len done.old) (vec_capacity done.old) → IsOk result }
+    {
+        match e {
+            Event::Step { tid } => {
+                self.step(tid);
+                Ok(())
+            }
+            Event::Read { tid, first, count } => self.read(tid, first, count),
+            Event::Write { tid, first, count } => self.write(tid, first, count),
+            Event::Fill { first, count } => self.fill(first, count),
+            Event::Call { tid, entry, back } => self.call(tid, entry, back),
+            Event::Ret { tid, target } => self.return_to(tid, target, done),
+            Event::Start { tid, entry } => self.start(tid, entry),
+            Event::End { tid } => self.end(tid, done),
+        }
+    }
+
+    /// Takes the next event of the trace, and adds to the list what is recorded of the activations that it ends, the
+    /// innermost first. An event that begins an activation too many is refused before any memory is wanted. After a refusal
+    /// all is as before. No event is kept.
+    pub fn apply(&mut self, e: Event, done: &mut Vec<Done>) -> Result<(), ApplyError>
+        requires { MayTake (StandsFor S.MAX) self.old e }
+        ensures table { OnOk result (table_of_state self.new ≡ table_after (bounded_tick S.MAX) e (table_of_state self.old)) }
+        ensures records { OnOk result (done.new.items ≡ done.old.items ++ finished e (table_of_state self.old)) }
+        ensures stands { (past : List Event) → StandsFor S.MAX self.old past → OnOk result (IsTaken S.MAX e past self.new done.old.items done.new.items) }
+        ensures deep { (past : List Event) → StandsFor S.MAX self.old past → is_too_deep S.MAX e past ≡ true → result ≡ Err (TooDeep (pending past)) }
+        ensures not_deep { (past : List Event) → StandsFor S.MAX self.old past → is_too_deep S.MAX e past ≡ false → IfErr result (λ error. error ≡ Memory) }
+        ensures refused { OnErr result (table_of_state self.new ≡ table_of_state self.old) }
+        ensures kept { OnErr result (done.new.items ≡ done.old.items) }
+        ensures no_memory { NeedsNoMemory e (table_of_state self.old) (vec_len done.old) (vec_capacity done.old) → IsOk result }
+    {
+        if self.is_too_deep(&e) {
+            return Err(ApplyError::TooDeep {
+                pending: self.pending(),
+            });
+        }
+        self.take(e, done)?;
+        Ok(())
+    }
+}
+
+// Whether the event begins an activation.
+fn begins(e: &Event) -> bool
+    ensures { result ≡ nat_lt 0 (count_begun e.now) }
+{
+    match *e {
+        Event::Start { .. } | Event::Call { .. } => true,
+        _ => false,
     }
 }
 

@@ -1,4 +1,5 @@
 use Rattle.shadow_core.proofs.Room.{allows_what_may_follow, fits_by_frames, pops_stay_within, sums_stay_within, counts_stay_within}
+use Rattle.shadow_core.proofs.Applied.{deep_does_not_fit}
 use Rattle.shadow_core.proofs.Bulk.{reads_at_once}
 use Rattle.shadow_core.proofs.laws.a_table_tells_what_may_follow.Goals as goal
 
@@ -19,3 +20,6 @@ returns-clause-at_once c = reads_at_once
 
 pub returns-clause-pops : goal.returns-clause-pops
 returns-clause-pops c = pops_stay_within
+
+pub returns-clause-deep : goal.returns-clause-deep
+returns-clause-deep c = deep_does_not_fit

@@ -1,0 +1,49 @@
+-- One event of a trace, as a profiler takes it.
+use Rattle.std.specs.Prelude.{◌≡◌, ℕ, ◌+◌, ◌*◌, ◌<◌, ◌≤◌, Bool, true, not, ◌&&◌, nat_lt, List, ◌∷◌, ◌++◌, length}
+use Rattle.std.specs.Option.{option_map_or}
+use Rattle.guest_words.specs.ByThread.{value_of}
+use Rattle.trace_model.specs.declared.event_kinds.Event.{Event}
+use Rattle.trace_model.specs.declared.event_kinds.Event.TheVariants.{Step, Read, Write, Fill, Ret}
+use Rattle.trace_model.specs.declared.slow_profile.Done.{Done}
+use Rattle.trace_model.specs.Depth.{count_begun, is_within, pending}
+use Rattle.trace_model.specs.Events.{covers}
+use Rattle.trace_model.specs.Profile.{ended}
+use Rattle.shadow_core.specs.Table.{Table}
+use Rattle.shadow_core.specs.Records.{finished}
+use Rattle.shadow_core.specs.Stands.{Stands}
+use Rattle.shadow_core.specs.State.{State}
+use Rattle.shadow_core.specs.Profiling.{StandsFor}
+
+-- It begins an activation, and three stamps for each that is then open and three more are more than there are.
+abbrev pub is_too_deep : ℕ → Event → List Event → Bool
+is_too_deep most e past = nat_lt 0 (count_begun e) && nat_lt most (3 * (pending past + 2))
+
+-- what is too deep is what does not fit
+abbrev pub DeepDoesNotFit : Type 0
+DeepDoesNotFit = (most : ℕ) (e : Event) (table : Table) (past : List Event) → Stands most table past → is_too_deep most e past ≡ not (is_within most (e ∷ past))
+
+-- The event was taken after this past: the profiler stands for the past with it, which fits, and what is recorded more is what
+-- the definitions say of the activations that it ends.
+pub record IsTaken (most : ℕ) (e : Event) (past : List Event) (new : State) (before after : List Done) : Type 0 where
+  pub stands : StandsFor most new (e ∷ past)
+  pub fits : is_within most (e ∷ past) ≡ true
+  pub recorded : after ≡ before ++ ended e past
+
+-- ---- Events that need no memory.
+-- the stamps of a thread's accesses
+abbrev pub access_of : Table → ℕ → ℕ → ℕ
+access_of table t = option_map_or (λ thread. thread.access) (value_of table.threads t) (λ l. 0)
+
+-- each word of the range has a stamp
+abbrev pub AreInUse : (ℕ → ℕ) → ℕ → ℕ → Type 0
+AreInUse stamps first count = (l : ℕ) → covers first count l ≡ true → 0 < stamps l
+
+-- A step needs none; nor does a return where the list of records, with so many in it, has room for what it ends; nor an access
+-- of words that are in use.
+abbrev pub NeedsNoMemory : Event → Table → ℕ → ℕ → Type 0
+NeedsNoMemory (Step t) table held capacity = Unit {0}
+NeedsNoMemory (Ret t target) table held capacity = held + length (finished (Ret t target) table) ≤ capacity
+NeedsNoMemory (Read t first count) table held capacity = AreInUse (access_of table t) first count
+NeedsNoMemory (Write t first count) table held capacity = AreInUse (access_of table t) first count × AreInUse table.write first count
+NeedsNoMemory (Fill first count) table held capacity = AreInUse table.write first count
+NeedsNoMemory _ table held capacity = ⊥
