@@ -1,0 +1,155 @@
+-- The profile of a run that goes on.
+use Rattle.std.proofs.Common.{◌≡◌, ℕ, ◌+◌, ◌<◌, ◌≤◌, ◌^◌, Bool, true, false, List, [], ◌∷◌, ◌++◌, length, take, refl, sym, ap, subst, ◌∙◌, arith, append_assoc, length-append}
+use Rattle.std.specs.Prelude.{not}
+use Rattle.std.specs.List.{All}
+use Rattle.std.proofs.lemmas.List.{append-nil, length-take, take-append-le, take_all}
+use Rattle.std.proofs.lemmas.List.Elements.{All-tail}
+use Rattle.trace_model.specs.declared.event_kinds.Event.{Event}
+use Rattle.trace_model.specs.declared.event_kinds.Event.TheVariants.{Step, Read, Write, Fill, Call, Ret, Start, End}
+use Rattle.trace_model.specs.declared.slow_profile.Done.{Done}
+use Rattle.trace_model.specs.Depth.{is_within, pending}
+use Rattle.trace_model.specs.Laws.{begun_count}
+use Rattle.trace_model.specs.Profile.{HasParts, done, ended, steps}
+use Rattle.trace_model.specs.WellFormed.{IsLight, weight}
+use Rattle.trace_model.proofs.Causes.{done_has_parts}
+use Rattle.trace_model.proofs.Pending.{done-pending}
+use Rattle.cost_points.specs.Contents.{TableContents, contents_of}
+use Rattle.shadow_core.specs.Applying.{IsTaken, is_too_deep}
+use Rattle.shadow_core.specs.Profiling.{StandsFor}
+use Rattle.shadow_core.specs.Stands.{Stands}
+use Rattle.shadow_core.specs.State.{State, table_of_state}
+use Rattle.shadow_core.specs.Table.{Table}
+use Rattle.shadow_core.proofs.Applied.{deep_does_not_fit}
+use Rattle.run_profile.specs.Profile.{IsOfLight, IsProfileOf, Kept}
+
+-- ---- Counts are small.
+pub steps-le-weight : (past : List Event) → steps past ≤ weight past
+steps-le-weight [] = omega arith
+steps-le-weight (Step tid ∷ past) = omega (arith, steps-le-weight past)
+steps-le-weight (Read tid first count ∷ past) = omega (arith, steps-le-weight past)
+steps-le-weight (Write tid first count ∷ past) = omega (arith, steps-le-weight past)
+steps-le-weight (Fill first count ∷ past) = omega (arith, steps-le-weight past)
+steps-le-weight (Call tid entry back ∷ past) = omega (arith, steps-le-weight past)
+steps-le-weight (Ret tid target ∷ past) = omega (arith, steps-le-weight past)
+steps-le-weight (Start tid entry ∷ past) = omega (arith, steps-le-weight past)
+steps-le-weight (End tid ∷ past) = omega (arith, steps-le-weight past)
+
+begun-le-weight : (past : List Event) → begun_count past ≤ weight past
+begun-le-weight [] = omega arith
+begun-le-weight (Step tid ∷ past) = omega (arith, begun-le-weight past)
+begun-le-weight (Read tid first count ∷ past) = omega (arith, begun-le-weight past)
+begun-le-weight (Write tid first count ∷ past) = omega (arith, begun-le-weight past)
+begun-le-weight (Fill first count ∷ past) = omega (arith, begun-le-weight past)
+begun-le-weight (Call tid entry back ∷ past) = omega (arith, begun-le-weight past)
+begun-le-weight (Ret tid target ∷ past) = omega (arith, begun-le-weight past)
+begun-le-weight (Start tid entry ∷ past) = omega (arith, begun-le-weight past)
+begun-le-weight (End tid ∷ past) = omega (arith, begun-le-weight past)
+
+pub few_done : (past : List Event) → IsLight past → length (done past) < 2 ^ 62
+few_done past light = omega (arith, done-pending past, begun-le-weight past, light)
+
+-- the steps of one event more
+pub one_more : (e : Event) (past : List Event) → steps (e ∷ past) ≡ steps past + steps (e ∷ [])
+one_more (Step tid) past = omega arith
+one_more (Read tid first count) past = omega arith
+one_more (Write tid first count) past = omega arith
+one_more (Fill first count) past = omega arith
+one_more (Call tid entry back) past = omega arith
+one_more (Ret tid target) past = omega arith
+one_more (Start tid entry) past = omega arith
+one_more (End tid) past = omega arith
+
+pub few_steps : (most n more : ℕ) (e : Event) (past : List Event) → IsLight (e ∷ past) → n ≡ steps past → more ≡ steps (e ∷ []) → n + more < 2 ^ 64
+few_steps most n more e past light is adds = omega (arith, steps-le-weight (e ∷ past), one_more e past, light, is, adds)
+
+-- ---- What ended last is added to the points.
+pub few_added : (most : ℕ) (k : Kept) → IsOfLight most k → k.points.members + length k.ended < 2 ^ 63
+few_added most k of =
+    let p = of.now in
+    omega (
+      arith,
+      ap (λ (t : TableContents). t.members) p.points,
+      length-append p.earlier (take k.added k.ended),
+      length-take k.added k.ended,
+      length-append p.earlier k.ended,
+      ap (λ (ds : List Done). length ds) p.all,
+      few_done of.past of.light,
+    )
+
+all_right : {X : Type 0} (P : X → Type 0) (xs ys : List X) → All P (xs ++ ys) → All P ys
+all_right P [] ys all = all
+all_right P (x ∷ xs) ys all = all_right P xs ys (All-tail P x (xs ++ ys) all)
+
+pub have_parts : (most : ℕ) (k : Kept) → IsOfLight most k → All HasParts k.ended
+have_parts most k of = all_right HasParts of.now.earlier k.ended (subst (All HasParts) (sym of.now.all) (done_has_parts of.past))
+
+pub settled : (most n : ℕ) (k : Kept) (points : TableContents) (past : List Event) → (p : IsProfileOf most k past) →
+    points ≡ contents_of (p.earlier ++ take n k.ended) → n ≡ length k.ended → IsProfileOf most (record k { points = points; ended = []; added = 0 }) past
+settled most n k points past p are all = record {
+  stands = p.stands;
+  earlier = p.earlier ++ k.ended;
+  all = append-nil (p.earlier ++ k.ended) ∙ p.all;
+  inside = omega arith;
+  points =
+      are
+      ∙ ap (λ (ds : List Done). contents_of (p.earlier ++ ds)) (take_all n k.ended (omega (arith, all)))
+      ∙ ap contents_of (sym (append-nil (p.earlier ++ k.ended)));
+  steps_are = p.steps_are;
+}
+
+-- a part of them was added
+pub settling : (most n : ℕ) (k : Kept) (points : TableContents) (past : List Event) → (p : IsProfileOf most k past) →
+    points ≡ contents_of (p.earlier ++ take n k.ended) → n ≤ length k.ended → IsProfileOf most (record k { points = points; added = n }) past
+settling most n k points past p are inside = record { stands = p.stands; earlier = p.earlier; all = p.all; inside = inside; points = are; steps_are = p.steps_are }
+
+-- ---- One event more.
+pub observed : (most : ℕ) (e : Event) (k : Kept) (new : State) (after : List Done) (more : ℕ) (past : List Event) → IsProfileOf most k past →
+    IsTaken most e past new k.ended after → more ≡ steps (e ∷ []) →
+    IsProfileOf most (record k { stamps = new; ended = after; steps = k.steps + more }) (e ∷ past) × (is_within most (e ∷ past) ≡ true)
+observed most e k new after more past p taken adds = (
+  record {
+    stands = taken.stands;
+    earlier = p.earlier;
+    all =
+        ap (λ (ds : List Done). p.earlier ++ ds) taken.recorded
+        ∙ sym (append_assoc p.earlier k.ended (ended e past))
+        ∙ ap (λ (ds : List Done). ds ++ ended e past) p.all;
+    inside = omega (arith, p.inside, ap (λ (ds : List Done). length ds) taken.recorded, length-append k.ended (ended e past));
+    points =
+        p.points
+        ∙ ap (λ (ds : List Done). contents_of (p.earlier ++ ds))
+        (sym (ap (take k.added) taken.recorded ∙ take-append-le k.added k.ended (ended e past) p.inside));
+    steps_are = omega (arith, p.steps_are, adds, one_more e past);
+  },
+  taken.fits,
+)
+
+-- it is too deep
+pub refused : (most : ℕ) (e : Event) (k : Kept) (new : State) (after : List Done) (past : List Event) → IsProfileOf most k past →
+    table_of_state new ≡ table_of_state k.stamps → after ≡ k.ended → (is_too_deep most e past ≡ false → ⊥) →
+    IsProfileOf most (record k { stamps = new; ended = after }) past × (is_within most (e ∷ past) ≡ false)
+refused most e k new after past p same kept deep = (
+  record {
+    stands = subst (λ (table : Table). Stands most table past) (sym same) p.stands;
+    earlier = p.earlier;
+    all = ap (λ (ds : List Done). p.earlier ++ ds) kept ∙ p.all;
+    inside = omega (arith, p.inside, ap (λ (ds : List Done). length ds) kept);
+    points = p.points ∙ ap (λ (ds : List Done). contents_of (p.earlier ++ take k.added ds)) (sym kept);
+    steps_are = p.steps_are;
+  },
+  turn (is_too_deep most e past) (is_within most (e ∷ past)) (deep_does_not_fit most e (table_of_state k.stamps) past p.stands) deep,
+)
+  where
+    turn : (d w : Bool) → d ≡ not w → (d ≡ false → ⊥) → w ≡ false
+    turn d false is no = refl
+    turn d true is no = absurd (no is)
+
+-- ---- What the run comes to.
+pub comes_to : (most : ℕ) (k : Kept) (past : List Event) → IsProfileOf most k past → k.ended ≡ [] → k.points ≡ contents_of (done past)
+comes_to most k past p none =
+    p.points
+    ∙ ap (λ (ds : List Done). contents_of (p.earlier ++ ds)) (ap (take k.added) none ∙ take_none k.added)
+    ∙ ap contents_of (ap (λ (ds : List Done). p.earlier ++ ds) (sym none) ∙ p.all)
+  where
+    take_none : (n : ℕ) → take n [] ≡ []
+    take_none n = take_all n [] (omega arith)

@@ -1,0 +1,22 @@
+use Rattle.std.proofs.Common.{◌≡◌, ◌+◌, ◌<◌, ◌^◌, ◌∙◌, List, ap, length, subst, sym}
+use Rattle.std.specs.List.{All}
+use Rattle.trace_model.specs.declared.slow_profile.Done.{Done}
+use Rattle.trace_model.specs.Profile.{HasParts}
+use Rattle.run_profile.specs.Profile.{IsOfLight, IsProfileOf, Kept}
+use Rattle.run_profile.proofs.Profiles.{few_added, have_parts, settled}
+use Rattle.run_profile.proofs.profile.Profile.settle.Goals as goal
+
+pub add_ended-requires-clause-few : goal.add_ended-requires-clause-few
+add_ended-requires-clause-few g c =
+    let of = subst (λ (k : Kept). IsOfLight g.S.Stamp.MAX k) (sym c.self.view_is) c.requires in
+    subst (λ (ds : List Done). c.self.inside.points.members + length ds < 2 ^ 63) (sym c.deref.ensures.value) (few_added g.S.Stamp.MAX _ of)
+
+pub add_ended-requires-clause-parts : goal.add_ended-requires-clause-parts
+add_ended-requires-clause-parts g c =
+    let of = subst (λ (k : Kept). IsOfLight g.S.Stamp.MAX k) (sym c.self.view_is) c.requires in
+    subst (All HasParts) (sym c.deref.ensures.value) (have_parts g.S.Stamp.MAX _ of)
+
+pub returns-clause-stands : goal.returns-clause-stands
+returns-clause-stands g c = λ past kept.
+    let p = subst (λ (k : Kept). IsProfileOf g.S.Stamp.MAX k past) (sym c.self.view_is) kept in
+    ?
