@@ -2,16 +2,16 @@
 use Rattle.std.proofs.Common.{◌≡◌, ◌<◌, ◌^◌, true, false, refl, ap, ap₂, subst, sym, ◌∙◌, ◌||◌, append_assoc, List, [], ◌∷◌, ◌++◌, length, Some, None, codes}
 use Rattle.std.proofs.lemmas.List.{append-nil}
 use Rattle.std.proofs.lemmas.List.Sums.{fold-append}
-use Rattle.std.specs.Prelude.{fold, map}
+use Rattle.std.specs.Prelude.{fold}
 use Rattle.std.specs.List.{list_all}
 use Rattle.std.specs.Str.{bytes_eq}
 use Rattle.std.proofs.lemmas.Bool.{and_parts, or_parts}
 use Rattle.clap.specs.Takes.{walk_passes}
-use Rattle.clap.specs.Walk.{Waiting, Walk, has_row, idle, option, positional, walked}
+use Rattle.clap.specs.Walk.{Waiting, Walk, has_row, idle, option, positional, settled_rows, walked}
 use Rattle.clap.specs.Words.{Row, Text}
-use Rattle.command_line.specs.Plain.{ArePlain, Choice, HasNoRepeat, budget, choice_words, id_of, is_chosen, is_plain_word, quantum, recording, report, schedule, stdin, value_of, words_of}
-use Rattle.command_line.proofs.Rows.{absent_in_both, choice_row, choice_rows, image_is_none, no_choice_row, plain_row, plain_rows, tail_rows, word_is_none, word_rows}
-use Rattle.command_line.proofs.Steps.{IsNoFlag, Pending, Settles, TakesValue, first_turn, first_word, further_turn, further_word, image_settles, image_turn, image_word, pass_step, plain_is_no_flag, rules, run_shape, stand, takes_budget, takes_output, takes_quantum, takes_recording, takes_schedule, takes_stdin, turn, words_settle}
+use Rattle.command_line.specs.Plain.{ArePlain, Choice, HasNoRepeat, budget, choice_words, has_plain_value, id_of, is_chosen, is_plain_word, quantum, recording, report, schedule, stamps, stats, stdin, words_of}
+use Rattle.command_line.proofs.Rows.{absent_in_both, choice_row, choice_rows, image_is_none, made_rows, no_choice_row, plain_row, tail_rows, word_is_none, word_rows}
+use Rattle.command_line.proofs.Steps.{IsNoFlag, Pending, Settles, TakesValue, first_turn, first_word, further_turn, further_word, image_settles, image_turn, image_word, pass_step, plain_is_no_flag, rules, run_shape, stand, stats_turn, stats_word, takes_budget, takes_output, takes_quantum, takes_recording, takes_schedule, takes_stamps, takes_stdin, turn, words_settle}
 
 -- ---- the options
 
@@ -40,14 +40,29 @@ goes_value flag id v rows p all takes h plain fresh =
       settles = takes.settles all v fresh;
     }
 
-goes_choice : (c : Choice) (rows : List Row) (p : Pending) (all : List Row) → Settles rows p all → IsNoFlag (value_of c)
+goes_stats : (rows : List Row) (p : Pending) (all : List Row) → Settles rows p all → has_row (codes "stats") all ≡ false
+    → Goes rows p (codes "--stats" ∷ []) (all ++ choice_row stats ∷ [])
+goes_stats rows p all h fresh =
+    let absent : has_row (codes "stats") (settled_rows rules p rows) ≡ false = rw h.rows_are fresh in
+    let step = stats_word rows p absent ∙ ap (λ (xs : List Row). stand (xs ++ choice_row stats ∷ []) None idle 1) h.rows_are in
+    record {
+      rows2 = all ++ choice_row stats ∷ [];
+      p2 = None;
+      walk = step;
+      pass = λ rest. pass_step _ _ (codes "--stats") rest (stats_turn rows p absent ∙ h.passes) step;
+      settles = record { rows_are = refl; passes = refl };
+    }
+
+goes_choice : (c : Choice) (rows : List Row) (p : Pending) (all : List Row) → Settles rows p all → has_plain_value c ≡ true
     → has_row (id_of c) all ≡ false → Goes rows p (words_of c) (all ++ choice_row c ∷ [])
-goes_choice (stdin v) rows p all h plain fresh = goes_value _ _ v rows p all takes_stdin h plain fresh
-goes_choice (quantum v) rows p all h plain fresh = goes_value _ _ v rows p all takes_quantum h plain fresh
-goes_choice (schedule v) rows p all h plain fresh = goes_value _ _ v rows p all takes_schedule h plain fresh
-goes_choice (recording v) rows p all h plain fresh = goes_value _ _ v rows p all takes_recording h plain fresh
-goes_choice (budget v) rows p all h plain fresh = goes_value _ _ v rows p all takes_budget h plain fresh
-goes_choice (report v) rows p all h plain fresh = goes_value _ _ v rows p all takes_output h plain fresh
+goes_choice (stdin v) rows p all h plain fresh = goes_value _ _ v rows p all takes_stdin h (plain_is_no_flag v plain) fresh
+goes_choice (quantum v) rows p all h plain fresh = goes_value _ _ v rows p all takes_quantum h (plain_is_no_flag v plain) fresh
+goes_choice (schedule v) rows p all h plain fresh = goes_value _ _ v rows p all takes_schedule h (plain_is_no_flag v plain) fresh
+goes_choice (recording v) rows p all h plain fresh = goes_value _ _ v rows p all takes_recording h (plain_is_no_flag v plain) fresh
+goes_choice (budget v) rows p all h plain fresh = goes_value _ _ v rows p all takes_budget h (plain_is_no_flag v plain) fresh
+goes_choice (stamps v) rows p all h plain fresh = goes_value _ _ v rows p all takes_stamps h (plain_is_no_flag v plain) fresh
+goes_choice stats rows p all h plain fresh = goes_stats rows p all h fresh
+goes_choice (report v) rows p all h plain fresh = goes_value _ _ v rows p all takes_output h (plain_is_no_flag v plain) fresh
 
 -- none of the choices has a row
 abbrev AllFresh : List Row → List Choice → Type 0
@@ -66,7 +81,7 @@ fresh_at_first [] = tt
 fresh_at_first (c ∷ cs) = (refl, fresh_at_first cs)
 
 goes_choices : (cs : List Choice) (rows : List Row) (p : Pending) (all : List Row) → Settles rows p all
-    → list_all is_plain_word (map value_of cs) ≡ true → HasNoRepeat cs → AllFresh all cs
+    → list_all has_plain_value cs ≡ true → HasNoRepeat cs → AllFresh all cs
     → Goes rows p (choice_words cs) (all ++ choice_rows cs)
 goes_choices [] rows p all h plain once fresh = record {
   rows2 = rows;
@@ -76,8 +91,8 @@ goes_choices [] rows p all h plain once fresh = record {
   settles = subst (Settles rows p) (sym (append-nil all)) h;
 }
 goes_choices (c ∷ cs) rows p all h plain once fresh =
-    let values = and_parts (is_plain_word (value_of c)) (list_all is_plain_word (map value_of cs)) plain in
-    let one = goes_choice c rows p all h (plain_is_no_flag (value_of c) values.0) fresh.0 in
+    let values = and_parts (has_plain_value c) (list_all has_plain_value cs) plain in
+    let one = goes_choice c rows p all h values.0 fresh.0 in
     let more = goes_choices cs one.rows2 one.p2 (all ++ choice_row c ∷ []) one.settles values.1 once.1
     (fresh_more all c cs fresh.1 once.0) in
     record {
@@ -152,7 +167,7 @@ ends_words (v ∷ vs) rows image h few i w =
     }
 
 pub ends_run : (choices : List Choice) (image : Text) (words : List Text) → ArePlain choices image words
-    → Ends (stand [] None idle 1) (choice_words choices ++ image ∷ words) (plain_rows choices image words)
+    → Ends (stand [] None idle 1) (choice_words choices ++ image ∷ words) (made_rows choices image words)
 ends_run choices image words plain =
     let start : Settles [] None [] = record { rows_are = refl; passes = refl } in
     let one = goes_choices choices [] None [] start plain.plain_values plain.once (fresh_at_first choices) in

@@ -12,7 +12,7 @@ use Rattle.clap.specs.Walk.{action_of, attached_value, bundle, has_long, has_sho
 use Rattle.clap.specs.Words.{Row, Rule, Text}
 use Rattle.clap.specs.Facts.{unwrap_or_range}
 use Rattle.clap.specs.declared.builder.ArgAction.{ArgAction}
-use Rattle.clap.specs.declared.builder.ArgAction.TheVariants.{Append, Set}
+use Rattle.clap.specs.declared.builder.ArgAction.TheVariants.{Append, Set, SetTrue}
 use Rattle.clap.specs.declared.builder.value_parser.Reading.{Reading}
 use Rattle.clap.specs.declared.parser.matches.ValueSource.{ValueSource}
 use Rattle.clap.specs.declared.parser.matches.ValueSource.TheVariants.{CommandLine}
@@ -101,15 +101,24 @@ abbrev pub AllKeep : Text → List Rule → Type 0
 AllKeep id [] = Unit {0}
 AllKeep id (a ∷ rest) = Keeps id a × AllKeep id rest
 
-filled_same : (id : Text) (xs ys : List Row) → row_for id xs ≡ row_for id ys → is_filled id ys ≡ true → is_filled id xs ≡ true
+pub filled_same : (id : Text) (xs ys : List Row) → row_for id xs ≡ row_for id ys → is_filled id ys ≡ true → is_filled id xs ≡ true
 filled_same id xs ys same h = ap (λ (o : Option Row). option_map_or (λ (r : Row). is_some (slice_get r.values 0)) o true) same ∙ h
 
--- another argument that is set, or that gets more values
+-- another argument that is set, to a value or to `true`, or that gets more values
+other_set : (id : Text) (a : Rule) (vs : List Text) (rows : List Row) → bytes_eq a.id id ≡ false → is_filled id rows ≡ true
+    → is_filled id (with_values a.id (reading_by a) CommandLine vs (without a.id rows)) ≡ true
+other_set id a vs rows apart h =
+    filled_same id _ rows (other_values id a.id (reading_by a) CommandLine vs (without a.id rows) apart ∙ other_without id a.id rows apart) h
+
 set_keeps : (id : Text) (a : Rule) → bytes_eq a.id id ≡ false → action_of a ≡ Set → Keeps id a
 set_keeps id a apart action again values rows passes h =
     let vs = values_or_missing a values in
-    ap (λ (x : ArgAction). is_filled id (used_as x a.id (reading_by a) vs rows)) action
-    ∙ filled_same id _ rows (other_values id a.id (reading_by a) CommandLine vs (without a.id rows) apart ∙ other_without id a.id rows apart) h
+    ap (λ (x : ArgAction). is_filled id (used_as x a.id (reading_by a) vs rows)) action ∙ other_set id a vs rows apart h
+
+set_true_keeps : (id : Text) (a : Rule) → bytes_eq a.id id ≡ false → action_of a ≡ SetTrue → Keeps id a
+set_true_keeps id a apart action again values rows passes h =
+    let vs = values_or_missing a values in
+    ap (λ (x : ArgAction). is_filled id (used_as x a.id (reading_by a) vs rows)) action ∙ other_set id a vs rows apart h
 
 append_keeps : (id : Text) (a : Rule) → bytes_eq a.id id ≡ false → action_of a ≡ Append → Keeps id a
 append_keeps id a apart action again values rows passes h =
@@ -133,11 +142,13 @@ own_keeps a same action one again values rows passes h =
 -- why an argument's uses leave the row of `id` filled
 pub data IsKept (id : Text) (a : Rule) : Type 0 where
   is_set : bytes_eq a.id id ≡ false → action_of a ≡ Set → IsKept id a
+  is_flag : bytes_eq a.id id ≡ false → action_of a ≡ SetTrue → IsKept id a
   is_appended : bytes_eq a.id id ≡ false → action_of a ≡ Append → IsKept id a
   is_own : a.id ≡ id → action_of a ≡ Set → (unwrap_or_range a.range).start_inclusive ≡ 1 → IsKept id a
 
 pub kept_keeps : (id : Text) (a : Rule) → bytes_eq id id ≡ true → IsKept id a → Keeps id a
 kept_keeps id a same (is_set apart action) = set_keeps id a apart action
+kept_keeps id a same (is_flag apart action) = set_true_keeps id a apart action
 kept_keeps id a same (is_appended apart action) = append_keeps id a apart action
 kept_keeps id a same (is_own own action one) =
     let same2 : bytes_eq a.id a.id ≡ true = rw own same in

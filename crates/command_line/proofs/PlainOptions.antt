@@ -1,24 +1,49 @@
 -- What is read of the rows of plain words.
-use Rattle.std.proofs.Common.{◌≡◌, ℕ, Bool, true, false, refl, ap, ap₂, ◌∙◌, List, [], ◌∷◌, ◌++◌, Option, Some, None, codes}
+use Rattle.std.proofs.Common.{◌≡◌, ℕ, Bool, true, false, refl, ap, ap₂, sym, ◌∙◌, List, [], ◌∷◌, ◌++◌, Option, Some, None, codes}
 use Rattle.std.specs.Prelude.{option_map, unwrap_or}
 use Rattle.std.specs.Str.{bytes_eq}
 use Rattle.clap.specs.Words.{Row, Text, all_of, first_of}
-use Rattle.command_line.specs.Options.{Run, budget_of, guest_with, options_of_rows, options_with, quantum_of}
-use Rattle.command_line.specs.Plain.{Choice, PlainOptionsAreRead, given, id_of, run_words}
+use Rattle.stamps.specs.declared.width.StampBits.{StampBits}
+use Rattle.command_line.specs.Options.{Run, bits_of, budget_of, guest_with, has_flag, options_of_rows, options_with, quantum_of}
+use Rattle.command_line.specs.Plain.{Choice, PlainOptionsAreRead, budget, given, id_of, is_chosen, quantum, recording, report, run_words, schedule, stamps, stats, stdin, value_of}
 use Rattle.command_line.proofs.Refusals.{asked_is, read_of}
 use Rattle.command_line.proofs.PlainWords.{plain_subcommand}
-use Rattle.command_line.proofs.Rows.{IsNoChoice, choice_row, choice_rows, image_is_none, plain_rows, tail_rows, word_is_none}
+use Rattle.command_line.proofs.Rows.{IsNoChoice, choice_row, choice_rows, image_is_none, plain_rows, row_value, tail_rows, unset_rows, word_is_none}
+
+-- a choice of this argument has a value, where that is not `stats`
+has_value : (id : Text) (c : Choice) → bytes_eq (codes "stats") id ≡ false → bytes_eq (id_of c) id ≡ true → Some (row_value c) ≡ value_of c
+has_value id (stdin v) apart same = refl
+has_value id (quantum v) apart same = refl
+has_value id (schedule v) apart same = refl
+has_value id (recording v) apart same = refl
+has_value id (budget v) apart same = refl
+has_value id (stamps v) apart same = refl
+has_value id stats apart same = let no : false ≡ true = sym apart ∙ same in cc
+has_value id (report v) apart same = refl
 
 -- the value of an option, where the rows after those of the options have none
-first_given : (id : Text) (cs : List Choice) (rest : List Row) → first_of id rest ≡ None
+first_given : (id : Text) (cs : List Choice) (rest : List Row) → bytes_eq (codes "stats") id ≡ false → first_of id rest ≡ None
     → first_of id (choice_rows cs ++ rest) ≡ given id cs
-first_given id [] rest h = h
-first_given id (c ∷ cs) rest h = go (bytes_eq (id_of c) id) refl (first_given id cs rest h)
+first_given id [] rest apart h = h
+first_given id (c ∷ cs) rest apart h = go (bytes_eq (id_of c) id) refl (first_given id cs rest apart h)
   where
     go : (b : Bool) → bytes_eq (id_of c) id ≡ b → first_of id (choice_rows cs ++ rest) ≡ given id cs
         → first_of id (choice_row c ∷ (choice_rows cs ++ rest)) ≡ given id (c ∷ cs)
-    go true e rec = rw e refl
+    go true e rec = rw e (has_value id c apart e)
     go false e rec = rw e rec
+
+-- whether `--stats` is given, where the rows after those of the options don't say so
+flag_given : (cs : List Choice) (rest : List Row) → has_flag (codes "stats") rest ≡ false
+    → has_flag (codes "stats") (choice_rows cs ++ rest) ≡ is_chosen (codes "stats") cs
+flag_given [] rest h = h
+flag_given (stdin v ∷ cs) rest h = flag_given cs rest h
+flag_given (quantum v ∷ cs) rest h = flag_given cs rest h
+flag_given (schedule v ∷ cs) rest h = flag_given cs rest h
+flag_given (recording v ∷ cs) rest h = flag_given cs rest h
+flag_given (budget v ∷ cs) rest h = flag_given cs rest h
+flag_given (stamps v ∷ cs) rest h = flag_given cs rest h
+flag_given (stats ∷ cs) rest h = refl
+flag_given (report v ∷ cs) rest h = flag_given cs rest h
 
 -- what no option is of is read of the rows after theirs
 first_after : (id : Text) (cs : List Choice) (rest : List Row) → IsNoChoice id → first_of id (choice_rows cs ++ rest) ≡ first_of id rest
@@ -29,59 +54,64 @@ all_after : (id : Text) (cs : List Choice) (rest : List Row) → IsNoChoice id �
 all_after id [] rest h = refl
 all_after id (c ∷ cs) rest h = rw (h c) (all_after id cs rest h)
 
-words_read : (image : Text) (words : List Text) → unwrap_or (all_of (codes "word") (tail_rows image words)) [] ≡ words
-words_read image [] = refl
-words_read image (w ∷ ws) = refl
+-- the rows after those of the options
+abbrev end_rows : Text → List Text → Bool → List Row
+end_rows image words given = tail_rows image words ++ unset_rows given
 
--- the rows after those of the options are of the image and the words
-abbrev IsNoTail : Text → Type 0
-IsNoTail id = (image : Text) (words : List Text) → first_of id (tail_rows image words) ≡ None
+words_read : (image : Text) (words : List Text) (given : Bool) → unwrap_or (all_of (codes "word") (end_rows image words given)) [] ≡ words
+words_read image [] true = refl
+words_read image [] false = refl
+words_read image (w ∷ ws) given = refl
 
-no_stdin : IsNoTail (codes "stdin")
-no_stdin image [] = refl
-no_stdin image (w ∷ ws) = refl
+no_flag : (image : Text) (words : List Text) (given : Bool) → has_flag (codes "stats") (end_rows image words given) ≡ false
+no_flag image [] true = refl
+no_flag image [] false = refl
+no_flag image (w ∷ ws) true = refl
+no_flag image (w ∷ ws) false = refl
 
-no_schedule : IsNoTail (codes "schedule")
-no_schedule image [] = refl
-no_schedule image (w ∷ ws) = refl
+-- the argument is an option with a value
+abbrev IsOption : Text → Type 0
+IsOption id = (bytes_eq (codes "image") id ≡ false) × (bytes_eq (codes "word") id ≡ false) × (bytes_eq (codes "stats") id ≡ false)
 
-no_recording : IsNoTail (codes "record")
-no_recording image [] = refl
-no_recording image (w ∷ ws) = refl
+none_after : (id image : Text) (words : List Text) (given : Bool) → IsOption id → first_of id (end_rows image words given) ≡ None
+none_after id image [] true h = rw h.0 refl
+none_after id image [] false h = rw (h.0, h.2) refl
+none_after id image (w ∷ ws) true h = rw (h.0, h.1) refl
+none_after id image (w ∷ ws) false h = rw (h.0, h.1, h.2) refl
 
-no_quantum : IsNoTail (codes "quantum")
-no_quantum image [] = refl
-no_quantum image (w ∷ ws) = refl
-
-no_budget : IsNoTail (codes "budget")
-no_budget image [] = refl
-no_budget image (w ∷ ws) = refl
-
-no_report : IsNoTail (codes "output")
-no_report image [] = refl
-no_report image (w ∷ ws) = refl
+-- it is read of plain words
+option_read : (id : Text) (choices : List Choice) (image : Text) (words : List Text) → IsOption id
+    → first_of id (plain_rows choices image words) ≡ given id choices
+option_read id choices image words h =
+    let given_stats = is_chosen (codes "stats") choices in
+    first_given id choices (end_rows image words given_stats) h.2 (none_after id image words given_stats h)
 
 -- what stands in the rows
-options_are : (rows : List Row) (turn_steps run_steps : ℕ) (report_path image : Text) (stdin schedule recording : Option Text) (words : List Text)
+options_are : (rows : List Row) (turn_steps run_steps : ℕ) (width : StampBits) (report_path image : Text)
+    (input turns recorded : Option Text) (words : List Text) (is_given : Bool)
     → quantum_of (first_of (codes "quantum") rows) ≡ Some turn_steps → budget_of (first_of (codes "budget") rows) ≡ Some run_steps
+    → bits_of (first_of (codes "stamps") rows) ≡ Some width
     → first_of (codes "output") rows ≡ Some report_path → first_of (codes "image") rows ≡ Some image
-    → first_of (codes "stdin") rows ≡ stdin → first_of (codes "schedule") rows ≡ schedule → first_of (codes "record") rows ≡ recording
-    → unwrap_or (all_of (codes "word") rows) [] ≡ words
+    → first_of (codes "stdin") rows ≡ input → first_of (codes "schedule") rows ≡ turns → first_of (codes "record") rows ≡ recorded
+    → unwrap_or (all_of (codes "word") rows) [] ≡ words → has_flag (codes "stats") rows ≡ is_given
     → options_of_rows rows ≡ Some (record {
       guest = record {
-        stdin = stdin;
-        schedule = schedule;
+        stdin = input;
+        schedule = turns;
         quantum = turn_steps;
         budget = run_steps;
         image = image;
         words = words;
       };
       report = report_path;
-      recording = recording;
+      recording = recorded;
+      bits = width;
+      stats = is_given;
     })
-options_are rows turn_steps run_steps report_path image stdin schedule recording words q b r i s c l w =
-    ap₂ (λ x y. options_with rows (guest_with rows x y (first_of (codes "image") rows)) (first_of (codes "output") rows)) q b
-    ∙ (ap₂ (λ x y. options_with rows (guest_with rows (Some turn_steps) (Some run_steps) x) y) i r
+options_are rows turn_steps run_steps width report_path image input turns recorded words is_given q b n r i s c l w f =
+    ap₂ (λ x y. options_with rows (guest_with rows x y (first_of (codes "image") rows)) (first_of (codes "output") rows) (bits_of (first_of (codes "stamps") rows))) q b
+    ∙ (ap₂ (λ x y. options_with rows (guest_with rows (Some turn_steps) (Some run_steps) x) y (bits_of (first_of (codes "stamps") rows))) i r
+    ∙ (ap (λ x. options_with rows (guest_with rows (Some turn_steps) (Some run_steps) (Some image)) (Some report_path) x) n
     ∙ λ k. Some (record {
       guest = record {
         stdin = s k;
@@ -93,21 +123,26 @@ options_are rows turn_steps run_steps report_path image stdin schedule recording
       };
       report = report_path;
       recording = l k;
-    }))
+      bits = width;
+      stats = f k;
+    })))
 
 pub plain_options : PlainOptionsAreRead
-plain_options program choices image words plain zeros report_path turn_steps run_steps r q b =
+plain_options program choices image words plain zeros report_path turn_steps run_steps width r q b n =
     let all = run_words program choices image words in
-    let tail = tail_rows image words in
+    let given_stats = is_chosen (codes "stats") choices in
+    let end = end_rows image words given_stats in
     asked_is all zeros
     ∙ (ap read_of (plain_subcommand program choices image words plain)
-    ∙ ap (option_map Run) (options_are (plain_rows choices image words) turn_steps run_steps report_path image
-    (given (codes "stdin") choices) (given (codes "schedule") choices) (given (codes "record") choices) words
-    (ap quantum_of (first_given (codes "quantum") choices tail (no_quantum image words)) ∙ q)
-    (ap budget_of (first_given (codes "budget") choices tail (no_budget image words)) ∙ b)
-    (first_given (codes "output") choices tail (no_report image words) ∙ r)
-    (first_after (codes "image") choices tail image_is_none)
-    (first_given (codes "stdin") choices tail (no_stdin image words))
-    (first_given (codes "schedule") choices tail (no_schedule image words))
-    (first_given (codes "record") choices tail (no_recording image words))
-    (ap (λ (o : Option (List Text)). unwrap_or o []) (all_after (codes "word") choices tail word_is_none) ∙ words_read image words)))
+    ∙ ap (option_map Run) (options_are (plain_rows choices image words) turn_steps run_steps width report_path image
+    (given (codes "stdin") choices) (given (codes "schedule") choices) (given (codes "record") choices) words given_stats
+    (ap quantum_of (option_read (codes "quantum") choices image words (refl, refl, refl)) ∙ q)
+    (ap budget_of (option_read (codes "budget") choices image words (refl, refl, refl)) ∙ b)
+    (ap bits_of (option_read (codes "stamps") choices image words (refl, refl, refl)) ∙ n)
+    (option_read (codes "output") choices image words (refl, refl, refl) ∙ r)
+    (first_after (codes "image") choices end image_is_none)
+    (option_read (codes "stdin") choices image words (refl, refl, refl))
+    (option_read (codes "schedule") choices image words (refl, refl, refl))
+    (option_read (codes "record") choices image words (refl, refl, refl))
+    (ap (λ (o : Option (List Text)). unwrap_or o []) (all_after (codes "word") choices end word_is_none) ∙ words_read image words given_stats)
+    (flag_given choices end (no_flag image words given_stats))))

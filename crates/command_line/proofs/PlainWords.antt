@@ -1,7 +1,9 @@
 -- Plain words are taken, and their rows are these.
-use Rattle.std.proofs.Common.{◌≡◌, Bool, true, false, refl, ap, ap₂, sym, ◌∙◌, ◌&&◌, List, [], ◌∷◌, ◌++◌, Option, Some, None, codes, append_assoc, cond}
+use Rattle.std.proofs.Common.{◌≡◌, Bool, true, false, refl, ap, ap₂, sym, ◌∙◌, ◌&&◌, ◌||◌, List, [], ◌∷◌, ◌++◌, Option, Some, None, codes, append_assoc, cond}
 use Rattle.std.proofs.lemmas.List.{append-nil}
-use Rattle.std.specs.Prelude.{fold, is_some}
+use Rattle.std.proofs.lemmas.List.Folds.{list_any-append}
+use Rattle.std.proofs.Math.Bool.{or-false}
+use Rattle.std.specs.Prelude.{drop, fold, is_some, take}
 use Rattle.std.specs.List.{list_all}
 use Rattle.std.specs.Str.{bytes_eq}
 use Rattle.clap.specs.Simple.{argument_words, entered, names_of}
@@ -10,13 +12,13 @@ use Rattle.clap.specs.Walk.{Names, Walk, default_rows, finished, has_row, idle, 
 use Rattle.clap.specs.Words.{Row, Rule, Text, built, subcommand_of}
 use Rattle.clap.proofs.OnLiterals.{clap_on_literals}
 use Rattle.command_line.specs.App.{the_app, top_app, run_app, demo_app}
-use Rattle.command_line.specs.Plain.{ArePlain, Choice, PlainWordsAreTaken, budget, choice_words, is_chosen, quantum, recording, report, run_words, schedule, stdin}
+use Rattle.command_line.specs.Plain.{ArePlain, Choice, PlainWordsAreTaken, budget, choice_words, is_chosen, quantum, recording, report, run_words, schedule, stamps, stats, stdin}
 use Rattle.command_line.proofs.Choices.{ends_run}
 use Rattle.command_line.proofs.Fixed.{the_app_is_simple}
-use Rattle.command_line.proofs.Rows.{choice_rows, image_is_none, plain_rows, tail_rows, IsNoChoice}
+use Rattle.command_line.proofs.Rows.{choice_rows, if_unset, image_is_none, made_rows, plain_rows, tail_rows, unset_rows, IsNoChoice}
 use Rattle.command_line.proofs.Steps.{rules, run_shape, stand}
 
--- ---- no argument has a default
+-- ---- defaults
 
 abbrev pub NoDefaults : List Rule → Type 0
 NoDefaults [] = Unit {0}
@@ -31,9 +33,39 @@ no_defaults [] rows h = refl
 no_defaults (a ∷ rest) rows h =
     ap (λ x. fold with_default x rest) (if_none (has_row a.id rows) a rows h.0) ∙ no_defaults rest rows h.1
 
-pub finished_rows : (rows : List Row) → fold with_default rows rules ≡ rows
+-- only `--stats` has a default
+pub finished_rows : (rows : List Row) → fold with_default rows rules ≡ rows ++ unset_rows (has_row (codes "stats") rows)
 unfolding the_app top_app run_app demo_app clap_on_literals
-finished_rows rows = no_defaults rules rows (refl, (refl, (refl, (refl, (refl, (refl, (refl, (refl, tt))))))))
+finished_rows rows =
+    ap (λ x. fold with_default x (drop 6 rules)) (no_defaults (take 6 rules) rows (refl, (refl, (refl, (refl, (refl, (refl, tt)))))))
+    ∙ (no_defaults (drop 7 rules) (fold with_default rows (take 1 (drop 6 rules))) (refl, (refl, (refl, tt)))
+    ∙ if_unset (has_row (codes "stats") rows) rows refl)
+
+chosen_stats : (cs : List Choice) → has_row (codes "stats") (choice_rows cs) ≡ is_chosen (codes "stats") cs
+chosen_stats [] = refl
+chosen_stats (stdin v ∷ cs) = chosen_stats cs
+chosen_stats (quantum v ∷ cs) = chosen_stats cs
+chosen_stats (schedule v ∷ cs) = chosen_stats cs
+chosen_stats (recording v ∷ cs) = chosen_stats cs
+chosen_stats (budget v ∷ cs) = chosen_stats cs
+chosen_stats (stamps v ∷ cs) = chosen_stats cs
+chosen_stats (stats ∷ cs) = refl
+chosen_stats (report v ∷ cs) = chosen_stats cs
+
+no_stats_tail : (image : Text) (words : List Text) → has_row (codes "stats") (tail_rows image words) ≡ false
+no_stats_tail image [] = refl
+no_stats_tail image (w ∷ ws) = refl
+
+finished_plain : (choices : List Choice) (image : Text) (words : List Text)
+    → fold with_default (made_rows choices image words) rules ≡ plain_rows choices image words
+finished_plain choices image words =
+    let made = made_rows choices image words in
+    let tail = tail_rows image words in
+    let chosen : has_row (codes "stats") made ≡ is_chosen (codes "stats") choices =
+    list_any-append (λ r. bytes_eq r.id (codes "stats")) (choice_rows choices) tail
+    ∙ (ap₂ ◌||◌ (chosen_stats choices) (no_stats_tail image words) ∙ or-false _) in
+    finished_rows made
+    ∙ (ap (λ b. made ++ unset_rows b) chosen ∙ append_assoc (choice_rows choices) tail (unset_rows (is_chosen (codes "stats") choices)))
 
 -- ---- what is required is there
 
@@ -53,6 +85,8 @@ given_output (quantum v ∷ cs) h = given_output cs h
 given_output (schedule v ∷ cs) h = given_output cs h
 given_output (recording v ∷ cs) h = given_output cs h
 given_output (budget v ∷ cs) h = given_output cs h
+given_output (stamps v ∷ cs) h = given_output cs h
+given_output (stats ∷ cs) h = given_output cs h
 given_output (report v ∷ cs) h = refl
 
 -- the row of the image follows those of the options
@@ -73,7 +107,7 @@ run_rows : (choices : List Choice) (image : Text) (words : List Text) → ArePla
 run_rows choices image words plain =
     let end = ends_run choices image words plain in
     ap (λ w. fold with_default (settled_rows rules w.held.pending w.held.rows) rules) end.walk
-    ∙ (ap (λ rows. fold with_default rows rules) end.settles.rows_are ∙ finished_rows (plain_rows choices image words))
+    ∙ (ap (λ rows. fold with_default rows rules) end.settles.rows_are ∙ finished_plain choices image words)
 
 no_override : run_shape.args_override_self ≡ false
 unfolding the_app top_app run_app demo_app
@@ -99,12 +133,13 @@ run_passes : (choices : List Choice) (image : Text) (words : List Text) → AreP
 run_passes choices image words plain chosen =
     let end = ends_run choices image words plain in
     let all = plain_rows choices image words in
+    let tail = tail_rows image words ++ unset_rows (is_chosen (codes "stats") choices) in
     let valid : is_valid run_shape all false ≡ true =
-    run_valid all (given_left (codes "output") (choice_rows choices) (tail_rows image words) (given_output choices chosen))
-    (given_after (codes "image") choices (tail_rows image words) image_is_none refl) in
+    run_valid all (given_left (codes "output") (choice_rows choices) tail (given_output choices chosen))
+    (given_after (codes "image") choices tail image_is_none refl) in
     level_from _ _ end.walk end.pass end.settles.passes
     (ap (λ rows. is_valid run_shape (fold with_default rows rules) false) end.settles.rows_are
-    ∙ (ap (λ rows. is_valid run_shape rows false) (finished_rows all) ∙ valid))
+    ∙ (ap (λ rows. is_valid run_shape rows false) (finished_plain choices image words) ∙ valid))
 
 -- ---- the subcommand
 

@@ -1,13 +1,13 @@
 -- Rows of `clap`'s matches, as plain words make them.
-use Rattle.std.proofs.Common.{◌≡◌, Bool, true, false, refl, ap, ap₂, ◌∙◌, ◌||◌, List, [], ◌∷◌, ◌++◌, Some, None, codes}
+use Rattle.std.proofs.Common.{◌≡◌, Bool, true, false, refl, ap, ap₂, sym, ◌∙◌, ◌||◌, List, [], ◌∷◌, ◌++◌, Some, None, codes, cond, unwrap_or}
 use Rattle.std.proofs.lemmas.List.{append-nil}
 use Rattle.std.proofs.lemmas.List.Folds.{list_any-append}
 use Rattle.std.specs.Str.{bytes_eq}
 use Rattle.clap.specs.Walk.{at_row, has_row, more_values, reading_by, with_values, without}
 use Rattle.clap.specs.Words.{Row, Text}
-use Rattle.clap.specs.declared.parser.matches.ValueSource.TheVariants.{CommandLine}
+use Rattle.clap.specs.declared.parser.matches.ValueSource.TheVariants.{CommandLine, DefaultValue}
 use Rattle.command_line.specs.App.{word_rule}
-use Rattle.command_line.specs.Plain.{Choice, budget, id_of, quantum, recording, report, schedule, stdin, value_of}
+use Rattle.command_line.specs.Plain.{Choice, budget, id_of, is_chosen, quantum, recording, report, schedule, stamps, stats, stdin, value_of}
 
 -- the row of an argument that the words give these values
 abbrev pub plain_row : Text → List Text → Row
@@ -19,8 +19,12 @@ plain_row id values = record {
   reading = reading_by word_rule;
 }
 
+-- the value in its row: that of a flag is `true`
+abbrev pub row_value : Choice → Text
+row_value c = unwrap_or (value_of c) (codes "true")
+
 abbrev pub choice_row : Choice → Row
-choice_row c = plain_row (id_of c) (value_of c ∷ [])
+choice_row c = plain_row (id_of c) (row_value c ∷ [])
 
 abbrev pub choice_rows : List Choice → List Row
 choice_rows [] = []
@@ -35,9 +39,19 @@ word_rows (w ∷ ws) = plain_row (codes "word") (w ∷ ws) ∷ []
 abbrev pub tail_rows : Text → List Text → List Row
 tail_rows image words = plain_row (codes "image") (image ∷ []) ∷ word_rows words
 
--- all rows of plain words
+-- the row that is added where `--stats` is not given
+abbrev pub unset_row : Row
+unset_row = record (plain_row (codes "stats") (codes "false" ∷ [])) { source = Some DefaultValue }
+
+abbrev pub unset_rows : Bool → List Row
+unset_rows given = cond given [] (unset_row ∷ [])
+
+-- the rows that plain words make, and all rows
+abbrev pub made_rows : List Choice → Text → List Text → List Row
+made_rows choices image words = choice_rows choices ++ tail_rows image words
+
 abbrev pub plain_rows : List Choice → Text → List Text → List Row
-plain_rows choices image words = choice_rows choices ++ tail_rows image words
+plain_rows choices image words = choice_rows choices ++ (tail_rows image words ++ unset_rows (is_chosen (codes "stats") choices))
 
 absent_at_end : (id : Text) (change : Row → List Row) (missing rows : List Row) → has_row id rows ≡ false
     → at_row id change missing rows ≡ rows ++ missing
@@ -61,6 +75,12 @@ new_row id values rows h =
     let gone : without id rows ≡ rows = absent_at_end id (λ _. []) [] rows h ∙ append-nil rows in
     rw gone (new_row_kept id values rows h)
 
+-- a default stands at the end, where there is no row
+pub if_unset : (b : Bool) (rows : List Row) → has_row (codes "stats") rows ≡ b
+    → cond b rows (with_values (codes "stats") (reading_by word_rule) DefaultValue (codes "false" ∷ []) rows) ≡ rows ++ unset_rows b
+if_unset true rows e = sym (append-nil rows)
+if_unset false rows e = absent_at_end (codes "stats") (more_values DefaultValue (codes "false" ∷ [])) (unset_row ∷ []) rows e
+
 pub absent_in_both : (id : Text) (xs ys : List Row) → has_row id xs ≡ false → has_row id ys ≡ false
     → has_row id (xs ++ ys) ≡ false
 absent_in_both id xs ys h k = list_any-append (λ r. bytes_eq r.id id) xs ys ∙ ap₂ ◌||◌ h k
@@ -75,6 +95,8 @@ image_is_none (quantum v) = refl
 image_is_none (schedule v) = refl
 image_is_none (recording v) = refl
 image_is_none (budget v) = refl
+image_is_none (stamps v) = refl
+image_is_none stats = refl
 image_is_none (report v) = refl
 
 pub word_is_none : IsNoChoice (codes "word")
@@ -83,6 +105,8 @@ word_is_none (quantum v) = refl
 word_is_none (schedule v) = refl
 word_is_none (recording v) = refl
 word_is_none (budget v) = refl
+word_is_none (stamps v) = refl
+word_is_none stats = refl
 word_is_none (report v) = refl
 
 pub no_choice_row : (id : Text) (cs : List Choice) → IsNoChoice id → has_row id (choice_rows cs) ≡ false

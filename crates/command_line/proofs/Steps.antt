@@ -1,5 +1,5 @@
 -- The walk of `clap` over the words of `run`, word by word.
-use Rattle.std.proofs.Common.{◌≡◌, ◌<◌, ◌^◌, ℕ, Bool, true, false, refl, ◌&&◌, ap, ap₂, List, [], ◌∷◌, ◌++◌, Option, Some, None, codes, unwrap_or, arith, nat_eq, nat_le, length}
+use Rattle.std.proofs.Common.{◌≡◌, ◌<◌, ◌^◌, ℕ, Bool, true, false, refl, ◌&&◌, ap, ap₂, ◌∙◌, List, [], ◌∷◌, ◌++◌, Option, Some, None, codes, unwrap_or, arith, nat_eq, nat_le, length}
 use Rattle.std.proofs.lemmas.Bool.Decides.{nat_tests}
 use Rattle.std.specs.Prelude.{slice_get}
 use Rattle.std.specs.List.{list_all}
@@ -12,8 +12,8 @@ use Rattle.clap.specs.Walk.{Waiting, Walk, has_row, idle, option, positional, se
 use Rattle.clap.specs.Words.{Row, Rule, Shape, Text, built}
 use Rattle.clap.proofs.OnLiterals.{clap_on_literals}
 use Rattle.command_line.specs.App.{the_app, top_app, run_app, demo_app}
-use Rattle.command_line.specs.Plain.{is_plain_word}
-use Rattle.command_line.proofs.Rows.{new_row, new_row_kept, plain_row}
+use Rattle.command_line.specs.Plain.{is_plain_word, stats}
+use Rattle.command_line.proofs.Rows.{choice_row, new_row, new_row_kept, plain_row}
 
 -- `run` as `clap` builds it
 abbrev pub run_shape : Shape
@@ -142,6 +142,29 @@ takes_output = record {
   value_turn = λ rows word h. rw (h.no_dashes, h.no_long, h.no_short) refl;
   settles = λ rows word h. record { rows_are = new_row (codes "output") (word ∷ []) rows h; passes = rw h refl };
 }
+
+pub takes_stamps : TakesValue (codes "--stamps") (codes "stamps")
+unfolding the_app top_app run_app demo_app clap_on_literals
+takes_stamps = record {
+  flag_word = λ rows p. refl;
+  flag_turn = λ rows p. and-true _;
+  value_word = λ rows word h. rw (h.no_dashes, h.no_long, h.no_short) refl;
+  value_turn = λ rows word h. rw (h.no_dashes, h.no_long, h.no_short) refl;
+  settles = λ rows word h. record { rows_are = new_row (codes "stamps") (word ∷ []) rows h; passes = rw h refl };
+}
+
+-- ---- the option without a value
+
+pub stats_word : (rows : List Row) (p : Pending) → has_row (codes "stats") (settled_rows rules p rows) ≡ false
+    → walked rules [] (stand rows p idle 1) (codes "--stats") ≡ stand (settled_rows rules p rows ++ choice_row stats ∷ []) None idle 1
+unfolding the_app top_app run_app demo_app clap_on_literals
+stats_word rows p h =
+    ap (λ (all : List Row). stand all None idle 1) (new_row (codes "stats") (codes "true" ∷ []) (settled_rows rules p rows) h)
+
+pub stats_turn : (rows : List Row) (p : Pending) → has_row (codes "stats") (settled_rows rules p rows) ≡ false
+    → turn rows p idle 1 (codes "--stats") ≡ may_settle rows p
+unfolding the_app top_app run_app demo_app clap_on_literals
+stats_turn rows p h = rw h (and-true _ ∙ and-true _)
 
 -- ---- the image
 

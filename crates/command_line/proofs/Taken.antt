@@ -1,5 +1,5 @@
 -- What words that are taken have.
-use Rattle.std.proofs.Common.{◌≡◌, Bool, true, false, refl, ap, ap₂, sym, ◌∙◌, ◌&&◌, ◌⊎◌, inl, inr, List, [], ◌∷◌, Option, Some, None, is_some, codes, cond}
+use Rattle.std.proofs.Common.{◌≡◌, Bool, true, false, refl, ap, ap₂, sym, ◌∙◌, ◌&&◌, ◌⊎◌, inl, inr, List, [], ◌∷◌, ◌++◌, Option, Some, None, is_some, codes, cond}
 use Rattle.std.specs.Prelude.{ℕ, find, fold, option_and_then, option_map, slice_get}
 use Rattle.std.specs.List.{list_all}
 use Rattle.std.specs.Option.{option_map_or}
@@ -7,16 +7,18 @@ use Rattle.clap.proofs.OnLiterals.{clap_on_literals}
 use Rattle.clap.proofs.WalkLemmas.{both}
 use Rattle.clap.specs.Simple.{App, Shape, argument_words, entered, is_simple, label_of, names_of, rows_at}
 use Rattle.clap.specs.Takes.{built_takes, default_passes, entered_passes, is_given, is_valid, level_passes, settle_passes, walk_passes}
-use Rattle.clap.specs.Walk.{answers_to, finished, nothing_held, rows_after, settled, walk, walk_from, with_default}
+use Rattle.clap.specs.Walk.{answers_to, finished, has_row, nothing_held, rows_after, settled, walk, walk_from, with_default}
+use Rattle.stamps.specs.declared.width.StampBits.{StampBits}
 use Rattle.clap.specs.Words.{Row, Rule, Text, built, first_of, subcommand_of, takes}
 use Rattle.clap.specs.Facts.{explicit_source}
 use Rattle.std.specs.Str.{bytes_eq}
 use Rattle.command_line.specs.App.{the_app, top_app, run_app, demo_app}
-use Rattle.command_line.specs.Options.{Demo, Run, RunOptions, budget_of, demo_of, demo_of_rows, guest_with, options_of_rows, options_with, quantum_of}
+use Rattle.command_line.specs.Options.{Demo, Run, RunOptions, bits_of, budget_of, demo_of, demo_of_rows, guest_with, options_of_rows, options_with, quantum_of}
 use Rattle.command_line.specs.Taken.{HasBadDemo, HasBadNumber, TakenWordsFailByNumbers}
-use Rattle.command_line.proofs.Filled.{AllKeep, IsKept, is_appended, is_filled, is_own, is_set, kept_keeps, row_for, settle_keeps, walk_keeps}
+use Rattle.command_line.proofs.Filled.{AllKeep, IsKept, filled_same, is_appended, is_filled, is_flag, is_own, is_set, kept_keeps, row_for, settle_keeps, walk_keeps}
 use Rattle.command_line.proofs.PlainWords.{finished_rows, no_defaults}
 use Rattle.command_line.proofs.Refusals.{asked_is, read_of}
+use Rattle.command_line.proofs.Rows.{unset_rows}
 use Rattle.command_line.proofs.Steps.{demo_shape, rules, run_shape}
 
 find_in_two : (test : Shape → Bool) (s t : Shape)
@@ -136,7 +138,7 @@ output_keeps = all_keep (codes "output") rules refl (
         is_set refl refl,
         (
           is_set refl refl,
-          (is_own refl refl refl, (is_set refl refl, (is_appended refl refl, tt))),
+          (is_set refl refl, (is_flag refl refl, (is_own refl refl refl, (is_set refl refl, (is_appended refl refl, tt))))),
         ),
       ),
     ),
@@ -155,7 +157,7 @@ image_keeps = all_keep (codes "image") rules refl (
         is_set refl refl,
         (
           is_set refl refl,
-          (is_set refl refl, (is_own refl refl refl, (is_appended refl refl, tt))),
+          (is_set refl refl, (is_flag refl refl, (is_set refl refl, (is_own refl refl refl, (is_appended refl refl, tt))))),
         ),
       ),
     ),
@@ -177,23 +179,32 @@ first_there (Some r) given filled = go (slice_get r.values 0) filled
     go None h = let no : false ≡ true = h in cc
     go (Some text) h = (text, refl)
 
--- no argument of the subcommand has a default
-abbrev HasNoDefault : Shape → Type 0
-HasNoDefault s = (rows : List Row) → fold with_default rows s.rules ≡ rows
+-- the defaults of the subcommand leave the row of `id` as it is
+abbrev DefaultsKeep : Text → Shape → Type 0
+DefaultsKeep id s = (rows : List Row) → row_for id (fold with_default rows s.rules) ≡ row_for id rows
 
-demo_has_none : HasNoDefault demo_shape
+demo_defaults : (id : Text) → DefaultsKeep id demo_shape
 unfolding the_app top_app run_app demo_app clap_on_literals
-demo_has_none rows = no_defaults demo_shape.rules rows (refl, tt)
+demo_defaults id rows = ap (row_for id) (no_defaults demo_shape.rules rows (refl, tt))
+
+unset_elsewhere : (id : Text) (given : Bool) (rows : List Row) → bytes_eq (codes "stats") id ≡ false
+    → row_for id (rows ++ unset_rows given) ≡ row_for id rows
+unset_elsewhere id true [] apart = refl
+unset_elsewhere id false [] apart = rw apart refl
+unset_elsewhere id given (r ∷ rs) apart = ap (λ (o : Option Row). cond (bytes_eq r.id id) (Some r) o) (unset_elsewhere id given rs apart)
+
+run_defaults : (id : Text) → bytes_eq (codes "stats") id ≡ false → DefaultsKeep id run_shape
+run_defaults id apart rows = ap (row_for id) (finished_rows rows) ∙ unset_elsewhere id (has_row (codes "stats") rows) rows apart
 
 -- what a pass of a subcommand leaves
-rows_filled : (s : Shape) (id : Text) (rest : List Text) → HasNoDefault s → AllKeep id s.rules
+rows_filled : (s : Shape) (id : Text) (rest : List Text) → DefaultsKeep id s → AllKeep id s.rules
     → level_passes s [] nothing_held rest false ≡ true → is_filled id (rows_after s.rules [] rest) ≡ true
-rows_filled s id rest none all h =
+rows_filled s id rest keep all h =
     let end = (walk s.rules [] nothing_held rest).held in
     let one = both (walk_passes s [] (walk_from nothing_held) rest) _ h in
     let two = both (settle_passes s.rules s.args_override_self end) _ one.1 in
     let filled = settle_keeps id s.rules s.args_override_self all end two.0 (walk_keeps id s all [] rest (walk_from nothing_held) one.0 refl) in
-    ap (is_filled id) (none (settled s.rules end).rows) ∙ filled
+    filled_same id _ (settled s.rules end).rows (keep (settled s.rules end).rows) filled
 
 rows_valid : (s : Shape) (rest : List Text) → level_passes s [] nothing_held rest false ≡ true
     → is_valid s (rows_after s.rules [] rest) false ≡ true
@@ -207,15 +218,20 @@ rows_valid s rest h =
 bad_number : (rows : List Row) (report image : Text) → first_of (codes "output") rows ≡ Some report → first_of (codes "image") rows ≡ Some image
     → options_of_rows rows ≡ None → HasBadNumber rows
 bad_number rows report image r i none =
-    go (quantum_of (first_of (codes "quantum") rows)) (budget_of (first_of (codes "budget") rows)) (sym there ∙ none)
+    go (quantum_of (first_of (codes "quantum") rows)) (budget_of (first_of (codes "budget") rows)) bits (sym there ∙ none)
   where
-    there : options_of_rows rows ≡ options_with rows (guest_with rows (quantum_of (first_of (codes "quantum") rows)) (budget_of (first_of (codes "budget") rows)) (Some image)) (Some report)
-    there = ap₂ (λ x y. options_with rows (guest_with rows (quantum_of (first_of (codes "quantum") rows)) (budget_of (first_of (codes "budget") rows)) x) y) i r
+    bits : Option StampBits
+    bits = bits_of (first_of (codes "stamps") rows)
 
-    go : (q b : Option ℕ) → options_with rows (guest_with rows q b (Some image)) (Some report) ≡ None → (q ≡ None) ⊎ (b ≡ None)
-    go None b h = inl refl
-    go (Some q) None h = inr refl
-    go (Some q) (Some b) h = cc
+    there : options_of_rows rows ≡ options_with rows (guest_with rows (quantum_of (first_of (codes "quantum") rows)) (budget_of (first_of (codes "budget") rows)) (Some image)) (Some report) bits
+    there = ap₂ (λ x y. options_with rows (guest_with rows (quantum_of (first_of (codes "quantum") rows)) (budget_of (first_of (codes "budget") rows)) x) y bits) i r
+
+    go : (q b : Option ℕ) (n : Option StampBits) → options_with rows (guest_with rows q b (Some image)) (Some report) n ≡ None
+        → (q ≡ None) ⊎ ((b ≡ None) ⊎ (n ≡ None))
+    go None b n h = inl refl
+    go (Some q) None n h = inr (inl refl)
+    go (Some q) (Some b) None h = inr (inr refl)
+    go (Some q) (Some b) (Some n) h = cc
 
 no_run : (o : Option RunOptions) → option_map Run o ≡ None → o ≡ None
 no_run None h = refl
@@ -231,8 +247,8 @@ run_fails found enters none =
     let rows = rows_after rules [] enters.rest in
     let found_is : found ≡ Some (codes "run", rows) = enters.found_is ∙ ap (λ (name : Text). Some (name, rows)) run_is_named in
     let needs = run_requires rows (rows_valid run_shape enters.rest enters.passes) in
-    let report = first_there (row_for (codes "output") rows) needs.0 (rows_filled run_shape (codes "output") enters.rest finished_rows output_keeps enters.passes) in
-    let image = first_there (row_for (codes "image") rows) needs.1 (rows_filled run_shape (codes "image") enters.rest finished_rows image_keeps enters.passes) in
+    let report = first_there (row_for (codes "output") rows) needs.0 (rows_filled run_shape (codes "output") enters.rest (run_defaults (codes "output") refl) output_keeps enters.passes) in
+    let image = first_there (row_for (codes "image") rows) needs.1 (rows_filled run_shape (codes "image") enters.rest (run_defaults (codes "image") refl) image_keeps enters.passes) in
     (rows, found_is, bad_number rows report.0 image.0 report.1 image.1 (no_run (options_of_rows rows) (sym (ap read_of found_is) ∙ none)))
 
 demo_fails : (found : Option (Text × List Row)) → Enters demo_shape found → read_of found ≡ None
@@ -241,7 +257,7 @@ demo_fails found enters none =
     let rows = rows_after demo_shape.rules [] enters.rest in
     let found_is : found ≡ Some (codes "demo", rows) = enters.found_is ∙ ap (λ (name : Text). Some (name, rows)) demo_is_named in
     let given = demo_requires rows (rows_valid demo_shape enters.rest enters.passes) in
-    let number = first_there (row_for (codes "number") rows) given (rows_filled demo_shape (codes "number") enters.rest demo_has_none number_keeps enters.passes) in
+    let number = first_there (row_for (codes "number") rows) given (rows_filled demo_shape (codes "number") enters.rest (demo_defaults (codes "number")) number_keeps enters.passes) in
     let no_number = no_demo (demo_of_rows rows) (sym (ap read_of found_is) ∙ none) in
     (rows, found_is, (number.0, number.1, sym (ap (option_and_then demo_of) number.1) ∙ no_number))
 

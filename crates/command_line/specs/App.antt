@@ -2,11 +2,15 @@
 use Rattle.std.specs.Prelude.{true, Some, codes}
 use Rattle.clap.specs.Lexer.{usize_max}
 use Rattle.clap.specs.Words.{App, Rule, Text, new_app, new_rule, with_rule, with_subcommand}
-use Rattle.clap.specs.declared.builder.ArgAction.TheVariants.{Append, Set}
+use Rattle.clap.specs.declared.builder.ArgAction.TheVariants.{Append, Set, SetTrue}
 
 -- an option with one value, `--name VALUE`
 abbrev pub value_rule : Text → Rule
 value_rule name = record (new_rule name) { long = Some name; action = Some Set }
+
+-- an option without a value, `--name`
+abbrev pub flag_rule : Text → Rule
+flag_rule name = record (new_rule name) { long = Some name; action = Some SetTrue }
 
 -- `-o PATH`, which has to be there; its letter is 111
 abbrev pub output_rule : Rule
@@ -25,9 +29,10 @@ word_rule = record (new_rule (codes "word")) {
 
 -- `run` with its options, the image and the further words
 unfoldable pub run_app : App
-run_app = with_rule (with_rule (with_rule (with_rule (with_rule (with_rule (with_rule (with_rule (new_app (codes "run"))
-    (value_rule (codes "stdin"))) (value_rule (codes "quantum"))) (value_rule (codes "schedule")))
-    (value_rule (codes "record"))) (value_rule (codes "budget"))) output_rule) (required_rule (codes "image"))) word_rule
+run_app = with_rule (with_rule (with_rule (with_rule (with_rule (with_rule (with_rule (with_rule (with_rule (with_rule
+    (new_app (codes "run")) (value_rule (codes "stdin"))) (value_rule (codes "quantum"))) (value_rule (codes "schedule")))
+    (value_rule (codes "record"))) (value_rule (codes "budget"))) (value_rule (codes "stamps"))) (flag_rule (codes "stats")))
+    output_rule) (required_rule (codes "image"))) word_rule
 
 -- `demo` with its number
 unfoldable pub demo_app : App

@@ -1,9 +1,12 @@
 -- What the words of a command line ask for.
 use Rattle.std.specs.Prelude.{◌≡◌, ◌⊎◌, ℕ, Bool, false, ◌&&◌, ◌==◌, not, nat_eq, nat_le, if◌then◌else◌, List, [], ◌∷◌, length, drop, map, filter, Option, Some, None, option_and_then, option_map, unwrap_or, codes}
 use Rattle.std.specs.List.{list_all, list_any, starts_with}
+use Rattle.std.specs.Option.{option_map_or}
 use Rattle.std.specs.Str.{bytes_eq}
 use Rattle.std.specs.Str.Parse.{digits_value}
 use Rattle.guest_words.specs.declared.limits.TheConstants.{DEMO_ROUTINES, QUANTUM_STEPS, RUN_STEPS}
+use Rattle.stamps.specs.declared.width.StampBits.{StampBits}
+use Rattle.stamps.specs.declared.width.StampBits.TheVariants.{B8, B16, B32}
 use Rattle.clap.specs.Words.{Row, all_of, first_of, subcommand_of, takes}
 use Rattle.command_line.specs.App.{the_app}
 
@@ -27,6 +30,10 @@ pub record RunOptions : Type 0 where
   pub report : List ℕ
   -- the path of a recording to write
   pub recording : Option (List ℕ)
+  -- the width of stamps
+  pub bits : StampBits
+  -- whether the number of renumberings is to be put
+  pub stats : Bool
 
 -- ---- the further words
 
@@ -85,6 +92,18 @@ quantum_of = number_or 10000 1 QUANTUM_STEPS
 abbrev pub budget_of : Option (List ℕ) → Option ℕ
 budget_of = number_or 1000000000 1 RUN_STEPS
 
+-- the width of so many bits
+abbrev pub width_of : ℕ → Option StampBits
+width_of number = if number == 8 then Some B8 else if number == 16 then Some B16 else if number == 32 then Some B32 else None
+
+-- the width of stamps: 8, 16 or 32 bits
+abbrev pub bits_of : Option (List ℕ) → Option StampBits
+bits_of text = option_and_then width_of (number_or 32 8 32 text)
+
+-- an option without a value is given: `clap` gives it the value `true`
+abbrev pub has_flag : List ℕ → List Row → Bool
+has_flag name rows = option_map_or (λ text. bytes_eq text (codes "true")) (first_of name rows) false
+
 -- the guest's options with these two numbers and this path, where all of them are there; the rest is read of the rows
 abbrev pub guest_with : List Row → Option ℕ → Option ℕ → Option (List ℕ) → Option GuestOptions
 guest_with rows (Some quantum) (Some budget) (Some image) = Some (record {
@@ -104,18 +123,22 @@ guest_of_rows rows = guest_with rows
     (budget_of (first_of (codes "budget") rows))
     (first_of (codes "image") rows)
 
--- the options of `run` with these of the guest and this path, where both are there; the rest is read of the rows
-abbrev pub options_with : List Row → Option GuestOptions → Option (List ℕ) → Option RunOptions
-options_with rows (Some guest) (Some report) = Some (record {
+-- the options of `run` with these of the guest, this path and this width, where all are there; the rest is read of the rows
+abbrev pub options_with : List Row → Option GuestOptions → Option (List ℕ) → Option StampBits → Option RunOptions
+options_with rows (Some guest) (Some report) (Some bits) = Some (record {
   guest = guest;
   report = report;
   recording = first_of (codes "record") rows;
+  bits = bits;
+  stats = has_flag (codes "stats") rows;
 })
-options_with rows _ _ = None
+options_with rows _ _ _ = None
 
 -- the options of `run` that `clap`'s matches say
 abbrev pub options_of_rows : List Row → Option RunOptions
-options_of_rows rows = options_with rows (guest_of_rows rows) (first_of (codes "output") rows)
+options_of_rows rows = options_with rows (guest_of_rows rows)
+    (first_of (codes "output") rows)
+    (bits_of (first_of (codes "stamps") rows))
 
 -- ---- the demos
 

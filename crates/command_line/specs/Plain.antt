@@ -1,18 +1,22 @@
 -- Plain words of `run` and of `demo`, and what is read of them.
-use Rattle.std.specs.Prelude.{◌≡◌, ◌<◌, ◌^◌, ◌==◌, ℕ, Bool, true, false, not, length, if◌then◌else◌, List, [], ◌∷◌, ◌++◌, map, Option, Some, None, codes}
+use Rattle.std.specs.Prelude.{◌≡◌, ◌<◌, ◌^◌, ◌==◌, ℕ, Bool, true, false, not, length, if◌then◌else◌, List, [], ◌∷◌, ◌++◌, Option, Some, None, codes}
 use Rattle.std.specs.List.{list_all, list_any}
+use Rattle.std.specs.Option.{option_map_or}
 use Rattle.std.specs.Str.{bytes_eq}
+use Rattle.stamps.specs.declared.width.StampBits.{StampBits}
 use Rattle.clap.specs.Words.{Text, takes}
 use Rattle.command_line.specs.App.{the_app}
-use Rattle.command_line.specs.Options.{Asked, asked_of, budget_of, demo_of, has_zero, quantum_of}
+use Rattle.command_line.specs.Options.{Asked, asked_of, bits_of, budget_of, demo_of, has_zero, quantum_of}
 
--- an option of `run` that is given, with its value
+-- an option of `run` that is given, with its value where it takes one
 pub data Choice : Type 0 where
   stdin : Text → Choice
   quantum : Text → Choice
   schedule : Text → Choice
   recording : Text → Choice
   budget : Text → Choice
+  stamps : Text → Choice
+  stats : Choice
   report : Text → Choice
 
 -- the argument of the command that it is of
@@ -22,15 +26,20 @@ id_of (quantum v) = codes "quantum"
 id_of (schedule v) = codes "schedule"
 id_of (recording v) = codes "record"
 id_of (budget v) = codes "budget"
+id_of (stamps v) = codes "stamps"
+id_of stats = codes "stats"
 id_of (report v) = codes "output"
 
-abbrev pub value_of : Choice → Text
-value_of (stdin v) = v
-value_of (quantum v) = v
-value_of (schedule v) = v
-value_of (recording v) = v
-value_of (budget v) = v
-value_of (report v) = v
+-- its value: `stats` has none
+abbrev pub value_of : Choice → Option Text
+value_of (stdin v) = Some v
+value_of (quantum v) = Some v
+value_of (schedule v) = Some v
+value_of (recording v) = Some v
+value_of (budget v) = Some v
+value_of (stamps v) = Some v
+value_of stats = None
+value_of (report v) = Some v
 
 -- the words that give it
 abbrev pub words_of : Choice → List Text
@@ -39,6 +48,8 @@ words_of (quantum v) = codes "--quantum" ∷ v ∷ []
 words_of (schedule v) = codes "--schedule" ∷ v ∷ []
 words_of (recording v) = codes "--record" ∷ v ∷ []
 words_of (budget v) = codes "--budget" ∷ v ∷ []
+words_of (stamps v) = codes "--stamps" ∷ v ∷ []
+words_of stats = codes "--stats" ∷ []
 words_of (report v) = codes "-o" ∷ v ∷ []
 
 abbrev pub choice_words : List Choice → List Text
@@ -54,6 +65,10 @@ abbrev pub is_plain_word : Text → Bool
 is_plain_word [] = false
 is_plain_word (x ∷ xs) = not (x == 45)
 
+-- its value, if it has one, is such a word
+abbrev pub has_plain_value : Choice → Bool
+has_plain_value c = option_map_or is_plain_word (value_of c) true
+
 -- some choice is of this argument
 abbrev pub is_chosen : Text → List Choice → Bool
 is_chosen id choices = list_any (λ c. bytes_eq id (id_of c)) choices
@@ -65,7 +80,7 @@ HasNoRepeat (c ∷ cs) = (is_chosen (id_of c) cs ≡ false) × HasNoRepeat cs
 
 -- Each option is given at most once, and no value, image or further word looks like an option.
 pub record ArePlain (choices : List Choice) (image : Text) (words : List Text) : Type 0 where
-  pub plain_values : list_all is_plain_word (map value_of choices) ≡ true
+  pub plain_values : list_all has_plain_value choices ≡ true
   pub once : HasNoRepeat choices
   pub plain_image : is_plain_word image ≡ true
   pub plain_words : list_all is_plain_word words ≡ true
@@ -81,15 +96,17 @@ PlainWordsAreTaken = (program : Text) (choices : List Choice) (image : Text) (wo
 -- the value that the choices give an argument
 abbrev pub given : Text → List Choice → Option Text
 given id [] = None
-given id (c ∷ cs) = if bytes_eq (id_of c) id then Some (value_of c) else given id cs
+given id (c ∷ cs) = if bytes_eq (id_of c) id then value_of c else given id cs
 
--- The options of plain words are the values in the words, and the defaults of the numbers that are left out.
+-- The options of plain words are the values in the words, the defaults of the numbers that are left out, and whether
+-- `--stats` is among the words.
 abbrev pub PlainOptionsAreRead : Type 0
 PlainOptionsAreRead = (program : Text) (choices : List Choice) (image : Text) (words : List Text)
     → ArePlain choices image words → list_any has_zero (run_words program choices image words) ≡ false
-    → (report_path : Text) (turn_steps run_steps : ℕ) → given (codes "output") choices ≡ Some report_path
+    → (report_path : Text) (turn_steps run_steps : ℕ) (width : StampBits) → given (codes "output") choices ≡ Some report_path
     → quantum_of (given (codes "quantum") choices) ≡ Some turn_steps
     → budget_of (given (codes "budget") choices) ≡ Some run_steps
+    → bits_of (given (codes "stamps") choices) ≡ Some width
     → asked_of (run_words program choices image words) ≡ Some (Asked.Run (record {
       guest = record {
         stdin = given (codes "stdin") choices;
@@ -101,6 +118,8 @@ PlainOptionsAreRead = (program : Text) (choices : List Choice) (image : Text) (w
       };
       report = report_path;
       recording = given (codes "record") choices;
+      bits = width;
+      stats = is_chosen (codes "stats") choices;
     }))
 
 -- ---- `demo`

@@ -23,6 +23,8 @@ options_in command = record {
   guest = guest_in command.guest;
   report = command.report.now;
   recording = option_map (λ path. path.now) command.recording;
+  bits = command.bits;
+  stats = command.stats;
 }
 
 -- what a command asks for

@@ -3,11 +3,12 @@ use Rattle.std.specs.Prelude.{◌≡◌, ◌⊎◌, true, false, List, Some, Non
 use Rattle.std.specs.List.{list_any}
 use Rattle.clap.specs.Words.{Row, Text, first_of, subcommand_of, takes}
 use Rattle.command_line.specs.App.{the_app}
-use Rattle.command_line.specs.Options.{asked_of, budget_of, demo_of, has_zero, quantum_of}
+use Rattle.command_line.specs.Options.{asked_of, bits_of, budget_of, demo_of, has_zero, quantum_of}
 
 -- a number of `run` is out of its form or range
 abbrev pub HasBadNumber : List Row → Type 0
-HasBadNumber rows = (quantum_of (first_of (codes "quantum") rows) ≡ None) ⊎ (budget_of (first_of (codes "budget") rows) ≡ None)
+HasBadNumber rows = (quantum_of (first_of (codes "quantum") rows) ≡ None)
+    ⊎ ((budget_of (first_of (codes "budget") rows) ≡ None) ⊎ (bits_of (first_of (codes "stamps") rows) ≡ None))
 
 -- the number of `demo` is there, and out of its form or range
 abbrev pub HasBadDemo : List Row → Type 0

@@ -2,7 +2,7 @@
 ghost use Rattle.std.specs.Prelude.{◌≡◌, IfOk, false, codes};
 ghost use Rattle.clap.specs.Words.{app_of, rule_of};
 ghost use Rattle.clap.specs.declared.builder.command.Command.TheViews.{out-Command};
-ghost use Rattle.command_line.specs.App.{the_app, top_app, run_app, demo_app, output_rule, required_rule, value_rule, word_rule};
+ghost use Rattle.command_line.specs.App.{the_app, top_app, run_app, demo_app, flag_rule, output_rule, required_rule, value_rule, word_rule};
 
 use clap::{Arg, ArgAction, Command};
 use std::alloc::{AllocError, Global};
@@ -13,6 +13,14 @@ fn value_option<'a>(alloc: Global, name: &'a str) -> Arg<'a>
     ensures local { result.global ≡ false }
 {
     Arg::new(alloc, name).long(name).action(ArgAction::Set)
+}
+
+// An option without a value, `--name`.
+fn flag<'a>(alloc: Global, name: &'a str) -> Arg<'a>
+    ensures rule { rule_of result ≡ flag_rule name.entry.now }
+    ensures local { result.global ≡ false }
+{
+    Arg::new(alloc, name).long(name).action(ArgAction::SetTrue)
 }
 
 // `-o PATH`, which has to be there.
@@ -55,6 +63,8 @@ fn run_subcommand<'a>(alloc: Global) -> Result<Command<'a>, AllocError>
         .arg(value_option(alloc, "schedule"))?
         .arg(value_option(alloc, "record"))?
         .arg(value_option(alloc, "budget"))?
+        .arg(value_option(alloc, "stamps"))?
+        .arg(flag(alloc, "stats"))?
         .arg(output_option(alloc))?
         .arg(required_value(alloc, "image"))?
         .arg(further_words(alloc))

@@ -3,6 +3,7 @@ ghost use Rattle.std.specs.Prelude.{◌≡◌, IfOk, IfErr, [], map, true, optio
 ghost use Rattle.clap.specs.Words.{all_of, first_of, found_of, kind_of, rows_of, subcommand_of, subcommand_rows_of, takes};
 ghost use Rattle.clap.specs.declared.error.kind.ErrorKind.TheVariants.{OutOfMemory};
 ghost use Rattle.command_line.specs.App.{the_app};
+ghost use Rattle.command_line.specs.Options.{has_flag};
 
 use crate::app::whole_command;
 use clap::{ArgMatches, Error};
@@ -33,6 +34,13 @@ pub(crate) fn text_of<'a>(matches: &ArgMatches<'a>, id: &str) -> Option<&'a str>
     ensures { option_map (λ s. s.now) result ≡ first_of id.now (rows_of (found_of matches.now)) }
 {
     matches.get_str(id)
+}
+
+/// Whether an option without a value is given.
+pub(crate) fn has_flag(matches: &ArgMatches, id: &str) -> bool
+    ensures { result ≡ has_flag id.now (rows_of (found_of matches.now)) }
+{
+    text_of(matches, id) == Some("true")
 }
 
 /// All values of an argument.

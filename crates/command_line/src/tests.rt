@@ -1,4 +1,5 @@
 use crate::{Command, CommandError, RunCommand, read_command};
+use stamps::StampBits;
 use std::alloc::{AllocError, Global};
 use std::test::Fail;
 
@@ -74,7 +75,11 @@ fn other_words_are_refused(rt: HostRuntime) -> Result<(), Fail> {
         "aprof run img",
         "aprof run -o r",
         "aprof run img -o",
-        "aprof run -o r --stats img",
+        "aprof run -o r --stats=x img",
+        "aprof run -o r --stats --stats img",
+        "aprof run --stamps 7 -o r img",
+        "aprof run --stamps 64 -o r img",
+        "aprof run --stamps 8 --stamps 8 -o r img",
         "aprof run -o r -o r img",
         "aprof run --stdin s --stdin s -o r img",
         "aprof run --quantum 0 -o r img",
@@ -92,6 +97,23 @@ fn other_words_are_refused(rt: HostRuntime) -> Result<(), Fail> {
     ] {
         let words = words_of(rt.alloc(), line)?;
         assert_eq!(rt; numbers_of(rt.alloc(), &words)?, None);
+    }
+    Ok(())
+}
+
+#[test]
+fn stamps_and_stats_are_read(rt: HostRuntime) -> Result<(), Fail> {
+    for (line, read) in [
+        ("aprof run -o r img", (StampBits::B32, false)),
+        ("aprof run --stamps 8 -o r img", (StampBits::B8, false)),
+        (
+            "aprof run --stats -o r --stamps 016 img",
+            (StampBits::B16, true),
+        ),
+    ] {
+        let words = words_of(rt.alloc(), line)?;
+        let command = run_of(read_command(rt.alloc(), &words)).expect(&rt, "words of a run");
+        assert_eq!(rt; (command.bits, command.stats), read);
     }
     Ok(())
 }
