@@ -60,7 +60,7 @@ refused_by : (words : List (List ℕ)) (v : verdicts.Verdict) (files now : Files
 refused_by words v files now out err found written unchanged = (
   record { found = found; outcome = refusal v; written = written },
   refl,
-  record { output = record { out = appended-nothing out; err = appended-nothing err }; stored = unchanged },
+  record { out = appended-nothing out; err = appended-nothing err ∙ appended-nothing (appended err []); stored = unchanged },
 )
 
 -- the words are refused
@@ -152,7 +152,7 @@ pub AskedEnds-put : (number : ℕ) (summary : List ℕ) (files : FilesState) (ou
     AskedEnds (Demo number) (outside files out err) (outside files new err) (ending.Decided verdict.Summarized)
 AskedEnds-put number summary files out new err is_demo gained =
     AskedEnds-shown number (summed summary) (outside files out err) (outside files new err) is_demo (ending.Decided verdict.Summarized) tt
-    (refl, record { output = record { out = gained; err = appended-nothing err }; stored = same_files files })
+    (refl, record { out = gained; err = appended-nothing err ∙ appended-nothing (appended err []); stored = same_files files })
 
 pub AskedEnds-unput : (number : ℕ) (summary : List ℕ) (files : FilesState) (out new err : SinkState) → IsDemo number (summed summary) → (e : PutError) →
     PutEnds summary out new (Err e) → 0 < length summary → AskedEnds (Demo number) (outside files out err) (outside files new err) (of_put e)

@@ -2,7 +2,7 @@
 use Rattle.std.proofs.Common.{◌≡◌, ◌⊎◌, ℕ, List, sym, subst, inl, inr, arith, take, []}
 use Rattle.host_io.specs.Faults.{Rose}
 use Rattle.aprof_top.specs.Answers.{EndsBy, IsAnswered, IsWritten}
-use Rattle.aprof_top.specs.Delivery.{FailsAtStore, FailsOnOut}
+use Rattle.aprof_top.specs.Delivery.{FailsAtStats, FailsAtStore, FailsOnErr, FailsOnOut}
 use Rattle.aprof_top.specs.Ends.{End, Reaches, end_status}
 use Rattle.aprof_top.specs.Ends.End.{Decided, CannotRead, CannotWrite, CannotPut, OutOfMemory}
 use Rattle.aprof_top.specs.LastText.{IsPut, LastText}
@@ -53,6 +53,11 @@ module _ (words : List (List ℕ)) (status : ℕ) (before after : Outside) where
       calm.faults (subst (λ n. Rose n after.files.faults) (with_stores-faults (take fails.stored.count outcome.stores) before.files) fails.stored.failed.failed.faults)
   not_written outcome err calm (inr fails) = calm.out fails.out.faults
 
+  -- a put on `err` failed, of the output or of the statistics
+  err_rose : (outcome : Outcome) (err : SinkState) → FailsOnErr outcome before (outside after.files after.out err) ⊎ FailsAtStats outcome before (outside after.files after.out err) → Rose before.err.faults err.faults
+  err_rose outcome err (inl fails) = fails.err.faults
+  err_rose outcome err (inr fails) = fails.err.faults
+
   -- nothing was put behind a failed put on `err`
   still : (err : SinkState) → IsPut [] err after.err → Rose before.err.faults err.faults → Rose before.err.faults after.err.faults
   still err (inl same) rose = subst (λ (s : SinkState). Rose before.err.faults s.faults) (sym same) rose
@@ -67,7 +72,7 @@ module _ (words : List (List ℕ)) (status : ℕ) (before after : Outside) where
       by (Decided verdict) (inl tells) reached = inl (written_status verdict status tells.status_is)
       by (CannotRead path) (inl tells) reached = absurd (calm.faults reached.failed.faults)
       by CannotWrite (inl tells) reached = absurd (not_written reached.decision.outcome ends.err calm reached.fails)
-      by CannotPut (inl tells) reached = absurd (calm.err (still ends.err tells.text reached.fails.err.faults))
+      by CannotPut (inl tells) reached = absurd (calm.err (still ends.err tells.text (err_rose reached.decision.outcome ends.err reached.fails)))
       by OutOfMemory (inl tells) reached = inr tells.status_is
 
   -- what the status says, where the call ended so

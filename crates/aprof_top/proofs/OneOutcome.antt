@@ -11,6 +11,7 @@ use Rattle.aprof_top.specs.Outcome.{ByImage, Follows, IsScheduled, Outcome, Stag
 use Rattle.aprof_top.specs.Outcome.Stage.{PastLimit, Loading, Complete}
 use Rattle.aprof_top.specs.Laws.{OneOutcome}
 use Rattle.aprof_top.specs.Run.{run_of}
+use Rattle.stamps.specs.declared.width.StampBits.TheVariants.{B32}
 use Rattle.aprof_top.specs.Schedules.{Reading, Reads}
 use Rattle.aprof_top.specs.Schedules.Reading.{Turns, BadLine}
 
@@ -38,5 +39,5 @@ one_outcome one_file None files a b p q = p ∙ sym q
 one_outcome one_file (Some (Run options)) files a b p q = follows_once options files a b (stage options.guest files) p q
 one_outcome one_file (Some (Demo number)) files a b p q =
     p.answered
-    ∙ ap (λ file. demo_outcome number (image_of file) (run_of demo_options (demo_files file) [])) (one_file number p.file q.file p.is_demo q.is_demo)
+    ∙ ap (λ file. demo_outcome number (image_of file) (run_of B32 demo_options (demo_files file) [])) (one_file number p.file q.file p.is_demo q.is_demo)
     ∙ sym q.answered

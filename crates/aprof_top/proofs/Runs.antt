@@ -16,13 +16,14 @@ use Rattle.guest_calls.specs.Inputs.{Input}
 use Rattle.guest_machine.specs.declared.setup.SetupError.{SetupError}
 use Rattle.guest_machine.specs.Setup.{setup_refusal}
 use Rattle.guest_machine.specs.Start.{start}
-use Rattle.guest_run.specs.declared.run.Ended.{Ended}
 use Rattle.guest_run.specs.Laws.{scheduler}
-use Rattle.guest_run.specs.Output.{Sinks}
+use Rattle.guest_run.specs.Output.{Sinks, with_output}
 use Rattle.guest_run.specs.Profiled.{Profiled}
-use Rattle.guest_run.specs.RunEnds.{IsWhole}
 use Rattle.guest_run.proofs.Weights.{every_run_light}
 use Rattle.host_io.specs.Files.{FilesState}
+use Rattle.host_io.specs.Sink.{SinkState, appended}
+use Rattle.stamps.specs.declared.width.StampBits.{StampBits}
+use Rattle.stamps.specs.Widths.{greatest}
 use Rattle.thread_sched.specs.declared.entry.Entry.{Entry}
 use Rattle.thread_sched.specs.ScheduleText as recordings
 use Rattle.thread_sched.specs.ScheduleText.{IsBadLine, IsEntry, IsText}
@@ -34,11 +35,12 @@ use Rattle.aprof_top.specs.declared.ending.Verdict.{Verdict}
 use Rattle.aprof_top.specs.declared.ending.Verdict.TheVariants.{BadImage, BadSchedule, TooLarge}
 use Rattle.aprof_top.specs.declared.loaded.Loaded as kept
 use Rattle.aprof_top.specs.Ending.{of_image, of_schedule}
-use Rattle.aprof_top.specs.Jobs.{FilesRun, ImageRuns, IsRefused, RunIsStored, ending_by}
+use Rattle.aprof_top.specs.Jobs.{FilesRun, IsRefused, RunIsStored, RunStops, desk, ending_by}
+use Rattle.aprof_top.specs.Delivery.{FailsWithin, PutsOutput}
 use Rattle.aprof_top.specs.Loads.{Loaded, with_inputs}
 use Rattle.aprof_top.specs.Outcome.{ByImage, IsRun, IsScheduled, Outcome, begun_outcome, refusal, run_outcome}
 use Rattle.aprof_top.specs.Outside.{AreFiles, Outside, outside}
-use Rattle.aprof_top.specs.Run.{first_state, greatest_stamp, observed_from, run_of}
+use Rattle.aprof_top.specs.Run.{first_state, observed_from, run_of}
 use Rattle.aprof_top.specs.Schedules.Reading.{BadLine, Turns}
 use Rattle.aprof_top.proofs.Handed.{fails_on_err, fails_on_out, puts_all, stops_short}
 use Rattle.aprof_top.proofs.Sinks.{appended-nothing, same_files, takes_all}
@@ -63,7 +65,7 @@ module _ (options : RunOptions) (loaded : Loaded) where
         answered = refused_by (setup_refusal (image_of loaded.image) (arguments options.guest)) (subst (λ i. IsRefused (setup_refusal i (arguments options.guest))) is refused);
       })
 
-      pub IsRun-run : setup_refusal image (arguments options.guest) ≡ None → (seen : Profiled) → seen ≡ run_of options.guest loaded turns → IsRun options loaded (run_outcome options image seen)
+      pub IsRun-run : setup_refusal image (arguments options.guest) ≡ None → (seen : Profiled) → seen ≡ run_of options.bits options.guest loaded turns → IsRun options loaded (run_outcome options image seen)
       IsRun-run begins seen runs = accepts (run_outcome options image seen) (record {
         reading = Turns turns;
         read = (entries, text);
@@ -77,19 +79,11 @@ none_refused None m same = refl
 none_refused (Some why) m same = absurd (grind (arith, same))
 
 -- the run of the machine that began so
-same_run : (options : GuestOptions) (loaded : Loaded) (turns : List Entry) (image : Executable) (files : List Input) (stdin : List ℕ) → image ≡ image_of loaded.image → files ≡ with_inputs [] (inputs options) loaded.inputs → stdin ≡ loaded.stdin → observed_from (is_within greatest_stamp) options turns image.entry (start image (arguments options) files stdin) ≡ run_of options loaded turns
+pub seen_run : (bits : StampBits) (options : GuestOptions) (loaded : Loaded) (turns : List Entry) (image : Executable) (files : List Input) (stdin : List ℕ) → image ≡ image_of loaded.image → files ≡ with_inputs [] (inputs options) loaded.inputs → stdin ≡ loaded.stdin → observed_from (is_within (greatest bits)) options turns image.entry (start image (arguments options) files stdin) ≡ run_of bits options loaded turns
 unfolding first_state
-same_run options loaded turns image files stdin is files_are stdin_is =
-    ap (λ i. observed_from (is_within greatest_stamp) options turns i.entry (start i (arguments options) files stdin)) is
-    ∙ ap₂ (λ f s. observed_from (is_within greatest_stamp) options turns (image_of loaded.image).entry (start (image_of loaded.image) (arguments options) f s)) files_are stdin_is
-
--- by the stamps that the program has
-pub seen_run : (options : GuestOptions) (loaded : Loaded) (turns : List Entry) (image : Executable) (files : List Input) (stdin : List ℕ) (greatest : ℕ) → greatest ≡ greatest_stamp →
-    image ≡ image_of loaded.image → files ≡ with_inputs [] (inputs options) loaded.inputs → stdin ≡ loaded.stdin →
-    observed_from (is_within greatest) options turns image.entry (start image (arguments options) files stdin) ≡ run_of options loaded turns
-seen_run options loaded turns image files stdin greatest greatest_is is files_are stdin_is =
-    ap (λ n. observed_from (is_within n) options turns image.entry (start image (arguments options) files stdin)) greatest_is
-    ∙ same_run options loaded turns image files stdin is files_are stdin_is
+seen_run bits options loaded turns image files stdin is files_are stdin_is =
+    ap (λ i. observed_from (is_within (greatest bits)) options turns i.entry (start i (arguments options) files stdin)) is
+    ∙ ap₂ (λ f s. observed_from (is_within (greatest bits)) options turns (image_of loaded.image).entry (start (image_of loaded.image) (arguments options) f s)) files_are stdin_is
 
 -- the image was taken
 pub image_accepted : (files : Loaded) (k : kept.Loaded) (bytes : List ℕ) → k.image.items ≡ files.image → bytes ≡ k.image.items → first_refusal bytes ≡ None → first_refusal files.image ≡ None
@@ -100,7 +94,7 @@ handed_refusal : (options : RunOptions) (loaded : Loaded) (v : Verdict) (o : Out
 handed_refusal options loaded v o is_run = record {
   outcome = refusal v;
   is_run = is_run;
-  delivered = (refl, record { output = record { out = appended-nothing o.out; err = appended-nothing o.err }; stored = same_files o.files });
+  delivered = (refl, record { out = appended-nothing o.out; err = appended-nothing o.err ∙ appended-nothing (appended o.err []); stored = same_files o.files });
 }
 
 unread_image : (options : RunOptions) (loaded : Loaded) (o : Outside) (e : ElfError) → first_refusal loaded.image ≡ Some e → FilesRun options loaded o o (ending.Decided (BadImage e))
@@ -137,77 +131,92 @@ FilesRun-bad_line options loaded o accepted unread.Memory bad = inl refl
 
 -- ---- the guest is run
 module _ (options : RunOptions) (loaded : Loaded) (accepted : first_refusal loaded.image ≡ None) (turns : List Entry) (entries : AllByRecursion IsEntry turns)
-    (text : IsText loaded.schedule turns) (image : Executable) (is : image ≡ image_of loaded.image) (seen : Profiled) (runs : seen ≡ run_of options.guest loaded turns)
+    (text : IsText loaded.schedule turns) (image : Executable) (is : image ≡ image_of loaded.image) (seen : Profiled) (runs : seen ≡ run_of options.bits options.guest loaded turns)
     (files : FilesState) (before after : Sinks) where
   is_outcome : setup_refusal image (arguments options.guest) ≡ None → IsRun options loaded (run_outcome options image seen)
   is_outcome begins = IsRun-run options loaded accepted turns entries text image is begins seen runs
 
   -- it can't begin, or is given up
-  pub FilesRun-given_up : {W : Type 0} (Stands : W → List Event → Type 0) (observer : W) (e : declared.Ending) →
-      ImageRuns Stands (setup_refusal image (arguments options.guest)) seen before observer after (Err e) →
+  pub FilesRun-given_up : (e : declared.Ending) → RunStops (setup_refusal image (arguments options.guest)) seen before after e →
       FilesRun options loaded (outside files before.out before.err) (outside files after.out after.err) e
-  FilesRun-given_up Stands observer (ending.Decided v) (large, refused, same) =
+  FilesRun-given_up (ending.Decided v) (large, refused, same) =
       subst (λ (s : Sinks). FilesRun options loaded (outside files before.out before.err) (outside files s.out s.err) (ending.Decided v)) (sym same)
       (handed_refusal options loaded v (outside files before.out before.err)
       (subst (λ w. IsRun options loaded (refusal w)) (sym large) (IsRun-unbegun options loaded accepted turns entries text image is refused)))
-  FilesRun-given_up Stands observer (ending.CannotRead source) fails = absurd fails
-  FilesRun-given_up Stands observer ending.CannotWrite (begins, stops) = record {
+  FilesRun-given_up (ending.CannotRead source) fails = absurd fails
+  FilesRun-given_up ending.CannotWrite (begins, stops) = record {
     outcome = run_outcome options image seen;
     is_run = is_outcome begins;
     delivered = (tt, inr (fails_on_out (run_outcome options image seen) seen.moves refl refl files before after stops));
   }
-  FilesRun-given_up Stands observer ending.CannotPut (begins, stops) = record {
+  FilesRun-given_up ending.CannotPut (begins, stops) = record {
     outcome = run_outcome options image seen;
     is_run = is_outcome begins;
-    delivered = (tt, fails_on_err (run_outcome options image seen) seen.moves refl refl files before after stops);
+    delivered = (tt, inl (fails_on_err (run_outcome options image seen) seen.moves refl refl files before after stops));
   }
-  FilesRun-given_up Stands observer ending.OutOfMemory (inl same) = inl (ap (λ (s : Sinks). outside files s.out s.err) same)
-  FilesRun-given_up Stands observer ending.OutOfMemory (inr (begins, gives)) = inr (record {
+  FilesRun-given_up ending.OutOfMemory (inl same) = inl (ap (λ (s : Sinks). outside files s.out s.err) same)
+  FilesRun-given_up ending.OutOfMemory (inr (begins, gives)) = inr (record {
     outcome = run_outcome options image seen;
     is_run = is_outcome begins;
     delivered = stops_short (run_outcome options image seen) seen.moves refl refl files before after gives;
   })
 
-  -- it came to its end, and its files are stored
-  pub FilesRun-stored : {W : Type 0} (Stands : W → List Event → Type 0) (observer : W) (ended : Ended) →
-      setup_refusal image (arguments options.guest) ≡ None → IsWhole Stands seen before observer after ended → (new : FilesState) (result : Result Verdict declared.Ending) →
-      RunIsStored (run_outcome options image seen) files new result →
-      FilesRun options loaded (outside files before.out before.err) (outside new after.out after.err) (ending_by result)
-  FilesRun-stored Stands observer ended begins whole new (Ok v) (same, stored) = record {
-    outcome = run_outcome options image seen;
-    is_run = is_outcome begins;
-    delivered = (
-      same,
-      record {
-        output = puts_all (run_outcome options image seen) seen.moves refl refl files new before after whole.output;
-        stored = subst (λ f. AreFiles f new) stored (same_files new);
-      },
-    );
-  }
-  FilesRun-stored Stands observer ended begins whole new (Err ending.CannotWrite) fails = record {
-    outcome = run_outcome options image seen;
-    is_run = is_outcome begins;
-    delivered = (tt, inl (record { output = puts_all (run_outcome options image seen) seen.moves refl refl files new before after whole.output; stored = fails }));
-  }
-  FilesRun-stored Stands observer ended begins whole new (Err ending.OutOfMemory) (count, stored) =
-      let outcome = run_outcome options image seen in
-      let output = puts_all outcome seen.moves refl refl files new before after whole.output in
-      inr (record {
-        outcome = outcome;
-        is_run = is_outcome begins;
-        delivered = record {
-          out_count = length outcome.out;
-          out = takes_all outcome.out before.out after.out output.out;
-          err_count = length outcome.err;
-          err = takes_all outcome.err before.err after.err output.err;
-          count = count;
-          files = stored;
-          output_first = inl (take-length outcome.out, take-length outcome.err);
-        };
-      })
-  FilesRun-stored Stands observer ended begins whole new (Err (ending.Decided v)) fails = absurd fails
-  FilesRun-stored Stands observer ended begins whole new (Err (ending.CannotRead source)) fails = absurd fails
-  FilesRun-stored Stands observer ended begins whole new (Err ending.CannotPut) fails = absurd fails
+  -- it came to its end, its files are stored, and its statistics are put
+  module _ (begins : setup_refusal image (arguments options.guest) ≡ None) (whole : after ≡ with_output seen.moves before) (new : FilesState) (err : SinkState) where
+    outcome : Outcome
+    outcome = run_outcome options image seen
+
+    put : PutsOutput outcome (outside files before.out before.err) (outside new after.out after.err)
+    put = puts_all outcome seen.moves refl refl files new before after whole
+
+    pub FilesRun-stored : (result : Result Verdict declared.Ending) → RunIsStored (run_outcome options image seen) (desk files after.err) (desk new err) result →
+        FilesRun options loaded (outside files before.out before.err) (outside new after.out err) (ending_by result)
+    FilesRun-stored (Ok v) (same, done) = record {
+      outcome = outcome;
+      is_run = is_outcome begins;
+      delivered = (
+        same,
+        record {
+          out = put.out;
+          err = done.stats ∙ ap (λ (s : SinkState). appended s outcome.stats) put.err;
+          stored = subst (λ f. AreFiles f new) done.stored (same_files new);
+        },
+      );
+    }
+    FilesRun-stored (Err ending.CannotWrite) fails = record {
+      outcome = outcome;
+      is_run = is_outcome begins;
+      delivered = (tt, inl (record { output = record { out = put.out; err = fails.err ∙ put.err }; stored = fails.stored }));
+    }
+    FilesRun-stored (Err ending.CannotPut) fails = record {
+      outcome = outcome;
+      is_run = is_outcome begins;
+      delivered = (
+        tt,
+        inr (record {
+          out = put.out;
+          err = subst (λ (s : SinkState). FailsWithin outcome.stats s err) put.err fails.stats;
+          stored = subst (λ f. AreFiles f new) fails.stored (same_files new);
+        }),
+      );
+    }
+    FilesRun-stored (Err ending.OutOfMemory) fails =
+        let err_is = fails.err ∙ put.err in
+        inr (record {
+          outcome = outcome;
+          is_run = is_outcome begins;
+          delivered = record {
+            out_count = length outcome.out;
+            out = takes_all outcome.out before.out after.out put.out;
+            err_count = length outcome.err;
+            err = takes_all outcome.err before.err err err_is;
+            count = fails.stored.0;
+            files = fails.stored.1;
+            output_first = inl (take-length outcome.out, take-length outcome.err);
+          };
+        })
+    FilesRun-stored (Err (ending.Decided v)) fails = absurd fails
+    FilesRun-stored (Err (ending.CannotRead source)) fails = absurd fails
 
 -- what is observed is light
 pub light_observed : (fits : List Event → Bool) (options : GuestOptions) (turns : List Entry) (image : Executable) (files : List Input) (stdin : List ℕ) → options.budget ≤ RUN_STEPS →

@@ -6,7 +6,12 @@ use Rattle.std.proofs.lemmas.List.{length-map}
 use Rattle.std.proofs.lemmas.List.Sums.{sum_by-cons, sum_by-le, sum_by_more, sum_by_more_le, sum-map}
 use Rattle.std.proofs.lemmas.List.Elements.{All-nil, All-cons, All-head, All-tail, All-weaker}
 use Rattle.elf_image.specs.Image.{Executable}
+use Rattle.trace_model.specs.declared.event_kinds.Event.{Event}
 use Rattle.trace_model.specs.declared.slow_profile.Done.{Done}
+use Rattle.trace_model.specs.Profile.{done}
+use Rattle.trace_model.specs.WellFormed.{IsLight, weight}
+use Rattle.run_profile.proofs.Profiles.{few_done}
+use Rattle.run_profile.proofs.Small.{IsSmall, small_done}
 use Rattle.cost_points.specs.declared.point.Point.{Point}
 use Rattle.cost_points.specs.Keys.{insert_rising, rising, IsRising, grouped}
 use Rattle.cost_points.specs.Points.{point_of, routine_of, points}
@@ -169,6 +174,14 @@ FitsTotals-points image all few small cheap =
       sizes = rw (sizes-points image all) (omega (arith, size_bound));
       costs = rw (costs-points image all) (omega (arith, cost_bound));
     }
+
+-- So those of a light past fit.
+pub FitsTotals-past : (image : Executable) (past : List Event) → IsLight past → FitsTotals (map (named image) (points (done past)))
+FitsTotals-past image past light =
+    let small = small_done past in
+    FitsTotals-points image (done past) (omega (arith, few_done past light))
+    (All-weaker (IsSmall (weight past)) (λ d. d.size < 2 ^ 64) (λ d s. omega (arith, s.0, light)) (done past) small)
+    (All-weaker (IsSmall (weight past)) (λ d. d.cost < 2 ^ 64) (λ d s. omega (arith, s.1, light)) (done past) small)
 
 -- the points of one routine more
 module _ (of : Point → ℕ) (routines : List ReportedRoutine) (i : ℕ) (r : ReportedRoutine) (ps : List Point) (inside : i < length routines) (here : r ≡ get_or routines i r) (are : ps ≡ r.points) where

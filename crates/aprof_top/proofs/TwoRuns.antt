@@ -29,7 +29,8 @@ use Rattle.aprof_top.specs.Loads.{Loaded, with_inputs, first_file, file_at, load
 use Rattle.aprof_top.specs.Outcome.{ByImage, Follows, IsRun, Outcome, Stage, begun_outcome, recording_stores, refusal, run_outcome, scheduled_outcome, stage}
 use Rattle.aprof_top.specs.Outcome.Stage.{Complete, Loading, PastLimit}
 use Rattle.aprof_top.specs.Report.{report_of}
-use Rattle.aprof_top.specs.Run.{first_state, greatest_stamp, observed_from, run_of}
+use Rattle.aprof_top.specs.Run.{first_state, observed_from, run_of}
+use Rattle.stamps.specs.Widths.{greatest}
 use Rattle.aprof_top.specs.Schedules.{Reading}
 use Rattle.aprof_top.specs.Schedules.Reading.{BadLine, Turns}
 use Rattle.aprof_top.proofs.Commands.{complete_stage}
@@ -148,7 +149,7 @@ record Ran' (options : RunOptions) (loaded : Loaded) (outcome : Outcome) : Type 
   accepted : first_refusal loaded.image ≡ None
   begins : setup_refusal (image_of loaded.image) (arguments options.guest) ≡ None
   turns : List Entry
-  answered : outcome ≡ run_outcome options (image_of loaded.image) (run_of options.guest loaded turns)
+  answered : outcome ≡ run_outcome options (image_of loaded.image) (run_of options.bits options.guest loaded turns)
 
 module _ (options : RunOptions) (loaded : Loaded) (outcome : Outcome) (finish : Finish) (ran : outcome.verdict ≡ Ran finish) where
   no_refusal : {A : Type 0} (v : Verdict) → (v ≡ Ran finish → ⊥) → outcome ≡ refusal v → A
@@ -185,15 +186,15 @@ module _ (replays : ReplaysProfiled) (entries : EveryRunRecordsEntries) (options
   again = record loaded { schedule = text }
 
   abbrev seen : Profiled
-  seen = run_of options.guest loaded turns
+  seen = run_of options.bits options.guest loaded turns
 
-  same_seen : IsNoMismatch seen.finish → run_of (under_schedule options.guest path) again (recording seen.moves) ≡ seen
+  same_seen : IsNoMismatch seen.finish → run_of options.bits (under_schedule options.guest path) again (recording seen.moves) ≡ seen
   unfolding observed_from first_state
-  same_seen no_mismatch = replays (is_within greatest_stamp) (first_past (image_of loaded.image).entry) options.guest.quantum options.guest.quantum options.guest.budget turns (first_state options.guest loaded) (within_closed greatest_stamp) refl no_mismatch
+  same_seen no_mismatch = replays (is_within (greatest options.bits)) (first_past (image_of loaded.image).entry) options.guest.quantum options.guest.quantum options.guest.budget turns (first_state options.guest loaded) (within_closed (greatest options.bits)) refl no_mismatch
 
   are_entries : options.guest.budget ≤ RUN_STEPS → AllByRecursion IsEntry (recording seen.moves)
   unfolding observed_from first_state
-  are_entries few = (entries (image_of loaded.image) (arguments options.guest) (with_inputs [] (inputs options.guest) loaded.inputs) loaded.stdin (is_within greatest_stamp) (scheduler options.guest.quantum turns) options.guest.budget few).profiled_part
+  are_entries few = (entries (image_of loaded.image) (arguments options.guest) (with_inputs [] (inputs options.guest) loaded.inputs) loaded.stdin (is_within (greatest options.bits)) (scheduler options.guest.quantum turns) options.guest.budget few).profiled_part
 
   module _ (few : options.guest.budget ≤ RUN_STEPS) (no_mismatch : IsNoMismatch seen.finish) (is_text : text ≡ schedule_text (recording seen.moves)) (accepted : first_refusal loaded.image ≡ None) (begins : setup_refusal (image_of loaded.image) (arguments options.guest) ≡ None) (second : Outcome) where
     under_turns : second ≡ scheduled_outcome (scheduled options path) again (Turns (recording seen.moves)) → second ≡ run_outcome options (image_of loaded.image) seen
@@ -213,7 +214,7 @@ two_runs_agree replays entries options files first second path text few is leave
     let ran = complete_run options files first leaves.finish leaves.ran (stage options.guest files) refl is in
     let run = ran.1 in
     let image = image_of loaded.image in
-    let seen : Profiled = run_of options.guest loaded run.turns in
+    let seen : Profiled = run_of options.bits options.guest loaded run.turns in
     let is_text : text ≡ schedule_text (recording seen.moves) =
     stored_is options.recording (recording seen.moves) ((options.report, report_text (report_of image seen.finish seen.past)) ∷ []) leaves.path text leaves.asked (ap (λ (o : Outcome). slice_get o.stores 0) (sym run.answered) ∙ leaves.stored) in
     let finish : seen.finish ≡ leaves.finish = same_finish seen.finish leaves.finish (ap (λ (o : Outcome). o.verdict) (sym run.answered) ∙ leaves.ran) in

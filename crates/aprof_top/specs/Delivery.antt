@@ -12,9 +12,10 @@ pub record PutsOutput (outcome : Outcome) (before after : Outside) : Type 0 wher
   pub out : after.out ≡ appended before.out outcome.out
   pub err : after.err ≡ appended before.err outcome.err
 
--- All of the output was put, and all was stored.
+-- All was put and stored: the output, the files, and then the statistics on `err`.
 pub record DoesAll (outcome : Outcome) (before after : Outside) : Type 0 where
-  pub output : PutsOutput outcome before after
+  pub out : after.out ≡ appended before.out outcome.out
+  pub err : after.err ≡ appended (appended before.err outcome.err) outcome.stats
   pub stored : AreFiles (with_stores outcome.stores before.files) after.files
 
 -- Of these stores the first were done, this many, and the next failed: what its path has is unknown.
@@ -54,7 +55,14 @@ pub record FailsOnErr (outcome : Outcome) (before after : Outside) : Type 0 wher
   pub err : FailsWithin outcome.err before.err after.err
   pub files : after.files ≡ before.files
 
--- A first part of an outcome was put and stored, without a failure; nothing was stored before all of the output came.
+-- All of the output was put and all was stored, and the put of the statistics failed.
+pub record FailsAtStats (outcome : Outcome) (before after : Outside) : Type 0 where
+  pub out : after.out ≡ appended before.out outcome.out
+  pub err : FailsWithin outcome.stats (appended before.err outcome.err) after.err
+  pub stored : AreFiles (with_stores outcome.stores before.files) after.files
+
+-- A first part of an outcome was put and stored, without a failure, and no statistics; nothing was stored before all of the
+-- output came.
 pub record StopsShort (outcome : Outcome) (before after : Outside) : Type 0 where
   pub out_count : ℕ
   pub out : TakesFirst out_count outcome.out before.out after.out

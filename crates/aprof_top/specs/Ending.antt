@@ -20,7 +20,7 @@ use Rattle.host_io.specs.declared.sink.PutError.{PutError}
 use Rattle.host_io.specs.declared.sink.PutError.TheVariants as put
 use Rattle.thread_sched.specs.declared.schedule.ScheduleError.{ScheduleError}
 use Rattle.thread_sched.specs.declared.schedule.ScheduleError.TheVariants as schedule
-use Rattle.aprof_top.specs.Delivery.{DoesAll, FailsAtStore, FailsOnErr, FailsOnOut, StopsShort}
+use Rattle.aprof_top.specs.Delivery.{DoesAll, FailsAtStats, FailsAtStore, FailsOnErr, FailsOnOut, StopsShort}
 use Rattle.aprof_top.specs.Ends as ends
 use Rattle.aprof_top.specs.Ends.{End, Reaches}
 use Rattle.aprof_top.specs.Outcome.{Outcome}
@@ -96,5 +96,5 @@ abbrev pub Delivers : Outcome → Outside → Outside → Ending → Type 0
 Delivers outcome before after (Decided verdict) = (outcome.verdict ≡ verdict) × DoesAll outcome before after
 Delivers outcome before after (CannotRead source) = ⊥
 Delivers outcome before after CannotWrite = FailsAtStore outcome before after ⊎ FailsOnOut outcome before after
-Delivers outcome before after CannotPut = FailsOnErr outcome before after
+Delivers outcome before after CannotPut = FailsOnErr outcome before after ⊎ FailsAtStats outcome before after
 Delivers outcome before after OutOfMemory = StopsShort outcome before after

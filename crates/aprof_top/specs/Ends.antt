@@ -3,7 +3,7 @@ use Rattle.std.specs.Prelude.{◌≡◌, ◌⊎◌, ℕ, false, List, [], length
 use Rattle.std.specs.List.{list_any}
 use Rattle.command_line.specs.Options.{has_zero}
 use Rattle.host_io.specs.Files.{FailsAt}
-use Rattle.aprof_top.specs.Delivery.{DoesAll, FailsAtStore, FailsOnErr, FailsOnOut, StopsShort}
+use Rattle.aprof_top.specs.Delivery.{DoesAll, FailsAtStats, FailsAtStore, FailsOnErr, FailsOnOut, StopsShort}
 use Rattle.aprof_top.specs.Found.{Decision, Found, paths_of}
 use Rattle.aprof_top.specs.Outcome.{IsUndecided, Outcome}
 use Rattle.aprof_top.specs.Outside.{Outside}
@@ -68,5 +68,6 @@ Reaches words (Decided verdict) before after =
 Reaches words (CannotRead path) before after = FailsToRead words path before after
 Reaches words CannotWrite before after =
     FailsToWrite words (λ outcome. FailsAtStore outcome before after ⊎ FailsOnOut outcome before after) before after
-Reaches words CannotPut before after = FailsToWrite words (λ outcome. FailsOnErr outcome before after) before after
+Reaches words CannotPut before after =
+    FailsToWrite words (λ outcome. FailsOnErr outcome before after ⊎ FailsAtStats outcome before after) before after
 Reaches words OutOfMemory before after = WantsMemory words before after

@@ -4,10 +4,12 @@ use Rattle.command_line.specs.Options.{RunOptions}
 use Rattle.guest_machine.specs.declared.setup.SetupError.{SetupError}
 use Rattle.guest_run.specs.declared.run.Ended.{Ended}
 use Rattle.guest_run.specs.declared.run_error.Channel.TheVariants as channel
-use Rattle.guest_run.specs.Output.{Sinks}
+use Rattle.guest_run.specs.Output.{Sinks, with_output}
+use Rattle.guest_run.specs.Run.{recording}
 use Rattle.guest_run.specs.Profiled.{Profiled}
 use Rattle.guest_run.specs.RunEnds.{IsGivenUp, IsWhole, StopsAtPut}
 use Rattle.host_io.specs.Files.{FilesState}
+use Rattle.host_io.specs.Sink.{SinkState, appended}
 use Rattle.host_io.specs.declared.files.StoreError.{StoreError}
 use Rattle.host_io.specs.declared.files.StoreError.TheVariants.{Failed, Memory}
 use Rattle.trace_model.specs.declared.event_kinds.Event.{Event}
@@ -15,8 +17,10 @@ use Rattle.aprof_top.specs.declared.ending.Ending.{Ending}
 use Rattle.aprof_top.specs.declared.ending.Ending.TheVariants.{Decided, CannotRead, CannotWrite, CannotPut, OutOfMemory}
 use Rattle.aprof_top.specs.declared.ending.Verdict.{Verdict}
 use Rattle.aprof_top.specs.declared.ending.Verdict.TheVariants.{Summarized, TooLarge}
+use Rattle.run_profile.specs.Profile.{AreTotalsOf}
 use Rattle.aprof_top.specs.declared.delivery.Store.{Store}
-use Rattle.aprof_top.specs.Delivery.{DoesAll, FailsAtStore, FailsOnErr, FailsOnOut, StoreFails, StopsShort}
+use Rattle.aprof_top.specs.declared.profiled_run.ProfiledRun.{ProfiledRun}
+use Rattle.aprof_top.specs.Delivery.{DoesAll, FailsAtStats, FailsAtStore, FailsOnErr, FailsOnOut, FailsWithin, StoreFails, StopsShort}
 use Rattle.aprof_top.specs.Loads.{Loaded}
 use Rattle.aprof_top.specs.Outcome.{IsRun, Outcome}
 use Rattle.aprof_top.specs.Outside.{Outside, with_stores}
@@ -32,14 +36,30 @@ abbrev pub IsRefused : Option SetupError → Type 0
 IsRefused None = ⊥
 IsRefused (Some why) = Unit {0}
 
+-- How the run of an executable stops before its end: its guest can't begin, a put failed, or memory was wanting.
+abbrev pub RunStops : Option SetupError → Profiled → Sinks → Sinks → Ending → Type 0
+RunStops setup run before after (Decided verdict) = (verdict ≡ TooLarge) × IsRefused setup × (after ≡ before)
+RunStops setup run before after (CannotRead source) = ⊥
+RunStops setup run before after CannotWrite = (setup ≡ None) × StopsAtPut channel.Out run.moves before after
+RunStops setup run before after CannotPut = (setup ≡ None) × StopsAtPut channel.Err run.moves before after
+RunStops setup run before after OutOfMemory = (after ≡ before) ⊎ ((setup ≡ None) × IsGivenUp run.moves before after)
+
 -- How the run of an executable ends, by whether its guest can begin and by what is observed of its run.
 abbrev pub ImageRuns : {W : Type 0} → (W → List Event → Type 0) → Option SetupError → Profiled → Sinks → W → Sinks → Result Ended Ending → Type 0
 ImageRuns Stands setup run before observer after (Ok ended) = (setup ≡ None) × IsWhole Stands run before observer after ended
-ImageRuns Stands setup run before observer after (Err (Decided verdict)) = (verdict ≡ TooLarge) × IsRefused setup × (after ≡ before)
-ImageRuns Stands setup run before observer after (Err (CannotRead source)) = ⊥
-ImageRuns Stands setup run before observer after (Err CannotWrite) = (setup ≡ None) × StopsAtPut channel.Out run.moves before after
-ImageRuns Stands setup run before observer after (Err CannotPut) = (setup ≡ None) × StopsAtPut channel.Err run.moves before after
-ImageRuns Stands setup run before observer after (Err OutOfMemory) = (after ≡ before) ⊎ ((setup ≡ None) × IsGivenUp run.moves before after)
+ImageRuns Stands setup run before observer after (Err e) = RunStops setup run before after e
+
+-- The run came to its end: these are its totals, all of its output was put, and this is its recording and its end.
+pub record IsProfiled (most : ℕ) (run : Profiled) (before after : Sinks) (profiled : ProfiledRun) : Type 0 where
+  pub totals : AreTotalsOf most profiled.totals run.past
+  pub output : after ≡ with_output run.moves before
+  pub recorded : profiled.ended.recording ≡ recording run.moves
+  pub finish : profiled.ended.finish ≡ run.finish
+
+-- How the run of an executable ends that is profiled by stamps up to the greatest.
+abbrev pub ImageIsProfiled : ℕ → Option SetupError → Profiled → Sinks → Sinks → Result ProfiledRun Ending → Type 0
+ImageIsProfiled most setup run before after (Ok profiled) = (setup ≡ None) × IsProfiled most run before after profiled
+ImageIsProfiled most setup run before after (Err e) = RunStops setup run before after e
 
 -- the path and the bytes of a file to store
 abbrev pub store_of : Store → List ℕ × List ℕ
@@ -51,14 +71,41 @@ StoresEnd stores old new (Ok done) = new ≡ with_stores stores old
 StoresEnd stores old new (Err Failed) = StoreFails stores old new
 StoresEnd stores old new (Err Memory) = (count : ℕ) × (new ≡ with_stores (take count stores) old)
 
--- how the stores of an outcome end
-abbrev pub RunIsStored : Outcome → FilesState → FilesState → Result Verdict Ending → Type 0
-RunIsStored outcome old new (Ok verdict) = (outcome.verdict ≡ verdict) × (new ≡ with_stores outcome.stores old)
-RunIsStored outcome old new (Err CannotWrite) = StoreFails outcome.stores old new
-RunIsStored outcome old new (Err OutOfMemory) = (count : ℕ) × (new ≡ with_stores (take count outcome.stores) old)
+-- Files and the sink `err`.
+pub record Desk : Type 0 where
+  pub files : FilesState
+  pub err : SinkState
+
+abbrev pub desk : FilesState → SinkState → Desk
+desk files err = record { files = files; err = err }
+
+-- how the put of statistics ends
+abbrev pub StatsEnd : List ℕ → SinkState → SinkState → Result Unit Ending → Type 0
+StatsEnd stats old new (Ok done) = new ≡ appended old stats
+StatsEnd stats old new (Err CannotPut) = FailsWithin stats old new
+StatsEnd stats old new (Err OutOfMemory) = new ≡ old
+StatsEnd stats old new (Err (Decided verdict)) = ⊥
+StatsEnd stats old new (Err (CannotRead source)) = ⊥
+StatsEnd stats old new (Err CannotWrite) = ⊥
+
+-- All was stored, and the statistics were put so.
+pub record AreStored (outcome : Outcome) (old new : Desk) (Puts : SinkState → SinkState → Type 0) : Type 0 where
+  pub stored : new.files ≡ with_stores outcome.stores old.files
+  pub stats : Puts old.err new.err
+
+-- A store failed, or memory was wanting, before the statistics.
+pub record StopsAtStores (old new : Desk) (Stored : FilesState → FilesState → Type 0) : Type 0 where
+  pub stored : Stored old.files new.files
+  pub err : new.err ≡ old.err
+
+-- how the stores of an outcome end, and the put of its statistics
+abbrev pub RunIsStored : Outcome → Desk → Desk → Result Verdict Ending → Type 0
+RunIsStored outcome old new (Ok verdict) = (outcome.verdict ≡ verdict) × AreStored outcome old new (λ before after. after ≡ appended before outcome.stats)
+RunIsStored outcome old new (Err CannotWrite) = StopsAtStores old new (StoreFails outcome.stores)
+RunIsStored outcome old new (Err CannotPut) = AreStored outcome old new (FailsWithin outcome.stats)
+RunIsStored outcome old new (Err OutOfMemory) = StopsAtStores old new (λ before after. (count : ℕ) × (after ≡ with_stores (take count outcome.stores) before))
 RunIsStored outcome old new (Err (Decided verdict)) = ⊥
 RunIsStored outcome old new (Err (CannotRead source)) = ⊥
-RunIsStored outcome old new (Err CannotPut) = ⊥
 
 -- The outcome of a run of these files is handed out so.
 pub record IsHandedOut (options : RunOptions) (loaded : Loaded) (Delivered : Outcome → Type 0) : Type 0 where
@@ -77,9 +124,10 @@ FilesRun options loaded before after (Decided verdict) =
 FilesRun options loaded before after (CannotRead source) = ⊥
 FilesRun options loaded before after CannotWrite =
     IsHandedOut options loaded (IsOfRunAnd (λ outcome. FailsAtStore outcome before after ⊎ FailsOnOut outcome before after))
-FilesRun options loaded before after CannotPut = IsHandedOut options loaded (IsOfRunAnd (λ outcome. FailsOnErr outcome before after))
+FilesRun options loaded before after CannotPut =
+    IsHandedOut options loaded (IsOfRunAnd (λ outcome. FailsOnErr outcome before after ⊎ FailsAtStats outcome before after))
 FilesRun options loaded before after OutOfMemory = (after ≡ before) ⊎ IsHandedOut options loaded (λ outcome. StopsShort outcome before after)
 
 -- the outcome of a demo with this summary
 abbrev pub summed : List ℕ → Outcome
-summed out = record { verdict = Summarized; out = out; err = []; stores = [] }
+summed out = record { verdict = Summarized; out = out; err = []; stores = []; stats = [] }

@@ -18,7 +18,6 @@ pub mod Verdicts
 -- What the private parts owe one another.
 pub mod Ending
 pub mod Jobs
-pub mod Kept
 pub mod LastTexts
 pub mod Loading
 pub mod Sources

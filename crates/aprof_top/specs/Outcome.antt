@@ -13,6 +13,9 @@ use Rattle.guest_run.specs.Run.{bytes_on, recording}
 use Rattle.guest_words.specs.declared.endings.Finish.{Finish}
 use Rattle.trace_model.specs.declared.event_kinds.Event.{Event}
 use Rattle.profile_report.specs.ReportText.{report_text}
+use Rattle.shadow_core.specs.Counting.{renumberings}
+use Rattle.stamps.specs.declared.width.StampBits.TheVariants.{B32}
+use Rattle.stamps.specs.Widths.{greatest}
 use Rattle.thread_sched.specs.declared.entry.Entry.{Entry}
 use Rattle.thread_sched.specs.ScheduleText as recordings
 use Rattle.aprof_top.specs.declared.ending.Verdict.{Verdict}
@@ -22,6 +25,7 @@ use Rattle.aprof_top.specs.Report.{report_of}
 use Rattle.aprof_top.specs.Run.{run_of}
 use Rattle.demo_guest.specs.Image.{IsDemoFile}
 use Rattle.aprof_top.specs.Summary.{summary_text}
+use Rattle.aprof_top.specs.Texts.{renumberings_text}
 use Rattle.aprof_top.specs.Schedules.{Reading, Reads}
 use Rattle.aprof_top.specs.Schedules.Reading.{Turns, BadLine}
 
@@ -34,10 +38,12 @@ pub record Outcome : Type 0 where
   pub err : List ℕ
   -- the files that are stored, in order: the path and the bytes of each
   pub stores : List (List ℕ × List ℕ)
+  -- what is put on `err` then
+  pub stats : List ℕ
 
 -- nothing is put or stored but the last text
 abbrev pub refusal : Verdict → Outcome
-refusal verdict = record { verdict = verdict; out = []; err = []; stores = [] }
+refusal verdict = record { verdict = verdict; out = []; err = []; stores = []; stats = [] }
 
 -- ---- the run
 -- the recording, where a path is given for it
@@ -50,6 +56,10 @@ abbrev pub run_stores : RunOptions → Executable → Finish → List Event → 
 run_stores options image finish past turns =
     recording_stores options.recording turns ++ (options.report, report_text (report_of image finish past)) ∷ []
 
+-- how often stamps were renumbered, where that is asked for
+abbrev pub stats_of : RunOptions → ℕ → List ℕ
+stats_of options count = if options.stats then renumberings_text count else []
+
 -- what a run leaves: its output and its files
 abbrev pub run_outcome : RunOptions → Executable → Profiled → Outcome
 run_outcome options image run = record {
@@ -57,12 +67,13 @@ run_outcome options image run = record {
   out = bytes_on 1 run.moves;
   err = bytes_on 2 run.moves;
   stores = run_stores options image run.finish run.past (recording run.moves);
+  stats = stats_of options (renumberings (greatest options.bits) run.past);
 }
 
 -- a guest that can begin is run
 abbrev pub begun_outcome : RunOptions → Loaded → List Entry → Option SetupError → Outcome
 begun_outcome options loaded turns (Some why) = refusal TooLarge
-begun_outcome options loaded turns None = run_outcome options (image_of loaded.image) (run_of options.guest loaded turns)
+begun_outcome options loaded turns None = run_outcome options (image_of loaded.image) (run_of options.bits options.guest loaded turns)
 
 -- under the schedule that was read
 abbrev pub scheduled_outcome : RunOptions → Loaded → Reading → Outcome
@@ -127,13 +138,14 @@ demo_outcome number image run = record {
   out = summary_text number (report_of image run.finish run.past);
   err = [];
   stores = [];
+  stats = [];
 }
 
 -- The outcome is the summary of the run of the demo's executable.
 pub record IsDemo (number : ℕ) (outcome : Outcome) : Type 0 where
   pub file : List ℕ
   pub is_demo : IsDemoFile number file
-  pub answered : outcome ≡ demo_outcome number (image_of file) (run_of demo_options (demo_files file) [])
+  pub answered : outcome ≡ demo_outcome number (image_of file) (run_of B32 demo_options (demo_files file) [])
 
 -- ---- the whole
 -- The outcome of what the words ask for, or of their refusal, over the bytes of the files that were loaded.

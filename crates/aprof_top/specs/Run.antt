@@ -1,5 +1,5 @@
 -- The profiled run of an executable.
-use Rattle.std.specs.Prelude.{ℕ, Bool, ◌-◌, ◌^◌, List, []}
+use Rattle.std.specs.Prelude.{ℕ, Bool, List, []}
 use Rattle.command_line.specs.Options.{GuestOptions, arguments, inputs}
 use Rattle.elf_image.specs.Reading.{image_of}
 use Rattle.guest_machine.specs.Machine.{MachineState}
@@ -10,12 +10,10 @@ use Rattle.guest_run.specs.Profiled.{Profiled, first_past, profiled}
 use Rattle.guest_run.specs.Run.{run}
 use Rattle.trace_model.specs.declared.event_kinds.Event.{Event}
 use Rattle.trace_model.specs.Depth.{is_within}
+use Rattle.stamps.specs.declared.width.StampBits.{StampBits}
+use Rattle.stamps.specs.Widths.{greatest}
 use Rattle.thread_sched.specs.declared.entry.Entry.{Entry}
 use Rattle.aprof_top.specs.Loads.{Loaded, with_inputs}
-
--- the greatest stamp
-abbrev pub greatest_stamp : ℕ
-greatest_stamp = 2 ^ 32 - 1
 
 -- the machine as it begins: the image, the arguments, the input files by their names, and standard input
 unfoldable pub first_state : GuestOptions → Loaded → MachineState
@@ -27,7 +25,7 @@ unfoldable pub observed_from : (List Event → Bool) → GuestOptions → List E
 observed_from fits options turns entry state =
     profiled fits (first_past entry) (run guest (scheduler options.quantum turns) options.budget state)
 
--- its moves, its trace and how it ended, as far as stamps can tell the open calls apart
-abbrev pub run_of : GuestOptions → Loaded → List Entry → Profiled
-run_of options loaded turns =
-    observed_from (is_within greatest_stamp) options turns (image_of loaded.image).entry (first_state options loaded)
+-- its moves, its trace and how it ended, as far as stamps of the width can tell the open calls apart
+abbrev pub run_of : StampBits → GuestOptions → Loaded → List Entry → Profiled
+run_of bits options loaded turns =
+    observed_from (is_within (greatest bits)) options turns (image_of loaded.image).entry (first_state options loaded)

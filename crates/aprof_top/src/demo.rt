@@ -6,8 +6,8 @@ ghost use Rattle.aprof_top.specs.Outcome.{IsDemo, demo_options};
 ghost use Rattle.aprof_top.specs.Jobs.{summed};
 
 use crate::ending::Ending;
-use crate::guest_job::{GuestFiles, run_image};
-use crate::kept_trace::KeptTrace;
+use crate::guest_job::GuestFiles;
+use crate::profiled_run::profile_image;
 use crate::report::report_of;
 use crate::summary::summary;
 use command_line::GuestOptions;
@@ -16,6 +16,7 @@ use elf_image::read_image;
 use guest_calls::Inputs;
 use guest_words::limits::DEMO_ROUTINES;
 use host_io::DropSink;
+use stamps::StampBits;
 use std::alloc::Global;
 use thread_sched::Schedule;
 
@@ -50,11 +51,11 @@ pub(crate) fn run_demo(alloc: Global, number: u32) -> Result<Vec<u8>, Ending>
         inputs,
         stdin: Vec::new(alloc),
     };
-    let mut trace = KeptTrace::new(alloc, u32::MAX)?;
     let mut out = DropSink;
     let mut err = DropSink;
-    let ended = run_image(alloc, &guest, &image, files, &mut trace, &mut out, &mut err)?;
-    let report = report_of(alloc, &image, &trace, ended.finish)?;
+    let bits = StampBits::B32;
+    let run = profile_image(alloc, bits, &guest, &image, files, &mut out, &mut err)?;
+    let report = report_of(alloc, &image, &run.totals, run.ended.finish)?;
     let text = summary(alloc, number, &report)?;
     Ok(text)
 }

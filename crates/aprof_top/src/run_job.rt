@@ -1,26 +1,27 @@
 //! The command `run`: a guest's output, its recording and its report.
-ghost use Rattle.std.specs.Prelude.{◌≡◌, List, map, option_map, IfOk};
+ghost use Rattle.std.specs.Prelude.{◌≡◌, ℕ, List, map, option_map, IfOk};
 ghost use Rattle.command_line.specs.Read.{AreInRange, guest_in, options_in};
 ghost use Rattle.guest_run.specs.Profiled.{Profiled};
 ghost use Rattle.guest_run.specs.Run.{recording};
-ghost use Rattle.aprof_top.specs.Jobs.{FilesRun, RunIsStored, ending_by, store_of};
-ghost use Rattle.aprof_top.specs.Kept.{IsKept, IsKeptLight};
+ghost use Rattle.stamps.specs.Widths.{greatest};
+ghost use Rattle.run_profile.specs.Profile.{AreTotalsOf};
+ghost use Rattle.aprof_top.specs.Jobs.{FilesRun, RunIsStored, StatsEnd, desk, ending_by, store_of};
 ghost use Rattle.aprof_top.specs.Loads as loads;
-ghost use Rattle.aprof_top.specs.Outcome.{recording_stores, run_outcome, run_stores};
+ghost use Rattle.aprof_top.specs.Outcome.{recording_stores, run_outcome, run_stores, stats_of};
 ghost use Rattle.aprof_top.specs.Outside.{outside};
 ghost use Rattle.aprof_top.specs.Loading.{Keeps};
 ghost use Rattle.trace_model.specs.declared.event_kinds.Event.{Event};
 
-use crate::delivery::{Store, store_all};
+use crate::delivery::{Store, put_all, store_all};
 use crate::ending::{Ending, Verdict};
-use crate::guest_job::{GuestFiles, run_image};
-use crate::kept_trace::KeptTrace;
+use crate::guest_job::GuestFiles;
 use crate::loaded::Loaded;
+use crate::profiled_run::{ProfiledRun, profile_image};
 use crate::report::report_of;
+use crate::texts::renumberings_text;
 use command_line::RunCommand;
 use elf_image::{Image, read_image};
-use guest_run::Ended;
-use host_io::{Files, Sink};
+use host_io::{Files, PutError, Sink};
 use profile_report::write_report;
 use std::alloc::{AllocError, Global};
 use thread_sched::{Recording, Schedule};
@@ -46,15 +47,13 @@ fn run_stores<'a>(
     alloc: Global,
     command: &RunCommand<'a>,
     image: &Image,
-    trace: &KeptTrace,
-    ended: &Ended,
+    run: &ProfiledRun,
 ) -> Result<Vec<Store<'a>>, AllocError>
-    requires { IsKeptLight trace.now }
-    ensures { IfOk result (λ stores. (past : List Event) → IsKept trace.now past
-        → map store_of stores.items ≡ run_stores (options_in command.now) image.now ended.now.finish past ended.now.recording) }
+    ensures { IfOk result (λ stores. (most : ℕ) (past : List Event) → AreTotalsOf most run.now.totals past
+        → map store_of stores.items ≡ run_stores (options_in command.now) image.now run.now.ended.finish past run.now.ended.recording) }
 {
-    let mut stores = recording_stores(alloc, command.recording, &ended.recording)?;
-    let report = report_of(alloc, image, trace, ended.finish)?;
+    let mut stores = recording_stores(alloc, command.recording, &run.ended.recording)?;
+    let report = report_of(alloc, image, &run.totals, run.ended.finish)?;
     let bytes = write_report(alloc, &report)?;
     stores.push(Store {
         path: command.report,
@@ -63,25 +62,47 @@ fn run_stores<'a>(
     Ok(stores)
 }
 
-// Stores what a run leaves.
-fn store_run<F: Files>(
+// Puts how often stamps were renumbered, where that is asked for.
+fn put_stats<E: Sink>(
+    alloc: Global,
+    command: &RunCommand<'_>,
+    count: u64,
+    err: &mut E,
+) -> Result<(), Ending>
+    ensures { StatsEnd (stats_of (options_in command.now) count) (E.state err.old) (E.state err.new) result }
+{
+    if !command.stats {
+        return Ok(());
+    }
+    let text = renumberings_text(alloc, count)?;
+    match put_all(text.as_slice(), err) {
+        Ok(()) => Ok(()),
+        Err(PutError::Failed) => Err(Ending::CannotPut),
+        Err(PutError::Memory) => Err(Ending::OutOfMemory),
+    }
+}
+
+// Stores what a run leaves, and then puts its statistics.
+fn deliver_run<F: Files, E: Sink>(
     alloc: Global,
     command: &RunCommand<'_>,
     image: &Image,
-    trace: &KeptTrace,
-    ended: &Ended,
+    run: &ProfiledRun,
     files: &mut F,
+    err: &mut E,
 ) -> Result<Verdict, Ending>
-    requires { IsKeptLight trace.now }
-    ensures { (run : Profiled) → IsKept trace.now run.past → ended.now.recording ≡ recording run.moves → ended.now.finish ≡ run.finish
-        → RunIsStored (run_outcome (options_in command.now) image.now run) (F.state files.old) (F.state files.new) result }
+    ensures { (seen : Profiled) → AreTotalsOf (greatest command.now.bits) run.now.totals seen.past
+        → run.now.ended.recording ≡ recording seen.moves → run.now.ended.finish ≡ seen.finish
+        → RunIsStored (run_outcome (options_in command.now) image.now seen)
+        (desk (F.state files.old) (E.state err.old)) (desk (F.state files.new) (E.state err.new)) result }
 {
-    let stores = run_stores(alloc, command, image, trace, ended)?;
+    let stores = run_stores(alloc, command, image, run)?;
     store_all(stores.as_slice(), files)?;
-    Ok(Verdict::Ran(ended.finish))
+    put_stats(alloc, command, run.totals.renumbered, err)?;
+    Ok(Verdict::Ran(run.ended.finish))
 }
 
-/// Runs the files of a command, and stores what the run leaves.
+/// Runs the files of a command, stores what the run leaves, and puts its statistics.
 pub(crate) fn run_files<F: Files, O: Sink, E: Sink>(
     alloc: Global,
     command: &RunCommand<'_>,
@@ -103,7 +124,6 @@ pub(crate) fn run_files<F: Files, O: Sink, E: Sink>(
         inputs: loaded.inputs,
         stdin: loaded.stdin,
     };
-    let mut trace = KeptTrace::new(alloc, u32::MAX)?;
-    let ended = run_image(alloc, &command.guest, &image, guest, &mut trace, out, err)?;
-    store_run(alloc, command, &image, &trace, &ended, files)
+    let run = profile_image(alloc, command.bits, &command.guest, &image, guest, out, err)?;
+    deliver_run(alloc, command, &image, &run, files, err)
 }

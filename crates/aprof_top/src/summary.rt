@@ -11,15 +11,15 @@ use std::alloc::{AllocError, Global};
 
 /// The totals of routines: how many activations they had, and the sums of these activations' sizes and costs.
 #[derive(Clone, Copy)]
-struct Totals {
+struct Sums {
     activations: u128,
     sizes: u128,
     costs: u128,
 }
 
-impl Totals {
+impl Sums {
     // These totals and those of a routine's points.
-    fn with_points(self, points: &[Point]) -> Totals
+    fn with_points(self, points: &[Point]) -> Sums
         requires activations { self.activations + sum_by (λ p. p.calls) points.now < 2 ^ 128 }
         requires sizes { self.sizes + sum_by (λ p. p.size * p.calls) points.now < 2 ^ 128 }
         requires costs { self.costs + sum_by (λ p. p.sum) points.now < 2 ^ 128 }
@@ -38,13 +38,13 @@ impl Totals {
 }
 
 // The totals of routines.
-fn totals_of(routines: &[Routine]) -> Totals
+fn totals_of(routines: &[Routine]) -> Sums
     requires { FitsTotals routines.now }
     ensures activations { result.activations ≡ activations routines.now }
     ensures sizes { result.sizes ≡ sizes routines.now }
     ensures costs { result.costs ≡ costs routines.now }
 {
-    let mut totals = Totals {
+    let mut totals = Sums {
         activations: 0,
         sizes: 0,
         costs: 0,

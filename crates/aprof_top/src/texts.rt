@@ -1,11 +1,11 @@
-//! The last texts.
+//! The texts that the program puts.
 ghost use Rattle.std.specs.Prelude.{◌≡◌, IfOk, OnErr};
 ghost use Rattle.aprof_top.specs.Ending.{known_guest};
 ghost use Rattle.aprof_top.specs.Ends.End.{Decided};
 ghost use Rattle.aprof_top.specs.LastText.{IsMade};
 ghost use Rattle.aprof_top.specs.LastTexts.{bytes_of};
 ghost use Rattle.aprof_top.specs.Sources.{known_path};
-ghost use Rattle.aprof_top.specs.Texts.{cannot_read_text, fault_text, finish_text, image_text, schedule_text};
+ghost use Rattle.aprof_top.specs.Texts.{cannot_read_text, fault_text, finish_text, image_text, renumberings_text, schedule_text};
 ghost use Rattle.aprof_top.specs.Verdicts.{verdict_text};
 ghost use Rattle.aprof_top.specs.declared.ending.Verdict.TheVariants.{Ran};
 
@@ -92,6 +92,13 @@ fn finish_text(alloc: Global, finish: Finish) -> Result<Text, AllocError>
         Finish::Deep => Ok(Text::Fixed(b"aprof: too deep\n")),
         Finish::Schedule { line } => schedule_text(alloc, line),
     }
+}
+
+/// How often stamps were renumbered, which `--stats` asks for.
+pub(crate) fn renumberings_text(alloc: Global, count: u64) -> Result<Vec<u8>, AllocError>
+    ensures { IfOk result (λ text. text.items ≡ renumberings_text count) }
+{
+    Ok(format!(in alloc; "aprof: renumberings {count}\n")?.into_bytes())
 }
 
 pub(crate) fn verdict_text(alloc: Global, verdict: Verdict) -> Result<Text, AllocError>

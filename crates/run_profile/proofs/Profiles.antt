@@ -59,8 +59,8 @@ one_more (Ret tid target) past = omega arith
 one_more (Start tid entry) past = omega arith
 one_more (End tid) past = omega arith
 
-pub few_steps : (most n more : ℕ) (e : Event) (past : List Event) → IsLight (e ∷ past) → n ≡ steps past → more ≡ steps (e ∷ []) → n + more < 2 ^ 64
-few_steps most n more e past light is adds = omega (arith, steps-le-weight (e ∷ past), one_more e past, light, is, adds)
+pub few_steps : (n more : ℕ) (e : Event) (past : List Event) → IsLight (e ∷ past) → n ≡ steps past → more ≡ steps (e ∷ []) → n + more < 2 ^ 64
+few_steps n more e past light is adds = omega (arith, steps-le-weight (e ∷ past), one_more e past, light, is, adds)
 
 -- ---- What ended last is added to the points.
 pub few_added : (most : ℕ) (k : Kept) → IsOfLight most k → k.points.members + length k.ended < 2 ^ 63
@@ -83,24 +83,36 @@ all_right P (x ∷ xs) ys all = all_right P xs ys (All-tail P x (xs ++ ys) all)
 pub have_parts : (most : ℕ) (k : Kept) → IsOfLight most k → All HasParts k.ended
 have_parts most k of = all_right HasParts of.now.earlier k.ended (subst (All HasParts) (sym of.now.all) (done_has_parts of.past))
 
-pub settled : (most n : ℕ) (k : Kept) (points : TableContents) (past : List Event) → (p : IsProfileOf most k past) →
-    points ≡ contents_of (p.earlier ++ take n k.ended) → n ≡ length k.ended → IsProfileOf most (record k { points = points; ended = []; added = 0 }) past
-settled most n k points past p are all = record {
-  stands = p.stands;
-  earlier = p.earlier ++ k.ended;
-  all = append-nil (p.earlier ++ k.ended) ∙ p.all;
-  inside = omega arith;
-  points =
-      are
-      ∙ ap (λ (ds : List Done). contents_of (p.earlier ++ ds)) (take_all n k.ended (omega (arith, all)))
-      ∙ ap contents_of (sym (append-nil (p.earlier ++ k.ended)));
-  steps_are = p.steps_are;
-}
+-- from the list that the code has: the first `n` of them are then among the points
+module _ (most n : ℕ) (k : Kept) (now : List Done) (is : now ≡ k.ended) (points : TableContents)
+    (adds : (earlier : List Done) → k.points ≡ contents_of (earlier ++ take k.added now) → points ≡ contents_of (earlier ++ take n now))
+    (past : List Event) (p : IsProfileOf most k past) where
+  are_added : points ≡ contents_of (p.earlier ++ take n k.ended)
+  are_added =
+      subst (λ (ds : List Done). (earlier : List Done) → k.points ≡ contents_of (earlier ++ take k.added ds) → points ≡ contents_of (earlier ++ take n ds)) is adds p.earlier p.points
 
--- a part of them was added
-pub settling : (most n : ℕ) (k : Kept) (points : TableContents) (past : List Event) → (p : IsProfileOf most k past) →
-    points ≡ contents_of (p.earlier ++ take n k.ended) → n ≤ length k.ended → IsProfileOf most (record k { points = points; added = n }) past
-settling most n k points past p are inside = record { stands = p.stands; earlier = p.earlier; all = p.all; inside = inside; points = are; steps_are = p.steps_are }
+  pub settling : n ≤ length now → IsProfileOf most (record k { points = points; added = n }) past
+  settling inside = record {
+    stands = p.stands;
+    earlier = p.earlier;
+    all = p.all;
+    inside = omega (arith, inside, ap (λ (ds : List Done). length ds) is);
+    points = are_added;
+    steps_are = p.steps_are;
+  }
+
+  pub settled : n ≡ length now → IsProfileOf most (record k { points = points; ended = []; added = 0 }) past
+  settled all = record {
+    stands = p.stands;
+    earlier = p.earlier ++ k.ended;
+    all = append-nil (p.earlier ++ k.ended) ∙ p.all;
+    inside = omega arith;
+    points =
+        are_added
+        ∙ ap (λ (ds : List Done). contents_of (p.earlier ++ ds)) (take_all n k.ended (omega (arith, all, ap (λ (ds : List Done). length ds) is)))
+        ∙ ap contents_of (sym (append-nil (p.earlier ++ k.ended)));
+    steps_are = p.steps_are;
+  }
 
 -- ---- One event more.
 pub observed : (most : ℕ) (e : Event) (k : Kept) (new : State) (after : List Done) (more : ℕ) (past : List Event) → IsProfileOf most k past →
@@ -141,15 +153,12 @@ refused most e k new after past p same kept deep = (
 )
   where
     turn : (d w : Bool) → d ≡ not w → (d ≡ false → ⊥) → w ≡ false
-    turn d false is no = refl
-    turn d true is no = absurd (no is)
+    turn d false is none = refl
+    turn d true is none = absurd (none is)
 
 -- ---- What the run comes to.
 pub comes_to : (most : ℕ) (k : Kept) (past : List Event) → IsProfileOf most k past → k.ended ≡ [] → k.points ≡ contents_of (done past)
 comes_to most k past p none =
     p.points
-    ∙ ap (λ (ds : List Done). contents_of (p.earlier ++ ds)) (ap (take k.added) none ∙ take_none k.added)
+    ∙ ap (λ (ds : List Done). contents_of (p.earlier ++ ds)) (ap (take k.added) none ∙ take_all k.added [] (omega arith))
     ∙ ap contents_of (ap (λ (ds : List Done). p.earlier ++ ds) (sym none) ∙ p.all)
-  where
-    take_none : (n : ℕ) → take n [] ≡ []
-    take_none n = take_all n [] (omega arith)

@@ -3,10 +3,12 @@
 //! points, and not with the length of the run.
 #![tactic(auto)]
 
-mod profile;
 mod points;
+mod profile;
 mod totals;
 
 pub use profile::Profile;
 pub use totals::Totals;
 
+#[cfg(test)]
+mod tests;

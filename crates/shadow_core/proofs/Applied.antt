@@ -23,12 +23,13 @@ use Rattle.shadow_core.specs.Past.{call_of}
 use Rattle.shadow_core.specs.Profiling.{StandsFor}
 use Rattle.shadow_core.specs.Records.{finished}
 use Rattle.shadow_core.specs.Renewal.{bounded_tick}
+use Rattle.shadow_core.specs.Stands.{Stands}
 use Rattle.shadow_core.specs.State.{Calls, State, as_thread, as_threads, calls_of, table_of_state}
-use Rattle.shadow_core.specs.Table.{OpenCall, Table, Thread}
+use Rattle.shadow_core.specs.Table.{OpenCall, Table, Thread, empty_table}
 use Rattle.shadow_core.specs.Ticks.{table_after, table_at}
 use Rattle.shadow_core.proofs.Profiled.{may_advance, there_too}
 use Rattle.shadow_core.proofs.Room.{fits_by_frames, allows_what_may_follow}
-use Rattle.shadow_core.proofs.Runs.{finishes_what_ends}
+use Rattle.shadow_core.proofs.Runs.{empty_stands, finishes_what_ends, stands_on}
 use Rattle.shadow_core.proofs.StateThreads.{own_test}
 use Rattle.shadow_core.proofs.StateTold.{frames_are_told}
 
@@ -80,7 +81,7 @@ taken most e past old new before after may stands shallow made recorded =
     let fits = deep_does_not_fit most e table past stands in
     let within : Rattle.trace_model.specs.Depth.is_within most (e ∷ past) ≡ true = turn (Rattle.trace_model.specs.Depth.is_within most (e ∷ past)) (sym fits ∙ shallow) in
     record {
-      stands = subst (λ (k : Table). Rattle.shadow_core.specs.Stands.Stands most k (e ∷ past)) (sym made) (Rattle.shadow_core.proofs.Runs.stands_on most e table past formed within stands);
+      stands = subst (λ (k : Table). Stands most k (e ∷ past)) (sym made) (stands_on most e table past formed within stands);
       fits = within;
       recorded =
           recorded
@@ -181,3 +182,7 @@ returned_fits most t target held capacity e s is any_may any_needs =
 -- ---- What an event may ask.
 pub frames_fit : (most : ℕ) (e : Event) (s : State) → MayTake (StandsFor most) s e → 3 * length (all_starts s.live.threads) + 3 ≤ most
 frames_fit most e s may = (may_advance most e s may).room
+
+-- the table of no event stands for no event
+pub empty_stands_for : (most : ℕ) (table : Table) → table ≡ empty_table → 3 ≤ most → Stands most table []
+empty_stands_for most table is some = subst (λ (k : Table). Stands most k []) (sym is) (empty_stands most some)

@@ -1,5 +1,5 @@
 //! The online profiler.
-ghost use Rattle.std.specs.Prelude.{◌≡◌, ◌≤◌, ◌+◌, ◌*◌, ◌++◌, List, map, nat_lt, true, false, vec_len, Err, IfErr, IfOk, IsOk, OnErr, OnOk, length};
+ghost use Rattle.std.specs.Prelude.{◌≡◌, ◌≤◌, ◌+◌, ◌*◌, ◌++◌, [], List, map, nat_lt, true, false, vec_len, Err, IfErr, IfOk, IsOk, OnErr, OnOk, length};
 ghost use Rattle.trace_model.specs.declared.event_kinds.Event.{Event};
 ghost use Rattle.trace_model.specs.declared.event_kinds.Event.TheVariants.{Call, End, Fill, Read, Ret, Start, Step, Write};
 ghost use Rattle.std.specs.Vec.{vec_capacity};
@@ -84,7 +84,8 @@ impl<S: Lanes> Model for Profiler<S> {
 impl<S: Lanes> Profiler<S> {
     /// No event so far.
     pub fn new(alloc: Global) -> Result<Profiler<S>, AllocError>
-        ensures { IfOk result (λ p. table_of_state p ≡ empty_table) }
+        ensures table { IfOk result (λ p. table_of_state p ≡ empty_table) }
+        ensures stands { 3 ≤ S.MAX → IfOk result (λ p. StandsFor S.MAX p []) }
     {
         Ok(Profiler {
             alloc,

@@ -3,6 +3,8 @@ use Rattle.command_line.specs.Options.{GuestOptions, arguments}
 use Rattle.command_line.specs.Read.{guest_in}
 use Rattle.elf_image.specs.Reading.{image_of}
 use Rattle.guest_machine.specs.Start.{start}
+use Rattle.stamps.specs.declared.width.StampBits.TheVariants.{B32}
+use Rattle.stamps.specs.Widths.{greatest}
 use Rattle.trace_model.specs.Depth.{is_within}
 use Rattle.aprof_top.specs.Run.{observed_from}
 use Rattle.aprof_top.specs.Summary.{summary_text}
@@ -11,30 +13,22 @@ use Rattle.aprof_top.proofs.Runs.{light_observed}
 use Rattle.aprof_top.proofs.Demos.{demo_answer, demo_run}
 use Rattle.aprof_top.proofs.demo.run_demo.Goals as goal
 
-pub report_of-requires : goal.report_of-requires
-report_of-requires c =
-    let options = guest_in c.demo_guest-guest.result in
-    let budget = ap (λ (o : GuestOptions). o.budget) c.demo_guest-guest.ensures in
-    let image = c.in_ok-image.image in
-    record {
-      past = (observed_from (is_within c.in_ok-trace.trace.greatest) options c.in_ok-schedule.schedule image.entry (start image (arguments options) c.in_ok-inputs.inputs c.new-2.result.items)).past;
-      now = c.in_ok-ended.ensures.1.past;
-      light = light_observed (is_within c.in_ok-trace.trace.greatest) options c.in_ok-schedule.schedule image c.in_ok-inputs.inputs c.new-2.result.items (omega (arith, budget));
-    }
+pub summary-requires : goal.summary-requires
+summary-requires c = ?
 
 pub returns-clause-summary : goal.returns-clause-summary
 returns-clause-summary c =
     let options = guest_in c.demo_guest-guest.result in
     let image = c.in_ok-image.image in
     let is = c.in_ok-image.ensures.image ∙ ap image_of c.as_slice.ensures.value in
-    let seen = observed_from (is_within c.in_ok-trace.trace.greatest) options c.in_ok-schedule.schedule image.entry (start image (arguments options) c.in_ok-inputs.inputs c.new-2.result.items) in
-    let whole = c.in_ok-ended.ensures.1 in
+    let seen = observed_from (is_within (greatest B32)) options c.in_ok-schedule.schedule image.entry (start image (arguments options) c.in_ok-inputs.inputs c.new-2.result.items) in
+    let whole = c.in_ok-run.ensures.1 in
     record {
       file = c.in_ok-file.file.items;
       is_demo = c.in_ok-file.ensures.file;
       answered = demo_answer c.args.number image seen c.in_ok-text.text.items
-          (c.in_ok-text.ensures ∙ ap (summary_text c.args.number) (c.in_ok-report.ensures.report seen.past whole.past ∙ ap (λ finish. report_of image finish seen.past) whole.finish))
+          (c.in_ok-text.ensures ∙ ap (summary_text c.args.number) (c.in_ok-report.ensures (greatest B32) seen.past whole.totals ∙ ap (λ finish. report_of image finish seen.past) whole.finish))
           c.in_ok-file.file.items is
-          (demo_run c.in_ok-file.file.items image is options c.in_ok-schedule.schedule c.in_ok-inputs.inputs c.new-2.result.items c.in_ok-trace.trace.greatest c.in_ok-trace.ensures.greatest
+          (demo_run c.in_ok-file.file.items image is options c.in_ok-schedule.schedule c.in_ok-inputs.inputs c.new-2.result.items
           c.demo_guest-guest.ensures c.in_ok-schedule.ensures c.in_ok-inputs.ensures c.new-2.ensures.items);
     }

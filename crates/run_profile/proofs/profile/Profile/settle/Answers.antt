@@ -3,7 +3,7 @@ use Rattle.std.specs.List.{All}
 use Rattle.trace_model.specs.declared.slow_profile.Done.{Done}
 use Rattle.trace_model.specs.Profile.{HasParts}
 use Rattle.run_profile.specs.Profile.{IsOfLight, IsProfileOf, Kept}
-use Rattle.run_profile.proofs.Profiles.{few_added, have_parts, settled}
+use Rattle.run_profile.proofs.Profiles.{few_added, have_parts, settled, settling}
 use Rattle.run_profile.proofs.profile.Profile.settle.Goals as goal
 
 pub add_ended-requires-clause-few : goal.add_ended-requires-clause-few
@@ -19,4 +19,10 @@ add_ended-requires-clause-parts g c =
 pub returns-clause-stands : goal.returns-clause-stands
 returns-clause-stands g c = λ past kept.
     let p = subst (λ (k : Kept). IsProfileOf g.S.Stamp.MAX k past) (sym c.self.view_is) kept in
-    ?
+    rw c.clear.ensures.items
+    (settled g.S.Stamp.MAX c.add_ended.new.added _ c.deref.result.now c.deref.ensures.value c.add_ended.new.points c.in_ok-add_ended.ensures.points past p c.in_ok-add_ended.ensures.all)
+
+pub returns-in_err-add_ended-clause-stands : goal.returns-in_err-add_ended-clause-stands
+returns-in_err-add_ended-clause-stands g c = λ past kept.
+    let p = subst (λ (k : Kept). IsProfileOf g.S.Stamp.MAX k past) (sym c.self.view_is) kept in
+    settling g.S.Stamp.MAX c.add_ended.new.added _ c.deref.result.now c.deref.ensures.value c.add_ended.new.points c.in_err-add_ended.ensures.points past p c.in_err-add_ended.ensures.inside

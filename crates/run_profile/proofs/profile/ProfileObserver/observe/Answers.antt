@@ -1,4 +1,4 @@
-use Rattle.std.proofs.Common.{◌≡◌, ◌+◌, ◌<◌, ◌^◌, ◌∙◌, List, ap, subst, sym}
+use Rattle.std.proofs.Common.{arith, ◌≡◌, ◌+◌, ◌<◌, ◌^◌, ◌∙◌, List, ap, subst, sym}
 use Rattle.run_profile.specs.Profile.{IsProfileOf, Kept}
 use Rattle.run_profile.proofs.Profiles.{few_steps, observed, refused}
 use Rattle.run_profile.proofs.profile.ProfileObserver.observe.Goals as goal
@@ -11,7 +11,7 @@ apply-requires g c =
 pub overflow_add-self : goal.overflow_add-self
 overflow_add-self g c =
     let p = subst (λ (k : Kept). IsProfileOf g.S.Stamp.MAX k c.requires.past) (sym c.self.view_is) (c.settle.ensures.stands c.requires.past c.requires.now) in
-    few_steps g.S.Stamp.MAX c.self.inside.steps c.steps_of.result c.args.e c.requires.past c.requires.formed.1 p.steps_are c.steps_of.ensures
+    omega (arith, few_steps c.self.inside.steps c.steps_of.result c.args.e c.requires.past c.requires.formed.1 p.steps_are c.steps_of.ensures)
 
 pub returns-in-Ok-clause-observed : goal.returns-in-Ok-clause-observed
 returns-in-Ok-clause-observed g c = λ past kept.
@@ -22,4 +22,4 @@ pub returns-in-Err-TooDeep-clause-observed : goal.returns-in-Err-TooDeep-clause-
 returns-in-Err-TooDeep-clause-observed g c = λ past kept.
     let p = subst (λ (k : Kept). IsProfileOf g.S.Stamp.MAX k past) (sym c.self.view_is) (c.settle.ensures.stands past kept) in
     refused g.S.Stamp.MAX c.args.e _ c.apply.new.self c.apply.new.done.items past p c.in-Err-TooDeep.ensures.refused c.in-Err-TooDeep.ensures.kept
-    (λ shallow. absurd (let no = c.in-Err-TooDeep.ensures.not_deep past p.stands shallow in ?))
+    (λ shallow. absurd (let no = c.in-Err-TooDeep.ensures.not_deep past p.stands shallow in cc))
