@@ -15,6 +15,7 @@ use guest_words::{FaultKind, Tid};
 use rv_isa::{Instr, Reg, Test};
 
 /// Carries out an instruction of the thread. Fewer than `THREADS` other threads have a reservation.
+#[inline(always)]
 pub fn execute(
     cpu: &mut Cpu,
     memory: &mut GuestMemory,
@@ -59,6 +60,7 @@ pub fn execute(
 }
 
 /// Carries out an instruction that accesses no memory.
+#[inline(always)]
 fn execute_on_registers(cpu: &mut Cpu, i: Instr) -> Outcome
     requires { accesses_memory i ≡ false }
     ensures { (tid : ℕ) (c : ExecState) → c.registers ≡ cpu.old → (result, with_registers cpu.new c) ≡ effect tid i c }
@@ -100,6 +102,7 @@ fn execute_on_registers(cpu: &mut Cpu, i: Instr) -> Outcome
 }
 
 /// A branch, which goes to a target where the test holds.
+#[inline(always)]
 fn branch(cpu: &mut Cpu, test: Test, left: Reg, right: Reg, offset: i32) -> Outcome
     ensures { (result, cpu.new) ≡ branched (is_taken test (value cpu.old left) (value cpu.old right)) (add_offset cpu.old.pc offset) cpu.old }
 {
