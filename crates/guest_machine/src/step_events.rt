@@ -9,6 +9,7 @@ use rv_exec::{Access, Cpu};
 use trace_model::{Event, Events};
 
 /// Adds the accesses of an instruction.
+#[inline(always)]
 pub(crate) fn add_access(events: &mut Events, tid: Tid, access: Access)
     requires { length (access_events tid access) ≤ events.old.room }
     ensures list { events.new.list ≡ events.old.list ++ access_events tid access }
@@ -34,6 +35,7 @@ pub(crate) fn add_access(events: &mut Events, tid: Tid, access: Access)
 }
 
 /// Adds what a jump to a target ends and begins.
+#[inline(always)]
 pub(crate) fn add_jump(events: &mut Events, tid: Tid, kind: JumpKind, target: Addr, back: Addr)
     requires { length (jump_events kind tid target back) ≤ events.old.room }
     ensures { events.new.list ≡ events.old.list ++ jump_events kind tid target back }
