@@ -1,5 +1,6 @@
 //! The instructions that were decoded lately.
-ghost use Rattle.std.specs.Prelude.{◌≡◌, ◌<◌, length};
+ghost use Rattle.std.specs.Prelude.{◌≡◌, ◌<◌, get_or, length};
+ghost use Rattle.guest_machine.specs.declared.decoder.Decoded.{Decoded};
 ghost use Rattle.std.specs.List.{All};
 ghost use Rattle.rv_isa.specs.Table.{decoded};
 
@@ -42,24 +43,31 @@ impl Decoder {
         ensures { result ≡ decoded word }
     {
         let place = (at / 4) as usize % PLACES;
-        let kept = &self.places[place];
-        if kept.word == word {
-            return kept.instruction;
-        }
-        self.renew(place, word)
+        self.keep(place, word);
+        self.places[place].instruction
     }
 
-    // Decodes a word, and keeps it.
+    // Sees that a word is kept at a place.
+    #[inline(always)]
+    fn keep(&mut self, place: usize, word: u32)
+        requires { place < 1024 }
+        ensures { (d : Decoded) → (get_or self.new.places.items place d).word ≡ word }
+    {
+        if self.places[place].word != word {
+            self.renew(place, word);
+        }
+    }
+
+    // Decodes a word, and keeps it at a place.
     #[cold]
     #[inline(never)]
-    fn renew(&mut self, place: usize, word: u32) -> Option<Instr>
+    fn renew(&mut self, place: usize, word: u32)
         requires { place < 1024 }
-        ensures { result ≡ decoded word }
+        ensures { (d : Decoded) → (get_or self.new.places.items place d).word ≡ word }
     {
         self.places[place] = Decoded {
             word,
             instruction: decode(word),
         };
-        decode(word)
     }
 }

@@ -13,7 +13,7 @@ use crate::Stepped;
 use crate::answers::apply_answer;
 use crate::decoder::Decoder;
 use crate::hart::{cpu_of, execute_for};
-use crate::step_events::{add_access, add_jump};
+use crate::step_events::{add_jump, add_step};
 use call_tracker::kind;
 use guest_calls::Kernel;
 use guest_memory::{GuestMemory, Reservations};
@@ -96,8 +96,7 @@ impl Guest {
         self.called = false;
         match outcome {
             Outcome::Went { access } => {
-                events.push(Event::Step { tid });
-                add_access(events, tid, access);
+                add_step(events, tid, access);
                 add_jump(events, tid, kind(*instruction), target, pc.wrapping_add(4));
                 Stepped::Went
             }

@@ -55,7 +55,15 @@ pub fn execute(
             let (at, n) = (cpu.value(base), cpu.value(value));
             atomic(cpu, memory, held, tid, op, Operands { rd, at, n })
         }
-        _ => execute_on_registers(cpu, i),
+        // each of these apart, so that its code looks at the instruction once
+        Instr::Lui { .. } => execute_on_registers(cpu, i),
+        Instr::Auipc { .. } => execute_on_registers(cpu, i),
+        Instr::Jal { .. } => execute_on_registers(cpu, i),
+        Instr::Jalr { .. } => execute_on_registers(cpu, i),
+        Instr::Branch { .. } => execute_on_registers(cpu, i),
+        Instr::Immediate { .. } => execute_on_registers(cpu, i),
+        Instr::Register { .. } => execute_on_registers(cpu, i),
+        Instr::Fence | Instr::FenceI | Instr::Ecall | Instr::Ebreak => execute_on_registers(cpu, i),
     }
 }
 

@@ -1,4 +1,6 @@
-use Rattle.std.proofs.Common.{arith, length, ◌∙◌, ap, refl, sym, subst}
+use Rattle.std.proofs.Common.{arith, length, ◌∙◌, ◌∷◌, [], ap, append_assoc, refl, sym, subst}
+use Rattle.trace_model.specs.declared.event_kinds.Event.TheVariants.{Step}
+use Rattle.guest_machine.specs.Step.{access_events}
 use Rattle.guest_words.proofs.ThreadTables.{length-with}
 use Rattle.guest_memory.specs.Guest.{memory_of}
 use Rattle.guest_memory.specs.ReservedBy.{reserved_by}
@@ -29,7 +31,7 @@ returns-in-Went-clause-step c =
     let m = machine_of (parts_of c.args.self.now) in
     let machine = ap (λ harts. record m { harts = harts; memory = after.memory; held = after.held }) c.execute_for-outcome.ensures.harts in
     Steps-went (parts_of c.args.self.now) _ c.args.tid c.args.instruction.now c.in-Went.access after _ _ (ap (λ o. (o, after)) (sym c.in-Went.is) ∙ c.execute_for-outcome.ensures.effect) machine refl
-    (went-events c.args.events.now.list _ _ _ c.args.tid _ c.in-Went.access c.args.instruction.now _ _ _ _ c.push.ensures.list c.add_access.ensures.list c.add_jump.ensures c.kind.ensures
+    (went-events c.args.events.now.list _ _ _ c.args.tid _ c.in-Went.access c.args.instruction.now _ _ _ _ refl (c.add_step.ensures.list ∙ sym (append_assoc c.args.events.now.list (Step c.args.tid ∷ []) (access_events c.args.tid c.in-Went.access))) c.add_jump.ensures c.kind.ensures
     c.execute_for-outcome.ensures.pc c.requires.pc)
 
 pub returns-in-Went-clause-sound : goal.returns-in-Went-clause-sound
