@@ -89,6 +89,13 @@ def calling(steps):
     return number(8, steps // 4) + loop + EXIT + [RETURN]
 
 
+def renumbering(steps):
+    """A loop that calls a routine which stores a word of the stack and loads it: each call takes a new stamp."""
+    loop = [jal(1, 24), addi(8, 8, -1), branch(1, 8, 0, -8)]
+    routine = [sw(8, 0, 6), lw(10, 0, 6), RETURN]
+    return number(8, steps // 6) + number(6, 0x7FC00000) + loop + EXIT + routine
+
+
 def touching(steps, pages):
     """A loop that loads and stores one word of each of some pages of the stack, one after another."""
     # x9 walks down from x6, a page at a time, to x7
@@ -140,19 +147,21 @@ GUESTS = [
 ]
 
 
-# The guests whose host instructions are counted, with the lesser of the two numbers of steps.
+# The guests whose host instructions are counted, with the lesser of the two numbers of steps, and the options of their runs.
+# A row is left out where the program refuses its options.
 COUNTED = [
-    ("a loop", counting, 20_000),
-    ("a load and a store, 1 page", lambda steps: touching(steps, 1), 20_000),
-    ("a load and a store, 1024 pages", lambda steps: touching(steps, 1024), 20_000),
-    ("calls and returns", calling, 2_000),
-    ("recursion, 1000 deep", recursing, 8_000),
-    ("two threads and a futex", handing, 20_000),
-    ("64 KiB read and written", copying, 32),
+    ("a loop", counting, 20_000, []),
+    ("a load and a store, 1 page", lambda steps: touching(steps, 1), 20_000, []),
+    ("a load and a store, 1024 pages", lambda steps: touching(steps, 1024), 20_000, []),
+    ("calls and returns", calling, 2_000, []),
+    ("recursion, 1000 deep", recursing, 8_000, []),
+    ("two threads and a futex", handing, 20_000, []),
+    ("64 KiB read and written", copying, 32, []),
+    ("calls that store and load, stamps of 8 bits", renumbering, 20_000, ["--stamps", "8"]),
 ]
 
 
-def words(code, folder):
+def words(code, folder, options=()):
     """The command line of a run, whose standard input is as long as a guest wants it."""
     path, report, stdin = (os.path.join(folder, name) for name in ("guest", "report", "stdin"))
     with open(path, "wb") as file:
@@ -160,7 +169,7 @@ def words(code, folder):
     if not os.path.exists(stdin):
         with open(stdin, "wb") as file:
             file.write(bytes(16 * 65536))
-    return [PROGRAM, "run", "--stdin", stdin, "-o", report, path]
+    return [PROGRAM, "run", *options, "--stdin", stdin, "-o", report, path]
 
 
 def steps_of(folder):
@@ -183,9 +192,14 @@ def run(code, folder):
     return steps_of(folder), best
 
 
-def host(code, folder):
+def is_refused(options, folder):
+    """Whether the program refuses these options, for a guest that ends at once."""
+    return bool(options) and subprocess.run(words(EXIT, folder, options), capture_output=True).returncode != 0
+
+
+def host(code, folder, options):
     """The steps of a run and the host's instructions."""
-    counting = ["valgrind", "--tool=callgrind", "--callgrind-out-file=/dev/null", *words(code, folder)]
+    counting = ["valgrind", "--tool=callgrind", "--callgrind-out-file=/dev/null", *words(code, folder, options)]
     said = subprocess.run(counting, check=True, stdout=subprocess.DEVNULL, stderr=subprocess.PIPE, text=True).stderr
     return steps_of(folder), int(re.search(r"Collected : (\d+)", said)[1])
 
@@ -195,8 +209,11 @@ def count():
     print("| Guest | Steps | Host instructions a step |")
     print("|---|---|---|")
     with tempfile.TemporaryDirectory() as folder:
-        for name, make, steps in COUNTED:
-            (few, less), (many, more) = (host(make(length), folder) for length in (steps, 2 * steps))
+        for name, make, steps, options in COUNTED:
+            if is_refused(options, folder):
+                print("| %s | | not with this program |" % name, flush=True)
+                continue
+            (few, less), (many, more) = (host(make(length), folder, options) for length in (steps, 2 * steps))
             print("| %s | %d to %d | %.0f |" % (name, few, many, (more - less) / (many - few)), flush=True)
 
 

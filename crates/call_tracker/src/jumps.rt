@@ -18,6 +18,7 @@ pub enum JumpKind {
 }
 
 /// Whether the register holds return addresses.
+#[inline(always)]
 fn is_link(register: Reg) -> bool
     ensures { result ≡ is_link register }
 {
@@ -25,6 +26,7 @@ fn is_link(register: Reg) -> bool
 }
 
 /// What the instruction does, by its registers alone.
+#[inline(always)]
 pub fn kind(i: Instr) -> JumpKind
     ensures { result ≡ kind_of i }
 {
@@ -42,6 +44,7 @@ pub fn kind(i: Instr) -> JumpKind
 }
 
 /// What JALR does: it goes to the address in `base`, and leaves its return address in `rd`.
+#[inline(always)]
 fn jalr_kind(rd: Reg, base: Reg) -> JumpKind
     ensures { result ≡ jalr_kind rd base }
 {

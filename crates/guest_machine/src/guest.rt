@@ -7,19 +7,20 @@ ghost use Rattle.guest_machine.specs.Kept.{IsAsBefore, Steps, machine_of};
 ghost use Rattle.guest_machine.specs.Machine.{can_run};
 ghost use Rattle.guest_machine.specs.Parts.{parts_of};
 ghost use Rattle.guest_machine.specs.Sound.{IsSound};
-ghost use Rattle.guest_machine.specs.Step.{after_call, call_of, executed, instruction_at, next_instruction, step};
+ghost use Rattle.guest_machine.specs.Step.{after_call, call_of, executed, instruction_at, next_instruction, pc_of, step};
 
 use crate::Stepped;
 use crate::answers::apply_answer;
+use crate::decoder::Decoder;
 use crate::hart::{cpu_of, execute_for};
-use crate::step_events::{add_access, add_jump};
+use crate::step_events::{add_jump, add_step};
 use call_tracker::kind;
 use guest_calls::Kernel;
 use guest_memory::{GuestMemory, Reservations};
 use guest_words::limits::{CALL_EVENTS, THREADS};
 use guest_words::{Addr, ByThread, FaultKind, Tid};
 use rv_exec::{Cpu, Outcome};
-use rv_isa::{Instr, decode};
+use rv_isa::Instr;
 use std::alloc::AllocError;
 use trace_model::{Event, Events};
 
@@ -43,6 +44,7 @@ pub(crate) struct Guest {
 }
 
 // Makes room for the events of an instruction, where there is none.
+#[inline(always)]
 fn make_room(events: &mut Events) -> Result<(), AllocError>
     ensures room { OnOk result (4 ≤ events.new.room) }
     ensures list { events.new.list ≡ events.old.list }
@@ -59,18 +61,21 @@ impl Guest {
     ghost use Rattle.rv_isa.specs.declared.instruction.Instr.TheVariants.{Ecall};
 
     // The instruction at an address, or why it can't run.
-    fn instruction_at(&self, at: Addr) -> Result<Instr, FaultKind>
+    #[inline(always)]
+    fn instruction_at(&self, decoder: &mut Decoder, at: Addr) -> Result<Instr, FaultKind>
         requires { at % 4 ≡ 0 }
         ensures { result ≡ instruction_at (memory_of self.now.memory) at }
     {
         match self.memory.fetch(at) {
-            Ok(word) => decode(word).ok_or(FaultKind::Illegal),
+            Ok(word) => decoder.decode(at, word).ok_or(FaultKind::Illegal),
             Err(_) => Err(FaultKind::Fetch),
         }
     }
 
     // Carries out an instruction, which is no call of the kernel.
-    fn carry_out(&mut self, tid: Tid, instruction: &Instr, events: &mut Events) -> Stepped
+    #[inline(always)]
+    fn carry_out(&mut self, tid: Tid, pc: Addr, instruction: &Instr, events: &mut Events) -> Stepped
+        requires pc { pc ≡ pc_of (machine_of (parts_of self.old)) tid }
         requires sound { IsSound (machine_of (parts_of self.old)) }
         requires lives { is_some (value_of self.old.harts.list tid) ≡ true }
         requires can_run { can_run (machine_of (parts_of self.old)) tid ≡ true }
@@ -81,9 +86,7 @@ impl Guest {
         ensures spare { length self.new.harts.list + self.new.harts.room ≡ length self.old.harts.list + self.old.harts.room }
         ensures entry { self.new.entry ≡ self.old.entry }
     {
-        let pc = cpu_of(&self.harts, tid).pc;
-        let jump = kind(*instruction);
-        let outcome = execute_for(
+        let (outcome, target) = execute_for(
             &mut self.harts,
             &mut self.memory,
             &mut self.held,
@@ -93,10 +96,8 @@ impl Guest {
         self.called = false;
         match outcome {
             Outcome::Went { access } => {
-                let target = cpu_of(&self.harts, tid).pc;
-                events.push(Event::Step { tid });
-                add_access(events, tid, access);
-                add_jump(events, tid, jump, target, pc.wrapping_add(4));
+                add_step(events, tid, access);
+                add_jump(events, tid, kind(*instruction), target, pc.wrapping_add(4));
                 Stepped::Went
             }
             Outcome::Fault { kind } => Stepped::Faulted { kind, at: pc },
@@ -105,6 +106,8 @@ impl Guest {
     }
 
     // Calls the kernel, and lets the threads start, wait or end as it answers.
+    #[cold]
+    #[inline(never)]
     fn call_kernel(&mut self, tid: Tid, events: &mut Events) -> Result<Stepped, AllocError>
         requires sound { IsSound (machine_of (parts_of self.old)) }
         requires lives { is_some (value_of self.old.harts.list tid) ≡ true }
@@ -137,7 +140,13 @@ impl Guest {
 
     /// Runs one step of a thread that can run, and adds its events. An instruction other than ECALL takes no memory where
     /// there is room for four events.
-    pub(crate) fn step(&mut self, tid: Tid, events: &mut Events) -> Result<Stepped, AllocError>
+    #[inline(always)]
+    pub(crate) fn step(
+        &mut self,
+        decoder: &mut Decoder,
+        tid: Tid,
+        events: &mut Events,
+    ) -> Result<Stepped, AllocError>
         requires sound { IsSound (machine_of (parts_of self.old)) }
         requires can_run { can_run (machine_of (parts_of self.old)) tid ≡ true }
         requires spare { THREADS ≤ length self.old.harts.list + self.old.harts.room }
@@ -149,7 +158,7 @@ impl Guest {
         ensures entry { self.new.entry ≡ self.old.entry }
     {
         let pc = cpu_of(&self.harts, tid).pc;
-        match self.instruction_at(pc) {
+        match self.instruction_at(decoder, pc) {
             Err(kind) => {
                 self.called = false;
                 Ok(Stepped::Faulted { kind, at: pc })
@@ -157,7 +166,7 @@ impl Guest {
             Ok(Instr::Ecall) => self.call_kernel(tid, events),
             Ok(instruction) => {
                 make_room(events)?;
-                Ok(self.carry_out(tid, &instruction, events))
+                Ok(self.carry_out(tid, pc, &instruction, events))
             }
         }
     }

@@ -10,11 +10,12 @@ ghost use Rattle.guest_machine.specs.Step.{resumed};
 
 use guest_memory::{GuestMemory, Reservations};
 use guest_words::limits::THREADS;
-use guest_words::{ByThread, Tid};
+use guest_words::{Addr, ByThread, Tid};
 use rv_exec::{Cpu, Outcome, execute};
 use rv_isa::{Instr, Reg};
 
 /// The registers of a live thread.
+#[inline(always)]
 pub(crate) fn cpu_of(harts: &ByThread<Cpu>, tid: Tid) -> &Cpu
     requires { is_some (value_of harts.now.list tid) ≡ true }
     ensures { result.now ≡ registers_of harts.now.list tid }
@@ -22,24 +23,27 @@ pub(crate) fn cpu_of(harts: &ByThread<Cpu>, tid: Tid) -> &Cpu
     harts.get(tid).unwrap()
 }
 
-/// Carries out an instruction of a live thread.
+/// Carries out an instruction of a live thread, and says where its pc is then.
+#[inline(always)]
 pub(crate) fn execute_for(
     harts: &mut ByThread<Cpu>,
     memory: &mut GuestMemory,
     held: &mut Reservations,
     tid: Tid,
     i: Instr,
-) -> Outcome
+) -> (Outcome, Addr)
     requires lives { is_some (value_of harts.old.list tid) ≡ true }
     requires held { HoldAtMost (without_thread (reserved_by held.old) tid) (THREADS - 1) }
-    ensures effect { (result, record { registers = registers_of harts.new.list tid; memory = memory_of memory.new; held = reserved_by held.new })
+    ensures effect { (result.0, record { registers = registers_of harts.new.list tid; memory = memory_of memory.new; held = reserved_by held.new })
         ≡ effect tid i (record { registers = registers_of harts.old.list tid; memory = memory_of memory.old; held = reserved_by held.old }) }
+    ensures pc { result.1 ≡ (registers_of harts.new.list tid).pc }
     ensures harts { harts.new.list ≡ with_registers harts.old.list tid (registers_of harts.new.list tid) }
     ensures lives { is_some (value_of harts.new.list tid) ≡ true }
     ensures room { harts.new.room ≡ harts.old.room }
 {
     let cpu = harts.get_mut(tid).unwrap();
-    execute(cpu, memory, held, tid, i)
+    let outcome = execute(cpu, memory, held, tid, i);
+    (outcome, cpu.pc)
 }
 
 /// A live thread goes on behind its call, with this answer in a0.

@@ -7,6 +7,7 @@
 #![tactic(auto)]
 
 mod answers;
+mod decoder;
 mod guest;
 mod hart;
 mod image_pages;

@@ -1,6 +1,7 @@
 //! The machine, and one step of a thread.
 ghost use Rattle.std.specs.Prelude.{◌≡◌, ◌≢◌, ◌≤◌, true, Ok, OnErr, IfOk, IsOk};
 
+use crate::decoder::Decoder;
 use crate::guest::Guest;
 use crate::setup::first_guest;
 use crate::stack::strings_length;
@@ -17,6 +18,7 @@ use trace_model::Events;
 #[derive(Drop)]
 pub struct Machine {
     guest: Guest,
+    decoder: Decoder,
 }
 
 impl Model for Machine {
@@ -67,10 +69,12 @@ impl Machine {
             return Err(SetupError::Pages);
         }
         let guest = first_guest(alloc, image, arguments, inputs, stdin, text_bytes)?;
-        Ok(Machine { guest })
+        let decoder = Decoder::new(alloc)?;
+        Ok(Machine { guest, decoder })
     }
 
     /// The channel, 1 or 2, and the bytes that the last step wrote, where it was a write of at least one byte.
+    #[inline(always)]
     pub fn outgoing(&self) -> Option<(u32, &[u8])>
         ensures out { option_map (λ out. (out.0, out.1.now)) result ≡ out_of self.now }
         ensures channel { IfSome result (λ out. (1 ≤ out.0) × (out.0 ≤ 2)) }
@@ -84,6 +88,7 @@ impl Machine {
 
     /// Runs one step of a thread that can run, and adds its events. An instruction other than ECALL takes no memory where
     /// there is room for four events.
+    #[inline(always)]
     pub fn step(&mut self, tid: Tid, events: &mut Events) -> Result<Stepped, AllocError>
         requires { can_run (machine_of self.old) tid ≡ true }
         ensures step { IfOk result (λ stepped. Steps (step (machine_of self.old) tid) stepped self.new events.old.list events.new.list) }
@@ -91,7 +96,7 @@ impl Machine {
         ensures no_memory { 4 ≤ events.old.room → next_instruction (machine_of self.old) tid ≢ Ok Ecall → IsOk result }
         ensures entry { self.new.entry ≡ self.old.entry }
     {
-        self.guest.step(tid, events)
+        self.guest.step(&mut self.decoder, tid, events)
     }
 
     /// Whether the thread lives and does not wait.

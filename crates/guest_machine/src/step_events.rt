@@ -1,6 +1,6 @@
 //! The events of a step.
-ghost use Rattle.std.specs.Prelude.{◌≡◌, ◌≤◌, ◌+◌, ◌++◌, length, map};
-ghost use Rattle.trace_model.specs.declared.event_kinds.Event.TheVariants.{End};
+ghost use Rattle.std.specs.Prelude.{◌≡◌, ◌≤◌, ◌+◌, ◌++◌, ◌∷◌, length, map};
+ghost use Rattle.trace_model.specs.declared.event_kinds.Event.TheVariants.{End, Step};
 ghost use Rattle.guest_machine.specs.Step.{access_events, jump_events};
 
 use call_tracker::JumpKind;
@@ -8,17 +8,25 @@ use guest_words::{Addr, Tid};
 use rv_exec::{Access, Cpu};
 use trace_model::{Event, Events};
 
-/// Adds the accesses of an instruction.
-pub(crate) fn add_access(events: &mut Events, tid: Tid, access: Access)
-    requires { length (access_events tid access) ≤ events.old.room }
-    ensures list { events.new.list ≡ events.old.list ++ access_events tid access }
-    ensures room { events.old.room ≤ events.new.room + length (access_events tid access) }
+/// Adds the step of an instruction and its accesses.
+#[inline(always)]
+pub(crate) fn add_step(events: &mut Events, tid: Tid, access: Access)
+    requires { 1 + length (access_events tid access) ≤ events.old.room }
+    ensures list { events.new.list ≡ events.old.list ++ Step tid ∷ access_events tid access }
+    ensures room { events.old.room ≤ events.new.room + (1 + length (access_events tid access)) }
 {
     match access {
-        Access::Nothing => {}
-        Access::Read { first, count } => events.push(Event::Read { tid, first, count }),
-        Access::Write { first, count } => events.push(Event::Write { tid, first, count }),
+        Access::Nothing => events.push(Event::Step { tid }),
+        Access::Read { first, count } => {
+            events.push(Event::Step { tid });
+            events.push(Event::Read { tid, first, count });
+        }
+        Access::Write { first, count } => {
+            events.push(Event::Step { tid });
+            events.push(Event::Write { tid, first, count });
+        }
         Access::Both { word } => {
+            events.push(Event::Step { tid });
             events.push(Event::Read {
                 tid,
                 first: word,
@@ -34,6 +42,7 @@ pub(crate) fn add_access(events: &mut Events, tid: Tid, access: Access)
 }
 
 /// Adds what a jump to a target ends and begins.
+#[inline(always)]
 pub(crate) fn add_jump(events: &mut Events, tid: Tid, kind: JumpKind, target: Addr, back: Addr)
     requires { length (jump_events kind tid target back) ≤ events.old.room }
     ensures { events.new.list ≡ events.old.list ++ jump_events kind tid target back }

@@ -12,6 +12,7 @@ use guest_words::{le16, le32};
 
 impl Directory {
     /// Why the byte at an address is refused, if it is.
+    #[inline(always)]
     pub fn byte_refusal(&self, permission: Permission, at: u64) -> Option<MemError>
         ensures value { result ≡ byte_refusal (memory_in self.now) permission at }
         ensures range { IfNone result (at < 2 ^ 32) }
@@ -56,6 +57,7 @@ impl Directory {
     }
 
     /// What a load of so many bytes answers.
+    #[inline(always)]
     pub fn loaded(&self, permission: Permission, at: u64, size: Size) -> Result<u32, MemError>
         requires { at < 2 ^ 32 }
         ensures { result ≡ loaded (memory_in self.now) permission at (byte_count size) }
@@ -69,14 +71,25 @@ impl Directory {
                 Err(permission.denial())
             }
         } else {
-            match self.first_refusal(permission, at, size.bytes() as u64) {
-                Some(refusal) => Err(refusal),
-                None => Ok(self.number(at, size)),
-            }
+            self.loaded_apart(permission, at, size)
+        }
+    }
+
+    // What a load answers that is not within a mapped page.
+    #[cold]
+    #[inline(never)]
+    fn loaded_apart(&self, permission: Permission, at: u64, size: Size) -> Result<u32, MemError>
+        requires { at < 2 ^ 32 }
+        ensures { result ≡ loaded (memory_in self.now) permission at (byte_count size) }
+    {
+        match self.first_refusal(permission, at, size.bytes() as u64) {
+            Some(refusal) => Err(refusal),
+            None => Ok(self.number(at, size)),
         }
     }
 
     /// Writes bytes that lie within one page, where they can be written.
+    #[inline(always)]
     pub fn store_within(&mut self, at: u64, bytes: &[u8]) -> Result<(), MemError>
         requires some { 0 < length bytes.now }
         requires within { at % 4096 + length bytes.now ≤ 4096 }
@@ -127,6 +140,7 @@ impl Directory {
 }
 
 // The number that so many bytes of a slice give, the lowest byte first.
+#[inline(always)]
 fn number_from(bytes: &[u8], start: usize, size: Size) -> u32
     requires { start + byte_count size ≤ length bytes.now }
     ensures { result ≡ little_number (byte_count size) (drop start bytes.now) }

@@ -43,6 +43,7 @@ impl Model for Directory {
 
 impl Directory {
     /// The rights and the bytes of a page: no bytes where it is absent.
+    #[inline(always)]
     pub fn page(&self, number: u64) -> (Rights, &[u8])
         ensures rights { result.0 ≡ (page_of self.now number).0 }
         ensures bytes { result.1.now ≡ (page_of self.now number).1 }
@@ -60,6 +61,7 @@ impl Directory {
     }
 
     /// Writes bytes that lie within one page.
+    #[inline(always)]
     pub fn write(&mut self, at: u64, bytes: &[u8])
         requires mapped { is_some ((memory_in self.old).rights (at / 4096)) ≡ true }
         requires within { at % 4096 + length bytes.now ≤ 4096 }
@@ -126,6 +128,7 @@ pub const NO_RIGHTS: Rights = Rights {
 };
 
 /// Writes bytes over others, from an index on.
+#[inline(always)]
 pub fn overwrite(old: &mut [u8], start: usize, bytes: &[u8])
     requires { start + length bytes.now ≤ length old.old }
     ensures { old.new ≡ overwritten old.old start bytes.now }

@@ -139,13 +139,21 @@ impl GuestMemory {
     }
 
     /// The number that so many readable bytes give, the lowest byte first.
+    #[inline(always)]
     pub fn load(&self, at: Addr, size: Size) -> Result<u32, MemError>
         ensures { result ≡ loaded (memory_of self.now) permission.Read at (byte_count size) }
     {
-        self.directory.loaded(Permission::Read, u64::from(at), size)
+        // the code of each size apart
+        let at = u64::from(at);
+        match size {
+            Size::One => self.directory.loaded(Permission::Read, at, Size::One),
+            Size::Two => self.directory.loaded(Permission::Read, at, Size::Two),
+            Size::Four => self.directory.loaded(Permission::Read, at, Size::Four),
+        }
     }
 
     /// The word of an instruction, where each of its bytes can be run.
+    #[inline(always)]
     pub fn fetch(&self, at: Addr) -> Result<u32, MemError>
         requires { at % 4 ≡ 0 }
         ensures { result ≡ loaded (memory_of self.now) permission.Execute at 4 }
@@ -173,17 +181,33 @@ impl GuestMemory {
     }
 
     /// Writes the lowest bytes of a value, the lowest first, where each of them can be written.
+    #[inline(always)]
     pub fn store(&mut self, at: Addr, size: Size, value: u32) -> Result<(), MemError>
         ensures result { result ≡ unless_refused (first_refusal (memory_of self.old) permission.Write at (byte_count size)) tt }
         ensures ok { OnOk result (memory_of self.new ≡ with_bytes (memory_of self.old) at (take (byte_count size) (to_le_bytes w32 value))) }
         ensures err { OnErr result (memory_of self.new ≡ memory_of self.old) }
     {
         let bytes = value.to_le_bytes();
-        let low = &bytes[..size.bytes()];
-        if at as usize % PAGE_SIZE + low.len() <= PAGE_SIZE {
-            self.directory.store_within(u64::from(at), low)
+        // the code of each size apart
+        match size {
+            Size::One => self.store_bytes(at, &bytes[..1]),
+            Size::Two => self.store_bytes(at, &bytes[..2]),
+            Size::Four => self.store_bytes(at, &bytes[..4]),
+        }
+    }
+
+    // Writes at least one byte, where each of the bytes can be written.
+    #[inline(always)]
+    fn store_bytes(&mut self, at: Addr, bytes: &[u8]) -> Result<(), MemError>
+        requires { 0 < length bytes.now }
+        ensures result { result ≡ unless_refused (first_refusal (memory_of self.old) permission.Write at (length bytes.now)) tt }
+        ensures ok { OnOk result (memory_of self.new ≡ with_bytes (memory_of self.old) at bytes.now) }
+        ensures err { OnErr result (memory_of self.new ≡ memory_of self.old) }
+    {
+        if at as usize % PAGE_SIZE + bytes.len() <= PAGE_SIZE {
+            self.directory.store_within(u64::from(at), bytes)
         } else {
-            self.copy_in(at, low)
+            self.copy_in(at, bytes)
         }
     }
 

@@ -43,6 +43,7 @@ pub enum Permission {
 
 impl Permission {
     /// Whether these rights give it.
+    #[inline(always)]
     pub fn is_allowed(self, rights: Rights) -> bool
         ensures { result ≡ allows self rights }
     {
@@ -54,6 +55,7 @@ impl Permission {
     }
 
     /// How it is refused where the byte is mapped.
+    #[inline(always)]
     pub fn denial(self) -> MemError
         ensures { result ≡ denial self }
     {

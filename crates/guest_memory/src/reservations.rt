@@ -52,6 +52,7 @@ impl Reservations {
     }
 
     /// Drops the reservations on these words of all threads other than the writer. The kernel writes as no thread.
+    #[inline(always)]
     pub fn written(&mut self, by: Option<Tid>, first: Word, count: u32)
         ensures { reserved_by self.new ≡ after_write (reserved_by self.old) by first count }
     {
@@ -66,10 +67,13 @@ impl Reservations {
     }
 
     // Drops the reservations that are invalidated.
+    #[inline(always)]
     fn invalidate(&mut self, invalidation: Invalidation)
         ensures { take self.new.count self.new.holders ≡ filter (λ h. not (is_invalidated invalidation h)) (take self.old.count self.old.holders) }
     {
-        self.count = retain_valid(&mut self.holders[..self.count], &invalidation);
+        if self.count > 0 {
+            self.count = retain_valid(&mut self.holders[..self.count], &invalidation);
+        }
     }
 }
 
@@ -114,6 +118,7 @@ fn is_held(holders: &[(Tid, Word)], tid: Tid, word: Word) -> bool
 }
 
 // Moves the holders that keep their reservation to the front, in their order, and says how many they are.
+#[inline(never)]
 fn retain_valid(holders: &mut [(Tid, Word)], invalidation: &Invalidation) -> usize
     ensures kept { take result holders.new ≡ filter (λ h. not (is_invalidated invalidation.now h)) holders.old }
     ensures few { result ≤ length holders.old }

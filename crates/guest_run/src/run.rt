@@ -69,6 +69,7 @@ impl Runner {
     }
 
     /// Makes one move, or says how the run ends, by this move or before one.
+    #[inline(always)]
     fn advance<W: Observer, O: Sink, E: Sink>(
         &mut self,
         observer: &mut W,

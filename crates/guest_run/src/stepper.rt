@@ -23,6 +23,8 @@ pub(crate) struct Stepper {
 }
 
 // Puts bytes on the sink of a channel, where there are any.
+#[cold]
+#[inline(never)]
 fn put<S: Sink>(bytes: &[u8], channel: Channel, sink: &mut S) -> Result<(), RunError>
     ensures { PutEndsOn channel bytes.now (S.state sink.old) (S.state sink.new) result }
 {
@@ -37,6 +39,7 @@ fn put<S: Sink>(bytes: &[u8], channel: Channel, sink: &mut S) -> Result<(), RunE
 }
 
 // Puts the bytes that the last step wrote.
+#[inline(always)]
 fn put_outgoing<O: Sink, E: Sink>(
     machine: &Machine,
     out: &mut O,
@@ -63,6 +66,7 @@ impl Stepper {
     }
 
     /// Runs one step of a thread that can run: first its bytes are put, then its events are handed out.
+    #[inline(always)]
     pub(crate) fn step<W: Observer, O: Sink, E: Sink>(
         &mut self,
         tid: Tid,

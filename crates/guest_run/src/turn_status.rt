@@ -17,6 +17,7 @@ pub enum TurnStatus {
 }
 
 /// What the step of a thread means.
+#[inline(always)]
 pub(crate) fn turn_status_of(tid: Tid, stepped: Stepped) -> TurnStatus
     ensures { result ≡ turn_status_of tid stepped }
 {

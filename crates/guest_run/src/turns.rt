@@ -42,6 +42,8 @@ impl CurrentTurn {
 
     // Begins a turn.
     #[tactic(auto, unfolding(crate::specs::Run::chosen))]
+    #[cold]
+    #[inline(never)]
     fn begin_turn(&mut self, machine: &Machine) -> Choice
         requires { self.old.left ≡ 0 }
         ensures chosen { chosen guest (position (machine_of machine.now) self.old) ≡ chosen_of (machine_of machine.now) self.new result }
@@ -66,6 +68,7 @@ impl CurrentTurn {
 
     /// Chooses who moves next.
     #[tactic(auto, unfolding(crate::specs::Run::chosen))]
+    #[inline(always)]
     pub(crate) fn choose(&mut self, machine: &Machine) -> Choice
         requires { 0 < self.old.left → IsUnderWay (machine_of machine.now) self.old }
         ensures chosen { chosen guest (position (machine_of machine.now) self.old) ≡ chosen_of (machine_of machine.now) self.new result }
@@ -100,6 +103,7 @@ impl Recorder {
     }
 
     /// Takes one more move.
+    #[inline(always)]
     pub(crate) fn add(&mut self, opens: bool, tid: Tid) -> Result<(), AllocError>
         requires going { opens ≡ false → 0 < self.old.made }
         requires room { self.old.made < RUN_STEPS }

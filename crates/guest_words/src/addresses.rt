@@ -39,6 +39,7 @@ impl Word {
 }
 
 /// The words that hold the bytes: the first of them, and how many there are.
+#[inline(always)]
 pub fn words_over(first: Addr, bytes: u32) -> (Word, u32)
     requires some { 1 ≤ bytes }
     requires end { first + bytes ≤ 2 ^ 32 }

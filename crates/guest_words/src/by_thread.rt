@@ -31,6 +31,7 @@ impl<T> Model for ByThread<T> {
 }
 
 /// The place of the thread, if it has one.
+#[inline(always)]
 fn find<T>(entries: &[(Tid, T)], tid: Tid) -> Option<usize>
     ensures { result ≡ position (λ x. x.0 == tid) entries.now }
 {
@@ -65,6 +66,7 @@ impl<T> ByThread<T> {
     }
 
     /// The value of the thread.
+    #[inline(always)]
     pub fn get(&self, tid: Tid) -> Option<&T>
         ensures { option_copied result ≡ value_of self.now.list tid }
     {
@@ -73,6 +75,7 @@ impl<T> ByThread<T> {
     }
 
     /// The value of the thread, for writing.
+    #[inline(always)]
     pub fn get_mut(&mut self, tid: Tid) -> Option<&mut T>
         ensures* writes_back { sem 𝓛 (lends_value T.row self.entry tid result) }
         ensures found { option_copied_mut result ≡ value_of self.old.list tid }
@@ -84,6 +87,7 @@ impl<T> ByThread<T> {
     }
 
     // The value of the thread at its place.
+    #[inline(always)]
     fn at_mut(&mut self, tid: Tid, index: usize) -> &mut T
         requires { position (λ x. x.0 == tid) self.old.list ≡ Some index }
         ensures* writes_back { sem 𝓛 (lends_place T.row self.entry tid result) }

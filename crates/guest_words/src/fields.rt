@@ -5,6 +5,7 @@ ghost use Rattle.byteorder.specs.Endian.{little_bytes, little_number};
 use byteorder::{ByteOrder, LittleEndian};
 
 /// The 16-bit field at an offset.
+#[inline(always)]
 pub fn le16(bytes: &[u8], at: usize) -> u16
     requires { at + 2 ≤ length bytes.now }
     ensures { result ≡ little_number 2 (drop at bytes.now) }
@@ -13,6 +14,7 @@ pub fn le16(bytes: &[u8], at: usize) -> u16
 }
 
 /// The 32-bit field at an offset.
+#[inline(always)]
 pub fn le32(bytes: &[u8], at: usize) -> u32
     requires { at + 4 ≤ length bytes.now }
     ensures { result ≡ little_number 4 (drop at bytes.now) }

@@ -23,6 +23,7 @@ pub struct Operands {
 }
 
 /// An atomic operation with a register's value.
+#[inline(never)]
 pub fn atomic(
     cpu: &mut Cpu,
     memory: &mut GuestMemory,

@@ -11,6 +11,7 @@ use guest_memory::{GuestMemory, Reservations, Size};
 use guest_words::{Addr, Tid, Word, words_over};
 
 /// The words that hold the bytes.
+#[inline(always)]
 pub fn words(at: Addr, size: Size) -> (Word, u32)
     requires { at + byte_count size ≤ 2 ^ 32 }
     ensures { result ≡ (at / 4, word_count at (byte_count size)) }
@@ -19,6 +20,7 @@ pub fn words(at: Addr, size: Size) -> (Word, u32)
 }
 
 /// The number that the bytes give, the lowest byte first. None where one of them can't be read.
+#[inline(always)]
 pub fn read(memory: &GuestMemory, at: Addr, size: Size) -> Option<u32>
     ensures value { result ≡ (if can_read (memory_of memory.now) at (byte_count size) then Some (number_at (memory_of memory.now) at (byte_count size)) else None) }
     ensures end { IfSome result (λ _. at + byte_count size ≤ 2 ^ 32) }
@@ -28,6 +30,7 @@ pub fn read(memory: &GuestMemory, at: Addr, size: Size) -> Option<u32>
 
 /// Writes the lowest bytes for the thread, and drops the other threads' reservations on their words, which it gives. None
 /// where one of the bytes can't be written.
+#[inline(always)]
 pub fn write(
     memory: &mut GuestMemory,
     held: &mut Reservations,

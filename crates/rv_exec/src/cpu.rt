@@ -36,6 +36,7 @@ impl Cpu {
     }
 
     /// What a register holds.
+    #[inline(always)]
     pub fn value(&self, r: Reg) -> u32
         ensures value { result ≡ value self.now r }
         ensures zero { r ≡ 0 → result ≡ 0 }
@@ -44,6 +45,7 @@ impl Cpu {
     }
 
     /// Writes to a register. A write to x0 is lost.
+    #[inline(always)]
     pub fn write(&mut self, rd: Reg, n: u32)
         ensures registers { self.new ≡ record self.old { regs = written self.old rd n } }
     {
@@ -54,6 +56,7 @@ impl Cpu {
     }
 
     /// Goes on behind the instruction at the pc.
+    #[inline(always)]
     pub fn advance(&mut self)
         ensures registers { self.new ≡ advanced self.old }
     {
@@ -61,6 +64,7 @@ impl Cpu {
     }
 
     /// Goes on behind the instruction, which touched no memory.
+    #[inline(always)]
     pub(crate) fn pass(&mut self) -> Outcome
         ensures { (result, self.new) ≡ passed self.old }
     {
@@ -69,6 +73,7 @@ impl Cpu {
     }
 
     /// Writes to a register, and goes on behind the instruction.
+    #[inline(always)]
     pub(crate) fn put(&mut self, rd: Reg, n: u32)
         ensures { self.new ≡ put rd n self.old }
     {
@@ -77,6 +82,7 @@ impl Cpu {
     }
 
     /// Writes what an instruction computed.
+    #[inline(always)]
     pub(crate) fn compute(&mut self, rd: Reg, n: u32) -> Outcome
         ensures { (result, self.new) ≡ computed rd n self.old }
     {
@@ -85,6 +91,7 @@ impl Cpu {
     }
 
     /// Goes to a target, where that is a multiple of 4.
+    #[inline(always)]
     pub(crate) fn jump(&mut self, target: Addr) -> Outcome
         ensures { (result, self.new) ≡ jumped target self.old.regs self.old }
     {
@@ -98,6 +105,7 @@ impl Cpu {
     }
 
     /// Goes to a target, where that is a multiple of 4, and leaves the way back in a register.
+    #[inline(always)]
     pub(crate) fn jump_and_link(&mut self, rd: Reg, target: Addr) -> Outcome
         ensures { (result, self.new) ≡ linked rd target self.old }
     {

@@ -15,6 +15,7 @@ use guest_words::{FaultKind, Tid};
 use rv_isa::{Instr, Reg, Test};
 
 /// Carries out an instruction of the thread. Fewer than `THREADS` other threads have a reservation.
+#[inline(always)]
 pub fn execute(
     cpu: &mut Cpu,
     memory: &mut GuestMemory,
@@ -54,11 +55,20 @@ pub fn execute(
             let (at, n) = (cpu.value(base), cpu.value(value));
             atomic(cpu, memory, held, tid, op, Operands { rd, at, n })
         }
-        _ => execute_on_registers(cpu, i),
+        // each of these apart, so that its code looks at the instruction once
+        Instr::Lui { .. } => execute_on_registers(cpu, i),
+        Instr::Auipc { .. } => execute_on_registers(cpu, i),
+        Instr::Jal { .. } => execute_on_registers(cpu, i),
+        Instr::Jalr { .. } => execute_on_registers(cpu, i),
+        Instr::Branch { .. } => execute_on_registers(cpu, i),
+        Instr::Immediate { .. } => execute_on_registers(cpu, i),
+        Instr::Register { .. } => execute_on_registers(cpu, i),
+        Instr::Fence | Instr::FenceI | Instr::Ecall | Instr::Ebreak => execute_on_registers(cpu, i),
     }
 }
 
 /// Carries out an instruction that accesses no memory.
+#[inline(always)]
 fn execute_on_registers(cpu: &mut Cpu, i: Instr) -> Outcome
     requires { accesses_memory i ≡ false }
     ensures { (tid : ℕ) (c : ExecState) → c.registers ≡ cpu.old → (result, with_registers cpu.new c) ≡ effect tid i c }
@@ -100,6 +110,7 @@ fn execute_on_registers(cpu: &mut Cpu, i: Instr) -> Outcome
 }
 
 /// A branch, which goes to a target where the test holds.
+#[inline(always)]
 fn branch(cpu: &mut Cpu, test: Test, left: Reg, right: Reg, offset: i32) -> Outcome
     ensures { (result, cpu.new) ≡ branched (is_taken test (value cpu.old left) (value cpu.old right)) (add_offset cpu.old.pc offset) cpu.old }
 {

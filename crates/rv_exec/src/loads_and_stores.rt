@@ -13,6 +13,7 @@ use guest_words::{Addr, FaultKind, Tid};
 use rv_isa::{LoadKind, Reg, StoreKind};
 
 /// How many bytes a load reads.
+#[inline(always)]
 fn load_size(kind: LoadKind) -> Size
     ensures { result ≡ load_size kind }
 {
@@ -24,6 +25,7 @@ fn load_size(kind: LoadKind) -> Size
 }
 
 /// What a load writes to its register, of the number that its bytes give.
+#[inline(always)]
 fn extended(kind: LoadKind, n: u32) -> u32
     ensures { result ≡ extended kind n }
 {
@@ -48,6 +50,7 @@ fn sign_extended(n: u32, sign: u32) -> u32
 }
 
 /// How many bytes a store writes.
+#[inline(always)]
 fn store_size(kind: StoreKind) -> Size
     ensures { result ≡ store_size kind }
 {
@@ -59,7 +62,22 @@ fn store_size(kind: StoreKind) -> Size
 }
 
 /// A load.
+#[inline(always)]
 pub fn load(cpu: &mut Cpu, memory: &GuestMemory, kind: LoadKind, rd: Reg, at: Addr) -> Outcome
+    ensures { (result, cpu.new) ≡ loads kind rd at (memory_of memory.now) cpu.old }
+{
+    match kind {
+        LoadKind::Lb => load_as(cpu, memory, LoadKind::Lb, rd, at),
+        LoadKind::Lh => load_as(cpu, memory, LoadKind::Lh, rd, at),
+        LoadKind::Lw => load_as(cpu, memory, LoadKind::Lw, rd, at),
+        LoadKind::Lbu => load_as(cpu, memory, LoadKind::Lbu, rd, at),
+        LoadKind::Lhu => load_as(cpu, memory, LoadKind::Lhu, rd, at),
+    }
+}
+
+/// A load, whose code is made for the kind that a call names.
+#[inline(always)]
+fn load_as(cpu: &mut Cpu, memory: &GuestMemory, kind: LoadKind, rd: Reg, at: Addr) -> Outcome
     ensures { (result, cpu.new) ≡ loads kind rd at (memory_of memory.now) cpu.old }
 {
     let size = load_size(kind);
@@ -76,6 +94,7 @@ pub fn load(cpu: &mut Cpu, memory: &GuestMemory, kind: LoadKind, rd: Reg, at: Ad
 }
 
 /// A store of a register's lowest bytes.
+#[inline(always)]
 pub fn store(
     cpu: &mut Cpu,
     memory: &mut GuestMemory,

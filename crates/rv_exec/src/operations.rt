@@ -6,6 +6,7 @@ ghost use Rattle.rv_isa.specs.declared.instruction.RegOp.{RegOp};
 use rv_isa::{ImmOp, RegOp, Test};
 
 /// What the operation writes to its destination.
+#[inline(always)]
 pub fn register_result(op: RegOp, left: u32, right: u32) -> u32
     ensures { result ≡ register_result op left right }
 {
@@ -48,6 +49,7 @@ fn upper_signed_unsigned(left: u32, right: u32) -> u32
 }
 
 /// The signed quotient, and all ones over zero.
+#[inline(never)]
 fn quotient(left: u32, right: u32) -> u32
     ensures { result ≡ register_result RegOp.Div left right }
 {
@@ -58,6 +60,7 @@ fn quotient(left: u32, right: u32) -> u32
 }
 
 /// The signed remainder, and the left number over zero.
+#[inline(never)]
 fn remainder(left: u32, right: u32) -> u32
     ensures { result ≡ register_result RegOp.Rem left right }
 {
@@ -68,6 +71,7 @@ fn remainder(left: u32, right: u32) -> u32
 }
 
 /// What the operation on a register and an immediate writes.
+#[inline(always)]
 pub fn immediate_result(op: ImmOp, left: u32, imm: i32) -> u32
     ensures { result ≡ immediate_result op left imm }
 {
@@ -86,6 +90,7 @@ pub fn immediate_result(op: ImmOp, left: u32, imm: i32) -> u32
 }
 
 /// Whether a branch is taken.
+#[inline(always)]
 pub fn is_taken(test: Test, left: u32, right: u32) -> bool
     ensures { result ≡ is_taken test left right }
 {
@@ -100,6 +105,7 @@ pub fn is_taken(test: Test, left: u32, right: u32) -> bool
 }
 
 /// An address and a signed offset, modulo 2 ^ 32.
+#[inline(always)]
 pub fn add_offset(at: u32, offset: i32) -> u32
     ensures { result ≡ add_offset at offset }
 {
@@ -107,6 +113,7 @@ pub fn add_offset(at: u32, offset: i32) -> u32
 }
 
 /// The number that the bits stand for in two's complement.
+#[inline(always)]
 pub fn signed(n: u32) -> i32
     ensures { result ≡ signed n }
 {

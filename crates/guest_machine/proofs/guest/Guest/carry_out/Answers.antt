@@ -1,4 +1,6 @@
-use Rattle.std.proofs.Common.{arith, length, ◌∙◌, ap, refl, sym, subst}
+use Rattle.std.proofs.Common.{arith, length, ◌∙◌, ◌∷◌, [], ap, append_assoc, refl, sym, subst}
+use Rattle.trace_model.specs.declared.event_kinds.Event.TheVariants.{Step}
+use Rattle.guest_machine.specs.Step.{access_events}
 use Rattle.guest_words.proofs.ThreadTables.{length-with}
 use Rattle.guest_memory.specs.Guest.{memory_of}
 use Rattle.guest_memory.specs.ReservedBy.{reserved_by}
@@ -27,41 +29,41 @@ unfolding machine_of
 returns-in-Went-clause-step c =
     let after : ExecState = record { registers = registers_of c.execute_for-outcome.new.harts.list c.args.tid; memory = memory_of c.execute_for-outcome.new.memory; held = reserved_by c.execute_for-outcome.new.held } in
     let m = machine_of (parts_of c.args.self.now) in
-    let machine = ap (λ harts. record m { harts = harts; memory = after.memory; held = after.held }) c.in-Went.ensures.harts in
-    Steps-went (parts_of c.args.self.now) _ c.args.tid c.args.instruction.now c.in-Went.access after _ _ c.in-Went.ensures.effect machine refl
-    (went-events c.args.events.now.list _ _ _ c.args.tid _ c.in-Went.access c.args.instruction.now _ _ _ _ c.push.ensures.list c.add_access.ensures.list c.add_jump.ensures c.kind-jump.ensures
-    (ap (λ (r : Registers). r.pc) (c.behind-self-in-Went.view_is ∙ c.cpu_of-in-Went.ensures)) (ap (λ (r : Registers). r.pc) (c.behind-self.view_is ∙ c.cpu_of.ensures)))
+    let machine = ap (λ harts. record m { harts = harts; memory = after.memory; held = after.held }) c.execute_for-outcome.ensures.harts in
+    Steps-went (parts_of c.args.self.now) _ c.args.tid c.args.instruction.now c.in-Went.access after _ _ (ap (λ o. (o, after)) (sym c.in-Went.is) ∙ c.execute_for-outcome.ensures.effect) machine refl
+    (went-events c.args.events.now.list _ _ _ c.args.tid _ c.in-Went.access c.args.instruction.now _ _ _ _ refl (c.add_step.ensures.list ∙ sym (append_assoc c.args.events.now.list (Step c.args.tid ∷ []) (access_events c.args.tid c.in-Went.access))) c.add_jump.ensures c.kind.ensures
+    c.execute_for-outcome.ensures.pc c.requires.pc)
 
 pub returns-in-Went-clause-sound : goal.returns-in-Went-clause-sound
 unfolding machine_of
 returns-in-Went-clause-sound c =
     let m = machine_of (parts_of c.args.self.now) in
     let after : ExecState = record { registers = registers_of c.execute_for-outcome.new.harts.list c.args.tid; memory = memory_of c.execute_for-outcome.new.memory; held = reserved_by c.execute_for-outcome.new.held } in
-    let sound = sound-state m c.args.tid c.args.instruction.now _ after c.in-Went.ensures.effect c.requires.sound c.requires.can_run in
-    subst (λ harts. IsSound (record m { harts = harts; memory = after.memory; held = after.held })) (sym c.in-Went.ensures.harts) sound
+    let sound = sound-state m c.args.tid c.args.instruction.now _ after (ap (λ o. (o, after)) (sym c.in-Went.is) ∙ c.execute_for-outcome.ensures.effect) c.requires.sound c.requires.can_run in
+    subst (λ harts. IsSound (record m { harts = harts; memory = after.memory; held = after.held })) (sym c.execute_for-outcome.ensures.harts) sound
 
 pub returns-in-Fault-clause-step : goal.returns-in-Fault-clause-step
 unfolding machine_of
 returns-in-Fault-clause-step c =
     let after : ExecState = record { registers = registers_of c.execute_for-outcome.new.harts.list c.args.tid; memory = memory_of c.execute_for-outcome.new.memory; held = reserved_by c.execute_for-outcome.new.held } in
     let m = machine_of (parts_of c.args.self.now) in
-    Steps-faulted (parts_of c.args.self.now) _ c.args.tid c.in-Fault.kind _ _ _ (executed-fault m c.args.tid c.args.instruction.now c.in-Fault.kind after c.in-Fault.ensures.effect) (ap (λ (r : Registers). r.pc) (c.behind-self.view_is ∙ c.cpu_of.ensures)) (unchanged m c.args.tid after c.execute_for-outcome.new.harts.list c.requires.lives c.in-Fault.ensures.harts (fault-state m c.args.tid c.args.instruction.now c.in-Fault.kind after c.in-Fault.ensures.effect)) refl
+    Steps-faulted (parts_of c.args.self.now) _ c.args.tid c.in-Fault.kind _ _ _ (executed-fault m c.args.tid c.args.instruction.now c.in-Fault.kind after (ap (λ o. (o, after)) (sym c.in-Fault.is) ∙ c.execute_for-outcome.ensures.effect)) c.requires.pc (unchanged m c.args.tid after c.execute_for-outcome.new.harts.list c.requires.lives c.execute_for-outcome.ensures.harts (fault-state m c.args.tid c.args.instruction.now c.in-Fault.kind after (ap (λ o. (o, after)) (sym c.in-Fault.is) ∙ c.execute_for-outcome.ensures.effect))) refl
 
 pub returns-in-Fault-clause-sound : goal.returns-in-Fault-clause-sound
 unfolding machine_of
 returns-in-Fault-clause-sound c =
     let after : ExecState = record { registers = registers_of c.execute_for-outcome.new.harts.list c.args.tid; memory = memory_of c.execute_for-outcome.new.memory; held = reserved_by c.execute_for-outcome.new.held } in
     let m = machine_of (parts_of c.args.self.now) in
-    subst IsSound (sym (unchanged m c.args.tid after c.execute_for-outcome.new.harts.list c.requires.lives c.in-Fault.ensures.harts (fault-state m c.args.tid c.args.instruction.now c.in-Fault.kind after c.in-Fault.ensures.effect))) c.requires.sound
+    subst IsSound (sym (unchanged m c.args.tid after c.execute_for-outcome.new.harts.list c.requires.lives c.execute_for-outcome.ensures.harts (fault-state m c.args.tid c.args.instruction.now c.in-Fault.kind after (ap (λ o. (o, after)) (sym c.in-Fault.is) ∙ c.execute_for-outcome.ensures.effect)))) c.requires.sound
 
 pub returns-in-Went-clause-spare : goal.returns-in-Went-clause-spare
 returns-in-Went-clause-spare c =
     let harts = c.args.self.now.harts.list in
     let kept = length-with harts c.args.tid (registers_of c.execute_for-outcome.new.harts.list c.args.tid) in
-    omega (arith, ap length c.in-Went.ensures.harts, kept, c.in-Went.ensures.room)
+    omega (arith, ap length c.execute_for-outcome.ensures.harts, kept, c.execute_for-outcome.ensures.room)
 
 pub returns-in-Fault-clause-spare : goal.returns-in-Fault-clause-spare
 returns-in-Fault-clause-spare c =
     let harts = c.args.self.now.harts.list in
     let kept = length-with harts c.args.tid (registers_of c.execute_for-outcome.new.harts.list c.args.tid) in
-    omega (arith, ap length c.in-Fault.ensures.harts, kept, c.in-Fault.ensures.room)
+    omega (arith, ap length c.execute_for-outcome.ensures.harts, kept, c.execute_for-outcome.ensures.room)

@@ -21,6 +21,7 @@ call_kernel-requires-clause-lives c = lives_kept (machine_of (parts_of c.args.se
 pub carry_out-requires : goal.carry_out-requires
 unfolding machine_of
 carry_out-requires c = record {
+  pc = ap (λ (r : Registers). r.pc) (c.behind-self.view_is ∙ c.cpu_of.ensures);
   sound = c.requires.sound;
   lives = lives_kept (machine_of (parts_of c.args.self.now)) c.args.tid c.requires.sound c.requires.can_run;
   can_run = c.requires.can_run;
