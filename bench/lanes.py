@@ -13,7 +13,12 @@ import tempfile
 
 TOP = os.path.dirname(os.path.dirname(os.path.abspath(__file__)))
 # Each kernel, and the function of the program that holds it.
-KERNELS = {"least_greatest": "lanes_extremes", "classes_into": "lanes_classes", "renew_into": "lanes_renewals", "bulk_read": "lanes_read"}
+KERNELS = {
+    "least_greatest": "lanes_extremes",
+    "classes_into": "lanes_classes",
+    "renew_into": "lanes_renewals",
+    "bulk_read": "lanes_read",
+}
 WIDTHS = {"u8": 255, "u16": 65535, "u32": 4294967295}
 
 HEAD = """\
