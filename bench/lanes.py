@@ -1,8 +1,9 @@
 #!/usr/bin/env python3
 """bench/lanes.py: host instructions of the lane kernels against plain loops over the same 1024 stamps, at each width, by
 callgrind, as the difference of two numbers of rounds. It proves and builds a program of its own in a folder of its own, over
-this repository's crates stamps and stamp_lanes. It prints a table, and the vector instructions of the whole
-program, plain loops included."""
+this repository's crates stamps and stamp_lanes. Each kernel and each loop stands in a function of its own that is not
+inlined. It prints a table of the counts, and one of the vector instructions in the code of each kernel at each width."""
+import collections
 import os
 import re
 import shutil
@@ -11,13 +12,19 @@ import sys
 import tempfile
 
 TOP = os.path.dirname(os.path.dirname(os.path.abspath(__file__)))
-KERNELS = ["least_greatest", "classes_into", "renew_into", "bulk_read"]
+# Each kernel, and the function of the program that holds it.
+KERNELS = {
+    "least_greatest": "lanes_extremes",
+    "classes_into": "lanes_classes",
+    "renew_into": "lanes_renewals",
+    "bulk_read": "lanes_read",
+}
 WIDTHS = {"u8": 255, "u16": 65535, "u32": 4294967295}
 
 HEAD = """\
 //! The lane kernels, and plain loops that do the same.
 #![tactic(auto)]
-ghost use Rattle.std.specs.Prelude.{◌≡◌, ◌≤◌, ◌+◌, ◌*◌, All, map, true};
+ghost use Rattle.std.specs.Prelude.{◌≡◌, ◌≤◌, ◌+◌, ◌*◌, ◌^◌, All, length, map, true};
 
 use stamp_lanes::{Bulk, Lanes};
 use std::env;
@@ -39,6 +46,12 @@ fn column_NAME(seed: u32) -> [STAMP; PLACES] {
     column
 }
 
+#[inline(never)]
+fn lanes_extremes_NAME(stamps: &[STAMP]) -> Option<(STAMP, STAMP)> {
+    STAMP::least_greatest(stamps)
+}
+
+#[inline(never)]
 fn plain_extremes_NAME(stamps: &[STAMP]) -> Option<(STAMP, STAMP)> {
     let mut found = None;
     for stamp in stamps {
@@ -58,7 +71,7 @@ fn extremes_NAME(by_lanes: bool, rounds: usize) -> u32 {
         let at = round % PLACES;
         stamps[at] = stamps[PLACES - 1 - at];
         let found = if by_lanes {
-            STAMP::least_greatest(&stamps)
+            lanes_extremes_NAME(&stamps)
         } else {
             plain_extremes_NAME(&stamps)
         };
@@ -69,6 +82,15 @@ fn extremes_NAME(by_lanes: bool, rounds: usize) -> u32 {
     sum
 }
 
+#[inline(never)]
+fn lanes_classes_NAME(stamps: &[STAMP], starts: &[STAMP], into: &mut [STAMP])
+    requires lengths { length stamps.now ≡ length into.old }
+    requires room { length starts.now ≤ MOST }
+{
+    STAMP::classes_into(stamps, starts, 0, into);
+}
+
+#[inline(never)]
 fn plain_classes_NAME(stamps: &[STAMP], starts: &[STAMP], into: &mut [STAMP]) {
     for i in 0..stamps.len().min(into.len()) {
         let mut class: STAMP = 0;
@@ -90,7 +112,7 @@ fn classes_NAME(by_lanes: bool, rounds: usize) -> u32 {
         let at = round % PLACES;
         stamps[at] = stamps[PLACES - 1 - at];
         if by_lanes {
-            STAMP::classes_into(&stamps, &starts, 0, &mut into);
+            lanes_classes_NAME(&stamps, &starts, &mut into);
         } else {
             plain_classes_NAME(&stamps, &starts, &mut into);
         }
@@ -99,6 +121,18 @@ fn classes_NAME(by_lanes: bool, rounds: usize) -> u32 {
     sum
 }
 
+#[inline(never)]
+fn lanes_renewals_NAME(own: &[STAMP], own_class: &[STAMP], write: &[STAMP], write_class: &[STAMP], into: &mut [STAMP])
+    requires lengths { (length own.now ≡ length into.old)
+        × (length own_class.now ≡ length into.old)
+        × (length write.now ≡ length into.old)
+        × (length write_class.now ≡ length into.old) }
+    requires room { All (λ k. 3 * k + 2 ≤ MOST) own_class.now }
+{
+    STAMP::renew_into(own, own_class, write, write_class, into);
+}
+
+#[inline(never)]
 fn plain_renewals_NAME(own: &[STAMP], own_class: &[STAMP], write: &[STAMP], write_class: &[STAMP], into: &mut [STAMP]) {
     let places = own.len().min(own_class.len()).min(write.len()).min(write_class.len()).min(into.len());
     for i in 0..places {
@@ -135,7 +169,7 @@ fn renewals_NAME(by_lanes: bool, rounds: usize) -> u32 {
         let at = round % PLACES;
         own[at] = own[PLACES - 1 - at];
         if by_lanes {
-            STAMP::renew_into(&own, &class, &write, &class, &mut into);
+            lanes_renewals_NAME(&own, &class, &write, &class, &mut into);
         } else {
             plain_renewals_NAME(&own, &class, &write, &class, &mut into);
         }
@@ -144,6 +178,15 @@ fn renewals_NAME(by_lanes: bool, rounds: usize) -> u32 {
     sum
 }
 
+#[inline(never)]
+fn lanes_read_NAME(own: &mut [STAMP], write: &[STAMP], marks: &[u8], start: STAMP, now: STAMP) -> Bulk
+    requires lengths { (length own.old ≡ length write.now) × (length own.old ≡ length marks.now) }
+    requires few { length own.old ≤ 2 ^ 30 }
+{
+    STAMP::bulk_read(own, write, marks, start, now)
+}
+
+#[inline(never)]
 fn plain_read_NAME(own: &mut [STAMP], write: &[STAMP], marks: &[u8], start: STAMP, now: STAMP) -> Bulk {
     let mut counts = Bulk {
         plain: 0,
@@ -187,7 +230,7 @@ fn reads_NAME(by_lanes: bool, rounds: usize) -> u32 {
         let at = round % PLACES;
         write[at] = write[PLACES - 1 - at];
         let counts = if by_lanes {
-            STAMP::bulk_read(&mut own, &write, &marks, 1, 9)
+            lanes_read_NAME(&mut own, &write, &marks, 1, 9)
         } else {
             plain_read_NAME(&mut own, &write, &marks, 1, 9)
         };
@@ -258,6 +301,17 @@ def instructions(program, words):
     return int(re.search(r"Collected : (\d+)", said)[1])
 
 
+def vectors(program, function):
+    """The vector instructions in a function's code, without plain moves, and how often each stands there."""
+    said = subprocess.run(["objdump", "-d", "--no-show-raw-insn", program], capture_output=True, text=True).stdout
+    bodies = re.findall(rf"^[0-9a-f]+ <[^\n]*\b{function}\b[^\n]*>:\n((?:.+\n)*)", said, re.MULTILINE)
+    if len(bodies) != 1:
+        sys.exit(f"{function}: {len(bodies)} functions of that name")
+    names = re.findall(r":\t(\w+) [^\n]*%xmm", bodies[0])
+    counts = collections.Counter(name for name in names if not name.startswith("mov") or "msk" in name)
+    return ", ".join(f"`{name}` {count}" for name, count in sorted(counts.items())) or "none"
+
+
 def main():
     with tempfile.TemporaryDirectory(prefix="lanes-") as room:
         program = build(room)
@@ -270,9 +324,11 @@ def main():
                     few, many = (instructions(program, [k, w, by_lanes, rounds]) for rounds in (10, 110))
                     costs.append((many - few) / 100)
                 print(f"| {kernel} | {width} | {costs[0]:.0f} | {costs[1]:.0f} | {costs[0] / costs[1]:.1f} |")
-        said = subprocess.run(["objdump", "-d", program], capture_output=True, text=True).stdout
-        found = sorted(set(re.findall(r"\t(p(?:min|max|cmp|add|and|or|sub|unpck|shuf)\w*)\s", said)))
-        print("\nVector instructions in the program:", " ".join(found))
+        print("\n| Kernel | Width | Vector instructions |")
+        print("|---|---|---|")
+        for kernel, holder in KERNELS.items():
+            for width in WIDTHS:
+                print(f"| {kernel} | {width} | {vectors(program, f'{holder}_{width}')} |")
 
 
 main()
