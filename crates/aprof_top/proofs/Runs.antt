@@ -163,7 +163,7 @@ module _ (options : RunOptions) (loaded : Loaded) (accepted : first_refusal load
 
   -- it came to its end, its files are stored, and its statistics are put
   module _ (begins : setup_refusal image (arguments options.guest) ≡ None) (whole : after ≡ with_output seen.moves before) (new : FilesState) (err : SinkState) where
-    outcome : Outcome
+    abbrev outcome : Outcome
     outcome = run_outcome options image seen
 
     put : PutsOutput outcome (outside files before.out before.err) (outside new after.out after.err)

@@ -30,6 +30,8 @@ use Rattle.aprof_top.specs.Outcome.{ByImage, Follows, IsRun, Outcome, Stage, beg
 use Rattle.aprof_top.specs.Outcome.Stage.{Complete, Loading, PastLimit}
 use Rattle.aprof_top.specs.Report.{report_of}
 use Rattle.aprof_top.specs.Run.{first_state, observed_from, run_of}
+use Rattle.stamps.specs.declared.width.StampBits.{StampBits}
+use Rattle.stamps.specs.declared.width.StampBits.TheVariants.{B8, B16, B32}
 use Rattle.stamps.specs.Widths.{greatest}
 use Rattle.aprof_top.specs.Schedules.{Reading}
 use Rattle.aprof_top.specs.Schedules.Reading.{BadLine, Turns}
@@ -188,9 +190,14 @@ module _ (replays : ReplaysProfiled) (entries : EveryRunRecordsEntries) (options
   abbrev seen : Profiled
   seen = run_of options.bits options.guest loaded turns
 
+  first_fits : (bits : StampBits) (entry : ℕ) → is_within (greatest bits) (first_past entry) ≡ true
+  first_fits B8 entry = refl
+  first_fits B16 entry = refl
+  first_fits B32 entry = refl
+
   same_seen : IsNoMismatch seen.finish → run_of options.bits (under_schedule options.guest path) again (recording seen.moves) ≡ seen
   unfolding observed_from first_state
-  same_seen no_mismatch = replays (is_within (greatest options.bits)) (first_past (image_of loaded.image).entry) options.guest.quantum options.guest.quantum options.guest.budget turns (first_state options.guest loaded) (within_closed (greatest options.bits)) refl no_mismatch
+  same_seen no_mismatch = replays (is_within (greatest options.bits)) (first_past (image_of loaded.image).entry) options.guest.quantum options.guest.quantum options.guest.budget turns (first_state options.guest loaded) (within_closed (greatest options.bits)) (first_fits options.bits (image_of loaded.image).entry) no_mismatch
 
   are_entries : options.guest.budget ≤ RUN_STEPS → AllByRecursion IsEntry (recording seen.moves)
   unfolding observed_from first_state

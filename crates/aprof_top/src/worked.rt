@@ -1,8 +1,8 @@
 //! Worked guests: how each is run, and what it leaves.
 use crate::worked_code::{
-    BREAK, DEADLOCK, ENDLESS, EXIT, FAILED_STORE, FIRST_A_WRITE, FOREIGN_WRITE, ILLEGAL,
-    INPUT_FILE, KERNEL_FILLS, OWN_WRITE, PARTIAL_LOADS, READ_BY_CALLEE, READ_BY_CALLER,
-    REPEATED_READ, THREADED_PROGRAM, TWO_THREADS, UNKNOWN_CALL, UNMATCHED_RETURN,
+    BREAK, DEADLOCK, DEEPER_RECURSION, ENDLESS, EXIT, FAILED_STORE, FIRST_A_WRITE, FOREIGN_WRITE, ILLEGAL,
+    INPUT_FILE, KERNEL_FILLS, MANY_CALLS, OWN_WRITE, PARTIAL_LOADS, READ_BY_CALLEE, READ_BY_CALLER,
+    RECURSION, REPEATED_READ, THREADED_PROGRAM, TWO_THREADS, UNKNOWN_CALL, UNMATCHED_RETURN,
 };
 use crate::worked_images::{
     FILE_HEADER, FLAGGED_FILE_HEADER, NAMED_FILE_HEADER, NAMED_SEGMENT, SEGMENT, SYMBOLS,
@@ -416,6 +416,60 @@ pub(crate) const IMAGES: &[Guest] = &[
         left: Left {
             status: 3,
             err: "aprof: image 15\n",
+            ..NOTHING
+        },
+        ..PLAIN
+    },
+];
+
+/// What stamps of 8 bits can tell apart, and how often they are renumbered.
+pub(crate) const STAMPS: &[Guest] = &[
+    Guest {
+        name: "as deep as 8 bits allow",
+        options: &["--stamps", "8"],
+        code: RECURSION,
+        left: Left {
+            report: Some(
+                "aprof 2\nend exit 0\nsteps 668\nopen 0\nroutine 00010054 -\n0 1 668 668 668 0 0 0 0\nroutine 00010068 -\n0 83 7 663 27805 0 0 0 0\ndone 2\n",
+            ),
+            ..NOTHING
+        },
+        ..PLAIN
+    },
+    Guest {
+        name: "a call deeper",
+        options: &["--stats", "--stamps", "8"],
+        code: DEEPER_RECURSION,
+        left: Left {
+            status: 8,
+            err: "aprof: renumberings 0\naprof: too deep\n",
+            report: Some("aprof 2\nend deep\nsteps 417\nopen 84\ndone 0\n"),
+            ..NOTHING
+        },
+        ..PLAIN
+    },
+    Guest {
+        name: "renumbered at 8 bits",
+        options: &["--stamps", "8", "--stats"],
+        code: MANY_CALLS,
+        left: Left {
+            err: "aprof: renumberings 39\n",
+            report: Some(
+                "aprof 2\nend exit 0\nsteps 40004\nopen 0\nroutine 00010054 -\n0 1 40004 40004 40004 0 0 0 0\nroutine 00010070 -\n0 10000 1 1 10000 0 0 0 0\ndone 2\n",
+            ),
+            ..NOTHING
+        },
+        ..PLAIN
+    },
+    Guest {
+        name: "not renumbered at 16 bits",
+        options: &["--stamps", "16", "--stats"],
+        code: MANY_CALLS,
+        left: Left {
+            err: "aprof: renumberings 0\n",
+            report: Some(
+                "aprof 2\nend exit 0\nsteps 40004\nopen 0\nroutine 00010054 -\n0 1 40004 40004 40004 0 0 0 0\nroutine 00010070 -\n0 10000 1 1 10000 0 0 0 0\ndone 2\n",
+            ),
             ..NOTHING
         },
         ..PLAIN

@@ -347,3 +347,49 @@ pub(crate) const OUTPUTS_IN_TURNS: &[u32] = &[
     0x0a74_756f, // "out\n"
     0x0a72_7265, // "err\n"
 ];
+
+/// A routine that calls itself, 83 deep with its first call.
+pub(crate) const RECURSION: &[u32] = &[
+    0x0530_0513, // addi x10,x0,83
+    0x0100_00ef, // jal x1,f
+    0x0000_0513, // addi x10,x0,0
+    0x05d0_0893, // addi x17,x0,93
+    0x0000_0073, // ecall
+    0xff01_0113, // f: addi x2,x2,-16
+    0x0011_2023, // sw x1,0(x2)
+    0xfff5_0513, // addi x10,x10,-1
+    0x0005_0463, // beq x10,x0,out
+    0xff1f_f0ef, // jal x1,f
+    0x0001_2083, // out: lw x1,0(x2)
+    0x0101_0113, // addi x2,x2,16
+    0x0000_8067, // jalr x0,0(x1)
+];
+
+/// One call more.
+pub(crate) const DEEPER_RECURSION: &[u32] = &[
+    0x0540_0513, // addi x10,x0,84
+    0x0100_00ef, // jal x1,f
+    0x0000_0513, // addi x10,x0,0
+    0x05d0_0893, // addi x17,x0,93
+    0x0000_0073, // ecall
+    0xff01_0113, // f: addi x2,x2,-16
+    0x0011_2023, // sw x1,0(x2)
+    0xfff5_0513, // addi x10,x10,-1
+    0x0005_0463, // beq x10,x0,out
+    0xff1f_f0ef, // jal x1,f
+    0x0001_2083, // out: lw x1,0(x2)
+    0x0101_0113, // addi x2,x2,16
+    0x0000_8067, // jalr x0,0(x1)
+];
+
+/// A routine is called 10000 times, one call after the other.
+pub(crate) const MANY_CALLS: &[u32] = &[
+    0x0000_2437, // lui x8,2
+    0x7104_0413, // addi x8,x8,1808
+    0x0140_00ef, // loop: jal x1,f
+    0xfff4_0413, // addi x8,x8,-1
+    0xfe04_1ce3, // bne x8,x0,loop
+    0x05d0_0893, // addi x17,x0,93
+    0x0000_0073, // ecall
+    0x0000_8067, // f: jalr x0,0(x1)
+];

@@ -1,4 +1,7 @@
 //! A routine that reads a word twice, and its caller.
+ghost use Rattle.std.specs.Prelude.{◌≡◌, ◌≤◌};
+ghost use Rattle.trace_model.specs.declared.event_kinds.Event.TheVariants.{Read};
+
 use crate::{Profile, Totals};
 use cost_points::{Point, Split};
 use guest_words::{Tid, Word};
@@ -7,16 +10,22 @@ use std::alloc::{AllocError, Global};
 use std::test::Fail;
 use trace_model::{Event, Observed, feed};
 
+// A read of one word.
+fn read(tid: Tid) -> Event
+    ensures { result ≡ Read tid 16640 1 }
+{
+    Event::Read {
+        tid,
+        first: Word::of(0x10400),
+        count: 1,
+    }
+}
+
 // What the trace comes to.
 fn totals_of<S: Lanes>(alloc: Global) -> Result<Totals, AllocError>
     requires { 3 ≤ S.MAX }
 {
     let t = Tid::FIRST;
-    let read = Event::Read {
-        tid: t,
-        first: Word::of(0x10400),
-        count: 1,
-    };
     let trace = [
         Event::Start { tid: t, entry: 16 },
         Event::Step { tid: t },
@@ -26,9 +35,9 @@ fn totals_of<S: Lanes>(alloc: Global) -> Result<Totals, AllocError>
             back: 20,
         },
         Event::Step { tid: t },
-        read,
+        read(t),
         Event::Step { tid: t },
-        read,
+        read(t),
         Event::Step { tid: t },
         Event::Ret { tid: t, target: 20 },
     ];

@@ -1,6 +1,6 @@
 use Rattle.std.proofs.Common.{◌≡◌, ◌+◌, ◌*◌, take}
 use Rattle.std.specs.List.{sum_by}
-use Rattle.aprof_top.proofs.summary.Totals.with_points.Given as goal
+use Rattle.aprof_top.proofs.summary.Sums.with_points.Given as goal
 
 abbrev pub invariant-loop-point : goal.invariant-loop-point
 invariant-loop-point l =
