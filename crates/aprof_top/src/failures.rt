@@ -29,7 +29,7 @@ pub(crate) const NOWHERE: Failing = Failing {
 const WHOLE: Left = Left {
     status: 0,
     out: "out\n",
-    err: "err\n",
+    err: "err\naprof: renumberings 0\n",
     report: Some(
         "aprof 2\nend exit 0\nsteps 12\nopen 0\nroutine 00010054 -\n2 1 12 12 12 2 0 0 2\ndone 1\n",
     ),
@@ -37,7 +37,7 @@ const WHOLE: Left = Left {
 };
 
 /// All loads come before the first put, in order, the puts before the first store, and the recording is stored before the
-/// report. A put that fails gets half of its text through.
+/// report; then the statistics are put. A put that fails gets half of its text through.
 pub(crate) const FAILURES: &[Failure] = &[
     Failure {
         name: "nothing",
@@ -118,6 +118,15 @@ pub(crate) const FAILURES: &[Failure] = &[
             status: 4,
             err: "err\naprof: cannot write\n",
             report: None,
+            ..WHOLE
+        },
+    },
+    Failure {
+        name: "the put of the statistics",
+        failing: Failing { err: 1, ..NOWHERE },
+        left: Left {
+            status: 4,
+            err: "err\naprof: renu",
             ..WHOLE
         },
     },

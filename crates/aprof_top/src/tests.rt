@@ -2,7 +2,8 @@
 use crate::aprof;
 use crate::failures::{FAILED_PUTS, FAILURES, Failing, NOWHERE};
 use crate::worked::{
-    CALLS, ENDS, Guest, IMAGES, Left, NOTHING, PLAIN, ROUTINES, SCHEDULES, THREADED, THREADS,
+    CALLS, ENDS, Guest, IMAGES, Left, NOTHING, PLAIN, ROUTINES, SCHEDULES, STAMPS, THREADED,
+    THREADS,
 };
 use crate::worked_code::{BOTH_OUTPUTS, OUTPUTS_IN_TURNS};
 use host_io::{MemoryFiles, MemorySink};
@@ -136,6 +137,12 @@ fn images_are_refused(rt: HostRuntime) -> Result<(), Fail> {
     Ok(())
 }
 
+#[test]
+fn stamps_of_each_width_give_one_report(rt: HostRuntime) -> Result<(), Fail> {
+    run_guests(&rt, rt.alloc(), STAMPS)?;
+    Ok(())
+}
+
 // The threaded program runs again, by just what its first run stored.
 #[test]
 fn a_run_under_its_own_recording_is_the_same(rt: HostRuntime) -> Result<(), Fail> {
@@ -165,7 +172,7 @@ fn command_lines_are_refused(rt: HostRuntime) -> Result<(), Fail> {
         ("no image", &["aprof", "run", "-o", "r"]),
         ("no report", &["aprof", "run", "img"]),
         (
-            "an unknown option",
+            "stamps of no width",
             &["aprof", "run", "--stamps", "7", "-o", "r", "img"],
         ),
         (
@@ -206,7 +213,15 @@ fn an_image_past_the_limit_is_refused(rt: HostRuntime) -> Result<(), Fail> {
 fn each_failure_of_the_outside_is_told(rt: HostRuntime) -> Result<(), Fail> {
     let guest = Guest {
         code: BOTH_OUTPUTS,
-        options: &["--schedule", "c", "--stdin", "s", "--record", "k"],
+        options: &[
+            "--schedule",
+            "c",
+            "--stdin",
+            "s",
+            "--record",
+            "k",
+            "--stats",
+        ],
         words: &["in.txt", "=plain", "in.txt"],
         schedule: "1 90\n",
         ..PLAIN

@@ -143,7 +143,7 @@ impl<S: Lanes> Profiler<S> {
     {
         cover(&mut self.writes, &mut self.marks, first, count)?;
         advance(
-            true,
+            true, // at each fill
             &mut self.threads,
             &mut self.writes,
             &mut self.counter,
