@@ -64,6 +64,9 @@ impl<S: Lanes> Profile<S> {
         ensures stands { (past : List Event) → IsProfileOf S.MAX self.old past → IsProfileOf S.MAX self.new past }
         ensures settled { OnOk result (self.new.ended ≡ []) }
     {
+        if self.ended.is_empty() {
+            return Ok(());
+        }
         add_ended(&mut self.points, &self.ended, &mut self.added)?;
         self.ended.clear();
         self.added = 0;

@@ -9,6 +9,7 @@ use stamp_lanes::Lanes;
 use stamp_renumber::{Threads, tick};
 
 /// Ticks, where the counter is to tick, and counts how often the stamps were renumbered. It takes no memory.
+#[inline(always)]
 pub(crate) fn advance<S: Lanes>(
     ticks: bool,
     threads: &mut Threads<S>,
