@@ -1,0 +1,10 @@
+//! The order of events: whether an event may come next after those so far, told from the live threads, the thread of the last
+//! step, the greatest thread number and the weight, and not from the events.
+#![tactic(auto)]
+
+mod order;
+
+pub use order::Order;
+
+#[cfg(test)]
+mod tests;
