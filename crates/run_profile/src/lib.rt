@@ -9,6 +9,3 @@ mod totals;
 
 pub use profile::Profile;
 pub use totals::Totals;
-
-#[cfg(test)]
-mod tests;
