@@ -8,6 +8,7 @@ ghost use Rattle.std.specs.List.{position};
 use crate::headers::{FileHeader, SectionHeader, half_at, word_at};
 use guest_words::limits::NAME_BYTES;
 use guest_words::{Addr, Name, NameError};
+use memchr::memchr;
 use std::alloc::{AllocError, Global};
 
 /// The type of symbols of routines.
@@ -40,7 +41,7 @@ pub(crate) struct Symbol {
 fn first_zero(bytes: &[u8]) -> Option<usize>
     ensures { result ≡ position is_zero bytes.now }
 {
-    bytes.iter().position(|b| *b == 0)
+    memchr(0, bytes)
 }
 
 /// The name of these bytes, if they are one.
