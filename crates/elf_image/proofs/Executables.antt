@@ -1,15 +1,16 @@
 -- The executable of a file, from its parts.
-use Rattle.std.proofs.Common.{◌≡◌, ℕ, ◌^◌, ◌<◌, ◌≤◌, List, eqb, map, None, refl, ap, sym, ◌∙◌, arith}
-use Rattle.std.specs.List.{All, AllPairs, find}
+use Rattle.std.proofs.Common.{◌≡◌, ℕ, ◌^◌, ◌<◌, ◌≤◌, List, map, None, refl, ap, sym, ◌∙◌, arith}
+use Rattle.std.specs.List.{All, AllPairs}
 use Rattle.std.proofs.lemmas.List.Elements.{All-weaker}
 use Rattle.elf_image.specs.declared.headers.FileHeader.{FileHeader}
 use Rattle.elf_image.specs.declared.symbols.Symbol.{Symbol}
 use Rattle.elf_image.specs.Fields.{IsFilled}
+use Rattle.elf_image.specs.FirstSymbols.{AreFirst}
 use Rattle.elf_image.specs.Headers.{file_header}
 use Rattle.elf_image.specs.Image.{Segment, page_count}
 use Rattle.elf_image.specs.Reading.{image_of, names_of}
 use Rattle.elf_image.specs.Segments.{header_place, segments_of}
-use Rattle.elf_image.specs.Symbols.{symbol_of, symbols}
+use Rattle.elf_image.specs.Symbols.{symbols}
 use Rattle.elf_image.specs.Tests.{first_of, layout_tests, segment_tests}
 use Rattle.elf_image.proofs.NameLists.{named, names_are}
 use Rattle.elf_image.proofs.Sound.{sound_from}
@@ -35,10 +36,8 @@ pub image_is : (file : List ℕ) (header : FileHeader) (place : ℕ) (segments :
 image_is file header place segments names whole placed loaded listed = rw (whole, placed, loaded, listed) refl
 
 -- its names are those of the file
-pub names_from : (file : List ℕ) (all first : List Symbol) → all ≡ symbols file → AllPairs (λ s t. s.value < t.value) first
-    → ((at : ℕ) → find (λ s. eqb s.value at) first ≡ symbol_of all at) → ((top : ℕ) → All (λ s. s.value ≤ top) all → All (λ s. s.value ≤ top) first)
-    → All (λ s. s.value < 2 ^ 32) (symbols file) → map named first ≡ names_of file
-names_from file all first whole rising found bounded fit =
-    let low : All (λ (s : Symbol). s.value ≤ 0xffffffff) all = rw whole (All-weaker (λ (s : Symbol). s.value < 2 ^ 32) (λ (s : Symbol). s.value ≤ 0xffffffff) (λ s h. omega arith) (symbols file) fit) in
-    names_are file first rising (λ at. found at ∙ ap (λ (ss : List Symbol). symbol_of ss at) whole)
-    (All-weaker (λ (s : Symbol). s.value ≤ 0xffffffff) (λ (s : Symbol). s.value < 2 ^ 32) (λ s h. omega arith) first (bounded 0xffffffff low))
+pub names_from : (file : List ℕ) (first : List Symbol) → AreFirst (symbols file) first → All (λ s. s.value < 2 ^ 32) (symbols file) → map named first ≡ names_of file
+names_from file first are fit =
+    let low : All (λ (s : Symbol). s.value ≤ 0xffffffff) (symbols file) = All-weaker (λ (s : Symbol). s.value < 2 ^ 32) (λ (s : Symbol). s.value ≤ 0xffffffff) (λ s h. omega arith) (symbols file) fit in
+    names_are file first are.rising are.found
+    (All-weaker (λ (s : Symbol). s.value ≤ 0xffffffff) (λ (s : Symbol). s.value < 2 ^ 32) (λ s h. omega arith) first (are.bounded 0xffffffff low))

@@ -1,7 +1,6 @@
 -- One more symbol, whose value is not below those seen.
 use Rattle.std.proofs.Common.{◌≡◌, ◌≢◌, ℕ, ◌-◌, ◌<◌, ◌≤◌, true, false, eqb, List, [], ◌∷◌, ◌++◌, length, get_or, set, filter, fold, append-nil, Option, Some, None, refl, sym, ap, subst, ◌∙◌, inl, inr, arith}
 use Rattle.std.specs.List.{All, find}
-use Rattle.std.specs.List.Sorted.{IsNonDecreasingBy}
 use Rattle.std.specs.Option.{option_or}
 use Rattle.std.proofs.lemmas.Bool.{cases_eq, cases_lt, eq-eqb, ne_eqb}
 use Rattle.std.proofs.lemmas.List.{get_or_append_left, get_or_default, get_or-set_other, get_or-set_same, length-append, length-set}
@@ -136,15 +135,6 @@ module _ (seen first : List Symbol) (s : Symbol) (before : AreFirst seen first) 
       ];
       bounded = λ top all k d inside. rw (same_values k d) (before.bounded top (front_of (λ t. t.value ≤ top) seen s all) k d (omega (arith, length-set first (length first - 1) s, inside)));
     }
-
--- in a list by rising value none of the symbols before one is above it
-pub below_next : (xs rest all : List Symbol) (x : Symbol) → xs ++ x ∷ rest ≡ all → IsNonDecreasingBy (λ s. s.value) all → All (λ s. s.value ≤ x.value) xs
-below_next xs rest all x parts rises k d inside =
-    let long : length xs < length all = omega (arith, length-append xs (x ∷ rest), ap length parts) in
-    let up : (get_or all k d).value ≤ (get_or all (length xs) d).value = rises k (length xs) d (omega arith) long in
-    let here : get_or all k d ≡ get_or xs k d = ap (λ (ts : List Symbol). get_or ts k d) (sym parts) ∙ get_or_append_left xs (x ∷ rest) d k inside in
-    let next : get_or all (length xs) d ≡ x = ap (λ (ts : List Symbol). get_or ts (length xs) d) (sym parts) ∙ get_or-append_seam xs x rest d in
-    rw (here, next) at up
 
 -- the first at a value depends on the symbols at it alone
 pub symbol_of-same : (xs ys : List Symbol) (at : ℕ) → filter (λ s. eqb s.value at) xs ≡ filter (λ s. eqb s.value at) ys → symbol_of xs at ≡ symbol_of ys at

@@ -1,3 +1,4 @@
+pub mod Entries
 pub mod Executables
 pub mod FirstSymbols
 pub mod FirstTests

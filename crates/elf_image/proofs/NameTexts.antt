@@ -1,11 +1,12 @@
 -- The name at an offset of a string table, by the place of the first zero byte within the longest name.
-use Rattle.std.proofs.Common.{◌≡◌, ℕ, ◌+◌, ◌-◌, ◌<◌, ◌≤◌, min, Bool, true, false, not, ◌&&◌, leb, List, length, get_or, take, drop, Some, None, if◌then◌else◌, refl, sym, ap, ◌∙◌, inl, inr, arith}
+use Rattle.std.proofs.Common.{◌≡◌, ℕ, ◌+◌, ◌-◌, ◌<◌, ◌≤◌, min, Bool, true, false, not, ◌&&◌, leb, List, length, get_or, take, drop, Option, Some, None, if◌then◌else◌, refl, sym, ap, ◌∙◌, inl, inr, arith}
 use Rattle.std.specs.List.{before_first, list_all, list_any, position, position_or_len}
-use Rattle.std.proofs.lemmas.Bool.{and_left, and_right, cases_lt, lt-leb, lt-ltb}
+use Rattle.std.proofs.lemmas.Bool.{and_left, and_right, cases_lt, le-ltb, lt-leb, lt-ltb}
 use Rattle.std.proofs.lemmas.List.{drop_all, get_or-take, get_or_default, length-drop, length-take, take-take}
 use Rattle.std.proofs.lemmas.List.Folds.{length-prefix_len, list_any_at, list_any_none}
 use Rattle.std.proofs.lemmas.List.Quantifiers.{position-Some}
 use Rattle.std.proofs.lemmas.List.Sums.{fails_before_first, passes_at_first, position_or_len_is}
+use Rattle.memchr.specs.Find.{IsFirstByte, is_byte}
 use Rattle.guest_words.specs.declared.limits.TheConstants.{NAME_BYTES}
 use Rattle.guest_words.specs.Names.{is_dash, is_name, is_visible}
 use Rattle.elf_image.specs.Symbols.{is_zero, name_in}
@@ -25,6 +26,23 @@ none_passes p xs none = elim (cases_lt (position_or_len p xs) (length xs)) as (�
 stays_none : {X : Type 0} (test : Bool) (x : X) → test ≡ false → (if test then Some x else None) ≡ None
 stays_none true x h = cc
 stays_none false x h = refl
+
+-- what a search for a zero byte finds is the place of the first
+fails : (test : Bool) → (test ≡ true → ⊥) → test ≡ false
+fails true h = absurd (h refl)
+fails false h = refl
+
+found_if : (test : Bool) (k : ℕ) → test ≡ true → Some k ≡ (if test then Some k else None)
+found_if true k h = refl
+found_if false k h = cc
+
+pub first_is : (bytes : List ℕ) (found : Option ℕ) → IsFirstByte (is_byte 0) bytes found → found ≡ position is_zero bytes
+first_is bytes None nowhere =
+    let past : position_or_len is_zero bytes ≡ length bytes = position_or_len_is is_zero bytes (length bytes) 0 (omega arith) (λ k low. fails _ (nowhere k (omega arith) low)) (λ low. absurd (omega (arith, low))) in
+    sym (stays_none _ (position_or_len is_zero bytes) (le-ltb _ _ (omega (arith, past))))
+first_is bytes (Some k) here =
+    let place : position_or_len is_zero bytes ≡ k = position_or_len_is is_zero bytes k 0 (omega (arith, here.0.high)) (λ i low. fails _ (here.0.before i (omega arith) low)) (λ _. here.1) in
+    rw place (found_if _ k (lt-ltb k (length bytes) here.0.high))
 
 module _ (strings : List ℕ) (offset n : ℕ) (inside : offset < length strings) (window : n ≡ min (length strings) (offset + NAME_BYTES + 1) - offset) where
   some_left : n ≤ length (drop offset strings)

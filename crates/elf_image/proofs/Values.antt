@@ -10,7 +10,7 @@ use Rattle.elf_image.specs.Headers.{section_header, word_at}
 use Rattle.elf_image.specs.Symbols.{is_readable, name_in, section_bytes, symbol_at, symbol_table, symbols, symbols_in}
 
 -- what holds of each value that a function gives holds of all that it gives of a list
-one_given : {Y : Type 0} (P : Y → Type 0) (o : Option Y) (ys : List Y) → IfSome o P → All P ys → All P (cons_option o ys)
+pub one_given : {Y : Type 0} (P : Y → Type 0) (o : Option Y) (ys : List Y) → IfSome o P → All P ys → All P (cons_option o ys)
 one_given P None ys h all = all
 one_given P (Some y) ys h all = All-cons P y ys h all
 

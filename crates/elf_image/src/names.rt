@@ -1,14 +1,26 @@
 //! Which symbol names an address.
-ghost use Rattle.std.specs.Prelude.{◌≡◌, ◌<◌, ◌≤◌, ◌==◌, ◌++◌, ◌∷◌, [], ℕ, List, All, AllPairs, filter, IfOk, OnOk};
-ghost use Rattle.std.specs.List.{find};
+ghost use Rattle.std.specs.Prelude.{◌≡◌, ◌<◌, ◌≤◌, ◌+◌, ◌*◌, ◌/◌, ◌==◌, ◌++◌, ◌∷◌, [], ℕ, List, All, filter, length, map, IfOk, IfSome, OnOk};
+ghost use Rattle.std.specs.List.{cons_option, range_with_len};
 ghost use Rattle.std.specs.List.Sorted.{IsNonDecreasingBy, IsPermutation};
-ghost use Rattle.elf_image.specs.FirstSymbols.{AreFirst};
-ghost use Rattle.elf_image.specs.Symbols.{goes_before, symbol_of};
+ghost use Rattle.elf_image.specs.FirstSymbols.{AreFirst, IsEntry, entry_at, symbols_of_entries};
+ghost use Rattle.elf_image.specs.Headers.{file_header, section_header};
+ghost use Rattle.elf_image.specs.Symbols.{goes_before, section_bytes, symbols, symbols_in};
 ghost use Rattle.elf_image.specs.declared.symbols.Symbol.{Symbol};
 
-use crate::symbols::Symbol;
+use crate::headers::{FileHeader, SectionHeader, word_at};
+use crate::symbols::{
+    SYMBOL_SIZE, Symbol, is_readable, section_bytes, section_header, symbol_at, symbol_table,
+};
+use guest_words::Addr;
 use std::alloc::{AllocError, Global};
 use std::cmp::Ordering;
+
+/// An entry of a symbol table: its value, and its number in the table.
+#[derive(Clone, Copy, Debug)]
+struct Entry {
+    value: Addr,
+    index: u32,
+}
 
 /// Whether a symbol goes before another at the same value.
 fn goes_before(s: &Symbol, t: &Symbol) -> bool
@@ -35,26 +47,96 @@ fn merge_symbol(first: &mut Vec<Symbol>, symbol: Symbol) -> Result<(), AllocErro
     Ok(())
 }
 
-/// The same symbols by rising value, those at one value in their order.
-fn order_by_value(symbols: &mut Vec<Symbol>) -> Result<(), AllocError>
-    ensures moved { OnOk result (IsPermutation symbols.old.items symbols.new.items) }
-    ensures rising { OnOk result (IsNonDecreasingBy (λ s. s.value) symbols.new.items) }
-    ensures same { OnOk result ((at : ℕ) → filter (λ s. s.value == at) symbols.new.items ≡ filter (λ s. s.value == at) symbols.old.items) }
+/// One more symbol, if there is one, whose value is not below those seen.
+fn merge_some(first: &mut Vec<Symbol>, symbol: Option<Symbol>) -> Result<(), AllocError>
+    ensures { (seen : List Symbol) → AreFirst seen first.old.items → IfSome symbol (λ s. All (λ t. t.value ≤ s.value) seen)
+        → OnOk result (AreFirst (seen ++ cons_option symbol []) first.new.items) }
 {
-    Ok(symbols.sort_by_key(|s| s.value)?)
+    match symbol {
+        None => Ok(()),
+        Some(symbol) => merge_symbol(first, symbol),
+    }
 }
 
-/// By rising value, the symbol that goes first at each value.
-pub(crate) fn first_symbols(alloc: Global, symbols: Vec<Symbol>) -> Result<Vec<Symbol>, AllocError>
-    ensures rising { IfOk result (λ first. AllPairs (λ s t. s.value < t.value) first.items) }
-    ensures found { IfOk result (λ first. (at : ℕ) → find (λ s. s.value == at) first.items ≡ symbol_of symbols.items at) }
-    ensures bounded { IfOk result (λ first. (top : ℕ) → All (λ s. s.value ≤ top) symbols.items → All (λ s. s.value ≤ top) first.items) }
+/// All entries of a symbol table.
+fn entries(alloc: Global, file: &[u8], table: &SectionHeader) -> Result<Vec<Entry>, AllocError>
+    requires { table.now.sh_offset + table.now.sh_size ≤ length file.now }
+    ensures { IfOk result (λ v. v.items ≡ map (entry_at file.now table.now) (range_with_len 0 (table.now.sh_size / 16))) }
 {
-    let mut ordered = symbols;
-    order_by_value(&mut ordered)?;
+    let first = table.sh_offset as usize;
+    let count = table.sh_size / SYMBOL_SIZE as u32;
+    let mut entries = Vec::with_capacity(alloc, count as usize)?;
+    for index in 0..count {
+        let value = word_at(file, first + SYMBOL_SIZE * index as usize + 4);
+        entries.push(Entry { value, index })?;
+    }
+    Ok(entries)
+}
+
+/// The same entries by rising value, those at one value in their order.
+fn order_by_value(entries: &mut Vec<Entry>) -> Result<(), AllocError>
+    ensures moved { OnOk result (IsPermutation entries.old.items entries.new.items) }
+    ensures rising { OnOk result (IsNonDecreasingBy (λ e. e.value) entries.new.items) }
+    ensures same { OnOk result ((at : ℕ) → filter (λ e. e.value == at) entries.new.items ≡ filter (λ e. e.value == at) entries.old.items) }
+{
+    Ok(entries.sort_by_key(|e| e.value)?)
+}
+
+/// The symbol that goes first at each value, of entries by rising value. A name is made of one entry at a time, and kept
+/// for the best symbol of a value alone.
+fn first_of_entries(
+    alloc: Global,
+    file: &[u8],
+    table: &SectionHeader,
+    strings: &[u8],
+    ordered: &[Entry],
+) -> Result<Vec<Symbol>, AllocError>
+    requires table { table.now.sh_offset + table.now.sh_size ≤ length file.now }
+    requires entries { All (IsEntry file.now table.now) ordered.now }
+    requires rising { IsNonDecreasingBy (λ e. e.value) ordered.now }
+    ensures { IfOk result (λ first. AreFirst (symbols_of_entries file.now strings.now table.now ordered.now) first.items) }
+{
+    let offset = table.sh_offset as usize;
     let mut first = Vec::new(alloc);
-    for symbol in ordered {
-        merge_symbol(&mut first, symbol)?;
+    for entry in ordered {
+        let at = offset + SYMBOL_SIZE * entry.index as usize;
+        let symbol = symbol_at(alloc, file, strings, at)?;
+        merge_some(&mut first, symbol)?;
     }
     Ok(first)
+}
+
+/// The symbol that goes first at each value of a table.
+fn first_in(
+    alloc: Global,
+    file: &[u8],
+    table: &SectionHeader,
+    strings: &[u8],
+) -> Result<Vec<Symbol>, AllocError>
+    requires table { table.now.sh_offset + table.now.sh_size ≤ length file.now }
+    requires strings { strings.now ≡ section_bytes file.now (section_header file.now table.now.sh_link) }
+    ensures { IfOk result (λ first. AreFirst (symbols_in file.now table.now) first.items) }
+{
+    let mut ordered = entries(alloc, file, table)?;
+    order_by_value(&mut ordered)?;
+    first_of_entries(alloc, file, table, strings, &ordered)
+}
+
+/// The symbol that goes first at each value: none where the first symbol table can't be read.
+pub(crate) fn first_symbols(
+    alloc: Global,
+    file: &[u8],
+    header: &FileHeader,
+) -> Result<Vec<Symbol>, AllocError>
+    requires { header.now ≡ file_header file.now }
+    ensures { IfOk result (λ first. AreFirst (symbols file.now) first.items) }
+{
+    let Some(table) = symbol_table(file, header) else {
+        return Ok(Vec::new(alloc));
+    };
+    if !is_readable(file, header, &table) {
+        return Ok(Vec::new(alloc));
+    }
+    let strings = section_header(file, header, table.sh_link);
+    first_in(alloc, file, &table, section_bytes(file, &strings))
 }

@@ -8,7 +8,6 @@ use crate::header_checks::check_header;
 use crate::loading::load;
 use crate::names::first_symbols;
 use crate::segments::{check_segments, header_place};
-use crate::symbols::symbols;
 use crate::{ElfError, Image};
 use std::alloc::Global;
 
@@ -24,7 +23,7 @@ pub fn read_image(alloc: Global, file: &[u8]) -> Result<Image, ElfError>
     let header = check_header(file)?;
     let headers = check_segments(alloc, file, &header)?;
     let (segments, pages) = load(alloc, file, &header, &headers)?;
-    let symbols = first_symbols(alloc, symbols(alloc, file, &header)?)?;
+    let symbols = first_symbols(alloc, file, &header)?;
     Ok(Image::new(
         header.e_entry,
         header_place(file, &header, &headers),

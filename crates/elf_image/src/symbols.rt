@@ -1,13 +1,14 @@
 //! The symbols of a file that name routines.
-ghost use Rattle.std.specs.Prelude.{◌≡◌, ◌<◌, ◌≤◌, ◌+◌, ◌++◌, [], true, Some, None, length, if◌then◌else◌, IfOk, OnOk};
+ghost use Rattle.std.specs.Prelude.{◌≡◌, ◌<◌, ◌≤◌, ◌+◌, true, Some, None, length, if◌then◌else◌, IfOk};
 ghost use Rattle.guest_words.specs.Names.{is_name};
-ghost use Rattle.elf_image.specs.Symbols.{has_sections, is_in_file, is_readable, is_zero, name_in, rank_of, section_bytes, symbol_at, symbol_table, symbols, symbols_in};
+ghost use Rattle.elf_image.specs.Symbols.{has_sections, is_in_file, is_readable, is_zero, name_in, rank_of, section_bytes, symbol_at, symbol_table};
 ghost use Rattle.elf_image.specs.Headers.{file_header, section_header};
-ghost use Rattle.std.specs.List.{cons_option, position};
+ghost use Rattle.std.specs.List.{position};
 
 use crate::headers::{FileHeader, SectionHeader, half_at, word_at};
 use guest_words::limits::NAME_BYTES;
 use guest_words::{Addr, Name, NameError};
+use memchr::memchr;
 use std::alloc::{AllocError, Global};
 
 /// The type of symbols of routines.
@@ -26,7 +27,7 @@ const SHT_STRTAB: u32 = 3;
 const SECTION_HEADER_SIZE: usize = 40;
 
 /// The size of a symbol (Elf32_Sym).
-const SYMBOL_SIZE: usize = 16;
+pub(crate) const SYMBOL_SIZE: usize = 16;
 
 /// A symbol that counts: its value, the rank of its binding (the lowest goes first), and its name.
 #[derive(Drop)]
@@ -40,7 +41,7 @@ pub(crate) struct Symbol {
 fn first_zero(bytes: &[u8]) -> Option<usize>
     ensures { result ≡ position is_zero bytes.now }
 {
-    bytes.iter().position(|b| *b == 0)
+    memchr(0, bytes)
 }
 
 /// The name of these bytes, if they are one.
@@ -84,7 +85,7 @@ fn rank_of(binding: u8) -> u8
 
 /// The symbol (Elf32_Sym) at a place, where it counts.
 #[tactic(auto, unfolding(crate::specs::Symbols::symbol_at))]
-fn symbol_at(
+pub(crate) fn symbol_at(
     alloc: Global,
     file: &[u8],
     strings: &[u8],
@@ -108,39 +109,8 @@ fn symbol_at(
     }
 }
 
-/// One more symbol, if there is one.
-fn push_some(symbols: &mut Vec<Symbol>, symbol: Option<Symbol>) -> Result<(), AllocError>
-    ensures { OnOk result (symbols.new.items ≡ symbols.old.items ++ cons_option symbol []) }
-{
-    if let Some(symbol) = symbol {
-        symbols.push(symbol)?;
-    }
-    Ok(())
-}
-
-/// The symbols of a table that count.
-#[tactic(auto, unfolding(crate::specs::Symbols::symbols_in))]
-fn symbols_in(
-    alloc: Global,
-    file: &[u8],
-    table: &SectionHeader,
-    strings: &[u8],
-) -> Result<Vec<Symbol>, AllocError>
-    requires table { table.now.sh_offset + table.now.sh_size ≤ length file.now }
-    requires strings { strings.now ≡ section_bytes file.now (section_header file.now table.now.sh_link) }
-    ensures { IfOk result (λ v. v.items ≡ symbols_in file.now table.now) }
-{
-    let first = table.sh_offset as usize;
-    let mut symbols = Vec::new(alloc);
-    for i in 0..table.sh_size as usize / SYMBOL_SIZE {
-        let symbol = symbol_at(alloc, file, strings, first + SYMBOL_SIZE * i)?;
-        push_some(&mut symbols, symbol)?;
-    }
-    Ok(symbols)
-}
-
 /// The bytes of a section.
-fn section_bytes<'a>(file: &'a [u8], section: &SectionHeader) -> &'a [u8]
+pub(crate) fn section_bytes<'a>(file: &'a [u8], section: &SectionHeader) -> &'a [u8]
     requires { section.now.sh_offset + section.now.sh_size ≤ length file.now }
     ensures { result.now ≡ section_bytes file.now section.now }
 {
@@ -149,7 +119,7 @@ fn section_bytes<'a>(file: &'a [u8], section: &SectionHeader) -> &'a [u8]
 }
 
 /// The section header with this index.
-fn section_header(file: &[u8], header: &FileHeader, i: u32) -> SectionHeader
+pub(crate) fn section_header(file: &[u8], header: &FileHeader, i: u32) -> SectionHeader
     requires header { header.now ≡ file_header file.now }
     requires sections { has_sections file.now ≡ true }
     requires index { i < header.now.e_shnum }
@@ -171,7 +141,7 @@ fn has_sections(file: &[u8], header: &FileHeader) -> bool
 }
 
 /// The first symbol table.
-fn symbol_table(file: &[u8], header: &FileHeader) -> Option<SectionHeader>
+pub(crate) fn symbol_table(file: &[u8], header: &FileHeader) -> Option<SectionHeader>
     requires { header.now ≡ file_header file.now }
     ensures { result ≡ symbol_table file.now }
 {
@@ -195,7 +165,7 @@ fn is_in_file(file: &[u8], section: &SectionHeader) -> bool
 }
 
 /// Whether a symbol table can be read.
-fn is_readable(file: &[u8], header: &FileHeader, table: &SectionHeader) -> bool
+pub(crate) fn is_readable(file: &[u8], header: &FileHeader, table: &SectionHeader) -> bool
     requires header { header.now ≡ file_header file.now }
     requires sections { has_sections file.now ≡ true }
     ensures { result ≡ is_readable file.now table.now }
@@ -205,24 +175,4 @@ fn is_readable(file: &[u8], header: &FileHeader, table: &SectionHeader) -> bool
     }
     let strings = section_header(file, header, table.sh_link);
     strings.sh_type == SHT_STRTAB && is_in_file(file, table) && is_in_file(file, &strings)
-}
-
-/// The symbols of a file that count: none where its first symbol table can't be read.
-#[tactic(auto, unfolding(crate::specs::Symbols::symbols))]
-pub(crate) fn symbols(
-    alloc: Global,
-    file: &[u8],
-    header: &FileHeader,
-) -> Result<Vec<Symbol>, AllocError>
-    requires { header.now ≡ file_header file.now }
-    ensures { IfOk result (λ v. v.items ≡ symbols file.now) }
-{
-    let Some(table) = symbol_table(file, header) else {
-        return Ok(Vec::new(alloc));
-    };
-    if !is_readable(file, header, &table) {
-        return Ok(Vec::new(alloc));
-    }
-    let strings = section_header(file, header, table.sh_link);
-    symbols_in(alloc, file, &table, section_bytes(file, &strings))
 }

@@ -121,18 +121,28 @@ fn each_refusal_has_its_number(rt: HostRuntime) -> Result<(), Fail> {
 
 #[test]
 fn the_plain_file_is_one_segment(rt: HostRuntime) -> Result<(), Fail> {
-    let image = read_image(rt.alloc(), &PLAIN)?;
-    assert_eq!(rt; image.entry(), 0x10054);
-    assert_eq!(rt; image.header_place(), 0x10034);
-    assert_eq!(rt; image.header_count(), 1);
-    assert_eq!(rt; image.page_count(), 1);
-    assert_eq!(rt; image.segments().len(), 1);
-    for segment in image.segments() {
-        assert_eq!(rt; (segment.place, segment.size), (0x10000, 96));
-        assert_eq!(rt; segment.bytes.as_slice(), PLAIN.as_slice());
-        assert!(rt; segment.rights.read && segment.rights.write && segment.rights.exec);
+    let alloc = rt.alloc();
+    // The file as it is, and with sections that lie past its end.
+    let edits: [Edits; 2] = [
+        &[],
+        &[(32, 0xff), (33, 0xff), (34, 0xff), (35, 0xff), (48, 3)],
+    ];
+    for bytes in edits {
+        let mut file = Vec::from_slice(alloc, &PLAIN)?;
+        edit(&mut file, bytes);
+        let image = read_image(alloc, &file)?;
+        assert_eq!(rt; image.entry(), 0x10054);
+        assert_eq!(rt; image.header_place(), 0x10034);
+        assert_eq!(rt; image.header_count(), 1);
+        assert_eq!(rt; image.page_count(), 1);
+        assert_eq!(rt; image.segments().len(), 1);
+        for segment in image.segments() {
+            assert_eq!(rt; (segment.place, segment.size), (0x10000, 96));
+            assert_eq!(rt; segment.bytes.as_slice(), file.as_slice());
+            assert!(rt; segment.rights.read && segment.rights.write && segment.rights.exec);
+        }
+        assert!(rt; image.name_of(0x10054).is_none());
     }
-    assert!(rt; image.name_of(0x10054).is_none());
     Ok(())
 }
 
