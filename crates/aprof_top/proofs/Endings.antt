@@ -22,7 +22,7 @@ module _ (words : List (List ℕ)) (status : ℕ) (before after : Outside) where
       by (inl tells) = tells.status_is
       by (inr wants) = absurd (had_memory wants.status_is)
 
-  answers : (end : End) → EndsBy words end status before after → IsWritten status → (verdict : Verdict) × EndsBy words (Decided verdict) status before after
+  pub answers : (end : End) → EndsBy words end status before after → IsWritten status → (verdict : Verdict) × EndsBy words (Decided verdict) status before after
   answers (Decided verdict) ends written = (verdict, ends)
   answers (CannotRead path) ends written = absurd (written.could_read (own (CannotRead path) ends written.had_memory))
   answers CannotWrite ends written = absurd (written.could_write (own CannotWrite ends written.had_memory))
@@ -30,7 +30,7 @@ module _ (words : List (List ℕ)) (status : ℕ) (before after : Outside) where
   answers OutOfMemory ends written = absurd (written.had_memory (own OutOfMemory ends written.had_memory))
 
   -- the status is this one, and not that of want of memory
-  is_this : (end : End) (this : ℕ) → EndsBy words end status before after → status ≡ this → (this ≡ 10 → ⊥) → this ≡ end_status end
+  pub is_this : (end : End) (this : ℕ) → EndsBy words end status before after → status ≡ this → (this ≡ 10 → ⊥) → this ≡ end_status end
   is_this end this ends is not_ten = let e = own end ends (λ ten. not_ten (omega (arith, is, ten))) in omega (arith, is, e)
 
   cannot_read : (end : End) → EndsBy words end status before after → status ≡ 2 → (path : List ℕ) × EndsBy words (CannotRead path) status before after
@@ -54,12 +54,12 @@ module _ (words : List (List ℕ)) (status : ℕ) (before after : Outside) where
   not_written outcome err calm (inr fails) = calm.out fails.out.faults
 
   -- a put on `err` failed, of the output or of the statistics
-  err_rose : (outcome : Outcome) (err : SinkState) → FailsOnErr outcome before (outside after.files after.out err) ⊎ FailsAtStats outcome before (outside after.files after.out err) → Rose before.err.faults err.faults
+  pub err_rose : (outcome : Outcome) (err : SinkState) → FailsOnErr outcome before (outside after.files after.out err) ⊎ FailsAtStats outcome before (outside after.files after.out err) → Rose before.err.faults err.faults
   err_rose outcome err (inl fails) = fails.err.faults
   err_rose outcome err (inr fails) = fails.err.faults
 
   -- nothing was put behind a failed put on `err`
-  still : (err : SinkState) → IsPut [] err after.err → Rose before.err.faults err.faults → Rose before.err.faults after.err.faults
+  pub still : (err : SinkState) → IsPut [] err after.err → Rose before.err.faults err.faults → Rose before.err.faults after.err.faults
   still err (inl same) rose = subst (λ (s : SinkState). Rose before.err.faults s.faults) (sym same) rose
   still err (inr (some, fails)) rose = absurd (omega (arith, some))
 

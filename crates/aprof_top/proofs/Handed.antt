@@ -14,7 +14,7 @@ use Rattle.aprof_top.specs.Outcome.{Outcome}
 use Rattle.aprof_top.specs.Outside.{outside}
 
 -- what bytes begin with is their first ones
-first_of : (p q : List ℕ) → take (length p) (p ++ q) ≡ p
+pub first_of : (p q : List ℕ) → take (length p) (p ++ q) ≡ p
 first_of [] q = refl
 first_of (x ∷ p) q = ap (λ rest. x ∷ rest) (first_of p q)
 

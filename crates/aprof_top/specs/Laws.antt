@@ -2,13 +2,19 @@
 use Rattle.std.specs.Prelude.{◌≡◌, ◌≤◌, ℕ, suc, List, [], ◌∷◌, ◌++◌, length, take, slice_get, Option, Some}
 use Rattle.command_line.specs.Options.{Asked, GuestOptions, RunOptions}
 use Rattle.command_line.specs.Options.Asked.{Run}
-use Rattle.guest_run.specs.Laws.{IsNoMismatch}
+use Rattle.guest_run.specs.Laws.{IsNoMismatch, TurnsHaveMoves}
+use Rattle.guest_run.specs.Profiled.{Profiled}
+use Rattle.guest_run.specs.Run.{recording}
 use Rattle.guest_words.specs.declared.limits.TheConstants.{RUN_STEPS}
 use Rattle.guest_words.specs.declared.endings.Finish.{Finish}
 use Rattle.aprof_top.specs.declared.ending.Verdict.TheVariants.{Ran}
 use Rattle.aprof_top.specs.Limits.{file_limit}
-use Rattle.aprof_top.specs.Loads.{shared_count}
+use Rattle.stamps.specs.declared.width.StampBits.{StampBits}
+use Rattle.thread_sched.specs.declared.entry.Entry.{Entry}
+use Rattle.trace_model.specs.Profile.{steps}
+use Rattle.aprof_top.specs.Loads.{Loaded, shared_count}
 use Rattle.aprof_top.specs.Outcome.{IsOutcome, Outcome}
+use Rattle.aprof_top.specs.Run.{run_of}
 
 -- what is asked and the bytes of the files decide the outcome: one verdict, with the same output and the same files to store
 abbrev pub OneOutcome : Type 0
@@ -42,3 +48,13 @@ TwoRunsAgree =
     (options : RunOptions) (files : List (List ℕ)) (first second : Outcome) (path text : List ℕ) → options.guest.budget ≤ RUN_STEPS
     → IsOutcome (Some (Run options)) files first → LeavesRecording options first text → length text ≤ file_limit
     → IsOutcome (Some (Run (scheduled options path))) (with_schedule options.guest files text) second → second ≡ first
+
+-- A profiled run has at most as many steps as its budget, and each turn that it records has a move and at most as many.
+pub record IsBounded (run : Profiled) (budget : ℕ) : Type 0 where
+  pub steps : steps run.past ≤ budget
+  pub turns : TurnsHaveMoves (recording run.moves) (length run.moves) budget
+
+-- So it is of the run of each command.
+abbrev pub RunsAreBounded : Type 0
+RunsAreBounded =
+    (bits : StampBits) (options : GuestOptions) (loaded : Loaded) (turns : List Entry) → IsBounded (run_of bits options loaded turns) options.budget

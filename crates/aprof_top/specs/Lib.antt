@@ -12,6 +12,7 @@ pub mod Outside
 pub mod Report
 pub mod Run
 pub mod Schedules
+pub mod Standing
 pub mod Summary
 pub mod Texts
 pub mod Verdicts

@@ -1,8 +1,8 @@
 //! Laws on the written product, each the contract of a function that does nothing but call other laws.
-ghost use Rattle.aprof_top.specs.Laws.{OneOutcome, TwoRunsAgree};
+ghost use Rattle.aprof_top.specs.Laws.{OneOutcome, RunsAreBounded, TwoRunsAgree};
 
 use demo_guest::a_demo_has_one_file;
-use guest_run::{recordings_are_schedules, runs_replay};
+use guest_run::{recordings_are_schedules, runs_replay, runs_stay_within};
 
 /// A command has at most one outcome over the files that it loads: one verdict, with the same output and the same files to
 /// store.
@@ -19,4 +19,12 @@ pub fn two_runs_agree()
 {
     runs_replay();
     recordings_are_schedules();
+}
+
+/// The run of a command is bounded by its budget, whatever the executable, its files and its schedule: in its steps, and in the
+/// moves of each turn, of which there is one at least.
+pub fn runs_are_bounded()
+    ensures { RunsAreBounded }
+{
+    runs_stay_within();
 }

