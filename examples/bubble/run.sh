@@ -1,7 +1,8 @@
 #!/usr/bin/env bash
-# Profiles the guest, and compares the report with report.txt.
+# Profiles the guest, and compares the report with report.txt, and what `show` makes of it.
 set -eu
 cd "$(dirname "$0")"
 mkdir -p out
 ../../aprof run -o out/report.txt bubble
 diff report.txt out/report.txt
+../../show out/report.txt | diff show.txt -

@@ -9,3 +9,4 @@ diff report-7.txt out/report-1.txt
 diff report-7.txt out/report-7.txt
 ../../aprof run --quantum 10000 -o out/report.txt mutex
 diff report.txt out/report.txt
+../../show out/report.txt | diff show.txt -

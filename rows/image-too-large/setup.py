@@ -1,0 +1,2 @@
+with open("img", "wb") as file:
+    file.truncate(16777217)
