@@ -21,7 +21,7 @@ SEED = int(sys.argv[3]) if len(sys.argv) > 3 else 1
 SECONDS = 2.0
 MEMORY = 300 << 20
 STATUSES = {0, 3, 5, 6, 7, 8, 11}
-GUESTS = ["crates/aprof/data/img"] + ["examples/%s/%s" % (name, name) for name in ("bubble", "mutex", "reader", "routines")]
+GUESTS = ["crates/aprof/data/img"] + ["examples/%s/%s" % (name, name) for name in ("bubble", "mutex", "queue", "reader", "routines", "words")]
 
 FILE_HEADER = [(16, 2), (18, 2), (20, 4), (24, 4), (28, 4), (32, 4), (36, 4), (40, 2), (42, 2), (44, 2), (46, 2), (48, 2), (50, 2)]
 WORDS_OF_A_HEADER = {"program": 8, "section": 10, "symbol": 4}
