@@ -1,5 +1,5 @@
 -- From the loads and the run of a command to how it ends.
-use Rattle.std.proofs.Common.{◌∙◌, ◌≡◌, ℕ, ◌<◌, Bool, true, false, cond, List, [], Some, None, Err, refl, sym, ap, subst, inl, inr, arith, length, slice_get}
+use Rattle.std.proofs.Common.{◌∙◌, ◌≡◌, ◌⊎◌, ℕ, ◌<◌, Bool, true, false, cond, List, [], Some, None, Err, refl, sym, ap, subst, inl, inr, arith, length, slice_get}
 use Rattle.std.specs.Prelude.{nat_lt}
 use Rattle.std.specs.List.{list_any}
 use Rattle.std.proofs.lemmas.Bool.Decides.{nat_tests}
@@ -17,7 +17,6 @@ use Rattle.aprof_top.specs.declared.ending.Ending as declared
 use Rattle.aprof_top.specs.declared.ending.Ending.TheVariants as ending
 use Rattle.aprof_top.specs.declared.ending.Verdict as verdicts
 use Rattle.aprof_top.specs.declared.ending.Verdict.TheVariants as verdict
-use Rattle.aprof_top.specs.declared.loaded.Loaded as kept
 use Rattle.aprof_top.specs.Ending.{AskedEnds, Delivers, end_of, guest_of, of_command, of_put}
 use Rattle.aprof_top.specs.Ends.{Reaches}
 use Rattle.aprof_top.specs.Ends.End.{Decided}
@@ -28,7 +27,8 @@ use Rattle.aprof_top.specs.Outcome.{Follows, IsDemo, IsOutcome, IsRun, Outcome, 
 use Rattle.aprof_top.specs.Outcome.Stage.{Complete, Loading, PastLimit}
 use Rattle.aprof_top.specs.Outside.{AreFiles, Outside, outside}
 use Rattle.aprof_top.specs.Jobs.{FilesRun, summed}
-use Rattle.aprof_top.specs.Loading.{LoadsAll}
+use Rattle.aprof_top.specs.Preparing.{AreAll, AreRefused}
+use Rattle.aprof_top.proofs.Runs.{FilesRun-refused}
 use Rattle.aprof_top.specs.Sources.{path_of}
 use Rattle.aprof_top.specs.Verdicts.{IsOfRun}
 use Rattle.aprof_top.proofs.Sinks.{appended-nothing, same_files, takes_none}
@@ -102,28 +102,34 @@ module _ (options : RunOptions) (files loaded : FilesState) (out err : SinkState
   AskedEnds-unloaded ending.OutOfMemory same words asks = record { no_zero = no_zero words (Run options) asks; done = inl (ap (λ f. outside f out err) same) }
 
   -- all was loaded
-  module _ (kept' : kept.Loaded) (all : LoadsAll options.guest files loaded kept') where
-    decided : (outcome : Outcome) → IsRun options (loaded_of options.guest all.files) outcome → Follows options all.files outcome (stage options.guest all.files)
-    decided outcome is_run = subst (λ s. Follows options all.files outcome s) (sym (complete_stage options.guest all.files all.are.few all.all)) is_run
+  module _ (found : List (List ℕ)) (all : AreAll options.guest found files loaded) where
+    decided : (outcome : Outcome) → IsRun options (loaded_of options.guest found) outcome → Follows options found outcome (stage options.guest found)
+    decided outcome is_run = subst (λ s. Follows options found outcome s) (sym (complete_stage options.guest found all.are.few all.all)) is_run
 
-    abbrev decision : (words : List (List ℕ)) (after : Outside) (outcome : Outcome) → AsksFor words (Some (Run options)) → IsRun options (loaded_of options.guest all.files) outcome → Decision words before after
+    abbrev decision : (words : List (List ℕ)) (after : Outside) (outcome : Outcome) → AsksFor words (Some (Run options)) → IsRun options (loaded_of options.guest found) outcome → Decision words before after
     decision words after outcome asks is_run = record {
-      found = record { asked = Some (Run options); asks = asks; files = all.files; held = all.are.held; limit = inl all.are.each };
+      found = record { asked = Some (Run options); asks = asks; files = found; held = all.are.held; limit = inl all.are.each };
       outcome = outcome;
       written = decided outcome is_run;
     }
 
     -- and the guest was run
-    pub AskedEnds-run : (after : Outside) (e : declared.Ending) → FilesRun options (loaded_of options.guest all.files) between after e → AskedEnds (Run options) before after e
-    AskedEnds-run after e runs words asks = by e (subst (λ f. FilesRun options (loaded_of options.guest all.files) (outside f out err) after e) all.are.same runs)
+    pub AskedEnds-run : (after : Outside) (e : declared.Ending) → FilesRun options (loaded_of options.guest found) between after e → AskedEnds (Run options) before after e
+    AskedEnds-run after e runs words asks = by e (subst (λ f. FilesRun options (loaded_of options.guest found) (outside f out err) after e) all.are.same runs)
       where
-        by : (e : declared.Ending) → FilesRun options (loaded_of options.guest all.files) before after e → Reaches words (end_of (guest_of (Run options)) e) before after
+        by : (e : declared.Ending) → FilesRun options (loaded_of options.guest found) before after e → Reaches words (end_of (guest_of (Run options)) e) before after
         by (ending.Decided v) runs' = (decision words after runs'.outcome asks runs'.is_run, runs'.delivered.0, runs'.delivered.1)
         by (ending.CannotRead source) runs' = absurd runs'
         by ending.CannotWrite runs' = record { decision = decision words after runs'.outcome asks runs'.is_run; ran = runs'.delivered.0; fails = runs'.delivered.1 }
         by ending.CannotPut runs' = record { decision = decision words after runs'.outcome asks runs'.is_run; ran = runs'.delivered.0; fails = runs'.delivered.1 }
         by ending.OutOfMemory (inl same) = record { no_zero = no_zero words (Run options) asks; done = inl same }
         by ending.OutOfMemory (inr runs') = record { no_zero = no_zero words (Run options) asks; done = inr (decision words after runs'.outcome asks runs'.is_run, runs'.delivered) }
+
+  -- or one of the files was refused
+  pub AskedEnds-unprepared : (e : declared.Ending) → LoadsEnd options.guest files loaded e ⊎ AreRefused options.guest files loaded e → AskedEnds (Run options) before between e
+  AskedEnds-unprepared e (inl ends) = AskedEnds-unloaded e ends
+  AskedEnds-unprepared e (inr are) =
+      AskedEnds-run are.files are.loaded between e (FilesRun-refused options (loaded_of options.guest are.files) between e are.refused)
 
 -- ---- the demo
 -- its outcome was handed out

@@ -1,5 +1,5 @@
 -- What the run of a command's files comes to.
-use Rattle.std.proofs.Common.{◌≡◌, ◌≢◌, IfSome, Ok, arith, ℕ, Bool, List, [], length, Option, Some, None, Result, Err, ◌≤◌, refl, sym, ap, ap₂, ◌∙◌, subst, inl, inr}
+use Rattle.std.proofs.Common.{◌≡◌, IfSome, Ok, arith, ℕ, Bool, List, [], length, Option, Some, None, Result, Err, ◌≤◌, refl, sym, ap, ap₂, ◌∙◌, subst, inl, inr}
 use Rattle.std.specs.List.{AllByRecursion}
 use Rattle.std.proofs.Math.Seq.{take-length}
 use Rattle.guest_words.specs.declared.limits.TheConstants.{RUN_STEPS}
@@ -7,8 +7,6 @@ use Rattle.trace_model.specs.declared.event_kinds.Event.{Event}
 use Rattle.trace_model.specs.Depth.{is_within}
 use Rattle.trace_model.specs.WellFormed.{IsLight}
 use Rattle.command_line.specs.Options.{GuestOptions, RunOptions, arguments, inputs}
-use Rattle.elf_image.specs.declared.error.ElfError.{ElfError}
-use Rattle.elf_image.specs.declared.error.ElfError.TheVariants as elf
 use Rattle.elf_image.specs.Image.{Executable}
 use Rattle.elf_image.specs.Reading.{image_of}
 use Rattle.elf_image.specs.Tests.{first_refusal}
@@ -25,16 +23,12 @@ use Rattle.host_io.specs.Sink.{SinkState, appended}
 use Rattle.stamps.specs.declared.width.StampBits.{StampBits}
 use Rattle.stamps.specs.Widths.{greatest}
 use Rattle.thread_sched.specs.declared.entry.Entry.{Entry}
-use Rattle.thread_sched.specs.ScheduleText as recordings
 use Rattle.thread_sched.specs.ScheduleText.{IsBadLine, IsEntry, IsText}
-use Rattle.thread_sched.specs.declared.schedule.ScheduleError.{ScheduleError}
-use Rattle.thread_sched.specs.declared.schedule.ScheduleError.TheVariants as unread
 use Rattle.aprof_top.specs.declared.ending.Ending as declared
 use Rattle.aprof_top.specs.declared.ending.Ending.TheVariants as ending
 use Rattle.aprof_top.specs.declared.ending.Verdict.{Verdict}
-use Rattle.aprof_top.specs.declared.ending.Verdict.TheVariants.{BadImage, BadSchedule, TooLarge}
-use Rattle.aprof_top.specs.declared.loaded.Loaded as kept
-use Rattle.aprof_top.specs.Ending.{of_image, of_schedule}
+use Rattle.aprof_top.specs.declared.ending.Verdict.TheVariants.{BadCommand, BadImage, BadSchedule, TooLarge, Ran, Summarized}
+use Rattle.aprof_top.specs.Preparing.{Refuses}
 use Rattle.aprof_top.specs.Jobs.{FilesRun, IsRefused, RunIsStored, RunStops, desk, ending_by}
 use Rattle.aprof_top.specs.Delivery.{FailsWithin, PutsOutput}
 use Rattle.aprof_top.specs.Loads.{Loaded, with_inputs}
@@ -85,10 +79,6 @@ seen_run bits options loaded turns image files stdin is files_are stdin_is =
     ap (λ i. observed_from (is_within (greatest bits)) options turns i.entry (start i (arguments options) files stdin)) is
     ∙ ap₂ (λ f s. observed_from (is_within (greatest bits)) options turns (image_of loaded.image).entry (start (image_of loaded.image) (arguments options) f s)) files_are stdin_is
 
--- the image was taken
-pub image_accepted : (files : Loaded) (k : kept.Loaded) (bytes : List ℕ) → k.image.items ≡ files.image → bytes ≡ k.image.items → first_refusal bytes ≡ None → first_refusal files.image ≡ None
-image_accepted files k bytes keeps same accepted = ap first_refusal (sym (same ∙ keeps)) ∙ accepted
-
 -- a refusal is handed out by nothing
 handed_refusal : (options : RunOptions) (loaded : Loaded) (v : Verdict) (o : Outside) → IsRun options loaded (refusal v) → FilesRun options loaded o o (ending.Decided v)
 handed_refusal options loaded v o is_run = record {
@@ -97,37 +87,19 @@ handed_refusal options loaded v o is_run = record {
   delivered = (refl, record { out = appended-nothing o.out; err = appended-nothing o.err ∙ appended-nothing (appended o.err []); stored = same_files o.files });
 }
 
-unread_image : (options : RunOptions) (loaded : Loaded) (o : Outside) (e : ElfError) → first_refusal loaded.image ≡ Some e → FilesRun options loaded o o (ending.Decided (BadImage e))
-unread_image options loaded o e refused =
+-- files that are refused are run by nothing
+pub FilesRun-refused : (options : RunOptions) (loaded : Loaded) (o : Outside) (e : declared.Ending) → Refuses loaded e → FilesRun options loaded o o e
+FilesRun-refused options loaded o (ending.Decided (BadImage e)) refused =
     handed_refusal options loaded (BadImage e) o (subst (λ why. ByImage options loaded (refusal (BadImage e)) why) (sym refused) refl)
-
--- the image was not taken
-pub FilesRun-image : (options : RunOptions) (loaded : Loaded) (o : Outside) (e : ElfError) → (e ≢ elf.Memory → first_refusal loaded.image ≡ Some e) → FilesRun options loaded o o (of_image e)
-FilesRun-image options loaded o elf.Memory refused = inl refl
-FilesRun-image options loaded o elf.Short refused = unread_image options loaded o elf.Short (refused (λ e. absurd (cc)))
-FilesRun-image options loaded o elf.Magic refused = unread_image options loaded o elf.Magic (refused (λ e. absurd (cc)))
-FilesRun-image options loaded o elf.Class refused = unread_image options loaded o elf.Class (refused (λ e. absurd (cc)))
-FilesRun-image options loaded o elf.ByteOrder refused = unread_image options loaded o elf.ByteOrder (refused (λ e. absurd (cc)))
-FilesRun-image options loaded o elf.Version refused = unread_image options loaded o elf.Version (refused (λ e. absurd (cc)))
-FilesRun-image options loaded o elf.FileKind refused = unread_image options loaded o elf.FileKind (refused (λ e. absurd (cc)))
-FilesRun-image options loaded o elf.Machine refused = unread_image options loaded o elf.Machine (refused (λ e. absurd (cc)))
-FilesRun-image options loaded o elf.Flags refused = unread_image options loaded o elf.Flags (refused (λ e. absurd (cc)))
-FilesRun-image options loaded o elf.HeaderSize refused = unread_image options loaded o elf.HeaderSize (refused (λ e. absurd (cc)))
-FilesRun-image options loaded o elf.HeaderTable refused = unread_image options loaded o elf.HeaderTable (refused (λ e. absurd (cc)))
-FilesRun-image options loaded o elf.Interpreter refused = unread_image options loaded o elf.Interpreter (refused (λ e. absurd (cc)))
-FilesRun-image options loaded o elf.SegmentFile refused = unread_image options loaded o elf.SegmentFile (refused (λ e. absurd (cc)))
-FilesRun-image options loaded o elf.SegmentSize refused = unread_image options loaded o elf.SegmentSize (refused (λ e. absurd (cc)))
-FilesRun-image options loaded o elf.SegmentPlace refused = unread_image options loaded o elf.SegmentPlace (refused (λ e. absurd (cc)))
-FilesRun-image options loaded o elf.Overlap refused = unread_image options loaded o elf.Overlap (refused (λ e. absurd (cc)))
-FilesRun-image options loaded o elf.NoLoad refused = unread_image options loaded o elf.NoLoad (refused (λ e. absurd (cc)))
-FilesRun-image options loaded o elf.Entry refused = unread_image options loaded o elf.Entry (refused (λ e. absurd (cc)))
-FilesRun-image options loaded o elf.Pages refused = unread_image options loaded o elf.Pages (refused (λ e. absurd (cc)))
-
--- the schedule was not taken
-pub FilesRun-bad_line : (options : RunOptions) (loaded : Loaded) (o : Outside) (accepted : first_refusal loaded.image ≡ None) (e : ScheduleError) → recordings.IsRefused loaded.schedule e →
-    FilesRun options loaded o o (of_schedule e)
-FilesRun-bad_line options loaded o accepted (unread.BadLine line) bad = handed_refusal options loaded (BadSchedule line) o (IsRun-bad_line options loaded accepted line bad)
-FilesRun-bad_line options loaded o accepted unread.Memory bad = inl refl
+FilesRun-refused options loaded o (ending.Decided (BadSchedule line)) (accepted, bad) = handed_refusal options loaded (BadSchedule line) o (IsRun-bad_line options loaded accepted line bad)
+FilesRun-refused options loaded o (ending.Decided BadCommand) refused = absurd refused
+FilesRun-refused options loaded o (ending.Decided TooLarge) refused = absurd refused
+FilesRun-refused options loaded o (ending.Decided (Ran finish)) refused = absurd refused
+FilesRun-refused options loaded o (ending.Decided Summarized) refused = absurd refused
+FilesRun-refused options loaded o (ending.CannotRead source) refused = absurd refused
+FilesRun-refused options loaded o ending.CannotWrite refused = absurd refused
+FilesRun-refused options loaded o ending.CannotPut refused = absurd refused
+FilesRun-refused options loaded o ending.OutOfMemory refused = absurd refused
 
 -- ---- the guest is run
 module _ (options : RunOptions) (loaded : Loaded) (accepted : first_refusal loaded.image ≡ None) (turns : List Entry) (entries : AllByRecursion IsEntry turns)

@@ -21,4 +21,5 @@ pub mod Ending
 pub mod Jobs
 pub mod LastTexts
 pub mod Loading
+pub mod Preparing
 pub mod Sources

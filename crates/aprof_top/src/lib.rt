@@ -8,6 +8,7 @@ mod guest_job;
 mod laws;
 mod loaded;
 mod loads;
+mod preparation;
 mod profiled_run;
 mod report;
 mod run_job;

@@ -5,26 +5,25 @@ ghost use Rattle.guest_run.specs.Profiled.{Profiled};
 ghost use Rattle.guest_run.specs.Run.{recording};
 ghost use Rattle.stamps.specs.Widths.{greatest};
 ghost use Rattle.run_profile.specs.Profile.{AreTotalsOf};
-ghost use Rattle.aprof_top.specs.Jobs.{FilesRun, RunIsStored, StatsEnd, desk, ending_by, store_of};
-ghost use Rattle.aprof_top.specs.Loads as loads;
+ghost use Rattle.command_line.specs.Options.Asked.{Run};
+ghost use Rattle.aprof_top.specs.Ending.{AskedEnds};
+ghost use Rattle.aprof_top.specs.Jobs.{RunIsStored, StatsEnd, desk, ending_by, store_of};
 ghost use Rattle.aprof_top.specs.Outcome.{recording_stores, run_outcome, run_stores, stats_of};
 ghost use Rattle.aprof_top.specs.Outside.{outside};
-ghost use Rattle.aprof_top.specs.Loading.{Keeps};
 ghost use Rattle.trace_model.specs.declared.event_kinds.Event.{Event};
 
 use crate::delivery::{Store, put_all, store_all};
 use crate::ending::{Ending, Verdict};
-use crate::guest_job::GuestFiles;
-use crate::loaded::Loaded;
+use crate::preparation::prepare;
 use crate::profiled_run::{ProfiledRun, profile_image};
 use crate::report::report_of;
 use crate::texts::renumberings_text;
 use command_line::RunCommand;
-use elf_image::{Image, read_image};
+use elf_image::Image;
 use host_io::{Files, PutError, Sink};
 use profile_report::write_report;
 use std::alloc::{AllocError, Global};
-use thread_sched::{Recording, Schedule};
+use thread_sched::Recording;
 
 // The recording to store, where the command has a path for it.
 fn recording_stores<'a>(
@@ -102,28 +101,22 @@ fn deliver_run<F: Files, E: Sink>(
     Ok(Verdict::Ran(run.ended.finish))
 }
 
-/// Runs the files of a command, stores what the run leaves, and puts its statistics.
-pub(crate) fn run_files<F: Files, O: Sink, E: Sink>(
+/// Prepares the guest of a command, runs it, stores what the run leaves, and puts its statistics.
+pub(crate) fn run_command<F: Files, O: Sink, E: Sink>(
     alloc: Global,
     command: &RunCommand<'_>,
-    loaded: Loaded,
     files: &mut F,
     out: &mut O,
     err: &mut E,
 ) -> Result<Verdict, Ending>
     requires { AreInRange (guest_in command.now.guest) }
-    ensures { (found : loads.Loaded) → Keeps (options_in command.now).guest found loaded
-        → FilesRun (options_in command.now) found
+    ensures { AskedEnds (Run (options_in command.now))
         (outside (F.state files.old) (O.state out.old) (E.state err.old))
         (outside (F.state files.new) (O.state out.new) (E.state err.new)) (ending_by result) }
 {
-    let image = read_image(alloc, loaded.image.as_slice())?;
-    let schedule = Schedule::read(alloc, loaded.schedule.as_slice())?;
-    let guest = GuestFiles {
-        schedule,
-        inputs: loaded.inputs,
-        stdin: loaded.stdin,
-    };
-    let run = profile_image(alloc, command.bits, &command.guest, &image, guest, out, err)?;
+    let guest = &command.guest;
+    let prepared = prepare(alloc, guest, files)?;
+    let image = prepared.image;
+    let run = profile_image(alloc, command.bits, guest, &image, prepared.files, out, err)?;
     deliver_run(alloc, command, &image, &run, files, err)
 }

@@ -8,51 +8,17 @@ ghost use Rattle.aprof_top.specs.Jobs.{ending_by};
 ghost use Rattle.aprof_top.specs.Outside.{outside};
 ghost use Rattle.host_io.specs.Files.{FilesState};
 ghost use Rattle.host_io.specs.Sink.{SinkState};
-ghost use Rattle.aprof_top.specs.Loading.{CommandLoads};
-ghost use Rattle.command_line.specs.Options.Asked.{Run, Demo};
-ghost use Rattle.command_line.specs.Read.{AreInRange, IsInRange, asked_in, guest_in, options_in};
+ghost use Rattle.command_line.specs.Options.Asked.{Demo};
+ghost use Rattle.command_line.specs.Read.{IsInRange, asked_in};
 
 use crate::delivery::put_all;
 use crate::demo::run_demo;
 use crate::ending::{Ending, Verdict, ending_by, tell};
-use crate::loaded::Loaded;
-use crate::loads::{load_files, loaded_paths};
-use crate::run_job::run_files;
-use command_line::{Command, GuestOptions, RunCommand, read_command};
+use crate::run_job::run_command;
+use command_line::{Command, GuestOptions, read_command};
 use guest_words::limits::DEMO_ROUTINES;
 use host_io::{Files, Sink};
 use std::alloc::Global;
-
-// Loads the files of a command.
-fn load_command<F: Files>(
-    alloc: Global,
-    guest: &GuestOptions<'_>,
-    files: &mut F,
-) -> Result<Loaded, Ending>
-    ensures { CommandLoads (guest_in guest.now) (F.state files.old) (F.state files.new) result }
-{
-    let names = guest.inputs(alloc)?;
-    let paths = loaded_paths(alloc, guest, names.as_slice())?;
-    let loaded = load_files(alloc, guest, names.as_slice(), paths.as_slice(), files)?;
-    Ok(Loaded::new(alloc, guest, names.as_slice(), loaded)?)
-}
-
-// Loads the files of a command, runs the image, and stores the report.
-fn run_command<F: Files, O: Sink, E: Sink>(
-    alloc: Global,
-    command: &RunCommand<'_>,
-    files: &mut F,
-    out: &mut O,
-    err: &mut E,
-) -> Result<Verdict, Ending>
-    requires { AreInRange (guest_in command.now.guest) }
-    ensures { AskedEnds (Run (options_in command.now))
-        (outside (F.state files.old) (O.state out.old) (E.state err.old))
-        (outside (F.state files.new) (O.state out.new) (E.state err.new)) (ending_by result) }
-{
-    let loaded = load_command(alloc, &command.guest, files)?;
-    run_files(alloc, command, loaded, files, out, err)
-}
 
 // Runs the demo, and puts its summary.
 fn show_demo<O: Sink>(alloc: Global, number: u32, out: &mut O) -> Result<Verdict, Ending>
