@@ -1,6 +1,6 @@
 use Rattle.std.proofs.Common.{arith}
 use Rattle.guest_memory.proofs.CallerLemmas.{HoldAtMost-new, HoldAtMost-set, HoldAtMost-without}
-use Rattle.rv_exec.proofs.tests.two_reservations.Goals as goal
+use Rattle.worked_rows.proofs.instructions.two_reservations.Goals as goal
 
 pub set-requires : goal.set-requires
 set-requires c = HoldAtMost-without _ _ 0 31 (HoldAtMost-new _ c.new-held.ensures) (omega arith)
