@@ -9,6 +9,3 @@ mod table;
 mod waiter;
 
 pub use table::FutexTable;
-
-#[cfg(test)]
-mod tests;

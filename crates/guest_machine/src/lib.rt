@@ -23,6 +23,3 @@ pub use laws::{every_step_is_short, every_step_is_traced};
 pub use machine::Machine;
 pub use setup::SetupError;
 pub use stepped::Stepped;
-
-#[cfg(test)]
-mod tests;

@@ -17,6 +17,3 @@ pub use memory::GuestMemory;
 pub use refusal::MemError;
 pub use reservations::Reservations;
 pub use size::Size;
-
-#[cfg(test)]
-mod tests;

@@ -16,6 +16,3 @@ pub use laws::{recordings_are_schedules, runs_replay, runs_stay_within, traces_a
 pub use run::{Ended, run_guest};
 pub use run_error::{Channel, RunError};
 pub use turn_status::TurnStatus;
-
-#[cfg(test)]
-mod tests;

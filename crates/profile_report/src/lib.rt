@@ -19,6 +19,3 @@ pub use line_text::{hex_address, push_end_line};
 pub use reader::{ReportError, read_report};
 pub use report::{Report, ReportVersion, Routine};
 pub use writer::write_report;
-
-#[cfg(test)]
-mod tests;

@@ -17,6 +17,3 @@ pub use cpu::Cpu;
 pub use instruction::execute;
 pub use laws::every_instruction;
 pub use outcome::{Access, Outcome};
-
-#[cfg(test)]
-mod tests;

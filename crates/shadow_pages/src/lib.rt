@@ -6,6 +6,3 @@ mod directory;
 mod shadow;
 
 pub use shadow::{PAGE_WORDS, Shadow};
-
-#[cfg(test)]
-mod tests;

@@ -10,6 +10,3 @@ mod sums;
 pub use frames::{Frames, last_at_most};
 pub use steps::Steps;
 pub use sums::Sums;
-
-#[cfg(test)]
-mod tests;

@@ -15,6 +15,3 @@ mod ticks;
 pub use laws::{renumbering_keeps_order, ticks_stay_above};
 pub use threads::Threads;
 pub use ticks::{Ticked, tick};
-
-#[cfg(test)]
-mod tests;

@@ -13,6 +13,3 @@ pub use laws::{a_recording_is_read_as_its_turns, a_text_reads_in_one_way};
 pub use recording::Recording;
 pub use schedule::{Schedule, ScheduleError};
 pub use turns::{Sched, Turn};
-
-#[cfg(test)]
-mod tests;

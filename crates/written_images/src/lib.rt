@@ -4,6 +4,3 @@
 mod laws;
 
 pub use laws::{written_files_are_accepted, written_names_are_read};
-
-#[cfg(test)]
-mod tests;
