@@ -1,0 +1,4 @@
+pub mod Records
+pub mod TraceText
+-- What the private parts owe one another.
+pub mod Kept
