@@ -12,6 +12,7 @@ use Rattle.trace_model.specs.declared.event_kinds.Event.{Event}
 use Rattle.trace_model.specs.declared.event_kinds.Event.TheVariants as events
 use Rattle.trace_file.specs.declared.records.Form.{Form}
 use Rattle.trace_file.specs.declared.records.Form.TheVariants.{Step, Read, Write, Fill, Call, Ret, Start, End, Named, Exit, Fault, Budget, Deadlock, Deep, Schedule}
+use Rattle.trace_file.specs.declared.records.Range.{Range}
 use Rattle.trace_file.specs.declared.records.Record.{Record}
 use Rattle.trace_file.specs.declared.records.Record.TheVariants.{OfEvent, OfName, OfFinish}
 
@@ -32,11 +33,6 @@ head Budget = 10 ∷ 2 ∷ []
 head Deadlock = 10 ∷ 3 ∷ []
 head Deep = 10 ∷ 4 ∷ []
 head Schedule = 10 ∷ 5 ∷ []
-
--- the least and the greatest that a number can be
-pub record Range : Type 0 where
-  pub least : ℕ
-  pub most : ℕ
 
 -- a thread, a word of memory, and any number of 32 bits
 abbrev pub thread : Range
@@ -129,10 +125,14 @@ joined head numbers bytes = head ++ (flat_map number_bytes numbers ++ bytes)
 abbrev pub record_bytes : Record → List ℕ
 record_bytes r = joined (head (form r)) (numbers r) (name_bytes r)
 
+-- the number is in the range
+abbrev pub IsIn : Range → ℕ → Type 0
+IsIn r n = (r.least ≤ n) × (n ≤ r.most)
+
 -- so many numbers as ranges, and each in its own
 abbrev pub AreInRanges : List ℕ → List Range → Type 0
 AreInRanges [] [] = Unit {0}
-AreInRanges (n ∷ ns) (r ∷ rs) = (r.least ≤ n) × (n ≤ r.most) × AreInRanges ns rs
+AreInRanges (n ∷ ns) (r ∷ rs) = IsIn r n × AreInRanges ns rs
 AreInRanges ns rs = ⊥
 
 -- a name is one of a routine, and a line is counted from 1

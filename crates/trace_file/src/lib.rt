@@ -4,6 +4,7 @@
 //! A record is the bytes that say which form it has, then its numbers in 32 bits, lowest byte first, then a name's bytes.
 #![tactic(auto)]
 
+mod record_reader;
 mod records;
 mod writer;
 

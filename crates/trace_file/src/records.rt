@@ -1,4 +1,5 @@
 //! Records, and the forms that they have.
+
 use guest_words::{Addr, Finish, Name};
 use trace_model::Event;
 
@@ -31,4 +32,11 @@ pub enum Form {
     Deadlock,
     Deep,
     Schedule,
+}
+
+/// The least and the greatest that a number of a record can be. The least is 0 or 1.
+#[derive(Clone, Copy, Debug)]
+pub struct Range {
+    pub least: u32,
+    pub most: u32,
 }
