@@ -337,7 +337,7 @@ any f = elim (line_or_plain f) [
   | inr plain ↦ let r = with_numbers f (ones (ranges f)) plain (ones_fit f) in (r.0, r.1, r.2)
 ]
 
-head_begun : (bytes : List ℕ) → IsBegun IsHead bytes → IsBegun IsRecord bytes
+pub head_begun : (bytes : List ℕ) → IsBegun IsHead bytes → IsBegun IsRecord bytes
 head_begun bytes stops =
     let r = any stops.text.0 in
     record {

@@ -4,3 +4,6 @@ pub mod Heads
 pub mod ManyNumbers
 pub mod NameBytes
 pub mod Bodies
+pub mod Adding
+pub mod ReadBytes
+pub mod Feeding

@@ -4,8 +4,12 @@
 //! A record is the bytes that say which form it has, then its numbers in 32 bits, lowest byte first, then a name's bytes.
 #![tactic(auto)]
 
+mod errors;
+mod reader;
 mod record_reader;
 mod records;
 mod writer;
 
+pub use errors::TraceError;
+pub use reader::{TraceEnd, TraceReader};
 pub use writer::TraceWriter;
