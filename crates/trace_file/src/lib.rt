@@ -13,3 +13,6 @@ mod writer;
 pub use errors::TraceError;
 pub use reader::{TraceEnd, TraceReader};
 pub use writer::TraceWriter;
+
+#[cfg(test)]
+mod tests;
