@@ -1,0 +1,153 @@
+-- What a reader has read with more bytes.
+use Rattle.std.proofs.Common.{suc, inl, inr, ◌⊎◌, ◌≡◌, ◌≢◌, ℕ, ◌+◌, ◌<◌, ◌≤◌, ◌++◌, ◌∷◌, [], List, Option, Some, None, Result, Ok, Err, length, take, drop, get_or, reverse, refl, sym, subst, ap, ap₂, ◌∙◌, arith, append_assoc, append-nil, length-append}
+use Rattle.std.specs.Prelude.{IfErr, OnOk, OnErr}
+use Rattle.std.specs.Result.{result_err}
+use Rattle.std.proofs.Math.Seq.{take-suc}
+use Rattle.std.proofs.lemmas.List.{reverse-append, take-append-drop}
+use Rattle.trace_file.specs.TraceText.{magic}
+use Rattle.guest_words.specs.declared.endings.Finish.{Finish}
+use Rattle.trace_model.specs.declared.event_kinds.Event.{Event}
+use Rattle.trace_model.specs.Cut.{past_after}
+use Rattle.trace_file.specs.declared.records.Record.{Record}
+use Rattle.trace_file.specs.declared.record_reader.Stop.{Stop}
+use Rattle.trace_file.specs.declared.record_reader.Stop.TheVariants.{Begun, NoForm, Memory}
+use Rattle.trace_file.specs.declared.errors.TraceError.{TraceError}
+use Rattle.trace_file.specs.declared.errors.TraceError.TheVariants as errors
+use Rattle.trace_file.specs.Records.{Fits, record_bytes}
+use Rattle.trace_file.specs.Pieces.{IsBegun, IsNone, IsRecord, Stops}
+use Rattle.trace_file.specs.Reading.{HasFed, HasRead, HasReadBy, IsAtLine, IsAtRecord, IsReading, IsRefused, ReaderState}
+use Rattle.trace_file.specs.Steps.{GoesOnOr, IsFed, IsNotAdded, IsOpen, IsTaken, MayReadByte, said}
+use Rattle.trace_file.proofs.ReadBytes.{behind_end, held_more, line_more, no_form, other_line, no_memory, not_added, open_of, stays, taken, whole_held}
+
+-- the state with one more byte held
+abbrev pub Held : ReaderState → ℕ → ReaderState
+Held s b = record s { held = s.held ++ b ∷ [] }
+
+abbrev pub AtRecord : ReaderState → ReaderState → ℕ → List Event → List Event → Result (Unit {0}) TraceError → Type 0
+AtRecord s new b es es' result = IsFed IsAtRecord IsAtRecord s new (b ∷ []) es es' result
+
+pub held_view : (view s : ReaderState) (held : List ℕ) (b : ℕ) → view ≡ s → held ≡ view.held ++ b ∷ [] → record view { held = held } ≡ Held s b
+held_view view s held b is more = ap₂ (λ (m : ReaderState) (h : List ℕ). record m { held = h }) is (more ∙ ap (λ (m : ReaderState). m.held ++ b ∷ []) is)
+
+pub fed_memory : (s new : ReaderState) (b : ℕ) (es : List Event) → AtRecord s new b es es (Err errors.Memory)
+fed_memory s new b es = record { more = []; appended = sym (append-nil es); reads = λ bytes past is. no_memory s bytes past b is }
+
+pub fed_refused : (s new : ReaderState) (b : ℕ) (es : List Event) (result : Result (Unit {0}) TraceError) (e : TraceError) → result ≡ Err e → e ≡ errors.Memory → AtRecord s new b es es result
+fed_refused s new b es result e is memory = subst (λ r. AtRecord s new b es es r) (sym (is ∙ ap (λ x. Err x) memory)) (fed_memory s new b es)
+
+pub fed_begun : (s new : ReaderState) (b : ℕ) (es : List Event) → s.finish ≡ None → new ≡ Held s b → IsBegun IsRecord (s.held ++ b ∷ []) → AtRecord s new b es es (Ok tt)
+fed_begun s new b es ends same begun = record { more = []; appended = sym (append-nil es); reads = λ bytes past is. held_more s new bytes past b is ends same begun }
+
+pub fed_no_form : (s new : ReaderState) (b at : ℕ) (es : List Event) → s.finish ≡ None → at ≡ s.at → IsNone IsRecord (s.held ++ b ∷ []) → AtRecord s new b es es (Err (errors.Record at))
+fed_no_form s new b at es ends place none = record { more = []; appended = sym (append-nil es); reads = λ bytes past is. no_form s bytes past b at is ends place none }
+
+open_mid : (s mid : ReaderState) (past : List Event) (b : ℕ) → mid ≡ Held s b → IsOpen s past → IsOpen mid past
+open_mid s mid past b same is = subst (λ m. IsOpen m past) (sym same) (record { told = is.told; order = is.order; finish = is.finish })
+
+pub fed_taken : (s mid new : ReaderState) (b : ℕ) (r : Record) (rest : List ℕ) (es es' : List Event) (result : Result (Unit {0}) TraceError) → s.finish ≡ None → mid ≡ Held s b → Fits r → s.held ++ b ∷ [] ≡ record_bytes r ++ rest →
+    ((past : List Event) → IsOpen mid past → OnOk result (IsTaken mid new past r)) → ((past : List Event) → IsOpen mid past → IfErr result (λ x. IsNotAdded mid past r x)) →
+    OnOk result (es' ≡ es ++ said r) → OnErr result (es' ≡ es) → AtRecord s new b es es' result
+fed_taken s mid new b r rest es es' (Ok u) ends same fits text ok err appended kept = record {
+  more = said r;
+  appended = appended;
+  reads = λ bytes past is. taken s mid new bytes past b r is same (whole_held s bytes past b r rest is ends fits text) (ok past (open_mid s mid past b same (open_of s bytes past is ends)));
+}
+fed_taken s mid new b r rest es es' (Err e) ends same fits text ok err appended kept = record {
+  more = [];
+  appended = kept ∙ sym (append-nil es);
+  reads = λ bytes past is. not_added s mid bytes past b r e is ends fits same (whole_held s bytes past b r rest is ends fits text) (err past (open_mid s mid past b same (open_of s bytes past is ends)));
+}
+
+pub stops_begun : (bytes held : List ℕ) (stop : Stop) → Stops IsRecord bytes stop → stop ≡ Begun → bytes ≡ held → IsBegun IsRecord held
+stops_begun bytes held stop stops is same = subst (λ x. IsBegun IsRecord x) same (subst (λ s. Stops IsRecord bytes s) is stops)
+
+pub stops_none : (bytes held : List ℕ) (stop : Stop) → Stops IsRecord bytes stop → stop ≡ NoForm → bytes ≡ held → IsNone IsRecord held
+stops_none bytes held stop stops is same = subst (λ x. IsNone IsRecord x) same (subst (λ s. Stops IsRecord bytes s) is stops)
+
+-- ---- a byte of the line or of a record
+abbrev pub Reading : ReaderState → ReaderState → ℕ → List Event → List Event → Result (Unit {0}) TraceError → Type 0
+Reading s new b es es' result = IsFed IsReading IsReading s new (b ∷ []) es es' result
+
+at_line : (s : ReaderState) (bytes : List ℕ) (past : List Event) → s.line < 14 → IsReading s bytes past → IsAtLine s bytes past
+at_line s bytes past low (inl at) = at
+at_line s bytes past low (inr at) = absurd (let line = at.line in omega arith)
+
+at_record : (s : ReaderState) (bytes : List ℕ) (past : List Event) → 14 ≤ s.line → IsReading s bytes past → IsAtRecord s bytes past
+at_record s bytes past high (inl at) = absurd (let low = at.line in omega arith)
+at_record s bytes past high (inr at) = at
+
+pub fed_line : (s new : ReaderState) (b : ℕ) (es : List Event) (result : Result (Unit {0}) TraceError) → s.line < 14 → OnOk result ((get_or magic s.line 0 ≡ b) × (new ≡ record s { line = s.line + 1; at = s.at + 1 })) →
+    IfErr result (λ e. (e ≡ errors.Magic) × (get_or magic s.line 0 ≢ b)) → Reading s new b es es result
+fed_line s new b es (Ok u) low ok err = record { more = []; appended = sym (append-nil es); reads = λ bytes past is. line_more s new bytes past b (at_line s bytes past low is) ok.0 ok.1 }
+fed_line s new b es (Err e) low ok err = record { more = []; appended = sym (append-nil es); reads = λ bytes past is. subst (λ x. IsRefused (bytes ++ b ∷ []) past x × (x ≢ errors.Short)) (sym err.0) (other_line s bytes past b (at_line s bytes past low is) err.1) }
+
+pub fed_behind : (s new : ReaderState) (b at : ℕ) (f : Finish) (es : List Event) → 14 ≤ s.line → s.finish ≡ Some f → at ≡ s.at → Reading s new b es es (Err (errors.Record at))
+fed_behind s new b at f es high ends place = record { more = []; appended = sym (append-nil es); reads = λ bytes past is. behind_end s bytes past f b at (at_record s bytes past high is) ends place }
+
+goes_either : (new : ReaderState) (bytes : List ℕ) (past : List Event) (result : Result (Unit {0}) TraceError) → GoesOnOr IsAtRecord new bytes past result → GoesOnOr IsReading new bytes past result
+goes_either new bytes past (Ok u) goes = inr goes
+goes_either new bytes past (Err e) goes = goes
+
+pub fed_record : (s new : ReaderState) (b : ℕ) (es es' : List Event) (result : Result (Unit {0}) TraceError) → 14 ≤ s.line → AtRecord s new b es es' result → Reading s new b es es' result
+fed_record s new b es es' result high fed = record {
+  more = fed.more;
+  appended = fed.appended;
+  reads = λ bytes past is. goes_either new (bytes ++ b ∷ []) (past_after past fed.more) result (fed.reads bytes past (at_record s bytes past high is));
+}
+
+pub may_read_record : (s : ReaderState) → MayReadByte IsReading s → 14 ≤ s.line → MayReadByte IsAtRecord s
+may_read_record s may high = record { bytes = may.bytes; past = may.past; now = at_record s may.bytes may.past high may.now; room = may.room }
+
+-- ---- and what is refused from then on
+any_refusal : (s : ReaderState) (o : Option TraceError) (bytes : List ℕ) (past : List Event) → IsReading s bytes past → IsReading (record s { refusal = o }) bytes past
+any_refusal s o bytes past (inl at) = inl (record { line = at.line; read = at.read; none = at.none; order = at.order; names = at.names; finish = at.finish; held = at.held; place = at.place })
+any_refusal s o bytes past (inr at) = inr (record { line = at.line; leads = record { told = at.leads.told; text = at.leads.text }; order = at.order; place = at.place; goes_on = at.goes_on })
+
+pub reading_of : (s : ReaderState) (bytes : List ℕ) (past : List Event) → s.refusal ≡ None → HasRead s bytes past → IsReading s bytes past
+reading_of s bytes past none is = subst (λ o. HasReadBy o s bytes past) none is
+
+pub may_read : (s : ReaderState) → MayReadByte HasRead s → s.refusal ≡ None → MayReadByte IsReading s
+may_read s may none = record { bytes = may.bytes; past = may.past; now = reading_of s may.bytes may.past none may.now; room = may.room }
+
+keeps : (mid : ReaderState) (bytes : List ℕ) (past : List Event) (result : Result (Unit {0}) TraceError) → GoesOnOr IsReading mid bytes past result → HasRead (record mid { refusal = result_err result }) bytes past
+keeps mid bytes past (Ok u) goes = any_refusal mid None bytes past goes
+keeps mid bytes past (Err e) goes = goes
+
+pub fed_byte : (s mid new : ReaderState) (b : ℕ) (es es' : List Event) (result : Result (Unit {0}) TraceError) → s.refusal ≡ None → Reading s mid b es es' result → new ≡ record mid { refusal = result_err result } → HasFed s new (b ∷ []) es es'
+fed_byte s mid new b es es' result none fed same = record {
+  more = fed.more;
+  appended = fed.appended;
+  read = λ bytes past is. subst (λ n. HasRead n (bytes ++ b ∷ []) (past_after past fed.more)) (sym same) (keeps mid (bytes ++ b ∷ []) (past_after past fed.more) result (fed.reads bytes past (reading_of s bytes past none is)));
+}
+
+-- ---- pieces
+pub fed_nothing : (s : ReaderState) (es : List Event) → HasFed s s [] es es
+fed_nothing s es = record { more = []; appended = sym (append-nil es); read = λ bytes past is. subst (λ y. HasRead s y past) (sym (append-nil bytes)) is }
+
+pub fed_more : (s mid new : ReaderState) (xs ys : List ℕ) (es es' es'' : List Event) → HasFed s mid xs es es' → HasFed mid new ys es' es'' → HasFed s new (xs ++ ys) es es''
+fed_more s mid new xs ys es es' es'' first second = record {
+  more = first.more ++ second.more;
+  appended = second.appended ∙ ap (λ y. y ++ second.more) first.appended ∙ append_assoc es first.more second.more;
+  read = λ bytes past is.
+      subst (λ p. HasRead new (bytes ++ (xs ++ ys)) p) (sym (ap (λ y. y ++ past) (reverse-append first.more second.more) ∙ append_assoc (reverse second.more) (reverse first.more) past))
+      (subst (λ y. HasRead new y (past_after (past_after past first.more) second.more)) (append_assoc bytes xs ys) (second.read (bytes ++ xs) (past_after past first.more) (first.read bytes past is)));
+}
+
+pub fed_sticky : (s : ReaderState) (piece : List ℕ) (es : List Event) (e : TraceError) → s.refusal ≡ Some e → HasFed s s piece es es
+fed_sticky s piece es e refused = record {
+  more = [];
+  appended = sym (append-nil es);
+  read = λ bytes past is.
+      let was = subst (λ o. HasReadBy o s bytes past) refused is in
+      subst (λ o. HasReadBy o s (bytes ++ piece) past) (sym refused) (stays bytes piece past e was.0 was.1, was.1);
+}
+
+pub fed_rest : (s new : ReaderState) (piece : List ℕ) (n : ℕ) (es es' : List Event) (e : TraceError) → new.refusal ≡ Some e → HasFed s new (take n piece) es es' → HasFed s new piece es es'
+fed_rest s new piece n es es' e refused fed =
+    subst (λ p. HasFed s new p es es') (take-append-drop n piece) (fed_more s new new (take n piece) (drop n piece) es es' es' fed (fed_sticky new (drop n piece) es' e refused))
+
+-- a byte of a piece that is refused
+pub fed_refusal : (s mid new : ReaderState) (piece : List ℕ) (i : ℕ) (es es' es'' : List Event) (e : TraceError) → i < length piece → new.refusal ≡ Some e → HasFed s mid (take i piece) es es' → HasFed mid new (get_or piece i 0 ∷ []) es' es'' → HasFed s new piece es es''
+fed_refusal s mid new piece i es es' es'' e low refused first second =
+    let more : take i piece ++ get_or piece i 0 ∷ [] ≡ take (suc i) piece = sym (take-suc piece i 0 low) in
+    fed_rest s new piece (suc i) es es'' e refused (subst (λ p. HasFed s new p es es'') more (fed_more s mid new (take i piece) (get_or piece i 0 ∷ []) es es' es'' first second))

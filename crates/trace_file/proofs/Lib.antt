@@ -1,0 +1,9 @@
+pub mod Texts
+pub mod OneNumber
+pub mod Heads
+pub mod ManyNumbers
+pub mod NameBytes
+pub mod Bodies
+pub mod Adding
+pub mod ReadBytes
+pub mod Feeding

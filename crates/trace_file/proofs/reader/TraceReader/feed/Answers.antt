@@ -1,0 +1,12 @@
+use Rattle.std.proofs.Common.{rules, arith, ap, sym, ◌∙◌}
+use Rattle.trace_file.specs.Reading.{ReaderState}
+use Rattle.trace_file.proofs.Feeding.{fed_refusal, fed_sticky}
+use Rattle.trace_file.proofs.reader.TraceReader.feed.Goals as goal
+
+pub returns-in_err-take_byte-clause-fed : goal.returns-in_err-take_byte-clause-fed
+returns-in_err-take_byte-clause-fed c =
+    let so = c.loop-byte.invariant in
+    fed_refusal c.args.self.now c.loop-byte.self c.take_byte.new.self c.args.piece.now c.loop-byte.byte-index _ _ _ _ (omega arith) c.in_err-take_byte.ensures.answer so.fed c.take_byte.ensures.fed
+
+pub returns-in-Some-clause-fed : goal.returns-in-Some-clause-fed
+returns-in-Some-clause-fed c = fed_sticky c.args.self.now c.args.piece.now c.args.events.now.list _ (sym (ap (λ (s : ReaderState). s.refusal) c.self.view_is) ∙ c.in-Some.is)

@@ -1,0 +1,19 @@
+use Rattle.std.proofs.Common.{rules, ◌∙◌, sym, subst, ap, arith}
+use Rattle.std.specs.Result.{IfErr}
+use Rattle.std.proofs.lemmas.Result.{IfErr-weaker, IfOk-weaker, err_from_is_err_and}
+use Rattle.trace_file.specs.Pieces.{IsRecord, Stops}
+use Rattle.trace_file.proofs.Bodies.{body_stop, head_stop, whole_record}
+use Rattle.trace_file.proofs.record_reader.read_record.Goals as goal
+
+pub returns-in_err-form-clause-stops : goal.returns-in_err-form-clause-stops
+returns-in_err-form-clause-stops c =
+    let given = err_from_is_err_and c.from_residual.result c.from_residual.ensures.1 in
+    let stops = head_stop c.args.bytes.now _ c.in_err-form.ensures.stops in
+    subst (λ r. IfErr r (λ stop. Stops IsRecord c.args.bytes.now stop)) (sym given.1)
+    (subst (λ stop. Stops IsRecord c.args.bytes.now stop) (sym given.2) stops)
+
+pub returns-clause-stops : goal.returns-clause-stops
+returns-clause-stops c = IfErr-weaker c.read_body.result _ (λ stop. Stops IsRecord c.args.bytes.now stop) (λ stop h. body_stop c.in_ok-form.form _ _ stop c.in_ok-form.ensures.found h) c.read_body.ensures.stops
+
+pub returns-clause-found : goal.returns-clause-found
+returns-clause-found c = IfOk-weaker c.read_body.result _ _ (λ r h. whole_record c.in_ok-form.form _ _ r h.0 h.1 h.2.0 c.in_ok-form.ensures.found h.2.1) c.read_body.ensures.found

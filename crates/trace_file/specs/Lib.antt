@@ -1,0 +1,9 @@
+pub mod Records
+pub mod TraceText
+pub mod Errors
+pub mod Reading
+-- What the private parts owe one another.
+pub mod Kept
+pub mod Pieces
+pub mod Made
+pub mod Steps

@@ -1,0 +1,57 @@
+-- How bytes stand to a set of texts: the beginning of one of them, or of none.
+use Rattle.std.specs.Prelude.{◌≡◌, ◌≢◌, ℕ, ◌+◌, ◌^◌, ◌<◌, ◌≤◌, min, true, List, [], ◌∷◌, ◌++◌, length}
+use Rattle.guest_words.specs.Names.{is_name}
+use Rattle.byteorder.specs.Endian.{little_number}
+use Rattle.std.specs.List.{flat_map}
+use Rattle.trace_file.specs.declared.records.Form.{Form}
+use Rattle.trace_file.specs.declared.records.Range.{Range}
+use Rattle.trace_file.specs.declared.records.Record.{Record}
+use Rattle.trace_file.specs.declared.record_reader.Stop.{Stop}
+use Rattle.trace_file.specs.declared.record_reader.Stop.TheVariants.{Begun, NoForm, Memory}
+use Rattle.trace_file.specs.Records.{AreInRanges, Fits, form, head, name_bytes, number_bytes, numbers, record_bytes}
+
+-- With some bytes more the bytes are one of the texts, and none of the texts is whole in them.
+pub record IsBegun (L : List ℕ → Type 0) (bytes : List ℕ) : Type 0 where
+  pub more : List ℕ
+  pub some : more ≢ []
+  pub text : L (bytes ++ more)
+  pub unfinished : (x rest : List ℕ) → L x → bytes ≢ x ++ rest
+
+-- Whatever bytes follow them, they don't begin with one of the texts.
+abbrev pub IsNone : (List ℕ → Type 0) → List ℕ → Type 0
+IsNone L bytes = (x more rest : List ℕ) → L x → bytes ++ more ≢ x ++ rest
+
+abbrev pub Stops : (List ℕ → Type 0) → List ℕ → Stop → Type 0
+Stops L bytes Begun = IsBegun L bytes
+Stops L bytes NoForm = IsNone L bytes
+Stops L bytes Memory = Unit {0}
+
+-- the texts of records
+abbrev pub IsRecord : List ℕ → Type 0
+IsRecord x = (r : Record) × Fits r × (x ≡ record_bytes r)
+
+-- the heads of forms
+abbrev pub IsHead : List ℕ → Type 0
+IsHead x = (f : Form) × (x ≡ head f)
+
+-- the bytes of numbers in ranges
+abbrev pub AreNumbers : List Range → List ℕ → Type 0
+AreNumbers rs x = (ns : List ℕ) × AreInRanges ns rs × (x ≡ flat_map number_bytes ns)
+
+-- what stands behind the head of a record
+abbrev pub body : Record → List ℕ
+body r = flat_map number_bytes (numbers r) ++ name_bytes r
+
+-- what can stand behind the head of a form
+abbrev pub IsBody : Form → List ℕ → Type 0
+IsBody f x = (r : Record) × Fits r × (form r ≡ f) × (x ≡ body r)
+
+-- the names of so many bytes
+abbrev pub IsNameOf : ℕ → List ℕ → Type 0
+IsNameOf len x = (is_name x ≡ true) × (length x ≡ len)
+
+-- It is the least number, in the range or above it, whose bytes begin with the first four of these, or with all where they are
+-- fewer.
+pub record IsLeastNumber (bytes : List ℕ) (r : Range) (n : ℕ) : Type 0 where
+  pub known : r.least ≤ little_number 4 bytes → n ≡ little_number 4 bytes
+  pub beyond : little_number 4 bytes < r.least → n ≡ little_number 4 bytes + 256 ^ min (length bytes) 4

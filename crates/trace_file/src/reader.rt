@@ -1,0 +1,265 @@
+//! Reading a trace, in any pieces.
+ghost use Rattle.std.specs.Prelude.{◌≡◌, ◌≢◌, ◌≤◌, ◌<◌, ◌^◌, ◌+◌, ◌++◌, ◌∷◌, [], ℕ, List, None, Some, length, Err, get_or, IfErr, IfOk, IsTrue, MatchResult, OnErr, OnOk, ◌↔◌};
+ghost use Rattle.std.specs.Result.{result_err};
+ghost use Rattle.trace_file.specs.declared.errors.TraceError.{TraceError};
+ghost use Rattle.trace_model.specs.declared.event_kinds.Event.{Event};
+ghost use Rattle.trace_model.specs.Cut.{past_after};
+ghost use Rattle.trace_order.specs.Order.{IsOrderOf};
+ghost use Rattle.trace_file.specs.declared.records.Record.TheVariants.{OfEvent, OfName, OfFinish};
+ghost use Rattle.trace_file.specs.Records.{Fits};
+ghost use Rattle.trace_file.specs.Reading.{HasFed, HasRead, IsAtRecord, IsReading, IsRefused, MayFeed};
+ghost use Rattle.trace_file.specs.Steps.{IsAdded, IsFed, IsNotAdded, IsOpen, IsTaken, MayReadByte, said};
+ghost use Rattle.trace_file.specs.TraceText.{IsRising, IsTrace, magic};
+
+use crate::errors::TraceError;
+use crate::record_reader::{Stop, read_record};
+use crate::records::Record;
+use guest_words::{Addr, Finish, Name};
+use std::alloc::{AllocError, Global};
+use std::marker::Model;
+use trace_model::{Event, Events};
+use trace_order::Order;
+
+/// The line that a trace begins with.
+const MAGIC: [u8; 14] = *b"aprof trace 1\n";
+
+/// What stands behind the events of a trace: the names, and how the run ended.
+#[derive(Drop)]
+pub struct TraceEnd {
+    pub names: Vec<(Addr, Name)>,
+    pub finish: Finish,
+}
+
+/// Reads a trace in any pieces. It keeps the bytes of the record that is begun, the names, and what tells the order of
+/// events, and not the events. Once it refuses, it goes on refusing.
+#[derive(Drop)]
+pub struct TraceReader {
+    alloc: Global,
+    line: usize,
+    held: Vec<u8>,
+    at: u64,
+    order: Order,
+    names: Vec<(Addr, Name)>,
+    finish: Option<Finish>,
+    refusal: Option<TraceError>,
+}
+
+impl Model for TraceReader {
+    ghost use Rattle.trace_file.specs.Reading.{ReaderState};
+
+    ghost Value = { ReaderState };
+
+    ghost view = { λ r. record { line = r.line; held = r.held.items; at = r.at; order = r.order; names = r.names.items; finish = r.finish; refusal = r.refusal } };
+}
+
+/// Whether an entry is above those of all names, which rise.
+fn is_above(names: &[(Addr, Name)], entry: Addr) -> bool
+    requires { IsRising names.now }
+    ensures { (name : List ℕ) → IsTrue result ↔ IsRising (names.now ++ (entry, name) ∷ []) }
+{
+    names.is_empty() || names[names.len() - 1].0 < entry
+}
+
+/// Appends a name.
+fn push_name(names: &mut Vec<(Addr, Name)>, entry: Addr, name: Name) -> Result<(), AllocError>
+    ensures { OnOk result (names.new.items ≡ names.old.items ++ (entry, name) ∷ []) }
+{
+    names.push((entry, name))?;
+    Ok(())
+}
+
+/// Appends a byte.
+fn push_byte(held: &mut Vec<u8>, byte: u8) -> Result<(), AllocError>
+    ensures { OnOk result (held.new.items ≡ held.old.items ++ byte ∷ []) }
+{
+    held.push(byte)?;
+    Ok(())
+}
+
+impl TraceReader {
+    // Adds an event.
+    fn add_event(&mut self, e: Event, events: &mut Events) -> Result<(), TraceError>
+        requires begun { (past : List Event) × IsOpen self.old past }
+        requires fits { Fits (OfEvent e) }
+        ensures ok { (past : List Event) → IsOpen self.old past → OnOk result (IsAdded self.old self.new past (OfEvent e)) }
+        ensures err { (past : List Event) → IsOpen self.old past → IfErr result (λ x. IsNotAdded self.old past (OfEvent e) x) }
+        ensures appended { OnOk result (events.new.list ≡ events.old.list ++ e ∷ []) }
+        ensures kept { OnErr result (events.new.list ≡ events.old.list) }
+    {
+        if !self.names.is_empty() || !self.order.may_follow(&e) {
+            return Err(TraceError::Order { at: self.at });
+        }
+        events.reserve(1)?;
+        self.order.add(e)?;
+        events.push(e);
+        Ok(())
+    }
+
+    // Adds a name.
+    fn add_name(&mut self, entry: Addr, name: Name) -> Result<(), TraceError>
+        requires begun { (past : List Event) × IsOpen self.old past }
+        requires fits { Fits (OfName entry name) }
+        ensures ok { (past : List Event) → IsOpen self.old past → OnOk result (IsAdded self.old self.new past (OfName entry name)) }
+        ensures err { (past : List Event) → IsOpen self.old past → IfErr result (λ x. IsNotAdded self.old past (OfName entry name) x) }
+    {
+        if !is_above(&self.names, entry) {
+            return Err(TraceError::Order { at: self.at });
+        }
+        push_name(&mut self.names, entry, name)?;
+        Ok(())
+    }
+
+    // Adds the end.
+    fn add_finish(&mut self, f: Finish)
+        requires fits { Fits (OfFinish f) }
+        ensures { (past : List Event) → IsOpen self.old past → IsAdded self.old self.new past (OfFinish f) }
+    {
+        self.finish = Some(f);
+    }
+
+    // Adds a record.
+    fn add_record(&mut self, next: Record, events: &mut Events) -> Result<(), TraceError>
+        requires begun { (past : List Event) × IsOpen self.old past }
+        requires fits { Fits next }
+        ensures ok { (past : List Event) → IsOpen self.old past → OnOk result (IsAdded self.old self.new past next) }
+        ensures err { (past : List Event) → IsOpen self.old past → IfErr result (λ x. IsNotAdded self.old past next x) }
+        ensures appended { OnOk result (events.new.list ≡ events.old.list ++ said next) }
+        ensures kept { OnErr result (events.new.list ≡ events.old.list) }
+    {
+        match next {
+            Record::OfEvent(e) => self.add_event(e, events),
+            Record::OfName(entry, name) => self.add_name(entry, name),
+            Record::OfFinish(f) => {
+                self.add_finish(f);
+                Ok(())
+            }
+        }
+    }
+
+    // Adds the record whose bytes are held, behind which the next one begins.
+    fn take_record(&mut self, next: Record, events: &mut Events) -> Result<(), TraceError>
+        requires begun { (past : List Event) × IsOpen self.old past }
+        requires fits { Fits next }
+        requires place { self.old.at + length self.old.held < 2 ^ 64 }
+        ensures ok { (past : List Event) → IsOpen self.old past → OnOk result (IsTaken self.old self.new past next) }
+        ensures err { (past : List Event) → IsOpen self.old past → IfErr result (λ x. IsNotAdded self.old past next x) }
+        ensures appended { OnOk result (events.new.list ≡ events.old.list ++ said next) }
+        ensures kept { OnErr result (events.new.list ≡ events.old.list) }
+    {
+        let place = self.at + self.held.len() as u64;
+        self.add_record(next, events)?;
+        self.at = place;
+        self.held.clear();
+        Ok(())
+    }
+
+    // Reads a byte more of a record.
+    fn read_byte(&mut self, byte: u8, events: &mut Events) -> Result<(), TraceError>
+        requires reading { MayReadByte IsAtRecord self.old }
+        requires unfinished { self.old.finish ≡ None }
+        ensures { IsFed IsAtRecord IsAtRecord self.old self.new (byte ∷ []) events.old.list events.new.list result }
+    {
+        push_byte(&mut self.held, byte)?;
+        match read_record(self.alloc, &self.held) {
+            Ok(next) => self.take_record(next, events),
+            Err(Stop::Begun) => Ok(()),
+            Err(Stop::NoForm) => Err(TraceError::Record { at: self.at }),
+            Err(Stop::Memory) => Err(TraceError::Memory),
+        }
+    }
+
+    // Reads a byte more of the first line.
+    fn read_line_byte(&mut self, byte: u8) -> Result<(), TraceError>
+        requires line { self.old.line < length magic }
+        requires place { self.old.at + 1 < 2 ^ 64 }
+        ensures ok { OnOk result ((get_or magic self.old.line 0 ≡ byte) × (self.new ≡ record self.old { line = self.old.line + 1; at = self.old.at + 1 })) }
+        ensures err { IfErr result (λ e. (e ≡ TraceError.Magic) × (get_or magic self.old.line 0 ≢ byte)) }
+    {
+        if MAGIC[self.line] != byte {
+            return Err(TraceError::Magic);
+        }
+        self.line += 1;
+        self.at += 1;
+        Ok(())
+    }
+
+    // Reads a byte more, where nothing fails so far.
+    fn next_byte(&mut self, byte: u8, events: &mut Events) -> Result<(), TraceError>
+        requires reading { MayReadByte IsReading self.old }
+        ensures { IsFed IsReading IsReading self.old self.new (byte ∷ []) events.old.list events.new.list result }
+    {
+        if self.line < MAGIC.len() {
+            return self.read_line_byte(byte);
+        }
+        match self.finish {
+            Some(_) => Err(TraceError::Record { at: self.at }),
+            None => self.read_byte(byte, events),
+        }
+    }
+
+    // Reads a byte more, and keeps the refusal.
+    fn take_byte(&mut self, byte: u8, events: &mut Events) -> Result<(), TraceError>
+        requires reading { MayReadByte HasRead self.old }
+        requires none { self.old.refusal ≡ None }
+        ensures fed { HasFed self.old self.new (byte ∷ []) events.old.list events.new.list }
+        ensures answer { self.new.refusal ≡ result_err result }
+    {
+        let read = self.next_byte(byte, events);
+        self.refusal = read.err();
+        read
+    }
+
+    /// Nothing is read.
+    pub fn new(alloc: Global) -> Result<TraceReader, AllocError>
+        ensures { IfOk result (λ r. HasRead r [] []) }
+    {
+        Ok(TraceReader {
+            alloc,
+            line: 0,
+            held: Vec::new(alloc),
+            at: 0,
+            order: Order::new(alloc)?,
+            names: Vec::new(alloc),
+            finish: None,
+            refusal: None,
+        })
+    }
+
+    /// Reads a piece more, and appends the events of the records that are whole by now. A refusal stays: every later call
+    /// answers it again, and appends nothing.
+    pub fn feed(&mut self, piece: &[u8], events: &mut Events) -> Result<(), TraceError>
+        requires { MayFeed self.old piece.now }
+        ensures fed { HasFed self.old self.new piece.now events.old.list events.new.list }
+        ensures answer { self.new.refusal ≡ result_err result }
+        ensures stays { (e : TraceError) → self.old.refusal ≡ Some e → (self.new ≡ self.old) × (events.new.list ≡ events.old.list) }
+    {
+        if let Some(e) = self.refusal {
+            return Err(e);
+        }
+        for byte in piece {
+            self.take_byte(*byte, events)?;
+        }
+        Ok(())
+    }
+
+    /// The names and the end, where the bytes that were read are the text of a trace.
+    pub fn finish(self) -> Result<TraceEnd, TraceError>
+        ensures ok { (bytes : List ℕ) (past : List Event) → HasRead self bytes past → IfOk result (λ t. IsTrace bytes past t.names.items t.finish) }
+        ensures err { (bytes : List ℕ) (past : List Event) → HasRead self bytes past → IfErr result (λ e. IsRefused bytes past e) }
+        ensures stays { (e : TraceError) → self.refusal ≡ Some e → result ≡ Err e }
+    {
+        let TraceReader {
+            names,
+            finish,
+            refusal,
+            ..
+        } = self;
+        if let Some(e) = refusal {
+            return Err(e);
+        }
+        match finish {
+            Some(finish) => Ok(TraceEnd { names, finish }),
+            None => Err(TraceError::Short),
+        }
+    }
+}

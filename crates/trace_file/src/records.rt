@@ -1,0 +1,42 @@
+//! Records, and the forms that they have.
+
+use guest_words::{Addr, Finish, Name};
+use trace_model::Event;
+
+/// What a record says.
+#[derive(Drop)]
+pub enum Record {
+    /// The next event.
+    OfEvent(Event),
+    /// The name of the routine with this entry.
+    OfName(Addr, Name),
+    /// How the run ended.
+    OfFinish(Finish),
+}
+
+/// The forms of records, each named for what it says.
+#[derive(Clone, Copy, Debug, PartialEq, Eq)]
+pub enum Form {
+    Step,
+    Read,
+    Write,
+    Fill,
+    Call,
+    Ret,
+    Start,
+    End,
+    Named,
+    Exit,
+    Fault,
+    Budget,
+    Deadlock,
+    Deep,
+    Schedule,
+}
+
+/// The least and the greatest that a number of a record can be. The least is 0 or 1.
+#[derive(Clone, Copy, Debug)]
+pub struct Range {
+    pub least: u32,
+    pub most: u32,
+}
