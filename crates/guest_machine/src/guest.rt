@@ -15,11 +15,11 @@ ghost use Rattle.trace_model.specs.EventList.{EventList};
 ghost use Rattle.call_tracker.specs.Links.{kind_of};
 ghost use Rattle.trace_model.specs.declared.event_kinds.Event.{Event};
 
-use crate::{Advanced, Stepped};
 use crate::answers::apply_answer;
 use crate::decoder::Decoder;
 use crate::hart::{cpu_of, execute_for};
 use crate::step_events::{add_jump, add_step};
+use crate::{Advanced, Stepped};
 use call_tracker::{JumpKind, kind};
 use guest_calls::Kernel;
 use guest_memory::{GuestMemory, Reservations};

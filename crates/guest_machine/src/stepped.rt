@@ -26,7 +26,9 @@ pub enum Advanced {
     /// An instruction went, which accessed nothing and was no call and no return.
     Ran,
     /// An instruction went, with this access.
-    Accessed { access: Access },
+    Accessed {
+        access: Access,
+    },
     /// An instruction went that was a call or a return: it jumped to the target, from before the address `back`.
     Jumped {
         jump: JumpKind,
@@ -34,5 +36,7 @@ pub enum Advanced {
         back: Addr,
     },
     /// A call of the kernel, or an instruction that can't run.
-    Other { stepped: Stepped },
+    Other {
+        stepped: Stepped,
+    },
 }
