@@ -1,3 +1,4 @@
+mod Told
 pub mod Registers
 pub mod Holders
 pub mod Executed

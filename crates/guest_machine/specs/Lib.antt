@@ -3,6 +3,7 @@ pub mod Machine
 pub mod Start
 pub mod Step
 pub mod Kept
+pub mod Told
 pub mod Sound
 pub mod Parts
 pub mod Setup

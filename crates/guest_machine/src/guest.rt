@@ -1,25 +1,31 @@
 //! One step of a thread.
-ghost use Rattle.std.specs.Prelude.{◌≡◌, ◌≢◌, ◌≤◌, ◌+◌, ◌%◌, true, false, Ok, OnOk, OnErr, IfOk, IsOk, is_some, length};
+ghost use Rattle.std.specs.Prelude.{◌≡◌, ◌≢◌, ◌≤◌, ◌+◌, ◌%◌, ◌++◌, ◌∷◌, ℕ, List, None, true, false, Ok, OnOk, OnErr, IfOk, IsOk, is_some, length};
 ghost use Rattle.guest_words.specs.ByThread.{value_of};
 ghost use Rattle.guest_memory.specs.Guest.{memory_of};
 ghost use Rattle.guest_calls.specs.Table.{call};
-ghost use Rattle.guest_machine.specs.Kept.{IsAsBefore, Steps, machine_of};
+ghost use Rattle.guest_machine.specs.Kept.{IsAsBefore, Parts, Steps, machine_of, out_of};
 ghost use Rattle.guest_machine.specs.Machine.{can_run};
 ghost use Rattle.guest_machine.specs.Parts.{parts_of};
 ghost use Rattle.guest_machine.specs.Sound.{IsSound};
-ghost use Rattle.guest_machine.specs.Step.{after_call, call_of, executed, instruction_at, next_instruction, pc_of, step};
+ghost use Rattle.guest_machine.specs.Told.{IsAlone, IsQuiet, stepped_of, told};
+ghost use Rattle.guest_machine.specs.Step.{access_events, after_call, call_of, executed, instruction_at, jump_events, next_instruction, pc_of, step};
+ghost use Rattle.guest_machine.specs.declared.stepped.Stepped.TheVariants.{Went};
+ghost use Rattle.trace_model.specs.declared.event_kinds.Event.TheVariants.{Step};
+ghost use Rattle.trace_model.specs.EventList.{EventList};
+ghost use Rattle.call_tracker.specs.Links.{kind_of};
+ghost use Rattle.trace_model.specs.declared.event_kinds.Event.{Event};
 
-use crate::Stepped;
 use crate::answers::apply_answer;
 use crate::decoder::Decoder;
 use crate::hart::{cpu_of, execute_for};
 use crate::step_events::{add_jump, add_step};
-use call_tracker::kind;
+use crate::{Advanced, Stepped};
+use call_tracker::{JumpKind, kind};
 use guest_calls::Kernel;
 use guest_memory::{GuestMemory, Reservations};
 use guest_words::limits::{CALL_EVENTS, THREADS};
 use guest_words::{Addr, ByThread, FaultKind, Tid};
-use rv_exec::{Cpu, Outcome};
+use rv_exec::{Access, Cpu, Outcome};
 use rv_isa::Instr;
 use std::alloc::AllocError;
 use trace_model::{Event, Events};
@@ -56,6 +62,25 @@ fn make_room(events: &mut Events) -> Result<(), AllocError>
     events.reserve(EVENTS_OF_AN_INSTRUCTION)
 }
 
+// What is told of an instruction that went.
+#[inline(always)]
+fn told(instruction: &Instr, access: Access, target: Addr, back: Addr) -> Advanced
+    requires alone { IsAlone access (kind_of instruction.now) }
+    ensures events { (tid : ℕ) → told tid result ≡ Step tid ∷ (access_events tid access ++ jump_events (kind_of instruction.now) tid target back) }
+    ensures stepped { stepped_of result ≡ Went }
+    ensures quiet { (new : Parts) (events : EventList) → out_of new ≡ None → IsQuiet result new events events }
+{
+    match access {
+        Access::Nothing => match kind(*instruction) {
+            JumpKind::Nothing => Advanced::Ran,
+            jump => Advanced::Jumped { jump, target, back },
+        },
+        Access::Read { .. } => Advanced::Accessed { access },
+        Access::Write { .. } => Advanced::Accessed { access },
+        Access::Both { .. } => Advanced::Accessed { access },
+    }
+}
+
 #[tactic(auto, unfolding(crate::specs::Kept::machine_of, crate::specs::Step::step))]
 impl Guest {
     ghost use Rattle.rv_isa.specs.declared.instruction.Instr.TheVariants.{Ecall};
@@ -74,17 +99,17 @@ impl Guest {
 
     // Carries out an instruction, which is no call of the kernel.
     #[inline(always)]
-    fn carry_out(&mut self, tid: Tid, pc: Addr, instruction: &Instr, events: &mut Events) -> Stepped
+    fn carry_out(&mut self, tid: Tid, pc: Addr, instruction: &Instr) -> Advanced
         requires pc { pc ≡ pc_of (machine_of (parts_of self.old)) tid }
         requires sound { IsSound (machine_of (parts_of self.old)) }
         requires lives { is_some (value_of self.old.harts.list tid) ≡ true }
         requires can_run { can_run (machine_of (parts_of self.old)) tid ≡ true }
         requires no_call { instruction.now ≢ Ecall }
-        requires room { 4 ≤ events.old.room }
-        ensures step { Steps (executed (machine_of (parts_of self.old)) tid (Ok instruction.now)) result (parts_of self.new) events.old.list events.new.list }
+        ensures step { (before : List Event) → Steps (executed (machine_of (parts_of self.old)) tid (Ok instruction.now)) (stepped_of result) (parts_of self.new) before (before ++ told tid result) }
         ensures sound { IsSound (machine_of (parts_of self.new)) }
         ensures spare { length self.new.harts.list + self.new.harts.room ≡ length self.old.harts.list + self.old.harts.room }
         ensures entry { self.new.entry ≡ self.old.entry }
+        ensures quiet { (events : EventList) → IsQuiet result (parts_of self.new) events events }
     {
         let (outcome, target) = execute_for(
             &mut self.harts,
@@ -95,12 +120,10 @@ impl Guest {
         );
         self.called = false;
         match outcome {
-            Outcome::Went { access } => {
-                add_step(events, tid, access);
-                add_jump(events, tid, kind(*instruction), target, pc.wrapping_add(4));
-                Stepped::Went
-            }
-            Outcome::Fault { kind } => Stepped::Faulted { kind, at: pc },
+            Outcome::Went { access } => told(instruction, access, target, pc.wrapping_add(4)),
+            Outcome::Fault { kind } => Advanced::Other {
+                stepped: Stepped::Faulted { kind, at: pc },
+            },
             Outcome::KernelCall => unreachable!(),
         }
     }
@@ -138,9 +161,44 @@ impl Guest {
         }
     }
 
+    /// Runs one step of a thread that can run. The events are those that are told and those that are added. An instruction
+    /// other than ECALL takes no memory.
+    #[inline(always)]
+    pub(crate) fn advance(
+        &mut self,
+        decoder: &mut Decoder,
+        tid: Tid,
+        events: &mut Events,
+    ) -> Result<Advanced, AllocError>
+        requires sound { IsSound (machine_of (parts_of self.old)) }
+        requires can_run { can_run (machine_of (parts_of self.old)) tid ≡ true }
+        requires spare { THREADS ≤ length self.old.harts.list + self.old.harts.room }
+        ensures step { IfOk result (λ advanced. Steps (step (machine_of (parts_of self.old)) tid) (stepped_of advanced) (parts_of self.new) events.old.list (events.new.list ++ told tid advanced)) }
+        ensures refused { OnErr result (IsAsBefore (parts_of self.old) (parts_of self.new) events.old.list events.new.list) }
+        ensures no_memory { next_instruction (machine_of (parts_of self.old)) tid ≢ Ok Ecall → IsOk result }
+        ensures sound { IsSound (machine_of (parts_of self.new)) }
+        ensures spare { THREADS ≤ length self.new.harts.list + self.new.harts.room }
+        ensures entry { self.new.entry ≡ self.old.entry }
+        ensures quiet { IfOk result (λ advanced. IsQuiet advanced (parts_of self.new) events.old events.new) }
+    {
+        let pc = cpu_of(&self.harts, tid).pc;
+        match self.instruction_at(decoder, pc) {
+            Err(kind) => {
+                self.called = false;
+                Ok(Advanced::Other {
+                    stepped: Stepped::Faulted { kind, at: pc },
+                })
+            }
+            Ok(Instr::Ecall) => {
+                let stepped = self.call_kernel(tid, events)?;
+                Ok(Advanced::Other { stepped })
+            }
+            Ok(instruction) => Ok(self.carry_out(tid, pc, &instruction)),
+        }
+    }
+
     /// Runs one step of a thread that can run, and adds its events. An instruction other than ECALL takes no memory where
     /// there is room for four events.
-    #[inline(always)]
     pub(crate) fn step(
         &mut self,
         decoder: &mut Decoder,
@@ -157,17 +215,22 @@ impl Guest {
         ensures spare { THREADS ≤ length self.new.harts.list + self.new.harts.room }
         ensures entry { self.new.entry ≡ self.old.entry }
     {
-        let pc = cpu_of(&self.harts, tid).pc;
-        match self.instruction_at(decoder, pc) {
-            Err(kind) => {
-                self.called = false;
-                Ok(Stepped::Faulted { kind, at: pc })
+        make_room(events)?;
+        match self.advance(decoder, tid, events)? {
+            Advanced::Ran => {
+                events.push(Event::Step { tid });
+                Ok(Stepped::Went)
             }
-            Ok(Instr::Ecall) => self.call_kernel(tid, events),
-            Ok(instruction) => {
-                make_room(events)?;
-                Ok(self.carry_out(tid, pc, &instruction, events))
+            Advanced::Accessed { access } => {
+                add_step(events, tid, access);
+                Ok(Stepped::Went)
             }
+            Advanced::Jumped { jump, target, back } => {
+                events.push(Event::Step { tid });
+                add_jump(events, tid, jump, target, back);
+                Ok(Stepped::Went)
+            }
+            Advanced::Other { stepped } => Ok(stepped),
         }
     }
 }

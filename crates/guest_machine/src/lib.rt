@@ -22,4 +22,4 @@ mod stepped;
 pub use laws::{every_step_is_short, every_step_is_traced};
 pub use machine::Machine;
 pub use setup::SetupError;
-pub use stepped::Stepped;
+pub use stepped::{Advanced, Stepped};

@@ -5,7 +5,7 @@ use crate::decoder::Decoder;
 use crate::guest::Guest;
 use crate::setup::first_guest;
 use crate::stack::strings_length;
-use crate::{SetupError, Stepped};
+use crate::{Advanced, SetupError, Stepped};
 use elf_image::Image;
 use guest_calls::Inputs;
 use guest_words::limits::{PAGES, STACK_PAGES};
@@ -47,6 +47,8 @@ impl Machine {
     ghost use Rattle.rv_isa.specs.declared.instruction.Instr.TheVariants.{Ecall};
     ghost use Rattle.guest_machine.specs.Kept.{machine_of, out_of, IsAsBefore, Steps};
     ghost use Rattle.guest_machine.specs.Machine.{can_run, ready};
+    ghost use Rattle.guest_machine.specs.Told.{IsQuiet, stepped_of, told};
+    ghost use Rattle.std.specs.Prelude.{◌++◌};
     ghost use Rattle.guest_machine.specs.Step.{next_instruction, step};
 
     /// A machine that begins: the image's segments, the argument strings, the first of which is the program's name, the
@@ -86,9 +88,22 @@ impl Machine {
         }
     }
 
+    /// Runs one step of a thread that can run. The events of an instruction that went are told by what it did, and those of
+    /// any other step are added. An instruction other than ECALL takes no memory.
+    #[inline(always)]
+    pub fn advance(&mut self, tid: Tid, events: &mut Events) -> Result<Advanced, AllocError>
+        requires { can_run (machine_of self.old) tid ≡ true }
+        ensures step { IfOk result (λ advanced. Steps (step (machine_of self.old) tid) (stepped_of advanced) self.new events.old.list (events.new.list ++ told tid advanced)) }
+        ensures refused { OnErr result (IsAsBefore self.old self.new events.old.list events.new.list) }
+        ensures no_memory { next_instruction (machine_of self.old) tid ≢ Ok Ecall → IsOk result }
+        ensures entry { self.new.entry ≡ self.old.entry }
+        ensures quiet { IfOk result (λ advanced. IsQuiet advanced self.new events.old events.new) }
+    {
+        self.guest.advance(&mut self.decoder, tid, events)
+    }
+
     /// Runs one step of a thread that can run, and adds its events. An instruction other than ECALL takes no memory where
     /// there is room for four events.
-    #[inline(always)]
     pub fn step(&mut self, tid: Tid, events: &mut Events) -> Result<Stepped, AllocError>
         requires { can_run (machine_of self.old) tid ≡ true }
         ensures step { IfOk result (λ stepped. Steps (step (machine_of self.old) tid) stepped self.new events.old.list events.new.list) }

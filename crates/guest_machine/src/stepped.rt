@@ -1,5 +1,7 @@
 //! What a step gives.
+use call_tracker::JumpKind;
 use guest_words::{Addr, FaultKind};
+use rv_exec::Access;
 
 /// What became of a thread by its step.
 #[derive(Clone, Copy, Debug, PartialEq, Eq)]
@@ -16,4 +18,25 @@ pub enum Stepped {
     Finished { status: u8 },
     /// Its instruction, at this address, can't run. Nothing changed.
     Faulted { kind: FaultKind, at: Addr },
+}
+
+/// A step that was made. The events of an instruction that went are told by what it did; those of any other step are in a list.
+#[derive(Clone, Copy, Debug, PartialEq, Eq)]
+pub enum Advanced {
+    /// An instruction went, which accessed nothing and was no call and no return.
+    Ran,
+    /// An instruction went, with this access.
+    Accessed {
+        access: Access,
+    },
+    /// An instruction went that was a call or a return: it jumped to the target, from before the address `back`.
+    Jumped {
+        jump: JumpKind,
+        target: Addr,
+        back: Addr,
+    },
+    /// A call of the kernel, or an instruction that can't run.
+    Other {
+        stepped: Stepped,
+    },
 }

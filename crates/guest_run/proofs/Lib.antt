@@ -1,3 +1,4 @@
+pub mod Handed
 pub mod Able
 pub mod Chosen
 pub mod Watched

@@ -1,19 +1,25 @@
 //! One step of a machine: its bytes go out, and its events to an observer.
-ghost use Rattle.std.specs.Prelude.{◌≡◌, true, IfOk};
-ghost use Rattle.trace_model.specs.Observing.{MayTakeAll};
-ghost use Rattle.guest_machine.specs.Kept.{machine_of, out_of};
+ghost use Rattle.std.specs.Prelude.{◌≡◌, ◌∷◌, [], true, IfOk, if◌then◌else◌};
+ghost use Rattle.guest_words.specs.declared.endings.Finish.TheVariants.{Deep};
+ghost use Rattle.trace_model.specs.Observing.{MayTakeAll, ObservesAll, is_taken};
+ghost use Rattle.trace_model.specs.declared.event_kinds.Event.TheVariants.{Step};
+ghost use Rattle.guest_machine.specs.Kept.{Steps, machine_of, out_of};
 ghost use Rattle.guest_machine.specs.Machine.{can_run};
-ghost use Rattle.guest_run.specs.Machine.{guest};
+ghost use Rattle.guest_machine.specs.Step.{StepResult, access_events, jump_events};
+ghost use Rattle.guest_run.specs.declared.turn_status.TurnStatus.TheVariants.{Ends};
+ghost use Rattle.guest_run.specs.Machine.{guest, progress_of};
 ghost use Rattle.guest_run.specs.Output.{sinks};
 ghost use Rattle.guest_run.specs.Steps.{PutEndsOn, PutsSent, StepEnds};
 
 use crate::turn_status::turn_status_of;
 use crate::{Channel, RunError, TurnStatus};
-use guest_machine::Machine;
-use guest_words::{Finish, Tid};
+use call_tracker::JumpKind;
+use guest_machine::{Advanced, Machine, Stepped};
+use guest_words::{Addr, Finish, Tid};
 use host_io::{PutError, Sink};
+use rv_exec::Access;
 use std::alloc::{AllocError, Global};
-use trace_model::{Events, Observed, Observer, feed};
+use trace_model::{Event, Events, Observed, Observer, feed};
 
 /// A machine, with room for the events of a step.
 #[derive(Drop)]
@@ -81,13 +87,154 @@ impl Stepper {
         ensures same { W.fits observer.new ≡ W.fits observer.old }
     {
         self.events.clear();
-        let stepped = self.machine.step(tid, &mut self.events)?;
+        match self.machine.advance(tid, &mut self.events)? {
+            Advanced::Ran => {
+                let observed = observe_step(tid, observer)?;
+                Ok(status_of(observed, TurnStatus::GoesOn))
+            }
+            Advanced::Accessed { access } => {
+                let observed = observe_access(tid, access, observer)?;
+                Ok(status_of(observed, TurnStatus::GoesOn))
+            }
+            Advanced::Jumped { jump, target, back } => {
+                let observed = observe_jump(tid, jump, target, back, observer)?;
+                Ok(status_of(observed, TurnStatus::GoesOn))
+            }
+            Advanced::Other { stepped } => self.finish_step(tid, stepped, observer, out, err),
+        }
+    }
+
+    // Puts the bytes of a step whose events are in the list, and hands these out.
+    #[cold]
+    #[inline(never)]
+    fn finish_step<W: Observer, O: Sink, E: Sink>(
+        &mut self,
+        tid: Tid,
+        stepped: Stepped,
+        observer: &mut W,
+        out: &mut O,
+        err: &mut E,
+    ) -> Result<TurnStatus, RunError>
+        requires { MayTakeAll W.stands (W.fits observer.old) observer.old self.old.events.list }
+        ensures ends { (r : StepResult) → Steps r stepped self.old.machine [] self.old.events.list → StepEnds W.stands (W.fits observer.old) (progress_of tid r)
+            observer.old (sinks (O.state out.old) (E.state err.old)) self.new observer.new (sinks (O.state out.new) (E.state err.new)) result }
+        ensures same { W.fits observer.new ≡ W.fits observer.old }
+    {
         put_outgoing(&self.machine, out, err)?;
-        match feed(self.events.list(), observer)? {
-            Observed::Taken => Ok(turn_status_of(tid, stepped)),
-            Observed::Refused => Ok(TurnStatus::Ends {
-                finish: Finish::Deep,
-            }),
+        let observed = feed(self.events.list(), observer)?;
+        Ok(status_of(observed, turn_status_of(tid, stepped)))
+    }
+}
+
+// What a step means for its turn, where the observer took its events or not.
+#[inline(always)]
+fn status_of(observed: Observed, status: TurnStatus) -> TurnStatus
+    ensures { result ≡ (if is_taken observed then status else Ends Deep) }
+{
+    match observed {
+        Observed::Taken => status,
+        Observed::Refused => TurnStatus::Ends {
+            finish: Finish::Deep,
+        },
+    }
+}
+
+// Hands out two events.
+#[inline(always)]
+fn observe_two<W: Observer>(
+    first: Event,
+    second: Event,
+    observer: &mut W,
+) -> Result<Observed, AllocError>
+    requires { MayTakeAll W.stands (W.fits observer.old) observer.old (first ∷ second ∷ []) }
+    ensures observed { IfOk result (ObservesAll W.stands (W.fits observer.old) (first ∷ second ∷ []) observer.old observer.new) }
+    ensures same { W.fits observer.new ≡ W.fits observer.old }
+{
+    match observer.observe(first)? {
+        Observed::Taken => observer.observe(second),
+        Observed::Refused => Ok(Observed::Refused),
+    }
+}
+
+// Hands out three events.
+#[inline(never)]
+fn observe_three<W: Observer>(
+    first: Event,
+    second: Event,
+    third: Event,
+    observer: &mut W,
+) -> Result<Observed, AllocError>
+    requires { MayTakeAll W.stands (W.fits observer.old) observer.old (first ∷ second ∷ third ∷ []) }
+    ensures observed { IfOk result (ObservesAll W.stands (W.fits observer.old) (first ∷ second ∷ third ∷ []) observer.old observer.new) }
+    ensures same { W.fits observer.new ≡ W.fits observer.old }
+{
+    match observer.observe(first)? {
+        Observed::Taken => observe_two(second, third, observer),
+        Observed::Refused => Ok(Observed::Refused),
+    }
+}
+
+// Hands out a step.
+#[inline(always)]
+fn observe_step<W: Observer>(tid: Tid, observer: &mut W) -> Result<Observed, AllocError>
+    requires { MayTakeAll W.stands (W.fits observer.old) observer.old (Step tid ∷ []) }
+    ensures observed { IfOk result (ObservesAll W.stands (W.fits observer.old) (Step tid ∷ []) observer.old observer.new) }
+    ensures same { W.fits observer.new ≡ W.fits observer.old }
+{
+    observer.observe(Event::Step { tid })
+}
+
+// Hands out a step and its accesses.
+#[inline(always)]
+fn observe_access<W: Observer>(
+    tid: Tid,
+    access: Access,
+    observer: &mut W,
+) -> Result<Observed, AllocError>
+    requires { MayTakeAll W.stands (W.fits observer.old) observer.old (Step tid ∷ access_events tid access) }
+    ensures observed { IfOk result (ObservesAll W.stands (W.fits observer.old) (Step tid ∷ access_events tid access) observer.old observer.new) }
+    ensures same { W.fits observer.new ≡ W.fits observer.old }
+{
+    let step = Event::Step { tid };
+    match access {
+        Access::Nothing => observe_step(tid, observer),
+        Access::Read { first, count } => {
+            observe_two(step, Event::Read { tid, first, count }, observer)
+        }
+        Access::Write { first, count } => {
+            observe_two(step, Event::Write { tid, first, count }, observer)
+        }
+        Access::Both { word } => {
+            let first = word;
+            let count = 1;
+            let read = Event::Read { tid, first, count };
+            observe_three(step, read, Event::Write { tid, first, count }, observer)
+        }
+    }
+}
+
+// Hands out a step, and the calls and returns of its jump.
+#[inline(always)]
+fn observe_jump<W: Observer>(
+    tid: Tid,
+    jump: JumpKind,
+    target: Addr,
+    back: Addr,
+    observer: &mut W,
+) -> Result<Observed, AllocError>
+    requires { MayTakeAll W.stands (W.fits observer.old) observer.old (Step tid ∷ jump_events jump tid target back) }
+    ensures observed { IfOk result (ObservesAll W.stands (W.fits observer.old) (Step tid ∷ jump_events jump tid target back) observer.old observer.new) }
+    ensures same { W.fits observer.new ≡ W.fits observer.old }
+{
+    let step = Event::Step { tid };
+    let entry = target;
+    match jump {
+        JumpKind::Nothing => observe_step(tid, observer),
+        JumpKind::Push => observe_two(step, Event::Call { tid, entry, back }, observer),
+        JumpKind::Pop => observe_two(step, Event::Ret { tid, target }, observer),
+        JumpKind::PopPush => {
+            let call = Event::Call { tid, entry, back };
+            observe_three(step, Event::Ret { tid, target }, call, observer)
         }
     }
 }

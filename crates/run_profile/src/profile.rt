@@ -34,6 +34,7 @@ impl<S: Lanes> Model for Profile<S> {
 }
 
 // How many steps the event is.
+#[inline(always)]
 fn steps_of(e: &Event) -> u64
     ensures { result ≡ steps (e.now ∷ []) }
 {
@@ -58,7 +59,8 @@ impl<S: Lanes> Profile<S> {
         })
     }
 
-    // Adds what ended last to the points.
+    // Adds what ended last to the points, where anything did.
+    #[inline(always)]
     fn settle(&mut self) -> Result<(), AllocError>
         requires { IsOfLight S.MAX self.old }
         ensures stands { (past : List Event) → IsProfileOf S.MAX self.old past → IsProfileOf S.MAX self.new past }
@@ -67,6 +69,16 @@ impl<S: Lanes> Profile<S> {
         if self.ended.is_empty() {
             return Ok(());
         }
+        self.settle_ended()
+    }
+
+    // Adds what ended last to the points.
+    #[inline(never)]
+    fn settle_ended(&mut self) -> Result<(), AllocError>
+        requires { IsOfLight S.MAX self.old }
+        ensures stands { (past : List Event) → IsProfileOf S.MAX self.old past → IsProfileOf S.MAX self.new past }
+        ensures settled { OnOk result (self.new.ended ≡ []) }
+    {
         add_ended(&mut self.points, &self.ended, &mut self.added)?;
         self.ended.clear();
         self.added = 0;
@@ -100,6 +112,7 @@ impl<S: Lanes> Observer for Profile<S> {
 
     ghost fits_closed = { λ _. within_closed S.MAX };
 
+    #[inline(always)]
     fn observe(&mut self, e: Event) -> Result<Observed, AllocError> {
         self.settle()?;
         match self.profiler.apply(e, &mut self.ended) {

@@ -13,7 +13,32 @@ use stamps::Stamp;
 use std::alloc::AllocError;
 
 /// Makes the pages of a range of words that are not there, of write stamps and of marks. No stamp changes.
+#[inline(always)]
 pub(crate) fn cover<S: Stamp>(
+    writes: &mut Shadow<S>,
+    marks: &mut Shadow<u8>,
+    first: Word,
+    count: u32,
+) -> Result<(), AllocError>
+    requires end { first + count ≤ 2 ^ 30 }
+    requires marked { (w : ℕ) → covers writes.old.pages w ≡ true → covers marks.old.pages w ≡ true }
+    ensures writes { OnOk result (AreCovered writes.new.pages first count) }
+    ensures marks { OnOk result (AreCovered marks.new.pages first count) }
+    ensures marked { (w : ℕ) → covers writes.new.pages w ≡ true → covers marks.new.pages w ≡ true }
+    ensures stamps { (w : ℕ) → stamp_at writes.new.pages w ≡ stamp_at writes.old.pages w }
+    ensures kinds { (w : ℕ) → stamp_at marks.new.pages w ≡ stamp_at marks.old.pages w }
+    ensures covered { AreCovered writes.old.pages first count → IsOk result }
+{
+    if count == 1 && writes.covers(first) {
+        return Ok(());
+    }
+    cover_all(writes, marks, first, count)
+}
+
+// The same, page by page.
+#[cold]
+#[inline(never)]
+fn cover_all<S: Stamp>(
     writes: &mut Shadow<S>,
     marks: &mut Shadow<u8>,
     first: Word,
@@ -33,7 +58,30 @@ pub(crate) fn cover<S: Stamp>(
 }
 
 /// Makes the pages of a range of words that are not there, of the thread's access stamps. No stamp changes.
+#[inline(always)]
 pub(crate) fn cover_own<S: Lanes>(
+    threads: &mut Threads<S>,
+    tid: Tid,
+    first: Word,
+    count: u32,
+) -> Result<(), AllocError>
+    requires end { first + count ≤ 2 ^ 30 }
+    requires lives { is_some (value_of threads.old.threads tid) ≡ true }
+    ensures changed { IsChanged threads.old threads.new tid (frames_of threads.old.threads tid) (pages_of threads.new.threads tid) }
+    ensures stamps { (w : ℕ) → stamp_at (pages_of threads.new.threads tid) w ≡ stamp_at (pages_of threads.old.threads tid) w }
+    ensures ok { OnOk result (AreCovered (pages_of threads.new.threads tid) first count) }
+    ensures covered { AreCovered (pages_of threads.old.threads tid) first count → IsOk result }
+{
+    if count == 1 && threads.shadow(tid).covers(first) {
+        return Ok(());
+    }
+    cover_all_own(threads, tid, first, count)
+}
+
+// The same, page by page.
+#[cold]
+#[inline(never)]
+fn cover_all_own<S: Lanes>(
     threads: &mut Threads<S>,
     tid: Tid,
     first: Word,

@@ -118,6 +118,7 @@ impl<S: Lanes> Profiler<S> {
         self.renumbered
     }
     // A step of a thread that lives.
+    #[inline(always)]
     fn step(&mut self, tid: Tid)
         requires { MayTake (StandsFor S.MAX) self.old (Step tid) }
         ensures { table_of_state self.new ≡ table_after (bounded_tick S.MAX) (Step tid) (table_of_state self.old) }
@@ -135,6 +136,8 @@ impl<S: Lanes> Profiler<S> {
     }
 
     // A fill by the kernel.
+    #[cold]
+    #[inline(never)]
     fn fill(&mut self, first: Word, count: u32) -> Result<(), AllocError>
         requires { MayTake (StandsFor S.MAX) self.old (Fill first count) }
         ensures table { OnOk result (table_of_state self.new ≡ table_after (bounded_tick S.MAX) (Fill first count) (table_of_state self.old)) }
@@ -156,6 +159,7 @@ impl<S: Lanes> Profiler<S> {
     }
 
     // A write by the thread that runs.
+    #[inline(always)]
     fn write(&mut self, tid: Tid, first: Word, count: u32) -> Result<(), AllocError>
         requires { MayTake (StandsFor S.MAX) self.old (Write tid first count) }
         ensures table { OnOk result (table_of_state self.new ≡ table_after (bounded_tick S.MAX) (Write tid first count) (table_of_state self.old)) }
@@ -179,6 +183,8 @@ impl<S: Lanes> Profiler<S> {
     }
 
     // A thread starts, with its first activation.
+    #[cold]
+    #[inline(never)]
     fn start(&mut self, tid: Tid, entry: Addr) -> Result<(), AllocError>
         requires { MayTake (StandsFor S.MAX) self.old (Start tid entry) }
         ensures table { OnOk result (table_of_state self.new ≡ table_after (bounded_tick S.MAX) (Start tid entry) (table_of_state self.old)) }
@@ -203,6 +209,7 @@ impl<S: Lanes> Profiler<S> {
     }
 
     // A call by the thread that runs.
+    #[inline(never)]
     fn call(&mut self, tid: Tid, entry: Addr, back: Addr) -> Result<(), AllocError>
         requires { MayTake (StandsFor S.MAX) self.old (Call tid entry back) }
         ensures table { OnOk result (table_of_state self.new ≡ table_after (bounded_tick S.MAX) (Call tid entry back) (table_of_state self.old)) }
@@ -224,6 +231,7 @@ impl<S: Lanes> Profiler<S> {
     }
 
     // A return of the thread that runs: the calls that it ends are recorded.
+    #[inline(never)]
     fn return_to(&mut self, tid: Tid, target: Addr, done: &mut Vec<Done>) -> Result<(), AllocError>
         requires { MayTake (StandsFor S.MAX) self.old (Ret tid target) }
         ensures table { OnOk result (table_of_state self.new ≡ table_after (bounded_tick S.MAX) (Ret tid target) (table_of_state self.old)) }
@@ -241,6 +249,8 @@ impl<S: Lanes> Profiler<S> {
     }
 
     // The end of a thread: all its calls are recorded.
+    #[cold]
+    #[inline(never)]
     fn end(&mut self, tid: Tid, done: &mut Vec<Done>) -> Result<(), AllocError>
         requires { MayTake (StandsFor S.MAX) self.old (End tid) }
         ensures table { OnOk result (table_of_state self.new ≡ table_after (bounded_tick S.MAX) (End tid) (table_of_state self.old)) }
@@ -259,6 +269,7 @@ impl<S: Lanes> Profiler<S> {
     }
 
     // A read by the thread that runs.
+    #[inline(always)]
     fn read(&mut self, tid: Tid, first: Word, count: u32) -> Result<(), AllocError>
         requires { MayTake (StandsFor S.MAX) self.old (Read tid first count) }
         ensures table { OnOk result (table_of_state self.new ≡ table_after (bounded_tick S.MAX) (Read tid first count) (table_of_state self.old)) }
@@ -292,6 +303,7 @@ impl<S: Lanes> Profiler<S> {
     }
 
     // Whether the event begins an activation too many.
+    #[inline(always)]
     fn is_too_deep(&self, e: &Event) -> bool
         requires { MayTake (StandsFor S.MAX) self.now e.now }
         ensures { (past : List Event) → StandsFor S.MAX self.now past → result ≡ is_too_deep S.MAX e.now past }
@@ -300,6 +312,7 @@ impl<S: Lanes> Profiler<S> {
     }
 
     // Takes an event that is not too deep.
+    #[inline(always)]
     fn take(&mut self, e: Event, done: &mut Vec<Done>) -> Result<(), AllocError>
         requires { MayTake (StandsFor S.MAX) self.old e }
         ensures table { OnOk result (table_of_state self.new ≡ table_after (bounded_tick S.MAX) e (table_of_state self.old)) }
@@ -326,6 +339,7 @@ impl<S: Lanes> Profiler<S> {
     /// Takes the next event of the trace, and adds to the list what is recorded of the activations that it ends, the
     /// innermost first. An event that begins an activation too many is refused before any memory is wanted. After a refusal
     /// all is as before. No event is kept.
+    #[inline(always)]
     pub fn apply(&mut self, e: Event, done: &mut Vec<Done>) -> Result<(), ApplyError>
         requires { MayTake (StandsFor S.MAX) self.old e }
         ensures table { OnOk result (table_of_state self.new ≡ table_after (bounded_tick S.MAX) e (table_of_state self.old)) }
@@ -348,6 +362,7 @@ impl<S: Lanes> Profiler<S> {
 }
 
 // Whether the event begins an activation.
+#[inline(always)]
 fn begins(e: &Event) -> bool
     ensures { result ≡ nat_lt 0 (count_begun e.now) }
 {
@@ -358,6 +373,7 @@ fn begins(e: &Event) -> bool
 }
 
 /// Whether a step is by another thread than the step before. The first step is no switch.
+#[inline(always)]
 fn is_switch(last: Option<Tid>, tid: Tid) -> bool
     ensures { result ≡ is_switch last tid }
 {

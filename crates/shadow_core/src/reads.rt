@@ -1,5 +1,5 @@
 //! A read of words: what it changes in the frames and the stamps of the thread that reads.
-ghost use Rattle.std.specs.Prelude.{◌≡◌, ◌≤◌, ◌<◌, ◌+◌, ◌%◌, ◌^◌, ℕ, All, Some, count_by, is_some, length, pos, reverse, true};
+ghost use Rattle.std.specs.Prelude.{◌≡◌, ◌≤◌, ◌<◌, ◌+◌, ◌%◌, ◌^◌, ◌∷◌, [], ℕ, All, Some, count_by, is_some, length, pos, reverse, true};
 ghost use Rattle.std.specs.List.{range_with_len};
 ghost use Rattle.guest_words.specs.ByThread.{value_of};
 ghost use Rattle.shadow_pages.specs.Pages.{AreCovered, covers, stamp_at};
@@ -58,6 +58,7 @@ fn take<S: Lanes>(threads: &mut Threads<S>, tid: Tid, place: Option<usize>, by: 
 }
 
 // What a read of a word changes in the thread's frames, by the stamps of its access and of the latest write.
+#[inline(always)]
 fn read_frames<S: Lanes>(threads: &mut Threads<S>, tid: Tid, own: S, write: S)
     requires lives { is_some (value_of threads.old.threads tid) ≡ true }
     requires some { 1 ≤ length (frames_of threads.old.threads tid) }
@@ -75,7 +76,22 @@ fn read_frames<S: Lanes>(threads: &mut Threads<S>, tid: Tid, own: S, write: S)
     }
 }
 
+// A read of one word, by the stamps of its access and of the latest write.
+#[inline(always)]
+fn read_stamped<S: Lanes>(threads: &mut Threads<S>, tid: Tid, w: Word, own: S, write: S, now: S)
+    requires lives { is_some (value_of threads.old.threads tid) ≡ true }
+    requires some { 1 ≤ length (frames_of threads.old.threads tid) }
+    requires covered { covers (pages_of threads.old.threads tid) w ≡ true }
+    requires sums { AreWithin (2 ^ 62 + 2 ^ 31) (frames_of threads.old.threads tid) }
+    requires own { S.number_of own ≡ stamp_at (pages_of threads.old.threads tid) w }
+    ensures { (writes marks : ℕ → ℕ) → S.number_of write ≡ writes w → IsRead threads.old threads.new tid writes marks w 1 (S.number_of now) }
+{
+    read_frames(threads, tid, own, write);
+    threads.shadow_mut(tid).set(w, now);
+}
+
 // A read of one word.
+#[inline(always)]
 fn read_word<S: Lanes>(threads: &mut Threads<S>, tid: Tid, w: Word, writes: &Shadow<S>, now: S)
     requires lives { is_some (value_of threads.old.threads tid) ≡ true }
     requires some { 1 ≤ length (frames_of threads.old.threads tid) }
@@ -84,8 +100,7 @@ fn read_word<S: Lanes>(threads: &mut Threads<S>, tid: Tid, w: Word, writes: &Sha
     ensures { (marks : ℕ → ℕ) → IsRead threads.old threads.new tid (stamp_at writes.now.pages) marks w 1 (S.number_of now) }
 {
     let own = threads.shadow(tid).get(w);
-    read_frames(threads, tid, own, writes.get(w));
-    threads.shadow_mut(tid).set(w, now);
+    read_stamped(threads, tid, w, own, writes.get(w), now);
 }
 
 // The word so many places on.
@@ -173,6 +188,56 @@ fn read_part<S: Lanes>(
     }
 }
 
+// What a read of a word counts, by the stamps of its access and of the latest write.
+#[inline(always)]
+fn foreign_word<S: Stamp>(own: S, write: S, marks: &Shadow<u8>, w: Word) -> Foreign
+    ensures thread { result.thread ≡ count_by is_by_thread (record { own = S.number_of own; write = S.number_of write; mark = stamp_at marks.now.pages w } ∷ []) }
+    ensures kernel { result.kernel ≡ count_by is_by_kernel (record { own = S.number_of own; write = S.number_of write; mark = stamp_at marks.now.pages w } ∷ []) }
+{
+    if own.number() >= write.number() {
+        return Foreign {
+            thread: 0,
+            kernel: 0,
+        };
+    }
+    if marks.get(w) == 0 {
+        Foreign {
+            thread: 1,
+            kernel: 0,
+        }
+    } else {
+        Foreign {
+            thread: 0,
+            kernel: 1,
+        }
+    }
+}
+
+// A read of one word, with what it counts.
+#[inline(always)]
+fn read_one<S: Lanes>(
+    threads: &mut Threads<S>,
+    tid: Tid,
+    w: Word,
+    writes: &Shadow<S>,
+    marks: &Shadow<u8>,
+    now: S,
+) -> Foreign
+    requires lives { is_some (value_of threads.old.threads tid) ≡ true }
+    requires some { 1 ≤ length (frames_of threads.old.threads tid) }
+    requires covered { covers (pages_of threads.old.threads tid) w ≡ true }
+    requires sums { AreWithin (2 ^ 62 + 2 ^ 31) (frames_of threads.old.threads tid) }
+    ensures read { IsRead threads.old threads.new tid (stamp_at writes.now.pages) (stamp_at marks.now.pages) w 1 (S.number_of now) }
+    ensures thread { result.thread ≡ count_by is_by_thread (places_at (stamp_at (pages_of threads.old.threads tid)) (stamp_at writes.now.pages) (stamp_at marks.now.pages) (range_with_len w 1)) }
+    ensures kernel { result.kernel ≡ count_by is_by_kernel (places_at (stamp_at (pages_of threads.old.threads tid)) (stamp_at writes.now.pages) (stamp_at marks.now.pages) (range_with_len w 1)) }
+{
+    let own = threads.shadow(tid).get(w);
+    let write = writes.get(w);
+    let found = foreign_word(own, write, marks, w);
+    read_stamped(threads, tid, w, own, write, now);
+    found
+}
+
 // How many of the words that are left lie in the page of the next one.
 fn part_size(at: Word, left: u32) -> u32
     requires { 1 ≤ left }
@@ -183,9 +248,39 @@ fn part_size(at: Word, left: u32) -> u32
     left.min(1024 - at.number() % 1024)
 }
 
-/// A read of words by the thread, page by page. Its frames are those after the reads of the words in order, by the stamps from
+/// A read of words by the thread. Its frames are those after the reads of the words in order, by the stamps from
 /// before the call, and each of the words gets the stamp. It takes no memory.
+#[inline(always)]
 pub(crate) fn read<S: Lanes>(
+    threads: &mut Threads<S>,
+    tid: Tid,
+    first: Word,
+    count: u32,
+    writes: &Shadow<S>,
+    marks: &Shadow<u8>,
+    zeros: &ZeroRows<S>,
+    now: S,
+) -> Foreign
+    requires end { first + count ≤ 2 ^ 30 }
+    requires lives { is_some (value_of threads.old.threads tid) ≡ true }
+    requires depth { 1 ≤ length (frames_of threads.old.threads tid) }
+    requires starts { All (λ s. 0 < s) (starts_of (frames_of threads.old.threads tid)) }
+    requires covered { AreCovered (pages_of threads.old.threads tid) first count }
+    requires sums { AreWithin (2 ^ 62) (frames_of threads.old.threads tid) }
+    ensures read { IsRead threads.old threads.new tid (stamp_at writes.now.pages) (stamp_at marks.now.pages) first count (S.number_of now) }
+    ensures thread { result.thread ≡ count_by is_by_thread (places_at (stamp_at (pages_of threads.old.threads tid)) (stamp_at writes.now.pages) (stamp_at marks.now.pages) (range_with_len first count)) }
+    ensures kernel { result.kernel ≡ count_by is_by_kernel (places_at (stamp_at (pages_of threads.old.threads tid)) (stamp_at writes.now.pages) (stamp_at marks.now.pages) (range_with_len first count)) }
+{
+    if count == 1 {
+        return read_one(threads, tid, first, writes, marks, now);
+    }
+    read_parts(threads, tid, first, count, writes, marks, zeros, now)
+}
+
+// The same, page by page.
+#[cold]
+#[inline(never)]
+fn read_parts<S: Lanes>(
     threads: &mut Threads<S>,
     tid: Tid,
     first: Word,

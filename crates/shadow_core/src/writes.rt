@@ -10,6 +10,21 @@ use guest_words::{Tid, Word};
 use shadow_pages::Shadow;
 use stamp_lanes::Lanes;
 use stamp_renumber::Threads;
+use stamps::Stamp;
+
+// Gives words a stamp.
+#[inline(always)]
+fn stamp_words<S: Stamp>(pages: &mut Shadow<S>, first: Word, count: u32, now: S)
+    requires end { first + count ≤ 2 ^ 30 }
+    requires covered { AreCovered pages.old.pages first count }
+    ensures { IsFilled (S.number_of now) first count pages.old.pages pages.new.pages }
+{
+    if count == 1 {
+        pages.set(first, now);
+    } else {
+        pages.fill(first, count, now);
+    }
+}
 
 /// A write of words by the kernel: each gets the stamp as that of its latest write, and a mark. It takes no memory.
 pub(crate) fn fill<S: Lanes>(
@@ -25,12 +40,13 @@ pub(crate) fn fill<S: Lanes>(
     ensures writes { IsFilled (S.number_of now) first count writes.old.pages writes.new.pages }
     ensures marks { IsFilled 1 first count marks.old.pages marks.new.pages }
 {
-    writes.fill(first, count, now);
-    marks.fill(first, count, 1);
+    stamp_words(writes, first, count, now);
+    stamp_words(marks, first, count, 1);
 }
 
 /// A write of words by the thread: each gets the stamp, as that of the thread's access and as that of its latest write, and
 /// no mark. It takes no memory.
+#[inline(always)]
 pub(crate) fn write<S: Lanes>(
     threads: &mut Threads<S>,
     tid: Tid,
@@ -50,7 +66,7 @@ pub(crate) fn write<S: Lanes>(
     ensures writes { IsFilled (S.number_of now) first count writes.old.pages writes.new.pages }
     ensures marks { IsFilled 0 first count marks.old.pages marks.new.pages }
 {
-    threads.shadow_mut(tid).fill(first, count, now);
-    writes.fill(first, count, now);
-    marks.fill(first, count, 0);
+    stamp_words(threads.shadow_mut(tid), first, count, now);
+    stamp_words(writes, first, count, now);
+    stamp_words(marks, first, count, 0);
 }

@@ -1,37 +1,9 @@
 use Rattle.std.proofs.Common.{◌∙◌, ap}
-use Rattle.stamp_lanes.specs.Plain.{Place}
-use Rattle.shadow_pages.specs.Pages.{Pages, covers, stamp_at}
-use Rattle.stamp_renumber.specs.Threads.{frames_of, pages_of}
-use Rattle.shadow_core.proofs.Reading.{lives_changed, pages_changed, word_read}
+use Rattle.shadow_pages.specs.Pages.{Pages, stamp_at}
 use Rattle.shadow_core.proofs.reads.read_word.Goals as goal
 
-pub shadow_mut-requires : goal.shadow_mut-requires
-shadow_mut-requires g c =
-    let old = c.args.threads.now in
-    let mid = c.read_frames.new.threads in
-    let t = c.args.tid in
-    lives_changed old mid t (frames_of mid.threads t) (pages_of old.threads t) c.requires.lives c.read_frames.ensures.changed
-
-pub set-requires : goal.set-requires
-set-requires g c =
-    let old = c.args.threads.now in
-    let mid = c.read_frames.new.threads in
-    let t = c.args.tid in
-    ap (λ (s : Pages). covers s.pages c.args.w) c.shadow_mut.ensures.value
-    ∙ ap (λ ps. covers ps c.args.w) (pages_changed old mid t (frames_of mid.threads t) (pages_of old.threads t) c.requires.lives c.read_frames.ensures.changed)
-    ∙ c.requires.covered
+pub read_stamped-requires-clause-own : goal.read_stamped-requires-clause-own
+read_stamped-requires-clause-own g c = c.get-own.ensures ∙ ap (λ (s : Pages). stamp_at s.pages c.args.w) c.shadow.ensures
 
 pub returns : goal.returns
-returns g c = λ marks.
-    let f = g.S.Stamp.number_of in
-    let old = c.args.threads.now in
-    let mid = c.read_frames.new.threads in
-    let t = c.args.tid in
-    let p : Place = record { own = f c.get-own.result; write = f c.get.result; mark = 0 } in
-    let lent = c.shadow_mut.ensures.value in
-    word_read old mid t (stamp_at c.args.writes.now.pages) marks c.args.w (f c.args.now) p c.set.new.self.pages
-    c.requires.lives c.read_frames.ensures.changed
-    (c.get-own.ensures ∙ ap (λ (s : Pages). stamp_at s.pages c.args.w) c.shadow.ensures) c.get.ensures c.read_frames.ensures.frames
-    c.set.ensures.this
-    (λ v ne. c.set.ensures.others v ne ∙ ap (λ (s : Pages). stamp_at s.pages v) lent)
-    (λ v. c.set.ensures.covered v ∙ ap (λ (s : Pages). covers s.pages v) lent)
+returns g c = λ marks. c.read_stamped.ensures (stamp_at c.args.writes.now.pages) marks c.get.ensures

@@ -11,7 +11,7 @@ pub returns-clause-changed : goal.returns-clause-changed
 returns-clause-changed g c =
     let old = c.args.threads.now in
     let t = c.args.tid in
-    let pages = c.fill.new.self.pages in
+    let pages = c.stamp_words.new.pages.pages in
     let lent = lent_changed old t pages c.requires.lives in
     let are = pages_changed old (with_pages old t pages) t (frames_of old.threads t) pages c.requires.lives lent in
     subst (λ (ps : List Page). IsChanged old (with_pages old t pages) t (frames_of old.threads t) ps) (sym are) lent
@@ -20,10 +20,10 @@ pub returns-clause-access : goal.returns-clause-access
 returns-clause-access g c =
     let old = c.args.threads.now in
     let t = c.args.tid in
-    let pages = c.fill.new.self.pages in
+    let pages = c.stamp_words.new.pages.pages in
     let was = c.shadow_mut.ensures.value in
     let are = pages_changed old (with_pages old t pages) t (frames_of old.threads t) pages c.requires.lives (lent_changed old t pages c.requires.lives) in
     record {
-      stamps = λ w. ap (λ ps. stamp_at ps w) are ∙ c.fill.ensures.stamps w ∙ ap (λ (s : Pages). stamped (g.S.Stamp.number_of c.args.now) c.args.first c.args.count (stamp_at s.pages) w) was;
-      covered = λ w. ap (λ ps. covers ps w) are ∙ c.fill.ensures.covered w ∙ ap (λ (s : Pages). covers s.pages w) was;
+      stamps = λ w. ap (λ ps. stamp_at ps w) are ∙ c.stamp_words.ensures.stamps w ∙ ap (λ (s : Pages). stamped (g.S.Stamp.number_of c.args.now) c.args.first c.args.count (stamp_at s.pages) w) was;
+      covered = λ w. ap (λ ps. covers ps w) are ∙ c.stamp_words.ensures.covered w ∙ ap (λ (s : Pages). covers s.pages w) was;
     }

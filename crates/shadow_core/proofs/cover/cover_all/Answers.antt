@@ -3,7 +3,7 @@ use Rattle.std.proofs.lemmas.Result.{on_err_weaker, on_ok_weaker}
 use Rattle.shadow_pages.specs.Pages.{Page, covers}
 use Rattle.stamp_renumber.proofs.Changed.{either}
 use Rattle.shadow_core.proofs.Marked.{marked_on}
-use Rattle.shadow_core.proofs.cover.cover.Goals as goal
+use Rattle.shadow_core.proofs.cover.cover_all.Goals as goal
 
 pub returns-clause-marked : goal.returns-clause-marked
 returns-clause-marked g c =

@@ -5,7 +5,7 @@ use Rattle.stamp_lanes.specs.Plain.{is_by_kernel, is_by_thread}
 use Rattle.stamp_renumber.specs.Threads.{frames_of, pages_of}
 use Rattle.shadow_core.proofs.PartReads.{count_few, counts_on}
 use Rattle.shadow_core.proofs.Reading.{length_read, nothing_read, read_on, read_within, starts_read, within_more}
-use Rattle.shadow_core.proofs.reads.read.Goals as goal
+use Rattle.shadow_core.proofs.reads.read_parts.Goals as goal
 
 pub loop-done-init : goal.loop-done-init
 loop-done-init g c = record {

@@ -1,14 +1,15 @@
-use Rattle.std.proofs.Common.{rules, ◌≡◌, ◌∙◌, ◌%◌, false, ap, sym, subst, refl, Ok, Err}
-use Rattle.std.specs.Result.{IfOk}
+use Rattle.std.proofs.Common.{rules, ◌≡◌, ◌∙◌, ◌%◌, ◌++◌, [], false, ap, sym, subst, refl, Ok, Err}
 use Rattle.rv_isa.specs.declared.instruction.Instr.TheVariants.{Ecall}
 use Rattle.guest_machine.proofs.Executed.{Steps-faulted}
+use Rattle.guest_machine.proofs.Told.{Steps-told}
 use Rattle.rv_exec.specs.Registers.{Registers}
 use Rattle.guest_machine.specs.Kept.{Steps, machine_of}
 use Rattle.guest_machine.specs.Parts.{parts_of}
+use Rattle.guest_machine.specs.Told.{stepped_of, told}
 use Rattle.guest_machine.specs.Step.{StepResult, executed, instruction_at, next_instruction, pc_of, step}
 use Rattle.guest_machine.proofs.Holders.{lives_kept}
 use Rattle.guest_machine.proofs.Registers.{pc_aligned}
-use Rattle.guest_machine.proofs.guest.Guest.step.Goals as goal
+use Rattle.guest_machine.proofs.guest.Guest.advance.Goals as goal
 
 pub cpu_of-requires : goal.cpu_of-requires
 unfolding machine_of
@@ -26,7 +27,6 @@ carry_out-requires c = record {
   lives = lives_kept (machine_of (parts_of c.args.self.now)) c.args.tid c.requires.sound c.requires.can_run;
   can_run = c.requires.can_run;
   no_call = search rules;
-  room = search rules;
 }
 
 pub instruction_at-requires : goal.instruction_at-requires
@@ -41,12 +41,26 @@ returns-in-Err-clause-step c =
     let m = machine_of (parts_of c.args.self.now) in
     let here : c.behind-self.inside.pc ≡ pc_of m c.args.tid = ap (λ (r : Registers). r.pc) (c.behind-self.view_is ∙ c.cpu_of.ensures) in
     let next : next_instruction m c.args.tid ≡ Err c.in-Err.kind = ap (instruction_at m.memory) (sym here) ∙ sym c.instruction_at.ensures ∙ c.in-Err.is in
-    Steps-faulted (parts_of c.args.self.now) (parts_of (record { harts = c.args.self.now.harts; kernel = c.args.self.now.kernel; memory = c.args.self.now.memory; held = c.args.self.now.held; entry = c.args.self.now.entry; called = false })) c.args.tid c.in-Err.kind _ _ _ (ap (executed m c.args.tid) next) here refl refl
+    Steps-told _ _ _ _ _ (Steps-faulted (parts_of c.args.self.now) (parts_of (record { harts = c.args.self.now.harts; kernel = c.args.self.now.kernel; memory = c.args.self.now.memory; held = c.args.self.now.held; entry = c.args.self.now.entry; called = false })) c.args.tid c.in-Err.kind _ _ _ (ap (executed m c.args.tid) next) here refl refl)
 
-pub returns-in-Ok-Ecall-clause-step : goal.returns-in-Ok-Ecall-clause-step
+pub returns-in_ok-stepped-in-Ok-Ecall-clause-step : goal.returns-in_ok-stepped-in-Ok-Ecall-clause-step
 unfolding machine_of step
-returns-in-Ok-Ecall-clause-step c =
+returns-in_ok-stepped-in-Ok-Ecall-clause-step c =
     let m = machine_of (parts_of c.args.self.now) in
     let here : c.behind-self.inside.pc ≡ pc_of m c.args.tid = ap (λ (r : Registers). r.pc) (c.behind-self.view_is ∙ c.cpu_of.ensures) in
     let next : next_instruction m c.args.tid ≡ Ok Ecall = ap (instruction_at m.memory) (sym here) ∙ sym c.instruction_at.ensures ∙ (c.in-Ok-Ecall.is ∙ ap Ok c.in-Ok-Ecall.field-0-is) in
-    subst (λ (r : StepResult). IfOk c.call_kernel.result (λ stepped. Steps r stepped (parts_of c.call_kernel.new.self) c.args.events.now.list c.call_kernel.new.events.list)) (sym (ap (executed m c.args.tid) next)) c.call_kernel.ensures.step
+    subst (λ (r : StepResult). Steps r c.in_ok-stepped-in-Ok-Ecall.stepped (parts_of c.call_kernel.new.self) c.args.events.now.list (c.call_kernel.new.events.list ++ [])) (sym (ap (executed m c.args.tid) next))
+    (Steps-told _ _ _ _ _ c.in_ok-stepped-in-Ok-Ecall.ensures.step)
+
+pub returns-in-Ok-clause-step : goal.returns-in-Ok-clause-step
+unfolding machine_of step
+returns-in-Ok-clause-step c =
+    let m = machine_of (parts_of c.args.self.now) in
+    let here : c.behind-self.inside.pc ≡ pc_of m c.args.tid = ap (λ (r : Registers). r.pc) (c.behind-self.view_is ∙ c.cpu_of.ensures) in
+    let next : next_instruction m c.args.tid ≡ Ok c.in-Ok.instruction = ap (instruction_at m.memory) (sym here) ∙ sym c.instruction_at.ensures ∙ c.in-Ok.is in
+    let events = c.args.events.now.list in
+    subst (λ (r : StepResult). Steps r (stepped_of c.carry_out.result) (parts_of c.carry_out.new.self) events (events ++ told c.args.tid c.carry_out.result)) (sym (ap (executed m c.args.tid) next))
+    (c.carry_out.ensures.step events)
+
+pub returns-in-Ok-clause-quiet : goal.returns-in-Ok-clause-quiet
+returns-in-Ok-clause-quiet c = c.carry_out.ensures.quiet c.args.events.now

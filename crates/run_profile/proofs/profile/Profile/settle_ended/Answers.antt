@@ -4,7 +4,7 @@ use Rattle.trace_model.specs.declared.slow_profile.Done.{Done}
 use Rattle.trace_model.specs.Profile.{HasParts}
 use Rattle.run_profile.specs.Profile.{IsOfLight, IsProfileOf, Kept}
 use Rattle.run_profile.proofs.Profiles.{few_added, have_parts, settled, settling}
-use Rattle.run_profile.proofs.profile.Profile.settle.Goals as goal
+use Rattle.run_profile.proofs.profile.Profile.settle_ended.Goals as goal
 
 pub add_ended-requires-clause-few : goal.add_ended-requires-clause-few
 add_ended-requires-clause-few g c =

@@ -1,0 +1,37 @@
+-- A step whose events are told by what it did, or added to a list.
+use Rattle.std.specs.Prelude.{◌≡◌, ℕ, List, [], ◌∷◌, None}
+use Rattle.rv_exec.specs.declared.outcome.Access.{Access}
+use Rattle.rv_exec.specs.declared.outcome.Access.TheVariants as access
+use Rattle.call_tracker.specs.declared.jumps.JumpKind.{JumpKind}
+use Rattle.call_tracker.specs.declared.jumps.JumpKind.TheVariants as jumps
+use Rattle.trace_model.specs.declared.event_kinds.Event.{Event}
+use Rattle.trace_model.specs.declared.event_kinds.Event.TheVariants.{Step}
+use Rattle.trace_model.specs.EventList.{EventList}
+use Rattle.guest_machine.specs.declared.stepped.Stepped.{Stepped}
+use Rattle.guest_machine.specs.declared.stepped.Stepped.TheVariants.{Went}
+use Rattle.guest_machine.specs.declared.stepped.Advanced.{Advanced}
+use Rattle.guest_machine.specs.declared.stepped.Advanced.TheVariants.{Ran, Accessed, Jumped, Other}
+use Rattle.guest_machine.specs.Kept.{Parts, out_of}
+use Rattle.guest_machine.specs.Step.{access_events, jump_events}
+
+-- the events that are told
+abbrev pub told : ℕ → Advanced → List Event
+told tid Ran = Step tid ∷ []
+told tid (Accessed accessed) = Step tid ∷ access_events tid accessed
+told tid (Jumped jump target back) = Step tid ∷ jump_events jump tid target back
+told tid (Other outcome) = []
+
+-- what became of the thread
+abbrev pub stepped_of : Advanced → Stepped
+stepped_of (Other outcome) = outcome
+stepped_of instruction = Went
+
+-- Nothing goes out by an instruction that went, and no event is added.
+abbrev pub IsQuiet : Advanced → Parts → EventList → EventList → Type 0
+IsQuiet (Other outcome) new before after = Unit {0}
+IsQuiet instruction new before after = (out_of new ≡ None) × (after ≡ before)
+
+-- what accesses memory is no call and no return
+abbrev pub IsAlone : Access → JumpKind → Type 0
+IsAlone access.Nothing jump = Unit {0}
+IsAlone accessed jump = jump ≡ jumps.Nothing
