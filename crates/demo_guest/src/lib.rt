@@ -8,6 +8,3 @@ mod names;
 mod program;
 
 pub use demo::{a_demo_has_one_file, demo_image};
-
-#[cfg(test)]
-mod tests;

@@ -18,6 +18,3 @@ mod symbols;
 pub use error::ElfError;
 pub use image::{Image, Segment};
 pub use reader::read_image;
-
-#[cfg(test)]
-mod tests;

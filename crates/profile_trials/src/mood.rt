@@ -1,7 +1,7 @@
 //! Kinds of random traces.
 
 /// What most events of a trace are.
-#[derive(Clone, Copy, PartialEq, Eq)]
+#[derive(Clone, Copy)]
 pub enum Mood {
     /// Accesses, calls, returns and steps.
     Calm,

@@ -118,7 +118,7 @@ impl Random {
             0 => self.life(),
             1..=2 => self.access(),
             3..=4 => self.call(),
-            5..=7 if mood == Mood::Climbing => self.call(),
+            5..=7 if matches!(mood, Mood::Climbing) => self.call(),
             5..=6 => self.ret(),
             7..=9 => self.access(),
             10..=14 => Event::Step { tid: self.tid() },

@@ -21,7 +21,7 @@ fn offer_random<S: Lanes>(
     ensures { OnOk result (IsTrial S.MAX trial.new) }
 {
     for _ in 0..mood.events() {
-        if trial.offer(random.event(mood))? == Offered::TooDeep {
+        if let Offered::TooDeep = trial.offer(random.event(mood))? {
             return Ok(true);
         }
     }

@@ -11,7 +11,7 @@ use trace_model::{Done, Event, Events, slow_done};
 use trace_order::Order;
 
 /// What became of an event that was offered.
-#[derive(Clone, Copy, PartialEq, Eq)]
+#[derive(Clone, Copy)]
 pub enum Offered {
     /// It may not follow.
     Passed,

@@ -7,17 +7,23 @@
 //!     call THREAD NUMBER A0 .. A5         what the kernel answers the guest
 //!     report LINE/LINE/..                 whether the lines are a report
 //!     schedule LINE/LINE/..               whether they are a schedule
+//!     file BYTE BYTE ..                   the file that is read
+//!     demo ROUTINES                       the file is the demo's
+//!     image LENGTH AT=BYTE ..             so much of the file, with other bytes at these places, as an image
+//!     name AT                             the name there, in the last image
 //!
-//! Other lines are given again as they are. Numbers are hexadecimal, but for threads and the numbers of calls.
+//! Other lines are given again as they are. Numbers are hexadecimal, but for threads, the numbers of calls and places in files.
 #![tactic(auto)]
 
 mod calls;
+mod images;
 mod instructions;
 mod reports;
 mod schedules;
 mod words;
 
 use crate::calls::Guest;
+use crate::images::Images;
 use anyhow::Result;
 use guest_memory::GuestMemory;
 use std::alloc::Global;
@@ -27,6 +33,7 @@ use std::alloc::Global;
 struct Rows {
     memory: GuestMemory,
     guest: Guest,
+    images: Images,
 }
 
 impl Rows {
@@ -34,30 +41,45 @@ impl Rows {
         Ok(Rows {
             memory: instructions::five_pages(alloc)?,
             guest: Guest::new(alloc)?,
+            images: Images::new(alloc),
         })
     }
 
-    // What the call of a line gives, if it names one.
-    fn answer(&mut self, alloc: Global, line: &str) -> Result<Option<String>> {
-        if let Some(row) = line.strip_prefix("word ") {
-            return Ok(Some(words::answer(alloc, row)?));
-        }
-        if let Some(row) = line.strip_prefix("instruction ") {
-            return Ok(Some(instructions::answer(alloc, &mut self.memory, row)?));
-        }
-        if let Some(row) = line.strip_prefix("call ") {
-            return Ok(Some(calls::answer(alloc, &mut self.guest, row)?));
-        }
-        if let Some(row) = line.strip_prefix("report ") {
-            return Ok(Some(reports::answer(alloc, row)?));
-        }
-        if let Some(row) = line.strip_prefix("schedule ") {
-            return Ok(Some(schedules::answer(alloc, row)?));
-        }
+    // What the row of this kind gives, if there are such rows.
+    fn answer(&mut self, alloc: Global, kind: &str, row: &str) -> Result<Option<String>> {
+        let answer = if kind == "word" {
+            words::answer(alloc, row)?
+        } else if kind == "instruction" {
+            instructions::answer(alloc, &mut self.memory, row)?
+        } else if kind == "call" {
+            calls::answer(alloc, &mut self.guest, row)?
+        } else if kind == "report" {
+            reports::answer(alloc, row)?
+        } else if kind == "schedule" {
+            schedules::answer(alloc, row)?
+        } else if kind == "file" {
+            self.images.take_bytes(alloc, row)?
+        } else if kind == "demo" {
+            self.images.take_demo(alloc, row)?
+        } else if kind == "image" {
+            self.images.read(alloc, row)?
+        } else if kind == "name" {
+            self.images.name(alloc, row)?
+        } else {
+            return Ok(None);
+        };
+        Ok(Some(answer))
+    }
+
+    // What a line gives, if it names a call.
+    fn line(&mut self, alloc: Global, line: &str) -> Result<Option<String>> {
         if line == "guest" {
             self.guest = Guest::new(alloc)?;
         }
-        Ok(None)
+        match line.split_once(' ') {
+            Some((kind, row)) => self.answer(alloc, kind, row),
+            None => Ok(None),
+        }
     }
 }
 
@@ -66,7 +88,7 @@ fn main(rt: HostRuntime) -> Result<()> {
     let mut rows = Rows::new(alloc)?;
     for line in rt.lines(alloc) {
         let line = line?;
-        match rows.answer(alloc, line.as_str())? {
+        match rows.line(alloc, line.as_str())? {
             Some(answer) => println!(rt; "{line}: {answer}")?,
             None => println!(rt; "{line}")?,
         }
