@@ -2,6 +2,7 @@ pub mod Records
 pub mod TraceText
 pub mod Errors
 pub mod Reading
+pub mod Laws
 -- What the private parts owe one another.
 pub mod Kept
 pub mod Pieces
