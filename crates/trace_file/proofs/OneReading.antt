@@ -12,8 +12,9 @@ use Rattle.trace_file.specs.declared.errors.TraceError.{TraceError}
 use Rattle.trace_file.specs.declared.errors.TraceError.TheVariants as errors
 use Rattle.trace_file.specs.Records.{Fits, record_bytes}
 use Rattle.trace_file.specs.Pieces.{IsBegun, IsNone, IsRecord}
-use Rattle.trace_file.specs.Reading.{FailsForm, FailsOrder, IsInLine, IsMisformed, IsOutOfOrder, IsRefused, IsShort, Leads}
+use Rattle.trace_file.specs.Reading.{Begins, FailsForm, FailsOrder, IsInLine, IsMisformed, IsOutOfOrder, IsRefused, IsShort, Leads}
 use Rattle.trace_file.specs.TraceText.{IsRising, IsTold, IsTrace, Names, Told, event_records, finish_records, magic, name_records, records, told_text, whole}
+use Rattle.trace_file.specs.Laws.{IsEarlier}
 use Rattle.trace_file.proofs.OneRecord.{Longer, decode, one_record}
 
 -- ---- what a list of records says
@@ -334,3 +335,34 @@ not_refused bytes past past' names f errors.Short is (inr is') =
     let same = one_leads bytes (whole past names f) is'.told _ _ (led bytes past names f is) is'.leads (ended_stuck (whole past names f) f [] refl) (short_stuck bytes past' is') in
     absurd (open_end f is'.told.finish (ap (λ (t : Told). t.finish) same.told) is'.unfinished)
 not_refused bytes past past' names f errors.Memory is is' = refl
+
+-- ---- some records at the beginning
+earlier : (t u : Told) (more : List Record) → records t ≡ records u ++ more → IsEarlier u.past t.past
+earlier t u more is =
+    let events = sym (events_of (reverse t.past) t.names t.finish) ∙ ap events_in is ∙ events-append (records u) more ∙ ap (λ y. y ++ events_in more) (events_of (reverse u.past) u.names u.finish) in
+    (reverse (events_in more), sym (reverse-reverse t.past) ∙ ap (λ (y : List Event). reverse y) events ∙ reverse-append (reverse u.past) (events_in more) ∙ ap (λ y. reverse (events_in more) ++ y) (reverse-reverse u.past))
+
+begins_earlier : (bytes : List ℕ) (t u : Told) (a b : List ℕ) → Leads bytes t a → Leads bytes u b → Stuck t a → IsEarlier u.past t.past
+begins_earlier bytes t u a b leads leads' stuck =
+    let whole = sym (append_assoc magic (flat_map record_bytes (records t)) a) ∙ sym leads.text ∙ leads'.text ∙ append_assoc magic (flat_map record_bytes (records u)) b in
+    let behind = append_cancel_left magic (flat_map record_bytes (records t) ++ a) (flat_map record_bytes (records u) ++ b) whole in
+    elim (decode (records t) (records u) a b leads.told.fits leads'.told.fits behind) [
+      | inl l ↦ ([], ap (λ (x : Told). x.past) (of_longer t u a b stuck leads'.told l).told)
+      | inr l ↦ earlier t u l.more l.whole
+    ]
+
+pub earlier_trace : (bytes : List ℕ) (past past' : List Event) (names : Names) (f : Finish) → Begins bytes past → IsTrace bytes past' names f → IsEarlier past past'
+earlier_trace bytes past past' names f begins is =
+    subst (λ p. IsEarlier p past') begins.events (begins_earlier bytes (whole past' names f) begins.told [] begins.rest (led bytes past' names f is) begins.leads (ended_stuck (whole past' names f) f [] refl))
+
+before : (bytes : List ℕ) (past past' : List Event) (t : Told) (a : List ℕ) → Begins bytes past → Leads bytes t a → Stuck t a → t.past ≡ past' → IsEarlier past past'
+before bytes past past' t a begins leads stuck is =
+    subst (λ p. IsEarlier past p) is (subst (λ p. IsEarlier p t.past) begins.events (begins_earlier bytes t begins.told a begins.rest leads begins.leads stuck))
+
+pub earlier_refusal : (bytes : List ℕ) (past past' : List Event) (e : TraceError) → Begins bytes past → IsRefused bytes past' e → e ≢ errors.Memory → IsEarlier past past'
+earlier_refusal bytes past past' errors.Magic begins is m = magic_leads bytes begins.told begins.rest is.0 begins.leads
+earlier_refusal bytes past past' (errors.Record at) begins is m = before bytes past past' is.told is.rest begins is.leads (form_stuck bytes past' at is) is.events
+earlier_refusal bytes past past' (errors.Order at) begins is m = before bytes past past' is.told _ begins is.leads (order_stuck bytes past' at is) is.events
+earlier_refusal bytes past past' errors.Short begins (inl line) m = line_leads bytes begins.told begins.rest line.0 begins.leads
+earlier_refusal bytes past past' errors.Short begins (inr is) m = before bytes past past' is.told is.rest begins is.leads (short_stuck bytes past' is) is.events
+earlier_refusal bytes past past' errors.Memory begins is m = absurd (m refl)

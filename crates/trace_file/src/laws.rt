@@ -1,5 +1,5 @@
 //! Laws on the text of traces: each is the contract of a function that does nothing.
-ghost use Rattle.trace_file.specs.Laws.{BytesAreRefusedInOneWay, TextIsOfOneTrace, TracesAreNotRefused};
+ghost use Rattle.trace_file.specs.Laws.{BeginningsAreRead, BeginningsAreReadBeforeRefusals, BytesAreRefusedInOneWay, TextIsOfOneTrace, TracesAreNotRefused};
 
 /// No two traces have one text.
 pub fn a_text_is_of_one_trace()
@@ -11,4 +11,10 @@ pub fn a_text_is_of_one_trace()
 pub fn bytes_read_in_one_way()
     ensures refused { BytesAreRefusedInOneWay }
     ensures apart { TracesAreNotRefused }
+{}
+
+/// For want of memory some of the last events are not read, and no other.
+pub fn beginnings_are_read()
+    ensures traces { BeginningsAreRead }
+    ensures refused { BeginningsAreReadBeforeRefusals }
 {}

@@ -12,7 +12,7 @@ mod records;
 mod writer;
 
 pub use errors::TraceError;
-pub use laws::{a_text_is_of_one_trace, bytes_read_in_one_way};
+pub use laws::{a_text_is_of_one_trace, beginnings_are_read, bytes_read_in_one_way};
 pub use reader::{TraceEnd, TraceReader};
 pub use writer::TraceWriter;
 
