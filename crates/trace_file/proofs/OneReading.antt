@@ -1,5 +1,5 @@
 -- Bytes read in one way.
-use Rattle.std.proofs.Common.{zero, suc, inl, inr, ◌⊎◌, ◌≡◌, ◌≢◌, ℕ, ◌+◌, ◌≤◌, ◌<◌, ◌++◌, ◌∷◌, [], List, Option, Some, None, map, reverse, length, take, drop, get_or, refl, sym, subst, ap, ap₂, ◌∙◌, arith, append_assoc, append-nil, length-append}
+use Rattle.std.proofs.Common.{inl, inr, ◌≡◌, ◌≢◌, ℕ, ◌<◌, ◌++◌, ◌∷◌, [], List, Option, Some, None, map, reverse, length, get_or, refl, sym, subst, ap, ap₂, ◌∙◌, arith, append_assoc, append-nil, length-append}
 use Rattle.std.specs.List.{flat_map, AllByRecursion}
 use Rattle.std.proofs.Math.ListN.{get_or-append}
 use Rattle.std.proofs.lemmas.List.{append_cancel_left, reverse-append, reverse-reverse}
@@ -13,7 +13,7 @@ use Rattle.trace_file.specs.declared.errors.TraceError.TheVariants as errors
 use Rattle.trace_file.specs.Records.{Fits, record_bytes}
 use Rattle.trace_file.specs.Pieces.{IsBegun, IsNone, IsRecord}
 use Rattle.trace_file.specs.Reading.{Begins, FailsForm, FailsOrder, IsInLine, IsMisformed, IsOutOfOrder, IsRefused, IsShort, Leads}
-use Rattle.trace_file.specs.TraceText.{IsRising, IsTold, IsTrace, Names, Told, event_records, finish_records, magic, name_records, records, told_text, whole}
+use Rattle.trace_file.specs.TraceText.{IsRising, IsTold, IsTrace, Names, Told, finish_records, magic, name_records, records, told_text, whole}
 use Rattle.trace_file.specs.Laws.{IsEarlier}
 use Rattle.trace_file.proofs.OneRecord.{Longer, decode, one_record}
 
