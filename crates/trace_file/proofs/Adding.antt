@@ -1,5 +1,5 @@
 -- Names that rise.
-use Rattle.std.proofs.Common.{inl, inr, ◌≡◌, ℕ, ◌+◌, ◌-◌, ◌<◌, ◌≤◌, ◌++◌, ◌∷◌, [], List, Bool, true, false, map, length, get_or, refl, sym, subst, ap, ap₂, ◌∙◌, arith, append_assoc, append-nil, length-append, AllPairs}
+use Rattle.std.proofs.Common.{inl, inr, ◌≡◌, ℕ, ◌-◌, ◌<◌, ◌≤◌, ◌++◌, ◌∷◌, [], List, Bool, true, false, length, get_or, refl, sym, subst, ap, ◌∙◌, arith, append_assoc, append-nil, length-append}
 use Rattle.std.specs.Prelude.{IsTrue, nat_lt, ◌↔◌, ◌==◌}
 use Rattle.std.proofs.lemmas.List.{get_or_default}
 use Rattle.std.proofs.lemmas.Bool.{cases_lt}
@@ -11,11 +11,11 @@ use Rattle.std.specs.List.{AllByRecursion}
 use Rattle.std.proofs.lemmas.List.{map-append}
 use Rattle.trace_model.specs.declared.event_kinds.Event.{Event}
 use Rattle.trace_file.specs.declared.records.Record.{Record}
-use Rattle.trace_file.specs.declared.records.Record.TheVariants.{OfEvent, OfName, OfFinish}
+use Rattle.trace_file.specs.declared.records.Record.TheVariants.{OfName}
 use Rattle.trace_file.specs.Records.{Fits}
 use Rattle.trace_file.specs.Reading.{ReaderState, told_by}
 use Rattle.trace_file.specs.Steps.{IsAdded, IsOpen}
-use Rattle.trace_file.specs.TraceText.{IsRising, IsTold, Names, event_records, finish_records, name_records, records}
+use Rattle.trace_file.specs.TraceText.{IsRising, Names, event_records, finish_records, name_records, records}
 
 abbrev Entry : Type 0
 Entry = ℕ × List ℕ

@@ -1,5 +1,5 @@
 -- What stands behind the heads of records.
-use Rattle.std.proofs.Common.{zero, suc, inl, inr, ◌⊎◌, ◌≡◌, ◌≢◌, ℕ, ◌+◌, ◌-◌, ◌*◌, ◌/◌, ◌%◌, ◌^◌, ◌≤◌, ◌<◌, ◌++◌, ◌∷◌, [], List, true, length, take, drop, get_or, replicate, refl, sym, subst, ap, ap₂, ◌∙◌, arith, append_assoc, append-nil, length-append}
+use Rattle.std.proofs.Common.{zero, suc, inl, inr, ◌⊎◌, ◌≡◌, ◌≢◌, ℕ, ◌+◌, ◌-◌, ◌*◌, ◌/◌, ◌%◌, ◌^◌, ◌≤◌, ◌<◌, ◌++◌, ◌∷◌, [], List, true, length, take, get_or, replicate, refl, sym, subst, ap, ap₂, ◌∙◌, arith, append_assoc, append-nil, length-append}
 use Rattle.std.specs.List.{flat_map}
 use Rattle.std.proofs.Math.Seq.{take-append_seam}
 use Rattle.std.proofs.lemmas.Bool.{cases_lt}
@@ -16,7 +16,7 @@ use Rattle.trace_file.specs.declared.records.Record.{Record}
 use Rattle.trace_file.specs.declared.records.Record.TheVariants.{OfEvent, OfName, OfFinish}
 use Rattle.trace_file.specs.declared.record_reader.Stop.{Stop}
 use Rattle.trace_file.specs.declared.record_reader.Stop.TheVariants.{Begun, NoForm, Memory}
-use Rattle.trace_file.specs.Records.{AreInRanges, Fits, IsIn, form, head, joined, kind_number, name_bytes, number_bytes, numbers, ranges, record_bytes}
+use Rattle.trace_file.specs.Records.{AreInRanges, Fits, form, head, kind_number, name_bytes, number_bytes, numbers, ranges, record_bytes}
 use Rattle.trace_file.specs.Made.{IsMade}
 use Rattle.trace_file.specs.Pieces.{AreNumbers, IsBegun, IsBody, IsHead, IsNameOf, IsNone, IsRecord, Stops, body}
 use Rattle.trace_file.proofs.Heads.{one_head}

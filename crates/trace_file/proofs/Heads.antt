@@ -1,5 +1,5 @@
 -- Heads of forms.
-use Rattle.std.proofs.Common.{Option, Some, None, if◌then◌else◌, nat_eq, ◌≡◌, ◌≢◌, ℕ, ◌+◌, ◌≤◌, ◌<◌, ◌++◌, ◌∷◌, [], List, length, get_or, refl, sym, ap, ◌∙◌, arith, length-append}
+use Rattle.std.proofs.Common.{Option, Some, None, if◌then◌else◌, nat_eq, ◌≡◌, ℕ, ◌≤◌, ◌++◌, ◌∷◌, [], List, length, get_or, refl, sym, ap, ◌∙◌, arith}
 use Rattle.trace_file.specs.declared.records.Form.{Form}
 use Rattle.trace_file.specs.declared.records.Form.TheVariants.{Step, Read, Write, Fill, Call, Ret, Start, End, Named, Exit, Fault, Budget, Deadlock, Deep, Schedule}
 use Rattle.trace_file.specs.Records.{head}

@@ -7,3 +7,5 @@ pub mod Bodies
 pub mod Adding
 pub mod ReadBytes
 pub mod Feeding
+pub mod OneRecord
+pub mod OneReading

@@ -1,5 +1,5 @@
 -- Numbers one behind the other.
-use Rattle.std.proofs.Common.{suc, add-one, inl, inr, ◌≡◌, ◌≢◌, ℕ, ◌+◌, ◌≤◌, ◌<◌, ◌++◌, ◌∷◌, [], ◌^◌, ◌/◌, ◌%◌, List, length, take, drop, map, get_or, refl, sym, subst, ap, ap₂, ◌∙◌, arith, append_assoc, append-nil, All}
+use Rattle.std.proofs.Common.{suc, add-one, ◌≡◌, ℕ, ◌+◌, ◌≤◌, ◌<◌, ◌++◌, ◌∷◌, [], ◌^◌, ◌/◌, ◌%◌, List, length, take, drop, map, get_or, refl, sym, subst, ap, ◌∙◌, arith, append_assoc, append-nil, All}
 use Rattle.std.specs.List.{flat_map, AllByRecursion}
 use Rattle.std.proofs.Math.ListN.{set}
 use Rattle.std.proofs.Math.Seq.{drop-cons, take-suc, take-suc-set}
@@ -11,7 +11,7 @@ use Rattle.trace_file.specs.declared.record_reader.Stop.{Stop}
 use Rattle.trace_file.specs.declared.record_reader.Stop.TheVariants.{Begun, NoForm, Memory}
 use Rattle.trace_file.specs.Records.{IsIn, AreInRanges, number_bytes}
 use Rattle.trace_file.specs.Made.{IsSound}
-use Rattle.trace_file.specs.Pieces.{AreNumbers, IsBegun, IsNone, Stops}
+use Rattle.trace_file.specs.Pieces.{AreNumbers, IsBegun, Stops}
 use Rattle.trace_file.proofs.OneNumber.{Four, as_four}
 
 -- a number's bytes are followed by one rest

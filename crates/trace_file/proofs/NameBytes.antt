@@ -1,11 +1,10 @@
 -- Names of so many bytes.
-use Rattle.std.proofs.Common.{zero, suc, inl, inr, ◌≡◌, ◌≢◌, ℕ, ◌+◌, ◌-◌, ◌≤◌, ◌<◌, ◌++◌, ◌∷◌, [], List, Bool, true, false, not, ◌&&◌, length, take, drop, get_or, replicate, refl, sym, subst, ap, ap₂, ◌∙◌, arith, length-append}
-use Rattle.std.specs.Prelude.{nat_le, nat_eq, slice_index}
+use Rattle.std.proofs.Common.{zero, suc, ◌≡◌, ℕ, ◌-◌, ◌≤◌, ◌<◌, ◌++◌, ◌∷◌, [], List, Bool, true, false, not, ◌&&◌, length, take, drop, replicate, refl, sym, ap, ap₂, ◌∙◌, arith, length-append}
+use Rattle.std.specs.Prelude.{nat_le}
 use Rattle.std.specs.List.{list_all}
 use Rattle.std.proofs.Math.Seq.{take-append_seam}
-use Rattle.std.proofs.lemmas.Bool.{cases_lt}
 use Rattle.std.proofs.lemmas.Bool.Decides.{nat_tests}
-use Rattle.std.proofs.lemmas.List.{append-nil, length-replicate, take-append-drop, take-append-le}
+use Rattle.std.proofs.lemmas.List.{length-replicate, take-append-drop, take-append-le}
 use Rattle.std.proofs.lemmas.List.Folds.{list_all-append}
 use Rattle.guest_words.specs.Names.{is_dash, is_name, is_visible}
 use Rattle.guest_words.specs.declared.limits.TheConstants.{NAME_BYTES}

@@ -1,13 +1,13 @@
 -- One number: whether bytes are the beginning of one in a range.
-use Rattle.std.proofs.Common.{inl, inr, zero, ◌≡◌, ◌≢◌, ℕ, suc, ◌+◌, ◌/◌, ◌%◌, ◌*◌, ◌<◌, ◌≤◌, ◌^◌, ◌++◌, ◌∷◌, [], min, List, length, get_or, drop, refl, sym, ap, ap₂, ◌∙◌, arith, length-append, append-nil}
-use Rattle.std.specs.List.{flat_map}
+use Rattle.std.proofs.Common.{inl, inr, zero, ◌≡◌, ℕ, suc, ◌+◌, ◌/◌, ◌%◌, ◌<◌, ◌≤◌, ◌^◌, ◌++◌, ◌∷◌, [], min, List, length, get_or, drop, refl, sym, ap, ap₂, ◌∙◌, arith, length-append, append-nil}
 use Rattle.std.proofs.lemmas.Bool.{cases_lt}
 use Rattle.std.proofs.lemmas.List.{length-drop}
 use Rattle.std.proofs.Math.Nat.{pow-succ'}
 use Rattle.byteorder.specs.Endian.{little_number}
 use Rattle.trace_file.specs.declared.records.Range.{Range}
-use Rattle.trace_file.specs.Records.{IsIn, AreInRanges, number_bytes}
-use Rattle.trace_file.specs.Pieces.{AreNumbers, IsBegun, IsNone, IsLeastNumber}
+use Rattle.trace_file.specs.Records.{IsIn, number_bytes}
+use Rattle.trace_file.specs.Made.{IsLeastNumber}
+use Rattle.trace_file.specs.Pieces.{AreNumbers, IsBegun, IsNone}
 
 abbrev AreBytes : List ℕ → Type 0
 AreBytes bytes = (i : ℕ) → get_or bytes i 0 < 256
@@ -149,10 +149,7 @@ enough bytes r w least is = elim (cases_lt (little_number 4 bytes) r.least) [
 ]
 
 length_more : (w k : ℕ) → k < 4 → length (drop k (Four w [])) + k ≡ 4
-length_more w k short = length_of (Four w []) k short
-  where
-    length_of : (xs : List ℕ) (k : ℕ) → k < 4 → length (drop k (Four w [])) + k ≡ 4
-    length_of xs k short = omega (arith, length-drop k (Four w []))
+length_more w k short = omega (arith, length-drop k (Four w []))
 
 pub begun : (bytes : List ℕ) (r : Range) (w : ℕ) → AreBytes bytes → length bytes < 4 → r.least ≤ 1 → r.most < 2 ^ 32 → IsLeastNumber bytes r w → w ≤ r.most → IsBegun (AreNumbers (r ∷ [])) bytes
 begun bytes r w small short least most is within = record {

@@ -1,6 +1,6 @@
 -- One byte more.
-use Rattle.std.proofs.Common.{suc, inl, inr, ◌⊎◌, ◌≡◌, ◌≢◌, ℕ, ◌+◌, ◌<◌, ◌≤◌, ◌^◌, ◌++◌, ◌∷◌, [], List, Option, Some, None, length, take, drop, get_or, refl, sym, subst, ap, ap₂, ◌∙◌, arith, append_assoc, append-nil, length-append, add-one}
-use Rattle.std.specs.List.{flat_map, AllByRecursion}
+use Rattle.std.proofs.Common.{inl, inr, ◌⊎◌, ◌≡◌, ◌≢◌, ℕ, ◌+◌, ◌<◌, ◌≤◌, ◌++◌, ◌∷◌, [], List, Option, Some, None, length, take, drop, get_or, refl, sym, subst, ap, ap₂, ◌∙◌, arith, append_assoc, append-nil, length-append, add-one}
+use Rattle.std.specs.List.{flat_map}
 use Rattle.std.proofs.Math.ListN.{get_or-append}
 use Rattle.std.proofs.Math.Seq.{get_or-append_seam, take-suc}
 use Rattle.std.proofs.lemmas.Bool.{cases_lt}
@@ -15,7 +15,7 @@ use Rattle.trace_file.specs.declared.errors.TraceError.{TraceError}
 use Rattle.trace_file.specs.declared.errors.TraceError.TheVariants as errors
 use Rattle.trace_file.specs.Records.{Fits, record_bytes}
 use Rattle.trace_file.specs.Pieces.{IsBegun, IsNone, IsRecord}
-use Rattle.trace_file.specs.Reading.{Begins, FailsForm, FailsOrder, GoesOn, HasRead, HasReadBy, IsAtLine, IsAtRecord, IsInLine, IsMisformed, IsOutOfOrder, IsReading, IsRefused, IsShort, Leads, ReaderState, told_by}
+use Rattle.trace_file.specs.Reading.{GoesOn, IsAtLine, IsAtRecord, IsMisformed, IsOutOfOrder, IsReading, IsRefused, Leads, ReaderState, told_by}
 use Rattle.trace_file.specs.Steps.{IsAdded, IsNotAdded, IsOpen, IsTaken, said}
 use Rattle.trace_file.specs.TraceText.{IsTold, IsTrace, Names, Told, magic, records, text_of, told_text}
 use Rattle.trace_file.proofs.Heads.{begun_empty}

@@ -1,5 +1,5 @@
 -- Texts that go on.
-use Rattle.std.proofs.Common.{◌≡◌, ℕ, ◌++◌, List, [], length, take, refl, sym, ap, ◌∙◌, append_assoc, append-nil}
+use Rattle.std.proofs.Common.{◌≡◌, ℕ, ◌++◌, List, [], length, take, sym, ap, ◌∙◌, append_assoc, append-nil}
 use Rattle.std.proofs.Math.Seq.{take-append_seam}
 use Rattle.trace_file.specs.Kept.{KeepsOn}
 

@@ -1,5 +1,6 @@
--- Records that are made of numbers.
-use Rattle.std.specs.Prelude.{◌≡◌, ℕ, ◌≤◌, Bool, true, false, List, [], ◌∷◌}
+-- Records that are made of numbers, and numbers of bytes.
+use Rattle.std.specs.Prelude.{◌≡◌, ℕ, ◌+◌, ◌^◌, ◌<◌, ◌≤◌, min, Bool, true, false, List, [], length}
+use Rattle.byteorder.specs.Endian.{little_number}
 use Rattle.trace_file.specs.declared.records.Form.{Form}
 use Rattle.trace_file.specs.declared.records.Form.TheVariants.{Step, Read, Write, Fill, Call, Ret, Start, End}
 use Rattle.trace_file.specs.declared.records.Range.{Range}
@@ -29,3 +30,9 @@ is_event Ret = true
 is_event Start = true
 is_event End = true
 is_event f = false
+
+-- It is the least number, in the range or above it, whose bytes begin with the first four of these, or with all where they are
+-- fewer.
+pub record IsLeastNumber (bytes : List ℕ) (r : Range) (n : ℕ) : Type 0 where
+  pub known : r.least ≤ little_number 4 bytes → n ≡ little_number 4 bytes
+  pub beyond : little_number 4 bytes < r.least → n ≡ little_number 4 bytes + 256 ^ min (length bytes) 4

@@ -1,7 +1,6 @@
 -- How bytes stand to a set of texts: the beginning of one of them, or of none.
-use Rattle.std.specs.Prelude.{◌≡◌, ◌≢◌, ℕ, ◌+◌, ◌^◌, ◌<◌, ◌≤◌, min, true, List, [], ◌∷◌, ◌++◌, length}
+use Rattle.std.specs.Prelude.{◌≡◌, ◌≢◌, ℕ, true, List, ◌++◌, [], length}
 use Rattle.guest_words.specs.Names.{is_name}
-use Rattle.byteorder.specs.Endian.{little_number}
 use Rattle.std.specs.List.{flat_map}
 use Rattle.trace_file.specs.declared.records.Form.{Form}
 use Rattle.trace_file.specs.declared.records.Range.{Range}
@@ -49,9 +48,3 @@ IsBody f x = (r : Record) × Fits r × (form r ≡ f) × (x ≡ body r)
 -- the names of so many bytes
 abbrev pub IsNameOf : ℕ → List ℕ → Type 0
 IsNameOf len x = (is_name x ≡ true) × (length x ≡ len)
-
--- It is the least number, in the range or above it, whose bytes begin with the first four of these, or with all where they are
--- fewer.
-pub record IsLeastNumber (bytes : List ℕ) (r : Range) (n : ℕ) : Type 0 where
-  pub known : r.least ≤ little_number 4 bytes → n ≡ little_number 4 bytes
-  pub beyond : little_number 4 bytes < r.least → n ≡ little_number 4 bytes + 256 ^ min (length bytes) 4

@@ -1,6 +1,5 @@
 -- Reading a trace: how far bytes lead, and why they lead no further. A past is the list of the events, the newest first.
-use Rattle.std.specs.Prelude.{◌≡◌, ◌≢◌, ◌⊎◌, ℕ, ◌+◌, ◌^◌, ◌<◌, ◌≤◌, List, [], ◌∷◌, ◌++◌, length, take, Option, Some, None}
-use Rattle.std.specs.List.{flat_map}
+use Rattle.std.specs.Prelude.{◌≡◌, ◌≢◌, ◌⊎◌, ℕ, ◌+◌, ◌^◌, ◌<◌, List, [], ◌∷◌, ◌++◌, length, take, Option, Some, None}
 use Rattle.guest_words.specs.declared.endings.Finish.{Finish}
 use Rattle.trace_model.specs.declared.event_kinds.Event.{Event}
 use Rattle.trace_model.specs.Cut.{past_after}
@@ -12,7 +11,7 @@ use Rattle.trace_file.specs.declared.errors.TraceError.{TraceError}
 use Rattle.trace_file.specs.declared.errors.TraceError.TheVariants as errors
 use Rattle.trace_file.specs.Records.{Fits, record_bytes}
 use Rattle.trace_file.specs.Pieces.{IsBegun, IsNone, IsRecord}
-use Rattle.trace_file.specs.TraceText.{IsRising, IsTold, Names, Told, magic, records, told_text}
+use Rattle.trace_file.specs.TraceText.{IsRising, IsTold, Names, Told, magic, told_text}
 
 -- The bytes are the text of what is told, and a rest behind it.
 pub record Leads (bytes : List ℕ) (t : Told) (rest : List ℕ) : Type 0 where

@@ -1,14 +1,12 @@
 -- The records of a trace's text: a form a row.
-use Rattle.std.specs.Prelude.{◌≡◌, ℕ, ◌+◌, ◌-◌, ◌*◌, ◌/◌, ◌%◌, ◌^◌, ◌<◌, ◌≤◌, true, List, [], ◌∷◌, ◌++◌, length}
+use Rattle.std.specs.Prelude.{◌≡◌, ℕ, ◌-◌, ◌/◌, ◌%◌, ◌^◌, ◌≤◌, true, List, [], ◌∷◌, ◌++◌, length}
 use Rattle.std.specs.List.{flat_map}
 use Rattle.byteorder.specs.Endian.{little_bytes}
 use Rattle.guest_words.specs.Names.{is_name}
 use Rattle.guest_words.specs.declared.limits.TheConstants.{LAST_TID, NAME_BYTES}
 use Rattle.guest_words.specs.declared.endings.FaultKind.{FaultKind}
 use Rattle.guest_words.specs.declared.endings.FaultKind.TheVariants.{Illegal, Fetch, Load, Store, JumpAlign, AtomicAlign, Break}
-use Rattle.guest_words.specs.declared.endings.Finish.{Finish}
 use Rattle.guest_words.specs.declared.endings.Finish.TheVariants as ends
-use Rattle.trace_model.specs.declared.event_kinds.Event.{Event}
 use Rattle.trace_model.specs.declared.event_kinds.Event.TheVariants as events
 use Rattle.trace_file.specs.declared.records.Form.{Form}
 use Rattle.trace_file.specs.declared.records.Form.TheVariants.{Step, Read, Write, Fill, Call, Ret, Start, End, Named, Exit, Fault, Budget, Deadlock, Deep, Schedule}

@@ -7,7 +7,7 @@ use Rattle.trace_file.specs.declared.records.Record.{Record}
 use Rattle.trace_file.specs.declared.records.Record.TheVariants.{OfEvent}
 use Rattle.trace_file.specs.declared.errors.TraceError.{TraceError}
 use Rattle.trace_file.specs.declared.errors.TraceError.TheVariants as errors
-use Rattle.trace_file.specs.Reading.{HasRead, IsOutOfOrder, IsReading, IsRefused, ReaderState, told_by}
+use Rattle.trace_file.specs.Reading.{IsOutOfOrder, IsRefused, ReaderState, told_by}
 use Rattle.trace_file.specs.TraceText.{IsTold, records}
 
 -- the events that a record says

@@ -5,12 +5,14 @@
 #![tactic(auto)]
 
 mod errors;
+mod laws;
 mod reader;
 mod record_reader;
 mod records;
 mod writer;
 
 pub use errors::TraceError;
+pub use laws::{a_text_is_of_one_trace, beginnings_are_read, bytes_read_in_one_way};
 pub use reader::{TraceEnd, TraceReader};
 pub use writer::TraceWriter;
 

@@ -4,10 +4,10 @@ ghost use Rattle.byteorder.specs.Endian.{little_number};
 ghost use Rattle.trace_file.specs.declared.records.Form.{Form};
 ghost use Rattle.guest_words.specs.Names.{is_name, is_visible};
 ghost use Rattle.guest_words.specs.declared.limits.TheConstants.{NAME_BYTES};
-ghost use Rattle.trace_file.specs.Pieces.{AreNumbers, IsBody, IsHead, IsLeastNumber, IsNameOf, IsNone, IsRecord, Stops, body};
+ghost use Rattle.trace_file.specs.Pieces.{AreNumbers, IsBody, IsHead, IsNameOf, IsNone, IsRecord, Stops, body};
 ghost use Rattle.trace_file.specs.declared.records.Record.TheVariants.{OfEvent, OfFinish};
 ghost use Rattle.trace_file.specs.Records.{AreInRanges, Fits, IsIn, form, head, kind_number, number_bytes, ranges, record_bytes, thread};
-ghost use Rattle.trace_file.specs.Made.{IsMade, IsSound, is_event};
+ghost use Rattle.trace_file.specs.Made.{IsLeastNumber, IsMade, IsSound, is_event};
 ghost use Rattle.std.specs.List.{flat_map, list_all};
 
 use crate::records::{Form, Range, Record};

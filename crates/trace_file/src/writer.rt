@@ -4,10 +4,11 @@ ghost use Rattle.std.specs.List.{flat_map, AllByRecursion};
 ghost use Rattle.guest_words.specs.declared.endings.Finish.TheVariants as ends;
 ghost use Rattle.trace_model.specs.declared.event_kinds.Event.{Event};
 ghost use Rattle.trace_model.specs.Observing.{MayTake};
+ghost use Rattle.trace_model.specs.WellFormed.{IsWellFormed};
 ghost use Rattle.trace_file.specs.declared.records.Record.TheVariants.{OfEvent, OfName, OfFinish};
 ghost use Rattle.trace_file.specs.Records.{Fits, joined, kind_number, number_bytes, record_bytes};
 ghost use Rattle.trace_file.specs.Kept.{KeepsOn};
-ghost use Rattle.trace_file.specs.TraceText.{IsRising, IsTextOf, name_records, trace_text, whole_records};
+ghost use Rattle.trace_file.specs.TraceText.{IsRising, IsTextOf, IsTrace, name_records, trace_text};
 
 use guest_words::{Addr, FaultKind, Finish, Name};
 use std::alloc::{AllocError, Global};
@@ -202,7 +203,7 @@ impl TraceWriter {
         requires rising { IsRising names.now }
         requires counted { (line : ℕ) → f.now ≡ ends.Schedule line → 1 ≤ line }
         ensures text { (past : List Event) → IsTextOf self past → IfOk result (λ text. text.items ≡ trace_text past names.now f.now) }
-        ensures fits { (past : List Event) → IsTextOf self past → IfOk result (λ _. AllByRecursion Fits (whole_records past names.now f.now)) }
+        ensures trace { (past : List Event) → IsTextOf self past → IsWellFormed past → IfOk result (λ text. IsTrace text.items past names.now f.now) }
     {
         let mut text = self.text;
         push_names(&mut text, names)?;

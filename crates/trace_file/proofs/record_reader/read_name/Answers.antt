@@ -1,4 +1,4 @@
-use Rattle.std.proofs.Common.{rules, ◌∙◌, sym, arith}
+use Rattle.std.proofs.Common.{◌∙◌, sym, arith}
 use Rattle.trace_file.proofs.NameBytes.{begun_name, none_early, none_whole}
 use Rattle.trace_file.proofs.record_reader.read_name.Goals as goal
 

@@ -1,5 +1,4 @@
-use Rattle.std.proofs.Common.{rules, ◌≡◌, ◌++◌, drop, sym, subst, ◌≤◌, ◌<◌, arith}
-use Rattle.byteorder.specs.Endian.{little_number}
+use Rattle.std.proofs.Common.{rules, ◌≡◌, ◌++◌, drop, sym, subst, arith}
 use Rattle.trace_file.specs.Records.{number_bytes}
 use Rattle.trace_file.proofs.OneNumber.{none, begun, whole, known_of}
 use Rattle.trace_file.proofs.record_reader.read_number.Goals as goal

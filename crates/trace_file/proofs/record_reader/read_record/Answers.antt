@@ -1,4 +1,4 @@
-use Rattle.std.proofs.Common.{rules, ◌∙◌, sym, subst, ap, arith}
+use Rattle.std.proofs.Common.{sym, subst}
 use Rattle.std.specs.Result.{IfErr}
 use Rattle.std.proofs.lemmas.Result.{IfErr-weaker, IfOk-weaker, err_from_is_err_and}
 use Rattle.trace_file.specs.Pieces.{IsRecord, Stops}

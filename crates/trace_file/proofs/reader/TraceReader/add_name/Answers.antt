@@ -1,5 +1,4 @@
-use Rattle.std.proofs.Common.{rules, ◌≡◌, ◌++◌, ◌∷◌, [], false, arith, sym, subst, ap, ap₂, ◌∙◌}
-use Rattle.std.specs.Prelude.{IsTrue}
+use Rattle.std.proofs.Common.{◌++◌, ◌∷◌, [], sym, subst, ap, ap₂, ◌∙◌}
 use Rattle.trace_file.specs.Reading.{ReaderState}
 use Rattle.trace_file.specs.TraceText.{IsRising, Names}
 use Rattle.trace_file.proofs.Adding.{added_name, not_true, is_true}

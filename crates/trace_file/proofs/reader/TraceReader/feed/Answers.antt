@@ -1,4 +1,4 @@
-use Rattle.std.proofs.Common.{rules, arith, ap, sym, ◌∙◌}
+use Rattle.std.proofs.Common.{arith, ap, sym, ◌∙◌}
 use Rattle.trace_file.specs.Reading.{ReaderState}
 use Rattle.trace_file.proofs.Feeding.{fed_refusal, fed_sticky}
 use Rattle.trace_file.proofs.reader.TraceReader.feed.Goals as goal

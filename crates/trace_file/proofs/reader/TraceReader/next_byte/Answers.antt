@@ -1,4 +1,4 @@
-use Rattle.std.proofs.Common.{rules, arith, sym, ap, ◌∙◌}
+use Rattle.std.proofs.Common.{arith, sym, ap, ◌∙◌}
 use Rattle.trace_file.specs.Reading.{ReaderState}
 use Rattle.trace_file.proofs.Feeding.{fed_behind, fed_line, fed_record}
 use Rattle.trace_file.proofs.reader.TraceReader.next_byte.Goals as goal

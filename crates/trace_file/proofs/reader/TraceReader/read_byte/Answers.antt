@@ -1,6 +1,5 @@
-use Rattle.std.proofs.Common.{rules, ◌≡◌, ◌++◌, ◌∷◌, [], Err, arith, sym, subst, ap, ◌∙◌}
+use Rattle.std.proofs.Common.{◌++◌, ◌∷◌, [], sym, ap, ◌∙◌}
 use Rattle.std.proofs.lemmas.Result.{err_from_is_err_and}
-use Rattle.trace_file.specs.declared.errors.TraceError.{TraceError}
 use Rattle.trace_file.specs.Reading.{ReaderState}
 use Rattle.trace_file.proofs.Feeding.{fed_begun, fed_memory, fed_no_form, fed_refused, fed_taken, held_view, stops_begun, stops_none}
 use Rattle.trace_file.proofs.reader.TraceReader.read_byte.Goals as goal

@@ -1,4 +1,4 @@
-use Rattle.std.proofs.Common.{rules, Option, ap, ap₂, ◌∙◌}
+use Rattle.std.proofs.Common.{Option, ap₂}
 use Rattle.trace_file.specs.declared.errors.TraceError.{TraceError}
 use Rattle.trace_file.specs.Reading.{ReaderState}
 use Rattle.trace_file.proofs.Feeding.{fed_byte}
