@@ -1,10 +1,9 @@
 -- What an instruction leaves of a machine.
-use Rattle.std.proofs.Common.{◌≡◌, ℕ, ◌+◌, ◌%◌, ◌^◌, List, [], ◌∷◌, ◌++◌, true, false, ap, ap₂, append_assoc, sym, refl, ◌∙◌, subst, inl, inr, Ok, cond}
+use Rattle.std.proofs.Common.{◌≡◌, ℕ, ◌%◌, List, ◌++◌, true, false, ap, sym, refl, ◌∙◌, subst, inl, inr, Ok, cond}
 use Rattle.std.specs.Prelude.{is_some, None}
 use Rattle.std.proofs.lemmas.Bool.{cases_eq}
 use Rattle.std.proofs.lemmas.List.{append-nil}
 use Rattle.trace_model.specs.declared.event_kinds.Event.{Event}
-use Rattle.trace_model.specs.declared.event_kinds.Event.TheVariants.{Step}
 use Rattle.guest_words.specs.declared.endings.FaultKind.{FaultKind}
 use Rattle.rv_isa.specs.declared.instruction.Instr.{Instr}
 use Rattle.rv_isa.specs.declared.instruction.Instr.TheVariants.{Ecall}
@@ -15,13 +14,11 @@ use Rattle.rv_exec.specs.declared.outcome.Outcome.TheVariants.{Went, KernelCall,
 use Rattle.rv_exec.specs.Laws.{KeepsUnlessWent}
 use Rattle.rv_exec.proofs.CallerLemmas.{effect_aligned, effect_calls, effect_kept, effect_others, effect_rights}
 use Rattle.guest_calls.specs.Kernel.{lives}
-use Rattle.call_tracker.specs.Links.{kind_of}
-use Rattle.call_tracker.specs.declared.jumps.JumpKind.{JumpKind}
 use Rattle.guest_machine.specs.Machine.{Hart, MachineState, can_run, with_registers}
 use Rattle.guest_machine.specs.Sound.{IsSound, HoldersLive}
 use Rattle.guest_machine.specs.Kept.{Parts, Steps, machine_of}
 use Rattle.guest_machine.specs.declared.stepped.Stepped.TheVariants as stepped
-use Rattle.guest_machine.specs.Step.{StepResult, pc_of, access_events, after_effect, exec_state_of, executed, faulted, jump_events, went, with_exec_state}
+use Rattle.guest_machine.specs.Step.{StepResult, pc_of, after_effect, exec_state_of, executed, faulted, went, with_exec_state}
 use Rattle.guest_machine.proofs.Registers.{aligned-with_registers, pc_aligned, same_harts, tids-with_registers}
 use Rattle.guest_words.specs.ByThread.{value_of}
 use Rattle.guest_machine.proofs.Holders.{can_run-lives}
@@ -68,12 +65,6 @@ Steps-went p p2 tid i accessed c old new e machine quiet events =
 pub Steps-faulted : (p p2 : Parts) (tid : ℕ) (kind : FaultKind) (at : ℕ) (r : StepResult) (old : List Event) → r ≡ faulted (machine_of p) tid kind → at ≡ pc_of (machine_of p) tid → machine_of p2 ≡ machine_of p → p2.called ≡ false → Steps r (stepped.Faulted kind at) p2 old old
 Steps-faulted p p2 tid kind at r old is place machine quiet =
     subst (λ (s : StepResult). Steps s (stepped.Faulted kind at) p2 old old) (sym is) (record { went = ap (stepped.Faulted kind) place; machine = machine; out = ap (λ called. cond called p2.kernel.out None) quiet; events = sym (append-nil old) })
-
--- the events of an instruction, one after another
-pub went-events : (old step accesses all : List Event) (tid : ℕ) (kind : JumpKind) (accessed : Access) (i : Instr) (target pc target2 pc2 : ℕ) → step ≡ old ++ Step tid ∷ [] → accesses ≡ step ++ access_events tid accessed → all ≡ accesses ++ jump_events kind tid target ((pc + 4) % 2 ^ 32) → kind ≡ kind_of i → target ≡ target2 → pc ≡ pc2 → all ≡ old ++ (Step tid ∷ (access_events tid accessed ++ jump_events (kind_of i) tid target2 ((pc2 + 4) % 2 ^ 32)))
-went-events old step accesses all tid kind accessed i target pc target2 pc2 one two three kinds targets pcs =
-    three ∙ ap₂ (λ front (back : List Event). front ++ back) (two ∙ ap (λ s. s ++ access_events tid accessed) one ∙ append_assoc old (Step tid ∷ []) (access_events tid accessed)) (ap₂ (λ k t. jump_events k tid t ((pc + 4) % 2 ^ 32)) kinds targets ∙ ap (λ n. jump_events (kind_of i) tid target2 ((n + 4) % 2 ^ 32)) pcs)
-    ∙ append_assoc old (Step tid ∷ access_events tid accessed) (jump_events (kind_of i) tid target2 ((pc2 + 4) % 2 ^ 32))
 
 -- registers, memory and reservations as they were leave the machine as it was
 pub unchanged : (m : MachineState) (tid : ℕ) (c : ExecState) (harts : List Hart) → is_some (value_of m.harts tid) ≡ true → harts ≡ with_registers m.harts tid c.registers → c ≡ exec_state_of m tid → record m { harts = harts; memory = c.memory; held = c.held } ≡ m

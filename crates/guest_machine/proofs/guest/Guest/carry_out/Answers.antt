@@ -12,7 +12,6 @@ use Rattle.guest_machine.specs.Parts.{parts_of}
 use Rattle.guest_machine.specs.Sound.{IsSound}
 use Rattle.guest_machine.proofs.Executed.{Steps-faulted, Steps-went, executed-fault, executed-no_call, fault-state, sound-state, unchanged}
 use Rattle.guest_machine.proofs.Told.{Steps-told, is_alone, told-went}
-use Rattle.rv_exec.specs.Registers.{Registers}
 use Rattle.guest_machine.proofs.Holders.{HoldAtMost-others}
 use Rattle.guest_machine.proofs.guest.Guest.carry_out.Goals as goal
 
