@@ -5,9 +5,9 @@ set -eu
 here=$(cd "$(dirname "$0")" && pwd)
 library=$here/library
 
-for tool in clang ld.lld llvm-ar llvm-ranlib make xz apt-get dpkg-deb; do
+for tool in clang ld.lld llvm-ar llvm-ranlib llvm-strip make apt-get dpkg-deb; do
   if ! command -v "$tool" > /dev/null; then
-    echo "setup.sh: $tool is missing; it is in Debian's packages: apt-get install clang lld llvm make xz-utils" >&2
+    echo "setup.sh: $tool is missing; it is in Debian's packages: apt-get install clang lld llvm make" >&2
     exit 1
   fi
 done
@@ -55,4 +55,5 @@ CC="clang --target=riscv32-linux-musl -march=rv32ima -mabi=ilp32 -mno-relax -fus
   CFLAGS="-O2 -fno-pie" AR=llvm-ar RANLIB=llvm-ranlib LIBCC=$library/lib/libgcc.a \
   ./configure --target=riscv32 --prefix="$library" --disable-shared > "$work/configure.log"
 make -s -j "${JOBS:-$(nproc)}" install
+llvm-strip --strip-debug "$library"/lib/*.a
 echo "setup.sh: made $library" >&2
