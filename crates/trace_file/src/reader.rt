@@ -13,15 +13,12 @@ ghost use Rattle.trace_file.specs.TraceText.{IsRising, IsTrace, magic};
 
 use crate::errors::TraceError;
 use crate::record_reader::{Stop, read_record};
-use crate::records::Record;
+use crate::records::{MAGIC, Record};
 use guest_words::{Addr, Finish, Name};
 use std::alloc::{AllocError, Global};
 use std::marker::Model;
 use trace_model::{Event, Events};
 use trace_order::Order;
-
-/// The line that a trace begins with.
-const MAGIC: [u8; 14] = *b"aprof trace 1\n";
 
 /// What stands behind the events of a trace: the names, and how the run ended.
 #[derive(Drop)]

@@ -3,6 +3,9 @@
 use guest_words::{Addr, Finish, Name};
 use trace_model::Event;
 
+/// The line that a trace begins with.
+pub const MAGIC: [u8; 14] = *b"aprof trace 1\n";
+
 /// What a record says.
 #[derive(Drop)]
 pub enum Record {

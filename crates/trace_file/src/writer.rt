@@ -10,6 +10,7 @@ ghost use Rattle.trace_file.specs.Records.{Fits, joined, kind_number, number_byt
 ghost use Rattle.trace_file.specs.Kept.{KeepsOn};
 ghost use Rattle.trace_file.specs.TraceText.{IsRising, IsTextOf, IsTrace, name_records, trace_text};
 
+use crate::records::MAGIC;
 use guest_words::{Addr, FaultKind, Finish, Name};
 use std::alloc::{AllocError, Global};
 use std::marker::Model;
@@ -174,11 +175,7 @@ impl TraceWriter {
         ensures { IfOk result (λ w. IsTextOf w []) }
     {
         Ok(TraceWriter {
-            text: Vec::from_slice(
-                alloc,
-                b"aprof trace 1
-",
-            )?,
+            text: Vec::from_slice(alloc, &MAGIC)?,
         })
     }
 
