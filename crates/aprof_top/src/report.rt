@@ -1,26 +1,15 @@
 //! The report of a run.
 ghost use Rattle.std.specs.Prelude.{◌≡◌, ℕ, List, map, IfOk};
-ghost use Rattle.elf_image.specs.Image.{name_of};
 ghost use Rattle.trace_model.specs.declared.event_kinds.Event.{Event};
 ghost use Rattle.run_profile.specs.Profile.{AreTotalsOf};
 ghost use Rattle.aprof_top.specs.Report.{named, report_of};
 
 use cost_points::Table;
 use elf_image::Image;
-use guest_words::{Addr, Finish, Name};
+use guest_words::Finish;
 use profile_report::{Report, ReportVersion, Routine};
 use run_profile::Totals;
 use std::alloc::{AllocError, Global};
-
-// The name of the routine at an address, where it has one.
-fn name_at(alloc: Global, image: &Image, at: Addr) -> Result<Option<Name>, AllocError>
-    ensures { IfOk result (λ name. name ≡ name_of image.now at) }
-{
-    match image.name_of(at) {
-        Some(name) => Ok(Some(name.copy(alloc)?)),
-        None => Ok(None),
-    }
-}
 
 // The routines of a table, with their names.
 fn named_routines(alloc: Global, image: &Image, table: &Table) -> Result<Vec<Routine>, AllocError>
@@ -29,7 +18,7 @@ fn named_routines(alloc: Global, image: &Image, table: &Table) -> Result<Vec<Rou
     let mut routines = Vec::new(alloc);
     for i in 0..table.routines() {
         let (entry, points) = table.routine(i);
-        let name = name_at(alloc, image, entry)?;
+        let name = image.name_of(alloc, entry)?;
         let points = Vec::from_slice(alloc, points)?;
         routines.push(Routine {
             entry,

@@ -3,7 +3,7 @@ use Rattle.std.proofs.Common.{◌≡◌, ℕ, ◌^◌, ◌<◌, ◌≤◌, List,
 use Rattle.std.specs.List.{All, AllPairs}
 use Rattle.std.proofs.lemmas.List.Elements.{All-weaker}
 use Rattle.elf_image.specs.declared.headers.FileHeader.{FileHeader}
-use Rattle.elf_image.specs.declared.symbols.Symbol.{Symbol}
+use Rattle.elf_image.specs.Symbols.{Symbol}
 use Rattle.elf_image.specs.Fields.{IsFilled}
 use Rattle.elf_image.specs.FirstSymbols.{AreFirst}
 use Rattle.elf_image.specs.Headers.{file_header}

@@ -7,6 +7,7 @@ pub mod NameLists
 pub mod NameTexts
 pub mod PageCounts
 pub mod Pairs
+pub mod Placed
 pub mod Searched
 pub mod Sound
 pub mod Tables

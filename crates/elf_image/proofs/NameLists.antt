@@ -4,7 +4,7 @@ use Rattle.std.specs.List.{All, AllPairs, cons_option, filter_map, find, range_w
 use Rattle.std.specs.Option.{option_map}
 use Rattle.std.proofs.lemmas.Bool.{cases_eq, cases_order, eq-eqb, ne_eqb}
 use Rattle.std.proofs.lemmas.List.Recursion.{found_nowhere}
-use Rattle.elf_image.specs.declared.symbols.Symbol.{Symbol}
+use Rattle.elf_image.specs.Symbols.{Symbol}
 use Rattle.elf_image.specs.Reading.{addresses, name_at, names_of}
 use Rattle.elf_image.specs.Symbols.{symbol_of, symbols}
 use Rattle.elf_image.proofs.FirstSymbols.{no_symbol}

@@ -1,5 +1,5 @@
 -- The name at an offset of a string table, by the place of the first zero byte within the longest name.
-use Rattle.std.proofs.Common.{◌≡◌, ℕ, ◌+◌, ◌-◌, ◌<◌, ◌≤◌, min, Bool, true, false, not, ◌&&◌, leb, List, length, get_or, take, drop, Option, Some, None, if◌then◌else◌, refl, sym, ap, ◌∙◌, inl, inr, arith}
+use Rattle.std.proofs.Common.{◌≡◌, ℕ, ◌+◌, ◌-◌, ◌<◌, ◌≤◌, min, Bool, true, false, not, ◌&&◌, leb, List, length, get_or, take, drop, Option, Some, None, if◌then◌else◌, refl, sym, ap, subst, ◌∙◌, inl, inr, arith}
 use Rattle.std.specs.List.{before_first, list_all, list_any, position, position_or_len}
 use Rattle.std.proofs.lemmas.Bool.{and_left, and_right, cases_lt, le-ltb, lt-leb, lt-ltb}
 use Rattle.std.proofs.lemmas.List.{drop_all, get_or-take, get_or_default, length-drop, length-take, take-take}
@@ -90,3 +90,32 @@ module _ (strings : List ℕ) (offset n : ℕ) (inside : offset < length strings
 pub begins_nowhere : (strings : List ℕ) (offset : ℕ) → length strings ≤ offset → name_in strings offset ≡ None
 unfolding name_in
 begins_nowhere strings offset past = rw (drop_all offset strings past) refl
+
+-- a name that is there
+named_if : (test : Bool) (name found : List ℕ) → (if test then Some name else None) ≡ Some found → (test ≡ true) × (name ≡ found)
+named_if true name found is = (refl, cc is)
+named_if false name found is = absurd (cc is)
+
+both : (a b : Bool) → (a && b) ≡ true → b ≡ true
+both true b is = is
+both false b is = absurd (cc is)
+
+-- it is the first bytes behind the offset, as many as it has
+pub name_there : (strings : List ℕ) (offset : ℕ) (name : List ℕ) → name_in strings offset ≡ Some name →
+    (take (length name) (drop offset strings) ≡ name) × (offset + length name ≤ length strings) × (is_name name ≡ true)
+unfolding name_in
+name_there strings offset name is =
+    let rest = drop offset strings in
+    let whole = before_first is_zero rest in
+    let parts = named_if (list_any is_zero rest && is_name whole) whole name is in
+    let long : length whole ≡ position_or_len is_zero rest = length-prefix_len (λ b. not (is_zero b)) rest in
+    let size : length name ≡ position_or_len is_zero rest = sym (ap length parts.1) ∙ long in
+    let named : is_name name ≡ true = subst (λ n. is_name n ≡ true) parts.1 (both (list_any is_zero rest) (is_name whole) parts.0) in
+    let short = length-take (position_or_len is_zero rest) rest in (
+      ap (λ n. take n rest) size ∙ parts.1,
+      elim (cases_lt offset (length strings)) as (λ _. offset + length name ≤ length strings) [
+        | inl inside ↦ omega (arith, inside, size, long, short, length-drop offset strings)
+        | inr past ↦ absurd (cc (is, begins_nowhere strings offset past))
+      ],
+      named,
+    )

@@ -5,7 +5,7 @@ use Rattle.std.specs.Option.{IfSome, option_map, option_map_or}
 use Rattle.std.proofs.lemmas.List.{get_or-drop}
 use Rattle.std.proofs.lemmas.List.Elements.{All-cons, All-nil}
 use Rattle.elf_image.specs.declared.headers.SectionHeader.{SectionHeader}
-use Rattle.elf_image.specs.declared.symbols.Symbol.{Symbol}
+use Rattle.elf_image.specs.Symbols.{Symbol}
 use Rattle.elf_image.specs.Headers.{section_header, word_at}
 use Rattle.elf_image.specs.Symbols.{is_readable, name_in, section_bytes, symbol_at, symbol_table, symbols, symbols_in}
 

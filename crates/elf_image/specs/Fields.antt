@@ -1,6 +1,6 @@
 -- What the fields of an image keep.
 use Rattle.std.specs.Prelude.{◌≡◌, ℕ, ◌<◌, List, AllPairs}
-use Rattle.elf_image.specs.declared.symbols.Symbol.{Symbol}
+use Rattle.elf_image.specs.Symbols.{Symbol}
 use Rattle.elf_image.specs.Image.{Executable, IsSound, page_count}
 
 -- The executable is sound, its pages are counted, and the values of its symbols rise.

@@ -3,7 +3,7 @@ use Rattle.std.specs.Prelude.{◌≡◌, ℕ, ◌+◌, ◌*◌, ◌/◌, ◌<◌
 use Rattle.std.specs.List.{filter_map, find}
 use Rattle.elf_image.specs.declared.headers.SectionHeader.{SectionHeader}
 use Rattle.elf_image.specs.declared.names.Entry.{Entry}
-use Rattle.elf_image.specs.declared.symbols.Symbol.{Symbol}
+use Rattle.elf_image.specs.Symbols.{Symbol}
 use Rattle.elf_image.specs.Headers.{word_at}
 use Rattle.elf_image.specs.Symbols.{symbol_at, symbol_of}
 

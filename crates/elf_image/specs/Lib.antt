@@ -10,3 +10,4 @@ pub mod Tests
 -- What the private parts owe one another.
 pub mod FirstSymbols
 pub mod Layout
+pub mod Places

@@ -6,8 +6,13 @@ use Rattle.std.specs.Ordering.{is_lt, nat_cmp}
 use Rattle.std.specs.Cmp.Lexicographic.{slice_cmp}
 use Rattle.guest_words.specs.Names.{is_name}
 use Rattle.elf_image.specs.declared.headers.SectionHeader.{SectionHeader}
-use Rattle.elf_image.specs.declared.symbols.Symbol.{Symbol}
 use Rattle.elf_image.specs.Headers.{file_header, half_at, section_header, section_headers, word_at}
+
+-- A symbol that counts: its value, the rank of its binding (the lowest goes first), and its name.
+pub record Symbol : Type 0 where
+  pub value : ℕ
+  pub rank : ℕ
+  pub name : List ℕ
 
 -- whether section headers are of the size of Elf32_Shdr, and all in the file
 abbrev pub has_sections : List ℕ → Bool

@@ -1,11 +1,11 @@
 //! An executable that can be run, and its segments.
-ghost use Rattle.std.specs.Prelude.{◌≡◌, ◌<◌, ◌==◌, None, length, map, option_map, AllPairs, slice_get, MatchOption};
-ghost use Rattle.std.specs.List.{find};
+ghost use Rattle.std.specs.Prelude.{◌≡◌, map, IfOk};
 ghost use Rattle.elf_image.specs.Fields.{IsFilled};
-ghost use Rattle.elf_image.specs.Image.{IsSound, name_beside, name_of, page_count};
+ghost use Rattle.elf_image.specs.Image.{IsSound, name_of, page_count};
 
-use crate::symbols::Symbol;
+use crate::symbol_names::SymbolNames;
 use guest_words::{Addr, Name, Rights};
+use std::alloc::{AllocError, Global};
 use std::marker::Model;
 
 /// A load segment: `size` bytes of memory from `place` on. The first of them are `bytes`, its part of the file, and the
@@ -35,7 +35,7 @@ pub struct Image {
     segments: Vec<Segment>,
     pages: u32,
     // By rising value, the symbol that names each.
-    symbols: Vec<Symbol>,
+    symbols: SymbolNames,
 }
 
 impl Model for Image {
@@ -50,7 +50,7 @@ impl Model for Image {
       header_place = i.header_place;
       header_count = i.header_count;
       segments = i.segments.items;
-      names = map (λ s. (s.value, s.name)) i.symbols.items;
+      names = map (λ s. (s.value, s.name)) i.symbols;
     } };
 
     ghost invariant = { λ i. IsFilled (record {
@@ -58,30 +58,8 @@ impl Model for Image {
       header_place = i.header_place;
       header_count = i.header_count;
       segments = i.segments.items;
-      names = map (λ s. (s.value, s.name)) i.symbols.items;
-    }) i.pages i.symbols.items };
-}
-
-/// Where the symbol of this value is, among symbols by rising value.
-fn search(symbols: &[Symbol], value: Addr) -> Option<usize>
-    requires { AllPairs (λ s t. s.value < t.value) symbols.now }
-    ensures { MatchOption result (find (λ s. s.value == value) symbols.now ≡ None)
-        (λ place. (place < length symbols.now) × (find (λ s. s.value == value) symbols.now ≡ slice_get symbols.now place)) }
-{
-    symbols
-        .binary_search_by_key(&value, |symbol| symbol.value)
-        .ok()
-}
-
-/// The name of the symbol of this value, among symbols by rising value.
-fn look_up(symbols: &[Symbol], value: Addr) -> Option<&Name>
-    requires { AllPairs (λ s t. s.value < t.value) symbols.now }
-    ensures { option_map (λ n. n.now) result ≡ name_beside (map (λ s. (s.value, s.name)) symbols.now) value }
-{
-    match search(symbols, value) {
-        None => None,
-        Some(place) => Some(&symbols[place].name),
-    }
+      names = map (λ s. (s.value, s.name)) i.symbols;
+    }) i.pages i.symbols };
 }
 
 impl Image {
@@ -92,21 +70,21 @@ impl Image {
         header_count: u32,
         segments: Vec<Segment>,
         pages: u32,
-        symbols: Vec<Symbol>,
+        symbols: SymbolNames,
     ) -> Image
         requires { IsFilled (record {
           entry = entry;
           header_place = header_place;
           header_count = header_count;
           segments = segments.items;
-          names = map (λ s. (s.value, s.name)) symbols.items;
-        }) pages symbols.items }
+          names = map (λ s. (s.value, s.name)) symbols;
+        }) pages symbols }
         ensures { result ≡ record {
           entry = entry;
           header_place = header_place;
           header_count = header_count;
           segments = segments.items;
-          names = map (λ s. (s.value, s.name)) symbols.items;
+          names = map (λ s. (s.value, s.name)) symbols;
         } }
     {
         Image {
@@ -156,9 +134,9 @@ impl Image {
     }
 
     /// The name of the routine at an address, if it has one.
-    pub fn name_of(&self, at: Addr) -> Option<&Name>
-        ensures { option_map (λ n. n.now) result ≡ name_of self.now at }
+    pub fn name_of(&self, alloc: Global, at: Addr) -> Result<Option<Name>, AllocError>
+        ensures { IfOk result (λ name. name ≡ name_of self.now at) }
     {
-        look_up(&self.symbols, at)
+        self.symbols.name_of(alloc, at)
     }
 }

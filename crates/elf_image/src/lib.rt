@@ -13,6 +13,7 @@ mod loading;
 mod names;
 mod reader;
 mod segments;
+mod symbol_names;
 mod symbols;
 
 pub use error::ElfError;

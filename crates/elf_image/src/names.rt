@@ -1,15 +1,16 @@
 //! Which symbol names an address.
-ghost use Rattle.std.specs.Prelude.{◌≡◌, ◌<◌, ◌≤◌, ◌+◌, ◌*◌, ◌/◌, ◌==◌, ◌++◌, ◌∷◌, [], ℕ, List, All, filter, length, map, IfOk, IfSome, OnOk};
+ghost use Rattle.std.specs.Prelude.{◌≡◌, ◌<◌, ◌≤◌, ◌+◌, ◌*◌, ◌/◌, ◌==◌, ◌++◌, ◌∷◌, [], ℕ, List, All, filter, length, map, option_map, IfOk, IfSome, OnOk};
 ghost use Rattle.std.specs.List.{cons_option, range_with_len};
 ghost use Rattle.std.specs.List.Sorted.{IsNonDecreasingBy, IsPermutation};
 ghost use Rattle.elf_image.specs.FirstSymbols.{AreFirst, IsEntry, entry_at, symbols_of_entries};
 ghost use Rattle.elf_image.specs.Headers.{file_header, section_header};
-ghost use Rattle.elf_image.specs.Symbols.{goes_before, section_bytes, symbols, symbols_in};
-ghost use Rattle.elf_image.specs.declared.symbols.Symbol.{Symbol};
+ghost use Rattle.elf_image.specs.Places.{IsNamed, placed};
+ghost use Rattle.elf_image.specs.Symbols.{Symbol, goes_before, section_bytes, symbols, symbols_in};
 
 use crate::headers::{FileHeader, SectionHeader, word_at};
+use crate::symbol_names::{SymbolNames, name_of};
 use crate::symbols::{
-    SYMBOL_SIZE, Symbol, is_readable, section_bytes, section_header, symbol_at, symbol_table,
+    SYMBOL_SIZE, SymbolPlace, is_readable, section_bytes, section_header, symbol_at, symbol_table,
 };
 use guest_words::Addr;
 use std::alloc::{AllocError, Global};
@@ -23,38 +24,54 @@ struct Entry {
 }
 
 /// Whether a symbol goes before another at the same value.
-fn goes_before(s: &Symbol, t: &Symbol) -> bool
-    ensures { result ≡ goes_before s.now t.now }
+fn goes_before(strings: &[u8], s: SymbolPlace, t: SymbolPlace) -> bool
+    requires first { IsNamed strings.now s }
+    requires second { IsNamed strings.now t }
+    ensures { result ≡ goes_before (placed strings.now s) (placed strings.now t) }
 {
     if s.rank != t.rank {
         return s.rank < t.rank;
     }
-    s.name.bytes().cmp(t.name.bytes()) == Ordering::Less
+    name_of(strings, s).cmp(name_of(strings, t)) == Ordering::Less
 }
 
 /// One more symbol, whose value is not below those seen.
-fn merge_symbol(first: &mut Vec<Symbol>, symbol: Symbol) -> Result<(), AllocError>
-    ensures { (seen : List Symbol) → AreFirst seen first.old.items → All (λ s. s.value ≤ symbol.value) seen
-        → OnOk result (AreFirst (seen ++ symbol ∷ []) first.new.items) }
+fn merge_symbol(
+    strings: &[u8],
+    first: &mut Vec<SymbolPlace>,
+    symbol: SymbolPlace,
+) -> Result<(), AllocError>
+    requires symbol { IsNamed strings.now symbol }
+    requires named { All (IsNamed strings.now) first.old.items }
+    ensures first { (seen : List Symbol) → AreFirst seen (map (placed strings.now) first.old.items) → All (λ s. s.value ≤ symbol.value) seen
+        → OnOk result (AreFirst (seen ++ placed strings.now symbol ∷ []) (map (placed strings.now) first.new.items)) }
+    ensures named { OnOk result (All (IsNamed strings.now) first.new.items) }
 {
     let len = first.len();
     if len == 0 || first[len - 1].value != symbol.value {
         return Ok(first.push(symbol)?);
     }
-    if goes_before(&symbol, &first[len - 1]) {
+    if goes_before(strings, symbol, first[len - 1]) {
         first[len - 1] = symbol;
     }
     Ok(())
 }
 
 /// One more symbol, if there is one, whose value is not below those seen.
-fn merge_some(first: &mut Vec<Symbol>, symbol: Option<Symbol>) -> Result<(), AllocError>
-    ensures { (seen : List Symbol) → AreFirst seen first.old.items → IfSome symbol (λ s. All (λ t. t.value ≤ s.value) seen)
-        → OnOk result (AreFirst (seen ++ cons_option symbol []) first.new.items) }
+fn merge_some(
+    strings: &[u8],
+    first: &mut Vec<SymbolPlace>,
+    symbol: Option<SymbolPlace>,
+) -> Result<(), AllocError>
+    requires symbol { IfSome symbol (IsNamed strings.now) }
+    requires named { All (IsNamed strings.now) first.old.items }
+    ensures first { (seen : List Symbol) → AreFirst seen (map (placed strings.now) first.old.items) → IfSome symbol (λ s. All (λ t. t.value ≤ s.value) seen)
+        → OnOk result (AreFirst (seen ++ cons_option (option_map (placed strings.now) symbol) []) (map (placed strings.now) first.new.items)) }
+    ensures named { OnOk result (All (IsNamed strings.now) first.new.items) }
 {
     match symbol {
         None => Ok(()),
-        Some(symbol) => merge_symbol(first, symbol),
+        Some(symbol) => merge_symbol(strings, first, symbol),
     }
 }
 
@@ -82,26 +99,26 @@ fn order_by_value(entries: &mut Vec<Entry>) -> Result<(), AllocError>
     Ok(entries.sort_by_key(|e| e.value)?)
 }
 
-/// The symbol that goes first at each value, of entries by rising value. A name is made of one entry at a time, and kept
-/// for the best symbol of a value alone.
+/// The symbol that goes first at each value, of entries by rising value.
 fn first_of_entries(
     alloc: Global,
     file: &[u8],
     table: &SectionHeader,
     strings: &[u8],
     ordered: &[Entry],
-) -> Result<Vec<Symbol>, AllocError>
+) -> Result<Vec<SymbolPlace>, AllocError>
     requires table { table.now.sh_offset + table.now.sh_size ≤ length file.now }
     requires entries { All (IsEntry file.now table.now) ordered.now }
     requires rising { IsNonDecreasingBy (λ e. e.value) ordered.now }
-    ensures { IfOk result (λ first. AreFirst (symbols_of_entries file.now strings.now table.now ordered.now) first.items) }
+    ensures first { IfOk result (λ first. AreFirst (symbols_of_entries file.now strings.now table.now ordered.now) (map (placed strings.now) first.items)) }
+    ensures named { IfOk result (λ first. All (IsNamed strings.now) first.items) }
 {
     let offset = table.sh_offset as usize;
     let mut first = Vec::new(alloc);
     for entry in ordered {
         let at = offset + SYMBOL_SIZE * entry.index as usize;
         let symbol = symbol_at(alloc, file, strings, at)?;
-        merge_some(&mut first, symbol)?;
+        merge_some(strings, &mut first, symbol)?;
     }
     Ok(first)
 }
@@ -112,10 +129,11 @@ fn first_in(
     file: &[u8],
     table: &SectionHeader,
     strings: &[u8],
-) -> Result<Vec<Symbol>, AllocError>
+) -> Result<Vec<SymbolPlace>, AllocError>
     requires table { table.now.sh_offset + table.now.sh_size ≤ length file.now }
     requires strings { strings.now ≡ section_bytes file.now (section_header file.now table.now.sh_link) }
-    ensures { IfOk result (λ first. AreFirst (symbols_in file.now table.now) first.items) }
+    ensures first { IfOk result (λ first. AreFirst (symbols_in file.now table.now) (map (placed strings.now) first.items)) }
+    ensures named { IfOk result (λ first. All (IsNamed strings.now) first.items) }
 {
     let mut ordered = entries(alloc, file, table)?;
     order_by_value(&mut ordered)?;
@@ -127,16 +145,18 @@ pub(crate) fn first_symbols(
     alloc: Global,
     file: &[u8],
     header: &FileHeader,
-) -> Result<Vec<Symbol>, AllocError>
+) -> Result<SymbolNames, AllocError>
     requires { header.now ≡ file_header file.now }
-    ensures { IfOk result (λ first. AreFirst (symbols file.now) first.items) }
+    ensures { IfOk result (λ first. AreFirst (symbols file.now) first) }
 {
     let Some(table) = symbol_table(file, header) else {
-        return Ok(Vec::new(alloc));
+        return Ok(SymbolNames::none(alloc));
     };
     if !is_readable(file, header, &table) {
-        return Ok(Vec::new(alloc));
+        return Ok(SymbolNames::none(alloc));
     }
-    let strings = section_header(file, header, table.sh_link);
-    first_in(alloc, file, &table, section_bytes(file, &strings))
+    let section = section_header(file, header, table.sh_link);
+    let strings = Vec::from_slice(alloc, section_bytes(file, &section))?;
+    let places = first_in(alloc, file, &table, &strings)?;
+    Ok(SymbolNames::new(strings, places))
 }

@@ -1,8 +1,9 @@
 //! The symbols of a file that name routines.
-ghost use Rattle.std.specs.Prelude.{◌≡◌, ◌<◌, ◌≤◌, ◌+◌, true, Some, None, length, if◌then◌else◌, IfOk};
+ghost use Rattle.std.specs.Prelude.{◌≡◌, ◌<◌, ◌≤◌, ◌+◌, true, Some, None, length, option_map, if◌then◌else◌, IfOk, IfSome};
 ghost use Rattle.guest_words.specs.Names.{is_name};
 ghost use Rattle.elf_image.specs.Symbols.{has_sections, is_in_file, is_readable, is_zero, name_in, rank_of, section_bytes, symbol_at, symbol_table};
 ghost use Rattle.elf_image.specs.Headers.{file_header, section_header};
+ghost use Rattle.elf_image.specs.Places.{IsNamed, placed};
 ghost use Rattle.std.specs.List.{position};
 
 use crate::headers::{FileHeader, SectionHeader, half_at, word_at};
@@ -29,12 +30,14 @@ const SECTION_HEADER_SIZE: usize = 40;
 /// The size of a symbol (Elf32_Sym).
 pub(crate) const SYMBOL_SIZE: usize = 16;
 
-/// A symbol that counts: its value, the rank of its binding (the lowest goes first), and its name.
-#[derive(Drop)]
-pub(crate) struct Symbol {
+/// A symbol that counts: its value, the rank of its binding (the lowest goes first), and where its name stands among the
+/// strings of its table.
+#[derive(Clone, Copy, Debug)]
+pub(crate) struct SymbolPlace {
     pub(crate) value: Addr,
     pub(crate) rank: u8,
-    pub(crate) name: Name,
+    pub(crate) start: u32,
+    pub(crate) len: u32,
 }
 
 /// The place of the first zero byte.
@@ -83,28 +86,31 @@ fn rank_of(binding: u8) -> u8
     }
 }
 
-/// The symbol (Elf32_Sym) at a place, where it counts.
+/// The symbol (Elf32_Sym) at a place, where it counts. Its name is made to be tested, and not kept.
 #[tactic(auto, unfolding(crate::specs::Symbols::symbol_at))]
 pub(crate) fn symbol_at(
     alloc: Global,
     file: &[u8],
     strings: &[u8],
     at: usize,
-) -> Result<Option<Symbol>, AllocError>
+) -> Result<Option<SymbolPlace>, AllocError>
     requires { at + 16 ≤ length file.now }
-    ensures { IfOk result (λ symbol. symbol ≡ symbol_at file.now strings.now at) }
+    ensures symbol { IfOk result (λ place. option_map (placed strings.now) place ≡ symbol_at file.now strings.now at) }
+    ensures named { IfOk result (λ place. IfSome place (IsNamed strings.now)) }
 {
     let info = file[at + 12];
     if info % 16 != STT_FUNC || half_at(file, at + 14) == SHN_UNDEF {
         return Ok(None);
     }
     let value = word_at(file, at + 4);
-    match name_in(alloc, strings, word_at(file, at) as usize)? {
+    let start = word_at(file, at);
+    match name_in(alloc, strings, start as usize)? {
         None => Ok(None),
-        Some(name) => Ok(Some(Symbol {
+        Some(name) => Ok(Some(SymbolPlace {
             value,
             rank: rank_of(info / 16),
-            name,
+            start,
+            len: name.bytes().len() as u32,
         })),
     }
 }

@@ -83,7 +83,7 @@ impl Images {
         let at = u32::from_str_radix(row, 16)?;
         let name = match &self.image {
             None => None,
-            Some(image) => image.name_of(at),
+            Some(image) => image.name_of(alloc, at)?,
         };
         match name {
             None => Ok(String::from_str(alloc, "none")?),

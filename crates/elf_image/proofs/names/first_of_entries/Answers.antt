@@ -1,6 +1,9 @@
-use Rattle.std.proofs.Common.{◌≡◌, ◌<◌, ◌≤◌, ◌++◌, [], ◌+◌, ◌*◌, length, get_or, take, arith}
+use Rattle.std.proofs.Common.{◌≡◌, ◌<◌, ◌≤◌, ◌++◌, [], ◌+◌, ◌*◌, length, get_or, map, take, arith}
 use Rattle.std.specs.List.{cons_option}
-use Rattle.std.specs.Option.{IfSome}
+use Rattle.std.specs.Option.{IfSome, option_map}
+use Rattle.std.proofs.lemmas.List.Elements.{All-nil}
+use Rattle.elf_image.specs.Places.{IsNamed, placed}
+use Rattle.elf_image.proofs.Placed.{below_placed}
 use Rattle.std.specs.List.{All}
 use Rattle.elf_image.specs.FirstSymbols.{AreFirst, symbols_of_entries}
 use Rattle.elf_image.specs.Symbols.{symbol_at}
@@ -9,7 +12,7 @@ use Rattle.elf_image.proofs.FirstSymbols.{first_none}
 use Rattle.elf_image.proofs.names.first_of_entries.Goals as goal
 
 pub loop-entry-init : goal.loop-entry-init
-loop-entry-init c = rw c.new-first.ensures.items first_none
+loop-entry-init c = rw c.new-first.ensures.items (first_none, All-nil (IsNamed c.args.strings.now))
 
 pub loop-entry-preserved : goal.loop-entry-preserved
 loop-entry-preserved c =
@@ -20,7 +23,9 @@ loop-entry-preserved c =
     let i = c.loop-entry.entry-index in
     let inside : i < length es = omega arith in
     let seen = symbols_of_entries file strings table (take i es) in
-    let symbol : c.in_ok-symbol.symbol ≡ symbol_at file strings (table.sh_offset + 16 * (get_or es i no_entry).index) = c.in_ok-symbol.ensures in
-    let later : IfSome c.in_ok-symbol.symbol (λ s. All (λ t. t.value ≤ s.value) seen) = rw symbol (none_later file strings table es i inside c.requires.entries c.requires.rising) in
-    let known : AreFirst (seen ++ cons_option c.in_ok-symbol.symbol []) c.merge_some.new.first.items = c.in_ok-merge_some.ensures seen c.loop-entry.invariant later in
-    rw (one_more file strings table es i inside, ← symbol) known
+    let symbol : option_map (placed strings) c.in_ok-symbol.symbol ≡ symbol_at file strings (table.sh_offset + 16 * (get_or es i no_entry).index) = c.in_ok-symbol.ensures.symbol in
+    let later : IfSome c.in_ok-symbol.symbol (λ s. All (λ t. t.value ≤ s.value) seen) =
+    below_placed strings c.in_ok-symbol.symbol seen (rw symbol (none_later file strings table es i inside c.requires.entries c.requires.rising)) in
+    let known : AreFirst (seen ++ cons_option (option_map (placed strings) c.in_ok-symbol.symbol) []) (map (placed strings) c.merge_some.new.first.items) =
+    c.in_ok-merge_some.ensures.first seen c.loop-entry.invariant.0 later in
+    (rw (one_more file strings table es i inside, ← symbol) known, c.in_ok-merge_some.ensures.named)

@@ -2,7 +2,7 @@ use Rattle.std.proofs.Common.{◌≡◌, length, map, Option, ap, ◌∙◌}
 use Rattle.std.specs.List.{All}
 use Rattle.std.specs.Option.{option_map}
 use Rattle.std.proofs.lemmas.Result.{err_from_is_err_and}
-use Rattle.elf_image.specs.declared.symbols.Symbol.{Symbol}
+use Rattle.elf_image.specs.Symbols.{Symbol}
 use Rattle.elf_image.specs.Image.{Executable, name_of}
 use Rattle.elf_image.specs.Layout.{IsLoadable}
 use Rattle.elf_image.specs.Reading.{names_of}
@@ -42,7 +42,7 @@ header_place-requires-clause-loadable c =
 
 pub new-requires : goal.new-requires
 new-requires c =
-    filled_from c.args.file.now c.in_ok-header.header c.header_place.result c.in_ok-segments.pages c.in_ok-segments.segments.items c.in_ok-symbols.symbols.items
+    filled_from c.args.file.now c.in_ok-header.header c.header_place.result c.in_ok-segments.pages c.in_ok-segments.segments.items c.in_ok-symbols.symbols
     c.in_ok-header.ensures.header c.in_ok-segments.ensures.segments c.in_ok-segments.ensures.pages
     c.in_ok-headers.ensures.passed c.in_ok-segments.ensures.passed c.header_place.ensures.range c.in_ok-header.ensures.count c.in_ok-symbols.ensures.rising
 
@@ -52,13 +52,13 @@ returns-clause-accepted c = passed_all c.args.file.now c.in_ok-header.ensures.pa
 pub returns-clause-image : goal.returns-clause-image
 returns-clause-image c =
     let file = c.args.file.now in
-    let listed : map named c.in_ok-symbols.symbols.items ≡ names_of file =
-    names_from file c.in_ok-symbols.symbols.items c.in_ok-symbols.ensures (values_fit file (λ i. (c.type_inv.file i).fits)) in
-    c.new.ensures ∙ image_is file c.in_ok-header.header c.header_place.result c.in_ok-segments.segments.items (map named c.in_ok-symbols.symbols.items)
+    let listed : map named c.in_ok-symbols.symbols ≡ names_of file =
+    names_from file c.in_ok-symbols.symbols c.in_ok-symbols.ensures (values_fit file (λ i. (c.type_inv.file i).fits)) in
+    c.new.ensures ∙ image_is file c.in_ok-header.header c.header_place.result c.in_ok-segments.segments.items (map named c.in_ok-symbols.symbols)
     c.in_ok-header.ensures.header c.header_place.ensures.value c.in_ok-segments.ensures.segments listed
 
 pub returns-clause-names : goal.returns-clause-names
 returns-clause-names c = λ at.
     let named_by = λ (o : Option Symbol). option_map (λ (s : Symbol). s.name) o in
-    ap (λ (e : Executable). name_of e at) c.new.ensures ∙ (name_of-symbols c.in_ok-symbols.symbols.items at
+    ap (λ (e : Executable). name_of e at) c.new.ensures ∙ (name_of-symbols c.in_ok-symbols.symbols at
     ∙ ap named_by (c.in_ok-symbols.ensures.found at))
