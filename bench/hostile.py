@@ -1,0 +1,63 @@
+#!/usr/bin/env python3
+"""bench/hostile.py PROGRAM: executables that are made to cost much, each with the time and the most memory that it took:
+65534 load headers, and 400000 symbols of as many values, whose names are long and overlap in a string table of 1 MiB."""
+import os
+import pathlib
+import struct
+import subprocess
+import sys
+import tempfile
+import time
+
+TOP = pathlib.Path(__file__).resolve().parent.parent
+
+
+def headers():
+    """The file of the worked row."""
+    with tempfile.TemporaryDirectory() as folder:
+        subprocess.run([sys.executable, TOP / "rows/headers-65534/setup.py"], cwd=folder, check=True)
+        return (pathlib.Path(folder) / "img").read_bytes()
+
+
+def symbols(count):
+    """The smallest guest with a symbol table and its strings behind it."""
+    file = bytearray((TOP / "crates/aprof/data/img").read_bytes())
+    file += bytes(-len(file) % 4)
+    strings = bytearray(b"\0" + (b"n" * 1000 + b"\0") * 1047)
+    table = len(file)
+    for i in range(count):
+        # st_name, st_value, st_size, st_info (a global function), st_other, st_shndx
+        file += struct.pack("<IIIBBH", 1 + i % 1000 + 1001 * (i % 1047), 0x10000 + i, 0, 0x12, 0, 1)
+    text = len(file)
+    file += strings
+    file += bytes(-len(file) % 4)
+    sections = len(file)
+    file += bytes(40)
+    # sh_name, sh_type, sh_flags, sh_addr, sh_offset, sh_size, sh_link, sh_info, sh_addralign, sh_entsize
+    file += struct.pack("<10I", 0, 2, 0, 0, table, 16 * count, 2, 0, 4, 16)
+    file += struct.pack("<10I", 0, 3, 0, 0, text, len(strings), 0, 0, 1, 0)
+    struct.pack_into("<I", file, 32, sections)  # e_shoff
+    struct.pack_into("<HHH", file, 46, 40, 3, 0)  # e_shentsize, e_shnum, e_shstrndx
+    return bytes(file)
+
+
+def measure(program, name, image):
+    with tempfile.TemporaryDirectory() as folder:
+        path = os.path.join(folder, "img")
+        pathlib.Path(path).write_bytes(image)
+        begin = time.monotonic()
+        child = subprocess.Popen([program, "run", "-o", os.path.join(folder, "r"), path], stderr=subprocess.DEVNULL)
+        _, status, usage = os.wait4(child.pid, 0)
+        seconds = time.monotonic() - begin
+        report = pathlib.Path(folder, "r")
+        routine = [line for line in report.read_text().splitlines() if line.startswith("routine")][:1] if report.exists() else []
+        print(f"{name}: {len(image)} bytes, status {os.waitstatus_to_exitcode(status)}, {seconds:.2f} s, {usage.ru_maxrss / 1024:.0f} MiB, {str(routine)[:60]}")
+
+
+def main():
+    program = os.path.abspath(sys.argv[1])
+    measure(program, "65534 headers", headers())
+    measure(program, "400000 symbols", symbols(400_000))
+
+
+main()
