@@ -3,6 +3,8 @@
 seconds, the nanoseconds for a step, and how these compare with the first guest's. Growth with the length of a run shows as a
 second ratio above the first. The figures are of one run on one machine; docs/PERFORMANCE.md has a table of them.
 
+bench/run.py --long [PROGRAM] times runs of some 100 million steps, with the most memory of each.
+
 bench/run.py --host [PROGRAM] counts the host's instructions for one of the guest's in place of time: by callgrind, as the
 difference of two lengths of run, so that neither the start of the program nor the machine's load changes the figure."""
 import os
@@ -14,7 +16,7 @@ import tempfile
 import time
 
 HERE = os.path.dirname(os.path.abspath(__file__))
-WORDS = [word for word in sys.argv[1:] if word != "--host"]
+WORDS = [word for word in sys.argv[1:] if word not in ("--host", "--long")]
 PROGRAM = WORDS[0] if WORDS else os.path.join(HERE, "../crates/aprof/out/aprof")
 
 
@@ -231,7 +233,40 @@ def measure():
                 print("| %s | %d | %.3f | %.0f | %.1f |" % (name, made, seconds, nanoseconds, nanoseconds / first), flush=True)
 
 
+LONG = [
+    ("a loop", counting, 100_000_000),
+    ("calls and returns, 25 million calls", calling, 100_000_000),
+    ("a load and a store, 1 page", lambda steps: touching(steps, 1), 100_000_000),
+]
+
+
+def watch(child):
+    """The seconds until a child ends, and its most memory in KiB, looked at all the while."""
+    began, most = time.monotonic(), 0
+    while child.poll() is None:
+        try:
+            with open("/proc/%d/status" % child.pid) as file:
+                most = max(most, int(re.search(r"VmHWM:\s+(\d+)", file.read())[1]))
+        except (OSError, TypeError):
+            pass
+        time.sleep(0.02)
+    return time.monotonic() - began, most
+
+
+def long_runs():
+    """Prints the time and the memory of long runs."""
+    print("| Guest | Steps | Seconds | ns a step | Memory |")
+    print("|---|---|---|---|---|")
+    with tempfile.TemporaryDirectory() as folder:
+        for name, make, steps in LONG:
+            seconds, most = watch(subprocess.Popen(words(make(steps), folder), stdout=subprocess.DEVNULL))
+            made = steps_of(folder)
+            print("| %s | %d | %.1f | %.0f | %.1f MiB |" % (name, made, seconds, seconds / made * 1e9, most / 1024), flush=True)
+
+
 if "--host" in sys.argv:
     count()
+elif "--long" in sys.argv:
+    long_runs()
 else:
     measure()
