@@ -1,12 +1,12 @@
 -- From the loads and the run of a command to how it ends.
-use Rattle.std.proofs.Common.{◌∙◌, ◌≡◌, ◌⊎◌, ℕ, ◌<◌, Bool, true, false, cond, List, [], Some, None, Err, refl, sym, ap, subst, inl, inr, arith, length, slice_get}
+use Rattle.std.proofs.Common.{◌∙◌, ◌≡◌, ◌⊎◌, ℕ, ◌<◌, Bool, true, false, cond, List, [], Option, Some, None, Err, refl, sym, ap, subst, inl, inr, arith, length, slice_get}
 use Rattle.std.specs.Prelude.{nat_lt}
 use Rattle.std.specs.List.{list_any}
 use Rattle.std.proofs.lemmas.Bool.Decides.{nat_tests}
 use Rattle.std.proofs.lemmas.Option.{slice_get_within}
-use Rattle.command_line.specs.Options.{AsksFor, GuestOptions, RunOptions, has_zero}
-use Rattle.command_line.specs.Options.Asked.{Run, Demo}
-use Rattle.host_io.specs.Files.{FilesState}
+use Rattle.command_line.specs.Options.{Asked, AsksFor, GuestOptions, RunOptions, TraceOptions, has_zero}
+use Rattle.command_line.specs.Options.Asked.{Run, Trace, Demo}
+use Rattle.host_io.specs.Files.{Contents, FilesState}
 use Rattle.host_io.specs.Sink.{PutEnds, SinkState, appended}
 use Rattle.host_io.specs.declared.sink.PutError.{PutError}
 use Rattle.host_io.specs.declared.sink.PutError.TheVariants as refused
@@ -20,12 +20,12 @@ use Rattle.aprof_top.specs.declared.ending.Verdict.TheVariants as verdict
 use Rattle.aprof_top.specs.Ending.{AskedEnds, Delivers, end_of, guest_of, of_command, of_put}
 use Rattle.aprof_top.specs.Ends.{Reaches}
 use Rattle.aprof_top.specs.Ends.End.{Decided}
-use Rattle.aprof_top.specs.Found.{Decision, Found}
+use Rattle.aprof_top.specs.Found.{Decision, Found, paths_of}
 use Rattle.aprof_top.specs.Loading.{LoadsEnd}
 use Rattle.aprof_top.specs.Loads.{loaded_of, loaded_paths, passes_limit, shared_count}
-use Rattle.aprof_top.specs.Outcome.{Follows, IsDemo, IsOutcome, IsRun, Outcome, refusal, stage}
+use Rattle.aprof_top.specs.Outcome.{Follows, IsDemo, IsOutcome, IsRun, IsUndecided, Job, Outcome, refusal, run_job, stage, trace_job}
 use Rattle.aprof_top.specs.Outcome.Stage.{Complete, Loading, PastLimit}
-use Rattle.aprof_top.specs.Outside.{AreFiles, Outside, outside}
+use Rattle.aprof_top.specs.Outside.{AreFiles, AreHeld, Outside, outside}
 use Rattle.aprof_top.specs.Jobs.{FilesRun, summed}
 use Rattle.aprof_top.specs.Preparing.{AreAll, AreRefused}
 use Rattle.aprof_top.proofs.Runs.{FilesRun-refused}
@@ -73,63 +73,96 @@ pub Reaches-unread : (words : List (List ℕ)) (e : CommandError) (outside' : Ou
 Reaches-unread words command.Refused o asks zero = Reaches-bad_command words o.files o.out o.err (asks refl)
 Reaches-unread words command.Memory o asks zero = record { no_zero = zero refl; done = inl refl }
 
--- ---- a command with these options, before its loads and after them; its sinks are untouched
-module _ (options : RunOptions) (files loaded : FilesState) (out err : SinkState) where
+-- ---- a command that runs a guest
+-- What is asked is this job.
+pub record IsJob (asked : Asked) (job : Job) : Type 0 where
+  pub outcome : (files : List (List ℕ)) (outcome : Outcome) → Follows job files outcome (stage job.guest files) → IsOutcome (Some asked) files outcome
+  pub undecided : (files : List (List ℕ)) → stage job.guest files ≡ Loading → IsUndecided (Some asked) files
+  pub paths : loaded_paths job.guest ≡ paths_of (Some asked)
+  pub guest : guest_of asked ≡ Some job.guest
+
+pub is_run_job : (options : RunOptions) → IsJob (Run options) (run_job options)
+is_run_job options = record { outcome = λ files outcome follows. follows; undecided = λ files is. is; paths = refl; guest = refl }
+
+pub is_trace_job : (options : TraceOptions) → IsJob (Trace options) (trace_job options)
+is_trace_job options = record { outcome = λ files outcome follows. follows; undecided = λ files is. is; paths = refl; guest = refl }
+
+-- ---- before its loads and after them; its sinks are untouched
+module _ (asked : Asked) (job : Job) (is_job : IsJob asked job) (files loaded : FilesState) (out err : SinkState) where
   abbrev before : Outside
   before = outside files out err
 
   abbrev between : Outside
   between = outside loaded out err
 
-  -- the loads ended it
-  pub AskedEnds-unloaded : (e : declared.Ending) → LoadsEnd options.guest files loaded e → AskedEnds (Run options) before between e
-  AskedEnds-unloaded (ending.CannotRead source) fails words asks = record {
-    found = record { asked = Some (Run options); asks = asks; files = fails.files; held = fails.held; limit = inl fails.each };
-    undecided = loading_stage options.guest fails.files (path_of options.guest source) fails.few fails.next;
-    next = fails.next;
+  -- what was found of the files
+  held_by : (contents : Option Contents) (found : List (List ℕ)) → AreHeld contents (loaded_paths job.guest) found → AreHeld contents (paths_of (Some asked)) found
+  held_by contents found held = subst (λ paths. AreHeld contents paths found) is_job.paths held
+
+  end_is : (e : declared.Ending) → end_of (Some job.guest) e ≡ end_of (guest_of asked) e
+  end_is e = ap (λ guest. end_of guest e) (sym is_job.guest)
+
+  -- how the command ends, told by its guest
+  abbrev Told : Outside → declared.Ending → Type 0
+  Told after e = (words : List (List ℕ)) → AsksFor words (Some asked) → Reaches words (end_of (Some job.guest) e) before after
+
+  asked_ends : (after : Outside) (e : declared.Ending) → Told after e → AskedEnds asked before after e
+  asked_ends after e told words asks = subst (λ end. Reaches words end before after) (end_is e) (told words asks)
+
+  told_unloaded : (e : declared.Ending) → LoadsEnd job.guest files loaded e → Told between e
+  told_unloaded (ending.CannotRead source) fails words asks = record {
+    found = record { asked = Some asked; asks = asks; files = fails.files; held = held_by files.contents fails.files fails.held; limit = inl fails.each };
+    undecided = is_job.undecided fails.files (loading_stage job.guest fails.files (path_of job.guest source) fails.few fails.next);
+    next = subst (λ paths. slice_get paths (length fails.files) ≡ Some (path_of job.guest source)) is_job.paths fails.next;
     failed = fails.failed;
     contents = fails.contents;
     out = refl;
     err = refl;
   }
-  AskedEnds-unloaded (ending.Decided why) (too_large, passes) words asks =
+  told_unloaded (ending.Decided why) (too_large, passes) words asks =
       refused_by words why files loaded out err
-      (record { asked = Some (Run options); asks = asks; files = passes.files; held = passes.held; limit = passes.limit })
-      (subst (λ s. Follows options passes.files (refusal why) s) (sym (past_stage options.guest passes.files passes.many)) (ap refusal too_large))
+      (record { asked = Some asked; asks = asks; files = passes.files; held = held_by files.contents passes.files passes.held; limit = passes.limit })
+      (is_job.outcome passes.files (refusal why) (subst (λ s. Follows job passes.files (refusal why) s) (sym (past_stage job.guest passes.files passes.many)) (ap refusal too_large)))
       passes.unchanged
-  AskedEnds-unloaded ending.CannotWrite ends' words asks = absurd ends'
-  AskedEnds-unloaded ending.CannotPut ends' words asks = absurd ends'
-  AskedEnds-unloaded ending.OutOfMemory same words asks = record { no_zero = no_zero words (Run options) asks; done = inl (ap (λ f. outside f out err) same) }
+  told_unloaded ending.CannotWrite ends' words asks = absurd ends'
+  told_unloaded ending.CannotPut ends' words asks = absurd ends'
+  told_unloaded ending.OutOfMemory same words asks = record { no_zero = no_zero words asked asks; done = inl (ap (λ f. outside f out err) same) }
+
+  -- the loads ended it
+  pub AskedEnds-unloaded : (e : declared.Ending) → LoadsEnd job.guest files loaded e → AskedEnds asked before between e
+  AskedEnds-unloaded e ends = asked_ends between e (told_unloaded e ends)
 
   -- all was loaded
-  module _ (found : List (List ℕ)) (all : AreAll options.guest found files loaded) where
-    decided : (outcome : Outcome) → IsRun options (loaded_of options.guest found) outcome → Follows options found outcome (stage options.guest found)
-    decided outcome is_run = subst (λ s. Follows options found outcome s) (sym (complete_stage options.guest found all.are.few all.all)) is_run
+  module _ (found : List (List ℕ)) (all : AreAll job.guest found files loaded) where
+    decided : (outcome : Outcome) → IsRun job (loaded_of job.guest found) outcome → IsOutcome (Some asked) found outcome
+    decided outcome is_run =
+        is_job.outcome found outcome (subst (λ s. Follows job found outcome s) (sym (complete_stage job.guest found all.are.few all.all)) is_run)
 
-    abbrev decision : (words : List (List ℕ)) (after : Outside) (outcome : Outcome) → AsksFor words (Some (Run options)) → IsRun options (loaded_of options.guest found) outcome → Decision words before after
+    abbrev decision : (words : List (List ℕ)) (after : Outside) (outcome : Outcome) → AsksFor words (Some asked) → IsRun job (loaded_of job.guest found) outcome → Decision words before after
     decision words after outcome asks is_run = record {
-      found = record { asked = Some (Run options); asks = asks; files = found; held = all.are.held; limit = inl all.are.each };
+      found = record { asked = Some asked; asks = asks; files = found; held = held_by files.contents found all.are.held; limit = inl all.are.each };
       outcome = outcome;
       written = decided outcome is_run;
     }
 
+    told_run : (after : Outside) (e : declared.Ending) → FilesRun job (loaded_of job.guest found) before after e → Told after e
+    told_run after (ending.Decided v) runs words asks = (decision words after runs.outcome asks runs.is_run, runs.delivered.0, runs.delivered.1)
+    told_run after (ending.CannotRead source) runs words asks = absurd runs
+    told_run after ending.CannotWrite runs words asks = record { decision = decision words after runs.outcome asks runs.is_run; ran = runs.delivered.0; fails = runs.delivered.1 }
+    told_run after ending.CannotPut runs words asks = record { decision = decision words after runs.outcome asks runs.is_run; ran = runs.delivered.0; fails = runs.delivered.1 }
+    told_run after ending.OutOfMemory (inl same) words asks = record { no_zero = no_zero words asked asks; done = inl same }
+    told_run after ending.OutOfMemory (inr runs) words asks = record { no_zero = no_zero words asked asks; done = inr (decision words after runs.outcome asks runs.is_run, runs.delivered) }
+
     -- and the guest was run
-    pub AskedEnds-run : (after : Outside) (e : declared.Ending) → FilesRun options (loaded_of options.guest found) between after e → AskedEnds (Run options) before after e
-    AskedEnds-run after e runs words asks = by e (subst (λ f. FilesRun options (loaded_of options.guest found) (outside f out err) after e) all.are.same runs)
-      where
-        by : (e : declared.Ending) → FilesRun options (loaded_of options.guest found) before after e → Reaches words (end_of (guest_of (Run options)) e) before after
-        by (ending.Decided v) runs' = (decision words after runs'.outcome asks runs'.is_run, runs'.delivered.0, runs'.delivered.1)
-        by (ending.CannotRead source) runs' = absurd runs'
-        by ending.CannotWrite runs' = record { decision = decision words after runs'.outcome asks runs'.is_run; ran = runs'.delivered.0; fails = runs'.delivered.1 }
-        by ending.CannotPut runs' = record { decision = decision words after runs'.outcome asks runs'.is_run; ran = runs'.delivered.0; fails = runs'.delivered.1 }
-        by ending.OutOfMemory (inl same) = record { no_zero = no_zero words (Run options) asks; done = inl same }
-        by ending.OutOfMemory (inr runs') = record { no_zero = no_zero words (Run options) asks; done = inr (decision words after runs'.outcome asks runs'.is_run, runs'.delivered) }
+    pub AskedEnds-run : (after : Outside) (e : declared.Ending) → FilesRun job (loaded_of job.guest found) between after e → AskedEnds asked before after e
+    AskedEnds-run after e runs =
+        asked_ends after e (told_run after e (subst (λ f. FilesRun job (loaded_of job.guest found) (outside f out err) after e) all.are.same runs))
 
   -- or one of the files was refused
-  pub AskedEnds-unprepared : (e : declared.Ending) → LoadsEnd options.guest files loaded e ⊎ AreRefused options.guest files loaded e → AskedEnds (Run options) before between e
+  pub AskedEnds-unprepared : (e : declared.Ending) → LoadsEnd job.guest files loaded e ⊎ AreRefused job.guest files loaded e → AskedEnds asked before between e
   AskedEnds-unprepared e (inl ends) = AskedEnds-unloaded e ends
   AskedEnds-unprepared e (inr are) =
-      AskedEnds-run are.files are.loaded between e (FilesRun-refused options (loaded_of options.guest are.files) between e are.refused)
+      AskedEnds-run are.files are.loaded between e (FilesRun-refused job (loaded_of job.guest are.files) between e are.refused)
 
 -- ---- the demo
 -- its outcome was handed out

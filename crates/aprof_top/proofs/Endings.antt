@@ -33,7 +33,7 @@ module _ (words : List (List ℕ)) (status : ℕ) (before after : Outside) where
   pub is_this : (end : End) (this : ℕ) → EndsBy words end status before after → status ≡ this → (this ≡ 10 → ⊥) → this ≡ end_status end
   is_this end this ends is not_ten = let e = own end ends (λ ten. not_ten (omega (arith, is, ten))) in omega (arith, is, e)
 
-  cannot_read : (end : End) → EndsBy words end status before after → status ≡ 2 → (path : List ℕ) × EndsBy words (CannotRead path) status before after
+  pub cannot_read : (end : End) → EndsBy words end status before after → status ≡ 2 → (path : List ℕ) × EndsBy words (CannotRead path) status before after
   cannot_read (Decided verdict) ends two = absurd ((written_status verdict 2 (is_this (Decided verdict) 2 ends two (λ e. omega (arith, e)))).could_read (omega arith))
   cannot_read (CannotRead path) ends two = (path, ends)
   cannot_read CannotWrite ends two = absurd (let e = is_this CannotWrite 2 ends two (λ e. omega (arith, e)) in omega (arith, e))

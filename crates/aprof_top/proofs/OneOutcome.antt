@@ -2,12 +2,12 @@
 use Rattle.std.proofs.Common.{◌≡◌, ℕ, List, [], Option, Some, None, sym, ap, ◌∙◌}
 use Rattle.thread_sched.proofs.Read.{never_both, one_bad_line, read_once}
 use Rattle.command_line.specs.Options.{RunOptions}
-use Rattle.command_line.specs.Options.Asked.{Run, Demo}
+use Rattle.command_line.specs.Options.Asked.{Run, Trace, Demo}
 use Rattle.demo_guest.specs.Image.{OneDemoFile}
 use Rattle.elf_image.specs.Reading.{image_of}
 use Rattle.elf_image.specs.declared.error.ElfError.{ElfError}
 use Rattle.aprof_top.specs.Loads.{Loaded, loaded_of}
-use Rattle.aprof_top.specs.Outcome.{ByImage, Follows, IsScheduled, Outcome, Stage, demo_files, demo_options, demo_outcome, scheduled_outcome, stage}
+use Rattle.aprof_top.specs.Outcome.{ByImage, Follows, IsScheduled, Job, Outcome, Stage, demo_files, demo_options, demo_outcome, run_job, scheduled_outcome, stage, trace_job}
 use Rattle.aprof_top.specs.Outcome.Stage.{PastLimit, Loading, Complete}
 use Rattle.aprof_top.specs.Laws.{OneOutcome}
 use Rattle.aprof_top.specs.Run.{run_of}
@@ -21,22 +21,23 @@ reads_once text (Turns es) (BadLine n) r s = absurd (never_both text es n r.0 r.
 reads_once text (BadLine n) (Turns es) r s = absurd (never_both text es n s.0 s.1 r)
 reads_once text (BadLine m) (BadLine n) r s = ap BadLine (one_bad_line text n m s r)
 
-scheduled_once : (options : RunOptions) (loaded : Loaded) (a b : Outcome) → IsScheduled options loaded a → IsScheduled options loaded b → a ≡ b
-scheduled_once options loaded a b r s =
-    r.answered ∙ ap (scheduled_outcome options loaded) (reads_once loaded.schedule r.reading s.reading r.read s.read) ∙ sym s.answered
+scheduled_once : (job : Job) (loaded : Loaded) (a b : Outcome) → IsScheduled job loaded a → IsScheduled job loaded b → a ≡ b
+scheduled_once job loaded a b r s =
+    r.answered ∙ ap (scheduled_outcome job loaded) (reads_once loaded.schedule r.reading s.reading r.read s.read) ∙ sym s.answered
 
-image_once : (options : RunOptions) (loaded : Loaded) (a b : Outcome) (refusal : Option ElfError) → ByImage options loaded a refusal → ByImage options loaded b refusal → a ≡ b
-image_once options loaded a b (Some e) r s = r ∙ sym s
-image_once options loaded a b None r s = scheduled_once options loaded a b r s
+image_once : (job : Job) (loaded : Loaded) (a b : Outcome) (refusal : Option ElfError) → ByImage job loaded a refusal → ByImage job loaded b refusal → a ≡ b
+image_once job loaded a b (Some e) r s = r ∙ sym s
+image_once job loaded a b None r s = scheduled_once job loaded a b r s
 
-follows_once : (options : RunOptions) (files : List (List ℕ)) (a b : Outcome) (s : Stage) → Follows options files a s → Follows options files b s → a ≡ b
-follows_once options files a b PastLimit p q = p ∙ sym q
-follows_once options files a b Loading p q = absurd p
-follows_once options files a b Complete p q = image_once options (loaded_of options.guest files) a b _ p q
+follows_once : (job : Job) (files : List (List ℕ)) (a b : Outcome) (s : Stage) → Follows job files a s → Follows job files b s → a ≡ b
+follows_once job files a b PastLimit p q = p ∙ sym q
+follows_once job files a b Loading p q = absurd p
+follows_once job files a b Complete p q = image_once job (loaded_of job.guest files) a b _ p q
 
 pub one_outcome : OneDemoFile → OneOutcome
 one_outcome one_file None files a b p q = p ∙ sym q
-one_outcome one_file (Some (Run options)) files a b p q = follows_once options files a b (stage options.guest files) p q
+one_outcome one_file (Some (Run options)) files a b p q = follows_once (run_job options) files a b (stage options.guest files) p q
+one_outcome one_file (Some (Trace options)) files a b p q = follows_once (trace_job options) files a b (stage options.guest files) p q
 one_outcome one_file (Some (Demo number)) files a b p q =
     p.answered
     ∙ ap (λ file. demo_outcome number (image_of file) (run_of B32 demo_options (demo_files file) [])) (one_file number p.file q.file p.is_demo q.is_demo)

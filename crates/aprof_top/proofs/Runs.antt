@@ -5,8 +5,8 @@ use Rattle.std.proofs.Math.Seq.{take-length}
 use Rattle.guest_words.specs.declared.limits.TheConstants.{RUN_STEPS}
 use Rattle.trace_model.specs.declared.event_kinds.Event.{Event}
 use Rattle.trace_model.specs.Depth.{is_within}
-use Rattle.trace_model.specs.WellFormed.{IsLight}
-use Rattle.command_line.specs.Options.{GuestOptions, RunOptions, arguments, inputs}
+use Rattle.trace_model.specs.WellFormed.{IsLight, IsWellFormed}
+use Rattle.command_line.specs.Options.{GuestOptions, arguments, inputs}
 use Rattle.elf_image.specs.Image.{Executable}
 use Rattle.elf_image.specs.Reading.{image_of}
 use Rattle.elf_image.specs.Tests.{first_refusal}
@@ -16,7 +16,9 @@ use Rattle.guest_machine.specs.Setup.{setup_refusal}
 use Rattle.guest_machine.specs.Start.{start}
 use Rattle.guest_run.specs.Laws.{scheduler}
 use Rattle.guest_run.specs.Output.{Sinks, with_output}
-use Rattle.guest_run.specs.Profiled.{Profiled}
+use Rattle.guest_run.specs.Profiled.{Profiled, first_past}
+use Rattle.guest_run.specs.Run.{bytes_on}
+use Rattle.guest_run.proofs.Formed.{every_run_formed}
 use Rattle.guest_run.proofs.Weights.{every_run_light}
 use Rattle.host_io.specs.Files.{FilesState}
 use Rattle.host_io.specs.Sink.{SinkState, appended}
@@ -27,44 +29,45 @@ use Rattle.thread_sched.specs.ScheduleText.{IsBadLine, IsEntry, IsText}
 use Rattle.aprof_top.specs.declared.ending.Ending as declared
 use Rattle.aprof_top.specs.declared.ending.Ending.TheVariants as ending
 use Rattle.aprof_top.specs.declared.ending.Verdict.{Verdict}
-use Rattle.aprof_top.specs.declared.ending.Verdict.TheVariants.{BadCommand, BadImage, BadSchedule, TooLarge, Ran, Summarized}
+use Rattle.aprof_top.specs.declared.ending.Verdict.TheVariants.{BadCommand, BadImage, BadSchedule, TooLarge, Ran, ResultTooLarge, Summarized}
 use Rattle.aprof_top.specs.Preparing.{Refuses}
 use Rattle.aprof_top.specs.Jobs.{FilesRun, IsRefused, RunIsStored, RunStops, desk, ending_by}
 use Rattle.aprof_top.specs.Delivery.{FailsWithin, PutsOutput}
 use Rattle.aprof_top.specs.Loads.{Loaded, with_inputs}
-use Rattle.aprof_top.specs.Outcome.{ByImage, IsRun, IsScheduled, Outcome, begun_outcome, refusal, run_outcome}
+use Rattle.aprof_top.specs.Outcome.{ByImage, IsRun, IsScheduled, Job, Outcome, begun_outcome, refusal}
 use Rattle.aprof_top.specs.Outside.{AreFiles, Outside, outside}
 use Rattle.aprof_top.specs.Run.{first_state, observed_from, run_of}
 use Rattle.aprof_top.specs.Schedules.Reading.{BadLine, Turns}
+use Rattle.aprof_top.specs.Verdicts.{IsOfRun}
+use Rattle.aprof_top.proofs.Lines.{IsCounted, observed_counted}
 use Rattle.aprof_top.proofs.Handed.{fails_on_err, fails_on_out, puts_all, stops_short}
 use Rattle.aprof_top.proofs.Sinks.{appended-nothing, same_files, takes_all}
 
-module _ (options : RunOptions) (loaded : Loaded) where
+module _ (job : Job) (loaded : Loaded) where
   module _ (accepted : first_refusal loaded.image ≡ None) where
-    accepts : (outcome : Outcome) → IsScheduled options loaded outcome → IsRun options loaded outcome
-    accepts outcome scheduled = subst (λ o. ByImage options loaded outcome o) (sym accepted) scheduled
+    accepts : (outcome : Outcome) → IsScheduled job loaded outcome → IsRun job loaded outcome
+    accepts outcome scheduled = subst (λ o. ByImage job loaded outcome o) (sym accepted) scheduled
 
-    pub IsRun-bad_line : (line : ℕ) → IsBadLine loaded.schedule line → IsRun options loaded (refusal (BadSchedule line))
+    pub IsRun-bad_line : (line : ℕ) → IsBadLine loaded.schedule line → IsRun job loaded (refusal (BadSchedule line))
     IsRun-bad_line line bad = accepts (refusal (BadSchedule line)) (record { reading = BadLine line; read = bad; answered = refl })
 
     module _ (turns : List Entry) (entries : AllByRecursion IsEntry turns) (text : IsText loaded.schedule turns) (image : Executable) (is : image ≡ image_of loaded.image) where
-      refused_by : (o : Option SetupError) → IsRefused o → refusal TooLarge ≡ begun_outcome options loaded turns o
+      refused_by : (o : Option SetupError) → IsRefused o → refusal TooLarge ≡ begun_outcome job loaded turns o
       refused_by None refused = absurd refused
       refused_by (Some why) refused = refl
 
-      pub IsRun-unbegun : IsRefused (setup_refusal image (arguments options.guest)) → IsRun options loaded (refusal TooLarge)
+      pub IsRun-unbegun : IsRefused (setup_refusal image (arguments job.guest)) → IsRun job loaded (refusal TooLarge)
       IsRun-unbegun refused = accepts (refusal TooLarge) (record {
         reading = Turns turns;
         read = (entries, text);
-        answered = refused_by (setup_refusal (image_of loaded.image) (arguments options.guest)) (subst (λ i. IsRefused (setup_refusal i (arguments options.guest))) is refused);
+        answered = refused_by (setup_refusal (image_of loaded.image) (arguments job.guest)) (subst (λ i. IsRefused (setup_refusal i (arguments job.guest))) is refused);
       })
 
-      pub IsRun-run : setup_refusal image (arguments options.guest) ≡ None → (seen : Profiled) → seen ≡ run_of options.bits options.guest loaded turns → IsRun options loaded (run_outcome options image seen)
-      IsRun-run begins seen runs = accepts (run_outcome options image seen) (record {
+      pub IsRun-run : setup_refusal image (arguments job.guest) ≡ None → (outcome : Outcome) → outcome ≡ job.leaves loaded turns → IsRun job loaded outcome
+      IsRun-run begins outcome left = accepts outcome (record {
         reading = Turns turns;
         read = (entries, text);
-        answered = ap₂ (run_outcome options) is runs
-            ∙ ap (begun_outcome options loaded turns) (sym begins ∙ ap (λ i. setup_refusal i (arguments options.guest)) is);
+        answered = left ∙ ap (begun_outcome job loaded turns) (sym begins ∙ ap (λ i. setup_refusal i (arguments job.guest)) is);
       })
 
 -- the guest can begin
@@ -80,69 +83,68 @@ seen_run bits options loaded turns image files stdin is files_are stdin_is =
     ∙ ap₂ (λ f s. observed_from (is_within (greatest bits)) options turns (image_of loaded.image).entry (start (image_of loaded.image) (arguments options) f s)) files_are stdin_is
 
 -- a refusal is handed out by nothing
-handed_refusal : (options : RunOptions) (loaded : Loaded) (v : Verdict) (o : Outside) → IsRun options loaded (refusal v) → FilesRun options loaded o o (ending.Decided v)
-handed_refusal options loaded v o is_run = record {
+handed_refusal : (job : Job) (loaded : Loaded) (v : Verdict) (o : Outside) → IsRun job loaded (refusal v) → FilesRun job loaded o o (ending.Decided v)
+handed_refusal job loaded v o is_run = record {
   outcome = refusal v;
   is_run = is_run;
   delivered = (refl, record { out = appended-nothing o.out; err = appended-nothing o.err ∙ appended-nothing (appended o.err []); stored = same_files o.files });
 }
 
 -- files that are refused are run by nothing
-pub FilesRun-refused : (options : RunOptions) (loaded : Loaded) (o : Outside) (e : declared.Ending) → Refuses loaded e → FilesRun options loaded o o e
-FilesRun-refused options loaded o (ending.Decided (BadImage e)) refused =
-    handed_refusal options loaded (BadImage e) o (subst (λ why. ByImage options loaded (refusal (BadImage e)) why) (sym refused) refl)
-FilesRun-refused options loaded o (ending.Decided (BadSchedule line)) (accepted, bad) = handed_refusal options loaded (BadSchedule line) o (IsRun-bad_line options loaded accepted line bad)
-FilesRun-refused options loaded o (ending.Decided BadCommand) refused = absurd refused
-FilesRun-refused options loaded o (ending.Decided TooLarge) refused = absurd refused
-FilesRun-refused options loaded o (ending.Decided (Ran finish)) refused = absurd refused
-FilesRun-refused options loaded o (ending.Decided Summarized) refused = absurd refused
-FilesRun-refused options loaded o (ending.CannotRead source) refused = absurd refused
-FilesRun-refused options loaded o ending.CannotWrite refused = absurd refused
-FilesRun-refused options loaded o ending.CannotPut refused = absurd refused
-FilesRun-refused options loaded o ending.OutOfMemory refused = absurd refused
+pub FilesRun-refused : (job : Job) (loaded : Loaded) (o : Outside) (e : declared.Ending) → Refuses loaded e → FilesRun job loaded o o e
+FilesRun-refused job loaded o (ending.Decided (BadImage e)) refused =
+    handed_refusal job loaded (BadImage e) o (subst (λ why. ByImage job loaded (refusal (BadImage e)) why) (sym refused) refl)
+FilesRun-refused job loaded o (ending.Decided (BadSchedule line)) (accepted, bad) = handed_refusal job loaded (BadSchedule line) o (IsRun-bad_line job loaded accepted line bad)
+FilesRun-refused job loaded o (ending.Decided BadCommand) refused = absurd refused
+FilesRun-refused job loaded o (ending.Decided TooLarge) refused = absurd refused
+FilesRun-refused job loaded o (ending.Decided (Ran finish)) refused = absurd refused
+FilesRun-refused job loaded o (ending.Decided ResultTooLarge) refused = absurd refused
+FilesRun-refused job loaded o (ending.Decided Summarized) refused = absurd refused
+FilesRun-refused job loaded o (ending.CannotRead source) refused = absurd refused
+FilesRun-refused job loaded o ending.CannotWrite refused = absurd refused
+FilesRun-refused job loaded o ending.CannotPut refused = absurd refused
+FilesRun-refused job loaded o ending.OutOfMemory refused = absurd refused
 
 -- ---- the guest is run
-module _ (options : RunOptions) (loaded : Loaded) (accepted : first_refusal loaded.image ≡ None) (turns : List Entry) (entries : AllByRecursion IsEntry turns)
-    (text : IsText loaded.schedule turns) (image : Executable) (is : image ≡ image_of loaded.image) (seen : Profiled) (runs : seen ≡ run_of options.bits options.guest loaded turns)
+module _ (job : Job) (loaded : Loaded) (accepted : first_refusal loaded.image ≡ None) (turns : List Entry) (entries : AllByRecursion IsEntry turns)
+    (text : IsText loaded.schedule turns) (image : Executable) (is : image ≡ image_of loaded.image) (seen : Profiled) (outcome : Outcome) (left : outcome ≡ job.leaves loaded turns)
+    (of_run : IsOfRun outcome.verdict) (out_is : outcome.out ≡ bytes_on 1 seen.moves) (err_is : outcome.err ≡ bytes_on 2 seen.moves)
     (files : FilesState) (before after : Sinks) where
-  is_outcome : setup_refusal image (arguments options.guest) ≡ None → IsRun options loaded (run_outcome options image seen)
-  is_outcome begins = IsRun-run options loaded accepted turns entries text image is begins seen runs
+  is_outcome : setup_refusal image (arguments job.guest) ≡ None → IsRun job loaded outcome
+  is_outcome begins = IsRun-run job loaded accepted turns entries text image is begins outcome left
 
   -- it can't begin, or is given up
-  pub FilesRun-given_up : (e : declared.Ending) → RunStops (setup_refusal image (arguments options.guest)) seen before after e →
-      FilesRun options loaded (outside files before.out before.err) (outside files after.out after.err) e
+  pub FilesRun-given_up : (e : declared.Ending) → RunStops (setup_refusal image (arguments job.guest)) seen before after e →
+      FilesRun job loaded (outside files before.out before.err) (outside files after.out after.err) e
   FilesRun-given_up (ending.Decided v) (large, refused, same) =
-      subst (λ (s : Sinks). FilesRun options loaded (outside files before.out before.err) (outside files s.out s.err) (ending.Decided v)) (sym same)
-      (handed_refusal options loaded v (outside files before.out before.err)
-      (subst (λ w. IsRun options loaded (refusal w)) (sym large) (IsRun-unbegun options loaded accepted turns entries text image is refused)))
+      subst (λ (s : Sinks). FilesRun job loaded (outside files before.out before.err) (outside files s.out s.err) (ending.Decided v)) (sym same)
+      (handed_refusal job loaded v (outside files before.out before.err)
+      (subst (λ w. IsRun job loaded (refusal w)) (sym large) (IsRun-unbegun job loaded accepted turns entries text image is refused)))
   FilesRun-given_up (ending.CannotRead source) fails = absurd fails
   FilesRun-given_up ending.CannotWrite (begins, stops) = record {
-    outcome = run_outcome options image seen;
+    outcome = outcome;
     is_run = is_outcome begins;
-    delivered = (tt, inr (fails_on_out (run_outcome options image seen) seen.moves refl refl files before after stops));
+    delivered = (of_run, inr (fails_on_out outcome seen.moves out_is err_is files before after stops));
   }
   FilesRun-given_up ending.CannotPut (begins, stops) = record {
-    outcome = run_outcome options image seen;
+    outcome = outcome;
     is_run = is_outcome begins;
-    delivered = (tt, inl (fails_on_err (run_outcome options image seen) seen.moves refl refl files before after stops));
+    delivered = (of_run, inl (fails_on_err outcome seen.moves out_is err_is files before after stops));
   }
   FilesRun-given_up ending.OutOfMemory (inl same) = inl (ap (λ (s : Sinks). outside files s.out s.err) same)
   FilesRun-given_up ending.OutOfMemory (inr (begins, gives)) = inr (record {
-    outcome = run_outcome options image seen;
+    outcome = outcome;
     is_run = is_outcome begins;
-    delivered = stops_short (run_outcome options image seen) seen.moves refl refl files before after gives;
+    delivered = stops_short outcome seen.moves out_is err_is files before after gives;
   })
 
   -- it came to its end, its files are stored, and its statistics are put
-  module _ (begins : setup_refusal image (arguments options.guest) ≡ None) (whole : after ≡ with_output seen.moves before) (new : FilesState) (err : SinkState) where
-    abbrev outcome : Outcome
-    outcome = run_outcome options image seen
-
+  module _ (begins : setup_refusal image (arguments job.guest) ≡ None) (whole : after ≡ with_output seen.moves before) (new : FilesState) (err : SinkState) where
     put : PutsOutput outcome (outside files before.out before.err) (outside new after.out after.err)
-    put = puts_all outcome seen.moves refl refl files new before after whole
+    put = puts_all outcome seen.moves out_is err_is files new before after whole
 
-    pub FilesRun-stored : (result : Result Verdict declared.Ending) → RunIsStored (run_outcome options image seen) (desk files after.err) (desk new err) result →
-        FilesRun options loaded (outside files before.out before.err) (outside new after.out err) (ending_by result)
+    pub FilesRun-stored : (result : Result Verdict declared.Ending) → RunIsStored outcome (desk files after.err) (desk new err) result →
+        FilesRun job loaded (outside files before.out before.err) (outside new after.out err) (ending_by result)
     FilesRun-stored (Ok v) (same, done) = record {
       outcome = outcome;
       is_run = is_outcome begins;
@@ -158,13 +160,13 @@ module _ (options : RunOptions) (loaded : Loaded) (accepted : first_refusal load
     FilesRun-stored (Err ending.CannotWrite) fails = record {
       outcome = outcome;
       is_run = is_outcome begins;
-      delivered = (tt, inl (record { output = record { out = put.out; err = fails.err ∙ put.err }; stored = fails.stored }));
+      delivered = (of_run, inl (record { output = record { out = put.out; err = fails.err ∙ put.err }; stored = fails.stored }));
     }
     FilesRun-stored (Err ending.CannotPut) fails = record {
       outcome = outcome;
       is_run = is_outcome begins;
       delivered = (
-        tt,
+        of_run,
         inr (record {
           out = put.out;
           err = subst (λ (s : SinkState). FailsWithin outcome.stats s err) put.err fails.stats;
@@ -173,7 +175,7 @@ module _ (options : RunOptions) (loaded : Loaded) (accepted : first_refusal load
       );
     }
     FilesRun-stored (Err ending.OutOfMemory) fails =
-        let err_is = fails.err ∙ put.err in
+        let put_err = fails.err ∙ put.err in
         inr (record {
           outcome = outcome;
           is_run = is_outcome begins;
@@ -181,7 +183,7 @@ module _ (options : RunOptions) (loaded : Loaded) (accepted : first_refusal load
             out_count = length outcome.out;
             out = takes_all outcome.out before.out after.out put.out;
             err_count = length outcome.err;
-            err = takes_all outcome.err before.err err err_is;
+            err = takes_all outcome.err before.err err put_err;
             count = fails.stored.0;
             files = fails.stored.1;
             output_first = inl (take-length outcome.out, take-length outcome.err);
@@ -195,3 +197,17 @@ pub light_observed : (fits : List Event → Bool) (options : GuestOptions) (turn
     IsLight (observed_from fits options turns image.entry (start image (arguments options) files stdin)).past
 unfolding observed_from
 light_observed fits options turns image files stdin few = every_run_light image (arguments options) files stdin fits (scheduler options.quantum turns) options.budget few
+
+-- and well formed
+pub formed_observed : (fits : List Event → Bool) (options : GuestOptions) (turns : List Entry) (image : Executable) (files : List Input) (stdin : List ℕ) → options.budget ≤ RUN_STEPS →
+    IsWellFormed (observed_from fits options turns image.entry (start image (arguments options) files stdin)).past
+unfolding observed_from
+formed_observed fits options turns image files stdin few =
+    (every_run_formed image (arguments options) files stdin fits (scheduler options.quantum turns) options.budget few).profiled_part
+
+-- and a line that it ends at is counted from 1
+pub counted_observed : (fits : List Event → Bool) (options : GuestOptions) (turns : List Entry) (image : Executable) (files : List Input) (stdin : List ℕ) →
+    IsCounted (observed_from fits options turns image.entry (start image (arguments options) files stdin)).finish
+unfolding observed_from
+counted_observed fits options turns image files stdin =
+    observed_counted fits (first_past image.entry) options.quantum turns options.budget (start image (arguments options) files stdin)

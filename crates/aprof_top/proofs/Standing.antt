@@ -16,7 +16,7 @@ use Rattle.guest_machine.specs.Setup.{setup_refusal}
 use Rattle.command_line.specs.Options.{arguments}
 use Rattle.host_io.specs.Faults.{Rose}
 use Rattle.host_io.specs.Files.{Contents, FilesState, Holds, with_file, with_path}
-use Rattle.host_io.specs.Sink.{SinkState, appended}
+use Rattle.host_io.specs.Sink.{FailsToAppend, SinkState, appended}
 use Rattle.guest_run.proofs.Output.{appended-more}
 use Rattle.thread_sched.specs.declared.entry.Entry.{Entry}
 use Rattle.thread_sched.specs.ScheduleText.{schedule_text}
@@ -28,16 +28,16 @@ use Rattle.aprof_top.specs.Found.{Decision}
 use Rattle.aprof_top.specs.LastText.{IsMade, IsPut, LastText}
 use Rattle.aprof_top.specs.declared.ending.Verdict.{Verdict}
 use Rattle.aprof_top.specs.Loads.{Loaded, loaded_of}
-use Rattle.aprof_top.specs.Outcome.{ByImage, Follows, IsOutcome, Outcome, Stage, begun_outcome, recording_stores, scheduled_outcome, stage}
+use Rattle.aprof_top.specs.Outcome.{ByImage, Follows, IsOutcome, Outcome, Stage, begun_outcome, recording_stores, run_job, scheduled_outcome, stage}
 use Rattle.aprof_top.specs.Outcome.Stage.{PastLimit, Loading, Complete}
 use Rattle.aprof_top.specs.Outside.{Outside, outside, with_stores}
 use Rattle.aprof_top.specs.Schedules.{Reading}
 use Rattle.aprof_top.specs.Schedules.Reading.{Turns, BadLine}
-use Rattle.aprof_top.specs.Standing.{FailedAtStore, GainedPath, GotFirst, IsCalm, IsTold, IsUntouched, LacksStatistics, LeavesPart, LeavesText, Stands, StandsAfterAll, StandsAfterFault}
-use Rattle.aprof_top.specs.Texts.{cannot_write_text, out_of_memory_text}
-use Rattle.aprof_top.specs.Verdicts.{IsOfRun}
-use Rattle.aprof_top.proofs.Endings.{answers, err_rose, is_this, still}
-use Rattle.aprof_top.proofs.Parts.{decision_after, err_whole, gained_is, gains_more, no_gain, no_text, output_came, part_at_stats, part_at_store, part_done, part_on_err, part_on_out, part_short, put_part, stats_came, text_alone, with_stores-paths}
+use Rattle.aprof_top.specs.Standing.{FailedAtStore, GainedPath, GotFirst, IsCalm, IsTold, IsUntouched, LacksStatistics, LeavesPart, LeavesText, Stands, StandsAfterAll, StandsAfterFault, StandsUnread}
+use Rattle.aprof_top.specs.Texts.{cannot_read_text, cannot_write_text, out_of_memory_text}
+use Rattle.aprof_top.specs.Verdicts.{IsOfRun, verdict_text}
+use Rattle.aprof_top.proofs.Endings.{answers, cannot_read, err_rose, is_this, still}
+use Rattle.aprof_top.proofs.Parts.{decision_after, err_whole, found_after, gained_is, gains_more, no_gain, no_text, output_came, part_at_stats, part_at_store, part_done, part_on_err, part_on_out, part_short, put_part, stats_came, text_alone, with_stores-paths}
 use Rattle.aprof_top.proofs.Sinks.{appended-nothing, with_stores-faults}
 use Rattle.aprof_top.proofs.Statuses.{written_status}
 
@@ -48,19 +48,19 @@ record StoresRun (options : RunOptions) (stores : List (List ℕ × List ℕ)) :
   text : List ℕ
   are : stores ≡ recording_stores options.recording turns ++ (options.report, text) ∷ []
 
-by_setup : (options : RunOptions) (loaded : Loaded) (turns : List Entry) (why : Option SetupError) (outcome : Outcome) → outcome ≡ begun_outcome options loaded turns why → IsOfRun outcome.verdict → StoresRun options outcome.stores
+by_setup : (options : RunOptions) (loaded : Loaded) (turns : List Entry) (why : Option SetupError) (outcome : Outcome) → outcome ≡ begun_outcome (run_job options) loaded turns why → IsOfRun outcome.verdict → StoresRun options outcome.stores
 by_setup options loaded turns (Some why) outcome is ran = absurd (subst (λ (o : Outcome). IsOfRun o.verdict) is ran)
 by_setup options loaded turns None outcome is ran = record { turns = _; text = _; are = ap (λ (o : Outcome). o.stores) is }
 
-by_schedule : (options : RunOptions) (loaded : Loaded) (reading : Reading) (outcome : Outcome) → outcome ≡ scheduled_outcome options loaded reading → IsOfRun outcome.verdict → StoresRun options outcome.stores
+by_schedule : (options : RunOptions) (loaded : Loaded) (reading : Reading) (outcome : Outcome) → outcome ≡ scheduled_outcome (run_job options) loaded reading → IsOfRun outcome.verdict → StoresRun options outcome.stores
 by_schedule options loaded (BadLine line) outcome is ran = absurd (subst (λ (o : Outcome). IsOfRun o.verdict) is ran)
 by_schedule options loaded (Turns turns) outcome is ran = by_setup options loaded turns (setup_refusal (image_of loaded.image) (arguments options.guest)) outcome is ran
 
-by_image : (options : RunOptions) (loaded : Loaded) (outcome : Outcome) (e : Option ElfError) → ByImage options loaded outcome e → IsOfRun outcome.verdict → StoresRun options outcome.stores
+by_image : (options : RunOptions) (loaded : Loaded) (outcome : Outcome) (e : Option ElfError) → ByImage (run_job options) loaded outcome e → IsOfRun outcome.verdict → StoresRun options outcome.stores
 by_image options loaded outcome (Some e) is ran = absurd (subst (λ (o : Outcome). IsOfRun o.verdict) is ran)
 by_image options loaded outcome None is ran = by_schedule options loaded is.reading outcome is.answered ran
 
-by_stage : (options : RunOptions) (files : List (List ℕ)) (outcome : Outcome) (s : Stage) → Follows options files outcome s → IsOfRun outcome.verdict → StoresRun options outcome.stores
+by_stage : (options : RunOptions) (files : List (List ℕ)) (outcome : Outcome) (s : Stage) → Follows (run_job options) files outcome s → IsOfRun outcome.verdict → StoresRun options outcome.stores
 by_stage options files outcome PastLimit is ran = absurd (subst (λ (o : Outcome). IsOfRun o.verdict) is ran)
 by_stage options files outcome Loading is ran = absurd is
 by_stage options files outcome Complete is ran = by_image options (loaded_of options.guest files) outcome (first_refusal (loaded_of options.guest files).image) is ran
@@ -300,7 +300,7 @@ module _ (words : List (List ℕ)) (status : ℕ) (before after : Outside) where
 
   -- nothing failed, or the last text was another's
   abbrev Calm : Type 0
-  Calm = IsCalm before after ⊎ ((end : End) × EndsBy words end 10 before after × (end ≡ OutOfMemory → ⊥) × (0 < length (end_text end)))
+  Calm = IsCalm out_of_memory_text before after ⊎ ((end : End) × EndsBy words end 10 before after × (end ≡ OutOfMemory → ⊥) × (0 < length (end_text end)))
 
   wanted : (end : End) → EndsBy words end status before after → status ≡ 10 → (end ≡ OutOfMemory → ⊥) → Calm
   wanted end ends ten other = by ends.told
@@ -323,11 +323,31 @@ module _ (words : List (List ℕ)) (status : ℕ) (before after : Outside) where
   calm CannotPut ends ten = wanted CannotPut ends ten (λ e. cc e)
   calm OutOfMemory ends ten = inl (by ends.reached.done)
     where
-      by : (outside after.files after.out ends.err ≡ before) ⊎ ((decision : Decision words before (outside after.files after.out ends.err)) × StopsShort decision.outcome before (outside after.files after.out ends.err)) → IsCalm before after
-      by (inl same) = record { files = ap (λ (o : Outside). o.files.faults) same; out = ap (λ (o : Outside). o.out.faults) same }
+      -- the put of the text went, or failed
+      text_calm : (front : List ℕ) → ends.err ≡ appended before.err front → LastText OutOfMemory status ends.err after.err
+          → (after.err.faults ≡ before.err.faults) ⊎ ((before_it : List ℕ) × FailsToAppend out_of_memory_text (appended before.err before_it) after.err)
+      text_calm front grown (inl tells) = put tells.text
+        where
+          put : IsPut out_of_memory_text ends.err after.err → (after.err.faults ≡ before.err.faults) ⊎ ((before_it : List ℕ) × FailsToAppend out_of_memory_text (appended before.err before_it) after.err)
+          put (inl same) = inl (ap (λ (s : SinkState). s.faults) same ∙ ap (λ (s : SinkState). s.faults) grown)
+          put (inr (some, fails)) = inr (front, subst (λ (s : SinkState). FailsToAppend out_of_memory_text s after.err) grown fails)
+      text_calm front grown (inr wants) = kept wants.text
+        where
+          kept : (after.err ≡ ends.err) ⊎ (IsMade OutOfMemory × IsPut out_of_memory_text ends.err after.err)
+              → (after.err.faults ≡ before.err.faults) ⊎ ((before_it : List ℕ) × FailsToAppend out_of_memory_text (appended before.err before_it) after.err)
+          kept (inl same) = inl (ap (λ (s : SinkState). s.faults) same ∙ ap (λ (s : SinkState). s.faults) grown)
+          kept (inr (made, put)) = absurd made
+
+      by : (outside after.files after.out ends.err ≡ before) ⊎ ((decision : Decision words before (outside after.files after.out ends.err)) × StopsShort decision.outcome before (outside after.files after.out ends.err)) → IsCalm out_of_memory_text before after
+      by (inl same) = record {
+        files = ap (λ (o : Outside). o.files.faults) same;
+        out = ap (λ (o : Outside). o.out.faults) same;
+        err = text_calm [] (ap (λ (o : Outside). o.err) same ∙ appended-nothing before.err) ends.told;
+      }
       by (inr (decision, short)) = record {
         files = ap (λ (f : FilesState). f.faults) short.files ∙ with_stores-faults (take short.count decision.outcome.stores) before.files;
         out = ap (λ (s : SinkState). s.faults) short.out;
+        err = text_calm (take short.err_count decision.outcome.err) short.err ends.told;
       }
 
   -- ---- the other statuses
@@ -335,7 +355,12 @@ module _ (words : List (List ℕ)) (status : ℕ) (before after : Outside) where
   after_all verdict ends written = record {
     decision = decision_after words before after ends.err ends.reached.0;
     out = ap (λ (s : SinkState). s.bytes) ends.reached.2.out;
-    err = (take text.0 (end_text (Decided verdict)), text.1 ∙ ap (λ known. append_known known (take text.0 (end_text (Decided verdict)))) came ∙ gains_more before.err.bytes (ends.reached.0.outcome.err ++ ends.reached.0.outcome.stats) (take text.0 (end_text (Decided verdict))));
+    err = record {
+      count = text.0;
+      gained = text.1 ∙ ap (λ known. append_known known (take text.0 (verdict_text verdict))) came
+          ∙ gains_more before.err.bytes (ends.reached.0.outcome.err ++ ends.reached.0.outcome.stats) (take text.0 (verdict_text verdict))
+          ∙ ap (λ v. append_known before.err.bytes ((ends.reached.0.outcome.err ++ ends.reached.0.outcome.stats) ++ take text.0 (verdict_text v))) (sym ends.reached.1);
+    };
     files = ends.reached.2.stored.contents;
   }
     where
@@ -366,34 +391,62 @@ module _ (words : List (List ℕ)) (status : ℕ) (before after : Outside) where
       by (inr (decision, short)) = (take short.err_count decision.outcome.err, short.err)
 
   -- the last text came whole, where no put on `err` failed
-  came_whole : (end : End) (mid : SinkState) → (end ≡ CannotPut → ⊥) → status ≡ end_status end → (front : List ℕ) × (mid ≡ appended before.err front) → IsPut (end_text end) mid after.err → (Rose before.err.faults after.err.faults → ⊥) → IsTold status before.err after.err
-  came_whole end mid other is (front, grown) (inl put) quiet = record {
-    end = end;
-    status_is = is;
-    not_silent = other;
-    text = (front, ap (λ (s : SinkState). s.bytes) put ∙ ap (λ (s : SinkState). append_known s.bytes (end_text end)) grown ∙ gains_more before.err.bytes front (end_text end));
-  }
-  came_whole end mid other is (front, grown) (inr (some, fails)) quiet = absurd (quiet (subst (λ (s : SinkState). Rose s.faults after.err.faults) grown fails.faults))
+  module _ (end : End) (ends : EndsBy words end status before after) (quiet : Rose before.err.faults after.err.faults → ⊥) where
+    came_whole : (end ≡ CannotPut → ⊥) → status ≡ end_status end → (front : List ℕ) × (ends.err ≡ appended before.err front) → IsPut (end_text end) ends.err after.err → IsTold words status before after
+    came_whole other is (front, grown) (inl put) = record {
+      end = end;
+      ends = ends;
+      status_is = is;
+      not_silent = other;
+      text = (front, ap (λ (s : SinkState). s.bytes) put ∙ ap (λ (s : SinkState). append_known s.bytes (end_text end)) grown ∙ gains_more before.err.bytes front (end_text end));
+    }
+    came_whole other is (front, grown) (inr (some, fails)) = absurd (quiet (subst (λ (s : SinkState). Rose s.faults after.err.faults) grown fails.faults))
 
-  is_told : (end : End) → EndsBy words end status before after → (status ≡ 10 → ⊥) → (Rose before.err.faults after.err.faults → ⊥) → IsTold status before.err after.err
-  is_told end ends had_memory quiet = by end ends.told ends.reached
+    told_of : (end ≡ CannotPut → ⊥) → (status ≡ 10 → ⊥) → IsTold words status before after
+    told_of other had_memory = by ends.told
+      where
+        by : LastText end status ends.err after.err → IsTold words status before after
+        by (inl tells) = came_whole other tells.status_is (grew end ends.err other ends.reached) tells.text
+        by (inr wants) = absurd (had_memory wants.status_is)
+
+  -- after a failed put on `err` nothing is told
+  silent : (ends : EndsBy words CannotPut status before after) → (Rose before.err.faults after.err.faults → ⊥) → (status ≡ 10 → ⊥) → ⊥
+  silent ends quiet had_memory = by ends.told
     where
-      other : (end : End) → (end ≡ CannotPut → ⊥) → LastText end status ends.err after.err → Reaches words end before (outside after.files after.out ends.err) → IsTold status before.err after.err
-      other end apart (inl tells) reached = came_whole end ends.err apart tells.status_is (grew end ends.err apart reached) tells.text quiet
-      other end apart (inr wants) reached = absurd (had_memory wants.status_is)
+      by : LastText CannotPut status ends.err after.err → ⊥
+      by (inl tells) = quiet (still words status before after ends.err tells.text (err_rose words status before after ends.reached.decision.outcome ends.err ends.reached.fails))
+      by (inr wants) = had_memory wants.status_is
 
-      by : (end : End) → LastText end status ends.err after.err → Reaches words end before (outside after.files after.out ends.err) → IsTold status before.err after.err
-      by (Decided verdict) told reached = other (Decided verdict) (λ e. cc e) told reached
-      by (CannotRead path) told reached = other (CannotRead path) (λ e. cc e) told reached
-      by CannotWrite told reached = other CannotWrite (λ e. cc e) told reached
-      by OutOfMemory told reached = other OutOfMemory (λ e. cc e) told reached
-      by CannotPut (inl tells) reached = absurd (quiet (still words status before after ends.err tells.text (err_rose words status before after reached.decision.outcome ends.err reached.fails)))
-      by CannotPut (inr wants) reached = absurd (had_memory wants.status_is)
+  is_told : (end : End) → EndsBy words end status before after → (status ≡ 10 → ⊥) → (Rose before.err.faults after.err.faults → ⊥) → IsTold words status before after
+  is_told (Decided verdict) ends had_memory quiet = told_of (Decided verdict) ends quiet (λ e. cc e) had_memory
+  is_told (CannotRead path) ends had_memory quiet = told_of (CannotRead path) ends quiet (λ e. cc e) had_memory
+  is_told CannotWrite ends had_memory quiet = told_of CannotWrite ends quiet (λ e. cc e) had_memory
+  is_told OutOfMemory ends had_memory quiet = told_of OutOfMemory ends quiet (λ e. cc e) had_memory
+  is_told CannotPut ends had_memory quiet = absurd (silent ends quiet had_memory)
+
+  -- ---- status 2
+  unread : (end : End) → EndsBy words end status before after → status ≡ 2 → StandsUnread words before after
+  unread end ends two = by (cannot_read words status before after end ends two)
+    where
+      by : (path : List ℕ) × EndsBy words (CannotRead path) status before after → StandsUnread words before after
+      by (path, ends') = record {
+        found = found_after words before after ends'.err ends'.reached.found;
+        undecided = ends'.reached.undecided;
+        path = path;
+        next = ends'.reached.next;
+        failed = ends'.reached.failed;
+        leaves = text_alone words before after ends'.err (cannot_read_text path) (text ends'.told) ends'.reached.out ends'.reached.err ends'.reached.contents;
+      }
+        where
+          text : LastText (CannotRead path) status ends'.err after.err → GotFirst (cannot_read_text path) ends'.err after.err
+          text (inl tells) = put_part (cannot_read_text path) ends'.err after.err tells.text
+          text (inr wants) = absurd (omega (arith, two, wants.status_is))
 
   -- what stands, where the call ended so
   pub Stands-from_end : (end : End) → EndsBy words end status before after → Stands words status before after
   Stands-from_end end ends = record {
     all = λ written. (let done = answers words status before after end ends written in after_all done.0 done.1 written);
+    unread = unread end ends;
     fault = after_fault end ends;
     memory = λ ten. record { leaves = leaves end ends.err ends.reached (memory_text end ends.err ends.told ten); calm = calm end ends ten };
     told = is_told end ends;

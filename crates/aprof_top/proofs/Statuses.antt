@@ -20,6 +20,7 @@ written_status verdict.BadCommand status is = apart status 1 is (λ e. omega (ar
 written_status (verdict.BadImage e) status is = apart status 3 is (λ e. omega (arith, e)) (λ e. omega (arith, e)) (λ e. omega (arith, e))
 written_status (verdict.BadSchedule line) status is = apart status 9 is (λ e. omega (arith, e)) (λ e. omega (arith, e)) (λ e. omega (arith, e))
 written_status verdict.TooLarge status is = apart status 11 is (λ e. omega (arith, e)) (λ e. omega (arith, e)) (λ e. omega (arith, e))
+written_status verdict.ResultTooLarge status is = apart status 11 is (λ e. omega (arith, e)) (λ e. omega (arith, e)) (λ e. omega (arith, e))
 written_status verdict.Summarized status is = apart status 0 is (λ e. omega (arith, e)) (λ e. omega (arith, e)) (λ e. omega (arith, e))
 written_status (verdict.Ran (finish.Exit code)) status is = apart status 0 is (λ e. omega (arith, e)) (λ e. omega (arith, e)) (λ e. omega (arith, e))
 written_status (verdict.Ran (finish.Fault kind tid at)) status is = apart status 5 is (λ e. omega (arith, e)) (λ e. omega (arith, e)) (λ e. omega (arith, e))

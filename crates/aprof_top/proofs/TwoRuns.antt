@@ -26,7 +26,7 @@ use Rattle.aprof_top.specs.declared.ending.Verdict.TheVariants.{BadImage, BadSch
 use Rattle.aprof_top.specs.Laws.{TwoRunsAgree, scheduled, under_schedule, with_schedule}
 use Rattle.aprof_top.specs.Limits.{file_limit, inputs_limit}
 use Rattle.aprof_top.specs.Loads.{Loaded, with_inputs, first_file, file_at, loaded_of, loaded_paths, passes_limit, shared_count, shared_length}
-use Rattle.aprof_top.specs.Outcome.{ByImage, Follows, IsRun, Outcome, Stage, begun_outcome, recording_stores, refusal, run_outcome, scheduled_outcome, stage}
+use Rattle.aprof_top.specs.Outcome.{ByImage, Follows, IsRun, Outcome, Stage, begun_outcome, recording_stores, refusal, run_job, run_outcome, scheduled_outcome, stage}
 use Rattle.aprof_top.specs.Outcome.Stage.{Complete, Loading, PastLimit}
 use Rattle.aprof_top.specs.Report.{report_of}
 use Rattle.aprof_top.specs.Run.{first_state, observed_from, run_of}
@@ -157,19 +157,19 @@ module _ (options : RunOptions) (loaded : Loaded) (outcome : Outcome) (finish : 
   no_refusal : {A : Type 0} (v : Verdict) → (v ≡ Ran finish → ⊥) → outcome ≡ refusal v → A
   no_refusal v other is = absurd (other (sym (ap (λ (o : Outcome). o.verdict) is) ∙ ran))
 
-  by_setup : first_refusal loaded.image ≡ None → (turns : List Entry) (o : Option SetupError) → setup_refusal (image_of loaded.image) (arguments options.guest) ≡ o → outcome ≡ begun_outcome options loaded turns o → Ran' options loaded outcome
+  by_setup : first_refusal loaded.image ≡ None → (turns : List Entry) (o : Option SetupError) → setup_refusal (image_of loaded.image) (arguments options.guest) ≡ o → outcome ≡ begun_outcome (run_job options) loaded turns o → Ran' options loaded outcome
   by_setup accepted turns None begins is = record { accepted = accepted; begins = begins; turns = turns; answered = is }
   by_setup accepted turns (Some why) begins is = no_refusal TooLarge (λ e. cc) is
 
-  by_reading : first_refusal loaded.image ≡ None → (reading : Reading) → outcome ≡ scheduled_outcome options loaded reading → Ran' options loaded outcome
+  by_reading : first_refusal loaded.image ≡ None → (reading : Reading) → outcome ≡ scheduled_outcome (run_job options) loaded reading → Ran' options loaded outcome
   by_reading accepted (Turns turns) is = by_setup accepted turns (setup_refusal (image_of loaded.image) (arguments options.guest)) refl is
   by_reading accepted (BadLine line) is = no_refusal (BadSchedule line) (λ e. cc) is
 
-  by_image : (o : Option ElfError) → first_refusal loaded.image ≡ o → ByImage options loaded outcome o → Ran' options loaded outcome
+  by_image : (o : Option ElfError) → first_refusal loaded.image ≡ o → ByImage (run_job options) loaded outcome o → Ran' options loaded outcome
   by_image None accepted is = by_reading accepted is.reading is.answered
   by_image (Some e) refused is = no_refusal (BadImage e) (λ e. cc) is
 
-complete_run : (options : RunOptions) (files : List (List ℕ)) (outcome : Outcome) (finish : Finish) → outcome.verdict ≡ Ran finish → (s : Stage) → stage options.guest files ≡ s → Follows options files outcome s → (stage options.guest files ≡ Complete) × Ran' options (loaded_of options.guest files) outcome
+complete_run : (options : RunOptions) (files : List (List ℕ)) (outcome : Outcome) (finish : Finish) → outcome.verdict ≡ Ran finish → (s : Stage) → stage options.guest files ≡ s → Follows (run_job options) files outcome s → (stage options.guest files ≡ Complete) × Ran' options (loaded_of options.guest files) outcome
 complete_run options files outcome finish ran PastLimit is follows = no_refusal options (loaded_of options.guest files) outcome finish ran TooLarge (λ e. cc) follows
 complete_run options files outcome finish ran Loading is follows = absurd follows
 complete_run options files outcome finish ran Complete is follows = (is, by_image options (loaded_of options.guest files) outcome finish ran (first_refusal (loaded_of options.guest files).image) refl follows)
@@ -204,16 +204,16 @@ module _ (replays : ReplaysProfiled) (entries : EveryRunRecordsEntries) (options
   are_entries few = (entries (image_of loaded.image) (arguments options.guest) (with_inputs [] (inputs options.guest) loaded.inputs) loaded.stdin (is_within (greatest options.bits)) (scheduler options.guest.quantum turns) options.guest.budget few).profiled_part
 
   module _ (few : options.guest.budget ≤ RUN_STEPS) (no_mismatch : IsNoMismatch seen.finish) (is_text : text ≡ schedule_text (recording seen.moves)) (accepted : first_refusal loaded.image ≡ None) (begins : setup_refusal (image_of loaded.image) (arguments options.guest) ≡ None) (second : Outcome) where
-    under_turns : second ≡ scheduled_outcome (scheduled options path) again (Turns (recording seen.moves)) → second ≡ run_outcome options (image_of loaded.image) seen
+    under_turns : second ≡ scheduled_outcome (run_job (scheduled options path)) again (Turns (recording seen.moves)) → second ≡ run_outcome options (image_of loaded.image) seen
     under_turns is =
         is
-        ∙ ap (begun_outcome (scheduled options path) again (recording seen.moves)) begins
+        ∙ ap (begun_outcome (run_job (scheduled options path)) again (recording seen.moves)) begins
         ∙ ap (run_outcome options (image_of loaded.image)) (same_seen no_mismatch)
 
-    second_run : IsRun (scheduled options path) again second → second ≡ run_outcome options (image_of loaded.image) seen
+    second_run : IsRun (run_job (scheduled options path)) again second → second ≡ run_outcome options (image_of loaded.image) seen
     second_run is =
-        let run = subst (λ o. ByImage (scheduled options path) again second o) accepted is in
-        under_turns (run.answered ∙ ap (scheduled_outcome (scheduled options path) again) (reads_once text run.reading (Turns (recording seen.moves)) run.read (are_entries few, inl is_text)))
+        let run = subst (λ o. ByImage (run_job (scheduled options path)) again second o) accepted is in
+        under_turns (run.answered ∙ ap (scheduled_outcome (run_job (scheduled options path)) again) (reads_once text run.reading (Turns (recording seen.moves)) run.read (are_entries few, inl is_text)))
 
 pub two_runs_agree : ReplaysProfiled → EveryRunRecordsEntries → TwoRunsAgree
 two_runs_agree replays entries options files first second path text few is leaves short second_is =
@@ -226,8 +226,8 @@ two_runs_agree replays entries options files first second path text few is leave
     stored_is options.recording (recording seen.moves) ((options.report, report_text (report_of image seen.finish seen.past)) ∷ []) leaves.path text leaves.asked (ap (λ (o : Outcome). slice_get o.stores 0) (sym run.answered) ∙ leaves.stored) in
     let finish : seen.finish ≡ leaves.finish = same_finish seen.finish leaves.finish (ap (λ (o : Outcome). o.verdict) (sym run.answered) ∙ leaves.ran) in
     let complete = second_files options.guest path text files short ran.0 in
-    let is_run : IsRun (scheduled options path) (record loaded { schedule = text }) second =
-    subst (λ l. IsRun (scheduled options path) l second) complete.1 (subst (λ s. Follows (scheduled options path) (with_schedule options.guest files text) second s) complete.0 second_is) in
+    let is_run : IsRun (run_job (scheduled options path)) (record loaded { schedule = text }) second =
+    subst (λ l. IsRun (run_job (scheduled options path)) l second) complete.1 (subst (λ s. Follows (run_job (scheduled options path)) (with_schedule options.guest files text) second s) complete.0 second_is) in
     second_run replays entries options loaded run.turns path text few (subst IsNoMismatch (sym finish) leaves.no_mismatch) is_text run.accepted run.begins second is_run
     ∙ sym run.answered
   where

@@ -1,6 +1,5 @@
 -- How the run of a guest ends, and what is made of it.
 use Rattle.std.specs.Prelude.{◌≡◌, ◌⊎◌, ℕ, List, [], take, Option, Some, None, Result, Ok, Err}
-use Rattle.command_line.specs.Options.{RunOptions}
 use Rattle.guest_machine.specs.declared.setup.SetupError.{SetupError}
 use Rattle.guest_run.specs.declared.run.Ended.{Ended}
 use Rattle.guest_run.specs.declared.run_error.Channel.TheVariants as channel
@@ -20,9 +19,14 @@ use Rattle.aprof_top.specs.declared.ending.Verdict.TheVariants.{Summarized, TooL
 use Rattle.run_profile.specs.Profile.{AreTotalsOf}
 use Rattle.aprof_top.specs.declared.delivery.Store.{Store}
 use Rattle.aprof_top.specs.declared.profiled_run.ProfiledRun.{ProfiledRun}
+use Rattle.aprof_top.specs.declared.traced_run.TracedRun.{TracedRun}
+use Rattle.run_trace.specs.Entries.{entries_begun}
+use Rattle.run_trace.specs.declared.written.EventText.{EventText}
+use Rattle.run_trace.specs.Kept.{IsTooLong}
+use Rattle.trace_file.specs.TraceText.{IsTextOf}
 use Rattle.aprof_top.specs.Delivery.{DoesAll, FailsAtStats, FailsAtStore, FailsOnErr, FailsOnOut, FailsWithin, StoreFails, StopsShort}
 use Rattle.aprof_top.specs.Loads.{Loaded}
-use Rattle.aprof_top.specs.Outcome.{IsRun, Outcome}
+use Rattle.aprof_top.specs.Outcome.{IsRun, Job, Outcome}
 use Rattle.aprof_top.specs.Outside.{Outside, with_stores}
 use Rattle.aprof_top.specs.Verdicts.{IsOfRun}
 
@@ -60,6 +64,22 @@ pub record IsProfiled (most : ℕ) (run : Profiled) (before after : Sinks) (prof
 abbrev pub ImageIsProfiled : ℕ → Option SetupError → Profiled → Sinks → Sinks → Result ProfiledRun Ending → Type 0
 ImageIsProfiled most setup run before after (Ok profiled) = (setup ≡ None) × IsProfiled most run before after profiled
 ImageIsProfiled most setup run before after (Err e) = RunStops setup run before after e
+
+-- the text of the events of a past and the entries of the activations that began, unless the text is too long
+abbrev pub AreTexts : Option EventText → List Event → Type 0
+AreTexts None past = IsTooLong past
+AreTexts (Some text) past = IsTextOf text.writer past × (text.entries.keys ≡ entries_begun past)
+
+-- The run came to its end: these are the texts of its events; all of its output was put, and this is its end.
+pub record IsTraced (run : Profiled) (before after : Sinks) (traced : TracedRun) : Type 0 where
+  pub text : AreTexts traced.text run.past
+  pub output : after ≡ with_output run.moves before
+  pub finish : traced.finish ≡ run.finish
+
+-- How the run of an executable ends whose trace is written.
+abbrev pub ImageIsTraced : Option SetupError → Profiled → Sinks → Sinks → Result TracedRun Ending → Type 0
+ImageIsTraced setup run before after (Ok traced) = (setup ≡ None) × IsTraced run before after traced
+ImageIsTraced setup run before after (Err e) = RunStops setup run before after e
 
 -- the path and the bytes of a file to store
 abbrev pub store_of : Store → List ℕ × List ℕ
@@ -108,9 +128,9 @@ RunIsStored outcome old new (Err (Decided verdict)) = ⊥
 RunIsStored outcome old new (Err (CannotRead source)) = ⊥
 
 -- The outcome of a run of these files is handed out so.
-pub record IsHandedOut (options : RunOptions) (loaded : Loaded) (Delivered : Outcome → Type 0) : Type 0 where
+pub record IsHandedOut (job : Job) (loaded : Loaded) (Delivered : Outcome → Type 0) : Type 0 where
   pub outcome : Outcome
-  pub is_run : IsRun options loaded outcome
+  pub is_run : IsRun job loaded outcome
   pub delivered : Delivered outcome
 
 -- it is that of a run that came to an end, or was given up
@@ -118,15 +138,15 @@ abbrev pub IsOfRunAnd : (Outcome → Type 0) → Outcome → Type 0
 IsOfRunAnd Fails outcome = IsOfRun outcome.verdict × Fails outcome
 
 -- How the run of a command's files ends.
-abbrev pub FilesRun : RunOptions → Loaded → Outside → Outside → Ending → Type 0
-FilesRun options loaded before after (Decided verdict) =
-    IsHandedOut options loaded (λ outcome. (outcome.verdict ≡ verdict) × DoesAll outcome before after)
-FilesRun options loaded before after (CannotRead source) = ⊥
-FilesRun options loaded before after CannotWrite =
-    IsHandedOut options loaded (IsOfRunAnd (λ outcome. FailsAtStore outcome before after ⊎ FailsOnOut outcome before after))
-FilesRun options loaded before after CannotPut =
-    IsHandedOut options loaded (IsOfRunAnd (λ outcome. FailsOnErr outcome before after ⊎ FailsAtStats outcome before after))
-FilesRun options loaded before after OutOfMemory = (after ≡ before) ⊎ IsHandedOut options loaded (λ outcome. StopsShort outcome before after)
+abbrev pub FilesRun : Job → Loaded → Outside → Outside → Ending → Type 0
+FilesRun job loaded before after (Decided verdict) =
+    IsHandedOut job loaded (λ outcome. (outcome.verdict ≡ verdict) × DoesAll outcome before after)
+FilesRun job loaded before after (CannotRead source) = ⊥
+FilesRun job loaded before after CannotWrite =
+    IsHandedOut job loaded (IsOfRunAnd (λ outcome. FailsAtStore outcome before after ⊎ FailsOnOut outcome before after))
+FilesRun job loaded before after CannotPut =
+    IsHandedOut job loaded (IsOfRunAnd (λ outcome. FailsOnErr outcome before after ⊎ FailsAtStats outcome before after))
+FilesRun job loaded before after OutOfMemory = (after ≡ before) ⊎ IsHandedOut job loaded (λ outcome. StopsShort outcome before after)
 
 -- the outcome of a demo with this summary
 abbrev pub summed : List ℕ → Outcome

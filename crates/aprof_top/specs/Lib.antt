@@ -15,6 +15,7 @@ pub mod Schedules
 pub mod Standing
 pub mod Summary
 pub mod Texts
+pub mod Traces
 pub mod Verdicts
 -- What the private parts owe one another.
 pub mod Ending

@@ -1,7 +1,7 @@
 -- What the written product answers to a command, over the files that it loads.
 use Rattle.std.specs.Prelude.{◌≡◌, ℕ, ◌^◌, codes, nat_lt, List, [], ◌∷◌, ◌++◌, length, Option, Some, None, if◌then◌else◌}
-use Rattle.command_line.specs.Options.{Asked, GuestOptions, RunOptions, arguments}
-use Rattle.command_line.specs.Options.Asked.{Run, Demo}
+use Rattle.command_line.specs.Options.{Asked, GuestOptions, RunOptions, TraceOptions, arguments}
+use Rattle.command_line.specs.Options.Asked.{Run, Trace, Demo}
 use Rattle.elf_image.specs.declared.error.ElfError.{ElfError}
 use Rattle.elf_image.specs.Image.{Executable}
 use Rattle.elf_image.specs.Reading.{image_of}
@@ -19,13 +19,14 @@ use Rattle.stamps.specs.Widths.{greatest}
 use Rattle.thread_sched.specs.declared.entry.Entry.{Entry}
 use Rattle.thread_sched.specs.ScheduleText as recordings
 use Rattle.aprof_top.specs.declared.ending.Verdict.{Verdict}
-use Rattle.aprof_top.specs.declared.ending.Verdict.TheVariants.{BadCommand, BadImage, BadSchedule, TooLarge, Ran, Summarized}
+use Rattle.aprof_top.specs.declared.ending.Verdict.TheVariants.{BadCommand, BadImage, BadSchedule, TooLarge, Ran, ResultTooLarge, Summarized}
 use Rattle.aprof_top.specs.Loads.{Loaded, loaded_of, loaded_paths, passes_limit, shared_count}
 use Rattle.aprof_top.specs.Report.{report_of}
 use Rattle.aprof_top.specs.Run.{run_of}
 use Rattle.demo_guest.specs.Image.{IsDemoFile}
 use Rattle.aprof_top.specs.Summary.{summary_text}
 use Rattle.aprof_top.specs.Texts.{renumberings_text}
+use Rattle.aprof_top.specs.Traces.{is_storable, trace_of}
 use Rattle.aprof_top.specs.Schedules.{Reading, Reads}
 use Rattle.aprof_top.specs.Schedules.Reading.{Turns, BadLine}
 
@@ -70,30 +71,57 @@ run_outcome options image run = record {
   stats = stats_of options (renumberings (greatest options.bits) run.past);
 }
 
+-- what a run leaves that is traced: its output, and its trace unless that is too long
+abbrev pub trace_outcome : TraceOptions → Executable → Profiled → Outcome
+trace_outcome options image run = record {
+  verdict = if is_storable (trace_of image run) then Ran run.finish else ResultTooLarge;
+  out = bytes_on 1 run.moves;
+  err = bytes_on 2 run.moves;
+  stores = if is_storable (trace_of image run) then (options.trace, trace_of image run) ∷ [] else [];
+  stats = [];
+}
+
+-- A command that runs a guest: how it is run, and what its run leaves with these files, under these turns.
+pub record Job : Type 0 where
+  pub guest : GuestOptions
+  pub leaves : Loaded → List Entry → Outcome
+
+abbrev pub run_job : RunOptions → Job
+run_job options = record {
+  guest = options.guest;
+  leaves = λ loaded turns. run_outcome options (image_of loaded.image) (run_of options.bits options.guest loaded turns);
+}
+
+abbrev pub trace_job : TraceOptions → Job
+trace_job options = record {
+  guest = options.guest;
+  leaves = λ loaded turns. trace_outcome options (image_of loaded.image) (run_of B32 options.guest loaded turns);
+}
+
 -- a guest that can begin is run
-abbrev pub begun_outcome : RunOptions → Loaded → List Entry → Option SetupError → Outcome
-begun_outcome options loaded turns (Some why) = refusal TooLarge
-begun_outcome options loaded turns None = run_outcome options (image_of loaded.image) (run_of options.bits options.guest loaded turns)
+abbrev pub begun_outcome : Job → Loaded → List Entry → Option SetupError → Outcome
+begun_outcome job loaded turns (Some why) = refusal TooLarge
+begun_outcome job loaded turns None = job.leaves loaded turns
 
 -- under the schedule that was read
-abbrev pub scheduled_outcome : RunOptions → Loaded → Reading → Outcome
-scheduled_outcome options loaded (BadLine line) = refusal (BadSchedule line)
-scheduled_outcome options loaded (Turns turns) = begun_outcome options loaded turns (setup_refusal (image_of loaded.image) (arguments options.guest))
+abbrev pub scheduled_outcome : Job → Loaded → Reading → Outcome
+scheduled_outcome job loaded (BadLine line) = refusal (BadSchedule line)
+scheduled_outcome job loaded (Turns turns) = begun_outcome job loaded turns (setup_refusal (image_of loaded.image) (arguments job.guest))
 
 -- The schedule reads so, and the outcome is that of the guest's run under it, or of its refusal.
-pub record IsScheduled (options : RunOptions) (loaded : Loaded) (outcome : Outcome) : Type 0 where
+pub record IsScheduled (job : Job) (loaded : Loaded) (outcome : Outcome) : Type 0 where
   pub reading : Reading
   pub read : Reads loaded.schedule reading
-  pub answered : outcome ≡ scheduled_outcome options loaded reading
+  pub answered : outcome ≡ scheduled_outcome job loaded reading
 
 -- an image is refused by the first test that it fails
-abbrev pub ByImage : RunOptions → Loaded → Outcome → Option ElfError → Type 0
-ByImage options loaded outcome (Some e) = outcome ≡ refusal (BadImage e)
-ByImage options loaded outcome None = IsScheduled options loaded outcome
+abbrev pub ByImage : Job → Loaded → Outcome → Option ElfError → Type 0
+ByImage job loaded outcome (Some e) = outcome ≡ refusal (BadImage e)
+ByImage job loaded outcome None = IsScheduled job loaded outcome
 
 -- the outcome of a run of these files
-abbrev pub IsRun : RunOptions → Loaded → Outcome → Type 0
-IsRun options loaded outcome = ByImage options loaded outcome (first_refusal loaded.image)
+abbrev pub IsRun : Job → Loaded → Outcome → Type 0
+IsRun job loaded outcome = ByImage job loaded outcome (first_refusal loaded.image)
 
 -- ---- the loads
 -- Where the loads of a command stand: a limit is passed, or more files are to be loaded, or all are there.
@@ -109,11 +137,11 @@ stage options files =
     else if nat_lt (length files) (length (loaded_paths options)) then Loading
     else Complete
 
--- the outcome of options, by where the loads stand
-abbrev pub Follows : RunOptions → List (List ℕ) → Outcome → Stage → Type 0
-Follows options files outcome PastLimit = outcome ≡ refusal TooLarge
-Follows options files outcome Loading = ⊥
-Follows options files outcome Complete = IsRun options (loaded_of options.guest files) outcome
+-- the outcome of a job, by where its loads stand
+abbrev pub Follows : Job → List (List ℕ) → Outcome → Stage → Type 0
+Follows job files outcome PastLimit = outcome ≡ refusal TooLarge
+Follows job files outcome Loading = ⊥
+Follows job files outcome Complete = IsRun job (loaded_of job.guest files) outcome
 
 -- ---- the demo
 -- what the demo is run with: its one argument is its name, and all else is as without options
@@ -151,11 +179,13 @@ pub record IsDemo (number : ℕ) (outcome : Outcome) : Type 0 where
 -- The outcome of what the words ask for, or of their refusal, over the bytes of the files that were loaded.
 abbrev pub IsOutcome : Option Asked → List (List ℕ) → Outcome → Type 0
 IsOutcome None files outcome = outcome ≡ refusal BadCommand
-IsOutcome (Some (Run options)) files outcome = Follows options files outcome (stage options.guest files)
+IsOutcome (Some (Run options)) files outcome = Follows (run_job options) files outcome (stage options.guest files)
+IsOutcome (Some (Trace options)) files outcome = Follows (trace_job options) files outcome (stage options.guest files)
 IsOutcome (Some (Demo number)) files outcome = IsDemo number outcome
 
 -- these files decide nothing yet
 abbrev pub IsUndecided : Option Asked → List (List ℕ) → Type 0
 IsUndecided None files = ⊥
 IsUndecided (Some (Run options)) files = stage options.guest files ≡ Loading
+IsUndecided (Some (Trace options)) files = stage options.guest files ≡ Loading
 IsUndecided (Some (Demo number)) files = ⊥

@@ -4,16 +4,16 @@ use Rattle.std.specs.Io.KnownBytes.{append_known}
 use Rattle.command_line.specs.Options.{RunOptions}
 use Rattle.command_line.specs.Options.Asked.{Run}
 use Rattle.host_io.specs.Faults.{Rose}
-use Rattle.host_io.specs.Files.{FilesState, Holds, with_file, with_path}
-use Rattle.host_io.specs.Sink.{SinkState}
+use Rattle.host_io.specs.Files.{FailsAt, FilesState, Holds, with_file, with_path}
+use Rattle.host_io.specs.Sink.{FailsToAppend, SinkState, appended}
 use Rattle.aprof_top.specs.Answers.{EndsBy, IsWritten}
 use Rattle.aprof_top.specs.Ends.{End, end_status, end_text}
 use Rattle.aprof_top.specs.Ends.End.{CannotPut, OutOfMemory}
-use Rattle.aprof_top.specs.Found.{Decision}
-use Rattle.aprof_top.specs.Outcome.{Outcome}
+use Rattle.aprof_top.specs.Found.{Decision, Found, paths_of}
+use Rattle.aprof_top.specs.Outcome.{IsUndecided, Outcome}
 use Rattle.aprof_top.specs.Outside.{Outside, with_stores}
-use Rattle.aprof_top.specs.Texts.{cannot_write_text, out_of_memory_text}
-use Rattle.aprof_top.specs.Verdicts.{IsOfRun}
+use Rattle.aprof_top.specs.Texts.{cannot_read_text, cannot_write_text, out_of_memory_text}
+use Rattle.aprof_top.specs.Verdicts.{IsOfRun, verdict_text}
 
 -- ---- what a sink got in the call, as far as it tells its bytes
 -- a first part of these bytes
@@ -29,6 +29,11 @@ pub record GotFirstThen (bytes text : List ℕ) (old new : SinkState) : Type 0 w
 -- all of these bytes, and then more
 abbrev pub GotAllAndMore : List ℕ → SinkState → SinkState → Type 0
 GotAllAndMore bytes old new = (more : List ℕ) × (new.bytes ≡ append_known old.bytes (bytes ++ more))
+
+-- All of these bytes, and then a first part of this text.
+pub record GotAllThen (bytes text : List ℕ) (old new : SinkState) : Type 0 where
+  pub count : ℕ
+  pub gained : new.bytes ≡ append_known old.bytes (bytes ++ take count text)
 
 -- all of this text at its end
 abbrev pub EndsWith : List ℕ → SinkState → SinkState → Type 0
@@ -89,10 +94,20 @@ pub record LacksStatistics (outcome : Outcome) (before after : Outside) : Type 0
   pub output : GotOutput outcome before after
   pub files : after.files.contents ≡ (with_stores outcome.stores before.files).contents
 
--- No load, no store and no put on `out` failed.
-pub record IsCalm (before after : Outside) : Type 0 where
+-- No load, no store and no put failed, but perhaps the put of this text at the end.
+pub record IsCalm (text : List ℕ) (before after : Outside) : Type 0 where
   pub files : after.files.faults ≡ before.files.faults
   pub out : after.out.faults ≡ before.out.faults
+  pub err : (after.err.faults ≡ before.err.faults) ⊎ ((front : List ℕ) × FailsToAppend text (appended before.err front) after.err)
+
+-- After status 2: the load of the next path failed, and nothing came but the last text or a first part of it.
+pub record StandsUnread (words : List (List ℕ)) (before after : Outside) : Type 0 where
+  pub found : Found words before after
+  pub undecided : IsUndecided found.asked found.files
+  pub path : List ℕ
+  pub next : slice_get (paths_of found.asked) (length found.files) ≡ Some path
+  pub failed : FailsAt path before.files after.files
+  pub leaves : LeavesText (cannot_read_text path) before after
 
 -- After status 4.
 pub record StandsAfterFault (words : List (List ℕ)) (before after : Outside) : Type 0 where
@@ -124,26 +139,28 @@ pub record StandsAfterMemory (words : List (List ℕ)) (before after : Outside) 
   pub leaves : LeavesText out_of_memory_text before after
       ⊎ ((decision : Decision words before after) × LeavesPart decision.outcome out_of_memory_text before after)
   -- nothing failed but the put of the last text, or memory was wanting for the last text of another end
-  pub calm : IsCalm before after ⊎ ((end : End) × EndsBy words end 10 before after × (end ≡ OutOfMemory → ⊥) × (0 < length (end_text end)))
+  pub calm : IsCalm out_of_memory_text before after ⊎ ((end : End) × EndsBy words end 10 before after × (end ≡ OutOfMemory → ⊥) × (0 < length (end_text end)))
 
 -- After a status of the written product.
 pub record StandsAfterAll (words : List (List ℕ)) (before after : Outside) : Type 0 where
   pub decision : Decision words before after
   pub out : after.out.bytes ≡ append_known before.out.bytes decision.outcome.out
-  pub err : GotAllAndMore (decision.outcome.err ++ decision.outcome.stats) before.err after.err
+  pub err : GotAllThen (decision.outcome.err ++ decision.outcome.stats) (verdict_text decision.outcome.verdict) before.err after.err
   pub files : after.files.contents ≡ (with_stores decision.outcome.stores before.files).contents
 
--- The last text came whole.
-pub record IsTold (status : ℕ) (before after : SinkState) : Type 0 where
+-- The last text came whole: it is that of this end, which the call had.
+pub record IsTold (words : List (List ℕ)) (status : ℕ) (before after : Outside) : Type 0 where
   pub end : End
+  pub ends : EndsBy words end status before after
   pub status_is : status ≡ end_status end
   pub not_silent : end ≡ CannotPut → ⊥
-  pub text : EndsWith (end_text end) before after
+  pub text : EndsWith (end_text end) before.err after.err
 
 -- What stands after a call with this status.
 pub record Stands (words : List (List ℕ)) (status : ℕ) (before after : Outside) : Type 0 where
   pub all : IsWritten status → StandsAfterAll words before after
+  pub unread : status ≡ 2 → StandsUnread words before after
   pub fault : status ≡ 4 → StandsAfterFault words before after
   pub memory : status ≡ 10 → StandsAfterMemory words before after
   -- at every status but 10 the last text stands whole at the end of `err`, where no put on it failed
-  pub told : (status ≡ 10 → ⊥) → (Rose before.err.faults after.err.faults → ⊥) → IsTold status before.err after.err
+  pub told : (status ≡ 10 → ⊥) → (Rose before.err.faults after.err.faults → ⊥) → IsTold words status before after

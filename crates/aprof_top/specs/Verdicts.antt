@@ -3,7 +3,7 @@ use Rattle.std.specs.Prelude.{ℕ, List, []}
 use Rattle.guest_words.specs.declared.endings.Finish.{Finish}
 use Rattle.guest_words.specs.declared.endings.Finish.TheVariants.{Exit, Fault, Budget, Deadlock, Deep, Schedule}
 use Rattle.aprof_top.specs.declared.ending.Verdict.{Verdict}
-use Rattle.aprof_top.specs.declared.ending.Verdict.TheVariants.{BadCommand, BadImage, BadSchedule, TooLarge, Ran, Summarized}
+use Rattle.aprof_top.specs.declared.ending.Verdict.TheVariants.{BadCommand, BadImage, BadSchedule, TooLarge, Ran, ResultTooLarge, Summarized}
 use Rattle.aprof_top.specs.Texts.{bad_command_text, finish_text, image_text, schedule_text, too_large_text}
 
 -- the status of a run that ended so
@@ -21,6 +21,7 @@ verdict_status (BadImage e) = 3
 verdict_status (BadSchedule line) = 9
 verdict_status TooLarge = 11
 verdict_status (Ran finish) = finish_status finish
+verdict_status ResultTooLarge = 11
 verdict_status Summarized = 0
 
 abbrev pub verdict_text : Verdict → List ℕ
@@ -29,6 +30,7 @@ verdict_text (BadImage e) = image_text e
 verdict_text (BadSchedule line) = schedule_text line
 verdict_text TooLarge = too_large_text
 verdict_text (Ran finish) = finish_text finish
+verdict_text ResultTooLarge = too_large_text
 verdict_text Summarized = []
 
 -- a run came to it
@@ -38,4 +40,5 @@ IsOfRun (BadImage e) = ⊥
 IsOfRun (BadSchedule line) = ⊥
 IsOfRun TooLarge = ⊥
 IsOfRun (Ran finish) = Unit {0}
+IsOfRun ResultTooLarge = Unit {0}
 IsOfRun Summarized = Unit {0}

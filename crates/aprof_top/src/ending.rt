@@ -28,6 +28,8 @@ pub(crate) enum Verdict {
     BadSchedule(u64),
     TooLarge,
     Ran(Finish),
+    // The guest ran, and what is made of its run is too long to be stored.
+    ResultTooLarge,
     Summarized,
 }
 
@@ -198,7 +200,7 @@ fn verdict_status(verdict: Verdict) -> u8
         Verdict::BadCommand => 1,
         Verdict::BadImage(_) => 3,
         Verdict::BadSchedule(_) => 9,
-        Verdict::TooLarge => 11,
+        Verdict::TooLarge | Verdict::ResultTooLarge => 11,
         Verdict::Ran(finish) => finish_status(finish),
         Verdict::Summarized => 0,
     }

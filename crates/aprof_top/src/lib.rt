@@ -16,6 +16,8 @@ mod source;
 mod summary;
 mod texts;
 mod top;
+mod trace_job;
+mod traced_run;
 
 pub use laws::{a_command_has_one_outcome, runs_are_bounded, two_runs_agree};
 pub use top::aprof;

@@ -109,7 +109,7 @@ pub(crate) fn verdict_text(alloc: Global, verdict: Verdict) -> Result<Text, Allo
         Verdict::BadCommand => Ok(Text::Fixed(b"aprof: bad command line\n")),
         Verdict::BadImage(error) => image_text(alloc, error),
         Verdict::BadSchedule(line) => schedule_text(alloc, line),
-        Verdict::TooLarge => Ok(Text::Fixed(b"aprof: too large\n")),
+        Verdict::TooLarge | Verdict::ResultTooLarge => Ok(Text::Fixed(b"aprof: too large\n")),
         Verdict::Ran(finish) => finish_text(alloc, finish),
         Verdict::Summarized => Ok(Text::Fixed(b"")),
     }

@@ -15,6 +15,7 @@ use crate::delivery::put_all;
 use crate::demo::run_demo;
 use crate::ending::{Ending, Verdict, ending_by, tell};
 use crate::run_job::run_command;
+use crate::trace_job::trace_command;
 use command_line::{Command, GuestOptions, read_command};
 use guest_words::limits::DEMO_ROUTINES;
 use host_io::{Files, Sink};
@@ -46,6 +47,7 @@ fn do_command<F: Files, O: Sink, E: Sink>(
 {
     match command {
         Command::Run(command) => run_command(alloc, command, files, out, err),
+        Command::Trace(command) => trace_command(alloc, command, files, out, err),
         Command::Demo(number) => show_demo(alloc, *number, out),
     }
 }
@@ -56,6 +58,7 @@ fn guest_of<'c, 'a>(command: &'c Command<'a>) -> Option<&'c GuestOptions<'a>>
 {
     match command {
         Command::Run(command) => Some(&command.guest),
+        Command::Trace(command) => Some(&command.guest),
         Command::Demo(_) => None,
     }
 }

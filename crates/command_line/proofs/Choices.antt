@@ -11,58 +11,61 @@ use Rattle.clap.specs.Walk.{Waiting, Walk, has_row, idle, option, positional, se
 use Rattle.clap.specs.Words.{Row, Text}
 use Rattle.command_line.specs.Plain.{ArePlain, Choice, HasNoRepeat, budget, choice_words, has_plain_value, id_of, is_chosen, is_plain_word, quantum, recording, report, schedule, stamps, stats, stdin, words_of}
 use Rattle.command_line.proofs.Rows.{absent_in_both, choice_row, choice_rows, image_is_none, made_rows, no_choice_row, plain_row, tail_rows, word_is_none, word_rows}
-use Rattle.command_line.proofs.Steps.{IsNoFlag, Pending, Settles, TakesValue, first_turn, first_word, further_turn, further_word, image_settles, image_turn, image_word, pass_step, plain_is_no_flag, rules, run_shape, stand, stats_turn, stats_word, takes_budget, takes_output, takes_quantum, takes_recording, takes_schedule, takes_stamps, takes_stdin, turn, words_settle}
+use Rattle.command_line.proofs.Steps.{GuestCommand, has_option, running, tracing, IsNoFlag, Pending, Settles, TakesValue, first_turn, first_word, further_turn, further_word, image_settles, image_turn, image_word, pass_step, plain_is_no_flag, rules, shape, stand, stats_turn, stats_word, takes_budget, takes_output, takes_quantum, takes_recording, takes_schedule, takes_stamps, takes_stdin, turn, words_settle}
 
 -- ---- the options
 
 -- After these words, which pass, what is held settles with these rows, and another option may come.
-record Goes (rows : List Row) (p : Pending) (words : List Text) (all : List Row) : Type 0 where
+record Goes (k : GuestCommand) (rows : List Row) (p : Pending) (words : List Text) (all : List Row) : Type 0 where
   rows2 : List Row
   p2 : Pending
-  walk : fold (walked rules []) (stand rows p idle 1) words ≡ stand rows2 p2 idle 1
-  pass : (rest : List Text) → walk_passes run_shape [] (stand rows p idle 1) (words ++ rest)
-      ≡ walk_passes run_shape [] (stand rows2 p2 idle 1) rest
-  settles : Settles rows2 p2 all
+  walk : fold (walked (rules k) []) (stand rows p idle 1) words ≡ stand rows2 p2 idle 1
+  pass : (rest : List Text) → walk_passes (shape k) [] (stand rows p idle 1) (words ++ rest)
+      ≡ walk_passes (shape k) [] (stand rows2 p2 idle 1) rest
+  settles : Settles k rows2 p2 all
 
-goes_value : (flag id v : Text) (rows : List Row) (p : Pending) (all : List Row) → TakesValue flag id → Settles rows p all
-    → IsNoFlag v → has_row id all ≡ false → Goes rows p (flag ∷ v ∷ []) (all ++ plain_row id (v ∷ []) ∷ [])
-goes_value flag id v rows p all takes h plain fresh =
-    let first : walked rules [] (stand rows p idle 1) flag ≡ stand all (Some (id, [])) (option id) 1 =
+goes_value : (k : GuestCommand) (flag id v : Text) (rows : List Row) (p : Pending) (all : List Row) → TakesValue k flag id → Settles k rows p all
+    → IsNoFlag v → has_row id all ≡ false → Goes k rows p (flag ∷ v ∷ []) (all ++ plain_row id (v ∷ []) ∷ [])
+goes_value k flag id v rows p all takes h plain fresh =
+    let first : walked (rules k) [] (stand rows p idle 1) flag ≡ stand all (Some (id, [])) (option id) 1 =
     takes.flag_word rows p ∙ ap (λ (xs : List Row). stand xs (Some (id, [])) (option id) 1) h.rows_are in
     let second = takes.value_word all v plain in
-    let one : turn rows p idle 1 flag ≡ true = takes.flag_turn rows p ∙ h.passes in
-    let two : turn all (Some (id, [])) (option id) 1 v ≡ true = takes.value_turn all v plain in
+    let one : turn k rows p idle 1 flag ≡ true = takes.flag_turn rows p ∙ h.passes in
+    let two : turn k all (Some (id, [])) (option id) 1 v ≡ true = takes.value_turn all v plain in
     record {
       rows2 = all;
       p2 = Some (id, v ∷ []);
-      walk = ap (λ w. walked rules [] w v) first ∙ second;
-      pass = λ rest. pass_step _ _ flag (v ∷ rest) one first ∙ pass_step _ _ v rest two second;
+      walk = ap (λ w. walked (rules k) [] w v) first ∙ second;
+      pass = λ rest. pass_step k _ _ flag (v ∷ rest) one first ∙ pass_step k _ _ v rest two second;
       settles = takes.settles all v fresh;
     }
 
-goes_stats : (rows : List Row) (p : Pending) (all : List Row) → Settles rows p all → has_row (codes "stats") all ≡ false
-    → Goes rows p (codes "--stats" ∷ []) (all ++ choice_row stats ∷ [])
+goes_stats : (rows : List Row) (p : Pending) (all : List Row) → Settles running rows p all → has_row (codes "stats") all ≡ false
+    → Goes running rows p (codes "--stats" ∷ []) (all ++ choice_row stats ∷ [])
 goes_stats rows p all h fresh =
-    let absent : has_row (codes "stats") (settled_rows rules p rows) ≡ false = rw h.rows_are fresh in
+    let absent : has_row (codes "stats") (settled_rows (rules running) p rows) ≡ false = rw h.rows_are fresh in
     let step = stats_word rows p absent ∙ ap (λ (xs : List Row). stand (xs ++ choice_row stats ∷ []) None idle 1) h.rows_are in
     record {
       rows2 = all ++ choice_row stats ∷ [];
       p2 = None;
       walk = step;
-      pass = λ rest. pass_step _ _ (codes "--stats") rest (stats_turn rows p absent ∙ h.passes) step;
+      pass = λ rest. pass_step running _ _ (codes "--stats") rest (stats_turn rows p absent ∙ h.passes) step;
       settles = record { rows_are = refl; passes = refl };
     }
 
-goes_choice : (c : Choice) (rows : List Row) (p : Pending) (all : List Row) → Settles rows p all → has_plain_value c ≡ true
-    → has_row (id_of c) all ≡ false → Goes rows p (words_of c) (all ++ choice_row c ∷ [])
-goes_choice (stdin v) rows p all h plain fresh = goes_value _ _ v rows p all takes_stdin h (plain_is_no_flag v plain) fresh
-goes_choice (quantum v) rows p all h plain fresh = goes_value _ _ v rows p all takes_quantum h (plain_is_no_flag v plain) fresh
-goes_choice (schedule v) rows p all h plain fresh = goes_value _ _ v rows p all takes_schedule h (plain_is_no_flag v plain) fresh
-goes_choice (recording v) rows p all h plain fresh = goes_value _ _ v rows p all takes_recording h (plain_is_no_flag v plain) fresh
-goes_choice (budget v) rows p all h plain fresh = goes_value _ _ v rows p all takes_budget h (plain_is_no_flag v plain) fresh
-goes_choice (stamps v) rows p all h plain fresh = goes_value _ _ v rows p all takes_stamps h (plain_is_no_flag v plain) fresh
-goes_choice stats rows p all h plain fresh = goes_stats rows p all h fresh
-goes_choice (report v) rows p all h plain fresh = goes_value _ _ v rows p all takes_output h (plain_is_no_flag v plain) fresh
+goes_choice : (k : GuestCommand) (c : Choice) (rows : List Row) (p : Pending) (all : List Row) → Settles k rows p all → has_option k c ≡ true
+    → has_plain_value c ≡ true → has_row (id_of c) all ≡ false → Goes k rows p (words_of c) (all ++ choice_row c ∷ [])
+goes_choice k (stdin v) rows p all h has plain fresh = goes_value k _ _ v rows p all (takes_stdin k) h (plain_is_no_flag v plain) fresh
+goes_choice k (quantum v) rows p all h has plain fresh = goes_value k _ _ v rows p all (takes_quantum k) h (plain_is_no_flag v plain) fresh
+goes_choice k (schedule v) rows p all h has plain fresh = goes_value k _ _ v rows p all (takes_schedule k) h (plain_is_no_flag v plain) fresh
+goes_choice k (budget v) rows p all h has plain fresh = goes_value k _ _ v rows p all (takes_budget k) h (plain_is_no_flag v plain) fresh
+goes_choice k (report v) rows p all h has plain fresh = goes_value k _ _ v rows p all (takes_output k) h (plain_is_no_flag v plain) fresh
+goes_choice running (recording v) rows p all h has plain fresh = goes_value running _ _ v rows p all takes_recording h (plain_is_no_flag v plain) fresh
+goes_choice running (stamps v) rows p all h has plain fresh = goes_value running _ _ v rows p all takes_stamps h (plain_is_no_flag v plain) fresh
+goes_choice running stats rows p all h has plain fresh = goes_stats rows p all h fresh
+goes_choice tracing (recording v) rows p all h has plain fresh = let no : false ≡ true = has in cc
+goes_choice tracing (stamps v) rows p all h has plain fresh = let no : false ≡ true = has in cc
+goes_choice tracing stats rows p all h has plain fresh = let no : false ≡ true = has in cc
 
 -- none of the choices has a row
 abbrev AllFresh : List Row → List Choice → Type 0
@@ -80,112 +83,113 @@ fresh_at_first : (cs : List Choice) → AllFresh [] cs
 fresh_at_first [] = tt
 fresh_at_first (c ∷ cs) = (refl, fresh_at_first cs)
 
-goes_choices : (cs : List Choice) (rows : List Row) (p : Pending) (all : List Row) → Settles rows p all
-    → list_all has_plain_value cs ≡ true → HasNoRepeat cs → AllFresh all cs
-    → Goes rows p (choice_words cs) (all ++ choice_rows cs)
-goes_choices [] rows p all h plain once fresh = record {
+goes_choices : (k : GuestCommand) (cs : List Choice) (rows : List Row) (p : Pending) (all : List Row) → Settles k rows p all
+    → list_all (has_option k) cs ≡ true → list_all has_plain_value cs ≡ true → HasNoRepeat cs → AllFresh all cs
+    → Goes k rows p (choice_words cs) (all ++ choice_rows cs)
+goes_choices k [] rows p all h has plain once fresh = record {
   rows2 = rows;
   p2 = p;
   walk = refl;
   pass = λ rest. refl;
-  settles = subst (Settles rows p) (sym (append-nil all)) h;
+  settles = subst (Settles k rows p) (sym (append-nil all)) h;
 }
-goes_choices (c ∷ cs) rows p all h plain once fresh =
+goes_choices k (c ∷ cs) rows p all h has plain once fresh =
     let values = and_parts (has_plain_value c) (list_all has_plain_value cs) plain in
-    let one = goes_choice c rows p all h values.0 fresh.0 in
-    let more = goes_choices cs one.rows2 one.p2 (all ++ choice_row c ∷ []) one.settles values.1 once.1
+    let options = and_parts (has_option k c) (list_all (has_option k) cs) has in
+    let one = goes_choice k c rows p all h options.0 values.0 fresh.0 in
+    let more = goes_choices k cs one.rows2 one.p2 (all ++ choice_row c ∷ []) one.settles options.1 values.1 once.1
     (fresh_more all c cs fresh.1 once.0) in
     record {
       rows2 = more.rows2;
       p2 = more.p2;
-      walk = fold-append (walked rules []) (stand rows p idle 1) (words_of c) (choice_words cs)
-          ∙ (ap (λ w. fold (walked rules []) w (choice_words cs)) one.walk ∙ more.walk);
-      pass = λ rest. ap (λ ws. walk_passes run_shape [] (stand rows p idle 1) ws) (append_assoc (words_of c) (choice_words cs) rest)
+      walk = fold-append (walked (rules k) []) (stand rows p idle 1) (words_of c) (choice_words cs)
+          ∙ (ap (λ w. fold (walked (rules k) []) w (choice_words cs)) one.walk ∙ more.walk);
+      pass = λ rest. ap (λ ws. walk_passes (shape k) [] (stand rows p idle 1) ws) (append_assoc (words_of c) (choice_words cs) rest)
           ∙ (one.pass (choice_words cs ++ rest) ∙ more.pass rest);
-      settles = subst (Settles more.rows2 more.p2) (append_assoc all (choice_row c ∷ []) (choice_rows cs)) more.settles;
+      settles = subst (Settles k more.rows2 more.p2) (append_assoc all (choice_row c ∷ []) (choice_rows cs)) more.settles;
     }
 
 -- ---- the image and the further words
 
 -- After all words, which pass, what is held settles with these rows.
-pub record Ends (w : Walk) (words : List Text) (all : List Row) : Type 0 where
+pub record Ends (k : GuestCommand) (w : Walk) (words : List Text) (all : List Row) : Type 0 where
   pub rows2 : List Row
   pub p2 : Pending
   pub waits : Waiting
-  pub walk : fold (walked rules []) w words ≡ stand rows2 p2 waits 2
-  pub pass : walk_passes run_shape [] w words ≡ true
-  pub settles : Settles rows2 p2 all
+  pub walk : fold (walked (rules k) []) w words ≡ stand rows2 p2 waits 2
+  pub pass : walk_passes (shape k) [] w words ≡ true
+  pub settles : Settles k rows2 p2 all
 
-further_words : (ws : List Text) (rows : List Row) (before : List Text) → list_all is_plain_word ws ≡ true
-    → (fold (walked rules []) (stand rows (Some (codes "word", before)) positional 2) ws
+further_words : (k : GuestCommand) (ws : List Text) (rows : List Row) (before : List Text) → list_all is_plain_word ws ≡ true
+    → (fold (walked (rules k) []) (stand rows (Some (codes "word", before)) positional 2) ws
     ≡ stand rows (Some (codes "word", before ++ ws)) positional 2)
-    × (walk_passes run_shape [] (stand rows (Some (codes "word", before)) positional 2) ws ≡ true)
+    × (walk_passes (shape k) [] (stand rows (Some (codes "word", before)) positional 2) ws ≡ true)
 unfolding walk_passes
-further_words [] rows before h =
+further_words k [] rows before h =
     (ap (λ (vs : List Text). stand rows (Some (codes "word", vs)) positional 2) (sym (append-nil before)), refl)
-further_words (w ∷ ws) rows before h =
+further_words k (w ∷ ws) rows before h =
     let two = and_parts (is_plain_word w) (list_all is_plain_word ws) h in
     let plain = plain_is_no_flag w two.0 in
-    let step = further_word rows before w plain in
-    let more = further_words ws rows (before ++ w ∷ []) two.1 in
+    let step = further_word k rows before w plain in
+    let more = further_words k ws rows (before ++ w ∷ []) two.1 in
     let joined = append_assoc before (w ∷ []) ws in (
-      ap (λ u. fold (walked rules []) u ws) step
+      ap (λ u. fold (walked (rules k) []) u ws) step
           ∙ (more.0 ∙ ap (λ (vs : List Text). stand rows (Some (codes "word", vs)) positional 2) joined),
-      pass_step _ _ w ws (further_turn rows before w plain) step ∙ more.1,
+      pass_step k _ _ w ws (further_turn k rows before w plain) step ∙ more.1,
     )
 
-ends_words : (ws : List Text) (rows : List Row) (image : Text) → list_all is_plain_word ws ≡ true → length ws < 2 ^ 64
+ends_words : (k : GuestCommand) (ws : List Text) (rows : List Row) (image : Text) → list_all is_plain_word ws ≡ true → length ws < 2 ^ 64
     → has_row (codes "image") rows ≡ false → has_row (codes "word") rows ≡ false
-    → Ends (stand rows (Some (codes "image", image ∷ [])) idle 2) ws (rows ++ tail_rows image ws)
+    → Ends k (stand rows (Some (codes "image", image ∷ [])) idle 2) ws (rows ++ tail_rows image ws)
 unfolding walk_passes
-ends_words [] rows image h few i w = record {
+ends_words k [] rows image h few i w = record {
   rows2 = rows;
   p2 = Some (codes "image", image ∷ []);
   waits = idle;
   walk = refl;
   pass = refl;
-  settles = image_settles rows image i;
+  settles = image_settles k rows image i;
 }
-ends_words (v ∷ vs) rows image h few i w =
+ends_words k (v ∷ vs) rows image h few i w =
     let two = and_parts (is_plain_word v) (list_all is_plain_word vs) h in
     let plain = plain_is_no_flag v two.0 in
     let row = plain_row (codes "image") (image ∷ []) in
     let all = rows ++ row ∷ [] in
-    let settled = image_settles rows image i in
-    let step : walked rules [] (stand rows (Some (codes "image", image ∷ [])) idle 2) v
+    let settled = image_settles k rows image i in
+    let step : walked (rules k) [] (stand rows (Some (codes "image", image ∷ [])) idle 2) v
     ≡ stand all (Some (codes "word", v ∷ [])) positional 2 =
-    first_word rows image v plain ∙ ap (λ (xs : List Row). stand xs (Some (codes "word", v ∷ [])) positional 2) settled.rows_are in
-    let more = further_words vs all (v ∷ []) two.1 in
+    first_word k rows image v plain ∙ ap (λ (xs : List Row). stand xs (Some (codes "word", v ∷ [])) positional 2) settled.rows_are in
+    let more = further_words k vs all (v ∷ []) two.1 in
     record {
       rows2 = all;
       p2 = Some (codes "word", v ∷ vs);
       waits = positional;
-      walk = ap (λ u. fold (walked rules []) u vs) step ∙ more.0;
-      pass = pass_step _ _ v vs (first_turn rows image v plain ∙ settled.passes) step ∙ more.1;
-      settles = subst (Settles all (Some (codes "word", v ∷ vs))) (append_assoc rows (row ∷ []) (word_rows (v ∷ vs)))
-          (words_settle all v vs (absent_in_both (codes "word") rows (row ∷ []) w refl) few);
+      walk = ap (λ u. fold (walked (rules k) []) u vs) step ∙ more.0;
+      pass = pass_step k _ _ v vs (first_turn k rows image v plain ∙ settled.passes) step ∙ more.1;
+      settles = subst (Settles k all (Some (codes "word", v ∷ vs))) (append_assoc rows (row ∷ []) (word_rows (v ∷ vs)))
+          (words_settle k all v vs (absent_in_both (codes "word") rows (row ∷ []) w refl) few);
     }
 
-pub ends_run : (choices : List Choice) (image : Text) (words : List Text) → ArePlain choices image words
-    → Ends (stand [] None idle 1) (choice_words choices ++ image ∷ words) (made_rows choices image words)
-ends_run choices image words plain =
-    let start : Settles [] None [] = record { rows_are = refl; passes = refl } in
-    let one = goes_choices choices [] None [] start plain.plain_values plain.once (fresh_at_first choices) in
+pub ends_guest : (k : GuestCommand) (choices : List Choice) (image : Text) (words : List Text) → ArePlain choices image words → list_all (has_option k) choices ≡ true
+    → Ends k (stand [] None idle 1) (choice_words choices ++ image ∷ words) (made_rows choices image words)
+ends_guest k choices image words plain has =
+    let start : Settles k [] None [] = record { rows_are = refl; passes = refl } in
+    let one = goes_choices k choices [] None [] start has plain.plain_values plain.once (fresh_at_first choices) in
     let image_plain = plain_is_no_flag image plain.plain_image in
-    let step : walked rules [] (stand one.rows2 one.p2 idle 1) image
+    let step : walked (rules k) [] (stand one.rows2 one.p2 idle 1) image
     ≡ stand (choice_rows choices) (Some (codes "image", image ∷ [])) idle 2 =
-    image_word one.rows2 one.p2 image image_plain
+    image_word k one.rows2 one.p2 image image_plain
     ∙ ap (λ (xs : List Row). stand xs (Some (codes "image", image ∷ [])) idle 2) one.settles.rows_are in
-    let two = ends_words words (choice_rows choices) image plain.plain_words plain.few
+    let two = ends_words k words (choice_rows choices) image plain.plain_words plain.few
     (no_choice_row (codes "image") choices image_is_none) (no_choice_row (codes "word") choices word_is_none) in
     record {
       rows2 = two.rows2;
       p2 = two.p2;
       waits = two.waits;
-      walk = fold-append (walked rules []) (stand [] None idle 1) (choice_words choices) (image ∷ words)
-          ∙ (ap (λ w. fold (walked rules []) w (image ∷ words)) one.walk
-          ∙ (ap (λ w. fold (walked rules []) w words) step ∙ two.walk));
+      walk = fold-append (walked (rules k) []) (stand [] None idle 1) (choice_words choices) (image ∷ words)
+          ∙ (ap (λ w. fold (walked (rules k) []) w (image ∷ words)) one.walk
+          ∙ (ap (λ w. fold (walked (rules k) []) w words) step ∙ two.walk));
       pass = one.pass (image ∷ words)
-          ∙ (pass_step _ _ image words (image_turn one.rows2 one.p2 image image_plain ∙ one.settles.passes) step ∙ two.pass);
+          ∙ (pass_step k _ _ image words (image_turn k one.rows2 one.p2 image image_plain ∙ one.settles.passes) step ∙ two.pass);
       settles = two.settles;
     }

@@ -4,11 +4,12 @@ use Rattle.std.specs.Prelude.{option_map, unwrap_or}
 use Rattle.std.specs.Str.{bytes_eq}
 use Rattle.clap.specs.Words.{Row, Text, all_of, first_of}
 use Rattle.stamps.specs.declared.width.StampBits.{StampBits}
-use Rattle.command_line.specs.Options.{Run, bits_of, budget_of, guest_with, has_flag, options_of_rows, options_with, quantum_of}
-use Rattle.command_line.specs.Plain.{Choice, PlainOptionsAreRead, budget, given, id_of, is_chosen, quantum, recording, report, run_words, schedule, stamps, stats, stdin, value_of}
+use Rattle.command_line.specs.Options.{GuestOptions, Run, Trace, bits_of, budget_of, guest_of_rows, guest_with, has_flag, options_of_rows, options_with, quantum_of, trace_with}
+use Rattle.command_line.specs.Plain.{Choice, PlainOptionsAreRead, PlainTraceIsRead, budget, given, id_of, is_chosen, quantum, recording, report, run_words, schedule, stamps, stats, stdin, trace_words, value_of}
 use Rattle.command_line.proofs.Refusals.{asked_is, read_of}
-use Rattle.command_line.proofs.PlainWords.{plain_subcommand}
-use Rattle.command_line.proofs.Rows.{IsNoChoice, choice_row, choice_rows, image_is_none, plain_rows, row_value, tail_rows, unset_rows, word_is_none}
+use Rattle.command_line.proofs.PlainWords.{all_of_run, plain_subcommand}
+use Rattle.command_line.proofs.Steps.{running, tracing}
+use Rattle.command_line.proofs.Rows.{IsNoChoice, choice_row, choice_rows, image_is_none, made_rows, plain_rows, row_value, tail_rows, unset_rows, word_is_none}
 
 -- a choice of this argument has a value, where that is not `stats`
 has_value : (id : Text) (c : Choice) → bytes_eq (codes "stats") id ≡ false → bytes_eq (id_of c) id ≡ true → Some (row_value c) ≡ value_of c
@@ -86,63 +87,88 @@ option_read id choices image words h =
     let given_stats = is_chosen (codes "stats") choices in
     first_given id choices (end_rows image words given_stats) h.2 (none_after id image words given_stats h)
 
--- what stands in the rows
-options_are : (rows : List Row) (turn_steps run_steps : ℕ) (width : StampBits) (report_path image : Text)
-    (input turns recorded : Option Text) (words : List Text) (is_given : Bool)
+-- and where there is no `--stats`
+none_behind : (id image : Text) (words : List Text) → IsOption id → first_of id (tail_rows image words) ≡ None
+none_behind id image [] h = rw h.0 refl
+none_behind id image (w ∷ ws) h = rw (h.0, h.1) refl
+
+trace_option_read : (id : Text) (choices : List Choice) (image : Text) (words : List Text) → IsOption id
+    → first_of id (made_rows choices image words) ≡ given id choices
+trace_option_read id choices image words h = first_given id choices (tail_rows image words) h.2 (none_behind id image words h)
+
+words_behind : (image : Text) (words : List Text) → unwrap_or (all_of (codes "word") (tail_rows image words)) [] ≡ words
+words_behind image [] = refl
+words_behind image (w ∷ ws) = refl
+
+-- what stands in the rows of a guest
+guest_is : (rows : List Row) (turn_steps run_steps : ℕ) (image : Text) (input turns : Option Text) (words : List Text)
     → quantum_of (first_of (codes "quantum") rows) ≡ Some turn_steps → budget_of (first_of (codes "budget") rows) ≡ Some run_steps
-    → bits_of (first_of (codes "stamps") rows) ≡ Some width
-    → first_of (codes "output") rows ≡ Some report_path → first_of (codes "image") rows ≡ Some image
-    → first_of (codes "stdin") rows ≡ input → first_of (codes "schedule") rows ≡ turns → first_of (codes "record") rows ≡ recorded
-    → unwrap_or (all_of (codes "word") rows) [] ≡ words → has_flag (codes "stats") rows ≡ is_given
-    → options_of_rows rows ≡ Some (record {
-      guest = record {
-        stdin = input;
-        schedule = turns;
-        quantum = turn_steps;
-        budget = run_steps;
-        image = image;
-        words = words;
-      };
-      report = report_path;
-      recording = recorded;
-      bits = width;
-      stats = is_given;
+    → first_of (codes "image") rows ≡ Some image → first_of (codes "stdin") rows ≡ input → first_of (codes "schedule") rows ≡ turns
+    → unwrap_or (all_of (codes "word") rows) [] ≡ words
+    → guest_of_rows rows ≡ Some (record {
+      stdin = input;
+      schedule = turns;
+      quantum = turn_steps;
+      budget = run_steps;
+      image = image;
+      words = words;
     })
-options_are rows turn_steps run_steps width report_path image input turns recorded words is_given q b n r i s c l w f =
-    ap₂ (λ x y. options_with rows (guest_with rows x y (first_of (codes "image") rows)) (first_of (codes "output") rows) (bits_of (first_of (codes "stamps") rows))) q b
-    ∙ (ap₂ (λ x y. options_with rows (guest_with rows (Some turn_steps) (Some run_steps) x) y (bits_of (first_of (codes "stamps") rows))) i r
-    ∙ (ap (λ x. options_with rows (guest_with rows (Some turn_steps) (Some run_steps) (Some image)) (Some report_path) x) n
+guest_is rows turn_steps run_steps image input turns words q b i s c w =
+    ap₂ (λ x y. guest_with rows x y (first_of (codes "image") rows)) q b
+    ∙ (ap (λ x. guest_with rows (Some turn_steps) (Some run_steps) x) i
     ∙ λ k. Some (record {
-      guest = record {
-        stdin = s k;
-        schedule = c k;
-        quantum = turn_steps;
-        budget = run_steps;
-        image = image;
-        words = w k;
-      };
-      report = report_path;
-      recording = l k;
-      bits = width;
-      stats = f k;
-    })))
+      stdin = s k;
+      schedule = c k;
+      quantum = turn_steps;
+      budget = run_steps;
+      image = image;
+      words = w k;
+    }))
+
+-- and in those of `run`
+options_are : (rows : List Row) (guest : GuestOptions) (width : StampBits) (report_path : Text) (recorded : Option Text) (is_given : Bool)
+    → guest_of_rows rows ≡ Some guest → bits_of (first_of (codes "stamps") rows) ≡ Some width → first_of (codes "output") rows ≡ Some report_path
+    → first_of (codes "record") rows ≡ recorded → has_flag (codes "stats") rows ≡ is_given
+    → options_of_rows rows ≡ Some (record { guest = guest; report = report_path; recording = recorded; bits = width; stats = is_given })
+options_are rows guest width report_path recorded is_given g n r l f =
+    ap₂ (λ x y. options_with rows x y (bits_of (first_of (codes "stamps") rows))) g r
+    ∙ (ap (λ x. options_with rows (Some guest) (Some report_path) x) n
+    ∙ λ k. Some (record { guest = guest; report = report_path; recording = l k; bits = width; stats = f k }))
 
 pub plain_options : PlainOptionsAreRead
 plain_options program choices image words plain zeros report_path turn_steps run_steps width r q b n =
     let all = run_words program choices image words in
     let given_stats = is_chosen (codes "stats") choices in
     let end = end_rows image words given_stats in
+    let rows = plain_rows choices image words in
     asked_is all zeros
-    ∙ (ap read_of (plain_subcommand program choices image words plain)
-    ∙ ap (option_map Run) (options_are (plain_rows choices image words) turn_steps run_steps width report_path image
-    (given (codes "stdin") choices) (given (codes "schedule") choices) (given (codes "record") choices) words given_stats
+    ∙ (ap read_of (plain_subcommand running program choices image words plain (all_of_run choices))
+    ∙ ap (option_map Run) (options_are rows _ width report_path (given (codes "record") choices) given_stats
+    (guest_is rows turn_steps run_steps image (given (codes "stdin") choices) (given (codes "schedule") choices) words
     (ap quantum_of (option_read (codes "quantum") choices image words (refl, refl, refl)) ∙ q)
     (ap budget_of (option_read (codes "budget") choices image words (refl, refl, refl)) ∙ b)
-    (ap bits_of (option_read (codes "stamps") choices image words (refl, refl, refl)) ∙ n)
-    (option_read (codes "output") choices image words (refl, refl, refl) ∙ r)
     (first_after (codes "image") choices end image_is_none)
     (option_read (codes "stdin") choices image words (refl, refl, refl))
     (option_read (codes "schedule") choices image words (refl, refl, refl))
+    (ap (λ (o : Option (List Text)). unwrap_or o []) (all_after (codes "word") choices end word_is_none) ∙ words_read image words given_stats))
+    (ap bits_of (option_read (codes "stamps") choices image words (refl, refl, refl)) ∙ n)
+    (option_read (codes "output") choices image words (refl, refl, refl) ∙ r)
     (option_read (codes "record") choices image words (refl, refl, refl))
-    (ap (λ (o : Option (List Text)). unwrap_or o []) (all_after (codes "word") choices end word_is_none) ∙ words_read image words given_stats)
     (flag_given choices end (no_flag image words given_stats))))
+
+pub plain_trace_options : PlainTraceIsRead
+plain_trace_options program choices image words plain of_trace zeros trace_path turn_steps run_steps t q b =
+    let all = trace_words program choices image words in
+    let end = tail_rows image words in
+    let rows = made_rows choices image words in
+    asked_is all zeros
+    ∙ (ap read_of (plain_subcommand tracing program choices image words plain of_trace)
+    ∙ ap (option_map Trace) (ap₂ trace_with
+    (guest_is rows turn_steps run_steps image (given (codes "stdin") choices) (given (codes "schedule") choices) words
+    (ap quantum_of (trace_option_read (codes "quantum") choices image words (refl, refl, refl)) ∙ q)
+    (ap budget_of (trace_option_read (codes "budget") choices image words (refl, refl, refl)) ∙ b)
+    (first_after (codes "image") choices end image_is_none)
+    (trace_option_read (codes "stdin") choices image words (refl, refl, refl))
+    (trace_option_read (codes "schedule") choices image words (refl, refl, refl))
+    (ap (λ (o : Option (List Text)). unwrap_or o []) (all_after (codes "word") choices end word_is_none) ∙ words_behind image words))
+    (trace_option_read (codes "output") choices image words (refl, refl, refl) ∙ t)))

@@ -9,14 +9,14 @@ use Rattle.std.specs.Str.{bytes_eq}
 use Rattle.clap.specs.Simple.{argument_words, entered, names_of}
 use Rattle.clap.specs.Takes.{built_takes, default_passes, entered_passes, is_given, is_valid, level_passes, settle_passes, turn_passes, walk_passes}
 use Rattle.clap.specs.Walk.{Names, Walk, default_rows, finished, has_row, idle, nothing_held, reading_by, rows_after, settled_rows, walk_from, walked, with_default}
-use Rattle.clap.specs.Words.{Row, Rule, Text, built, subcommand_of}
+use Rattle.clap.specs.Words.{Row, Rule, Text, built, subcommand_of, takes}
 use Rattle.clap.proofs.OnLiterals.{clap_on_literals}
-use Rattle.command_line.specs.App.{the_app, top_app, run_app, demo_app}
-use Rattle.command_line.specs.Plain.{ArePlain, Choice, PlainWordsAreTaken, budget, choice_words, is_chosen, quantum, recording, report, run_words, schedule, stamps, stats, stdin}
-use Rattle.command_line.proofs.Choices.{ends_run}
+use Rattle.command_line.specs.App.{the_app, top_app, run_app, demo_app, trace_app}
+use Rattle.command_line.specs.Plain.{ArePlain, Choice, PlainTraceIsTaken, PlainWordsAreTaken, budget, choice_words, is_chosen, quantum, recording, report, schedule, stamps, stats, stdin}
+use Rattle.command_line.proofs.Choices.{ends_guest}
 use Rattle.command_line.proofs.Fixed.{the_app_is_simple}
 use Rattle.command_line.proofs.Rows.{choice_rows, if_unset, image_is_none, made_rows, plain_rows, tail_rows, unset_rows, IsNoChoice}
-use Rattle.command_line.proofs.Steps.{rules, run_shape, stand}
+use Rattle.command_line.proofs.Steps.{GuestCommand, has_option, rules, running, shape, stand, tracing}
 
 -- ---- defaults
 
@@ -33,13 +33,17 @@ no_defaults [] rows h = refl
 no_defaults (a ∷ rest) rows h =
     ap (λ x. fold with_default x rest) (if_none (has_row a.id rows) a rows h.0) ∙ no_defaults rest rows h.1
 
--- only `--stats` has a default
-pub finished_rows : (rows : List Row) → fold with_default rows rules ≡ rows ++ unset_rows (has_row (codes "stats") rows)
-unfolding the_app top_app run_app demo_app clap_on_literals
+-- only `--stats` of `run` has a default
+pub finished_rows : (rows : List Row) → fold with_default rows (rules running) ≡ rows ++ unset_rows (has_row (codes "stats") rows)
+unfolding the_app top_app run_app demo_app trace_app clap_on_literals
 finished_rows rows =
-    ap (λ x. fold with_default x (drop 6 rules)) (no_defaults (take 6 rules) rows (refl, (refl, (refl, (refl, (refl, (refl, tt)))))))
-    ∙ (no_defaults (drop 7 rules) (fold with_default rows (take 1 (drop 6 rules))) (refl, (refl, (refl, tt)))
+    ap (λ x. fold with_default x (drop 6 (rules running))) (no_defaults (take 6 (rules running)) rows (refl, (refl, (refl, (refl, (refl, (refl, tt)))))))
+    ∙ (no_defaults (drop 7 (rules running)) (fold with_default rows (take 1 (drop 6 (rules running)))) (refl, (refl, (refl, tt)))
     ∙ if_unset (has_row (codes "stats") rows) rows refl)
+
+pub finished_trace : (rows : List Row) → fold with_default rows (rules tracing) ≡ rows
+unfolding the_app top_app run_app demo_app trace_app clap_on_literals
+finished_trace rows = no_defaults (rules tracing) rows (refl, (refl, (refl, (refl, (refl, (refl, (refl, tt)))))))
 
 chosen_stats : (cs : List Choice) → has_row (codes "stats") (choice_rows cs) ≡ is_chosen (codes "stats") cs
 chosen_stats [] = refl
@@ -56,9 +60,14 @@ no_stats_tail : (image : Text) (words : List Text) → has_row (codes "stats") (
 no_stats_tail image [] = refl
 no_stats_tail image (w ∷ ws) = refl
 
-finished_plain : (choices : List Choice) (image : Text) (words : List Text)
-    → fold with_default (made_rows choices image words) rules ≡ plain_rows choices image words
-finished_plain choices image words =
+-- the rows that plain words make of a command
+abbrev pub all_rows : GuestCommand → List Choice → Text → List Text → List Row
+all_rows running choices image words = plain_rows choices image words
+all_rows tracing choices image words = made_rows choices image words
+
+finished_plain : (k : GuestCommand) (choices : List Choice) (image : Text) (words : List Text)
+    → fold with_default (made_rows choices image words) (rules k) ≡ all_rows k choices image words
+finished_plain running choices image words =
     let made = made_rows choices image words in
     let tail = tail_rows image words in
     let chosen : has_row (codes "stats") made ≡ is_chosen (codes "stats") choices =
@@ -66,6 +75,7 @@ finished_plain choices image words =
     ∙ (ap₂ ◌||◌ (chosen_stats choices) (no_stats_tail image words) ∙ or-false _) in
     finished_rows made
     ∙ (ap (λ b. made ++ unset_rows b) chosen ∙ append_assoc (choice_rows choices) tail (unset_rows (is_chosen (codes "stats") choices)))
+finished_plain tracing choices image words = finished_trace (made_rows choices image words)
 
 -- ---- what is required is there
 
@@ -95,51 +105,61 @@ given_after : (id : Text) (cs : List Choice) (rest : List Row) → IsNoChoice id
 given_after id [] rest h g = g
 given_after id (c ∷ cs) rest h g = rw (h c) (given_after id cs rest h g)
 
-run_valid : (rows : List Row) → is_given (codes "output") rows ≡ true → is_given (codes "image") rows ≡ true
-    → is_valid run_shape rows false ≡ true
-unfolding the_app top_app run_app demo_app clap_on_literals
-run_valid rows h k = rw (h, k) refl
+command_valid : (k : GuestCommand) (rows : List Row) → is_given (codes "output") rows ≡ true → is_given (codes "image") rows ≡ true
+    → is_valid (shape k) rows false ≡ true
+unfolding the_app top_app run_app demo_app trace_app clap_on_literals
+command_valid running rows h k = rw (h, k) refl
+command_valid tracing rows h k = rw (h, k) refl
 
--- ---- `run` and its words
-
-run_rows : (choices : List Choice) (image : Text) (words : List Text) → ArePlain choices image words
-    → rows_after rules [] (choice_words choices ++ image ∷ words) ≡ plain_rows choices image words
-run_rows choices image words plain =
-    let end = ends_run choices image words plain in
-    ap (λ w. fold with_default (settled_rows rules w.held.pending w.held.rows) rules) end.walk
-    ∙ (ap (λ rows. fold with_default rows rules) end.settles.rows_are ∙ finished_plain choices image words)
-
-no_override : run_shape.args_override_self ≡ false
-unfolding the_app top_app run_app demo_app
-no_override = refl
-
-defaults_pass : list_all default_passes rules ≡ true
-unfolding the_app top_app run_app demo_app clap_on_literals
-defaults_pass = refl
-
-level_from : (words : List Text) (w : Walk) → fold (walked rules []) (stand [] None idle 1) words ≡ w
-    → walk_passes run_shape [] (stand [] None idle 1) words ≡ true
-    → settle_passes rules false w.held ≡ true → is_valid run_shape (finished rules w.held) false ≡ true
-    → level_passes run_shape [] nothing_held words false ≡ true
-level_from words w walk pass settles valid =
-    ap₂ ◌&&◌ pass
-    (ap (λ (v : Walk). settle_passes rules run_shape.args_override_self v.held
-    && (list_all default_passes rules && is_valid run_shape (finished rules v.held) false)) walk
-    ∙ ap₂ ◌&&◌ (ap (λ (b : Bool). settle_passes rules b w.held) no_override ∙ settles) (ap₂ ◌&&◌ defaults_pass valid))
-
-run_passes : (choices : List Choice) (image : Text) (words : List Text) → ArePlain choices image words
-    → is_chosen (codes "output") choices ≡ true
-    → level_passes run_shape [] nothing_held (choice_words choices ++ image ∷ words) false ≡ true
-run_passes choices image words plain chosen =
-    let end = ends_run choices image words plain in
-    let all = plain_rows choices image words in
+-- they are given among all rows
+given_both : (k : GuestCommand) (choices : List Choice) (image : Text) (words : List Text) → is_chosen (codes "output") choices ≡ true
+    → (is_given (codes "output") (all_rows k choices image words) ≡ true) × (is_given (codes "image") (all_rows k choices image words) ≡ true)
+given_both running choices image words chosen =
     let tail = tail_rows image words ++ unset_rows (is_chosen (codes "stats") choices) in
-    let valid : is_valid run_shape all false ≡ true =
-    run_valid all (given_left (codes "output") (choice_rows choices) tail (given_output choices chosen))
-    (given_after (codes "image") choices tail image_is_none refl) in
-    level_from _ _ end.walk end.pass end.settles.passes
-    (ap (λ rows. is_valid run_shape (fold with_default rows rules) false) end.settles.rows_are
-    ∙ (ap (λ rows. is_valid run_shape rows false) (finished_plain choices image words) ∙ valid))
+    (given_left (codes "output") (choice_rows choices) tail (given_output choices chosen), given_after (codes "image") choices tail image_is_none refl)
+given_both tracing choices image words chosen =
+    let tail = tail_rows image words in
+    (given_left (codes "output") (choice_rows choices) tail (given_output choices chosen), given_after (codes "image") choices tail image_is_none refl)
+
+-- ---- the command and its words
+
+command_rows : (k : GuestCommand) (choices : List Choice) (image : Text) (words : List Text) → ArePlain choices image words → list_all (has_option k) choices ≡ true
+    → rows_after (rules k) [] (choice_words choices ++ image ∷ words) ≡ all_rows k choices image words
+command_rows k choices image words plain has =
+    let end = ends_guest k choices image words plain has in
+    ap (λ w. fold with_default (settled_rows (rules k) w.held.pending w.held.rows) (rules k)) end.walk
+    ∙ (ap (λ rows. fold with_default rows (rules k)) end.settles.rows_are ∙ finished_plain k choices image words)
+
+no_override : (k : GuestCommand) → (shape k).args_override_self ≡ false
+unfolding the_app top_app run_app demo_app trace_app
+no_override running = refl
+no_override tracing = refl
+
+defaults_pass : (k : GuestCommand) → list_all default_passes (rules k) ≡ true
+unfolding the_app top_app run_app demo_app trace_app clap_on_literals
+defaults_pass running = refl
+defaults_pass tracing = refl
+
+level_from : (k : GuestCommand) (words : List Text) (w : Walk) → fold (walked (rules k) []) (stand [] None idle 1) words ≡ w
+    → walk_passes (shape k) [] (stand [] None idle 1) words ≡ true
+    → settle_passes (rules k) false w.held ≡ true → is_valid (shape k) (finished (rules k) w.held) false ≡ true
+    → level_passes (shape k) [] nothing_held words false ≡ true
+level_from k words w walk pass settles valid =
+    ap₂ ◌&&◌ pass
+    (ap (λ (v : Walk). settle_passes (rules k) (shape k).args_override_self v.held
+    && (list_all default_passes (rules k) && is_valid (shape k) (finished (rules k) v.held) false)) walk
+    ∙ ap₂ ◌&&◌ (ap (λ (b : Bool). settle_passes (rules k) b w.held) (no_override k) ∙ settles) (ap₂ ◌&&◌ (defaults_pass k) valid))
+
+command_passes : (k : GuestCommand) (choices : List Choice) (image : Text) (words : List Text) → ArePlain choices image words → list_all (has_option k) choices ≡ true
+    → is_chosen (codes "output") choices ≡ true
+    → level_passes (shape k) [] nothing_held (choice_words choices ++ image ∷ words) false ≡ true
+command_passes k choices image words plain has chosen =
+    let end = ends_guest k choices image words plain has in
+    let both = given_both k choices image words chosen in
+    let valid : is_valid (shape k) (all_rows k choices image words) false ≡ true = command_valid k (all_rows k choices image words) both.0 both.1 in
+    level_from k _ _ end.walk end.pass end.settles.passes
+    (ap (λ rows. is_valid (shape k) (fold with_default rows (rules k)) false) end.settles.rows_are
+    ∙ (ap (λ rows. is_valid (shape k) rows false) (finished_plain k choices image words) ∙ valid))
 
 -- ---- the subcommand
 
@@ -149,78 +169,104 @@ top_rules = (built the_app).top.rules
 abbrev pub names : Names
 names = names_of (built the_app)
 
--- the walk stopped at `run`, with these words after it
-abbrev at_run : List Text → Walk
-at_run words = record (walk_from nothing_held) { stopped = Some (codes "run", words) }
+-- the name of a command
+abbrev pub name_of : GuestCommand → Text
+name_of running = codes "run"
+name_of tracing = codes "trace"
 
-stops_at_run : walked top_rules names (walk_from nothing_held) (codes "run") ≡ at_run []
-unfolding the_app top_app run_app demo_app clap_on_literals
-stops_at_run = refl
+-- the walk stopped at the command, with these words after it
+abbrev at_command : GuestCommand → List Text → Walk
+at_command k words = record (walk_from nothing_held) { stopped = Some (name_of k, words) }
 
-turn_at_run : turn_passes (built the_app).top names (walk_from nothing_held) (codes "run") ≡ true
-unfolding the_app top_app run_app demo_app clap_on_literals
-turn_at_run = refl
+stops_at : (k : GuestCommand) → walked top_rules names (walk_from nothing_held) (name_of k) ≡ at_command k []
+unfolding the_app top_app run_app demo_app trace_app clap_on_literals
+stops_at running = refl
+stops_at tracing = refl
 
-stays_at_run : (rest before : List Text) → fold (walked top_rules names) (at_run before) rest ≡ at_run (before ++ rest)
+turn_at : (k : GuestCommand) → turn_passes (built the_app).top names (walk_from nothing_held) (name_of k) ≡ true
+unfolding the_app top_app run_app demo_app trace_app clap_on_literals
+turn_at running = refl
+turn_at tracing = refl
+
+stays_at : (k : GuestCommand) (rest before : List Text) → fold (walked top_rules names) (at_command k before) rest ≡ at_command k (before ++ rest)
 unfolding walked
-stays_at_run [] before = ap at_run (sym (append-nil before))
-stays_at_run (w ∷ ws) before = stays_at_run ws (before ++ w ∷ []) ∙ ap at_run (append_assoc before (w ∷ []) ws)
+stays_at k [] before = ap (at_command k) (sym (append-nil before))
+stays_at k (w ∷ ws) before = stays_at k ws (before ++ w ∷ []) ∙ ap (at_command k) (append_assoc before (w ∷ []) ws)
 
-passes_at_run : (rest before : List Text) → walk_passes (built the_app).top names (at_run before) rest ≡ true
+passes_at : (k : GuestCommand) (rest before : List Text) → walk_passes (built the_app).top names (at_command k before) rest ≡ true
 unfolding walked walk_passes
-passes_at_run [] before = refl
-passes_at_run (w ∷ ws) before = passes_at_run ws (before ++ w ∷ [])
+passes_at k [] before = refl
+passes_at k (w ∷ ws) before = passes_at k ws (before ++ w ∷ [])
 
-top_walk : (rest : List Text) → fold (walked top_rules names) (walk_from nothing_held) (codes "run" ∷ rest) ≡ at_run rest
-top_walk rest = ap (λ w. fold (walked top_rules names) w rest) stops_at_run ∙ stays_at_run rest []
+top_walk : (k : GuestCommand) (rest : List Text) → fold (walked top_rules names) (walk_from nothing_held) (name_of k ∷ rest) ≡ at_command k rest
+top_walk k rest = ap (λ w. fold (walked top_rules names) w rest) (stops_at k) ∙ stays_at k rest []
 
-top_passes : (rest : List Text) → walk_passes (built the_app).top names (walk_from nothing_held) (codes "run" ∷ rest) ≡ true
+top_passes : (k : GuestCommand) (rest : List Text) → walk_passes (built the_app).top names (walk_from nothing_held) (name_of k ∷ rest) ≡ true
 unfolding walk_passes
-top_passes rest =
-    ap₂ ◌&&◌ turn_at_run (ap (λ w. walk_passes (built the_app).top names w rest) stops_at_run ∙ passes_at_run rest [])
+top_passes k rest =
+    ap₂ ◌&&◌ (turn_at k) (ap (λ w. walk_passes (built the_app).top names w rest) (stops_at k) ∙ passes_at k rest [])
 
-enters_run : (rest : List Text) → entered (built the_app) (Some (codes "run", rest)) ≡ Some (codes "run", rows_after rules [] rest)
-unfolding the_app top_app run_app demo_app clap_on_literals
-enters_run rest = refl
+enters_command : (k : GuestCommand) (rest : List Text) → entered (built the_app) (Some (name_of k, rest)) ≡ Some (name_of k, rows_after (rules k) [] rest)
+unfolding the_app top_app run_app demo_app trace_app clap_on_literals
+enters_command running rest = refl
+enters_command tracing rest = refl
 
 -- what holds after the walk of the top command, by what was met and whether it has matches
 abbrev pub top_ends : Walk → Bool → Bool
 top_ends w has_subcommand = settle_passes top_rules (built the_app).top.args_override_self w.held
     && (list_all default_passes top_rules && is_valid (built the_app).top (finished top_rules w.held) has_subcommand)
 
-top_valid : (rest : List Text) → top_ends (at_run rest) true ≡ true
-unfolding the_app top_app run_app demo_app clap_on_literals
-top_valid rest = refl
+top_valid : (k : GuestCommand) (rest : List Text) → top_ends (at_command k rest) true ≡ true
+unfolding the_app top_app run_app demo_app trace_app clap_on_literals
+top_valid k rest = refl
 
-enters_passes : (rest : List Text) → level_passes run_shape [] nothing_held rest false ≡ true
-    → entered_passes (built the_app) (Some (codes "run", rest)) ≡ true
-unfolding the_app top_app run_app demo_app clap_on_literals
-enters_passes rest h = h
+enters_passes : (k : GuestCommand) (rest : List Text) → level_passes (shape k) [] nothing_held rest false ≡ true
+    → entered_passes (built the_app) (Some (name_of k, rest)) ≡ true
+unfolding the_app top_app run_app demo_app trace_app clap_on_literals
+enters_passes running rest h = h
+enters_passes tracing rest h = h
 
-built_takes_run : (rest : List Text) → level_passes run_shape [] nothing_held rest false ≡ true
-    → built_takes (built the_app) nothing_held (codes "run" ∷ rest) ≡ true
-built_takes_run rest h =
-    let walk = top_walk rest in
-    ap₂ ◌&&◌ (ap (λ (w : Walk). entered_passes (built the_app) w.stopped) walk ∙ enters_passes rest h)
-    (ap₂ ◌&&◌ (top_passes rest)
+built_takes_command : (k : GuestCommand) (rest : List Text) → level_passes (shape k) [] nothing_held rest false ≡ true
+    → built_takes (built the_app) nothing_held (name_of k ∷ rest) ≡ true
+built_takes_command k rest h =
+    let walk = top_walk k rest in
+    ap₂ ◌&&◌ (ap (λ (w : Walk). entered_passes (built the_app) w.stopped) walk ∙ enters_passes k rest h)
+    (ap₂ ◌&&◌ (top_passes k rest)
     (ap (λ (w : Walk). top_ends w (is_some (entered (built the_app) w.stopped))) walk
-    ∙ (ap (λ (o : Option (Text × List Row)). top_ends (at_run rest) (is_some o)) (enters_run rest) ∙ top_valid rest)))
+    ∙ (ap (λ (o : Option (Text × List Row)). top_ends (at_command k rest) (is_some o)) (enters_command k rest) ∙ top_valid k rest)))
 
 pub after_program : (program : Text) (words : List Text) → argument_words the_app (program ∷ words) ≡ words
-unfolding the_app top_app run_app demo_app
+unfolding the_app top_app run_app demo_app trace_app
 after_program program words = refl
 
-pub plain_words : PlainWordsAreTaken
-plain_words program choices image words plain chosen =
+-- the words of a whole command line
+abbrev pub command_words : GuestCommand → Text → List Choice → Text → List Text → List Text
+command_words k program choices image words = program ∷ name_of k ∷ (choice_words choices ++ image ∷ words)
+
+plain_taken : (k : GuestCommand) (program : Text) (choices : List Choice) (image : Text) (words : List Text) → ArePlain choices image words
+    → list_all (has_option k) choices ≡ true → is_chosen (codes "output") choices ≡ true → takes the_app (command_words k program choices image words) ≡ true
+plain_taken k program choices image words plain has chosen =
     let rest = choice_words choices ++ image ∷ words in
     ap₂ ◌&&◌ the_app_is_simple
-    (ap (built_takes (built the_app) nothing_held) (after_program program (codes "run" ∷ rest))
-    ∙ built_takes_run rest (run_passes choices image words plain chosen))
+    (ap (built_takes (built the_app) nothing_held) (after_program program (name_of k ∷ rest))
+    ∙ built_takes_command k rest (command_passes k choices image words plain has chosen))
 
-pub plain_subcommand : (program : Text) (choices : List Choice) (image : Text) (words : List Text) → ArePlain choices image words
-    → subcommand_of the_app (run_words program choices image words) ≡ Some (codes "run", plain_rows choices image words)
-plain_subcommand program choices image words plain =
+-- every option is one of `run`
+pub all_of_run : (choices : List Choice) → list_all (has_option running) choices ≡ true
+all_of_run [] = refl
+all_of_run (c ∷ cs) = all_of_run cs
+
+pub plain_words : PlainWordsAreTaken
+plain_words program choices image words plain chosen = plain_taken running program choices image words plain (all_of_run choices) chosen
+
+pub plain_trace : PlainTraceIsTaken
+plain_trace program choices image words plain of_trace chosen = plain_taken tracing program choices image words plain of_trace chosen
+
+pub plain_subcommand : (k : GuestCommand) (program : Text) (choices : List Choice) (image : Text) (words : List Text) → ArePlain choices image words
+    → list_all (has_option k) choices ≡ true
+    → subcommand_of the_app (command_words k program choices image words) ≡ Some (name_of k, all_rows k choices image words)
+plain_subcommand k program choices image words plain has =
     let rest = choice_words choices ++ image ∷ words in
-    ap (λ ws. entered (built the_app) (fold (walked top_rules names) (walk_from nothing_held) ws).stopped) (after_program program (codes "run" ∷ rest))
-    ∙ (ap (λ (w : Walk). entered (built the_app) w.stopped) (top_walk rest)
-    ∙ (enters_run rest ∙ ap (λ (rows : List Row). Some (codes "run", rows)) (run_rows choices image words plain)))
+    ap (λ ws. entered (built the_app) (fold (walked top_rules names) (walk_from nothing_held) ws).stopped) (after_program program (name_of k ∷ rest))
+    ∙ (ap (λ (w : Walk). entered (built the_app) w.stopped) (top_walk k rest)
+    ∙ (enters_command k rest ∙ ap (λ (rows : List Row). Some (name_of k, rows)) (command_rows k choices image words plain has)))

@@ -1,5 +1,5 @@
 -- What words that are taken have.
-use Rattle.std.proofs.Common.{◌≡◌, Bool, true, false, refl, ap, ap₂, sym, ◌∙◌, ◌&&◌, ◌⊎◌, inl, inr, List, [], ◌∷◌, ◌++◌, Option, Some, None, is_some, codes, cond}
+use Rattle.std.proofs.Common.{◌≡◌, Bool, true, false, refl, ap, subst, sym, ◌∙◌, ◌&&◌, ◌⊎◌, inl, inr, List, [], ◌∷◌, ◌++◌, Option, Some, None, is_some, codes, cond}
 use Rattle.std.specs.Prelude.{ℕ, find, fold, option_and_then, option_map, slice_get}
 use Rattle.std.specs.List.{list_all}
 use Rattle.std.specs.Option.{option_map_or}
@@ -12,24 +12,27 @@ use Rattle.stamps.specs.declared.width.StampBits.{StampBits}
 use Rattle.clap.specs.Words.{Row, Rule, Text, built, first_of, subcommand_of, takes}
 use Rattle.clap.specs.Facts.{explicit_source}
 use Rattle.std.specs.Str.{bytes_eq}
-use Rattle.command_line.specs.App.{the_app, top_app, run_app, demo_app}
-use Rattle.command_line.specs.Options.{Demo, Run, RunOptions, bits_of, budget_of, demo_of, demo_of_rows, guest_with, options_of_rows, options_with, quantum_of}
-use Rattle.command_line.specs.Taken.{HasBadDemo, HasBadNumber, TakenWordsFailByNumbers}
+use Rattle.command_line.specs.App.{the_app, top_app, run_app, demo_app, trace_app}
+use Rattle.command_line.specs.Options.{Demo, GuestOptions, Run, RunOptions, Trace, TraceOptions, bits_of, budget_of, demo_of, demo_of_rows, guest_of_rows, guest_with, options_of_rows, options_with, quantum_of, trace_of_rows, trace_with}
+use Rattle.command_line.specs.Taken.{FailsByNumber, HasBadDemo, HasBadNumber, HasBadSteps, TakenWordsFailByNumbers}
 use Rattle.command_line.proofs.Filled.{AllKeep, IsKept, filled_same, is_appended, is_filled, is_flag, is_own, is_set, kept_keeps, row_for, settle_keeps, walk_keeps}
-use Rattle.command_line.proofs.PlainWords.{finished_rows, no_defaults}
+use Rattle.command_line.proofs.PlainWords.{finished_rows, finished_trace, no_defaults}
 use Rattle.command_line.proofs.Refusals.{asked_is, read_of}
 use Rattle.command_line.proofs.Rows.{unset_rows}
-use Rattle.command_line.proofs.Steps.{demo_shape, rules, run_shape}
+use Rattle.command_line.proofs.Steps.{demo_shape, rules, run_shape, running, trace_shape, tracing}
 
-find_in_two : (test : Shape → Bool) (s t : Shape)
-    → (find test (s ∷ t ∷ []) ≡ Some s) ⊎ ((find test (s ∷ t ∷ []) ≡ Some t) ⊎ (find test (s ∷ t ∷ []) ≡ None))
-find_in_two test s t = go (test s) (test t) refl refl
+-- what a search among these can find
+abbrev FoundIn : List Shape → Option Shape → Type 0
+FoundIn [] found = found ≡ None
+FoundIn (s ∷ ss) found = (found ≡ Some s) ⊎ FoundIn ss found
+
+found_in : (test : Shape → Bool) (ss : List Shape) → FoundIn ss (find test ss)
+found_in test [] = refl
+found_in test (s ∷ ss) = by (test s) refl (found_in test ss)
   where
-    go : (a b : Bool) → test s ≡ a → test t ≡ b
-        → (find test (s ∷ t ∷ []) ≡ Some s) ⊎ ((find test (s ∷ t ∷ []) ≡ Some t) ⊎ (find test (s ∷ t ∷ []) ≡ None))
-    go true b e f = inl (ap (λ c. cond c (Some s) (cond (test t) (Some t) None)) e)
-    go false true e f = inr (inl (ap (λ c. cond c (Some s) (cond (test t) (Some t) None)) e ∙ ap (λ c. cond c (Some t) None) f))
-    go false false e f = inr (inr (ap (λ c. cond c (Some s) (cond (test t) (Some t) None)) e ∙ ap (λ c. cond c (Some t) None) f))
+    by : (b : Bool) → test s ≡ b → FoundIn ss (find test ss) → FoundIn (s ∷ ss) (find test (s ∷ ss))
+    by true e rec = inl (ap (λ c. cond c (Some s) (find test ss)) e)
+    by false e rec = inr (subst (FoundIn ss) (sym (ap (λ c. cond c (Some s) (find test ss)) e)) rec)
 
 -- What was found is this subcommand, whose words pass.
 pub record Enters (s : Shape) (found : Option (Text × List Row)) : Type 0 where
@@ -45,38 +48,45 @@ enters_found o s rest e p = record {
   passes = sym (ap (λ (x : Option Shape). option_map_or (λ t. level_passes t [] nothing_held rest false) x true) e) ∙ p;
 }
 
-enters_either : (o : Option Shape) (s t : Shape) (rest : List Text) → (o ≡ Some s) ⊎ ((o ≡ Some t) ⊎ (o ≡ None))
+-- one of these subcommands was found, and its words pass
+abbrev EntersOne : List Shape → Option (Text × List Row) → Type 0
+EntersOne [] found = ⊥
+EntersOne (s ∷ ss) found = Enters s found ⊎ EntersOne ss found
+
+enters_any : (ss : List Shape) (o : Option Shape) (rest : List Text) → FoundIn ss o
     → option_map_or (λ u. level_passes u [] nothing_held rest false) o true ≡ true → is_some (option_map (λ u. rows_at u rest) o) ≡ true
-    → Enters s (option_map (λ u. rows_at u rest) o) ⊎ Enters t (option_map (λ u. rows_at u rest) o)
-enters_either o s t rest (inl e) p q = inl (enters_found o s rest e p)
-enters_either o s t rest (inr (inl e)) p q = inr (enters_found o t rest e p)
-enters_either o s t rest (inr (inr e)) p q =
+    → EntersOne ss (option_map (λ u. rows_at u rest) o)
+enters_any [] o rest e p q =
     let no : false ≡ true = sym (ap (λ (x : Option Shape). is_some (option_map (λ u. rows_at u rest) x)) e) ∙ q in cc
+enters_any (s ∷ ss) o rest (inl e) p q = inl (enters_found o s rest e p)
+enters_any (s ∷ ss) o rest (inr found) p q = inr (enters_any ss o rest found p q)
 
--- a command with two subcommands enters one of them
-enters_one : (a : App) (s t : Shape) (stop : Option (Text × List Text)) → a.subs ≡ s ∷ t ∷ [] → entered_passes a stop ≡ true
-    → is_some (entered a stop) ≡ true → Enters s (entered a stop) ⊎ Enters t (entered a stop)
-enters_one a s t None subs p q = let no : false ≡ true = q in cc
-enters_one a s t (Some met) subs p q =
-    let found = find (λ u. answers_to met.0 (label_of u)) a.subs in
-    let one : (found ≡ Some s) ⊎ ((found ≡ Some t) ⊎ (found ≡ None)) = rw subs (find_in_two (λ u. answers_to met.0 (label_of u)) s t) in
-    enters_either found s t met.1 one p q
+-- a command that has to have a subcommand enters one of them
+enters_one : (a : App) (stop : Option (Text × List Text)) → entered_passes a stop ≡ true
+    → is_some (entered a stop) ≡ true → EntersOne a.subs (entered a stop)
+enters_one a None p q = let no : false ≡ true = q in cc
+enters_one a (Some met) p q =
+    enters_any a.subs (find (λ u. answers_to met.0 (label_of u)) a.subs) met.1 (found_in (λ u. answers_to met.0 (label_of u)) a.subs) p q
 
-subs_are : (built the_app).subs ≡ run_shape ∷ demo_shape ∷ []
-unfolding the_app top_app run_app demo_app clap_on_literals
+subs_are : (built the_app).subs ≡ run_shape ∷ demo_shape ∷ trace_shape ∷ []
+unfolding the_app top_app run_app demo_app trace_app clap_on_literals
 subs_are = refl
 
 run_is_named : run_shape.name ≡ codes "run"
-unfolding the_app top_app run_app demo_app clap_on_literals
+unfolding the_app top_app run_app demo_app trace_app clap_on_literals
 run_is_named = refl
 
+trace_is_named : trace_shape.name ≡ codes "trace"
+unfolding the_app top_app run_app demo_app trace_app clap_on_literals
+trace_is_named = refl
+
 demo_is_named : demo_shape.name ≡ codes "demo"
-unfolding the_app top_app run_app demo_app clap_on_literals
+unfolding the_app top_app run_app demo_app trace_app clap_on_literals
 demo_is_named = refl
 
 -- the subcommand has to be there
 top_requires : (rows : List Row) (has : Bool) → is_valid (built the_app).top rows has ≡ true → has ≡ true
-unfolding the_app top_app run_app demo_app clap_on_literals
+unfolding the_app top_app run_app demo_app trace_app clap_on_literals
 top_requires rows true h = refl
 top_requires rows false h = let no : false ≡ true = h in cc
 
@@ -87,8 +97,12 @@ two_given false i h = let no : false ≡ true = h in cc
 
 -- and `-o` and the image
 run_requires : (rows : List Row) → is_valid run_shape rows false ≡ true → (is_given (codes "output") rows ≡ true) × (is_given (codes "image") rows ≡ true)
-unfolding the_app top_app run_app demo_app clap_on_literals
+unfolding the_app top_app run_app demo_app trace_app clap_on_literals
 run_requires rows h = two_given (is_given (codes "output") rows) (is_given (codes "image") rows) h
+
+trace_requires : (rows : List Row) → is_valid trace_shape rows false ≡ true → (is_given (codes "output") rows ≡ true) × (is_given (codes "image") rows ≡ true)
+unfolding the_app top_app run_app demo_app trace_app clap_on_literals
+trace_requires rows h = two_given (is_given (codes "output") rows) (is_given (codes "image") rows) h
 
 one_given : (n : Bool) → (n && true) ≡ true → n ≡ true
 one_given true h = refl
@@ -96,12 +110,12 @@ one_given false h = let no : false ≡ true = h in cc
 
 -- `demo` its number
 demo_requires : (rows : List Row) → is_valid demo_shape rows false ≡ true → is_given (codes "number") rows ≡ true
-unfolding the_app top_app run_app demo_app clap_on_literals
+unfolding the_app top_app run_app demo_app trace_app clap_on_literals
 demo_requires rows h = one_given (is_given (codes "number") rows) h
 
 -- words that are taken enter a subcommand
 taken_enters : (words : List Text) → takes the_app words ≡ true
-    → Enters run_shape (subcommand_of the_app words) ⊎ Enters demo_shape (subcommand_of the_app words)
+    → EntersOne (run_shape ∷ demo_shape ∷ trace_shape ∷ []) (subcommand_of the_app words)
 taken_enters words h =
     let ws = argument_words the_app words in
     let top = (built the_app).top in
@@ -113,7 +127,8 @@ taken_enters words h =
     let after_walk = (both (walk_passes top (names_of (built the_app)) (walk_from nothing_held) ws) _ two.1).1 in
     let after_settle = (both (settle_passes top.rules top.args_override_self end) _ after_walk).1 in
     let valid = (both (list_all default_passes top.rules) (is_valid top (finished top.rules end) has) after_settle).1 in
-    enters_one (built the_app) run_shape demo_shape stop subs_are two.0 (top_requires (finished top.rules end) has valid)
+    subst (λ subs. EntersOne subs (subcommand_of the_app words)) subs_are
+    (enters_one (built the_app) stop two.0 (top_requires (finished top.rules end) has valid))
 
 -- ---- the image, the path of the report and the number
 
@@ -126,9 +141,9 @@ all_keep : (id : Text) (c : List Rule) → bytes_eq id id ≡ true → AreKept i
 all_keep id [] same k = tt
 all_keep id (a ∷ rest) same k = (kept_keeps id a same k.0, all_keep id rest same k.1)
 
-output_keeps : AllKeep (codes "output") rules
-unfolding the_app top_app run_app demo_app clap_on_literals
-output_keeps = all_keep (codes "output") rules refl (
+output_keeps : AllKeep (codes "output") (rules running)
+unfolding the_app top_app run_app demo_app trace_app clap_on_literals
+output_keeps = all_keep (codes "output") (rules running) refl (
   is_set refl refl,
   (
     is_set refl refl,
@@ -145,9 +160,9 @@ output_keeps = all_keep (codes "output") rules refl (
   ),
 )
 
-image_keeps : AllKeep (codes "image") rules
-unfolding the_app top_app run_app demo_app clap_on_literals
-image_keeps = all_keep (codes "image") rules refl (
+image_keeps : AllKeep (codes "image") (rules running)
+unfolding the_app top_app run_app demo_app trace_app clap_on_literals
+image_keeps = all_keep (codes "image") (rules running) refl (
   is_set refl refl,
   (
     is_set refl refl,
@@ -164,8 +179,22 @@ image_keeps = all_keep (codes "image") rules refl (
   ),
 )
 
+trace_output_keeps : AllKeep (codes "output") (rules tracing)
+unfolding the_app top_app run_app demo_app trace_app clap_on_literals
+trace_output_keeps = all_keep (codes "output") (rules tracing) refl (
+  is_set refl refl,
+  (is_set refl refl, (is_set refl refl, (is_set refl refl, (is_own refl refl refl, (is_set refl refl, (is_appended refl refl, tt)))))),
+)
+
+trace_image_keeps : AllKeep (codes "image") (rules tracing)
+unfolding the_app top_app run_app demo_app trace_app clap_on_literals
+trace_image_keeps = all_keep (codes "image") (rules tracing) refl (
+  is_set refl refl,
+  (is_set refl refl, (is_set refl refl, (is_set refl refl, (is_set refl refl, (is_own refl refl refl, (is_appended refl refl, tt)))))),
+)
+
 number_keeps : AllKeep (codes "number") demo_shape.rules
-unfolding the_app top_app run_app demo_app clap_on_literals
+unfolding the_app top_app run_app demo_app trace_app clap_on_literals
 number_keeps = all_keep (codes "number") demo_shape.rules refl (is_own refl refl refl, tt)
 
 -- a row that is given and filled has a first value
@@ -184,8 +213,11 @@ abbrev DefaultsKeep : Text → Shape → Type 0
 DefaultsKeep id s = (rows : List Row) → row_for id (fold with_default rows s.rules) ≡ row_for id rows
 
 demo_defaults : (id : Text) → DefaultsKeep id demo_shape
-unfolding the_app top_app run_app demo_app clap_on_literals
+unfolding the_app top_app run_app demo_app trace_app clap_on_literals
 demo_defaults id rows = ap (row_for id) (no_defaults demo_shape.rules rows (refl, tt))
+
+trace_defaults : (id : Text) → DefaultsKeep id trace_shape
+trace_defaults id rows = ap (row_for id) (finished_trace rows)
 
 unset_elsewhere : (id : Text) (given : Bool) (rows : List Row) → bytes_eq (codes "stats") id ≡ false
     → row_for id (rows ++ unset_rows given) ≡ row_for id rows
@@ -215,27 +247,49 @@ rows_valid s rest h =
     (both (list_all default_passes s.rules) (is_valid s (finished s.rules end) false) two.1).1
 
 -- options are missing only for a number
+bad_guest : (rows : List Row) (image : Text) → first_of (codes "image") rows ≡ Some image → guest_of_rows rows ≡ None
+    → (quantum_of (first_of (codes "quantum") rows) ≡ None) ⊎ (budget_of (first_of (codes "budget") rows) ≡ None)
+bad_guest rows image i none =
+    go (quantum_of (first_of (codes "quantum") rows)) (budget_of (first_of (codes "budget") rows))
+    (sym (ap (λ x. guest_with rows (quantum_of (first_of (codes "quantum") rows)) (budget_of (first_of (codes "budget") rows)) x) i) ∙ none)
+  where
+    go : (q b : Option ℕ) → guest_with rows q b (Some image) ≡ None → (q ≡ None) ⊎ (b ≡ None)
+    go None b h = inl refl
+    go (Some q) None h = inr refl
+    go (Some q) (Some b) h = cc
+
 bad_number : (rows : List Row) (report image : Text) → first_of (codes "output") rows ≡ Some report → first_of (codes "image") rows ≡ Some image
     → options_of_rows rows ≡ None → HasBadNumber rows
 bad_number rows report image r i none =
-    go (quantum_of (first_of (codes "quantum") rows)) (budget_of (first_of (codes "budget") rows)) bits (sym there ∙ none)
+    go (guest_of_rows rows) (bits_of (first_of (codes "stamps") rows)) refl refl
+    (sym (ap (λ x. options_with rows (guest_of_rows rows) x (bits_of (first_of (codes "stamps") rows))) r) ∙ none)
   where
-    bits : Option StampBits
-    bits = bits_of (first_of (codes "stamps") rows)
+    of_guest : (quantum_of (first_of (codes "quantum") rows) ≡ None) ⊎ (budget_of (first_of (codes "budget") rows) ≡ None) → HasBadNumber rows
+    of_guest (inl q) = inl q
+    of_guest (inr b) = inr (inl b)
 
-    there : options_of_rows rows ≡ options_with rows (guest_with rows (quantum_of (first_of (codes "quantum") rows)) (budget_of (first_of (codes "budget") rows)) (Some image)) (Some report) bits
-    there = ap₂ (λ x y. options_with rows (guest_with rows (quantum_of (first_of (codes "quantum") rows)) (budget_of (first_of (codes "budget") rows)) x) y bits) i r
+    go : (g : Option GuestOptions) (n : Option StampBits) → guest_of_rows rows ≡ g → bits_of (first_of (codes "stamps") rows) ≡ n
+        → options_with rows g (Some report) n ≡ None → HasBadNumber rows
+    go None n g_is n_is h = of_guest (bad_guest rows image i g_is)
+    go (Some g) None g_is n_is h = inr (inr n_is)
+    go (Some g) (Some n) g_is n_is h = cc
 
-    go : (q b : Option ℕ) (n : Option StampBits) → options_with rows (guest_with rows q b (Some image)) (Some report) n ≡ None
-        → (q ≡ None) ⊎ ((b ≡ None) ⊎ (n ≡ None))
-    go None b n h = inl refl
-    go (Some q) None n h = inr (inl refl)
-    go (Some q) (Some b) None h = inr (inr refl)
-    go (Some q) (Some b) (Some n) h = cc
+bad_steps : (rows : List Row) (path image : Text) → first_of (codes "output") rows ≡ Some path → first_of (codes "image") rows ≡ Some image
+    → trace_of_rows rows ≡ None → HasBadSteps rows
+bad_steps rows path image r i none =
+    go (guest_of_rows rows) refl (sym (ap (λ x. trace_with (guest_of_rows rows) x) r) ∙ none)
+  where
+    go : (g : Option GuestOptions) → guest_of_rows rows ≡ g → trace_with g (Some path) ≡ None → HasBadSteps rows
+    go None g_is h = bad_guest rows image i g_is
+    go (Some g) g_is h = cc
 
 no_run : (o : Option RunOptions) → option_map Run o ≡ None → o ≡ None
 no_run None h = refl
 no_run (Some x) h = cc
+
+no_trace : (o : Option TraceOptions) → option_map Trace o ≡ None → o ≡ None
+no_trace None h = refl
+no_trace (Some x) h = cc
 
 no_demo : (o : Option ℕ) → option_map Demo o ≡ None → o ≡ None
 no_demo None h = refl
@@ -244,12 +298,22 @@ no_demo (Some x) h = cc
 run_fails : (found : Option (Text × List Row)) → Enters run_shape found → read_of found ≡ None
     → (rows : List Row) × (found ≡ Some (codes "run", rows)) × HasBadNumber rows
 run_fails found enters none =
-    let rows = rows_after rules [] enters.rest in
+    let rows = rows_after (rules running) [] enters.rest in
     let found_is : found ≡ Some (codes "run", rows) = enters.found_is ∙ ap (λ (name : Text). Some (name, rows)) run_is_named in
     let needs = run_requires rows (rows_valid run_shape enters.rest enters.passes) in
     let report = first_there (row_for (codes "output") rows) needs.0 (rows_filled run_shape (codes "output") enters.rest (run_defaults (codes "output") refl) output_keeps enters.passes) in
     let image = first_there (row_for (codes "image") rows) needs.1 (rows_filled run_shape (codes "image") enters.rest (run_defaults (codes "image") refl) image_keeps enters.passes) in
     (rows, found_is, bad_number rows report.0 image.0 report.1 image.1 (no_run (options_of_rows rows) (sym (ap read_of found_is) ∙ none)))
+
+trace_fails : (found : Option (Text × List Row)) → Enters trace_shape found → read_of found ≡ None
+    → (rows : List Row) × (found ≡ Some (codes "trace", rows)) × HasBadSteps rows
+trace_fails found enters none =
+    let rows = rows_after (rules tracing) [] enters.rest in
+    let found_is : found ≡ Some (codes "trace", rows) = enters.found_is ∙ ap (λ (name : Text). Some (name, rows)) trace_is_named in
+    let needs = trace_requires rows (rows_valid trace_shape enters.rest enters.passes) in
+    let path = first_there (row_for (codes "output") rows) needs.0 (rows_filled trace_shape (codes "output") enters.rest (trace_defaults (codes "output")) trace_output_keeps enters.passes) in
+    let image = first_there (row_for (codes "image") rows) needs.1 (rows_filled trace_shape (codes "image") enters.rest (trace_defaults (codes "image")) trace_image_keeps enters.passes) in
+    (rows, found_is, bad_steps rows path.0 image.0 path.1 image.1 (no_trace (trace_of_rows rows) (sym (ap read_of found_is) ∙ none)))
 
 demo_fails : (found : Option (Text × List Row)) → Enters demo_shape found → read_of found ≡ None
     → (rows : List Row) × (found ≡ Some (codes "demo", rows)) × HasBadDemo rows
@@ -270,7 +334,8 @@ fails_by_numbers words taken zeros none = go (taken_enters words taken)
     read_none : read_of found ≡ None
     read_none = sym (asked_is words zeros) ∙ none
 
-    go : Enters run_shape found ⊎ Enters demo_shape found
-        → (rows : List Row) × (((found ≡ Some (codes "run", rows)) × HasBadNumber rows) ⊎ ((found ≡ Some (codes "demo", rows)) × HasBadDemo rows))
-    go (inl enters) = let fails = run_fails found enters read_none in (fails.0, inl (fails.1, fails.2))
-    go (inr enters) = let fails = demo_fails found enters read_none in (fails.0, inr (fails.1, fails.2))
+    go : EntersOne (run_shape ∷ demo_shape ∷ trace_shape ∷ []) found → FailsByNumber found
+    go (inl enters) = inl (run_fails found enters read_none)
+    go (inr (inl enters)) = inr (inr (demo_fails found enters read_none))
+    go (inr (inr (inl enters))) = inr (inl (trace_fails found enters read_none))
+    go (inr (inr (inr none'))) = absurd none'

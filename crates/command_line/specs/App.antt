@@ -34,6 +34,12 @@ run_app = with_rule (with_rule (with_rule (with_rule (with_rule (with_rule (with
     (value_rule (codes "record"))) (value_rule (codes "budget"))) (value_rule (codes "stamps"))) (flag_rule (codes "stats")))
     output_rule) (required_rule (codes "image"))) word_rule
 
+-- `trace` with its options, the image and the further words
+unfoldable pub trace_app : App
+trace_app = with_rule (with_rule (with_rule (with_rule (with_rule (with_rule (with_rule
+    (new_app (codes "trace")) (value_rule (codes "stdin"))) (value_rule (codes "quantum"))) (value_rule (codes "schedule")))
+    (value_rule (codes "budget"))) output_rule) (required_rule (codes "image"))) word_rule
+
 -- `demo` with its number
 unfoldable pub demo_app : App
 demo_app = with_rule (new_app (codes "demo")) (required_rule (codes "number"))
@@ -51,4 +57,4 @@ top_app = let app = new_app (codes "aprof") in record app {
 
 -- the whole command
 unfoldable pub the_app : App
-the_app = with_subcommand (with_subcommand top_app run_app.top) demo_app.top
+the_app = with_subcommand (with_subcommand (with_subcommand top_app run_app.top) demo_app.top) trace_app.top

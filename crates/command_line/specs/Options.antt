@@ -35,6 +35,13 @@ pub record RunOptions : Type 0 where
   -- whether the number of renumberings is to be put
   pub stats : Bool
 
+-- What `trace` is asked.
+pub record TraceOptions : Type 0 where
+  -- how the guest is run
+  pub guest : GuestOptions
+  -- the path of the trace
+  pub trace : List ℕ
+
 -- ---- the further words
 
 -- the word stands for itself: it begins with `=`
@@ -140,6 +147,15 @@ options_of_rows rows = options_with rows (guest_of_rows rows)
     (first_of (codes "output") rows)
     (bits_of (first_of (codes "stamps") rows))
 
+-- the options of `trace` with these of the guest and this path, where both are there
+abbrev pub trace_with : Option GuestOptions → Option (List ℕ) → Option TraceOptions
+trace_with (Some guest) (Some trace) = Some (record { guest = guest; trace = trace })
+trace_with _ _ = None
+
+-- the options of `trace` that `clap`'s matches say
+abbrev pub trace_of_rows : List Row → Option TraceOptions
+trace_of_rows rows = trace_with (guest_of_rows rows) (first_of (codes "output") rows)
+
 -- ---- the demos
 
 -- the number of a demo: 1 to `DEMO_ROUTINES`
@@ -152,15 +168,17 @@ demo_of_rows rows = option_and_then demo_of (first_of (codes "number") rows)
 
 -- ---- the words
 
--- What the words ask for: a run, or the demo of a number.
+-- What the words ask for: a run, the trace of a run, or the demo of a number.
 pub data Asked : Type 0 where
   Run : RunOptions → Asked
+  Trace : TraceOptions → Asked
   Demo : ℕ → Asked
 
 -- what a subcommand asks for, by its name and its matches
 abbrev pub asked_of_rows : List ℕ → List Row → Option Asked
 asked_of_rows name rows =
     if bytes_eq name (codes "run") then option_map Run (options_of_rows rows)
+    else if bytes_eq name (codes "trace") then option_map Trace (trace_of_rows rows)
     else if bytes_eq name (codes "demo") then option_map Demo (demo_of_rows rows)
     else None
 

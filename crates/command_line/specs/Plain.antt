@@ -1,4 +1,4 @@
--- Plain words of `run` and of `demo`, and what is read of them.
+-- Plain words of `run`, `trace` and `demo`, and what is read of them.
 use Rattle.std.specs.Prelude.{◌≡◌, ◌<◌, ◌^◌, ◌==◌, ℕ, Bool, true, false, not, length, if◌then◌else◌, List, [], ◌∷◌, ◌++◌, Option, Some, None, codes}
 use Rattle.std.specs.List.{list_all, list_any}
 use Rattle.std.specs.Option.{option_map_or}
@@ -60,6 +60,17 @@ choice_words (c ∷ cs) = words_of c ++ choice_words cs
 abbrev pub run_words : Text → List Choice → Text → List Text → List Text
 run_words program choices image words = program ∷ codes "run" ∷ (choice_words choices ++ image ∷ words)
 
+-- the same of `trace`
+abbrev pub trace_words : Text → List Choice → Text → List Text → List Text
+trace_words program choices image words = program ∷ codes "trace" ∷ (choice_words choices ++ image ∷ words)
+
+-- the option is one of `trace`
+abbrev pub is_of_trace : Choice → Bool
+is_of_trace (recording v) = false
+is_of_trace (stamps v) = false
+is_of_trace stats = false
+is_of_trace _ = true
+
 -- a word that is not empty and does not begin with a hyphen
 abbrev pub is_plain_word : Text → Bool
 is_plain_word [] = false
@@ -120,6 +131,32 @@ PlainOptionsAreRead = (program : Text) (choices : List Choice) (image : Text) (w
       recording = given (codes "record") choices;
       bits = width;
       stats = is_chosen (codes "stats") choices;
+    }))
+
+-- ---- `trace`
+-- Plain words are taken, where each option is one of `trace` and the path of the trace is among them.
+abbrev pub PlainTraceIsTaken : Type 0
+PlainTraceIsTaken = (program : Text) (choices : List Choice) (image : Text) (words : List Text)
+    → ArePlain choices image words → list_all is_of_trace choices ≡ true → is_chosen (codes "output") choices ≡ true
+    → takes the_app (trace_words program choices image words) ≡ true
+
+-- The options are the values in the words, and the defaults of the numbers that are left out.
+abbrev pub PlainTraceIsRead : Type 0
+PlainTraceIsRead = (program : Text) (choices : List Choice) (image : Text) (words : List Text)
+    → ArePlain choices image words → list_all is_of_trace choices ≡ true → list_any has_zero (trace_words program choices image words) ≡ false
+    → (trace_path : Text) (turn_steps run_steps : ℕ) → given (codes "output") choices ≡ Some trace_path
+    → quantum_of (given (codes "quantum") choices) ≡ Some turn_steps
+    → budget_of (given (codes "budget") choices) ≡ Some run_steps
+    → asked_of (trace_words program choices image words) ≡ Some (Asked.Trace (record {
+      guest = record {
+        stdin = given (codes "stdin") choices;
+        schedule = given (codes "schedule") choices;
+        quantum = turn_steps;
+        budget = run_steps;
+        image = image;
+        words = words;
+      };
+      trace = trace_path;
     }))
 
 -- ---- `demo`

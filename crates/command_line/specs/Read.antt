@@ -1,10 +1,11 @@
 -- What a command that was read asks.
 use Rattle.std.specs.Prelude.{◌≤◌, map, option_map}
 use Rattle.guest_words.specs.declared.limits.TheConstants.{DEMO_ROUTINES, QUANTUM_STEPS, RUN_STEPS}
-use Rattle.command_line.specs.Options.{Asked, GuestOptions, RunOptions}
+use Rattle.command_line.specs.Options.{Asked, GuestOptions, RunOptions, TraceOptions}
 use Rattle.command_line.specs.declared.commands.Command.{Command}
 use Rattle.command_line.specs.declared.guest_options.GuestOptions as declared
 use Rattle.command_line.specs.declared.run_command.RunCommand.{RunCommand}
+use Rattle.command_line.specs.declared.trace_command.TraceCommand.{TraceCommand}
 
 -- what a command says of its guest
 abbrev pub guest_in : declared.GuestOptions → GuestOptions
@@ -27,9 +28,14 @@ options_in command = record {
   stats = command.stats;
 }
 
+-- what a command `trace` says
+abbrev pub trace_in : TraceCommand → TraceOptions
+trace_in command = record { guest = guest_in command.guest; trace = command.trace.now }
+
 -- what a command asks for
 abbrev pub asked_in : Command → Asked
 asked_in (Command.Run run) = Asked.Run (options_in run)
+asked_in (Command.Trace trace) = Asked.Trace (trace_in trace)
 asked_in (Command.Demo number) = Asked.Demo number
 
 -- The numbers of a guest's options are in their ranges.
@@ -42,4 +48,5 @@ pub record AreInRange (guest : GuestOptions) : Type 0 where
 -- The numbers of a command are in their ranges.
 abbrev pub IsInRange : Command → Type 0
 IsInRange (Command.Run run) = AreInRange (guest_in run.guest)
+IsInRange (Command.Trace trace) = AreInRange (guest_in trace.guest)
 IsInRange (Command.Demo number) = (1 ≤ number) × (number ≤ DEMO_ROUTINES)

@@ -9,6 +9,7 @@ ghost use Rattle.command_line.specs.declared.commands.CommandError.TheVariants.{
 use crate::matches::{matches_of_words, subcommand_of, text_of};
 use crate::numbers::number_between;
 use crate::run_command::{RunCommand, run_of_matches};
+use crate::trace_command::{TraceCommand, trace_of_matches};
 use clap::ArgMatches;
 use clap::error::ErrorKind;
 use guest_words::limits::DEMO_ROUTINES;
@@ -45,6 +46,8 @@ impl From<AllocError> for CommandError {
 pub enum Command<'a> {
     /// A guest's run.
     Run(RunCommand<'a>),
+    /// The trace of a guest's run.
+    Trace(TraceCommand<'a>),
     /// The demo of a number.
     Demo(u32),
 }
@@ -84,6 +87,9 @@ fn command_of<'a>(
 {
     if name == "run" {
         return Ok(Command::Run(run_of_matches(alloc, matches)?));
+    }
+    if name == "trace" {
+        return Ok(Command::Trace(trace_of_matches(alloc, matches)?));
     }
     if name == "demo" {
         let number = demo_of_matches(matches).ok_or(CommandError::Refused)?;

@@ -1,5 +1,5 @@
 //! Laws of the words, each the contract of a function with no body.
-ghost use Rattle.command_line.specs.Plain.{PlainDemoIsRead, PlainDemoIsTaken, PlainOptionsAreRead, PlainWordsAreTaken};
+ghost use Rattle.command_line.specs.Plain.{PlainDemoIsRead, PlainDemoIsTaken, PlainOptionsAreRead, PlainTraceIsRead, PlainTraceIsTaken, PlainWordsAreTaken};
 ghost use Rattle.command_line.specs.Taken.{TakenWordsFailByNumbers};
 
 /// Plain words are taken: any program name, each option at most once and `-o` among them, in any order, then the image and
@@ -11,6 +11,17 @@ pub fn plain_words_are_taken()
 /// What is read of plain words: the values in the words, and the defaults for what is left out.
 pub fn plain_options_are_read()
     ensures { PlainOptionsAreRead }
+{}
+
+/// Plain words of `trace` are taken: options that it has, each at most once and `-o` among them, then the image and any
+/// further words.
+pub fn plain_traces_are_taken()
+    ensures { PlainTraceIsTaken }
+{}
+
+/// What is read of them: the values in the words, and the defaults for what is left out.
+pub fn plain_traces_are_read()
+    ensures { PlainTraceIsRead }
 {}
 
 /// `demo` and a plain number are taken, for any program name.

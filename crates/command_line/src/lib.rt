@@ -1,4 +1,4 @@
-//! The words of the command line, `aprof run ...` or `aprof demo N`, read by one fixed `clap` command. What they ask for is
+//! The words of the command line, `aprof run ...`, `aprof trace ...` or `aprof demo N`, read by one fixed `clap` command. What they ask for is
 //! `asked_of` the words, a function of the rows that `clap` states for that command; where `clap`'s stated test does not
 //! take the words, they may be refused instead.
 #![tactic(auto)]
@@ -10,14 +10,17 @@ mod laws;
 mod matches;
 mod numbers;
 mod run_command;
+mod trace_command;
 
 pub use commands::{Command, CommandError, read_command};
 pub use guest_options::GuestOptions;
 pub use laws::{
-    plain_demo_is_read, plain_demo_is_taken, plain_options_are_read, plain_words_are_taken,
+    plain_demo_is_read, plain_demo_is_taken, plain_options_are_read, plain_traces_are_read,
+    plain_traces_are_taken, plain_words_are_taken,
     taken_words_fail_by_numbers,
 };
 pub use run_command::RunCommand;
+pub use trace_command::TraceCommand;
 
 #[cfg(test)]
 mod tests;

@@ -16,6 +16,7 @@ fn words_of(alloc: Global, line: &str) -> Result<Vec<String>, AllocError> {
 fn numbers_of(alloc: Global, words: &[String]) -> Result<Option<(u64, u64)>, AllocError> {
     match read_command(alloc, words) {
         Ok(Command::Run(command)) => Ok(Some((command.guest.quantum, command.guest.budget))),
+        Ok(Command::Trace(command)) => Ok(Some((command.guest.quantum, command.guest.budget))),
         Ok(Command::Demo(number)) => Ok(Some((0, u64::from(number)))),
         Err(CommandError::Refused) => Ok(None),
         Err(CommandError::Memory) => Err(AllocError),
@@ -47,6 +48,8 @@ fn words_of_the_form_are_taken(rt: HostRuntime) -> Result<(), Fail> {
             "aprof run --quantum 00000000000000000007 -o r img",
             (7, 1_000_000_000),
         ),
+        ("aprof trace -o t img", usual),
+        ("aprof trace --budget 1 img in --quantum 7 -o t", (7, 1)),
         ("aprof demo 8", (0, 8)),
         ("aprof demo 08", (0, 8)),
         ("aprof demo 40000", (0, 40_000)),
@@ -81,6 +84,9 @@ fn other_words_are_refused(rt: HostRuntime) -> Result<(), Fail> {
         "aprof run --stamps 64 -o r img",
         "aprof run --stamps 8 --stamps 8 -o r img",
         "aprof run -o r -o r img",
+        "aprof trace img",
+        "aprof trace -o t --stats img",
+        "aprof trace -o t --record r img",
         "aprof run --stdin s --stdin s -o r img",
         "aprof run --quantum 0 -o r img",
         "aprof run --quantum 1000000001 -o r img",

@@ -1,0 +1,103 @@
+-- The trace of a run.
+use Rattle.std.proofs.Common.{◌≡◌, ◌∙◌, ◌<◌, ◌≤◌, ℕ, Bool, true, false, List, [], ◌∷◌, ◌++◌, Option, Some, None, refl, ap, sym, subst, length, length-append, arith}
+use Rattle.std.specs.Prelude.{nat_le, if◌then◌else◌, Err}
+use Rattle.std.proofs.lemmas.Bool.Decides.{nat_tests}
+use Rattle.std.specs.List.{All, flat_map}
+use Rattle.std.specs.Option.{option_map, option_to_list}
+use Rattle.std.proofs.lemmas.List.Elements.{All-cons, All-nil, All-tail}
+use Rattle.std.proofs.lemmas.List.Kept.{AllPairs-cons}
+use Rattle.std.proofs.lemmas.Grind.{flat_map-append}
+use Rattle.command_line.specs.Options.{TraceOptions}
+use Rattle.cost_points.specs.Keys as keys
+use Rattle.cost_points.proofs.Rising.{IsRising-above, IsRising-rising, IsRising-tail}
+use Rattle.elf_image.specs.Image.{Executable, name_of}
+use Rattle.guest_run.specs.Profiled.{Profiled}
+use Rattle.guest_words.specs.declared.endings.Finish.{Finish}
+use Rattle.run_trace.specs.Entries.{entries_begun, entry_begun}
+use Rattle.run_trace.specs.Kept.{IsTooLong}
+use Rattle.trace_file.specs.Records.{record_bytes}
+use Rattle.trace_file.specs.declared.records.Record.{Record}
+use Rattle.trace_file.specs.TraceText.{IsRising, Names, event_records, finish_records, magic, name_records, text_of, trace_text}
+use Rattle.trace_model.specs.declared.event_kinds.Event.{Event}
+use Rattle.guest_run.specs.Run.{bytes_on}
+use Rattle.host_io.specs.Files.{FilesState, StoreEnds}
+use Rattle.host_io.specs.Sink.{SinkState}
+use Rattle.host_io.specs.declared.files.StoreError.{StoreError}
+use Rattle.host_io.specs.declared.files.StoreError.TheVariants as store
+use Rattle.run_trace.specs.declared.run_trace.TheConstants.{TRACE_BYTES}
+use Rattle.aprof_top.specs.declared.ending.Verdict.TheVariants.{Ran, ResultTooLarge}
+use Rattle.aprof_top.specs.Delivery.{StoreFails}
+use Rattle.aprof_top.specs.Ending.{of_store}
+use Rattle.aprof_top.specs.Jobs.{RunIsStored, desk}
+use Rattle.aprof_top.specs.Outcome.{trace_outcome}
+use Rattle.aprof_top.specs.Traces.{is_storable, named_entries, trace_of}
+use Rattle.aprof_top.specs.Verdicts.{IsOfRun}
+
+pub of_run_trace : (options : TraceOptions) (image : Executable) (run : Profiled) → IsOfRun (trace_outcome options image run).verdict
+of_run_trace options image run = by (is_storable (trace_of image run)) refl
+  where
+    by : (b : Bool) → is_storable (trace_of image run) ≡ b → IsOfRun (trace_outcome options image run).verdict
+    by true is = rw is tt
+    by false is = rw is tt
+
+-- a trace that is stored, and one that is too long
+pub storable : (text : List ℕ) → length text ≤ TRACE_BYTES → is_storable text ≡ true
+storable text short = grind (arith, nat_tests, short)
+
+pub not_storable : (text : List ℕ) → TRACE_BYTES < length text → is_storable text ≡ false
+not_storable text long = grind (arith, nat_tests, long)
+
+-- the text of a whole trace is no shorter than that of its events
+events_first : (past : List Event) (rest : List Record) → length (text_of (event_records past)) ≤ length (text_of (event_records past ++ rest))
+events_first past rest =
+    let events = flat_map record_bytes (event_records past) in
+    let more = flat_map record_bytes rest in
+    omega (
+      arith,
+      length-append magic events,
+      length-append magic (flat_map record_bytes (event_records past ++ rest)),
+      ap (λ (bytes : List ℕ). length bytes) (flat_map-append record_bytes (event_records past) rest),
+      length-append events more,
+    )
+
+pub whole_too_long : (past : List Event) (names : Names) (f : Finish) → IsTooLong past → TRACE_BYTES < length (trace_text past names f)
+whole_too_long past names f long = omega (arith, long, events_first past (name_records names ++ finish_records (Some f)))
+
+-- ---- the names rise
+above_one : (n e : ℕ) (o : Option (List ℕ)) (rest : Names) → n < e → All (λ (x : ℕ × List ℕ). n < x.0) rest
+    → All (λ (x : ℕ × List ℕ). n < x.0) (option_to_list (option_map (λ (name : List ℕ). (e, name)) o) ++ rest)
+above_one n e None rest less above = above
+above_one n e (Some name) rest less above = All-cons (λ (x : ℕ × List ℕ). n < x.0) (e, name) rest less above
+
+rise_one : (e : ℕ) (o : Option (List ℕ)) (rest : Names) → All (λ (x : ℕ × List ℕ). e < x.0) rest → IsRising rest
+    → IsRising (option_to_list (option_map (λ (name : List ℕ). (e, name)) o) ++ rest)
+rise_one e None rest above rise = rise
+rise_one e (Some name) rest above rise = AllPairs-cons (λ (x y : ℕ × List ℕ). x.0 < y.0) (e, name) rest above rise
+
+-- the names of higher entries are of higher entries
+named_above : (image : Executable) (n : ℕ) (entries : List ℕ) → All (λ e. n < e) entries → All (λ (x : ℕ × List ℕ). n < x.0) (named_entries image entries)
+named_above image n [] above = All-nil (λ (x : ℕ × List ℕ). n < x.0)
+named_above image n (e ∷ es) above =
+    above_one n e (name_of image e) (named_entries image es) (above 0 0 (omega arith)) (named_above image n es (All-tail (λ e. n < e) e es above))
+
+pub names_rise : (image : Executable) (entries : List ℕ) → keys.IsRising entries → IsRising (named_entries image entries)
+names_rise image [] rising = λ i j d less inside. absurd (omega arith)
+names_rise image (e ∷ es) rising =
+    rise_one e (name_of image e) (named_entries image es) (named_above image e es (IsRising-above e es rising)) (names_rise image es (IsRising-tail e es rising))
+
+pub begun_rise : (image : Executable) (entries : List ℕ) (past : List Event) → entries ≡ entries_begun past → IsRising (named_entries image entries)
+begun_rise image entries past are = names_rise image entries (subst keys.IsRising (sym are) (IsRising-rising (flat_map (λ e. option_to_list (entry_begun e)) past)))
+
+-- ---- the store of a trace failed
+module _ (options : TraceOptions) (image : Executable) (run : Profiled) (bytes : List ℕ) (is : bytes ≡ trace_of image run) (short : length bytes ≤ TRACE_BYTES) where
+  stores_are : (trace_outcome options image run).stores ≡ (options.trace, bytes) ∷ []
+  stores_are =
+      ap (λ (b : Bool). if b then (options.trace, trace_of image run) ∷ [] else []) (storable (trace_of image run) (subst (λ (text : List ℕ). length text ≤ TRACE_BYTES) is short))
+      ∙ ap (λ (text : List ℕ). (options.trace, text) ∷ []) (sym is)
+
+  pub unstored : (e : StoreError) (old new : FilesState) (err : SinkState) → StoreEnds options.trace bytes old new (Err e) → RunIsStored (trace_outcome options image run) (desk old err) (desk new err) (Err (of_store e))
+  unstored store.Failed old new err fails = record {
+    stored = subst (λ stores. StoreFails stores old new) (sym stores_are) (record { count = 0; store = (options.trace, bytes); next = refl; failed = fails });
+    err = refl;
+  }
+  unstored store.Memory old new err same = record { stored = (0, same); err = refl }

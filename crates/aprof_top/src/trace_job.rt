@@ -1,0 +1,111 @@
+//! The command `trace`: a guest's output, and the trace of its run.
+ghost use Rattle.std.specs.Prelude.{◌≡◌, ◌≤◌, ◌<◌, ℕ, List, length, Some, MatchOption, IfOk};
+ghost use Rattle.command_line.specs.Options.Asked.{Trace};
+ghost use Rattle.command_line.specs.Read.{AreInRange, guest_in, trace_in};
+ghost use Rattle.guest_words.specs.declared.endings.Finish.TheVariants as ends;
+ghost use Rattle.guest_run.specs.Profiled.{Profiled};
+ghost use Rattle.host_io.specs.Sink.{SinkState};
+ghost use Rattle.run_trace.specs.declared.run_trace.TheConstants.{TRACE_BYTES};
+ghost use Rattle.trace_file.specs.TraceText.{trace_text};
+ghost use Rattle.trace_model.specs.declared.event_kinds.Event.{Event};
+ghost use Rattle.aprof_top.specs.Ending.{AskedEnds};
+ghost use Rattle.aprof_top.specs.Jobs.{AreTexts, RunIsStored, desk, ending_by};
+ghost use Rattle.aprof_top.specs.Outcome.{trace_outcome};
+ghost use Rattle.aprof_top.specs.Outside.{outside};
+ghost use Rattle.aprof_top.specs.Traces.{named_entries, names_begun};
+
+use crate::ending::{Ending, Verdict};
+use crate::preparation::prepare;
+use crate::traced_run::{TracedRun, trace_image};
+use command_line::TraceCommand;
+use elf_image::Image;
+use guest_words::{Addr, Finish, Name};
+use host_io::{Files, Sink};
+use run_trace::{EventText, TRACE_BYTES};
+use std::alloc::{AllocError, Global};
+use std::collections::BTreeSet;
+
+// The entries that the executable gives a name, with these.
+fn named_entries(
+    alloc: Global,
+    image: &Image,
+    entries: BTreeSet<Addr>,
+) -> Result<Vec<(Addr, Name)>, AllocError>
+    ensures { IfOk result (λ names. names.items ≡ named_entries image.now entries.keys) }
+{
+    let mut entries = entries;
+    let mut names = Vec::new(alloc);
+    while let Some(entry) = entries.pop_first() {
+        if let Some(name) = image.name_of(alloc, entry)? {
+            names.push((entry, name))?;
+        }
+    }
+    Ok(names)
+}
+
+// The text of a trace, with the names of the entries and how the run ended; `None` where it is too long.
+fn whole_text(
+    alloc: Global,
+    image: &Image,
+    text: EventText,
+    finish: &Finish,
+) -> Result<Option<Vec<u8>>, AllocError>
+    requires line { (line : ℕ) → finish.now ≡ ends.Schedule line → 1 ≤ line }
+    requires text { (past : List Event) × AreTexts (Some text) past }
+    ensures { IfOk result (λ found. (past : List Event) → AreTexts (Some text) past
+        → MatchOption found (TRACE_BYTES < length (trace_text past (names_begun image.now past) finish.now))
+        (λ bytes. (bytes.items ≡ trace_text past (names_begun image.now past) finish.now) × (length bytes.items ≤ TRACE_BYTES))) }
+{
+    let EventText { writer, entries } = text;
+    let names = named_entries(alloc, image, entries)?;
+    let bytes = writer.finish(names.as_slice(), finish)?;
+    if bytes.len() as u64 > TRACE_BYTES {
+        return Ok(None);
+    }
+    Ok(Some(bytes))
+}
+
+// Stores the trace of a run, where it is not too long.
+fn deliver_trace<F: Files>(
+    alloc: Global,
+    command: &TraceCommand<'_>,
+    image: &Image,
+    run: TracedRun,
+    files: &mut F,
+) -> Result<Verdict, Ending>
+    requires line { (line : ℕ) → run.finish ≡ ends.Schedule line → 1 ≤ line }
+    requires text { (past : List Event) × AreTexts run.text past }
+    ensures { (seen : Profiled) → run.finish ≡ seen.finish → AreTexts run.text seen.past
+        → (err : SinkState) → RunIsStored (trace_outcome (trace_in command.now) image.now seen)
+        (desk (F.state files.old) err) (desk (F.state files.new) err) result }
+{
+    let TracedRun { text, finish } = run;
+    let Some(text) = text else {
+        return Ok(Verdict::ResultTooLarge);
+    };
+    let Some(bytes) = whole_text(alloc, image, text, &finish)? else {
+        return Ok(Verdict::ResultTooLarge);
+    };
+    files.store(command.trace, bytes.as_slice())?;
+    Ok(Verdict::Ran(finish))
+}
+
+/// Prepares the guest of a command, runs it, and stores the trace of its run.
+pub(crate) fn trace_command<F: Files, O: Sink, E: Sink>(
+    alloc: Global,
+    command: &TraceCommand<'_>,
+    files: &mut F,
+    out: &mut O,
+    err: &mut E,
+) -> Result<Verdict, Ending>
+    requires { AreInRange (guest_in command.now.guest) }
+    ensures { AskedEnds (Trace (trace_in command.now))
+        (outside (F.state files.old) (O.state out.old) (E.state err.old))
+        (outside (F.state files.new) (O.state out.new) (E.state err.new)) (ending_by result) }
+{
+    let guest = &command.guest;
+    let prepared = prepare(alloc, guest, files)?;
+    let image = prepared.image;
+    let run = trace_image(alloc, guest, &image, prepared.files, out, err)?;
+    deliver_trace(alloc, command, &image, run, files)
+}

@@ -1,0 +1,2 @@
+pub mod EntrySets
+pub mod Depth
