@@ -10,11 +10,11 @@ use Rattle.futex_table.specs.Once.{waits, IsOnce}
 use Rattle.futex_table.specs.Waiting.{waits_at, waiters_at, without, woken, moved_to}
 
 -- a disjunction that fails, by its sides
-or-left : (a b : Bool) → (a || b) ≡ false → a ≡ false
+pub or-left : (a b : Bool) → (a || b) ≡ false → a ≡ false
 or-left false b e = refl
 or-left true b e = absurd (cc)
 
-or-right : (a b : Bool) → (a || b) ≡ false → b ≡ false
+pub or-right : (a b : Bool) → (a || b) ≡ false → b ≡ false
 or-right false b e = e
 or-right true b e = absurd (cc)
 
@@ -38,10 +38,10 @@ other-at [] t i d e inside = absurd (omega arith)
 other-at (x ∷ xs) t zero d e inside = or-left (nat_eq x.tid t) (waits xs t) e
 other-at (x ∷ xs) t (suc i) d e inside = other-at xs t i d (or-right (nat_eq x.tid t) (waits xs t) e) (omega arith)
 
-nat_eq-sym : (a b : ℕ) → nat_eq a b ≡ nat_eq b a
+pub nat_eq-sym : (a b : ℕ) → nat_eq a b ≡ nat_eq b a
 nat_eq-sym a b = grind (arith, nat_tests)
 
-nat_eq-refl : (a : ℕ) → nat_eq a a ≡ true
+pub nat_eq-refl : (a : ℕ) → nat_eq a a ≡ true
 nat_eq-refl a = grind (arith, nat_tests)
 
 -- in a list where no thread waits twice, who stands at a place does not wait before it

@@ -1,6 +1,7 @@
 -- The threads that wait at words of the guest's memory, one list in order of waiting: the Linux manual page futex(2),
 -- FUTEX_WAIT_BITSET, FUTEX_WAKE_BITSET and FUTEX_REQUEUE.
-use Rattle.std.specs.Prelude.{ℕ, ◌^◌, ◌-◌, Bool, not, ◌&&◌, ◌==◌, bit_and, List, [], ◌∷◌, ◌++◌, map, take, filter}
+use Rattle.std.specs.Prelude.{ℕ, ◌^◌, ◌-◌, Bool, not, ◌&&◌, ◌==◌, bit_and, List, [], ◌∷◌, ◌++◌, map, take, filter, Option}
+use Rattle.std.specs.List.{find}
 use Rattle.futex_table.specs.declared.waiter.Waiter.{Waiter}
 use Rattle.futex_table.specs.Once.{waits}
 
@@ -15,6 +16,10 @@ waits_at at bits w = (w.at == at) && not (bit_and w.bits bits == 0)
 -- those who wait at the address and whose bits meet these, in order of waiting
 abbrev pub waiters_at : List Waiter → ℕ → ℕ → List Waiter
 waiters_at waiting at bits = filter (waits_at at bits) waiting
+
+-- the first of them
+abbrev pub first_at : List Waiter → ℕ → ℕ → Option Waiter
+first_at waiting at bits = find (waits_at at bits) waiting
 
 -- the list without these threads
 abbrev pub without : List Waiter → List Waiter → List Waiter

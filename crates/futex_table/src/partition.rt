@@ -9,8 +9,8 @@ use guest_words::Addr;
 use guest_words::limits::THREADS;
 use std::mem;
 
-// Whether the thread waits at the address, with a bit in common.
-fn waits_at(w: &Waiter, at: Addr, bits: u32) -> bool
+/// Whether the thread waits at the address, with a bit in common.
+pub(crate) fn waits_at(w: &Waiter, at: Addr, bits: u32) -> bool
     ensures { result ≡ waits_at at bits w.now }
 {
     w.at == at && w.bits & bits != 0

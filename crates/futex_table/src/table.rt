@@ -1,9 +1,10 @@
 //! The table of waiting threads.
 ghost use Rattle.std.specs.Prelude.{◌≡◌, ◌≢◌, ◌<◌, ◌≤◌, [], false, length, IfOk};
+ghost use Rattle.std.specs.Option.{option_map};
 ghost use Rattle.futex_table.specs.Once.{waits, IsOnce};
-ghost use Rattle.futex_table.specs.Waiting.{after_wait, woken, after_wake, shifted, after_requeue, after_forget, all_bits};
+ghost use Rattle.futex_table.specs.Waiting.{after_wait, first_at, woken, after_wake, shifted, after_requeue, after_forget, all_bits};
 
-use crate::partition::{add_moved, take_out};
+use crate::partition::{add_moved, take_out, waits_at};
 use crate::waiter::Waiter;
 use guest_words::limits::THREADS;
 use guest_words::{Addr, Tid};
@@ -67,6 +68,17 @@ impl FutexTable {
         ensures after { self.new ≡ after_wait self.old at tid bits }
     {
         self.waiting.push(Waiter { at, tid, bits }).unwrap();
+    }
+
+    /// The first thread in the list that waits at the address and whose bits meet these; None where there is none.
+    pub fn first(&self, at: Addr, bits: u32) -> Option<Tid>
+        ensures first { result ≡ option_map (λ w. w.tid) (first_at self.now at bits) }
+        ensures once { IsOnce self.now }
+    {
+        self.waiting
+            .iter()
+            .find(|w| waits_at(w, at, bits))
+            .map(|w| w.tid)
     }
 
     /// Takes out the first `most` threads that wait at the address and whose bits meet these, and answers how many.

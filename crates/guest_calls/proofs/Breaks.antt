@@ -14,6 +14,7 @@ use Rattle.guest_calls.specs.declared.operation.Operation.TheVariants.{Wait, Wak
 use Rattle.guest_calls.specs.declared.vectors.IoVec.{IoVec}
 use Rattle.guest_calls.specs.declared.answer.Answer.{Answer}
 use Rattle.guest_calls.specs.declared.answer.Answer.TheVariants.{Back}
+use Rattle.guest_calls.specs.Clock.{clock_gettime}
 use Rattle.guest_calls.specs.Clone.{clone}
 use Rattle.guest_calls.specs.Errors.{eagain, enosys, enotty}
 use Rattle.guest_calls.specs.Files.{advanced, close, llseek, openat, read, write}
@@ -107,6 +108,9 @@ exit_keeps c = record { rights = (told_keeps c).rights; break_is = (told_keeps c
 
 sigprocmask_keeps : (c : Call) → KeepsPages c (rt_sigprocmask c)
 sigprocmask_keeps c = search (unless_keeps, when_keeps, plain_keeps)
+
+gettime_keeps : (c : Call) → KeepsPages c (clock_gettime c)
+gettime_keeps c = search (unless_keeps, plain_keeps)
 
 born_keeps : (c : Call) (a b : Bool) (to at n : ℕ) (answer : Answer) (change : KernelState → KernelState) → (change c.kernel).program_break ≡ c.kernel.program_break → KeepsPages c (returns c n ▷ fills_word_where a to n ▷ fills_word_where b at n ▷ changes change ▷ forgets n ▷ answers answer)
 born_keeps c a b to at n answer change same = record {
@@ -207,5 +211,5 @@ brk_free c = refused_free c (brk_tests c) (λ x. brk_effect c) (λ passed free. 
 pub every_call_keeps : EveryCallKeepsTheBreakFree
 unfolding table
 every_call_keeps = of_every_call KeepsFree
-    ((λ c. constant_keeps c enotty), ((λ c. kept_free c (openat c) (openat_keeps c)), ((λ c. kept_free c (close c) (close_keeps c)), ((λ c. kept_free c (llseek c) (llseek_keeps c)), ((λ c. kept_free c (read c) (read_keeps c)), ((λ c. kept_free c (write c) (write_keeps c)), ((λ c. kept_free c (readv c) (readv_keeps c)), ((λ c. kept_free c (writev c) (writev_keeps c)), ((λ c. kept_free c (exit c) (exit_keeps c)), ((λ c. kept_free c (exit_group c) (record { rights = refl; break_is = refl })), ((λ c. kept_free c (set_tid_address c) (record { rights = refl; break_is = refl })), ((λ c. constant_keeps c 0), ((λ c. kept_free c (sched_yield c) (record { rights = refl; break_is = refl })), ((λ c. constant_keeps c 0), ((λ c. kept_free c (rt_sigprocmask c) (sigprocmask_keeps c)), ((λ c. constant_keeps c 1), ((λ c. kept_free c (gettid c) (record { rights = refl; break_is = refl })), (brk_free, (munmap_free, ((λ c. kept_free c (clone c) (clone_keeps c)), (mmap2_free, (mprotect_free, ((λ c. constant_keeps c 0), ((λ c. kept_free c (futex c) (operation_keeps (operation c) c)), tt))))))))))))))))))))))))
+    ((λ c. constant_keeps c enotty), ((λ c. kept_free c (openat c) (openat_keeps c)), ((λ c. kept_free c (close c) (close_keeps c)), ((λ c. kept_free c (llseek c) (llseek_keeps c)), ((λ c. kept_free c (read c) (read_keeps c)), ((λ c. kept_free c (write c) (write_keeps c)), ((λ c. kept_free c (readv c) (readv_keeps c)), ((λ c. kept_free c (writev c) (writev_keeps c)), ((λ c. kept_free c (exit c) (exit_keeps c)), ((λ c. kept_free c (exit_group c) (record { rights = refl; break_is = refl })), ((λ c. kept_free c (set_tid_address c) (record { rights = refl; break_is = refl })), ((λ c. constant_keeps c 0), ((λ c. kept_free c (sched_yield c) (record { rights = refl; break_is = refl })), ((λ c. constant_keeps c 0), ((λ c. kept_free c (rt_sigprocmask c) (sigprocmask_keeps c)), ((λ c. constant_keeps c 1), ((λ c. kept_free c (gettid c) (record { rights = refl; break_is = refl })), (brk_free, (munmap_free, ((λ c. kept_free c (clone c) (clone_keeps c)), (mmap2_free, (mprotect_free, ((λ c. constant_keeps c 0), ((λ c. kept_free c (clock_gettime c) (gettime_keeps c)), ((λ c. kept_free c (futex c) (operation_keeps (operation c) c)), tt)))))))))))))))))))))))))
     (λ c. constant_keeps c enosys)

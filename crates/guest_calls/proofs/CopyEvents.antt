@@ -15,6 +15,7 @@ use Rattle.guest_calls.specs.declared.answer.Answer.TheVariants.{Back}
 use Rattle.guest_calls.specs.declared.operation.Operation.{Operation}
 use Rattle.guest_calls.specs.declared.operation.Operation.TheVariants.{Wait, Wake, Requeue, CmpRequeue, WaitBitset, WakeBitset}
 use Rattle.guest_calls.specs.declared.vectors.IoVec.{IoVec}
+use Rattle.guest_calls.specs.Clock.{clock_gettime, clock_gettime_tests, time_bytes}
 use Rattle.guest_calls.specs.Clone.{clone, clone_effect, clone_tests, is_denied, sets_child, sets_parent}
 use Rattle.guest_calls.specs.Errors.{eagain, enosys, ebadf, efault}
 use Rattle.guest_calls.specs.Files.{bytes_left, channel, close, ends_path, is_source, llseek, openat, path_end, read, target, write, openat_tests, openat_effect, llseek_tests, write_limit, with_position, advanced}
@@ -235,6 +236,11 @@ futex_copies (Some o) c = tested c (futex_tests o c) (λ x. performed o c) (λ p
     let all : AreFailed (futex_tests o c) = all_failed (futex_tests o c) passed in
     performed_copies o c all.1.1.1.1.1.0)
 
+gettime_copies : (c : Call) → CopiesOnly c (clock_gettime c)
+gettime_copies c = tested c (clock_gettime_tests c) (λ x. returns c 0 ▷ fills (arg c 1) (time_bytes c.kernel.time)) (λ passed.
+    let all : AreFailed (clock_gettime_tests c) = all_failed (clock_gettime_tests c) passed in
+    fill_copies c.tid (arg c 1) 16 (writable_end c.memory (arg c 1) 16 (not-false (writable c (arg c 1) 16) all.1.0)))
+
 brk_copies : (c : Call) → CopiesOnly c (brk c)
 brk_copies c = search quiet_copies
 
@@ -250,5 +256,5 @@ mprotect_copies c = search quiet_copies
 pub every_call_copies : EveryCallCopies
 unfolding table
 every_call_copies = of_every_call CopiesOnly
-    ((λ k. tt), (openat_copies, (close_copies, (llseek_copies, (read-copies, (write_copies, (readv_copies, (writev_copies, (exit_copies, ((λ k. tt), ((λ k. tt), ((λ k. tt), ((λ k. tt), ((λ k. tt), (sigprocmask_copies, ((λ k. tt), ((λ k. tt), (brk_copies, (munmap_copies, (clone_copies, (mmap2_copies, (mprotect_copies, ((λ k. tt), ((λ k. futex_copies (operation k) k), tt))))))))))))))))))))))))
+    ((λ k. tt), (openat_copies, (close_copies, (llseek_copies, (read-copies, (write_copies, (readv_copies, (writev_copies, (exit_copies, ((λ k. tt), ((λ k. tt), ((λ k. tt), ((λ k. tt), ((λ k. tt), (sigprocmask_copies, ((λ k. tt), ((λ k. tt), (brk_copies, (munmap_copies, (clone_copies, (mmap2_copies, (mprotect_copies, ((λ k. tt), (gettime_copies, ((λ k. futex_copies (operation k) k), tt)))))))))))))))))))))))))
     (λ k. tt)

@@ -17,4 +17,6 @@ pub mod Rising
 pub mod Rows
 pub mod Settled
 pub mod Started
+pub mod Times
+pub mod Wakings
 pub mod Weights

@@ -8,6 +8,7 @@ use Rattle.guest_calls.specs.declared.descriptor.Descriptor.{Descriptor}
 use Rattle.guest_calls.specs.declared.descriptor.Descriptor.TheVariants.{Closed, StandardInput, Output, InputFile}
 use Rattle.guest_calls.specs.declared.operation.Operation.{Operation}
 use Rattle.guest_calls.specs.declared.operation.Operation.TheVariants.{Wait, Wake, Requeue, CmpRequeue, WaitBitset, WakeBitset}
+use Rattle.guest_calls.specs.Clock.{clock_gettime}
 use Rattle.guest_calls.specs.Clone.{clone, clone_effect, clone_tests}
 use Rattle.guest_calls.specs.Errors.{eagain, enosys}
 use Rattle.guest_calls.specs.Files.{advanced, close, llseek, openat, read, write}
@@ -99,6 +100,9 @@ write_numbers c = search tested
 writev_numbers : (c : Call) → Numbers c (writev c)
 writev_numbers c = search tested
 
+gettime_numbers : (c : Call) → Numbers c (clock_gettime c)
+gettime_numbers c = search tested
+
 brk_numbers : (c : Call) → Numbers c (brk c)
 brk_numbers c = search tested
 
@@ -114,5 +118,5 @@ mprotect_numbers c = search tested
 pub every_call_numbers : EveryCallGivesNumber
 unfolding table
 every_call_numbers = of_every_call Numbers
-    ((λ k. refl), (openat_numbers, (close_numbers, (llseek_numbers, (read-numbers, (write_numbers, (readv_numbers, (writev_numbers, (exit_numbers, ((λ k. refl), ((λ k. refl), ((λ k. refl), ((λ k. refl), ((λ k. refl), (sigprocmask_numbers, ((λ k. refl), ((λ k. refl), (brk_numbers, (munmap_numbers, (clone_numbers, (mmap2_numbers, (mprotect_numbers, ((λ k. refl), ((λ k. futex_numbers (operation k) k), tt))))))))))))))))))))))))
+    ((λ k. refl), (openat_numbers, (close_numbers, (llseek_numbers, (read-numbers, (write_numbers, (readv_numbers, (writev_numbers, (exit_numbers, ((λ k. refl), ((λ k. refl), ((λ k. refl), ((λ k. refl), ((λ k. refl), (sigprocmask_numbers, ((λ k. refl), ((λ k. refl), (brk_numbers, (munmap_numbers, (clone_numbers, (mmap2_numbers, (mprotect_numbers, ((λ k. refl), (gettime_numbers, ((λ k. futex_numbers (operation k) k), tt)))))))))))))))))))))))))
     (λ k. refl)

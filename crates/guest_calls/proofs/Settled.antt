@@ -14,6 +14,7 @@ use Rattle.guest_calls.specs.declared.answer.Answer.{Answer}
 use Rattle.guest_calls.specs.declared.answer.Answer.TheVariants.{Back}
 use Rattle.guest_calls.specs.declared.operation.Operation.{Operation}
 use Rattle.guest_calls.specs.declared.operation.Operation.TheVariants.{Wait, Wake, Requeue, CmpRequeue, WaitBitset, WakeBitset}
+use Rattle.guest_calls.specs.Clock.{clock_gettime}
 use Rattle.guest_calls.specs.Clone.{clone}
 use Rattle.guest_calls.specs.Errors.{eagain, enosys}
 use Rattle.guest_calls.specs.Files.{close, llseek, openat, read}
@@ -119,6 +120,9 @@ quiet_brk c = search quiet
 quiet_munmap : (c : Call) → IsSilent c (munmap c)
 quiet_munmap c = search quiet
 
+quiet_gettime : (c : Call) → IsSilent c (clock_gettime c)
+quiet_gettime c = search quiet
+
 quiet_clone : (c : Call) → IsSilent c (clone c)
 quiet_clone c = search quiet
 
@@ -134,11 +138,11 @@ quiet_table =
     (29, ioctl) ∷ (56, openat) ∷ (57, close) ∷ (62, llseek) ∷ (63, read) ∷ (65, readv) ∷ (93, exit) ∷ (94, exit_group)
     ∷ (96, set_tid_address) ∷ (99, set_robust_list) ∷ (124, sched_yield) ∷ (134, rt_sigaction) ∷ (135, rt_sigprocmask)
     ∷ (172, getpid) ∷ (178, gettid) ∷ (214, brk) ∷ (215, munmap) ∷ (220, clone) ∷ (222, mmap2) ∷ (226, mprotect)
-    ∷ (233, madvise) ∷ (422, futex) ∷ []
+    ∷ (233, madvise) ∷ (403, clock_gettime) ∷ (422, futex) ∷ []
 
 -- every call but write and writev is silent
 pub silent : (c : Call) → number c ≢ 64 → number c ≢ 66 → (call c).out ≡ None
 unfolding call table
 silent c no_write no_writev =
     rw (skipped 64 (number c) no_write, skipped 66 (number c) no_writev)
-    (of_numbered IsSilent (number c) quiet_table ((λ k. refl), (quiet_openat, (quiet_close, (quiet_llseek, (quiet_read, (quiet_readv, (quiet_exit, ((λ k. refl), ((λ k. refl), ((λ k. refl), ((λ k. refl), ((λ k. refl), (quiet_sigprocmask, ((λ k. refl), ((λ k. refl), (quiet_brk, (quiet_munmap, (quiet_clone, (quiet_mmap2, (quiet_mprotect, ((λ k. refl), ((λ k. quiet_operation (operation k) k), tt)))))))))))))))))))))) (λ k. refl) c)
+    (of_numbered IsSilent (number c) quiet_table ((λ k. refl), (quiet_openat, (quiet_close, (quiet_llseek, (quiet_read, (quiet_readv, (quiet_exit, ((λ k. refl), ((λ k. refl), ((λ k. refl), ((λ k. refl), ((λ k. refl), (quiet_sigprocmask, ((λ k. refl), ((λ k. refl), (quiet_brk, (quiet_munmap, (quiet_clone, (quiet_mmap2, (quiet_mprotect, ((λ k. refl), (quiet_gettime, ((λ k. quiet_operation (operation k) k), tt))))))))))))))))))))))) (λ k. refl) c)

@@ -13,6 +13,7 @@ use Rattle.guest_calls.specs.declared.answer.Answer.TheVariants.{Back}
 use Rattle.guest_calls.specs.declared.operation.Operation.{Operation}
 use Rattle.guest_calls.specs.declared.operation.Operation.TheVariants.{Wait, Wake, Requeue, CmpRequeue, WaitBitset, WakeBitset}
 use Rattle.guest_calls.specs.declared.vectors.IoVec.{IoVec}
+use Rattle.guest_calls.specs.Clock.{clock_gettime}
 use Rattle.guest_calls.specs.Clone.{clone}
 use Rattle.guest_calls.specs.Errors.{eagain, ebadf, efault, enosys}
 use Rattle.guest_calls.specs.Files.{channel, close, ends_path, is_source, llseek, openat, openat_effect, openat_tests, path_end, read, write}
@@ -165,6 +166,9 @@ born_light a b to at n g none =
       light = omega (arith, where_weight a to n g, where_weight b at n first, weights);
     }
 
+gettime_light : (c : Call) → IsLightResult c (clock_gettime c)
+gettime_light c = search (light, one_fill)
+
 clone_light : (c : Call) → IsLightResult c (clone c)
 clone_light c = search (light, born_light)
 
@@ -222,7 +226,7 @@ writev_light c = light c (writev_tests c) (λ x. writev_effect c) (λ passed.
 every_call : (c : Call) → IsLightResult c (call c)
 unfolding table
 every_call = of_every_call IsLightResult
-    ((λ k. none_light), (openat_light, (close_light, (llseek_light, (read_light, (write_light, (readv_light, (writev_light, (exit_light, ((λ k. none_light), ((λ k. none_light), ((λ k. none_light), ((λ k. none_light), ((λ k. none_light), (sigprocmask_light, ((λ k. none_light), ((λ k. none_light), (brk_light, (munmap_light, (clone_light, (mmap2_light, (mprotect_light, ((λ k. none_light), ((λ k. operation_light (operation k) k), tt))))))))))))))))))))))))
+    ((λ k. none_light), (openat_light, (close_light, (llseek_light, (read_light, (write_light, (readv_light, (writev_light, (exit_light, ((λ k. none_light), ((λ k. none_light), ((λ k. none_light), ((λ k. none_light), ((λ k. none_light), (sigprocmask_light, ((λ k. none_light), ((λ k. none_light), (brk_light, (munmap_light, (clone_light, (mmap2_light, (mprotect_light, ((λ k. none_light), (gettime_light, ((λ k. operation_light (operation k) k), tt)))))))))))))))))))))))))
     (λ k. none_light)
 
 pub every_call_light : EveryCallIsLight

@@ -1,12 +1,14 @@
 -- Waiting at a word and waking: futex(2), with 64-bit times.
-use Rattle.std.specs.Prelude.{ℕ, ◌+◌, ◌-◌, ◌%◌, ◌^◌, Bool, true, false, not, ◌&&◌, ◌==◌, bit_and, List, [], ◌∷◌, length, Option}
+use Rattle.std.specs.Prelude.{ℕ, ◌+◌, ◌-◌, ◌%◌, ◌^◌, Bool, true, false, not, ◌&&◌, ◌==◌, bit_and, List, [], ◌∷◌, length, Option, Some, None}
 use Rattle.std.specs.Option.{option_map, option_map_or}
 use Rattle.std.specs.List.{find}
-use Rattle.futex_table.specs.Waiting.{all_bits, after_wait, woken, after_wake, shifted, after_requeue}
+use Rattle.futex_table.specs.declared.waiter.Waiter.{Waiter}
+use Rattle.futex_table.specs.Waiting.{all_bits, after_forget, after_wait, woken, after_wake, shifted, after_requeue}
 use Rattle.guest_calls.specs.declared.answer.Answer.TheVariants.{Back, Block}
 use Rattle.guest_calls.specs.declared.operation.Operation.{Operation}
 use Rattle.guest_calls.specs.declared.operation.Operation.TheVariants.{Wait, Wake, Requeue, CmpRequeue, WaitBitset, WakeBitset}
 use Rattle.guest_calls.specs.Errors.{eagain, efault, einval, enosys}
+use Rattle.guest_calls.specs.Kernel.{KernelState}
 use Rattle.guest_calls.specs.Results.{Call, CallResult, arg, returns, unless, ◌⇒◌, ◌or◌, ◌▷◌, either, answers, changes, reads, readable, word, has}
 
 abbrev pub operations : List (ℕ × Operation)
@@ -70,6 +72,11 @@ compares c value effect r =
 abbrev pub waits_for : Call → ℕ → CallResult → CallResult
 waits_for c bits r =
     r ▷ changes (λ k. record k { waiting = after_wait k.waiting (futex_at c) c.tid bits }) ▷ answers Block
+
+-- this one waits no more
+abbrev pub woken_one : Option Waiter → KernelState → KernelState
+woken_one None k = k
+woken_one (Some w) k = record k { waiting = after_forget k.waiting w.tid }
 
 -- the first `most` that wait at the address and meet the bits are woken
 abbrev pub wakes : ℕ → ℕ → ℕ → CallResult → CallResult

@@ -1,5 +1,5 @@
 -- What the kernel keeps of a guest.
-use Rattle.std.specs.Prelude.{ℕ, Bool, not, ◌&&◌, ◌==◌, List, [], ◌∷◌, ◌++◌, map, filter, replicate, slice_set, slice_index_or, Option, Some, None}
+use Rattle.std.specs.Prelude.{ℕ, ◌+◌, ◌-◌, ◌^◌, min, Bool, not, ◌&&◌, ◌==◌, List, [], ◌∷◌, ◌++◌, map, filter, replicate, slice_set, slice_index_or, Option, Some, None}
 use Rattle.std.specs.List.{list_any}
 use Rattle.futex_table.specs.declared.waiter.Waiter.{Waiter}
 use Rattle.futex_table.specs.Once.{waits}
@@ -23,6 +23,8 @@ pub record KernelState : Type 0 where
   pub program_break : ℕ
   -- the last thread number given
   pub last_tid : ℕ
+  -- the time since the start, in nanoseconds
+  pub time : ℕ
 
 -- the kernel at a guest's start: thread 1 lives, and the descriptors 0, 1 and 2 are open
 abbrev pub started : List Input → List ℕ → ℕ → KernelState
@@ -36,6 +38,7 @@ started inputs stdin first_break = record {
   first_break = first_break;
   program_break = first_break;
   last_tid = 1;
+  time = 0;
 }
 
 -- what a number stands for; a number above 31 is closed
@@ -44,6 +47,19 @@ descriptor k fd = slice_index_or k.descriptors fd Closed
 
 abbrev pub with_descriptor : KernelState → ℕ → Descriptor → KernelState
 with_descriptor k fd d = record k { descriptors = slice_set k.descriptors fd d }
+
+-- ---- time
+-- how long a step takes
+abbrev pub step_time : ℕ
+step_time = 1000
+
+-- where the clock stands still
+abbrev pub last_time : ℕ
+last_time = 2 ^ 64 - 1
+
+-- the time is that of one step later
+abbrev pub later : KernelState → KernelState
+later k = record k { time = min (k.time + step_time) last_time }
 
 -- ---- threads
 abbrev pub is_thread : ℕ → Thread → Bool

@@ -1,4 +1,5 @@
 -- What a reader has to believe.
+pub mod Clock
 pub mod Clone
 pub mod Errors
 pub mod Files

@@ -17,6 +17,7 @@ state_in s = record {
   first_break = s.first_break;
   program_break = s.program_break;
   last_tid = s.last_tid;
+  time = s.time;
 }
 
 -- there is room for `THREADS` threads

@@ -6,6 +6,7 @@ use Rattle.guest_calls.specs.Files.{openat, close, llseek, read, write}
 use Rattle.guest_calls.specs.Vectors.{readv, writev}
 use Rattle.guest_calls.specs.Pages.{brk, munmap, mmap2, mprotect}
 use Rattle.guest_calls.specs.Threads.{exit, exit_group, set_tid_address, sched_yield, rt_sigprocmask}
+use Rattle.guest_calls.specs.Clock.{clock_gettime}
 use Rattle.guest_calls.specs.Clone.{clone}
 use Rattle.guest_calls.specs.Futex.{futex}
 
@@ -59,6 +60,7 @@ table =
     ∷ (222, mmap2)
     ∷ (226, mprotect)
     ∷ (233, madvise)
+    ∷ (403, clock_gettime)
     ∷ (422, futex)
     ∷ []
 

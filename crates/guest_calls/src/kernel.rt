@@ -3,7 +3,7 @@ ghost use Rattle.std.specs.Prelude.{◌≡◌, ◌≤◌, ◌+◌, true, None, I
 ghost use Rattle.std.specs.Option.{option_map};
 ghost use Rattle.guest_memory.specs.Guest.{memory_of};
 ghost use Rattle.guest_calls.specs.Invariant.{IsState};
-ghost use Rattle.guest_calls.specs.Kernel.{started, can_run, ready};
+ghost use Rattle.guest_calls.specs.Kernel.{started, can_run, later, ready};
 ghost use Rattle.guest_calls.specs.Pages.{IsBreakFree};
 ghost use Rattle.guest_calls.specs.Outcome.{asked, Gives, IsAsBefore};
 ghost use Rattle.guest_calls.specs.Table.{call};
@@ -85,9 +85,9 @@ impl Kernel {
         }
     }
 
-    /// Carries out the call that the thread's registers hold: the number in a7, the arguments in a0 to a5. The copies from
-    /// and to the guest are added to the events, in order, at most `CALL_EVENTS` of them; that a thread is born or ends is
-    /// not. All memory is taken before anything changes.
+    /// Carries out the call that the thread's registers hold: the number in a7, the arguments in a0 to a5. It is a step, so
+    /// that the time goes on first. The copies from and to the guest are added to the events, in order, at most `CALL_EVENTS`
+    /// of them; that a thread is born or ends is not. All memory is taken before anything changes.
     pub fn call(
         &mut self,
         memory: &mut GuestMemory,
@@ -98,15 +98,28 @@ impl Kernel {
     ) -> Result<Answer, AllocError>
         requires can_run { can_run self.old.state tid ≡ true }
         requires break_free { IsBreakFree (memory_of memory.old) self.old.state.program_break }
-        ensures call { IfOk result (λ answer. Gives (call (asked (record { tid = tid; cpu = cpu.now }) self.old.state memory.old held.old)) answer self.new memory.new held.new events.old events.new) }
+        ensures call { IfOk result (λ answer. Gives (call (asked (record { tid = tid; cpu = cpu.now }) (later self.old.state) memory.old held.old)) answer self.new memory.new held.new events.old events.new) }
         ensures refused { OnErr result (IsAsBefore self.old self.new memory.old memory.new held.old held.new events.old events.new) }
         ensures break_free { IsBreakFree (memory_of memory.new) self.new.state.program_break }
         ensures state { IsState self.new.state }
         ensures room { events.old.room ≤ events.new.room + CALL_EVENTS }
     {
+        let before = self.state.time;
+        self.state.tick();
         let answer = self.carry_out(memory, held, tid, cpu, events);
+        if answer.is_err() {
+            self.state.set_time(before);
+        }
         self.state.holds();
         answer
+    }
+
+    /// The time goes on by a step.
+    #[inline(always)]
+    pub fn advance(&mut self)
+        ensures { self.new ≡ record self.old { state = later self.old.state } }
+    {
+        self.state.tick();
     }
 
     /// Whether the thread lives and does not wait.

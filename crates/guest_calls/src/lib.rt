@@ -6,6 +6,7 @@
 
 mod answer;
 mod caller;
+mod clock;
 mod clone;
 mod copies;
 mod descriptor;

@@ -1,7 +1,7 @@
 //! What the kernel keeps of a guest.
 ghost use Rattle.std.specs.Prelude.{◌≡◌, IfOk};
 ghost use Rattle.guest_calls.specs.Invariant.{IsState};
-ghost use Rattle.guest_calls.specs.Kernel.{can_run, lives, ready, started};
+ghost use Rattle.guest_calls.specs.Kernel.{can_run, later, lives, ready, started};
 
 use crate::Inputs;
 use crate::descriptor::Descriptor;
@@ -14,6 +14,9 @@ use std::marker::Model;
 
 /// The numbers of descriptors are 0 to 31.
 const DESCRIPTORS: usize = 32;
+
+/// How long a step takes, in nanoseconds.
+const STEP_TIME: u64 = 1000;
 
 /// What the kernel keeps of a guest.
 #[derive(Drop)]
@@ -28,6 +31,8 @@ pub(crate) struct State {
     pub(crate) first_break: Addr,
     pub(crate) program_break: Addr,
     pub(crate) last_tid: Tid,
+    /// The time since the start, in nanoseconds.
+    pub(crate) time: u64,
 }
 
 impl Model for State {
@@ -71,6 +76,7 @@ impl State {
             first_break,
             program_break: first_break,
             last_tid: Tid::FIRST,
+            time: 0,
         })
     }
 
@@ -79,6 +85,21 @@ impl State {
         ensures { IsState self.now }
     {
         let _ = &self.threads;
+    }
+
+    /// The time goes on by a step.
+    #[inline(always)]
+    pub fn tick(&mut self)
+        ensures { self.new ≡ later self.old }
+    {
+        self.time = self.time.saturating_add(STEP_TIME);
+    }
+
+    /// The time is this one.
+    pub fn set_time(&mut self, time: u64)
+        ensures { self.new ≡ record self.old { time = time } }
+    {
+        self.time = time;
     }
 
     /// The live threads, rising, each with whether it can run.

@@ -70,6 +70,7 @@ impl State {
             220 => Ok(self.clone_thread(memory, held, events, caller)),
             222 => mmap2(memory, caller),
             226 => Ok(mprotect(memory, caller)),
+            403 => Ok(self.clock_gettime(memory, held, events, caller)),
             422 => Ok(self.futex(memory, events, caller)),
             number => Ok(Answer::Back {
                 value: constant_answer(number),

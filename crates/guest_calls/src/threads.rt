@@ -1,7 +1,9 @@
 //! The calls on threads and the process: exit(2), exit_group(2), set_tid_address(2) and rt_sigprocmask(2).
-ghost use Rattle.std.specs.Prelude.{◌≡◌, ◌≤◌, ℕ, ◌+◌, length, true, not, map, filter};
+ghost use Rattle.std.specs.Prelude.{◌≡◌, ◌≤◌, ℕ, ◌+◌, length, true, not, map, filter, is_some};
 ghost use Rattle.std.specs.Vec.{vec_capacity};
-ghost use Rattle.futex_table.specs.Waiting.{woken, after_wake};
+ghost use Rattle.futex_table.specs.Once.{IsOnce};
+ghost use Rattle.futex_table.specs.Waiting.{first_at, woken, after_wake};
+ghost use Rattle.guest_calls.specs.Futex.{woken_one};
 ghost use Rattle.guest_memory.specs.declared.memory.GuestMemory.{GuestMemory};
 ghost use Rattle.trace_model.specs.EventList.{EventList};
 ghost use Rattle.guest_calls.specs.declared.answer.Answer.TheVariants.{Back};
@@ -104,13 +106,31 @@ impl State {
         self.wake(at, 1, u32::MAX);
     }
 
+    /// Wakes the first that waits at the address and whose bits meet these, if there is one.
+    fn wake_first(&mut self, at: Addr, bits: u32) -> bool
+        ensures found { result ≡ is_some (first_at self.old.waiting at bits) }
+        ensures after { self.new ≡ woken_one (first_at self.old.waiting at bits) self.old }
+        ensures once { IsOnce self.old.waiting }
+    {
+        let Some(tid) = self.waiting.first(at, bits) else {
+            return false;
+        };
+        self.waiting.forget(tid);
+        true
+    }
+
     /// Wakes the first that wait at the address and whose bits meet these, and answers how many.
     pub(crate) fn wake(&mut self, at: Addr, most: u32, bits: u32) -> u32
         ensures count { result ≡ length (woken self.old.waiting at most bits) }
         ensures after { self.new ≡ record self.old { waiting = after_wake self.old.waiting at most bits } }
         ensures can_run { (tid : ℕ) → can_run self.old tid ≡ true → can_run self.new tid ≡ true }
     {
-        self.waiting.wake(at, most, bits)
+        for count in 0..most {
+            if !self.wake_first(at, bits) {
+                return count;
+            }
+        }
+        most
     }
 
     /// exit_group(2)

@@ -24,7 +24,8 @@ use Rattle.guest_calls.proofs.Numbers.{every_call_numbers}
 use Rattle.guest_calls.specs.Table.{call}
 use Rattle.guest_machine.specs.declared.stepped.Stepped.{Stepped}
 use Rattle.guest_machine.specs.Kept.{Parts, Steps, machine_of}
-use Rattle.guest_machine.specs.Machine.{Hart, MachineState, registers_of, with_registers, without_hart}
+use Rattle.guest_calls.proofs.Times.{later_is_state}
+use Rattle.guest_machine.specs.Machine.{Hart, MachineState, later, registers_of, with_registers, without_hart}
 use Rattle.guest_machine.specs.Sound.{AreAligned, IsSound}
 use Rattle.guest_machine.specs.Step.{after_call, call_of, harts_after, life_events, resumed, stepped_by}
 use Rattle.guest_machine.proofs.Calls.{BeginsAligned, call_lawful, tids_after}
@@ -58,6 +59,16 @@ after_aligned ThreadEnd harts tid all begins = aligned-without harts tid all
 after_aligned (ProcessEnd status) harts tid all begins = tt
 after_aligned (Born child registers) harts tid all begins =
     aligned-append _ _ (aligned-with_registers harts tid _ all (next_aligned _ (pc_aligned harts tid all))) begins
+
+-- a machine is sound one step later
+pub sound-later : (m : MachineState) → IsSound m → IsSound (later m)
+sound-later m sound = record {
+  same_threads = sound.same_threads;
+  aligned = sound.aligned;
+  state = later_is_state m.kernel sound.state;
+  holders = sound.holders;
+  break_free = sound.break_free;
+}
 
 -- a machine is sound after a call
 pub sound-called : (m : MachineState) (tid : ℕ) → IsSound m → IsState (call (call_of m tid)).kernel → IsBreakFree (call (call_of m tid)).guest.memory (call (call_of m tid)).kernel.program_break → IsSound (after_call m tid (call (call_of m tid))).machine
@@ -103,7 +114,7 @@ four : {hs gs : List Hart} {k l : KernelState} {m n : Memory} {h g : Reserved} �
 four harts kernel memory held = λ i. record { harts = harts i; kernel = kernel i; memory = memory i; held = held i }
 
 -- what the code of a call gives is what a call does
-pub Steps-called : (p p2 : Parts) (tid : ℕ) (r : CallResult) (answer : Answer) (outcome : Stepped) (old pushed called new : List Event) → answer ≡ r.answer → p2.kernel.state ≡ r.kernel → p2.kernel.out ≡ r.out → memory_of p2.memory ≡ r.guest.memory → reserved_by p2.held ≡ r.guest.held → p2.harts ≡ harts_after answer p.harts tid (registers_of p.harts tid) → p2.called ≡ true → outcome ≡ stepped_by answer → pushed ≡ old ++ Step tid ∷ [] → called ≡ pushed ++ r.guest.events → new ≡ called ++ life_events answer p.harts tid → Steps (after_call (machine_of p) tid r) outcome p2 old new
+pub Steps-called : (p p2 : Parts) (tid : ℕ) (r : CallResult) (answer : Answer) (outcome : Stepped) (old pushed called new : List Event) → answer ≡ r.answer → p2.kernel.state ≡ r.kernel → p2.kernel.out ≡ r.out → memory_of p2.memory ≡ r.guest.memory → reserved_by p2.held ≡ r.guest.held → p2.harts ≡ harts_after answer p.harts tid (registers_of p.harts tid) → p2.called ≡ true → outcome ≡ stepped_by answer → pushed ≡ old ++ Step tid ∷ [] → called ≡ pushed ++ r.guest.events → new ≡ called ++ life_events answer p.harts tid → Steps (after_call (later (machine_of p)) tid r) outcome p2 old new
 unfolding machine_of
 Steps-called p p2 tid r answer outcome old pushed called new answered state out memory held harts loud stepped one two three = record {
   went = stepped ∙ ap stepped_by answered;

@@ -25,6 +25,7 @@ use Rattle.guest_calls.specs.Files.{advanced, close, llseek, openat, read, write
 use Rattle.guest_calls.specs.Vectors.{fills_parts, reads_parts, readv, writev}
 use Rattle.guest_calls.specs.Pages.{brk, mmap2, mprotect, munmap, remaps}
 use Rattle.guest_calls.specs.Threads.{clear_tid, exit, exit_group, is_cleared, leaves, told_end, rt_sigprocmask, sched_yield, set_tid_address, status, with_clear_tid}
+use Rattle.guest_calls.specs.Clock.{clock_gettime}
 use Rattle.guest_calls.specs.Clone.{child_registers, clone, with_thread}
 use Rattle.guest_calls.specs.Futex.{compares, futex, futex_at, futex_by, futex_tests, operation, performed, requeues, waits_for, wakes}
 use Rattle.guest_calls.specs.Table.{call, call_numbered, table}
@@ -179,6 +180,9 @@ lawful_readv c = search (quiet_unless, quiet_advances, quiet_fills_parts, quiet_
 
 lawful_writev : (c : Call) → IsLawful c (writev c)
 lawful_writev c = search (quiet_unless, quiet_puts, quiet_reads_parts, quiet_reads, quiet_returns) depth 9
+
+lawful_clock_gettime : (c : Call) → IsLawful c (clock_gettime c)
+lawful_clock_gettime c = search (quiet_unless, quiet_fills, quiet_returns) depth 9
 
 -- ---- pages
 quiet_moves_break : (c : Call) (r : CallResult) (at : ℕ) → IsQuiet c r → IsQuiet c (changes (λ k. record k { program_break = at }) r)
@@ -383,7 +387,7 @@ call_lawful c =
                                         lawful_brk c,
                                         (
                                           lawful_munmap c,
-                                          (lawful_clone c, (lawful_mmap2 c, (lawful_mprotect c, (lawful_returns c 0, (lawful_futex c, tt))))),
+                                          (lawful_clone c, (lawful_mmap2 c, (lawful_mprotect c, (lawful_returns c 0, (lawful_clock_gettime c, (lawful_futex c, tt)))))),
                                         ),
                                       ),
                                     ),

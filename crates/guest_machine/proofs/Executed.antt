@@ -14,7 +14,8 @@ use Rattle.rv_exec.specs.declared.outcome.Outcome.TheVariants.{Went, KernelCall,
 use Rattle.rv_exec.specs.Laws.{KeepsUnlessWent}
 use Rattle.rv_exec.proofs.CallerLemmas.{effect_aligned, effect_calls, effect_kept, effect_others, effect_rights}
 use Rattle.guest_calls.specs.Kernel.{lives}
-use Rattle.guest_machine.specs.Machine.{Hart, MachineState, can_run, with_registers}
+use Rattle.guest_calls.proofs.Times.{later_is_state}
+use Rattle.guest_machine.specs.Machine.{Hart, MachineState, can_run, later, with_registers}
 use Rattle.guest_machine.specs.Sound.{IsSound, HoldersLive}
 use Rattle.guest_machine.specs.Kept.{Parts, Steps, machine_of}
 use Rattle.guest_machine.specs.declared.stepped.Stepped.TheVariants as stepped
@@ -24,7 +25,7 @@ use Rattle.guest_words.specs.ByThread.{value_of}
 use Rattle.guest_machine.proofs.Holders.{can_run-lives}
 
 -- the step, by what became of the instruction
-pub executed-went : (m : MachineState) (tid : ℕ) (i : Instr) (accessed : Access) (c : ExecState) → (Went accessed, c) ≡ effect tid i (exec_state_of m tid) → executed m tid (Ok i) ≡ went m tid i accessed c
+pub executed-went : (m : MachineState) (tid : ℕ) (i : Instr) (accessed : Access) (c : ExecState) → (Went accessed, c) ≡ effect tid i (exec_state_of m tid) → executed m tid (Ok i) ≡ went (later m) tid i accessed c
 executed-went m tid i accessed c e = ap (after_effect m tid i) (sym e)
 
 pub executed-fault : (m : MachineState) (tid : ℕ) (i : Instr) (kind : FaultKind) (c : ExecState) → (Fault kind, c) ≡ effect tid i (exec_state_of m tid) → executed m tid (Ok i) ≡ faulted m tid kind
@@ -48,17 +49,17 @@ holders_by m tid i answer c e holders live q some = elim (cases_eq q tid) [
 ]
 
 -- the machine is sound afterwards
-pub sound-state : (m : MachineState) (tid : ℕ) (i : Instr) (answer : Outcome) (c : ExecState) → (answer, c) ≡ effect tid i (exec_state_of m tid) → IsSound m → can_run m tid ≡ true → IsSound (with_exec_state m tid c)
+pub sound-state : (m : MachineState) (tid : ℕ) (i : Instr) (answer : Outcome) (c : ExecState) → (answer, c) ≡ effect tid i (exec_state_of m tid) → IsSound m → can_run m tid ≡ true → IsSound (with_exec_state (later m) tid c)
 sound-state m tid i answer c e sound can = record {
   same_threads = tids-with_registers m.harts tid c.registers ∙ sound.same_threads;
   aligned = aligned-with_registers m.harts tid c.registers sound.aligned (subst (λ (after : ExecState). after.registers.pc % 4 ≡ 0) (ap (λ p. p.1) (sym e)) (effect_aligned tid i (exec_state_of m tid) (pc_aligned m.harts tid sound.aligned)));
-  state = sound.state;
+  state = later_is_state m.kernel sound.state;
   holders = holders_by m tid i answer c e sound.holders (can_run-lives m tid can);
   break_free = λ q low high. ap (λ (rights : _). rights q) (ap (λ p. p.1.memory.rights) e ∙ effect_rights tid i (exec_state_of m tid)) ∙ sound.break_free q low high;
 }
 
 -- the code of a step gives what the step is
-pub Steps-went : (p p2 : Parts) (tid : ℕ) (i : Instr) (accessed : Access) (c : ExecState) (old new : List Event) → (Went accessed, c) ≡ effect tid i (exec_state_of (machine_of p) tid) → machine_of p2 ≡ with_exec_state (machine_of p) tid c → p2.called ≡ false → new ≡ old ++ (went (machine_of p) tid i accessed c).events → Steps (executed (machine_of p) tid (Ok i)) stepped.Went p2 old new
+pub Steps-went : (p p2 : Parts) (tid : ℕ) (i : Instr) (accessed : Access) (c : ExecState) (old new : List Event) → (Went accessed, c) ≡ effect tid i (exec_state_of (machine_of p) tid) → machine_of p2 ≡ with_exec_state (later (machine_of p)) tid c → p2.called ≡ false → new ≡ old ++ (went (later (machine_of p)) tid i accessed c).events → Steps (executed (machine_of p) tid (Ok i)) stepped.Went p2 old new
 Steps-went p p2 tid i accessed c old new e machine quiet events =
     subst (λ (r : StepResult). Steps r stepped.Went p2 old new) (sym (executed-went (machine_of p) tid i accessed c e)) (record { went = refl; machine = machine; out = ap (λ called. cond called p2.kernel.out None) quiet; events = events })
 

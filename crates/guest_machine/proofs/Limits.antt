@@ -18,7 +18,7 @@ use Rattle.guest_calls.specs.Table.{call}
 use Rattle.guest_calls.proofs.Births.{number_left, room_left}
 use Rattle.guest_calls.proofs.Numbers.{every_call_numbers}
 use Rattle.guest_machine.specs.Laws.{EveryStepStaysWithinLimits, IsWithinLimits}
-use Rattle.guest_machine.specs.Machine.{Hart, MachineState, registers_of, with_registers}
+use Rattle.guest_machine.specs.Machine.{Hart, MachineState, later, registers_of, with_registers}
 use Rattle.guest_machine.specs.Step.{after_effect, call_of, exec_state_of, executed, harts_after, next_instruction, resumed, step}
 use Rattle.guest_machine.proofs.Holders.{fewer_or_same}
 use Rattle.guest_machine.proofs.Weights.{harts_kept}
@@ -53,11 +53,11 @@ effect_within m tid i (outcome.Went accessed, c) same within = record {
 }
 effect_within m tid i (outcome.Fault kind, c) same within = within
 effect_within m tid i (outcome.KernelCall, c) same within =
-    let r = call (call_of m tid) in
-    let given = every_call_numbers (call_of m tid) in
+    let r = call (call_of (later m) tid) in
+    let given = every_call_numbers (call_of (later m) tid) in
     record {
-      few = few_after r.answer m.harts tid (registers_of m.harts tid) m.kernel r.kernel given same within.few;
-      last = last_after r.answer m.kernel r.kernel given within.last;
+      few = few_after r.answer m.harts tid (registers_of m.harts tid) (later m).kernel r.kernel given same within.few;
+      last = last_after r.answer (later m).kernel r.kernel given within.last;
     }
 
 executed_within : (m : MachineState) (tid : ℕ) (found : Result Instr FaultKind) →

@@ -30,7 +30,7 @@ use Rattle.guest_calls.proofs.Weights.{every_call_has_few, every_call_light}
 use Rattle.guest_machine.specs.declared.stepped.Stepped.{Stepped}
 use Rattle.guest_machine.specs.declared.stepped.Stepped.TheVariants.{Went, Yielded, Blocked, Ended, Finished, Faulted}
 use Rattle.guest_machine.specs.Laws.{EveryStepIsOnePart, IsOnePart}
-use Rattle.guest_machine.specs.Machine.{Hart, MachineState}
+use Rattle.guest_machine.specs.Machine.{Hart, MachineState, later}
 use Rattle.guest_machine.specs.Step.{access_events, after_effect, call_of, exec_state_of, executed, jump_events, life_events, next_instruction, pc_of, step, stepped_by}
 
 pub steps-append : (xs ys : List Event) → steps (xs ++ ys) ≡ steps xs + steps ys
@@ -74,9 +74,9 @@ fewer_words : (events : List Event) (n : ℕ) → length events + sum_by count_r
 fewer_words [] n light = omega arith
 fewer_words (e ∷ events) n light = omega (arith, light)
 
-call_few : (m : MachineState) (tid : ℕ) → AreFew (call (call_of m tid)).guest.events CALL_EVENTS 65535
+call_few : (m : MachineState) (tid : ℕ) → AreFew (call (call_of (later m) tid)).guest.events CALL_EVENTS 65535
 call_few m tid =
-    let c = call_of m tid in
+    let c = call_of (later m) tid in
     let events = (call c).guest.events in
     record {
       stepless = copies_stepless tid events (every_call_copies c);
@@ -154,7 +154,7 @@ effect_part m tid i (outcome.Went accessed, c) inside =
     (refl, few_weaker _ 4 (length m.harts + (CALL_EVENTS + 1)) 2 65535 rest (omega arith) (omega arith), refl)
 effect_part m tid i (outcome.Fault kind, c) inside = refl
 effect_part m tid i (outcome.KernelCall, c) inside =
-    let r = call (call_of m tid) in
+    let r = call (call_of (later m) tid) in
     let rest = few-append r.guest.events (life_events r.answer m.harts tid) CALL_EVENTS (length m.harts + 1) 65535 0 (call_few m tid) (life_few r.answer m.harts tid) in
     (refl, few_weaker _ (CALL_EVENTS + (length m.harts + 1)) (length m.harts + (CALL_EVENTS + 1)) 65535 65535 rest (omega arith) (omega arith), call_goes r.answer)
 

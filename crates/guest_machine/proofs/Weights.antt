@@ -23,7 +23,7 @@ use Rattle.guest_calls.specs.Table.{call}
 use Rattle.guest_calls.proofs.Weights.{every_call_light}
 use Rattle.trace_model.proofs.Bounds.{weight-append}
 use Rattle.guest_machine.specs.Laws.{EveryStepIsLight}
-use Rattle.guest_machine.specs.Machine.{Hart, MachineState, registers_of, with_registers}
+use Rattle.guest_machine.specs.Machine.{Hart, MachineState, later, registers_of, with_registers}
 use Rattle.guest_machine.specs.Step.{access_events, after_effect, call_of, exec_state_of, executed, harts_after, jump_events, life_events, next_instruction, pc_of, resumed, step}
 use Rattle.guest_machine.proofs.Holders.{fewer_or_same}
 use Rattle.guest_machine.proofs.Registers.{tids-with_registers}
@@ -67,9 +67,9 @@ effect_weight m tid i (outcome.Went accessed, c) few =
     omega (arith, both, access_weight tid accessed few, jump_weight (kind_of i) tid c.registers.pc back, harts_kept m.harts tid c.registers)
 effect_weight m tid i (outcome.Fault kind, c) few = omega arith
 effect_weight m tid i (outcome.KernelCall, c) few =
-    let r = call (call_of m tid) in
+    let r = call (call_of (later m) tid) in
     let both = weight-append r.guest.events (life_events r.answer m.harts tid) in
-    omega (arith, both, every_call_light (call_of m tid), life_weight r.answer m.harts tid (registers_of m.harts tid))
+    omega (arith, both, every_call_light (call_of (later m) tid), life_weight r.answer m.harts tid (registers_of m.harts tid))
 
 executed_weight : (m : MachineState) (tid : ℕ) (found : Result Instr FaultKind) →
     weight (executed m tid found).events + length (executed m tid found).machine.harts ≤ 65540 + length m.harts

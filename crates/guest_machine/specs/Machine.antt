@@ -19,6 +19,10 @@ pub record MachineState : Type 0 where
   pub memory : Memory
   pub held : Reserved
 
+-- the time is that of one step later
+abbrev pub later : MachineState → MachineState
+later m = record m { kernel = kernel.later m.kernel }
+
 -- a thread can run where it lives and does not wait
 abbrev pub can_run : MachineState → ℕ → Bool
 can_run m tid = kernel.can_run m.kernel tid

@@ -25,7 +25,7 @@ use Rattle.guest_calls.specs.declared.answer.Answer.TheVariants.{Back, Yield, Bl
 use Rattle.guest_calls.specs.Table.{call}
 use Rattle.guest_machine.specs.declared.stepped.Stepped.{Stepped}
 use Rattle.guest_machine.specs.declared.stepped.Stepped.TheVariants.{Went, Yielded, Blocked, Ended, Finished, Faulted}
-use Rattle.guest_machine.specs.Machine.{Hart, MachineState, registers_of, with_registers, with_hart, without_hart}
+use Rattle.guest_machine.specs.Machine.{Hart, MachineState, later, registers_of, with_registers, with_hart, without_hart}
 
 -- What a step gives.
 pub record StepResult : Type 0 where
@@ -131,11 +131,11 @@ instruction_in (Err refusal) = Err fault.Fetch
 abbrev pub instruction_at : Memory → ℕ → Result Instr FaultKind
 instruction_at m at = instruction_in (loaded m permission.Execute at 4)
 
--- by what became of the instruction
+-- by what became of the instruction: a fault leaves all as it is, and else the time goes on before the effect
 abbrev pub after_effect : MachineState → ℕ → Instr → Outcome × ExecState → StepResult
-after_effect m tid i (outcome.Went accessed, c) = went m tid i accessed c
+after_effect m tid i (outcome.Went accessed, c) = went (later m) tid i accessed c
 after_effect m tid i (outcome.Fault kind, c) = faulted m tid kind
-after_effect m tid i (outcome.KernelCall, c) = after_call m tid (call (call_of m tid))
+after_effect m tid i (outcome.KernelCall, c) = after_call (later m) tid (call (call_of (later m) tid))
 
 abbrev pub executed : MachineState → ℕ → Result Instr FaultKind → StepResult
 executed m tid (Ok i) = after_effect m tid i (effect tid i (exec_state_of m tid))

@@ -4,7 +4,7 @@ ghost use Rattle.guest_words.specs.ByThread.{value_of};
 ghost use Rattle.guest_memory.specs.Guest.{memory_of};
 ghost use Rattle.guest_calls.specs.Table.{call};
 ghost use Rattle.guest_machine.specs.Kept.{IsAsBefore, Parts, Steps, machine_of, out_of};
-ghost use Rattle.guest_machine.specs.Machine.{can_run};
+ghost use Rattle.guest_machine.specs.Machine.{can_run, later};
 ghost use Rattle.guest_machine.specs.Parts.{parts_of};
 ghost use Rattle.guest_machine.specs.Sound.{IsSound};
 ghost use Rattle.guest_machine.specs.Told.{IsAlone, IsQuiet, stepped_of, told};
@@ -120,7 +120,10 @@ impl Guest {
         );
         self.called = false;
         match outcome {
-            Outcome::Went { access } => told(instruction, access, target, pc.wrapping_add(4)),
+            Outcome::Went { access } => {
+                self.kernel.advance();
+                told(instruction, access, target, pc.wrapping_add(4))
+            }
             Outcome::Fault { kind } => Advanced::Other {
                 stepped: Stepped::Faulted { kind, at: pc },
             },
@@ -136,7 +139,7 @@ impl Guest {
         requires lives { is_some (value_of self.old.harts.list tid) ≡ true }
         requires can_run { can_run (machine_of (parts_of self.old)) tid ≡ true }
         requires spare { THREADS ≤ length self.old.harts.list + self.old.harts.room }
-        ensures step { IfOk result (λ stepped. Steps (after_call (machine_of (parts_of self.old)) tid (call (call_of (machine_of (parts_of self.old)) tid))) stepped (parts_of self.new) events.old.list events.new.list) }
+        ensures step { IfOk result (λ stepped. Steps (after_call (later (machine_of (parts_of self.old))) tid (call (call_of (later (machine_of (parts_of self.old))) tid))) stepped (parts_of self.new) events.old.list events.new.list) }
         ensures refused { OnErr result (IsAsBefore (parts_of self.old) (parts_of self.new) events.old.list events.new.list) }
         ensures sound { IsSound (machine_of (parts_of self.new)) }
         ensures spare { THREADS ≤ length self.new.harts.list + self.new.harts.room }

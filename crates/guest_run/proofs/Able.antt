@@ -28,6 +28,7 @@ use Rattle.guest_calls.specs.Files.{advanced, bytes_left, channel, is_closed, is
 use Rattle.guest_calls.specs.Vectors.{readv_tests, readv_bytes, readv_effect, writev_tests, writev_effect}
 use Rattle.guest_calls.specs.Pages.{brk_tests, brk_effect, munmap_tests, unmaps, pages, maps, remaps, rights_of, first_fit, mmap2_tests, mprotect_tests}
 use Rattle.guest_calls.specs.Threads.{exit, rt_sigprocmask, status}
+use Rattle.guest_calls.specs.Clock.{clock_gettime_tests, time_bytes}
 use Rattle.guest_calls.specs.Clone.{clone_effect, clone_tests, with_thread, child_clear_tid}
 use Rattle.guest_calls.specs.Futex.{futex_by, futex_tests, futex_at, futex_value, futex_value3, futex_limit, futex_to, operation, performed, waits_for, requeues, count_woken, count_shifted}
 use Rattle.guest_calls.specs.Table.{call, table}
@@ -35,7 +36,7 @@ use Rattle.guest_calls.proofs.AllCalls.{of_every_call, of_unless}
 use Rattle.guest_calls.proofs.Leaving.{cleared_lives, does_not_wait, woken_can_run}
 use Rattle.guest_calls.proofs.Queues.{requeued_out}
 use Rattle.guest_machine.specs.declared.stepped.Stepped.TheVariants.{Went}
-use Rattle.guest_machine.specs.Machine.{MachineState, can_run}
+use Rattle.guest_machine.specs.Machine.{MachineState, can_run, later}
 use Rattle.guest_machine.specs.Step.{after_effect, call_of, exec_state_of, executed, next_instruction, step, stepped_by}
 
 -- by this answer the thread goes on, and it can run
@@ -191,8 +192,8 @@ every_call_able = of_every_call StaysAble (
                                             (
                                               (λ c can goes. can),
                                               (
-                                                (λ c. futex_able (operation c) c),
-                                                tt,
+                                                (λ c. tested c (clock_gettime_tests c) (λ x. fills (arg c 1) (time_bytes c.kernel.time) (returns c 0)) (λ can goes. can)),
+                                                ((λ c. futex_able (operation c) c), tt),
                                               ),
                                             ),
                                           ),
@@ -222,7 +223,7 @@ every_call_able = of_every_call StaysAble (
 effect_able : (m : MachineState) (tid : ℕ) (i : Instr) (given : Outcome × ExecState) → can_run m tid ≡ true → (after_effect m tid i given).outcome ≡ Went → can_run (after_effect m tid i given).machine tid ≡ true
 effect_able m tid i (outcome.Went accessed, c) can goes = can
 effect_able m tid i (outcome.Fault kind, c) can goes = absurd (cc)
-effect_able m tid i (outcome.KernelCall, c) can goes = every_call_able (call_of m tid) can goes
+effect_able m tid i (outcome.KernelCall, c) can goes = every_call_able (call_of (later m) tid) can goes
 
 executed_able : (m : MachineState) (tid : ℕ) (found : Result Instr FaultKind) → can_run m tid ≡ true → (executed m tid found).outcome ≡ Went → can_run (executed m tid found).machine tid ≡ true
 executed_able m tid (Ok i) can goes = effect_able m tid i (effect tid i (exec_state_of m tid)) can goes

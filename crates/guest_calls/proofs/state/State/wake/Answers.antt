@@ -1,19 +1,19 @@
-use Rattle.std.proofs.Common.{◌≡◌, true, ap, subst, sym, List}
-use Rattle.futex_table.specs.declared.waiter.Waiter.{Waiter}
-use Rattle.guest_calls.specs.Kernel.{KernelState, can_run}
-use Rattle.guest_calls.specs.State.{state_in}
-use Rattle.guest_calls.proofs.Leaving.{woken_can_run, woken_is_state}
+use Rattle.std.proofs.Common.{arith, sym, ◌∙◌}
+use Rattle.guest_calls.proofs.Wakings.{all_found, all_woken, one_woken}
 use Rattle.guest_calls.proofs.state.State.wake.Goals as goal
 
-pub invariant_of-self : goal.invariant_of-self
-invariant_of-self c =
-    let k = state_in c.self.inside in
-    record {
-      room = c.self.invariant.room;
-      state = woken_is_state k _ c.args.at c.args.most c.args.bits c.self.invariant.state (ap (λ (w : List Waiter). record k { waiting = w }) c.wake.ensures.after);
-    }
+pub returns-then-not-wake_first-clause-count : goal.returns-then-not-wake_first-clause-count
+returns-then-not-wake_first-clause-count c =
+    (all_found c.args.self.now c.loop-count.self c.wake_first.new.self c.args.at c.args.bits c.args.most c.loop-count.count c.loop-count.invariant c.wake_first.ensures.after (sym c.wake_first.ensures.found ∙ c.if-not-wake_first.true)).count_is
 
-pub returns-clause-can_run : goal.returns-clause-can_run
-returns-clause-can_run c =
-    let k = state_in c.self.inside in
-    λ tid can. woken_can_run k _ c.args.at c.args.most c.args.bits tid (ap (λ (w : List Waiter). record k { waiting = w }) c.wake.ensures.after) (subst (λ (s : KernelState). can_run s tid ≡ true) (sym c.self.view_is) can)
+pub returns-then-not-wake_first-clause-after : goal.returns-then-not-wake_first-clause-after
+returns-then-not-wake_first-clause-after c =
+    (all_found c.args.self.now c.loop-count.self c.wake_first.new.self c.args.at c.args.bits c.args.most c.loop-count.count c.loop-count.invariant c.wake_first.ensures.after (sym c.wake_first.ensures.found ∙ c.if-not-wake_first.true)).state
+
+pub loop-count-preserved : goal.loop-count-preserved
+loop-count-preserved c =
+    one_woken c.args.self.now c.loop-count.self c.wake_first.new.self c.args.at c.args.bits c.args.most c.loop-count.count c.wake_first.ensures.once c.loop-count.invariant c.loop-count-test.true c.wake_first.ensures.after (sym c.wake_first.ensures.found ∙ c.if-not-wake_first.false)
+
+pub returns-clause-after : goal.returns-clause-after
+returns-clause-after c =
+    (all_woken c.args.self.now c.loop-count.self c.args.at c.args.bits c.args.most c.loop-count.count c.loop-count.invariant (omega (arith, c.loop-count-test.false))).state

@@ -7,25 +7,26 @@ use Rattle.rv_exec.specs.Registers.{Registers}
 use Rattle.guest_calls.specs.Results.{CallResult}
 use Rattle.guest_calls.specs.Table.{call}
 use Rattle.guest_machine.specs.Kept.{Steps, machine_of}
+use Rattle.guest_machine.specs.Machine.{later}
 use Rattle.guest_machine.specs.Parts.{parts_of}
 use Rattle.guest_machine.specs.Sound.{IsSound}
 use Rattle.guest_machine.specs.Step.{after_call, call_of}
-use Rattle.guest_machine.proofs.Called.{Steps-called, born_above, born_room, sound-called}
+use Rattle.guest_machine.proofs.Called.{Steps-called, born_above, born_room, sound-called, sound-later}
 use Rattle.guest_machine.proofs.guest.Guest.call_kernel.Goals as goal
 
 pub apply_answer-requires-clause-born : goal.apply_answer-requires-clause-born
 unfolding machine_of
 apply_answer-requires-clause-born c child cpu is =
-    let m = machine_of (parts_of c.args.self.now) in
+    let m = later (machine_of (parts_of c.args.self.now)) in
     let here = c.cpu_of.ensures in
     let same : call (record { tid = c.args.tid; registers = c.cpu_of.result.now; kernel = m.kernel; memory = m.memory; held = m.held }) ≡ call (call_of m c.args.tid) = ap (λ (r : Registers). call (record { tid = c.args.tid; registers = r; kernel = m.kernel; memory = m.memory; held = m.held })) here in
     let does = c.in-Ok.ensures.call.does in
-    born_room m c.args.tid child cpu c.requires.sound (subst IsState (does.state_is ∙ ap (λ r. r.kernel) same) c.in-Ok.ensures.state) (sym (ap (λ r. r.answer) same) ∙ sym does.answered ∙ is)
+    born_room m c.args.tid child cpu (sound-later (machine_of (parts_of c.args.self.now)) c.requires.sound) (subst IsState (does.state_is ∙ ap (λ r. r.kernel) same) c.in-Ok.ensures.state) (sym (ap (λ r. r.answer) same) ∙ sym does.answered ∙ is)
 
 pub returns-in-Ok-clause-step : goal.returns-in-Ok-clause-step
 unfolding machine_of
 returns-in-Ok-clause-step c =
-    let m = machine_of (parts_of c.args.self.now) in
+    let m = later (machine_of (parts_of c.args.self.now)) in
     let here = c.cpu_of.ensures in
     let same : call (record { tid = c.args.tid; registers = c.cpu_of.result.now; kernel = m.kernel; memory = m.memory; held = m.held }) ≡ call (call_of m c.args.tid) = ap (λ (r : Registers). call (record { tid = c.args.tid; registers = r; kernel = m.kernel; memory = m.memory; held = m.held })) here in
     let does = c.in-Ok.ensures.call.does in
@@ -35,21 +36,21 @@ returns-in-Ok-clause-step c =
 pub returns-in-Ok-clause-sound : goal.returns-in-Ok-clause-sound
 unfolding machine_of
 returns-in-Ok-clause-sound c =
-    let m = machine_of (parts_of c.args.self.now) in
+    let m = later (machine_of (parts_of c.args.self.now)) in
     let here = c.cpu_of.ensures in
     let same : call (record { tid = c.args.tid; registers = c.cpu_of.result.now; kernel = m.kernel; memory = m.memory; held = m.held }) ≡ call (call_of m c.args.tid) = ap (λ (r : Registers). call (record { tid = c.args.tid; registers = r; kernel = m.kernel; memory = m.memory; held = m.held })) here in
     let does = c.in-Ok.ensures.call.does in
     let state = subst IsState (does.state_is ∙ ap (λ r. r.kernel) same) c.in-Ok.ensures.state in
     let free = subst (λ (k : Memory × ℕ). IsBreakFree k.0 k.1) (ap₂ (λ m b. (m, b)) (does.memory_is ∙ ap (λ r. r.guest.memory) same) (ap (λ k. k.program_break) (does.state_is ∙ ap (λ r. r.kernel) same))) c.in-Ok.ensures.break_free in
-    let sound = sound-called m c.args.tid c.requires.sound state free in
+    let sound = sound-called m c.args.tid (sound-later (machine_of (parts_of c.args.self.now)) c.requires.sound) state free in
     let steps = Steps-called (parts_of c.args.self.now) (parts_of (record { harts = c.apply_answer.new.harts; kernel = c.call.new.self; memory = c.call.new.memory; held = c.call.new.held; entry = c.args.self.now.entry; called = true })) c.args.tid _ c.in-Ok.answer _ c.args.events.now.list _ _ _ does.answered does.state_is c.in-Ok.ensures.call.out does.memory_is does.held_is c.apply_answer.ensures.harts refl c.apply_answer.ensures.outcome (c.push.ensures.list ∙ ap (λ l. l ++ Step c.args.tid ∷ []) c.in_ok-reserve.ensures.list) does.events c.apply_answer.ensures.events in
     subst IsSound (sym (steps.machine ∙ ap (λ r. (after_call m c.args.tid r).machine) same)) sound
 
 pub apply_answer-requires-clause-above : goal.apply_answer-requires-clause-above
 unfolding machine_of
 apply_answer-requires-clause-above c child cpu is =
-    let m = machine_of (parts_of c.args.self.now) in
+    let m = later (machine_of (parts_of c.args.self.now)) in
     let here = c.cpu_of.ensures in
     let same : call (record { tid = c.args.tid; registers = c.cpu_of.result.now; kernel = m.kernel; memory = m.memory; held = m.held }) ≡ call (call_of m c.args.tid) = ap (λ (r : Registers). call (record { tid = c.args.tid; registers = r; kernel = m.kernel; memory = m.memory; held = m.held })) here in
     let does = c.in-Ok.ensures.call.does in
-    born_above m c.args.tid child cpu c.requires.sound (sym (ap (λ r. r.answer) same) ∙ sym does.answered ∙ is)
+    born_above m c.args.tid child cpu (sound-later (machine_of (parts_of c.args.self.now)) c.requires.sound) (sym (ap (λ r. r.answer) same) ∙ sym does.answered ∙ is)
