@@ -1,14 +1,14 @@
 -- What holds of each point and of each routine of a list of activations.
-use Rattle.std.proofs.Common.{◌≡◌, ℕ, suc, ◌+◌, ◌*◌, ◌<◌, ◌≤◌, ◌^◌, List, [], ◌∷◌, length, get_or, map, min, max, sum, nat_eq, true, is_some, refl, sym, ap, subst, arith}
-use Rattle.std.specs.List.{All, fold, sum_by}
+use Rattle.std.proofs.Common.{◌≡◌, ℕ, suc, ◌+◌, ◌*◌, ◌≤◌, List, [], ◌∷◌, length, map, min, max, sum, nat_eq, true, is_some, refl, sym, ap, subst, arith}
+use Rattle.std.specs.List.{All, fold}
 use Rattle.std.proofs.lemmas.Bool.Decides.{nat_tests}
 use Rattle.std.proofs.lemmas.List.{length-map}
-use Rattle.std.proofs.lemmas.List.Sums.{sum_by-cons, sum_by-le, sum-map, length-filter, count_by-le-length}
+use Rattle.std.proofs.lemmas.List.Sums.{sum_by-cons, sum_by-le}
 use Rattle.std.proofs.lemmas.List.Elements.{All-nil, All-cons, All-head, All-tail, All-weaker, All-map, All-filter, filter_passes}
 use Rattle.trace_model.specs.declared.slow_profile.Done.{Done}
 use Rattle.trace_model.specs.Profile.{HasParts}
-use Rattle.cost_points.specs.Keys.{insert_rising, rising, IsRising, grouped}
-use Rattle.cost_points.specs.Points.{Routine, least_of, greatest_of, split_of, point_of, routine_of, points}
+use Rattle.cost_points.specs.Keys.{insert_rising, rising, grouped}
+use Rattle.cost_points.specs.Points.{least_of, greatest_of, split_of, point_of, routine_of, points}
 use Rattle.cost_points.specs.Valid.{IsSplit, IsPoint, IsRoutine, IsProfile}
 use Rattle.cost_points.proofs.Grouped.{having, having_some, grouped_is}
 use Rattle.cost_points.proofs.Tables.{sizes_rise, points_rise}

@@ -1,9 +1,9 @@
 -- A point takes in another of its size: the points of two lists of activations are those of both together.
-use Rattle.std.proofs.Common.{◌≡◌, ℕ, suc, ◌+◌, ◌*◌, ◌<◌, ◌≤◌, ◌^◌, List, [], ◌∷◌, ◌++◌, length, get_or, map, min, max, sum, Result, Ok, Err, OnOk, true, is_some, Option, Some, None, refl, sym, ap, ap₂, ◌∙◌, subst, arith, length-append}
+use Rattle.std.proofs.Common.{◌≡◌, ℕ, ◌+◌, ◌*◌, ◌<◌, ◌≤◌, ◌^◌, List, [], ◌∷◌, ◌++◌, length, get_or, map, min, max, sum, Result, Ok, Err, OnOk, true, is_some, Option, Some, None, refl, sym, ap, ap₂, ◌∙◌, subst, arith, length-append}
 use Rattle.std.specs.Prelude.{IfSome}
-use Rattle.std.specs.List.{All, fold, sum_by}
+use Rattle.std.specs.List.{All, fold}
 use Rattle.std.proofs.lemmas.List.{length-map, map-append}
-use Rattle.std.proofs.lemmas.List.Elements.{All-nil, All-cons, All-head, All-tail, All-weaker}
+use Rattle.std.proofs.lemmas.List.Elements.{All-nil, All-cons, All-weaker}
 use Rattle.std.proofs.lemmas.List.Sums.{sum_by-append}
 use Rattle.std.proofs.lemmas.Nat.{mul-le}
 use Rattle.trace_model.specs.declared.slow_profile.Done.{Done}
@@ -11,7 +11,7 @@ use Rattle.trace_model.specs.Profile.{HasParts}
 use Rattle.cost_points.specs.declared.point.Point.{Point}
 use Rattle.cost_points.specs.declared.point.Split.{Split}
 use Rattle.cost_points.specs.Contents.{IsCounted, TableContents, contents_of}
-use Rattle.cost_points.specs.Keys.{IsRising, grouped, insert_rising, put}
+use Rattle.cost_points.specs.Keys.{IsRising, grouped, put}
 use Rattle.cost_points.specs.Merging.{ArePointOf, merged, point_added, split_both, split_sum, with_point}
 use Rattle.cost_points.specs.Points.{Routine, greatest_of, least_of, point_of, points, routine_of, split_of}
 use Rattle.cost_points.specs.Search.{HasRoom, HasSplitRoom, IsAt}

@@ -1,7 +1,7 @@
 use Rattle.std.proofs.Common.{List, ap, map, set, sym, ◌∙◌, subst}
 use Rattle.std.specs.List.{All, insert}
 use Rattle.cost_points.specs.Keys.{IsRising}
-use Rattle.cost_points.specs.Merging.{point_added, with_point}
+use Rattle.cost_points.specs.Merging.{point_added}
 use Rattle.cost_points.specs.Points.{Routine}
 use Rattle.cost_points.specs.Search.{IsAt, IsInsertionPoint, HasRoom}
 use Rattle.cost_points.specs.Valid.{IsRoutine}
@@ -26,8 +26,8 @@ pub returns-in-Ok-clause-ok : goal.returns-in-Ok-clause-ok
 returns-in-Ok-clause-ok c =
     let place = subst (λ (rs : List Routine). IsAt (map (λ r. r.entry) rs) c.args.entry c.in-Ok.at) c.deref.ensures.value c.in-Ok.ensures in
     on_ok c.add.result _ _ c.add.ensures.ok (λ made.
-        ap (set c.args.routines.now.items c.in-Ok.at) made
-        ∙ put_at (λ (r : Routine). r.entry) c.args.entry (point_added c.args.point) (new_routine c.args.entry c.args.point) c.args.routines.now.items c.in-Ok.at _ c.requires.profile.entries place c.index_mut-routine.ensures.value)
+    ap (set c.args.routines.now.items c.in-Ok.at) made
+    ∙ put_at (λ (r : Routine). r.entry) c.args.entry (point_added c.args.point) (new_routine c.args.entry c.args.point) c.args.routines.now.items c.in-Ok.at _ c.requires.profile.entries place c.index_mut-routine.ensures.value)
 
 pub returns-in_ok-insert-in-Err-clause-ok : goal.returns-in_ok-insert-in-Err-clause-ok
 returns-in_ok-insert-in-Err-clause-ok c =
