@@ -1,15 +1,13 @@
 -- The profile follows the events.
-use Rattle.std.proofs.Common.{◌≡◌, ℕ, ◌+◌, ◌-◌, ◌≤◌, Bool, true, false, cond, List, [], ◌∷◌, ◌++◌, length, map, reverse, refl, sym, ap, ◌∙◌, subst, arith}
+use Rattle.std.proofs.Common.{◌≡◌, ℕ, ◌+◌, ◌-◌, ◌≤◌, Bool, cond, List, [], ◌∷◌, ◌++◌, length, map, reverse, refl, sym, ap, ◌∙◌, subst, arith}
 use Rattle.std.specs.Prelude.{slice_get, Option, Some, None}
 use Rattle.std.specs.Option.{option_map, option_map_or}
-use Rattle.std.specs.List.{All, count_by}
-use Rattle.std.proofs.lemmas.List.{append-nil}
+use Rattle.std.specs.List.{count_by}
 use Rattle.std.proofs.lemmas.List.Elements.{All-map}
 use Rattle.std.proofs.lemmas.List.Sums.{sum_by-cons}
 use Rattle.trace_model.specs.declared.event_kinds.Event.{Event}
-use Rattle.trace_model.specs.declared.event_kinds.Event.TheVariants.{Step, Read, Write, Fill, Call, Ret, Start, End}
+use Rattle.trace_model.specs.declared.event_kinds.Event.TheVariants.{Read, Write}
 use Rattle.trace_model.specs.Depth.{pending}
-use Rattle.trace_model.specs.Profile.{steps}
 use Rattle.trace_model.specs.declared.activations.Activation.{Activation}
 use Rattle.trace_model.specs.Activations.{open_calls}
 use Rattle.call_tracker.specs.declared.open_calls.OpenCall.{OpenCall}
@@ -19,7 +17,6 @@ use Rattle.cost_points.specs.Keys.{grouped}
 use Rattle.cache_lines.specs.Held.{Held}
 use Rattle.cache_lines.specs.Kept as lines
 use Rattle.cache_lines.specs.Shapes.{Form}
-use Rattle.cache_profile.specs.declared.routines.RoutineMisses.{RoutineMisses}
 use Rattle.cache_profile.specs.Added.{AreOf}
 use Rattle.cache_profile.specs.ByRoutine.{LineAccess, accesses_of, all_accesses, by_routine, innermost}
 use Rattle.cache_profile.specs.LineAccesses.{line_accesses, lines_over, missed}

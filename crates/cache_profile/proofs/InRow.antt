@@ -1,10 +1,10 @@
 -- Words in a row lie in lines in a row.
-use Rattle.std.proofs.Common.{◌≡◌, ℕ, zero, suc, ◌+◌, ◌-◌, ◌*◌, ◌/◌, ◌<◌, ◌≤◌, ◌⊎◌, inl, inr, List, [], ◌∷◌, length, map, refl, sym, ap, ap₂, ◌∙◌, arith}
+use Rattle.std.proofs.Common.{◌≡◌, ℕ, zero, suc, ◌+◌, ◌-◌, ◌*◌, ◌/◌, ◌<◌, ◌≤◌, ◌⊎◌, inl, inr, ◌∷◌, sym, ap, ap₂, ◌∙◌, arith}
 use Rattle.std.specs.List.{range_with_len}
 use Rattle.std.proofs.lemmas.Bool.{cases_lt}
 use Rattle.std.proofs.lemmas.Nat.{le-div}
 use Rattle.std.proofs.Math.Nat.{add-div_right, div-mul-le_self}
-use Rattle.cost_points.specs.Keys.{rising, insert_rising}
+use Rattle.cost_points.specs.Keys.{insert_rising}
 use Rattle.cost_points.proofs.Rising.{insert_below, insert_same}
 use Rattle.cache_lines.specs.Shapes.{Form}
 use Rattle.cache_profile.specs.LineAccesses.{line_of, lines_over}

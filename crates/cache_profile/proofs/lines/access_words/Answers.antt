@@ -1,8 +1,8 @@
-use Rattle.std.proofs.Common.{◌≡◌, ◌+◌, ◌-◌, ◌*◌, ◌/◌, ◌++◌, List, length, reverse, ap, sym, ◌∙◌, subst}
-use Rattle.std.specs.List.{count_by, range_with_len}
+use Rattle.std.proofs.Common.{◌+◌, ◌-◌, ◌*◌, ◌/◌, ◌++◌, length, reverse, ap, sym, ◌∙◌, subst}
+use Rattle.std.specs.List.{count_by}
 use Rattle.std.proofs.lemmas.List.FromFn.{length-range_with_len}
 use Rattle.cache_lines.specs.Kept.{StandsFor}
-use Rattle.cache_profile.specs.LineAccesses.{lines_over, missed}
+use Rattle.cache_profile.specs.LineAccesses.{missed}
 use Rattle.cache_profile.proofs.InRow.{covered}
 use Rattle.cache_profile.proofs.lines.access_words.Goals as goal
 

@@ -1,5 +1,4 @@
-use Rattle.std.proofs.Common.{List, ap, ap₂, map, sym, ◌∙◌, subst}
-use Rattle.std.specs.List.{insert}
+use Rattle.std.proofs.Common.{List, ap₂, map, ◌∙◌, subst}
 use Rattle.cost_points.specs.Search.{IsAt, IsInsertionPoint}
 use Rattle.cache_profile.specs.declared.routines.RoutineMisses.{RoutineMisses}
 use Rattle.cache_profile.proofs.Groups.{added_at, added_new, counts, taken}

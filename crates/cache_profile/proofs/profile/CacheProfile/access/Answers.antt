@@ -1,13 +1,10 @@
-use Rattle.std.proofs.Common.{◌≡◌, List, ◌∷◌, map, refl, ap, sym, ◌∙◌, subst}
-use Rattle.std.specs.List.{All, count_by}
-use Rattle.trace_model.specs.declared.event_kinds.Event.{Event}
+use Rattle.std.proofs.Common.{List, map, refl, ap, sym, ◌∙◌, subst}
+use Rattle.std.specs.List.{All}
 use Rattle.trace_model.specs.declared.event_kinds.Event.TheVariants.{Read}
 use Rattle.cost_points.specs.Keys.{IsRising}
-use Rattle.cache_lines.specs.Shapes.{Form}
 use Rattle.cache_profile.specs.declared.routines.RoutineMisses.{RoutineMisses}
 use Rattle.cache_profile.specs.Added.{HasRoom}
 use Rattle.cache_profile.specs.ByRoutine.{accesses_of, all_accesses}
-use Rattle.cache_profile.specs.LineAccesses.{line_accesses, lines_over, missed}
 use Rattle.cache_profile.specs.Profile.{Kept, StandsFor}
 use Rattle.cache_profile.proofs.Bounds.{have_room}
 use Rattle.cache_profile.proofs.Following.{after_read, are_counted, as_write}

@@ -1,4 +1,4 @@
-use Rattle.std.proofs.Common.{◌≡◌, ◌+◌, ap, sym, ◌∙◌, arith}
+use Rattle.std.proofs.Common.{ap, arith}
 use Rattle.cache_profile.specs.Profile.{Kept}
 use Rattle.cache_profile.proofs.Bounds.{one_more_step}
 use Rattle.cache_profile.proofs.profile.CacheProfileObserver.observe.Goals as goal
