@@ -1,12 +1,13 @@
 -- A cache stands for its accesses, also after one more.
 use Rattle.std.proofs.Common.{◌≡◌, ℕ, zero, suc, ◌+◌, ◌-◌, ◌*◌, ◌%◌, ◌<◌, ◌≤◌, Bool, true, false, not, ◌&&◌, cond, nat_eq, nat_le, List, [], ◌∷◌, length, take, drop, get_or, replicate, ◌≢◌, refl, sym, ap, ap₂, ◌∙◌, subst, arith}
-use Rattle.std.specs.Prelude.{All, slice_set, Some, None}
+use Rattle.std.specs.Prelude.{All, slice_set, Option, Some, None}
+use Rattle.std.specs.Option.{option_map_or}
 use Rattle.std.specs.Int.{is_power_of_two}
 use Rattle.std.proofs.lemmas.List.{take-take, length-take-le, length-drop, length-replicate, get_or-set_same, get_or-set_other, length-set}
 use Rattle.std.proofs.Math.Nat.{mod-lt, mul-le-mul_left, mul-suc}
 use Rattle.std.proofs.lemmas.Bool.Decides.{nat_tests}
 use Rattle.cache_lines.specs.Shapes.{Form, shape_of, are_sets, are_ways, is_line}
-use Rattle.cache_lines.specs.declared.shape.TheConstants.{SETS, WAYS}
+use Rattle.cache_lines.specs.declared.shape.TheConstants.{SETS, WAYS, LEAST_LINE, LINE}
 use Rattle.cache_lines.specs.Held.{Held}
 use Rattle.cache_lines.specs.Kept.{recent, StandsFor}
 use Rattle.cache_lines.specs.Misses.{was_accessed, misses, different}
@@ -68,6 +69,18 @@ some_of_each sets ways line shape e =
     by_test : (b : Bool) (f : Form) → cond b (Some f) None ≡ Some shape → b ≡ true
     by_test true f q = refl
     by_test false f q = absurd (cc)
+
+-- and a line of its own
+pub wide_lines : (sets ways line : ℕ) (shape : Form) → shape_of sets ways line ≡ Some shape → LEAST_LINE ≤ shape.line
+wide_lines sets ways line shape e = by_test ((are_sets sets && are_ways ways) && is_line line) refl e
+  where
+    by_test : (b : Bool) → ((are_sets sets && are_ways ways) && is_line line) ≡ b → cond b (Some (record { sets = sets; ways = ways; line = line })) None ≡ Some shape → LEAST_LINE ≤ shape.line
+    by_test true passes q =
+        let line_is = and-right (are_sets sets && are_ways ways) (is_line line) passes in
+        let wide : nat_le LEAST_LINE line ≡ true = and-right (is_power_of_two line) (nat_le LEAST_LINE line) (and-left (is_power_of_two line && nat_le LEAST_LINE line) (nat_le line LINE) line_is) in
+        let same : line ≡ shape.line = ap (λ (o : Option Form). option_map_or (λ (f : Form). f.line) o line) q in
+        grind (arith, nat_tests, wide, same)
+    by_test false passes q = absurd (cc)
 
 pub ready_is : (shape : Form) (used places : List ℕ) (line u s w : ℕ) → s ≡ shape.sets → w ≡ shape.ways → shape_of shape.sets shape.ways shape.line ≡ Some shape → u ≡ get_or used (line % s) u → length used ≡ shape.sets → All (λ n. n ≤ shape.ways) used → length places ≡ shape.ways * shape.sets
     → IsReady shape used places line (w * (line % s)) (w * (line % s) + w - w * (line % s)) u

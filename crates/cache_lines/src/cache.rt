@@ -1,5 +1,6 @@
 //! The cache.
-ghost use Rattle.std.specs.Prelude.{◌≡◌, ◌∷◌, [], ℕ, List, IfOk};
+ghost use Rattle.std.specs.Prelude.{◌≡◌, ◌≤◌, ◌/◌, ◌∷◌, [], ℕ, List, IfOk};
+ghost use Rattle.cache_lines.specs.declared.shape.TheConstants.{LEAST_LINE};
 ghost use Rattle.cache_lines.specs.Kept.{StandsFor};
 ghost use Rattle.cache_lines.specs.Misses.{misses};
 
@@ -43,6 +44,14 @@ impl Cache {
             places: vec![in alloc; 0u32; ways * sets]?,
             used: vec![in alloc; 0u8; sets]?,
         })
+    }
+
+    /// The number of the line that the byte at this address lies in.
+    pub fn line_of(&self, at: u32) -> u32
+        ensures line { result ≡ at / self.now.shape.line }
+        ensures wide { LEAST_LINE ≤ self.now.shape.line }
+    {
+        at / self.shape.line
     }
 
     /// An access of the line of this number: whether it misses.

@@ -1,16 +1,14 @@
 -- What holds of each point and of each routine of a list of activations.
-use Rattle.std.proofs.Common.{◌≡◌, ℕ, suc, ◌+◌, ◌*◌, ◌<◌, ◌≤◌, ◌^◌, List, [], ◌∷◌, length, get_or, map, min, max, sum, nat_eq, true, is_some, refl, sym, ap, subst, arith}
-use Rattle.std.specs.List.{All, fold, sum_by}
+use Rattle.std.proofs.Common.{◌≡◌, ℕ, suc, ◌+◌, ◌*◌, ◌≤◌, List, [], ◌∷◌, length, map, min, max, sum, nat_eq, true, is_some, refl, sym, ap, subst, arith}
+use Rattle.std.specs.List.{All, fold}
 use Rattle.std.proofs.lemmas.Bool.Decides.{nat_tests}
 use Rattle.std.proofs.lemmas.List.{length-map}
-use Rattle.std.proofs.lemmas.List.Sums.{sum_by-cons, sum_by-le, sum-map, length-filter, count_by-le-length}
+use Rattle.std.proofs.lemmas.List.Sums.{sum_by-cons, sum_by-le}
 use Rattle.std.proofs.lemmas.List.Elements.{All-nil, All-cons, All-head, All-tail, All-weaker, All-map, All-filter, filter_passes}
 use Rattle.trace_model.specs.declared.slow_profile.Done.{Done}
 use Rattle.trace_model.specs.Profile.{HasParts}
-use Rattle.cost_points.specs.Keys.{insert_rising, rising, IsRising, grouped}
-use Rattle.cost_points.specs.Points.{Routine, least_of, greatest_of, split_of, point_of, routine_of, points}
-use Rattle.cost_points.specs.Search.{HasRoom, IsAt}
-use Rattle.cost_points.specs.Contents.{IsMember}
+use Rattle.cost_points.specs.Keys.{insert_rising, rising, grouped}
+use Rattle.cost_points.specs.Points.{least_of, greatest_of, split_of, point_of, routine_of, points}
 use Rattle.cost_points.specs.Valid.{IsSplit, IsPoint, IsRoutine, IsProfile}
 use Rattle.cost_points.proofs.Grouped.{having, having_some, grouped_is}
 use Rattle.cost_points.proofs.Tables.{sizes_rise, points_rise}
@@ -124,47 +122,3 @@ IsProfile-points all fits = record {
   entries = points_rise all;
   each = All-grouped (λ (d : Done). d.entry) routine_of IsRoutine all (λ k h. IsRoutine-of k (having (λ (d : Done). d.entry) k all) h (All-filter (λ (d : Done). nat_eq d.entry k) HasParts all fits));
 }
-
--- a sum over few activations of a number of 64 bits
-few_sum : (number : Done → ℕ) (members : List Done) → length members < 2 ^ 63 → All (λ d. number d < 2 ^ 64) members → sum_by number members < 2 ^ 127
-few_sum number members few each =
-    let bound : sum_by number members ≤ length members * 18446744073709551615 =
-    sum_by-le number 18446744073709551615 members (All-weaker (λ d. number d < 2 ^ 64) (λ d. number d ≤ 18446744073709551615) (λ d h. omega arith) members each) in
-    omega (arith, few, bound)
-
-HasRoom-of : (size : ℕ) (members : List Done) → length members < 2 ^ 63 → All IsMember members → HasRoom (point_of size members)
-HasRoom-of size members few each = record {
-  calls = omega (arith, length-map members (λ (d : Done). d.cost));
-  sum = omega (arith, sum-map (λ (d : Done). d.cost) members, few_sum (λ d. d.cost) members few (All-weaker IsMember (λ d. d.cost < 2 ^ 64) (λ d h. h.cost) members each));
-  split = record {
-    plain = few_sum (λ d. d.plain) members few (All-weaker IsMember (λ d. d.plain < 2 ^ 64) (λ d h. omega (arith, h.size, h.parts.parts)) members each);
-    thread = few_sum (λ d. d.thread) members few (All-weaker IsMember (λ d. d.thread < 2 ^ 64) (λ d h. omega (arith, h.size, h.parts.parts)) members each);
-    kernel = few_sum (λ d. d.kernel) members few (All-weaker IsMember (λ d. d.kernel < 2 ^ 64) (λ d h. omega (arith, h.size, h.parts.parts)) members each);
-    bare = few_sum (λ d. d.bare) members few (All-weaker IsMember (λ d. d.bare < 2 ^ 64) (λ d h. omega (arith, h.size, h.parts.high)) members each);
-  };
-}
-
-having-few : {A : Type 0} (key : A → ℕ) (k : ℕ) (all : List A) → length (having key k all) ≤ length all
-having-few key k all = omega (arith, length-filter (λ a. nat_eq (key a) k) all, count_by-le-length (λ a. nat_eq (key a) k) all)
-
--- a routine of few activations has room in each of its points
-pub HasRoom-routine : (entry : ℕ) (members : List Done) → length members < 2 ^ 63 → All IsMember members → All HasRoom (routine_of entry members).points
-HasRoom-routine entry members few each =
-    All-grouped (λ (d : Done). d.size) point_of HasRoom members (λ k h. HasRoom-of k (having (λ (d : Done). d.size) k members)
-    (omega (arith, having-few (λ (d : Done). d.size) k members)) (All-filter (λ (d : Done). nat_eq d.size k) IsMember members each))
-
--- and so has each routine of few activations
-pub HasRoom-points : (all : List Done) → length all < 2 ^ 63 → All IsMember all → All (λ r. All HasRoom r.points) (points all)
-HasRoom-points all few each =
-    All-grouped (λ (d : Done). d.entry) routine_of (λ r. All HasRoom r.points) all (λ k h. HasRoom-routine k (having (λ (d : Done). d.entry) k all)
-    (omega (arith, having-few (λ (d : Done). d.entry) k all)) (All-filter (λ (d : Done). nat_eq d.entry k) IsMember all each))
-
-pub sizes_rise-points : (all : List Done) → All (λ r. IsRising (map (λ p. p.size) r.points)) (points all)
-sizes_rise-points all = All-grouped (λ (d : Done). d.entry) routine_of (λ r. IsRising (map (λ p. p.size) r.points)) all (λ k h. sizes_rise (having (λ (d : Done). d.entry) k all))
-
--- what holds of each routine holds of the one that was read
-pub at_routine : (P : Routine → Type 0) (all : List Done) (items : List Routine) (x i : ℕ) (r : Routine) → items ≡ points all → IsAt (map (λ r. r.entry) items) x i → r ≡ get_or items i r → All P (points all) → P r
-at_routine P all items x i r is place read each =
-    let inside : i < length items = omega (arith, place.in_range, length-map items (λ (r : Routine). r.entry)) in
-    let all_items : All P items = subst (All P) (sym is) each in
-    subst P (sym read) (all_items i r inside)

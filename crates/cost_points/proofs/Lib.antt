@@ -1,5 +1,7 @@
 pub mod Rising
 pub mod Grouped
 pub mod Searched
+pub mod Put
+pub mod Merged
 pub mod Tables
 pub mod Bounds

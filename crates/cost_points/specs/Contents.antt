@@ -1,9 +1,10 @@
 -- What a table of points holds.
-use Rattle.std.specs.Prelude.{◌≡◌, ℕ, ◌<◌, ◌^◌, List, length}
+use Rattle.std.specs.Prelude.{ℕ, ◌<◌, ◌≤◌, ◌^◌, List, length}
 use Rattle.std.specs.List.{All}
 use Rattle.trace_model.specs.declared.slow_profile.Done.{Done}
-use Rattle.trace_model.specs.Profile.{HasParts}
+use Rattle.cost_points.specs.declared.point.Point.{Point}
 use Rattle.cost_points.specs.Points.{Routine, points}
+use Rattle.cost_points.specs.Valid.{IsProfile}
 
 -- How many activations were added, and the routines of these.
 pub record TableContents : Type 0 where
@@ -14,15 +15,13 @@ pub record TableContents : Type 0 where
 abbrev pub contents_of : List Done → TableContents
 contents_of added = record { members = length added; routines = points added }
 
--- An activation that a table takes: its cost and its size are numbers of 64 bits, and its parts fit its size.
-pub record IsMember (d : Done) : Type 0 where
-  pub cost : d.cost < 2 ^ 64
-  pub size : d.size < 2 ^ 64
-  pub parts : HasParts d
+-- The point is of no more activations than these, and its size and its greatest cost are numbers of 64 bits.
+pub record IsCounted (members : ℕ) (p : Point) : Type 0 where
+  pub calls : p.calls ≤ members
+  pub size : p.size < 2 ^ 64
+  pub most : p.most < 2 ^ 64
 
--- The contents are those of some list of such activations.
+-- The routines are in order, and no point is of more activations than were added.
 pub record IsContents (t : TableContents) : Type 0 where
-  pub added : List Done
-  pub members : t.members ≡ length added
-  pub routines : t.routines ≡ points added
-  pub each : All IsMember added
+  pub profile : IsProfile t.routines
+  pub counted : All (λ r. All (IsCounted t.members) r.points) t.routines

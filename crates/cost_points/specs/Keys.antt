@@ -18,3 +18,9 @@ IsRising keys = (i j : ℕ) → i < j → j < length keys → slice_index keys i
 -- for each key that occurs, the keys rising, what is made of it and of the members that have it, in their order
 unfoldable pub grouped : {A B : Type 0} → (A → ℕ) → (ℕ → List A → B) → List A → List B
 grouped key make all = map (λ k. make k (filter (λ a. key a == k) all)) (rising (map key all))
+
+-- a value for a key, among values that stand by rising key: one that has the key is changed, and else there is a new one in
+-- its place
+abbrev pub put : {B : Type 0} → (B → ℕ) → ℕ → (B → B) → B → List B → List B
+put key k change new [] = new ∷ []
+put key k change new (x ∷ xs) = if k == key x then change x ∷ xs else (if nat_lt k (key x) then new ∷ x ∷ xs else x ∷ put key k change new xs)

@@ -1,5 +1,6 @@
 pub mod Keys
 pub mod Points
+pub mod Merging
 pub mod Search
 pub mod Contents
 pub mod Valid

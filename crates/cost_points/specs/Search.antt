@@ -1,6 +1,5 @@
 -- Where a search ends in rising keys, and the room that a point has for one more activation.
-use Rattle.std.specs.Prelude.{◌≡◌, ℕ, ◌+◌, ◌<◌, ◌≤◌, ◌^◌, List, length, slice_index, Result, MatchResult, IfSome}
-use Rattle.trace_model.specs.declared.slow_profile.Done.{Done}
+use Rattle.std.specs.Prelude.{◌≡◌, ℕ, ◌<◌, ◌≤◌, ◌^◌, List, length, slice_index, Result, MatchResult, IfSome}
 use Rattle.cost_points.specs.declared.point.Point.{Point}
 use Rattle.cost_points.specs.declared.point.Split.{Split}
 
@@ -19,23 +18,14 @@ pub record IsInsertionPoint (keys : List ℕ) (key i : ℕ) : Type 0 where
 abbrev pub FindsKey : List ℕ → ℕ → Result ℕ ℕ → Type 0
 FindsKey keys key r = MatchResult r (IsAt keys key) (IsInsertionPoint keys key)
 
--- the parts, with those of one activation more
-abbrev pub split_with : Split → Done → Split
-split_with s d = record {
-  plain = s.plain + d.plain;
-  thread = s.thread + d.thread;
-  kernel = s.kernel + d.kernel;
-  bare = s.bare + d.bare;
-}
-
--- There is room for the parts of one more activation.
+-- There is room for the parts of as many activations again.
 pub record HasSplitRoom (s : Split) : Type 0 where
   pub plain : s.plain < 2 ^ 127
   pub thread : s.thread < 2 ^ 127
   pub kernel : s.kernel < 2 ^ 127
   pub bare : s.bare < 2 ^ 127
 
--- There is room for one more activation.
+-- There is room for as many activations again.
 pub record HasRoom (p : Point) : Type 0 where
   pub calls : p.calls < 2 ^ 63
   pub sum : p.sum < 2 ^ 127

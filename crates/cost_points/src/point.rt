@@ -1,7 +1,8 @@
 //! The point of a size.
-ghost use Rattle.std.specs.Prelude.{◌≡◌, ◌+◌, [], ◌∷◌, min, max, option_map};
+ghost use Rattle.std.specs.Prelude.{◌≡◌, [], ◌∷◌};
 ghost use Rattle.cost_points.specs.Points.{point_of, split_of};
-ghost use Rattle.cost_points.specs.Search.{HasRoom, HasSplitRoom, split_with};
+ghost use Rattle.cost_points.specs.Merging.{merged, split_both, split_sum};
+ghost use Rattle.cost_points.specs.Search.{HasRoom, HasSplitRoom};
 
 use trace_model::Done;
 
@@ -40,16 +41,17 @@ impl Split {
         }
     }
 
-    /// The parts of one more activation added.
-    fn with(self, ended: Done) -> Split
-        requires { HasSplitRoom self }
-        ensures { result ≡ split_with self ended }
+    /// The parts with those of others.
+    fn plus(self, other: Split) -> Split
+        requires own { HasSplitRoom self }
+        requires others { HasSplitRoom other }
+        ensures { result ≡ split_sum self other }
     {
         Split {
-            plain: self.plain + u128::from(ended.plain),
-            thread: self.thread + u128::from(ended.thread),
-            kernel: self.kernel + u128::from(ended.kernel),
-            bare: self.bare + u128::from(ended.bare),
+            plain: self.plain + other.plain,
+            thread: self.thread + other.thread,
+            kernel: self.kernel + other.kernel,
+            bare: self.bare + other.bare,
         }
     }
 }
@@ -70,25 +72,31 @@ impl Point {
         }
     }
 
-    /// One more activation of this size.
-    pub(crate) fn with(self, ended: Done) -> Point
-        requires { HasRoom self }
-        ensures { result ≡ record {
-          size = self.size;
-          calls = self.calls + 1;
-          least = min self.least ended.cost;
-          most = max self.most ended.cost;
-          sum = self.sum + ended.cost;
-          split = option_map (λ s. split_with s ended) self.split;
-        } }
+    // The parts of both, where both are told.
+    fn split_with(self, other: Point) -> Option<Split>
+        requires own { HasRoom self }
+        requires others { HasRoom other }
+        ensures { result ≡ split_both self.split other.split }
+    {
+        match (self.split, other.split) {
+            (Some(own), Some(others)) => Some(own.plus(others)),
+            _ => None,
+        }
+    }
+
+    /// The point with the activations of another of its size.
+    pub(crate) fn merged(self, other: Point) -> Point
+        requires own { HasRoom self }
+        requires others { HasRoom other }
+        ensures { result ≡ merged self other }
     {
         Point {
             size: self.size,
-            calls: self.calls + 1,
-            least: self.least.min(ended.cost),
-            most: self.most.max(ended.cost),
-            sum: self.sum + u128::from(ended.cost),
-            split: self.split.map(|split| split.with(ended)),
+            calls: self.calls + other.calls,
+            least: self.least.min(other.least),
+            most: self.most.max(other.most),
+            sum: self.sum + other.sum,
+            split: self.split_with(other),
         }
     }
 }

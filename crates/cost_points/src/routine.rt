@@ -1,16 +1,14 @@
 //! The points of one routine.
-ghost use Rattle.std.specs.Prelude.{◌≡◌, [], ◌∷◌, ◌++◌, List, map, IfOk, OnOk, OnErr};
+ghost use Rattle.std.specs.Prelude.{◌≡◌, [], ◌∷◌, map, IfOk, OnOk, OnErr};
 ghost use Rattle.std.specs.List.{All};
-ghost use Rattle.trace_model.specs.declared.slow_profile.Done.{Done};
 ghost use Rattle.cost_points.specs.Keys.{IsRising};
-ghost use Rattle.cost_points.specs.Points.{routine_of};
+ghost use Rattle.cost_points.specs.Merging.{point_added};
 ghost use Rattle.cost_points.specs.Search.{FindsKey, HasRoom};
 
 use crate::Point;
 use guest_words::Addr;
 use std::alloc::{AllocError, Global};
 use std::marker::Model;
-use trace_model::Done;
 
 /// A routine's entry and its points, sizes rising.
 #[derive(Drop)]
@@ -36,30 +34,29 @@ fn search(points: &[Point], size: u64) -> Result<usize, usize>
 }
 
 impl RoutinePoints {
-    /// The routine of one activation.
-    pub fn of_one(alloc: Global, ended: Done) -> Result<RoutinePoints, AllocError>
-        ensures { IfOk result (λ r. r ≡ routine_of ended.entry (ended ∷ [])) }
+    /// The routine of one point.
+    pub fn of_one(alloc: Global, entry: Addr, point: Point) -> Result<RoutinePoints, AllocError>
+        ensures { IfOk result (λ r. r ≡ record { entry = entry; points = point ∷ [] }) }
     {
-        let entry = ended.entry;
         let mut points = Vec::new(alloc);
-        points.push(Point::of_one(ended))?;
+        points.push(point)?;
         Ok(RoutinePoints { entry, points })
     }
 
-    /// One more activation of the routine.
-    pub fn add(&mut self, ended: Done) -> Result<(), AllocError>
+    /// One more point of the routine.
+    pub fn add(&mut self, point: Point) -> Result<(), AllocError>
         requires rising { IsRising (map (λ p. p.size) self.old.points) }
         requires room { All HasRoom self.old.points }
-        ensures ok { (members : List Done) → self.old ≡ routine_of self.old.entry members
-            → OnOk result (self.new ≡ routine_of self.old.entry (members ++ ended ∷ [])) }
+        requires fits { HasRoom point }
+        ensures ok { OnOk result (self.new ≡ point_added point self.old) }
         ensures err { OnErr result (self.new ≡ self.old) }
     {
-        match search(&self.points, ended.size) {
+        match search(&self.points, point.size) {
             Ok(at) => {
-                self.points[at] = self.points[at].with(ended);
+                self.points[at] = self.points[at].merged(point);
                 Ok(())
             }
-            Err(at) => Ok(self.points.insert(at, Point::of_one(ended))?),
+            Err(at) => Ok(self.points.insert(at, point)?),
         }
     }
 }

@@ -1,12 +1,13 @@
 //! The table of all routines.
-ghost use Rattle.std.specs.Prelude.{◌≡◌, ◌+◌, ◌<◌, ◌^◌, [], ◌∷◌, ◌++◌, List, length, map, slice_get, IfOk, OnOk, OnErr};
+ghost use Rattle.std.specs.Prelude.{◌≡◌, ◌+◌, ◌<◌, ◌^◌, [], ◌∷◌, ◌++◌, true, is_some, List, length, map, slice_get, IfOk, OnOk, OnErr};
+ghost use Rattle.std.specs.List.{All};
 ghost use Rattle.trace_model.specs.declared.slow_profile.Done.{Done};
 ghost use Rattle.trace_model.specs.Profile.{HasParts};
 ghost use Rattle.cost_points.specs.Keys.{IsRising};
-ghost use Rattle.cost_points.specs.Search.{FindsKey};
-ghost use Rattle.cost_points.specs.Points.{points};
-ghost use Rattle.cost_points.specs.Contents.{IsContents, contents_of};
-ghost use Rattle.cost_points.specs.Valid.{IsProfile};
+ghost use Rattle.cost_points.specs.Merging.{ArePointOf, with_point};
+ghost use Rattle.cost_points.specs.Search.{FindsKey, HasRoom};
+ghost use Rattle.cost_points.specs.Contents.{contents_of};
+ghost use Rattle.cost_points.specs.Valid.{IsPoint, IsProfile};
 
 use crate::Point;
 use crate::routine::RoutinePoints;
@@ -42,26 +43,26 @@ fn search(routines: &[RoutinePoints], entry: Addr) -> Result<usize, usize>
     routines.binary_search_by_key(&entry, |routine| routine.entry)
 }
 
-/// One more activation among the routines.
+/// One more point among the routines.
 fn add_to(
     alloc: Global,
-    members: u64,
     routines: &mut Vec<RoutinePoints>,
-    ended: Done,
+    entry: Addr,
+    point: Point,
 ) -> Result<(), AllocError>
-    requires contents { IsContents (record { members = members; routines = routines.old.items }) }
-    requires few { members < 2 ^ 63 }
-    ensures ok { (added : List Done) → routines.old.items ≡ points added
-        → OnOk result (routines.new.items ≡ points (added ++ ended ∷ [])) }
+    requires profile { IsProfile routines.old.items }
+    requires room { All (λ r. All HasRoom r.points) routines.old.items }
+    requires fits { HasRoom point }
+    ensures ok { OnOk result (routines.new.items ≡ with_point entry point routines.old.items) }
     ensures err { OnErr result (routines.new.items ≡ routines.old.items) }
 {
-    match search(routines, ended.entry) {
+    match search(routines, entry) {
         Ok(at) => {
             let routine = &mut routines[at];
-            routine.add(ended)
+            routine.add(point)
         }
         Err(at) => {
-            let routine = RoutinePoints::of_one(alloc, ended)?;
+            let routine = RoutinePoints::of_one(alloc, entry, point)?;
             Ok(routines.insert(at, routine)?)
         }
     }
@@ -88,8 +89,27 @@ impl Table {
         ensures members { OnOk result (self.new.members ≡ self.old.members + 1) }
         ensures err { OnErr result (self.new ≡ self.old) }
     {
-        add_to(self.alloc, self.members, &mut self.routines, ended)?;
+        let entry = ended.entry;
+        let point = Point::of_one(ended);
+        add_to(self.alloc, &mut self.routines, entry, point)?;
         self.members += 1;
+        Ok(())
+    }
+
+    /// One more point of the routine at the entry: the activations of another table's point. A refused one changes nothing.
+    pub fn add_point(&mut self, entry: Addr, p: &Point) -> Result<(), AllocError>
+        requires told { is_some p.now.split ≡ true }
+        requires point { IsPoint p.now }
+        requires few { self.old.members + p.now.calls < 2 ^ 63 }
+        ensures ok { OnOk result (self.new.routines ≡ with_point entry p.now self.old.routines) }
+        ensures members { OnOk result (self.new.members ≡ self.old.members + p.now.calls) }
+        ensures added { (added more : List Done) → self.old ≡ contents_of added → ArePointOf entry p.now more
+            → OnOk result (self.new ≡ contents_of (added ++ more)) }
+        ensures err { OnErr result (self.new ≡ self.old) }
+    {
+        let point = *p;
+        add_to(self.alloc, &mut self.routines, entry, point)?;
+        self.members += point.calls;
         Ok(())
     }
 

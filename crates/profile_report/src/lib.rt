@@ -15,7 +15,9 @@ mod report;
 mod writer;
 
 pub use laws::{a_text_is_of_one_report, a_text_reads_in_one_way};
-pub use line_text::{hex_address, push_end_line};
+pub use line_text::{
+    hex_address, push_end_line, push_number_line, push_point_line, push_routine_line,
+};
 pub use reader::{ReportError, read_report};
 pub use report::{Report, ReportVersion, Routine};
 pub use writer::write_report;

@@ -1,11 +1,19 @@
-use Rattle.std.proofs.Common.{[], refl, ◌∙◌}
+use Rattle.std.proofs.Common.{[], ◌∙◌, refl, subst, sym}
+use Rattle.std.specs.List.{All}
 use Rattle.std.proofs.lemmas.List.Elements.{All-nil}
-use Rattle.cost_points.specs.Contents.{IsMember}
+use Rattle.trace_model.specs.Profile.{HasParts}
+use Rattle.cost_points.specs.Contents.{IsCounted}
+use Rattle.cost_points.specs.Points.{Routine}
+use Rattle.cost_points.specs.Valid.{IsProfile}
+use Rattle.cost_points.proofs.Bounds.{IsProfile-points}
 use Rattle.cost_points.proofs.Tables.{points_none, contents_same}
 use Rattle.cost_points.proofs.table.Table.new.Goals as goal
 
 pub invariant_of-result : goal.invariant_of-result
-invariant_of-result c = record { added = []; members = refl; routines = c.new.ensures.items ∙ points_none; each = All-nil IsMember }
+invariant_of-result c = record {
+  profile = subst IsProfile (sym (c.new.ensures.items ∙ points_none)) (IsProfile-points [] (All-nil HasParts));
+  counted = subst (All (λ (r : Routine). All (IsCounted 0) r.points)) (sym c.new.ensures.items) (All-nil (λ (r : Routine). All (IsCounted 0) r.points));
+}
 
 pub returns : goal.returns
 returns c = contents_same _ _ _ _ refl (c.new.ensures.items ∙ points_none)

@@ -1,0 +1,114 @@
+-- The counts of a run stay small.
+use Rattle.std.proofs.Common.{◌≡◌, ℕ, suc, ◌+◌, ◌*◌, ◌^◌, ◌<◌, ◌≤◌, Bool, nat_eq, inl, inr, List, [], ◌∷◌, length, map, refl, ap, ◌∙◌, arith, length-append}
+use Rattle.std.specs.List.{All, range_with_len}
+use Rattle.std.proofs.lemmas.List.{length-map}
+use Rattle.std.proofs.lemmas.List.FromFn.{length-range_with_len}
+use Rattle.std.proofs.lemmas.List.Sums.{count_by-le-length, length-filter}
+use Rattle.trace_model.specs.declared.event_kinds.Event.{Event}
+use Rattle.trace_model.specs.declared.event_kinds.Event.TheVariants.{Step, Read, Write, Fill, Call, Ret, Start, End}
+use Rattle.trace_model.specs.Events.{thread_of}
+use Rattle.trace_model.specs.Profile.{steps}
+use Rattle.trace_model.specs.WellFormed.{IsLight, IsWellFormed, MayFollow, weight, weight_of}
+use Rattle.cost_points.specs.Keys.{rising, insert_rising}
+use Rattle.cost_points.proofs.Bounds.{All-grouped}
+use Rattle.cost_points.proofs.Grouped.{having}
+use Rattle.cost_points.proofs.Rising.{insert_above, insert_below, insert_same, order}
+use Rattle.cache_lines.specs.Shapes.{Form}
+use Rattle.cache_profile.specs.Added.{HasRoom}
+use Rattle.cache_profile.specs.ByRoutine.{LineAccess, accesses_of, all_accesses, by_routine, counts_of, routine_at}
+use Rattle.cache_profile.specs.LineAccesses.{line_accesses, line_of, lines_accessed, lines_over, missed}
+
+-- ---- line accesses
+insert-le : (x : ℕ) (ks : List ℕ) → length (insert_rising x ks) ≤ suc (length ks)
+insert-le x [] = omega arith
+insert-le x (k ∷ ks) = elim (order x k) [
+  | inl h ↦ omega (arith, ap length (insert_below x k ks h))
+  | inr (inl h) ↦ omega (arith, ap length (insert_same x k ks h))
+  | inr (inr h) ↦ omega (arith, ap length (insert_above x k ks h), insert-le x ks)
+]
+
+rising-le : (xs : List ℕ) → length (rising xs) ≤ length xs
+rising-le [] = omega arith
+rising-le (x ∷ xs) = omega (arith, insert-le x (rising xs), rising-le xs)
+
+lines-le : (shape : Form) (first count : ℕ) → length (lines_over shape first count) ≤ count
+lines-le shape first count =
+    omega (arith, rising-le (map (line_of shape) (range_with_len first count)), length-map (range_with_len first count) (line_of shape), length-range_with_len first count)
+
+pub length-missed : (shape : Form) (earlier lines : List ℕ) → length (missed shape earlier lines) ≡ length lines
+length-missed shape earlier [] = refl
+length-missed shape earlier (line ∷ lines) = ap suc (length-missed shape (line ∷ earlier) lines)
+
+pub length-accesses_of : (shape : Form) (e : Event) (past : List Event) → length (accesses_of shape e past) ≡ length (lines_accessed shape e)
+length-accesses_of shape e past =
+    length-map (missed shape (line_accesses shape past) (lines_accessed shape e)) (λ (m : Bool). record { entry = routine_at past (thread_of e); missed = m })
+    ∙ length-missed shape (line_accesses shape past) (lines_accessed shape e)
+
+event-le : (shape : Form) (e : Event) (past : List Event) → MayFollow e past → length (lines_accessed shape e) ≤ 2 ^ 30
+event-le shape (Read tid first count) past may = omega (arith, lines-le shape first count, may.1.1)
+event-le shape (Write tid first count) past may = omega (arith, lines-le shape first count, may.1.1)
+event-le shape (Step tid) past may = omega arith
+event-le shape (Fill first count) past may = omega arith
+event-le shape (Call tid entry back) past may = omega arith
+event-le shape (Ret tid target) past may = omega arith
+event-le shape (Start tid entry) past may = omega arith
+event-le shape (End tid) past may = omega arith
+
+some_weight : (e : Event) → 1 ≤ weight_of e
+some_weight (Step tid) = omega arith
+some_weight (Read tid first count) = omega arith
+some_weight (Write tid first count) = omega arith
+some_weight (Fill first count) = omega arith
+some_weight (Call tid entry back) = omega arith
+some_weight (Ret tid target) = omega arith
+some_weight (Start tid entry) = omega arith
+some_weight (End tid) = omega arith
+
+-- an event has at most as many lines as the memory has words, and weighs at least one
+all-le : (shape : Form) (past : List Event) → IsWellFormed past → length (all_accesses shape past) ≤ 2 ^ 30 * weight past
+all-le shape [] formed = omega arith
+all-le shape (e ∷ past) formed =
+    omega (
+      arith,
+      all-le shape past formed.2,
+      event-le shape e past formed.0,
+      some_weight e,
+      length-append (all_accesses shape past) (accesses_of shape e past),
+      length-accesses_of shape e past,
+    )
+
+pub is_light : (past : List Event) → IsWellFormed past → IsLight past
+is_light [] formed = omega arith
+is_light (e ∷ past) formed = formed.1
+
+abbrev entry_of : LineAccess → ℕ
+entry_of a = a.entry
+
+having-le : (k : ℕ) (all : List LineAccess) → length (having entry_of k all) ≤ length all
+having-le k all = omega (arith, length-filter (λ (a : LineAccess). nat_eq a.entry k) all, count_by-le-length (λ (a : LineAccess). nat_eq a.entry k) all)
+
+counts-fit : (all : List LineAccess) → length all < 2 ^ 127 → All HasRoom (by_routine all)
+counts-fit all few =
+    All-grouped entry_of counts_of HasRoom all (λ k some. record {
+      accesses = omega (arith, few, having-le k all);
+      misses = omega (arith, few, having-le k all, count_by-le-length (λ (a : LineAccess). a.missed) (having entry_of k all));
+    })
+
+-- a write weighs one and can access as many lines as the memory has words: so the counts are in 128 bits
+pub have_room : (shape : Form) (past : List Event) → IsWellFormed past → All HasRoom (by_routine (all_accesses shape past))
+have_room shape past formed = counts-fit (all_accesses shape past) (omega (arith, all-le shape past formed, is_light past formed))
+
+-- ---- steps
+steps-le : (past : List Event) → steps past ≤ weight past
+steps-le [] = omega arith
+steps-le (Step tid ∷ past) = omega (arith, steps-le past)
+steps-le (Read tid first count ∷ past) = omega (arith, steps-le past)
+steps-le (Write tid first count ∷ past) = omega (arith, steps-le past)
+steps-le (Fill first count ∷ past) = omega (arith, steps-le past)
+steps-le (Call tid entry back ∷ past) = omega (arith, steps-le past)
+steps-le (Ret tid target ∷ past) = omega (arith, steps-le past)
+steps-le (Start tid entry ∷ past) = omega (arith, steps-le past)
+steps-le (End tid ∷ past) = omega (arith, steps-le past)
+
+pub one_more_step : (e : Event) (past : List Event) → IsWellFormed (e ∷ past) → steps past + 1 < 2 ^ 64
+one_more_step e past formed = omega (arith, steps-le past, formed.1)

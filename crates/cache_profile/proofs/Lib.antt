@@ -1,0 +1,5 @@
+pub mod Accessed
+pub mod Bounds
+pub mod Following
+pub mod Groups
+pub mod InRow

@@ -1,0 +1,12 @@
+use Rattle.std.proofs.Common.{refl, ◌∙◌}
+use Rattle.cache_profile.proofs.Following.{none_by_routine}
+use Rattle.cache_profile.proofs.profile.CacheProfile.new.Goals as goal
+
+pub returns : goal.returns
+returns g c = record {
+  shape_is = c.in_ok-new.ensures.shape ∙ c.requires;
+  cache = c.in_ok-new.ensures.empty;
+  calls = c.new-2.ensures;
+  routines = c.new-3.ensures.items ∙ none_by_routine;
+  steps_are = refl;
+}

@@ -1,0 +1,144 @@
+//! The misses of a run that goes on.
+ghost use Rattle.std.specs.Prelude.{◌≡◌, ◌<◌, [], ◌∷◌, List, length, slice_get, IfOk, OnErr, OnOk};
+ghost use Rattle.trace_model.specs.declared.event_kinds.Event.{Event};
+ghost use Rattle.trace_model.specs.declared.event_kinds.Event.TheVariants.{Read, Write};
+ghost use Rattle.call_tracker.specs.CallStacks.{StandsFor as CallsOf};
+ghost use Rattle.cache_profile.specs.ByRoutine.{innermost};
+ghost use Rattle.cache_profile.specs.Profile.{MayAccess, StandsFor};
+
+use crate::RoutineMisses;
+use crate::lines::access_words;
+use crate::routines::add;
+use cache_lines::{Cache, Shape};
+use call_tracker::CallStacks;
+use guest_words::{Addr, Tid, Word};
+use std::alloc::{AllocError, Global};
+use std::marker::{Brand, Model, PhantomData};
+use trace_model::{Event, Observed, Observer};
+
+/// The shape of a cache, carried by a type: what is known of an observer after a run is its type and its past.
+pub trait Shaped {
+    ghost use Rattle.cache_lines.specs.Shapes.{Form};
+
+    ghost shape: { Form };
+}
+
+impl Shaped for Brand {
+    ghost shape = { record { sets = 1; ways = 1; line = 4 } };
+}
+
+/// The line accesses and the misses of the events so far, by routine, for a cache of the shape that `K` carries. It takes all
+/// pasts. An access costs as much as the cache has ways; a routine that comes first moves those with entries above its own.
+#[derive(Drop)]
+pub struct CacheProfile<K: Shaped> {
+    cache: Cache,
+    calls: CallStacks,
+    routines: Vec<RoutineMisses>,
+    // Where the routine of the last access stands.
+    last: usize,
+    steps: u64,
+    of: PhantomData<K>,
+}
+
+impl<K: Shaped> Model for CacheProfile<K> {
+    ghost use Rattle.cache_profile.specs.Profile.{Kept};
+
+    ghost Value = { Kept };
+
+    ghost view = { λ p. record { cache = p.cache; calls = p.calls; routines = p.routines.items; steps = p.steps } };
+}
+
+/// The entry of the routine that runs in the thread: that of its innermost open call.
+fn running(calls: &CallStacks, tid: Tid) -> Addr
+    ensures { (past : List Event) → CallsOf calls.now past → result ≡ innermost past tid }
+{
+    match calls.top(tid) {
+        Some(call) => call.entry,
+        None => 0,
+    }
+}
+
+impl<K: Shaped> CacheProfile<K> {
+    /// No event so far.
+    pub fn new(alloc: Global, shape: Shape) -> Result<CacheProfile<K>, AllocError>
+        requires { shape ≡ K.shape }
+        ensures { IfOk result (λ profile. StandsFor K.shape profile []) }
+    {
+        Ok(CacheProfile {
+            cache: Cache::new(alloc, shape)?,
+            calls: CallStacks::new(alloc),
+            routines: Vec::new(alloc),
+            last: 0,
+            steps: 0,
+            of: PhantomData,
+        })
+    }
+
+    /// How many routines have line accesses.
+    pub fn routines(&self) -> usize
+        ensures { result ≡ length self.now.routines }
+    {
+        self.routines.len()
+    }
+
+    /// The line accesses of a routine, the routines by rising entry.
+    pub fn routine(&self, i: usize) -> RoutineMisses
+        requires { i < length self.now.routines }
+        ensures { slice_get self.now.routines i ≡ Some result }
+    {
+        self.routines[i]
+    }
+
+    /// The steps of all threads.
+    pub fn steps(&self) -> u64
+        ensures { result ≡ self.now.steps }
+    {
+        self.steps
+    }
+
+    // The access of these words by the thread.
+    fn access(&mut self, tid: Tid, first: Word, count: u32) -> Result<(), AllocError>
+        requires { MayAccess K.shape self.old first count }
+        ensures read { (past : List Event) → StandsFor K.shape self.old past
+            → OnOk result (StandsFor K.shape self.new (Read tid first count ∷ past)) }
+        ensures write { (past : List Event) → StandsFor K.shape self.old past
+            → OnOk result (StandsFor K.shape self.new (Write tid first count ∷ past)) }
+        ensures refused { OnErr result (self.new ≡ self.old) }
+    {
+        self.routines.reserve(1)?;
+        let entry = running(&self.calls, tid);
+        let event = access_words(&mut self.cache, first, count);
+        self.last = add(
+            &mut self.routines,
+            self.last,
+            entry,
+            event.accesses,
+            event.misses,
+        );
+        Ok(())
+    }
+}
+
+impl<K: Shaped> Observer for CacheProfile<K> {
+    ghost use Rattle.std.specs.Prelude.{true, refl};
+    ghost use Rattle.cache_profile.specs.Profile.{StandsFor};
+
+    ghost stands = { StandsFor K.shape };
+
+    ghost fits = { λ profile past. true };
+
+    ghost fits_closed = { λ profile e past fits. refl };
+
+    fn observe(&mut self, e: Event) -> Result<Observed, AllocError> {
+        match e {
+            Event::Read { tid, first, count } => self.access(tid, first, count)?,
+            Event::Write { tid, first, count } => self.access(tid, first, count)?,
+            Event::Fill { .. } => {}
+            Event::Step { .. } => self.steps += 1,
+            _ => {
+                self.calls.apply(e)?;
+            }
+        }
+        Ok(Observed::Taken)
+    }
+}
