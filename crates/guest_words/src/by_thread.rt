@@ -76,8 +76,8 @@ impl<T> ByThread<T> {
         }
     }
 
-    // The value of the thread, at whatever place.
-    #[inline(never)]
+    // The value of the thread, at whatever place. Inlined, it shows the compiler where there has to be one.
+    #[inline(always)]
     fn search(&self, tid: Tid) -> Option<&T>
         ensures { option_copied result ≡ value_of self.now.list tid }
     {
@@ -110,7 +110,7 @@ impl<T> ByThread<T> {
     }
 
     // The value of the thread, for writing, at whatever place.
-    #[inline(never)]
+    #[inline(always)]
     fn search_mut(&mut self, tid: Tid) -> Option<&mut T>
         ensures* writes_back { sem 𝓛 (lends_value T.row self.entry tid result) }
         ensures found { option_copied_mut result ≡ value_of self.old.list tid }
