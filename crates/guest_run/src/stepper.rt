@@ -185,7 +185,7 @@ fn observe_step<W: Observer>(tid: Tid, observer: &mut W) -> Result<Observed, All
 }
 
 // Hands out a step and its accesses.
-#[inline(always)]
+#[inline(never)]
 fn observe_access<W: Observer>(
     tid: Tid,
     access: Access,
@@ -214,7 +214,7 @@ fn observe_access<W: Observer>(
 }
 
 // Hands out a step, and the calls and returns of its jump.
-#[inline(always)]
+#[inline(never)]
 fn observe_jump<W: Observer>(
     tid: Tid,
     jump: JumpKind,

@@ -1,5 +1,5 @@
 //! Values of threads, by their numbers.
-ghost use Rattle.std.specs.Prelude.{◌≡◌, ◌==◌, ◌≤◌, ◌+◌, ◌<◌, ◌++◌, ◌∷◌, [], Some, length, All, IsOk, OnOk, OnErr};
+ghost use Rattle.std.specs.Prelude.{◌≡◌, ◌==◌, ◌≤◌, ◌+◌, ◌<◌, ◌++◌, ◌∷◌, [], Some, true, length, All, IsOk, OnOk, OnErr};
 ghost use Rattle.std.specs.Borrow.{sem};
 ghost use Rattle.std.specs.List.{position};
 ghost use Rattle.std.specs.Option.{option_copied, option_copied_mut};
@@ -70,6 +70,17 @@ impl<T> ByThread<T> {
     pub fn get(&self, tid: Tid) -> Option<&T>
         ensures { option_copied result ≡ value_of self.now.list tid }
     {
+        match self.entries.first() {
+            Some(entry) if entry.0 == tid => Some(&entry.1),
+            _ => self.search(tid),
+        }
+    }
+
+    // The value of the thread, at whatever place. Inlined, it shows the compiler where there has to be one.
+    #[inline(always)]
+    fn search(&self, tid: Tid) -> Option<&T>
+        ensures { option_copied result ≡ value_of self.now.list tid }
+    {
         let index = find(&self.entries, tid)?;
         Some(&self.entries[index].1)
     }
@@ -77,6 +88,30 @@ impl<T> ByThread<T> {
     /// The value of the thread, for writing.
     #[inline(always)]
     pub fn get_mut(&mut self, tid: Tid) -> Option<&mut T>
+        ensures* writes_back { sem 𝓛 (lends_value T.row self.entry tid result) }
+        ensures found { option_copied_mut result ≡ value_of self.old.list tid }
+    {
+        if self.is_first(tid) {
+            Some(self.at_mut(tid, 0))
+        } else {
+            self.search_mut(tid)
+        }
+    }
+
+    // Whether the thread is the first.
+    #[inline(always)]
+    fn is_first(&self, tid: Tid) -> bool
+        ensures { result ≡ true → position (λ x. x.0 == tid) self.now.list ≡ Some 0 }
+    {
+        match self.entries.first() {
+            Some(entry) => entry.0 == tid,
+            None => false,
+        }
+    }
+
+    // The value of the thread, for writing, at whatever place.
+    #[inline(always)]
+    fn search_mut(&mut self, tid: Tid) -> Option<&mut T>
         ensures* writes_back { sem 𝓛 (lends_value T.row self.entry tid result) }
         ensures found { option_copied_mut result ≡ value_of self.old.list tid }
     {

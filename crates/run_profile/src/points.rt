@@ -10,6 +10,7 @@ use std::alloc::AllocError;
 use trace_model::Done;
 
 /// Adds activations that ended to the points, those from the place `added` on. An `Err` has added some of them.
+#[inline(always)]
 pub(crate) fn add_ended(
     points: &mut Table,
     ended: &[Done],

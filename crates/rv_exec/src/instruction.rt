@@ -1,8 +1,8 @@
 //! One instruction of a thread.
-ghost use Rattle.std.specs.Prelude.{◌≡◌, ◌-◌, ℕ, false};
+ghost use Rattle.std.specs.Prelude.{◌≡◌, ◌-◌};
 ghost use Rattle.guest_memory.specs.Reserved.{HoldAtMost, without_thread};
 ghost use Rattle.guest_memory.specs.ReservedBy.{reserved_by};
-ghost use Rattle.rv_exec.specs.Effects.{ExecState, accesses_memory, branched, effect, exec_state_of, value, with_registers};
+ghost use Rattle.rv_exec.specs.Effects.{branched, effect, exec_state_of, value};
 ghost use Rattle.rv_exec.specs.Operations.{is_taken, add_offset};
 
 use crate::atomics::{Operands, atomic};
@@ -55,25 +55,6 @@ pub fn execute(
             let (at, n) = (cpu.value(base), cpu.value(value));
             atomic(cpu, memory, held, tid, op, Operands { rd, at, n })
         }
-        // each of these apart, so that its code looks at the instruction once
-        Instr::Lui { .. } => execute_on_registers(cpu, i),
-        Instr::Auipc { .. } => execute_on_registers(cpu, i),
-        Instr::Jal { .. } => execute_on_registers(cpu, i),
-        Instr::Jalr { .. } => execute_on_registers(cpu, i),
-        Instr::Branch { .. } => execute_on_registers(cpu, i),
-        Instr::Immediate { .. } => execute_on_registers(cpu, i),
-        Instr::Register { .. } => execute_on_registers(cpu, i),
-        Instr::Fence | Instr::FenceI | Instr::Ecall | Instr::Ebreak => execute_on_registers(cpu, i),
-    }
-}
-
-/// Carries out an instruction that accesses no memory.
-#[inline(always)]
-fn execute_on_registers(cpu: &mut Cpu, i: Instr) -> Outcome
-    requires { accesses_memory i ≡ false }
-    ensures { (tid : ℕ) (c : ExecState) → c.registers ≡ cpu.old → (result, with_registers cpu.new c) ≡ effect tid i c }
-{
-    match i {
         Instr::Lui { rd, imm } => cpu.compute(rd, imm << 12),
         Instr::Auipc { rd, imm } => cpu.compute(rd, cpu.pc.wrapping_add(imm << 12)),
         Instr::Jal { rd, offset } => cpu.jump_and_link(rd, add_offset(cpu.pc, offset)),
@@ -105,7 +86,6 @@ fn execute_on_registers(cpu: &mut Cpu, i: Instr) -> Outcome
         Instr::Ebreak => Outcome::Fault {
             kind: FaultKind::Break,
         },
-        Instr::Load { .. } | Instr::Store { .. } | Instr::Atomic { .. } => unreachable!(),
     }
 }
 

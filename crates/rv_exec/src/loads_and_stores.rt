@@ -61,8 +61,8 @@ fn store_size(kind: StoreKind) -> Size
     }
 }
 
-/// A load.
-#[inline(always)]
+/// A load. It stands apart from the other instructions, whose code is then short enough to be inlined in the run's loop.
+#[inline(never)]
 pub fn load(cpu: &mut Cpu, memory: &GuestMemory, kind: LoadKind, rd: Reg, at: Addr) -> Outcome
     ensures { (result, cpu.new) ≡ loads kind rd at (memory_of memory.now) cpu.old }
 {
@@ -93,8 +93,8 @@ fn load_as(cpu: &mut Cpu, memory: &GuestMemory, kind: LoadKind, rd: Reg, at: Add
     }
 }
 
-/// A store of a register's lowest bytes.
-#[inline(always)]
+/// A store of a register's lowest bytes, which stands apart as a load does.
+#[inline(never)]
 pub fn store(
     cpu: &mut Cpu,
     memory: &mut GuestMemory,

@@ -66,6 +66,7 @@ fn end_call<S: Lanes>(
 }
 
 /// Ends so many calls of the thread, the innermost first, and records them. There is room for the records.
+#[inline(always)]
 pub(crate) fn end_calls<S: Lanes>(
     threads: &mut Threads<S>,
     tid: Tid,

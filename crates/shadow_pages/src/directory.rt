@@ -36,6 +36,7 @@ impl Directory {
     }
 
     /// The place of a page.
+    #[inline(always)]
     pub fn place(&self, number: u32) -> Option<usize>
         ensures { result ≡ entry self.now number }
     {

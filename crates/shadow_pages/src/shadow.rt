@@ -96,6 +96,7 @@ impl<S: Stamp> Shadow<S> {
     }
 
     /// The stamp of the word: that of the number 0 where no page has the word.
+    #[inline(always)]
     pub fn get(&self, w: Word) -> S
         ensures { S.number_of result ≡ stamp_at self.now.pages w }
     {

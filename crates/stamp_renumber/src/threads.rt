@@ -101,6 +101,7 @@ impl<S: Lanes> Threads<S> {
     }
 
     // Makes the room for the mark of one more frame.
+    #[inline(always)]
     fn reserve_mark(&mut self) -> Result<(), AllocError>
         ensures room { OnOk result (1 ≤ self.new.marks) }
         ensures threads { self.new.threads ≡ self.old.threads }
@@ -117,6 +118,7 @@ impl<S: Lanes> Threads<S> {
     }
 
     /// Makes the room for one more frame of the thread and for its mark.
+    #[inline(always)]
     pub fn reserve(&mut self, tid: Tid) -> Result<(), AllocError>
         requires lives { is_some (value_of self.old.threads tid) ≡ true }
         ensures room { OnOk result ((1 ≤ spare_of self.new.threads tid) × (1 ≤ self.new.marks)) }
@@ -129,6 +131,7 @@ impl<S: Lanes> Threads<S> {
     }
 
     /// One more frame of the thread, inside all its others. It is not refused where there is room for it and its mark.
+    #[inline(always)]
     pub fn push(&mut self, tid: Tid, start: S) -> Result<(), AllocError>
         requires lives { is_some (value_of self.old.threads tid) ≡ true }
         requires above { All (λ s. s < S.number_of start) (starts_of (frames_of self.old.threads tid)) }

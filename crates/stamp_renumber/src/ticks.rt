@@ -16,6 +16,7 @@ pub struct Ticked {
 
 /// Counts one more. Where the counter is at the greatest stamp, all stamps are renumbered in the order that a profiler looks
 /// at, and it goes on above them. It takes no memory.
+#[inline(always)]
 pub fn tick<S: Lanes>(threads: &mut Threads<S>, writes: &mut Shadow<S>, counter: u32) -> Ticked
     requires within { counter ≤ S.MAX }
     requires room { 3 * length (all_starts threads.old.threads) + 3 ≤ S.MAX }

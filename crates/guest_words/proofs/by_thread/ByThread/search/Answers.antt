@@ -4,7 +4,7 @@ use Rattle.std.specs.Option.{option_copied}
 use Rattle.std.specs.List.{position}
 use Rattle.guest_words.specs.ByThread.{Table, value_of}
 use Rattle.guest_words.proofs.ThreadTables.{place_none, place_found}
-use Rattle.guest_words.proofs.by_thread.ByThread.get.Goals as goal
+use Rattle.guest_words.proofs.by_thread.ByThread.search.Goals as goal
 
 pub returns-in_err-index : goal.returns-in_err-index
 returns-in_err-index g c =

@@ -3,7 +3,7 @@ use Rattle.std.specs.Prelude.{◌==◌}
 use Rattle.std.specs.List.{position}
 use Rattle.guest_words.specs.ByThread.{Table}
 use Rattle.guest_words.proofs.ThreadTables.{place_none}
-use Rattle.guest_words.proofs.by_thread.ByThread.get_mut.Goals as goal
+use Rattle.guest_words.proofs.by_thread.ByThread.search_mut.Goals as goal
 
 pub returns-in-None : goal.returns-in-None
 returns-in-None g c =
