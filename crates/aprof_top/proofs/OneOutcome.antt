@@ -2,12 +2,12 @@
 use Rattle.std.proofs.Common.{◌≡◌, ℕ, List, [], Option, Some, None, sym, ap, ◌∙◌}
 use Rattle.thread_sched.proofs.Read.{never_both, one_bad_line, read_once}
 use Rattle.command_line.specs.Options.{RunOptions}
-use Rattle.command_line.specs.Options.Asked.{Run, Trace, Demo}
+use Rattle.command_line.specs.Options.Asked.{Run, Trace, Cache, Demo}
 use Rattle.demo_guest.specs.Image.{OneDemoFile}
 use Rattle.elf_image.specs.Reading.{image_of}
 use Rattle.elf_image.specs.declared.error.ElfError.{ElfError}
 use Rattle.aprof_top.specs.Loads.{Loaded, loaded_of}
-use Rattle.aprof_top.specs.Outcome.{ByImage, Follows, IsScheduled, Job, Outcome, Stage, demo_files, demo_options, demo_outcome, run_job, scheduled_outcome, stage, trace_job}
+use Rattle.aprof_top.specs.Outcome.{ByImage, Follows, IsScheduled, Job, Outcome, Stage, cache_job, demo_files, demo_options, demo_outcome, run_job, scheduled_outcome, stage, trace_job}
 use Rattle.aprof_top.specs.Outcome.Stage.{PastLimit, Loading, Complete}
 use Rattle.aprof_top.specs.Laws.{OneOutcome}
 use Rattle.aprof_top.specs.Run.{run_of}
@@ -38,6 +38,7 @@ pub one_outcome : OneDemoFile → OneOutcome
 one_outcome one_file None files a b p q = p ∙ sym q
 one_outcome one_file (Some (Run options)) files a b p q = follows_once (run_job options) files a b (stage options.guest files) p q
 one_outcome one_file (Some (Trace options)) files a b p q = follows_once (trace_job options) files a b (stage options.guest files) p q
+one_outcome one_file (Some (Cache options)) files a b p q = follows_once (cache_job options) files a b (stage options.guest files) p q
 one_outcome one_file (Some (Demo number)) files a b p q =
     p.answered
     ∙ ap (λ file. demo_outcome number (image_of file) (run_of B32 demo_options (demo_files file) [])) (one_file number p.file q.file p.is_demo q.is_demo)

@@ -4,11 +4,20 @@ use Rattle.std.proofs.lemmas.List.{map-append, take_more}
 use Rattle.std.proofs.lemmas.Option.{get_or_from_slice_get, slice_get_within}
 use Rattle.elf_image.specs.Image.{Executable}
 use Rattle.cost_points.specs.Points.{Routine}
+use Rattle.cache_profile.specs.declared.routines.RoutineMisses.{RoutineMisses}
+use Rattle.aprof_top.specs.CacheMisses.{named_misses}
 use Rattle.aprof_top.specs.Report.{named}
+
+-- one item more
+map-more : {X Y : Type 0} (f : X → Y) (xs : List X) (i : ℕ) (x : X) → slice_get xs i ≡ Some x → map f (take (i + 1) xs) ≡ map f (take i xs) ++ f x ∷ []
+map-more f xs i x e =
+    ap (map f) (take_more xs i x (slice_get_within xs i x e))
+    ∙ map-append f (take i xs) (get_or xs i x ∷ [])
+    ∙ ap (λ y. map f (take i xs) ++ f y ∷ []) (get_or_from_slice_get xs i x x e)
 
 -- one routine more
 pub named-more : (image : Executable) (routines : List Routine) (i : ℕ) (r : Routine) → slice_get routines i ≡ Some r → map (named image) (take (i + 1) routines) ≡ map (named image) (take i routines) ++ named image r ∷ []
-named-more image routines i r e =
-    ap (map (named image)) (take_more routines i r (slice_get_within routines i r e))
-    ∙ map-append (named image) (take i routines) (get_or routines i r ∷ [])
-    ∙ ap (λ s. map (named image) (take i routines) ++ named image s ∷ []) (get_or_from_slice_get routines i r r e)
+named-more image = map-more (named image)
+
+pub misses-more : (image : Executable) (routines : List RoutineMisses) (i : ℕ) (r : RoutineMisses) → slice_get routines i ≡ Some r → map (named_misses image) (take (i + 1) routines) ≡ map (named_misses image) (take i routines) ++ named_misses image r ∷ []
+misses-more image = map-more (named_misses image)

@@ -75,12 +75,15 @@ pub none_refused : {T : Type 0} (o : Option SetupError) (m : T) → IfSome o (λ
 none_refused None m same = refl
 none_refused (Some why) m same = absurd (grind (arith, same))
 
--- the run of the machine that began so
-pub seen_run : (bits : StampBits) (options : GuestOptions) (loaded : Loaded) (turns : List Entry) (image : Executable) (files : List Input) (stdin : List ℕ) → image ≡ image_of loaded.image → files ≡ with_inputs [] (inputs options) loaded.inputs → stdin ≡ loaded.stdin → observed_from (is_within (greatest bits)) options turns image.entry (start image (arguments options) files stdin) ≡ run_of bits options loaded turns
+-- what is observed of the run of the machine that began so
+pub seen_by : (fits : List Event → Bool) (options : GuestOptions) (loaded : Loaded) (turns : List Entry) (image : Executable) (files : List Input) (stdin : List ℕ) → image ≡ image_of loaded.image → files ≡ with_inputs [] (inputs options) loaded.inputs → stdin ≡ loaded.stdin → observed_from fits options turns image.entry (start image (arguments options) files stdin) ≡ observed_from fits options turns (image_of loaded.image).entry (first_state options loaded)
 unfolding first_state
-seen_run bits options loaded turns image files stdin is files_are stdin_is =
-    ap (λ i. observed_from (is_within (greatest bits)) options turns i.entry (start i (arguments options) files stdin)) is
-    ∙ ap₂ (λ f s. observed_from (is_within (greatest bits)) options turns (image_of loaded.image).entry (start (image_of loaded.image) (arguments options) f s)) files_are stdin_is
+seen_by fits options loaded turns image files stdin is files_are stdin_is =
+    ap (λ i. observed_from fits options turns i.entry (start i (arguments options) files stdin)) is
+    ∙ ap₂ (λ f s. observed_from fits options turns (image_of loaded.image).entry (start (image_of loaded.image) (arguments options) f s)) files_are stdin_is
+
+pub seen_run : (bits : StampBits) (options : GuestOptions) (loaded : Loaded) (turns : List Entry) (image : Executable) (files : List Input) (stdin : List ℕ) → image ≡ image_of loaded.image → files ≡ with_inputs [] (inputs options) loaded.inputs → stdin ≡ loaded.stdin → observed_from (is_within (greatest bits)) options turns image.entry (start image (arguments options) files stdin) ≡ run_of bits options loaded turns
+seen_run bits options loaded turns image files stdin is files_are stdin_is = seen_by (is_within (greatest bits)) options loaded turns image files stdin is files_are stdin_is
 
 -- a refusal is handed out by nothing
 handed_refusal : (job : Job) (loaded : Loaded) (v : Verdict) (o : Outside) → IsRun job loaded (refusal v) → FilesRun job loaded o o (ending.Decided v)

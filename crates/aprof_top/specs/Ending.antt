@@ -2,7 +2,7 @@
 use Rattle.std.specs.Prelude.{◌≡◌, ◌⊎◌, ℕ, List, Option, Some, None, option_map}
 use Rattle.std.specs.Borrow.{Bor}
 use Rattle.command_line.specs.Options.{Asked, AsksFor, GuestOptions}
-use Rattle.command_line.specs.Options.Asked.{Run, Trace, Demo}
+use Rattle.command_line.specs.Options.Asked.{Run, Trace, Cache, Demo}
 use Rattle.command_line.specs.Read.{guest_in}
 use Rattle.command_line.specs.declared.commands.CommandError.{CommandError}
 use Rattle.command_line.specs.declared.commands.CommandError.TheVariants as command
@@ -77,6 +77,7 @@ known_guest guest = option_map (λ g. guest_in g.now) guest
 abbrev pub guest_of : Asked → Option GuestOptions
 guest_of (Run options) = Some options.guest
 guest_of (Trace options) = Some options.guest
+guest_of (Cache options) = Some options.guest
 guest_of (Demo number) = None
 
 -- the end that an ending is, of a command that runs this guest

@@ -2,7 +2,7 @@
 use Rattle.std.specs.Prelude.{◌⊎◌, ◌≤◌, ℕ, List, [], length, Option, Some, None}
 use Rattle.std.specs.List.{AllByRecursion}
 use Rattle.command_line.specs.Options.{Asked, AsksFor}
-use Rattle.command_line.specs.Options.Asked.{Run, Trace, Demo}
+use Rattle.command_line.specs.Options.Asked.{Run, Trace, Cache, Demo}
 use Rattle.host_io.specs.Faults.{Rose}
 use Rattle.aprof_top.specs.Limits.{file_limit}
 use Rattle.aprof_top.specs.Loads.{loaded_paths}
@@ -14,6 +14,7 @@ abbrev pub paths_of : Option Asked → List (List ℕ)
 paths_of None = []
 paths_of (Some (Run options)) = loaded_paths options.guest
 paths_of (Some (Trace options)) = loaded_paths options.guest
+paths_of (Some (Cache options)) = loaded_paths options.guest
 paths_of (Some (Demo number)) = []
 
 -- What a call finds: what its words ask for, and the bytes of the first files that this loads, as far as the contents are

@@ -20,6 +20,10 @@ use Rattle.run_profile.specs.Profile.{AreTotalsOf}
 use Rattle.aprof_top.specs.declared.delivery.Store.{Store}
 use Rattle.aprof_top.specs.declared.profiled_run.ProfiledRun.{ProfiledRun}
 use Rattle.aprof_top.specs.declared.traced_run.TracedRun.{TracedRun}
+use Rattle.cache_lines.specs.Shapes.{Form}
+use Rattle.cache_profile.specs.ReportText.{Reported}
+use Rattle.elf_image.specs.Image.{Executable}
+use Rattle.aprof_top.specs.CacheMisses.{misses_of}
 use Rattle.run_trace.specs.Entries.{entries_begun}
 use Rattle.run_trace.specs.declared.written.EventText.{EventText}
 use Rattle.run_trace.specs.Kept.{IsTooLong}
@@ -80,6 +84,16 @@ pub record IsTraced (run : Profiled) (before after : Sinks) (traced : TracedRun)
 abbrev pub ImageIsTraced : Option SetupError → Profiled → Sinks → Sinks → Result TracedRun Ending → Type 0
 ImageIsTraced setup run before after (Ok traced) = (setup ≡ None) × IsTraced run before after traced
 ImageIsTraced setup run before after (Err e) = RunStops setup run before after e
+
+-- The run came to its end: this is the report of its cache misses, and all of its output was put.
+pub record IsMissed (shape : Form) (image : Executable) (run : Profiled) (before after : Sinks) (report : Reported) : Type 0 where
+  pub report_is : report ≡ misses_of shape image run.finish run.past
+  pub output : after ≡ with_output run.moves before
+
+-- How the run of an executable ends whose cache misses are counted.
+abbrev pub ImageIsMissed : Form → Executable → Option SetupError → Profiled → Sinks → Sinks → Result Reported Ending → Type 0
+ImageIsMissed shape image setup run before after (Ok report) = (setup ≡ None) × IsMissed shape image run before after report
+ImageIsMissed shape image setup run before after (Err e) = RunStops setup run before after e
 
 -- the path and the bytes of a file to store
 abbrev pub store_of : Store → List ℕ × List ℕ

@@ -1,5 +1,6 @@
 -- What a reader has to believe: the headline is IsAnswered of Answers, over these.
 pub mod Answers
+pub mod CacheMisses
 pub mod Delivery
 pub mod Ends
 pub mod Found

@@ -1,7 +1,7 @@
 -- What the written product answers to a command, over the files that it loads.
 use Rattle.std.specs.Prelude.{◌≡◌, ℕ, ◌^◌, codes, nat_lt, List, [], ◌∷◌, ◌++◌, length, Option, Some, None, if◌then◌else◌}
-use Rattle.command_line.specs.Options.{Asked, GuestOptions, RunOptions, TraceOptions, arguments}
-use Rattle.command_line.specs.Options.Asked.{Run, Trace, Demo}
+use Rattle.command_line.specs.Options.{Asked, CacheOptions, GuestOptions, RunOptions, TraceOptions, arguments}
+use Rattle.command_line.specs.Options.Asked.{Run, Trace, Cache, Demo}
 use Rattle.elf_image.specs.declared.error.ElfError.{ElfError}
 use Rattle.elf_image.specs.Image.{Executable}
 use Rattle.elf_image.specs.Reading.{image_of}
@@ -20,9 +20,11 @@ use Rattle.thread_sched.specs.declared.entry.Entry.{Entry}
 use Rattle.thread_sched.specs.ScheduleText as recordings
 use Rattle.aprof_top.specs.declared.ending.Verdict.{Verdict}
 use Rattle.aprof_top.specs.declared.ending.Verdict.TheVariants.{BadCommand, BadImage, BadSchedule, TooLarge, Ran, ResultTooLarge, Summarized}
+use Rattle.cache_profile.specs.ReportText.{cache_text}
+use Rattle.aprof_top.specs.CacheMisses.{misses_of}
 use Rattle.aprof_top.specs.Loads.{Loaded, loaded_of, loaded_paths, passes_limit, shared_count}
 use Rattle.aprof_top.specs.Report.{report_of}
-use Rattle.aprof_top.specs.Run.{run_of}
+use Rattle.aprof_top.specs.Run.{run_of, whole_run_of}
 use Rattle.demo_guest.specs.Image.{IsDemoFile}
 use Rattle.aprof_top.specs.Summary.{summary_text}
 use Rattle.aprof_top.specs.Texts.{renumberings_text}
@@ -81,6 +83,16 @@ trace_outcome options image run = record {
   stats = [];
 }
 
+-- what a run leaves whose cache misses are counted: its output, and the report of them
+abbrev pub cache_outcome : CacheOptions → Executable → Profiled → Outcome
+cache_outcome options image run = record {
+  verdict = Ran run.finish;
+  out = bytes_on 1 run.moves;
+  err = bytes_on 2 run.moves;
+  stores = (options.report, cache_text (misses_of options.shape image run.finish run.past)) ∷ [];
+  stats = [];
+}
+
 -- A command that runs a guest: how it is run, and what its run leaves with these files, under these turns.
 pub record Job : Type 0 where
   pub guest : GuestOptions
@@ -96,6 +108,12 @@ abbrev pub trace_job : TraceOptions → Job
 trace_job options = record {
   guest = options.guest;
   leaves = λ loaded turns. trace_outcome options (image_of loaded.image) (run_of B32 options.guest loaded turns);
+}
+
+abbrev pub cache_job : CacheOptions → Job
+cache_job options = record {
+  guest = options.guest;
+  leaves = λ loaded turns. cache_outcome options (image_of loaded.image) (whole_run_of options.guest loaded turns);
 }
 
 -- a guest that can begin is run
@@ -181,6 +199,7 @@ abbrev pub IsOutcome : Option Asked → List (List ℕ) → Outcome → Type 0
 IsOutcome None files outcome = outcome ≡ refusal BadCommand
 IsOutcome (Some (Run options)) files outcome = Follows (run_job options) files outcome (stage options.guest files)
 IsOutcome (Some (Trace options)) files outcome = Follows (trace_job options) files outcome (stage options.guest files)
+IsOutcome (Some (Cache options)) files outcome = Follows (cache_job options) files outcome (stage options.guest files)
 IsOutcome (Some (Demo number)) files outcome = IsDemo number outcome
 
 -- these files decide nothing yet
@@ -188,4 +207,5 @@ abbrev pub IsUndecided : Option Asked → List (List ℕ) → Type 0
 IsUndecided None files = ⊥
 IsUndecided (Some (Run options)) files = stage options.guest files ≡ Loading
 IsUndecided (Some (Trace options)) files = stage options.guest files ≡ Loading
+IsUndecided (Some (Cache options)) files = stage options.guest files ≡ Loading
 IsUndecided (Some (Demo number)) files = ⊥

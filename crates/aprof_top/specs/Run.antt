@@ -1,5 +1,5 @@
 -- The profiled run of an executable.
-use Rattle.std.specs.Prelude.{ℕ, Bool, List, []}
+use Rattle.std.specs.Prelude.{ℕ, Bool, true, List, []}
 use Rattle.command_line.specs.Options.{GuestOptions, arguments, inputs}
 use Rattle.elf_image.specs.Reading.{image_of}
 use Rattle.guest_machine.specs.Machine.{MachineState}
@@ -29,3 +29,8 @@ observed_from fits options turns entry state =
 abbrev pub run_of : StampBits → GuestOptions → Loaded → List Entry → Profiled
 run_of bits options loaded turns =
     observed_from (is_within (greatest bits)) options turns (image_of loaded.image).entry (first_state options loaded)
+
+-- the same of the whole run, whatever its open calls
+abbrev pub whole_run_of : GuestOptions → Loaded → List Entry → Profiled
+whole_run_of options loaded turns =
+    observed_from (λ past. true) options turns (image_of loaded.image).entry (first_state options loaded)

@@ -1,6 +1,7 @@
 //! The top call: it reads the words of a command line, loads its files, runs the guest and stores the report of its run.
 #![tactic(auto)]
 
+mod cache_job;
 mod delivery;
 mod demo;
 mod ending;
@@ -8,6 +9,7 @@ mod guest_job;
 mod laws;
 mod loaded;
 mod loads;
+mod missed_run;
 mod preparation;
 mod profiled_run;
 mod report;

@@ -11,6 +11,7 @@ ghost use Rattle.host_io.specs.Sink.{SinkState};
 ghost use Rattle.command_line.specs.Options.Asked.{Demo};
 ghost use Rattle.command_line.specs.Read.{IsInRange, asked_in};
 
+use crate::cache_job::cache_command;
 use crate::delivery::put_all;
 use crate::demo::run_demo;
 use crate::ending::{Ending, Verdict, ending_by, tell};
@@ -48,6 +49,7 @@ fn do_command<F: Files, O: Sink, E: Sink>(
     match command {
         Command::Run(command) => run_command(alloc, command, files, out, err),
         Command::Trace(command) => trace_command(alloc, command, files, out, err),
+        Command::Cache(command) => cache_command(alloc, command, files, out, err),
         Command::Demo(number) => show_demo(alloc, *number, out),
     }
 }
@@ -59,6 +61,7 @@ fn guest_of<'c, 'a>(command: &'c Command<'a>) -> Option<&'c GuestOptions<'a>>
     match command {
         Command::Run(command) => Some(&command.guest),
         Command::Trace(command) => Some(&command.guest),
+        Command::Cache(command) => Some(&command.guest),
         Command::Demo(_) => None,
     }
 }

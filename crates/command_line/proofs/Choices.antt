@@ -9,9 +9,9 @@ use Rattle.std.proofs.lemmas.Bool.{and_parts, or_parts}
 use Rattle.clap.specs.Takes.{walk_passes}
 use Rattle.clap.specs.Walk.{Waiting, Walk, has_row, idle, option, positional, settled_rows, walked}
 use Rattle.clap.specs.Words.{Row, Text}
-use Rattle.command_line.specs.Plain.{ArePlain, Choice, HasNoRepeat, budget, choice_words, has_plain_value, id_of, is_chosen, is_plain_word, quantum, recording, report, schedule, stamps, stats, stdin, words_of}
+use Rattle.command_line.specs.Plain.{ArePlain, Choice, HasNoRepeat, budget, choice_words, has_plain_value, id_of, is_chosen, is_plain_word, line, quantum, recording, report, schedule, sets, stamps, stats, stdin, ways, words_of}
 use Rattle.command_line.proofs.Rows.{absent_in_both, choice_row, choice_rows, image_is_none, made_rows, no_choice_row, plain_row, tail_rows, word_is_none, word_rows}
-use Rattle.command_line.proofs.Steps.{GuestCommand, has_option, running, tracing, IsNoFlag, Pending, Settles, TakesValue, first_turn, first_word, further_turn, further_word, image_settles, image_turn, image_word, pass_step, plain_is_no_flag, rules, shape, stand, stats_turn, stats_word, takes_budget, takes_output, takes_quantum, takes_recording, takes_schedule, takes_stamps, takes_stdin, turn, words_settle}
+use Rattle.command_line.proofs.Steps.{GuestCommand, has_option, caching, running, tracing, IsNoFlag, Pending, Settles, TakesValue, first_turn, first_word, further_turn, further_word, image_settles, image_turn, image_word, pass_step, plain_is_no_flag, rules, shape, stand, stats_turn, stats_word, takes_budget, takes_line, takes_output, takes_quantum, takes_recording, takes_schedule, takes_sets, takes_stamps, takes_stdin, takes_ways, turn, words_settle}
 
 -- ---- the options
 
@@ -63,9 +63,21 @@ goes_choice k (report v) rows p all h has plain fresh = goes_value k _ _ v rows 
 goes_choice running (recording v) rows p all h has plain fresh = goes_value running _ _ v rows p all takes_recording h (plain_is_no_flag v plain) fresh
 goes_choice running (stamps v) rows p all h has plain fresh = goes_value running _ _ v rows p all takes_stamps h (plain_is_no_flag v plain) fresh
 goes_choice running stats rows p all h has plain fresh = goes_stats rows p all h fresh
+goes_choice caching (sets v) rows p all h has plain fresh = goes_value caching _ _ v rows p all takes_sets h (plain_is_no_flag v plain) fresh
+goes_choice caching (ways v) rows p all h has plain fresh = goes_value caching _ _ v rows p all takes_ways h (plain_is_no_flag v plain) fresh
+goes_choice caching (line v) rows p all h has plain fresh = goes_value caching _ _ v rows p all takes_line h (plain_is_no_flag v plain) fresh
+goes_choice running (sets v) rows p all h has plain fresh = let no : false ≡ true = has in cc
+goes_choice running (ways v) rows p all h has plain fresh = let no : false ≡ true = has in cc
+goes_choice running (line v) rows p all h has plain fresh = let no : false ≡ true = has in cc
 goes_choice tracing (recording v) rows p all h has plain fresh = let no : false ≡ true = has in cc
 goes_choice tracing (stamps v) rows p all h has plain fresh = let no : false ≡ true = has in cc
 goes_choice tracing stats rows p all h has plain fresh = let no : false ≡ true = has in cc
+goes_choice tracing (sets v) rows p all h has plain fresh = let no : false ≡ true = has in cc
+goes_choice tracing (ways v) rows p all h has plain fresh = let no : false ≡ true = has in cc
+goes_choice tracing (line v) rows p all h has plain fresh = let no : false ≡ true = has in cc
+goes_choice caching (recording v) rows p all h has plain fresh = let no : false ≡ true = has in cc
+goes_choice caching (stamps v) rows p all h has plain fresh = let no : false ≡ true = has in cc
+goes_choice caching stats rows p all h has plain fresh = let no : false ≡ true = has in cc
 
 -- none of the choices has a row
 abbrev AllFresh : List Row → List Choice → Type 0

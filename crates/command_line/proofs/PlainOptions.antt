@@ -4,11 +4,11 @@ use Rattle.std.specs.Prelude.{option_map, unwrap_or}
 use Rattle.std.specs.Str.{bytes_eq}
 use Rattle.clap.specs.Words.{Row, Text, all_of, first_of}
 use Rattle.stamps.specs.declared.width.StampBits.{StampBits}
-use Rattle.command_line.specs.Options.{GuestOptions, Run, Trace, bits_of, budget_of, guest_of_rows, guest_with, has_flag, options_of_rows, options_with, quantum_of, trace_with}
-use Rattle.command_line.specs.Plain.{Choice, PlainOptionsAreRead, PlainTraceIsRead, budget, given, id_of, is_chosen, quantum, recording, report, run_words, schedule, stamps, stats, stdin, trace_words, value_of}
+use Rattle.command_line.specs.Options.{Cache, GuestOptions, Run, Trace, bits_of, budget_of, cache_with, guest_of_rows, guest_with, has_flag, options_of_rows, options_with, quantum_of, shape_of_rows, shape_said, trace_with}
+use Rattle.command_line.specs.Plain.{Choice, PlainCacheIsRead, PlainOptionsAreRead, PlainTraceIsRead, budget, cache_words, given, id_of, is_chosen, line, quantum, recording, report, run_words, schedule, sets, stamps, stats, stdin, trace_words, value_of, ways}
 use Rattle.command_line.proofs.Refusals.{asked_is, read_of}
-use Rattle.command_line.proofs.PlainWords.{all_of_run, plain_subcommand}
-use Rattle.command_line.proofs.Steps.{running, tracing}
+use Rattle.command_line.proofs.PlainWords.{plain_subcommand}
+use Rattle.command_line.proofs.Steps.{caching, running, tracing}
 use Rattle.command_line.proofs.Rows.{IsNoChoice, choice_row, choice_rows, image_is_none, made_rows, plain_rows, row_value, tail_rows, unset_rows, word_is_none}
 
 -- a choice of this argument has a value, where that is not `stats`
@@ -21,6 +21,9 @@ has_value id (budget v) apart same = refl
 has_value id (stamps v) apart same = refl
 has_value id stats apart same = let no : false ≡ true = sym apart ∙ same in cc
 has_value id (report v) apart same = refl
+has_value id (sets v) apart same = refl
+has_value id (ways v) apart same = refl
+has_value id (line v) apart same = refl
 
 -- the value of an option, where the rows after those of the options have none
 first_given : (id : Text) (cs : List Choice) (rest : List Row) → bytes_eq (codes "stats") id ≡ false → first_of id rest ≡ None
@@ -45,6 +48,9 @@ flag_given (budget v ∷ cs) rest h = flag_given cs rest h
 flag_given (stamps v ∷ cs) rest h = flag_given cs rest h
 flag_given (stats ∷ cs) rest h = refl
 flag_given (report v ∷ cs) rest h = flag_given cs rest h
+flag_given (sets v ∷ cs) rest h = flag_given cs rest h
+flag_given (ways v ∷ cs) rest h = flag_given cs rest h
+flag_given (line v ∷ cs) rest h = flag_given cs rest h
 
 -- what no option is of is read of the rows after theirs
 first_after : (id : Text) (cs : List Choice) (rest : List Row) → IsNoChoice id → first_of id (choice_rows cs ++ rest) ≡ first_of id rest
@@ -92,9 +98,9 @@ none_behind : (id image : Text) (words : List Text) → IsOption id → first_of
 none_behind id image [] h = rw h.0 refl
 none_behind id image (w ∷ ws) h = rw (h.0, h.1) refl
 
-trace_option_read : (id : Text) (choices : List Choice) (image : Text) (words : List Text) → IsOption id
+bare_option_read : (id : Text) (choices : List Choice) (image : Text) (words : List Text) → IsOption id
     → first_of id (made_rows choices image words) ≡ given id choices
-trace_option_read id choices image words h = first_given id choices (tail_rows image words) h.2 (none_behind id image words h)
+bare_option_read id choices image words h = first_given id choices (tail_rows image words) h.2 (none_behind id image words h)
 
 words_behind : (image : Text) (words : List Text) → unwrap_or (all_of (codes "word") (tail_rows image words)) [] ≡ words
 words_behind image [] = refl
@@ -136,13 +142,13 @@ options_are rows guest width report_path recorded is_given g n r l f =
     ∙ λ k. Some (record { guest = guest; report = report_path; recording = l k; bits = width; stats = f k }))
 
 pub plain_options : PlainOptionsAreRead
-plain_options program choices image words plain zeros report_path turn_steps run_steps width r q b n =
+plain_options program choices image words plain of_run zeros report_path turn_steps run_steps width r q b n =
     let all = run_words program choices image words in
     let given_stats = is_chosen (codes "stats") choices in
     let end = end_rows image words given_stats in
     let rows = plain_rows choices image words in
     asked_is all zeros
-    ∙ (ap read_of (plain_subcommand running program choices image words plain (all_of_run choices))
+    ∙ (ap read_of (plain_subcommand running program choices image words plain of_run)
     ∙ ap (option_map Run) (options_are rows _ width report_path (given (codes "record") choices) given_stats
     (guest_is rows turn_steps run_steps image (given (codes "stdin") choices) (given (codes "schedule") choices) words
     (ap quantum_of (option_read (codes "quantum") choices image words (refl, refl, refl)) ∙ q)
@@ -156,19 +162,42 @@ plain_options program choices image words plain zeros report_path turn_steps run
     (option_read (codes "record") choices image words (refl, refl, refl))
     (flag_given choices end (no_flag image words given_stats))))
 
+-- the guest of plain words where there is no `--stats`
+bare_guest : (choices : List Choice) (image : Text) (words : List Text) (turn_steps run_steps : ℕ)
+    → quantum_of (given (codes "quantum") choices) ≡ Some turn_steps → budget_of (given (codes "budget") choices) ≡ Some run_steps
+    → guest_of_rows (made_rows choices image words) ≡ Some (record {
+      stdin = given (codes "stdin") choices;
+      schedule = given (codes "schedule") choices;
+      quantum = turn_steps;
+      budget = run_steps;
+      image = image;
+      words = words;
+    })
+bare_guest choices image words turn_steps run_steps q b =
+    let end = tail_rows image words in
+    guest_is (made_rows choices image words) turn_steps run_steps image (given (codes "stdin") choices) (given (codes "schedule") choices) words
+    (ap quantum_of (bare_option_read (codes "quantum") choices image words (refl, refl, refl)) ∙ q)
+    (ap budget_of (bare_option_read (codes "budget") choices image words (refl, refl, refl)) ∙ b)
+    (first_after (codes "image") choices end image_is_none)
+    (bare_option_read (codes "stdin") choices image words (refl, refl, refl))
+    (bare_option_read (codes "schedule") choices image words (refl, refl, refl))
+    (ap (λ (o : Option (List Text)). unwrap_or o []) (all_after (codes "word") choices end word_is_none) ∙ words_behind image words)
+
 pub plain_trace_options : PlainTraceIsRead
 plain_trace_options program choices image words plain of_trace zeros trace_path turn_steps run_steps t q b =
-    let all = trace_words program choices image words in
-    let end = tail_rows image words in
-    let rows = made_rows choices image words in
-    asked_is all zeros
+    asked_is (trace_words program choices image words) zeros
     ∙ (ap read_of (plain_subcommand tracing program choices image words plain of_trace)
-    ∙ ap (option_map Trace) (ap₂ trace_with
-    (guest_is rows turn_steps run_steps image (given (codes "stdin") choices) (given (codes "schedule") choices) words
-    (ap quantum_of (trace_option_read (codes "quantum") choices image words (refl, refl, refl)) ∙ q)
-    (ap budget_of (trace_option_read (codes "budget") choices image words (refl, refl, refl)) ∙ b)
-    (first_after (codes "image") choices end image_is_none)
-    (trace_option_read (codes "stdin") choices image words (refl, refl, refl))
-    (trace_option_read (codes "schedule") choices image words (refl, refl, refl))
-    (ap (λ (o : Option (List Text)). unwrap_or o []) (all_after (codes "word") choices end word_is_none) ∙ words_behind image words))
-    (trace_option_read (codes "output") choices image words (refl, refl, refl) ∙ t)))
+    ∙ ap (option_map Trace) (ap₂ trace_with (bare_guest choices image words turn_steps run_steps q b)
+    (bare_option_read (codes "output") choices image words (refl, refl, refl) ∙ t)))
+
+pub plain_cache_options : PlainCacheIsRead
+plain_cache_options program choices image words plain of_cache zeros report_path shape turn_steps run_steps r s q b =
+    let rows = made_rows choices image words in
+    let shape_is : shape_of_rows rows ≡ Some shape =
+    ap₂ (λ sets ways. shape_said sets ways (first_of (codes "line") rows))
+    (bare_option_read (codes "sets") choices image words (refl, refl, refl)) (bare_option_read (codes "ways") choices image words (refl, refl, refl))
+    ∙ (ap (shape_said (given (codes "sets") choices) (given (codes "ways") choices)) (bare_option_read (codes "line") choices image words (refl, refl, refl)) ∙ s) in
+    asked_is (cache_words program choices image words) zeros
+    ∙ (ap read_of (plain_subcommand caching program choices image words plain of_cache)
+    ∙ ap (option_map Cache) (ap₂ (λ g f. cache_with g f (first_of (codes "output") rows)) (bare_guest choices image words turn_steps run_steps q b) shape_is
+    ∙ ap (cache_with (Some _) (Some shape)) (bare_option_read (codes "output") choices image words (refl, refl, refl) ∙ r)))

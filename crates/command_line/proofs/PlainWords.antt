@@ -1,8 +1,9 @@
 -- Plain words are taken, and their rows are these.
-use Rattle.std.proofs.Common.{◌≡◌, Bool, true, false, refl, ap, ap₂, sym, ◌∙◌, ◌&&◌, ◌||◌, List, [], ◌∷◌, ◌++◌, Option, Some, None, codes, append_assoc, cond}
+use Rattle.std.proofs.Common.{◌≡◌, ◌⊎◌, inl, inr, Bool, true, false, refl, ap, ap₂, sym, ◌∙◌, ◌&&◌, ◌||◌, List, [], ◌∷◌, ◌++◌, Option, Some, None, codes, append_assoc, cond}
 use Rattle.std.proofs.lemmas.List.{append-nil}
 use Rattle.std.proofs.lemmas.List.Folds.{list_any-append}
 use Rattle.std.proofs.Math.Bool.{or-false}
+use Rattle.std.proofs.lemmas.Slice.Eq.{bytes_eq-Decides}
 use Rattle.std.specs.Prelude.{drop, fold, is_some, take}
 use Rattle.std.specs.List.{list_all}
 use Rattle.std.specs.Str.{bytes_eq}
@@ -11,12 +12,12 @@ use Rattle.clap.specs.Takes.{built_takes, default_passes, entered_passes, is_giv
 use Rattle.clap.specs.Walk.{Names, Walk, default_rows, finished, has_row, idle, nothing_held, reading_by, rows_after, settled_rows, walk_from, walked, with_default}
 use Rattle.clap.specs.Words.{Row, Rule, Text, built, subcommand_of, takes}
 use Rattle.clap.proofs.OnLiterals.{clap_on_literals}
-use Rattle.command_line.specs.App.{the_app, top_app, run_app, demo_app, trace_app}
-use Rattle.command_line.specs.Plain.{ArePlain, Choice, PlainTraceIsTaken, PlainWordsAreTaken, budget, choice_words, is_chosen, quantum, recording, report, schedule, stamps, stats, stdin}
+use Rattle.command_line.specs.App.{the_app, top_app, run_app, demo_app, trace_app, cache_app}
+use Rattle.command_line.specs.Plain.{ArePlain, Choice, PlainCacheIsTaken, PlainTraceIsTaken, PlainWordsAreTaken, budget, choice_words, id_of, is_chosen, line, quantum, recording, report, schedule, sets, stamps, stats, stdin, ways}
 use Rattle.command_line.proofs.Choices.{ends_guest}
 use Rattle.command_line.proofs.Fixed.{the_app_is_simple}
 use Rattle.command_line.proofs.Rows.{choice_rows, if_unset, image_is_none, made_rows, plain_rows, tail_rows, unset_rows, IsNoChoice}
-use Rattle.command_line.proofs.Steps.{GuestCommand, has_option, rules, running, shape, stand, tracing}
+use Rattle.command_line.proofs.Steps.{GuestCommand, caching, has_option, rules, running, shape, stand, tracing}
 
 -- ---- defaults
 
@@ -35,15 +36,19 @@ no_defaults (a ∷ rest) rows h =
 
 -- only `--stats` of `run` has a default
 pub finished_rows : (rows : List Row) → fold with_default rows (rules running) ≡ rows ++ unset_rows (has_row (codes "stats") rows)
-unfolding the_app top_app run_app demo_app trace_app clap_on_literals
+unfolding the_app top_app run_app demo_app trace_app cache_app clap_on_literals
 finished_rows rows =
     ap (λ x. fold with_default x (drop 6 (rules running))) (no_defaults (take 6 (rules running)) rows (refl, (refl, (refl, (refl, (refl, (refl, tt)))))))
     ∙ (no_defaults (drop 7 (rules running)) (fold with_default rows (take 1 (drop 6 (rules running)))) (refl, (refl, (refl, tt)))
     ∙ if_unset (has_row (codes "stats") rows) rows refl)
 
 pub finished_trace : (rows : List Row) → fold with_default rows (rules tracing) ≡ rows
-unfolding the_app top_app run_app demo_app trace_app clap_on_literals
+unfolding the_app top_app run_app demo_app trace_app cache_app clap_on_literals
 finished_trace rows = no_defaults (rules tracing) rows (refl, (refl, (refl, (refl, (refl, (refl, (refl, tt)))))))
+
+pub finished_cache : (rows : List Row) → fold with_default rows (rules caching) ≡ rows
+unfolding the_app top_app run_app demo_app trace_app cache_app clap_on_literals
+finished_cache rows = no_defaults (rules caching) rows (refl, (refl, (refl, (refl, (refl, (refl, (refl, (refl, (refl, (refl, tt))))))))))
 
 chosen_stats : (cs : List Choice) → has_row (codes "stats") (choice_rows cs) ≡ is_chosen (codes "stats") cs
 chosen_stats [] = refl
@@ -55,6 +60,9 @@ chosen_stats (budget v ∷ cs) = chosen_stats cs
 chosen_stats (stamps v ∷ cs) = chosen_stats cs
 chosen_stats (stats ∷ cs) = refl
 chosen_stats (report v ∷ cs) = chosen_stats cs
+chosen_stats (sets v ∷ cs) = chosen_stats cs
+chosen_stats (ways v ∷ cs) = chosen_stats cs
+chosen_stats (line v ∷ cs) = chosen_stats cs
 
 no_stats_tail : (image : Text) (words : List Text) → has_row (codes "stats") (tail_rows image words) ≡ false
 no_stats_tail image [] = refl
@@ -64,6 +72,7 @@ no_stats_tail image (w ∷ ws) = refl
 abbrev pub all_rows : GuestCommand → List Choice → Text → List Text → List Row
 all_rows running choices image words = plain_rows choices image words
 all_rows tracing choices image words = made_rows choices image words
+all_rows caching choices image words = made_rows choices image words
 
 finished_plain : (k : GuestCommand) (choices : List Choice) (image : Text) (words : List Text)
     → fold with_default (made_rows choices image words) (rules k) ≡ all_rows k choices image words
@@ -76,6 +85,7 @@ finished_plain running choices image words =
     finished_rows made
     ∙ (ap (λ b. made ++ unset_rows b) chosen ∙ append_assoc (choice_rows choices) tail (unset_rows (is_chosen (codes "stats") choices)))
 finished_plain tracing choices image words = finished_trace (made_rows choices image words)
+finished_plain caching choices image words = finished_cache (made_rows choices image words)
 
 -- ---- what is required is there
 
@@ -88,16 +98,21 @@ given_left id (x ∷ xs) ys h = go (bytes_eq x.id id) refl h (given_left id xs y
     go true e k rec = rw e (rw e at k)
     go false e k rec = rw e (rec (rw e at k))
 
-given_output : (cs : List Choice) → is_chosen (codes "output") cs ≡ true → is_given (codes "output") (choice_rows cs) ≡ true
-given_output [] h = let bad : false ≡ true = h in cc
-given_output (stdin v ∷ cs) h = given_output cs h
-given_output (quantum v ∷ cs) h = given_output cs h
-given_output (schedule v ∷ cs) h = given_output cs h
-given_output (recording v ∷ cs) h = given_output cs h
-given_output (budget v ∷ cs) h = given_output cs h
-given_output (stamps v ∷ cs) h = given_output cs h
-given_output (stats ∷ cs) h = given_output cs h
-given_output (report v ∷ cs) h = refl
+-- an option that is chosen is given
+given_chosen : (id : Text) (cs : List Choice) → is_chosen id cs ≡ true → is_given id (choice_rows cs) ≡ true
+given_chosen id [] h = let bad : false ≡ true = h in cc
+given_chosen id (c ∷ cs) h = go (bytes_eq id (id_of c)) refl h (given_chosen id cs)
+  where
+    -- the first is of this argument, or another
+    first : (b : Bool) → bytes_eq (id_of c) id ≡ b → is_given id (choice_rows cs) ≡ true ⊎ (bytes_eq (id_of c) id ≡ true) → is_given id (choice_rows (c ∷ cs)) ≡ true
+    first true e or = rw e refl
+    first false e (inl rest) = rw e rest
+    first false e (inr same) = let no : false ≡ true = sym e ∙ same in cc
+
+    go : (b : Bool) → bytes_eq id (id_of c) ≡ b → is_chosen id (c ∷ cs) ≡ true → (is_chosen id cs ≡ true → is_given id (choice_rows cs) ≡ true)
+        → is_given id (choice_rows (c ∷ cs)) ≡ true
+    go true e k rec = first (bytes_eq (id_of c) id) refl (inr ((bytes_eq-Decides (id_of c) id).1 (sym ((bytes_eq-Decides id (id_of c)).0 e))))
+    go false e k rec = first (bytes_eq (id_of c) id) refl (inl (rec (rw e at k)))
 
 -- the row of the image follows those of the options
 given_after : (id : Text) (cs : List Choice) (rest : List Row) → IsNoChoice id → is_given id rest ≡ true
@@ -105,21 +120,38 @@ given_after : (id : Text) (cs : List Choice) (rest : List Row) → IsNoChoice id
 given_after id [] rest h g = g
 given_after id (c ∷ cs) rest h g = rw (h c) (given_after id cs rest h g)
 
-command_valid : (k : GuestCommand) (rows : List Row) → is_given (codes "output") rows ≡ true → is_given (codes "image") rows ≡ true
-    → is_valid (shape k) rows false ≡ true
-unfolding the_app top_app run_app demo_app trace_app clap_on_literals
-command_valid running rows h k = rw (h, k) refl
-command_valid tracing rows h k = rw (h, k) refl
+-- the options that a command has to have are among the choices
+abbrev pub HasRequired : GuestCommand → List Choice → Type 0
+HasRequired running cs = is_chosen (codes "output") cs ≡ true
+HasRequired tracing cs = is_chosen (codes "output") cs ≡ true
+HasRequired caching cs =
+    (is_chosen (codes "sets") cs ≡ true) × (is_chosen (codes "ways") cs ≡ true) × (is_chosen (codes "line") cs ≡ true) × (is_chosen (codes "output") cs ≡ true)
 
--- they are given among all rows
-given_both : (k : GuestCommand) (choices : List Choice) (image : Text) (words : List Text) → is_chosen (codes "output") choices ≡ true
-    → (is_given (codes "output") (all_rows k choices image words) ≡ true) × (is_given (codes "image") (all_rows k choices image words) ≡ true)
-given_both running choices image words chosen =
+-- an option that is chosen is given among all rows, and so is the image
+given_first : (id : Text) (choices : List Choice) (rest : List Row) → is_chosen id choices ≡ true → is_given id (choice_rows choices ++ rest) ≡ true
+given_first id choices rest chosen = given_left id (choice_rows choices) rest (given_chosen id choices chosen)
+
+command_valid : (k : GuestCommand) (choices : List Choice) (image : Text) (words : List Text) → HasRequired k choices
+    → is_valid (shape k) (all_rows k choices image words) false ≡ true
+unfolding the_app top_app run_app demo_app trace_app cache_app clap_on_literals
+command_valid running choices image words chosen =
     let tail = tail_rows image words ++ unset_rows (is_chosen (codes "stats") choices) in
-    (given_left (codes "output") (choice_rows choices) tail (given_output choices chosen), given_after (codes "image") choices tail image_is_none refl)
-given_both tracing choices image words chosen =
+    let o = given_first (codes "output") choices tail chosen in
+    let i = given_after (codes "image") choices tail image_is_none refl in
+    rw (o, i) refl
+command_valid tracing choices image words chosen =
     let tail = tail_rows image words in
-    (given_left (codes "output") (choice_rows choices) tail (given_output choices chosen), given_after (codes "image") choices tail image_is_none refl)
+    let o = given_first (codes "output") choices tail chosen in
+    let i = given_after (codes "image") choices tail image_is_none refl in
+    rw (o, i) refl
+command_valid caching choices image words chosen =
+    let tail = tail_rows image words in
+    let s = given_first (codes "sets") choices tail chosen.0 in
+    let w = given_first (codes "ways") choices tail chosen.1 in
+    let l = given_first (codes "line") choices tail chosen.2 in
+    let o = given_first (codes "output") choices tail chosen.3 in
+    let i = given_after (codes "image") choices tail image_is_none refl in
+    rw (s, w, l, o, i) refl
 
 -- ---- the command and its words
 
@@ -131,14 +163,16 @@ command_rows k choices image words plain has =
     ∙ (ap (λ rows. fold with_default rows (rules k)) end.settles.rows_are ∙ finished_plain k choices image words)
 
 no_override : (k : GuestCommand) → (shape k).args_override_self ≡ false
-unfolding the_app top_app run_app demo_app trace_app
+unfolding the_app top_app run_app demo_app trace_app cache_app
 no_override running = refl
 no_override tracing = refl
+no_override caching = refl
 
 defaults_pass : (k : GuestCommand) → list_all default_passes (rules k) ≡ true
-unfolding the_app top_app run_app demo_app trace_app clap_on_literals
+unfolding the_app top_app run_app demo_app trace_app cache_app clap_on_literals
 defaults_pass running = refl
 defaults_pass tracing = refl
+defaults_pass caching = refl
 
 level_from : (k : GuestCommand) (words : List Text) (w : Walk) → fold (walked (rules k) []) (stand [] None idle 1) words ≡ w
     → walk_passes (shape k) [] (stand [] None idle 1) words ≡ true
@@ -151,12 +185,11 @@ level_from k words w walk pass settles valid =
     ∙ ap₂ ◌&&◌ (ap (λ (b : Bool). settle_passes (rules k) b w.held) (no_override k) ∙ settles) (ap₂ ◌&&◌ (defaults_pass k) valid))
 
 command_passes : (k : GuestCommand) (choices : List Choice) (image : Text) (words : List Text) → ArePlain choices image words → list_all (has_option k) choices ≡ true
-    → is_chosen (codes "output") choices ≡ true
+    → HasRequired k choices
     → level_passes (shape k) [] nothing_held (choice_words choices ++ image ∷ words) false ≡ true
 command_passes k choices image words plain has chosen =
     let end = ends_guest k choices image words plain has in
-    let both = given_both k choices image words chosen in
-    let valid : is_valid (shape k) (all_rows k choices image words) false ≡ true = command_valid k (all_rows k choices image words) both.0 both.1 in
+    let valid = command_valid k choices image words chosen in
     level_from k _ _ end.walk end.pass end.settles.passes
     (ap (λ rows. is_valid (shape k) (fold with_default rows (rules k)) false) end.settles.rows_are
     ∙ (ap (λ rows. is_valid (shape k) rows false) (finished_plain k choices image words) ∙ valid))
@@ -173,20 +206,23 @@ names = names_of (built the_app)
 abbrev pub name_of : GuestCommand → Text
 name_of running = codes "run"
 name_of tracing = codes "trace"
+name_of caching = codes "cache"
 
 -- the walk stopped at the command, with these words after it
 abbrev at_command : GuestCommand → List Text → Walk
 at_command k words = record (walk_from nothing_held) { stopped = Some (name_of k, words) }
 
 stops_at : (k : GuestCommand) → walked top_rules names (walk_from nothing_held) (name_of k) ≡ at_command k []
-unfolding the_app top_app run_app demo_app trace_app clap_on_literals
+unfolding the_app top_app run_app demo_app trace_app cache_app clap_on_literals
 stops_at running = refl
 stops_at tracing = refl
+stops_at caching = refl
 
 turn_at : (k : GuestCommand) → turn_passes (built the_app).top names (walk_from nothing_held) (name_of k) ≡ true
-unfolding the_app top_app run_app demo_app trace_app clap_on_literals
+unfolding the_app top_app run_app demo_app trace_app cache_app clap_on_literals
 turn_at running = refl
 turn_at tracing = refl
+turn_at caching = refl
 
 stays_at : (k : GuestCommand) (rest before : List Text) → fold (walked top_rules names) (at_command k before) rest ≡ at_command k (before ++ rest)
 unfolding walked
@@ -207,9 +243,10 @@ top_passes k rest =
     ap₂ ◌&&◌ (turn_at k) (ap (λ w. walk_passes (built the_app).top names w rest) (stops_at k) ∙ passes_at k rest [])
 
 enters_command : (k : GuestCommand) (rest : List Text) → entered (built the_app) (Some (name_of k, rest)) ≡ Some (name_of k, rows_after (rules k) [] rest)
-unfolding the_app top_app run_app demo_app trace_app clap_on_literals
+unfolding the_app top_app run_app demo_app trace_app cache_app clap_on_literals
 enters_command running rest = refl
 enters_command tracing rest = refl
+enters_command caching rest = refl
 
 -- what holds after the walk of the top command, by what was met and whether it has matches
 abbrev pub top_ends : Walk → Bool → Bool
@@ -217,14 +254,15 @@ top_ends w has_subcommand = settle_passes top_rules (built the_app).top.args_ove
     && (list_all default_passes top_rules && is_valid (built the_app).top (finished top_rules w.held) has_subcommand)
 
 top_valid : (k : GuestCommand) (rest : List Text) → top_ends (at_command k rest) true ≡ true
-unfolding the_app top_app run_app demo_app trace_app clap_on_literals
+unfolding the_app top_app run_app demo_app trace_app cache_app clap_on_literals
 top_valid k rest = refl
 
 enters_passes : (k : GuestCommand) (rest : List Text) → level_passes (shape k) [] nothing_held rest false ≡ true
     → entered_passes (built the_app) (Some (name_of k, rest)) ≡ true
-unfolding the_app top_app run_app demo_app trace_app clap_on_literals
+unfolding the_app top_app run_app demo_app trace_app cache_app clap_on_literals
 enters_passes running rest h = h
 enters_passes tracing rest h = h
+enters_passes caching rest h = h
 
 built_takes_command : (k : GuestCommand) (rest : List Text) → level_passes (shape k) [] nothing_held rest false ≡ true
     → built_takes (built the_app) nothing_held (name_of k ∷ rest) ≡ true
@@ -236,7 +274,7 @@ built_takes_command k rest h =
     ∙ (ap (λ (o : Option (Text × List Row)). top_ends (at_command k rest) (is_some o)) (enters_command k rest) ∙ top_valid k rest)))
 
 pub after_program : (program : Text) (words : List Text) → argument_words the_app (program ∷ words) ≡ words
-unfolding the_app top_app run_app demo_app trace_app
+unfolding the_app top_app run_app demo_app trace_app cache_app
 after_program program words = refl
 
 -- the words of a whole command line
@@ -244,23 +282,21 @@ abbrev pub command_words : GuestCommand → Text → List Choice → Text → Li
 command_words k program choices image words = program ∷ name_of k ∷ (choice_words choices ++ image ∷ words)
 
 plain_taken : (k : GuestCommand) (program : Text) (choices : List Choice) (image : Text) (words : List Text) → ArePlain choices image words
-    → list_all (has_option k) choices ≡ true → is_chosen (codes "output") choices ≡ true → takes the_app (command_words k program choices image words) ≡ true
+    → list_all (has_option k) choices ≡ true → HasRequired k choices → takes the_app (command_words k program choices image words) ≡ true
 plain_taken k program choices image words plain has chosen =
     let rest = choice_words choices ++ image ∷ words in
     ap₂ ◌&&◌ the_app_is_simple
     (ap (built_takes (built the_app) nothing_held) (after_program program (name_of k ∷ rest))
     ∙ built_takes_command k rest (command_passes k choices image words plain has chosen))
 
--- every option is one of `run`
-pub all_of_run : (choices : List Choice) → list_all (has_option running) choices ≡ true
-all_of_run [] = refl
-all_of_run (c ∷ cs) = all_of_run cs
-
 pub plain_words : PlainWordsAreTaken
-plain_words program choices image words plain chosen = plain_taken running program choices image words plain (all_of_run choices) chosen
+plain_words program choices image words plain of_run chosen = plain_taken running program choices image words plain of_run chosen
 
 pub plain_trace : PlainTraceIsTaken
 plain_trace program choices image words plain of_trace chosen = plain_taken tracing program choices image words plain of_trace chosen
+
+pub plain_cache : PlainCacheIsTaken
+plain_cache program choices image words plain of_cache s w l o = plain_taken caching program choices image words plain of_cache (s, w, l, o)
 
 pub plain_subcommand : (k : GuestCommand) (program : Text) (choices : List Choice) (image : Text) (words : List Text) → ArePlain choices image words
     → list_all (has_option k) choices ≡ true

@@ -7,7 +7,7 @@ use Rattle.clap.specs.Walk.{at_row, has_row, more_values, reading_by, with_value
 use Rattle.clap.specs.Words.{Row, Text}
 use Rattle.clap.specs.declared.parser.matches.ValueSource.TheVariants.{CommandLine, DefaultValue}
 use Rattle.command_line.specs.App.{word_rule}
-use Rattle.command_line.specs.Plain.{Choice, budget, id_of, is_chosen, quantum, recording, report, schedule, stamps, stats, stdin, value_of}
+use Rattle.command_line.specs.Plain.{Choice, budget, id_of, is_chosen, line, quantum, recording, report, schedule, sets, stamps, stats, stdin, value_of, ways}
 
 -- the row of an argument that the words give these values
 abbrev pub plain_row : Text → List Text → Row
@@ -98,6 +98,9 @@ image_is_none (budget v) = refl
 image_is_none (stamps v) = refl
 image_is_none stats = refl
 image_is_none (report v) = refl
+image_is_none (sets v) = refl
+image_is_none (ways v) = refl
+image_is_none (line v) = refl
 
 pub word_is_none : IsNoChoice (codes "word")
 word_is_none (stdin v) = refl
@@ -108,6 +111,9 @@ word_is_none (budget v) = refl
 word_is_none (stamps v) = refl
 word_is_none stats = refl
 word_is_none (report v) = refl
+word_is_none (sets v) = refl
+word_is_none (ways v) = refl
+word_is_none (line v) = refl
 
 pub no_choice_row : (id : Text) (cs : List Choice) → IsNoChoice id → has_row id (choice_rows cs) ≡ false
 no_choice_row id [] h = refl

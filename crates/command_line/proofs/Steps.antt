@@ -11,8 +11,8 @@ use Rattle.clap.specs.Takes.{settle_passes, turn_passes, walk_passes}
 use Rattle.clap.specs.Walk.{Waiting, Walk, has_row, idle, option, positional, settled_rows, walked}
 use Rattle.clap.specs.Words.{Row, Rule, Shape, Text, built}
 use Rattle.clap.proofs.OnLiterals.{clap_on_literals}
-use Rattle.command_line.specs.App.{the_app, top_app, run_app, demo_app, trace_app}
-use Rattle.command_line.specs.Plain.{Choice, is_of_trace, is_plain_word, stats}
+use Rattle.command_line.specs.App.{the_app, top_app, run_app, demo_app, trace_app, cache_app}
+use Rattle.command_line.specs.Plain.{Choice, is_of_cache, is_of_run, is_of_trace, is_plain_word, stats}
 use Rattle.command_line.proofs.Rows.{choice_row, new_row, new_row_kept, plain_row}
 
 -- the commands as `clap` builds them
@@ -25,22 +25,28 @@ demo_shape = unwrap_or (slice_get (built the_app).subs 1) (new_shape [])
 abbrev pub trace_shape : Shape
 trace_shape = unwrap_or (slice_get (built the_app).subs 2) (new_shape [])
 
+abbrev pub cache_shape : Shape
+cache_shape = unwrap_or (slice_get (built the_app).subs 3) (new_shape [])
+
 -- The commands that run a guest.
 pub data GuestCommand : Type 0 where
   running : GuestCommand
   tracing : GuestCommand
+  caching : GuestCommand
 
 abbrev pub shape : GuestCommand → Shape
 shape running = run_shape
 shape tracing = trace_shape
+shape caching = cache_shape
 
 abbrev pub rules : GuestCommand → List Rule
 rules k = (shape k).rules
 
 -- the option is one of the command
 abbrev pub has_option : GuestCommand → Choice → Bool
-has_option running c = true
+has_option running c = is_of_run c
 has_option tracing c = is_of_trace c
+has_option caching c = is_of_cache c
 
 -- an argument whose values are being read
 abbrev pub Pending : Type 0
@@ -100,7 +106,7 @@ pub record TakesValue (k : GuestCommand) (flag id : Text) : Type 0 where
       → Settles k rows (Some (id, word ∷ [])) (rows ++ plain_row id (word ∷ []) ∷ [])
 
 pub takes_stdin : (k : GuestCommand) → TakesValue k (codes "--stdin") (codes "stdin")
-unfolding the_app top_app run_app demo_app trace_app clap_on_literals
+unfolding the_app top_app run_app demo_app trace_app cache_app clap_on_literals
 takes_stdin running = record {
   flag_word = λ rows p. refl;
   flag_turn = λ rows p. and-true _;
@@ -115,9 +121,16 @@ takes_stdin tracing = record {
   value_turn = λ rows word h. rw (h.no_dashes, h.no_long, h.no_short) refl;
   settles = λ rows word h. record { rows_are = new_row (codes "stdin") (word ∷ []) rows h; passes = rw h refl };
 }
+takes_stdin caching = record {
+  flag_word = λ rows p. refl;
+  flag_turn = λ rows p. and-true _;
+  value_word = λ rows word h. rw (h.no_dashes, h.no_long, h.no_short) refl;
+  value_turn = λ rows word h. rw (h.no_dashes, h.no_long, h.no_short) refl;
+  settles = λ rows word h. record { rows_are = new_row (codes "stdin") (word ∷ []) rows h; passes = rw h refl };
+}
 
 pub takes_quantum : (k : GuestCommand) → TakesValue k (codes "--quantum") (codes "quantum")
-unfolding the_app top_app run_app demo_app trace_app clap_on_literals
+unfolding the_app top_app run_app demo_app trace_app cache_app clap_on_literals
 takes_quantum running = record {
   flag_word = λ rows p. refl;
   flag_turn = λ rows p. and-true _;
@@ -132,9 +145,16 @@ takes_quantum tracing = record {
   value_turn = λ rows word h. rw (h.no_dashes, h.no_long, h.no_short) refl;
   settles = λ rows word h. record { rows_are = new_row (codes "quantum") (word ∷ []) rows h; passes = rw h refl };
 }
+takes_quantum caching = record {
+  flag_word = λ rows p. refl;
+  flag_turn = λ rows p. and-true _;
+  value_word = λ rows word h. rw (h.no_dashes, h.no_long, h.no_short) refl;
+  value_turn = λ rows word h. rw (h.no_dashes, h.no_long, h.no_short) refl;
+  settles = λ rows word h. record { rows_are = new_row (codes "quantum") (word ∷ []) rows h; passes = rw h refl };
+}
 
 pub takes_schedule : (k : GuestCommand) → TakesValue k (codes "--schedule") (codes "schedule")
-unfolding the_app top_app run_app demo_app trace_app clap_on_literals
+unfolding the_app top_app run_app demo_app trace_app cache_app clap_on_literals
 takes_schedule running = record {
   flag_word = λ rows p. refl;
   flag_turn = λ rows p. and-true _;
@@ -149,9 +169,16 @@ takes_schedule tracing = record {
   value_turn = λ rows word h. rw (h.no_dashes, h.no_long, h.no_short) refl;
   settles = λ rows word h. record { rows_are = new_row (codes "schedule") (word ∷ []) rows h; passes = rw h refl };
 }
+takes_schedule caching = record {
+  flag_word = λ rows p. refl;
+  flag_turn = λ rows p. and-true _;
+  value_word = λ rows word h. rw (h.no_dashes, h.no_long, h.no_short) refl;
+  value_turn = λ rows word h. rw (h.no_dashes, h.no_long, h.no_short) refl;
+  settles = λ rows word h. record { rows_are = new_row (codes "schedule") (word ∷ []) rows h; passes = rw h refl };
+}
 
 pub takes_budget : (k : GuestCommand) → TakesValue k (codes "--budget") (codes "budget")
-unfolding the_app top_app run_app demo_app trace_app clap_on_literals
+unfolding the_app top_app run_app demo_app trace_app cache_app clap_on_literals
 takes_budget running = record {
   flag_word = λ rows p. refl;
   flag_turn = λ rows p. and-true _;
@@ -166,9 +193,16 @@ takes_budget tracing = record {
   value_turn = λ rows word h. rw (h.no_dashes, h.no_long, h.no_short) refl;
   settles = λ rows word h. record { rows_are = new_row (codes "budget") (word ∷ []) rows h; passes = rw h refl };
 }
+takes_budget caching = record {
+  flag_word = λ rows p. refl;
+  flag_turn = λ rows p. and-true _;
+  value_word = λ rows word h. rw (h.no_dashes, h.no_long, h.no_short) refl;
+  value_turn = λ rows word h. rw (h.no_dashes, h.no_long, h.no_short) refl;
+  settles = λ rows word h. record { rows_are = new_row (codes "budget") (word ∷ []) rows h; passes = rw h refl };
+}
 
 pub takes_output : (k : GuestCommand) → TakesValue k (codes "-o") (codes "output")
-unfolding the_app top_app run_app demo_app trace_app clap_on_literals
+unfolding the_app top_app run_app demo_app trace_app cache_app clap_on_literals
 takes_output running = record {
   flag_word = λ rows p. refl;
   flag_turn = λ rows p. and-true _;
@@ -183,9 +217,16 @@ takes_output tracing = record {
   value_turn = λ rows word h. rw (h.no_dashes, h.no_long, h.no_short) refl;
   settles = λ rows word h. record { rows_are = new_row (codes "output") (word ∷ []) rows h; passes = rw h refl };
 }
+takes_output caching = record {
+  flag_word = λ rows p. refl;
+  flag_turn = λ rows p. and-true _;
+  value_word = λ rows word h. rw (h.no_dashes, h.no_long, h.no_short) refl;
+  value_turn = λ rows word h. rw (h.no_dashes, h.no_long, h.no_short) refl;
+  settles = λ rows word h. record { rows_are = new_row (codes "output") (word ∷ []) rows h; passes = rw h refl };
+}
 
 pub takes_recording : TakesValue running (codes "--record") (codes "record")
-unfolding the_app top_app run_app demo_app trace_app clap_on_literals
+unfolding the_app top_app run_app demo_app trace_app cache_app clap_on_literals
 takes_recording = record {
   flag_word = λ rows p. refl;
   flag_turn = λ rows p. and-true _;
@@ -195,7 +236,7 @@ takes_recording = record {
 }
 
 pub takes_stamps : TakesValue running (codes "--stamps") (codes "stamps")
-unfolding the_app top_app run_app demo_app trace_app clap_on_literals
+unfolding the_app top_app run_app demo_app trace_app cache_app clap_on_literals
 takes_stamps = record {
   flag_word = λ rows p. refl;
   flag_turn = λ rows p. and-true _;
@@ -204,80 +245,123 @@ takes_stamps = record {
   settles = λ rows word h. record { rows_are = new_row (codes "stamps") (word ∷ []) rows h; passes = rw h refl };
 }
 
+pub takes_sets : TakesValue caching (codes "--sets") (codes "sets")
+unfolding the_app top_app run_app demo_app trace_app cache_app clap_on_literals
+takes_sets = record {
+  flag_word = λ rows p. refl;
+  flag_turn = λ rows p. and-true _;
+  value_word = λ rows word h. rw (h.no_dashes, h.no_long, h.no_short) refl;
+  value_turn = λ rows word h. rw (h.no_dashes, h.no_long, h.no_short) refl;
+  settles = λ rows word h. record { rows_are = new_row (codes "sets") (word ∷ []) rows h; passes = rw h refl };
+}
+
+pub takes_ways : TakesValue caching (codes "--ways") (codes "ways")
+unfolding the_app top_app run_app demo_app trace_app cache_app clap_on_literals
+takes_ways = record {
+  flag_word = λ rows p. refl;
+  flag_turn = λ rows p. and-true _;
+  value_word = λ rows word h. rw (h.no_dashes, h.no_long, h.no_short) refl;
+  value_turn = λ rows word h. rw (h.no_dashes, h.no_long, h.no_short) refl;
+  settles = λ rows word h. record { rows_are = new_row (codes "ways") (word ∷ []) rows h; passes = rw h refl };
+}
+
+pub takes_line : TakesValue caching (codes "--line") (codes "line")
+unfolding the_app top_app run_app demo_app trace_app cache_app clap_on_literals
+takes_line = record {
+  flag_word = λ rows p. refl;
+  flag_turn = λ rows p. and-true _;
+  value_word = λ rows word h. rw (h.no_dashes, h.no_long, h.no_short) refl;
+  value_turn = λ rows word h. rw (h.no_dashes, h.no_long, h.no_short) refl;
+  settles = λ rows word h. record { rows_are = new_row (codes "line") (word ∷ []) rows h; passes = rw h refl };
+}
+
 -- ---- the option without a value
 
 pub stats_word : (rows : List Row) (p : Pending) → has_row (codes "stats") (settled_rows (rules running) p rows) ≡ false
     → walked (rules running) [] (stand rows p idle 1) (codes "--stats") ≡ stand (settled_rows (rules running) p rows ++ choice_row stats ∷ []) None idle 1
-unfolding the_app top_app run_app demo_app trace_app clap_on_literals
+unfolding the_app top_app run_app demo_app trace_app cache_app clap_on_literals
 stats_word rows p h =
     ap (λ (all : List Row). stand all None idle 1) (new_row (codes "stats") (codes "true" ∷ []) (settled_rows (rules running) p rows) h)
 
 pub stats_turn : (rows : List Row) (p : Pending) → has_row (codes "stats") (settled_rows (rules running) p rows) ≡ false
     → turn running rows p idle 1 (codes "--stats") ≡ may_settle running rows p
-unfolding the_app top_app run_app demo_app trace_app clap_on_literals
+unfolding the_app top_app run_app demo_app trace_app cache_app clap_on_literals
 stats_turn rows p h = rw h (and-true _ ∙ and-true _)
 
 -- ---- the image
 
 pub image_word : (k : GuestCommand) (rows : List Row) (p : Pending) (word : Text) → IsNoFlag word
     → walked (rules k) [] (stand rows p idle 1) word ≡ stand (settled_rows (rules k) p rows) (Some (codes "image", word ∷ [])) idle 2
-unfolding the_app top_app run_app demo_app trace_app clap_on_literals
+unfolding the_app top_app run_app demo_app trace_app cache_app clap_on_literals
 image_word running rows None word h = rw (h.no_dashes, h.no_long, h.no_short) refl
 image_word running rows (Some q) word h = rw (h.no_dashes, h.no_long, h.no_short, and-false (bytes_eq q.0 (codes "image"))) refl
 image_word tracing rows None word h = rw (h.no_dashes, h.no_long, h.no_short) refl
 image_word tracing rows (Some q) word h = rw (h.no_dashes, h.no_long, h.no_short, and-false (bytes_eq q.0 (codes "image"))) refl
+image_word caching rows None word h = rw (h.no_dashes, h.no_long, h.no_short) refl
+image_word caching rows (Some q) word h = rw (h.no_dashes, h.no_long, h.no_short, and-false (bytes_eq q.0 (codes "image"))) refl
 
 pub image_turn : (k : GuestCommand) (rows : List Row) (p : Pending) (word : Text) → IsNoFlag word
     → turn k rows p idle 1 word ≡ may_settle k rows p
-unfolding the_app top_app run_app demo_app trace_app clap_on_literals
+unfolding the_app top_app run_app demo_app trace_app cache_app clap_on_literals
 image_turn running rows None word h = rw (h.no_dashes, h.no_long, h.no_short) refl
 image_turn running rows (Some q) word h = rw (h.no_dashes, h.no_long, h.no_short, and-false (bytes_eq q.0 (codes "image"))) refl
 image_turn tracing rows None word h = rw (h.no_dashes, h.no_long, h.no_short) refl
 image_turn tracing rows (Some q) word h = rw (h.no_dashes, h.no_long, h.no_short, and-false (bytes_eq q.0 (codes "image"))) refl
+image_turn caching rows None word h = rw (h.no_dashes, h.no_long, h.no_short) refl
+image_turn caching rows (Some q) word h = rw (h.no_dashes, h.no_long, h.no_short, and-false (bytes_eq q.0 (codes "image"))) refl
 
 pub image_settles : (k : GuestCommand) (rows : List Row) (image : Text) → has_row (codes "image") rows ≡ false
     → Settles k rows (Some (codes "image", image ∷ [])) (rows ++ plain_row (codes "image") (image ∷ []) ∷ [])
-unfolding the_app top_app run_app demo_app trace_app clap_on_literals
+unfolding the_app top_app run_app demo_app trace_app cache_app clap_on_literals
 image_settles running rows image h = record { rows_are = new_row (codes "image") (image ∷ []) rows h; passes = rw h refl }
 image_settles tracing rows image h = record { rows_are = new_row (codes "image") (image ∷ []) rows h; passes = rw h refl }
+image_settles caching rows image h = record { rows_are = new_row (codes "image") (image ∷ []) rows h; passes = rw h refl }
 
 -- ---- the further words
 
 pub first_word : (k : GuestCommand) (rows : List Row) (image word : Text) → IsNoFlag word
     → walked (rules k) [] (stand rows (Some (codes "image", image ∷ [])) idle 2) word
     ≡ stand (settled_rows (rules k) (Some (codes "image", image ∷ [])) rows) (Some (codes "word", word ∷ [])) positional 2
-unfolding the_app top_app run_app demo_app trace_app clap_on_literals
+unfolding the_app top_app run_app demo_app trace_app cache_app clap_on_literals
 first_word running rows image word h = rw (h.no_dashes, h.no_long, h.no_short) refl
 first_word tracing rows image word h = rw (h.no_dashes, h.no_long, h.no_short) refl
+first_word caching rows image word h = rw (h.no_dashes, h.no_long, h.no_short) refl
 
 pub first_turn : (k : GuestCommand) (rows : List Row) (image word : Text) → IsNoFlag word
     → turn k rows (Some (codes "image", image ∷ [])) idle 2 word ≡ may_settle k rows (Some (codes "image", image ∷ []))
-unfolding the_app top_app run_app demo_app trace_app clap_on_literals
+unfolding the_app top_app run_app demo_app trace_app cache_app clap_on_literals
 first_turn running rows image word h = rw (h.no_dashes, h.no_long, h.no_short) refl
 first_turn tracing rows image word h = rw (h.no_dashes, h.no_long, h.no_short) refl
+first_turn caching rows image word h = rw (h.no_dashes, h.no_long, h.no_short) refl
 
 pub further_word : (k : GuestCommand) (rows : List Row) (words : List Text) (word : Text) → IsNoFlag word
     → walked (rules k) [] (stand rows (Some (codes "word", words)) positional 2) word
     ≡ stand rows (Some (codes "word", words ++ word ∷ [])) positional 2
-unfolding the_app top_app run_app demo_app trace_app clap_on_literals
+unfolding the_app top_app run_app demo_app trace_app cache_app clap_on_literals
 further_word running rows words word h = rw (h.no_dashes, h.no_long, h.no_short) refl
 further_word tracing rows words word h = rw (h.no_dashes, h.no_long, h.no_short) refl
+further_word caching rows words word h = rw (h.no_dashes, h.no_long, h.no_short) refl
 
 pub further_turn : (k : GuestCommand) (rows : List Row) (words : List Text) (word : Text) → IsNoFlag word
     → turn k rows (Some (codes "word", words)) positional 2 word ≡ true
-unfolding the_app top_app run_app demo_app trace_app clap_on_literals
+unfolding the_app top_app run_app demo_app trace_app cache_app clap_on_literals
 further_turn running rows words word h = rw (h.no_dashes, h.no_long, h.no_short) refl
 further_turn tracing rows words word h = rw (h.no_dashes, h.no_long, h.no_short) refl
+further_turn caching rows words word h = rw (h.no_dashes, h.no_long, h.no_short) refl
 
 pub words_settle : (k : GuestCommand) (rows : List Row) (word : Text) (words : List Text) → has_row (codes "word") rows ≡ false
     → length (word ∷ words) < 2 ^ 64
     → Settles k rows (Some (codes "word", word ∷ words)) (rows ++ plain_row (codes "word") (word ∷ words) ∷ [])
-unfolding the_app top_app run_app demo_app trace_app clap_on_literals
+unfolding the_app top_app run_app demo_app trace_app cache_app clap_on_literals
 words_settle running rows word words h lt =
     let few : nat_le (length (word ∷ words)) usize_max ≡ true = grind (arith, nat_tests) in
     let some : nat_le 0 (length (word ∷ words)) ≡ true = grind (arith, nat_tests) in
     record { rows_are = new_row_kept (codes "word") (word ∷ words) rows h; passes = rw (some, few) (all_true words) }
 words_settle tracing rows word words h lt =
+    let few : nat_le (length (word ∷ words)) usize_max ≡ true = grind (arith, nat_tests) in
+    let some : nat_le 0 (length (word ∷ words)) ≡ true = grind (arith, nat_tests) in
+    record { rows_are = new_row_kept (codes "word") (word ∷ words) rows h; passes = rw (some, few) (all_true words) }
+words_settle caching rows word words h lt =
     let few : nat_le (length (word ∷ words)) usize_max ≡ true = grind (arith, nat_tests) in
     let some : nat_le 0 (length (word ∷ words)) ≡ true = grind (arith, nat_tests) in
     record { rows_are = new_row_kept (codes "word") (word ∷ words) rows h; passes = rw (some, few) (all_true words) }

@@ -1,5 +1,5 @@
 -- What words that are taken have.
-use Rattle.std.proofs.Common.{◌≡◌, Bool, true, false, refl, ap, subst, sym, ◌∙◌, ◌&&◌, ◌⊎◌, inl, inr, List, [], ◌∷◌, ◌++◌, Option, Some, None, is_some, codes, cond}
+use Rattle.std.proofs.Common.{◌≡◌, Bool, true, false, refl, ap, ap₂, subst, sym, ◌∙◌, ◌&&◌, ◌⊎◌, inl, inr, List, [], ◌∷◌, ◌++◌, Option, Some, None, is_some, codes, cond}
 use Rattle.std.specs.Prelude.{ℕ, find, fold, option_and_then, option_map, slice_get}
 use Rattle.std.specs.List.{list_all}
 use Rattle.std.specs.Option.{option_map_or}
@@ -8,18 +8,19 @@ use Rattle.clap.proofs.WalkLemmas.{both}
 use Rattle.clap.specs.Simple.{App, Shape, argument_words, entered, is_simple, label_of, names_of, rows_at}
 use Rattle.clap.specs.Takes.{built_takes, default_passes, entered_passes, is_given, is_valid, level_passes, settle_passes, walk_passes}
 use Rattle.clap.specs.Walk.{answers_to, finished, has_row, nothing_held, rows_after, settled, walk, walk_from, with_default}
+use Rattle.cache_lines.specs.Shapes.{Form}
 use Rattle.stamps.specs.declared.width.StampBits.{StampBits}
 use Rattle.clap.specs.Words.{Row, Rule, Text, built, first_of, subcommand_of, takes}
 use Rattle.clap.specs.Facts.{explicit_source}
 use Rattle.std.specs.Str.{bytes_eq}
-use Rattle.command_line.specs.App.{the_app, top_app, run_app, demo_app, trace_app}
-use Rattle.command_line.specs.Options.{Demo, GuestOptions, Run, RunOptions, Trace, TraceOptions, bits_of, budget_of, demo_of, demo_of_rows, guest_of_rows, guest_with, options_of_rows, options_with, quantum_of, trace_of_rows, trace_with}
-use Rattle.command_line.specs.Taken.{FailsByNumber, HasBadDemo, HasBadNumber, HasBadSteps, TakenWordsFailByNumbers}
+use Rattle.command_line.specs.App.{the_app, top_app, run_app, demo_app, trace_app, cache_app}
+use Rattle.command_line.specs.Options.{Cache, CacheOptions, Demo, GuestOptions, Run, RunOptions, Trace, TraceOptions, bits_of, budget_of, cache_of_rows, cache_with, demo_of, demo_of_rows, guest_of_rows, guest_with, options_of_rows, options_with, quantum_of, shape_of_rows, shape_said, trace_of_rows, trace_with}
+use Rattle.command_line.specs.Taken.{FailsByNumber, HasBadCache, HasBadDemo, HasBadNumber, HasBadSteps, TakenWordsFailByNumbers}
 use Rattle.command_line.proofs.Filled.{AllKeep, IsKept, filled_same, is_appended, is_filled, is_flag, is_own, is_set, kept_keeps, row_for, settle_keeps, walk_keeps}
-use Rattle.command_line.proofs.PlainWords.{finished_rows, finished_trace, no_defaults}
+use Rattle.command_line.proofs.PlainWords.{finished_cache, finished_rows, finished_trace, no_defaults}
 use Rattle.command_line.proofs.Refusals.{asked_is, read_of}
 use Rattle.command_line.proofs.Rows.{unset_rows}
-use Rattle.command_line.proofs.Steps.{demo_shape, rules, run_shape, running, trace_shape, tracing}
+use Rattle.command_line.proofs.Steps.{cache_shape, caching, demo_shape, rules, run_shape, running, trace_shape, tracing}
 
 -- what a search among these can find
 abbrev FoundIn : List Shape → Option Shape → Type 0
@@ -68,25 +69,29 @@ enters_one a None p q = let no : false ≡ true = q in cc
 enters_one a (Some met) p q =
     enters_any a.subs (find (λ u. answers_to met.0 (label_of u)) a.subs) met.1 (found_in (λ u. answers_to met.0 (label_of u)) a.subs) p q
 
-subs_are : (built the_app).subs ≡ run_shape ∷ demo_shape ∷ trace_shape ∷ []
-unfolding the_app top_app run_app demo_app trace_app clap_on_literals
+subs_are : (built the_app).subs ≡ run_shape ∷ demo_shape ∷ trace_shape ∷ cache_shape ∷ []
+unfolding the_app top_app run_app demo_app trace_app cache_app clap_on_literals
 subs_are = refl
 
 run_is_named : run_shape.name ≡ codes "run"
-unfolding the_app top_app run_app demo_app trace_app clap_on_literals
+unfolding the_app top_app run_app demo_app trace_app cache_app clap_on_literals
 run_is_named = refl
 
 trace_is_named : trace_shape.name ≡ codes "trace"
-unfolding the_app top_app run_app demo_app trace_app clap_on_literals
+unfolding the_app top_app run_app demo_app trace_app cache_app clap_on_literals
 trace_is_named = refl
 
+cache_is_named : cache_shape.name ≡ codes "cache"
+unfolding the_app top_app run_app demo_app trace_app cache_app clap_on_literals
+cache_is_named = refl
+
 demo_is_named : demo_shape.name ≡ codes "demo"
-unfolding the_app top_app run_app demo_app trace_app clap_on_literals
+unfolding the_app top_app run_app demo_app trace_app cache_app clap_on_literals
 demo_is_named = refl
 
 -- the subcommand has to be there
 top_requires : (rows : List Row) (has : Bool) → is_valid (built the_app).top rows has ≡ true → has ≡ true
-unfolding the_app top_app run_app demo_app trace_app clap_on_literals
+unfolding the_app top_app run_app demo_app trace_app cache_app clap_on_literals
 top_requires rows true h = refl
 top_requires rows false h = let no : false ≡ true = h in cc
 
@@ -97,12 +102,28 @@ two_given false i h = let no : false ≡ true = h in cc
 
 -- and `-o` and the image
 run_requires : (rows : List Row) → is_valid run_shape rows false ≡ true → (is_given (codes "output") rows ≡ true) × (is_given (codes "image") rows ≡ true)
-unfolding the_app top_app run_app demo_app trace_app clap_on_literals
+unfolding the_app top_app run_app demo_app trace_app cache_app clap_on_literals
 run_requires rows h = two_given (is_given (codes "output") rows) (is_given (codes "image") rows) h
 
 trace_requires : (rows : List Row) → is_valid trace_shape rows false ≡ true → (is_given (codes "output") rows ≡ true) × (is_given (codes "image") rows ≡ true)
-unfolding the_app top_app run_app demo_app trace_app clap_on_literals
+unfolding the_app top_app run_app demo_app trace_app cache_app clap_on_literals
 trace_requires rows h = two_given (is_given (codes "output") rows) (is_given (codes "image") rows) h
+
+-- `cache` the shape too
+five_given : (s w l o i : Bool) → (s && (w && (l && (o && (i && true))))) ≡ true → (s ≡ true) × (w ≡ true) × (l ≡ true) × (o ≡ true) × (i ≡ true)
+five_given s w l o i h =
+    let first = both s (w && (l && (o && (i && true)))) h in
+    let second = both w (l && (o && (i && true))) first.1 in
+    let third = both l (o && (i && true)) second.1 in
+    let rest = two_given o i third.1 in
+    (first.0, second.0, third.0, rest.0, rest.1)
+
+cache_requires : (rows : List Row) → is_valid cache_shape rows false ≡ true
+    → (is_given (codes "sets") rows ≡ true) × (is_given (codes "ways") rows ≡ true) × (is_given (codes "line") rows ≡ true)
+    × (is_given (codes "output") rows ≡ true) × (is_given (codes "image") rows ≡ true)
+unfolding the_app top_app run_app demo_app trace_app cache_app clap_on_literals
+cache_requires rows h =
+    five_given (is_given (codes "sets") rows) (is_given (codes "ways") rows) (is_given (codes "line") rows) (is_given (codes "output") rows) (is_given (codes "image") rows) h
 
 one_given : (n : Bool) → (n && true) ≡ true → n ≡ true
 one_given true h = refl
@@ -110,12 +131,12 @@ one_given false h = let no : false ≡ true = h in cc
 
 -- `demo` its number
 demo_requires : (rows : List Row) → is_valid demo_shape rows false ≡ true → is_given (codes "number") rows ≡ true
-unfolding the_app top_app run_app demo_app trace_app clap_on_literals
+unfolding the_app top_app run_app demo_app trace_app cache_app clap_on_literals
 demo_requires rows h = one_given (is_given (codes "number") rows) h
 
 -- words that are taken enter a subcommand
 taken_enters : (words : List Text) → takes the_app words ≡ true
-    → EntersOne (run_shape ∷ demo_shape ∷ trace_shape ∷ []) (subcommand_of the_app words)
+    → EntersOne (run_shape ∷ demo_shape ∷ trace_shape ∷ cache_shape ∷ []) (subcommand_of the_app words)
 taken_enters words h =
     let ws = argument_words the_app words in
     let top = (built the_app).top in
@@ -142,7 +163,7 @@ all_keep id [] same k = tt
 all_keep id (a ∷ rest) same k = (kept_keeps id a same k.0, all_keep id rest same k.1)
 
 output_keeps : AllKeep (codes "output") (rules running)
-unfolding the_app top_app run_app demo_app trace_app clap_on_literals
+unfolding the_app top_app run_app demo_app trace_app cache_app clap_on_literals
 output_keeps = all_keep (codes "output") (rules running) refl (
   is_set refl refl,
   (
@@ -161,7 +182,7 @@ output_keeps = all_keep (codes "output") (rules running) refl (
 )
 
 image_keeps : AllKeep (codes "image") (rules running)
-unfolding the_app top_app run_app demo_app trace_app clap_on_literals
+unfolding the_app top_app run_app demo_app trace_app cache_app clap_on_literals
 image_keeps = all_keep (codes "image") (rules running) refl (
   is_set refl refl,
   (
@@ -180,21 +201,41 @@ image_keeps = all_keep (codes "image") (rules running) refl (
 )
 
 trace_output_keeps : AllKeep (codes "output") (rules tracing)
-unfolding the_app top_app run_app demo_app trace_app clap_on_literals
+unfolding the_app top_app run_app demo_app trace_app cache_app clap_on_literals
 trace_output_keeps = all_keep (codes "output") (rules tracing) refl (
   is_set refl refl,
   (is_set refl refl, (is_set refl refl, (is_set refl refl, (is_own refl refl refl, (is_set refl refl, (is_appended refl refl, tt)))))),
 )
 
 trace_image_keeps : AllKeep (codes "image") (rules tracing)
-unfolding the_app top_app run_app demo_app trace_app clap_on_literals
+unfolding the_app top_app run_app demo_app trace_app cache_app clap_on_literals
 trace_image_keeps = all_keep (codes "image") (rules tracing) refl (
   is_set refl refl,
   (is_set refl refl, (is_set refl refl, (is_set refl refl, (is_set refl refl, (is_own refl refl refl, (is_appended refl refl, tt)))))),
 )
 
+cache_sets_keeps : AllKeep (codes "sets") (rules caching)
+unfolding the_app top_app run_app demo_app trace_app cache_app clap_on_literals
+cache_sets_keeps = all_keep (codes "sets") (rules caching) refl (is_set refl refl, (is_set refl refl, (is_set refl refl, (is_set refl refl, (is_own refl refl refl, (is_set refl refl, (is_set refl refl, (is_set refl refl, (is_set refl refl, (is_appended refl refl, tt))))))))))
+
+cache_ways_keeps : AllKeep (codes "ways") (rules caching)
+unfolding the_app top_app run_app demo_app trace_app cache_app clap_on_literals
+cache_ways_keeps = all_keep (codes "ways") (rules caching) refl (is_set refl refl, (is_set refl refl, (is_set refl refl, (is_set refl refl, (is_set refl refl, (is_own refl refl refl, (is_set refl refl, (is_set refl refl, (is_set refl refl, (is_appended refl refl, tt))))))))))
+
+cache_line_keeps : AllKeep (codes "line") (rules caching)
+unfolding the_app top_app run_app demo_app trace_app cache_app clap_on_literals
+cache_line_keeps = all_keep (codes "line") (rules caching) refl (is_set refl refl, (is_set refl refl, (is_set refl refl, (is_set refl refl, (is_set refl refl, (is_set refl refl, (is_own refl refl refl, (is_set refl refl, (is_set refl refl, (is_appended refl refl, tt))))))))))
+
+cache_output_keeps : AllKeep (codes "output") (rules caching)
+unfolding the_app top_app run_app demo_app trace_app cache_app clap_on_literals
+cache_output_keeps = all_keep (codes "output") (rules caching) refl (is_set refl refl, (is_set refl refl, (is_set refl refl, (is_set refl refl, (is_set refl refl, (is_set refl refl, (is_set refl refl, (is_own refl refl refl, (is_set refl refl, (is_appended refl refl, tt))))))))))
+
+cache_image_keeps : AllKeep (codes "image") (rules caching)
+unfolding the_app top_app run_app demo_app trace_app cache_app clap_on_literals
+cache_image_keeps = all_keep (codes "image") (rules caching) refl (is_set refl refl, (is_set refl refl, (is_set refl refl, (is_set refl refl, (is_set refl refl, (is_set refl refl, (is_set refl refl, (is_set refl refl, (is_own refl refl refl, (is_appended refl refl, tt))))))))))
+
 number_keeps : AllKeep (codes "number") demo_shape.rules
-unfolding the_app top_app run_app demo_app trace_app clap_on_literals
+unfolding the_app top_app run_app demo_app trace_app cache_app clap_on_literals
 number_keeps = all_keep (codes "number") demo_shape.rules refl (is_own refl refl refl, tt)
 
 -- a row that is given and filled has a first value
@@ -213,11 +254,14 @@ abbrev DefaultsKeep : Text → Shape → Type 0
 DefaultsKeep id s = (rows : List Row) → row_for id (fold with_default rows s.rules) ≡ row_for id rows
 
 demo_defaults : (id : Text) → DefaultsKeep id demo_shape
-unfolding the_app top_app run_app demo_app trace_app clap_on_literals
+unfolding the_app top_app run_app demo_app trace_app cache_app clap_on_literals
 demo_defaults id rows = ap (row_for id) (no_defaults demo_shape.rules rows (refl, tt))
 
 trace_defaults : (id : Text) → DefaultsKeep id trace_shape
 trace_defaults id rows = ap (row_for id) (finished_trace rows)
+
+cache_defaults : (id : Text) → DefaultsKeep id cache_shape
+cache_defaults id rows = ap (row_for id) (finished_cache rows)
 
 unset_elsewhere : (id : Text) (given : Bool) (rows : List Row) → bytes_eq (codes "stats") id ≡ false
     → row_for id (rows ++ unset_rows given) ≡ row_for id rows
@@ -283,6 +327,20 @@ bad_steps rows path image r i none =
     go None g_is h = bad_guest rows image i g_is
     go (Some g) g_is h = cc
 
+bad_cache : (rows : List Row) (path image sets ways line : Text) → first_of (codes "output") rows ≡ Some path → first_of (codes "image") rows ≡ Some image
+    → first_of (codes "sets") rows ≡ Some sets → first_of (codes "ways") rows ≡ Some ways → first_of (codes "line") rows ≡ Some line
+    → cache_of_rows rows ≡ None → HasBadCache rows
+bad_cache rows path image sets ways line r i s w l none =
+    go (guest_of_rows rows) (shape_of_rows rows) refl refl (sym (ap (λ x. cache_with (guest_of_rows rows) (shape_of_rows rows) x) r) ∙ none)
+  where
+    said : shape_of_rows rows ≡ shape_said (Some sets) (Some ways) (Some line)
+    said = ap₂ (λ a b. shape_said a b (first_of (codes "line") rows)) s w ∙ ap (shape_said (Some sets) (Some ways)) l
+
+    go : (g : Option GuestOptions) (f : Option Form) → guest_of_rows rows ≡ g → shape_of_rows rows ≡ f → cache_with g f (Some path) ≡ None → HasBadCache rows
+    go None f g_is f_is h = inl (bad_guest rows image i g_is)
+    go (Some g) None g_is f_is h = inr (sets, ways, line, s, w, l, sym said ∙ f_is)
+    go (Some g) (Some f) g_is f_is h = cc
+
 no_run : (o : Option RunOptions) → option_map Run o ≡ None → o ≡ None
 no_run None h = refl
 no_run (Some x) h = cc
@@ -290,6 +348,10 @@ no_run (Some x) h = cc
 no_trace : (o : Option TraceOptions) → option_map Trace o ≡ None → o ≡ None
 no_trace None h = refl
 no_trace (Some x) h = cc
+
+no_cache : (o : Option CacheOptions) → option_map Cache o ≡ None → o ≡ None
+no_cache None h = refl
+no_cache (Some x) h = cc
 
 no_demo : (o : Option ℕ) → option_map Demo o ≡ None → o ≡ None
 no_demo None h = refl
@@ -315,6 +377,19 @@ trace_fails found enters none =
     let image = first_there (row_for (codes "image") rows) needs.1 (rows_filled trace_shape (codes "image") enters.rest (trace_defaults (codes "image")) trace_image_keeps enters.passes) in
     (rows, found_is, bad_steps rows path.0 image.0 path.1 image.1 (no_trace (trace_of_rows rows) (sym (ap read_of found_is) ∙ none)))
 
+cache_fails : (found : Option (Text × List Row)) → Enters cache_shape found → read_of found ≡ None
+    → (rows : List Row) × (found ≡ Some (codes "cache", rows)) × HasBadCache rows
+cache_fails found enters none =
+    let rows = rows_after (rules caching) [] enters.rest in
+    let found_is : found ≡ Some (codes "cache", rows) = enters.found_is ∙ ap (λ (name : Text). Some (name, rows)) cache_is_named in
+    let needs = cache_requires rows (rows_valid cache_shape enters.rest enters.passes) in
+    let sets = first_there (row_for (codes "sets") rows) needs.0 (rows_filled cache_shape (codes "sets") enters.rest (cache_defaults (codes "sets")) cache_sets_keeps enters.passes) in
+    let ways = first_there (row_for (codes "ways") rows) needs.1 (rows_filled cache_shape (codes "ways") enters.rest (cache_defaults (codes "ways")) cache_ways_keeps enters.passes) in
+    let line = first_there (row_for (codes "line") rows) needs.2 (rows_filled cache_shape (codes "line") enters.rest (cache_defaults (codes "line")) cache_line_keeps enters.passes) in
+    let path = first_there (row_for (codes "output") rows) needs.3 (rows_filled cache_shape (codes "output") enters.rest (cache_defaults (codes "output")) cache_output_keeps enters.passes) in
+    let image = first_there (row_for (codes "image") rows) needs.4 (rows_filled cache_shape (codes "image") enters.rest (cache_defaults (codes "image")) cache_image_keeps enters.passes) in
+    (rows, found_is, bad_cache rows path.0 image.0 sets.0 ways.0 line.0 path.1 image.1 sets.1 ways.1 line.1 (no_cache (cache_of_rows rows) (sym (ap read_of found_is) ∙ none)))
+
 demo_fails : (found : Option (Text × List Row)) → Enters demo_shape found → read_of found ≡ None
     → (rows : List Row) × (found ≡ Some (codes "demo", rows)) × HasBadDemo rows
 demo_fails found enters none =
@@ -334,8 +409,9 @@ fails_by_numbers words taken zeros none = go (taken_enters words taken)
     read_none : read_of found ≡ None
     read_none = sym (asked_is words zeros) ∙ none
 
-    go : EntersOne (run_shape ∷ demo_shape ∷ trace_shape ∷ []) found → FailsByNumber found
+    go : EntersOne (run_shape ∷ demo_shape ∷ trace_shape ∷ cache_shape ∷ []) found → FailsByNumber found
     go (inl enters) = inl (run_fails found enters read_none)
-    go (inr (inl enters)) = inr (inr (demo_fails found enters read_none))
+    go (inr (inl enters)) = inr (inr (inr (demo_fails found enters read_none)))
     go (inr (inr (inl enters))) = inr (inl (trace_fails found enters read_none))
-    go (inr (inr (inr none'))) = absurd none'
+    go (inr (inr (inr (inl enters)))) = inr (inr (inl (cache_fails found enters read_none)))
+    go (inr (inr (inr (inr none')))) = absurd none'

@@ -8,6 +8,10 @@ use Rattle.clap.specs.declared.builder.ArgAction.TheVariants.{Append, Set, SetTr
 abbrev pub value_rule : Text → Rule
 value_rule name = record (new_rule name) { long = Some name; action = Some Set }
 
+-- the same, which has to be there
+abbrev pub required_option : Text → Rule
+required_option name = record (value_rule name) { required = true }
+
 -- an option without a value, `--name`
 abbrev pub flag_rule : Text → Rule
 flag_rule name = record (new_rule name) { long = Some name; action = Some SetTrue }
@@ -40,6 +44,13 @@ trace_app = with_rule (with_rule (with_rule (with_rule (with_rule (with_rule (wi
     (new_app (codes "trace")) (value_rule (codes "stdin"))) (value_rule (codes "quantum"))) (value_rule (codes "schedule")))
     (value_rule (codes "budget"))) output_rule) (required_rule (codes "image"))) word_rule
 
+-- `cache` with its options, the image and the further words
+unfoldable pub cache_app : App
+cache_app = with_rule (with_rule (with_rule (with_rule (with_rule (with_rule (with_rule (with_rule (with_rule (with_rule
+    (new_app (codes "cache")) (value_rule (codes "stdin"))) (value_rule (codes "quantum"))) (value_rule (codes "schedule")))
+    (value_rule (codes "budget"))) (required_option (codes "sets"))) (required_option (codes "ways")))
+    (required_option (codes "line"))) output_rule) (required_rule (codes "image"))) word_rule
+
 -- `demo` with its number
 unfoldable pub demo_app : App
 demo_app = with_rule (new_app (codes "demo")) (required_rule (codes "number"))
@@ -57,4 +68,4 @@ top_app = let app = new_app (codes "aprof") in record app {
 
 -- the whole command
 unfoldable pub the_app : App
-the_app = with_subcommand (with_subcommand (with_subcommand top_app run_app.top) demo_app.top) trace_app.top
+the_app = with_subcommand (with_subcommand (with_subcommand (with_subcommand top_app run_app.top) demo_app.top) trace_app.top) cache_app.top

@@ -5,6 +5,8 @@ use Rattle.std.specs.Option.{option_map_or}
 use Rattle.std.specs.Str.{bytes_eq}
 use Rattle.std.specs.Str.Parse.{digits_value}
 use Rattle.guest_words.specs.declared.limits.TheConstants.{DEMO_ROUTINES, QUANTUM_STEPS, RUN_STEPS}
+use Rattle.cache_lines.specs.Shapes.{Form, shape_of}
+use Rattle.cache_lines.specs.declared.shape.TheConstants.{LINE, SETS, WAYS}
 use Rattle.stamps.specs.declared.width.StampBits.{StampBits}
 use Rattle.stamps.specs.declared.width.StampBits.TheVariants.{B8, B16, B32}
 use Rattle.clap.specs.Words.{Row, all_of, first_of, subcommand_of, takes}
@@ -41,6 +43,15 @@ pub record TraceOptions : Type 0 where
   pub guest : GuestOptions
   -- the path of the trace
   pub trace : List ℕ
+
+-- What `cache` is asked.
+pub record CacheOptions : Type 0 where
+  -- how the guest is run
+  pub guest : GuestOptions
+  -- the shape of the cache
+  pub shape : Form
+  -- the path of the report
+  pub report : List ℕ
 
 -- ---- the further words
 
@@ -156,6 +167,32 @@ trace_with _ _ = None
 abbrev pub trace_of_rows : List Row → Option TraceOptions
 trace_of_rows rows = trace_with (guest_of_rows rows) (first_of (codes "output") rows)
 
+-- the number that a text says, 1 to the greatest
+abbrev pub number_to : ℕ → Option (List ℕ) → Option ℕ
+number_to greatest text = option_and_then (number_between 1 greatest) text
+
+-- the shape of a cache of these numbers, where all are there
+abbrev pub shape_with : Option ℕ → Option ℕ → Option ℕ → Option Form
+shape_with (Some sets) (Some ways) (Some line) = shape_of sets ways line
+shape_with _ _ _ = None
+
+-- the shape that these texts say
+abbrev pub shape_said : Option (List ℕ) → Option (List ℕ) → Option (List ℕ) → Option Form
+shape_said sets ways line = shape_with (number_to SETS sets) (number_to WAYS ways) (number_to LINE line)
+
+-- the shape that `clap`'s matches say
+abbrev pub shape_of_rows : List Row → Option Form
+shape_of_rows rows = shape_said (first_of (codes "sets") rows) (first_of (codes "ways") rows) (first_of (codes "line") rows)
+
+-- the options of `cache` with these of the guest, this shape and this path, where all are there
+abbrev pub cache_with : Option GuestOptions → Option Form → Option (List ℕ) → Option CacheOptions
+cache_with (Some guest) (Some shape) (Some report) = Some (record { guest = guest; shape = shape; report = report })
+cache_with _ _ _ = None
+
+-- the options of `cache` that `clap`'s matches say
+abbrev pub cache_of_rows : List Row → Option CacheOptions
+cache_of_rows rows = cache_with (guest_of_rows rows) (shape_of_rows rows) (first_of (codes "output") rows)
+
 -- ---- the demos
 
 -- the number of a demo: 1 to `DEMO_ROUTINES`
@@ -168,10 +205,11 @@ demo_of_rows rows = option_and_then demo_of (first_of (codes "number") rows)
 
 -- ---- the words
 
--- What the words ask for: a run, the trace of a run, or the demo of a number.
+-- What the words ask for: a run, the trace of a run, the cache misses of a run, or the demo of a number.
 pub data Asked : Type 0 where
   Run : RunOptions → Asked
   Trace : TraceOptions → Asked
+  Cache : CacheOptions → Asked
   Demo : ℕ → Asked
 
 -- what a subcommand asks for, by its name and its matches
@@ -179,6 +217,7 @@ abbrev pub asked_of_rows : List ℕ → List Row → Option Asked
 asked_of_rows name rows =
     if bytes_eq name (codes "run") then option_map Run (options_of_rows rows)
     else if bytes_eq name (codes "trace") then option_map Trace (trace_of_rows rows)
+    else if bytes_eq name (codes "cache") then option_map Cache (cache_of_rows rows)
     else if bytes_eq name (codes "demo") then option_map Demo (demo_of_rows rows)
     else None
 

@@ -1,14 +1,15 @@
--- Plain words of `run`, `trace` and `demo`, and what is read of them.
+-- Plain words of the commands, and what is read of them.
 use Rattle.std.specs.Prelude.{◌≡◌, ◌<◌, ◌^◌, ◌==◌, ℕ, Bool, true, false, not, length, if◌then◌else◌, List, [], ◌∷◌, ◌++◌, Option, Some, None, codes}
 use Rattle.std.specs.List.{list_all, list_any}
 use Rattle.std.specs.Option.{option_map_or}
 use Rattle.std.specs.Str.{bytes_eq}
+use Rattle.cache_lines.specs.Shapes.{Form}
 use Rattle.stamps.specs.declared.width.StampBits.{StampBits}
 use Rattle.clap.specs.Words.{Text, takes}
 use Rattle.command_line.specs.App.{the_app}
-use Rattle.command_line.specs.Options.{Asked, asked_of, bits_of, budget_of, demo_of, has_zero, quantum_of}
+use Rattle.command_line.specs.Options.{Asked, asked_of, bits_of, budget_of, demo_of, has_zero, quantum_of, shape_said}
 
--- an option of `run` that is given, with its value where it takes one
+-- an option of a command that runs a guest, with its value where it takes one
 pub data Choice : Type 0 where
   stdin : Text → Choice
   quantum : Text → Choice
@@ -18,6 +19,9 @@ pub data Choice : Type 0 where
   stamps : Text → Choice
   stats : Choice
   report : Text → Choice
+  sets : Text → Choice
+  ways : Text → Choice
+  line : Text → Choice
 
 -- the argument of the command that it is of
 abbrev pub id_of : Choice → Text
@@ -29,6 +33,9 @@ id_of (budget v) = codes "budget"
 id_of (stamps v) = codes "stamps"
 id_of stats = codes "stats"
 id_of (report v) = codes "output"
+id_of (sets v) = codes "sets"
+id_of (ways v) = codes "ways"
+id_of (line v) = codes "line"
 
 -- its value: `stats` has none
 abbrev pub value_of : Choice → Option Text
@@ -40,6 +47,9 @@ value_of (budget v) = Some v
 value_of (stamps v) = Some v
 value_of stats = None
 value_of (report v) = Some v
+value_of (sets v) = Some v
+value_of (ways v) = Some v
+value_of (line v) = Some v
 
 -- the words that give it
 abbrev pub words_of : Choice → List Text
@@ -51,6 +61,9 @@ words_of (budget v) = codes "--budget" ∷ v ∷ []
 words_of (stamps v) = codes "--stamps" ∷ v ∷ []
 words_of stats = codes "--stats" ∷ []
 words_of (report v) = codes "-o" ∷ v ∷ []
+words_of (sets v) = codes "--sets" ∷ v ∷ []
+words_of (ways v) = codes "--ways" ∷ v ∷ []
+words_of (line v) = codes "--line" ∷ v ∷ []
 
 abbrev pub choice_words : List Choice → List Text
 choice_words [] = []
@@ -64,12 +77,36 @@ run_words program choices image words = program ∷ codes "run" ∷ (choice_word
 abbrev pub trace_words : Text → List Choice → Text → List Text → List Text
 trace_words program choices image words = program ∷ codes "trace" ∷ (choice_words choices ++ image ∷ words)
 
+-- and of `cache`
+abbrev pub cache_words : Text → List Choice → Text → List Text → List Text
+cache_words program choices image words = program ∷ codes "cache" ∷ (choice_words choices ++ image ∷ words)
+
+-- the option says how a guest is run, or where the result is stored
+abbrev pub is_of_all : Choice → Bool
+is_of_all (stdin v) = true
+is_of_all (quantum v) = true
+is_of_all (schedule v) = true
+is_of_all (budget v) = true
+is_of_all (report v) = true
+is_of_all _ = false
+
+-- the option is one of `run`
+abbrev pub is_of_run : Choice → Bool
+is_of_run (recording v) = true
+is_of_run (stamps v) = true
+is_of_run stats = true
+is_of_run c = is_of_all c
+
 -- the option is one of `trace`
 abbrev pub is_of_trace : Choice → Bool
-is_of_trace (recording v) = false
-is_of_trace (stamps v) = false
-is_of_trace stats = false
-is_of_trace _ = true
+is_of_trace c = is_of_all c
+
+-- the option is one of `cache`
+abbrev pub is_of_cache : Choice → Bool
+is_of_cache (sets v) = true
+is_of_cache (ways v) = true
+is_of_cache (line v) = true
+is_of_cache c = is_of_all c
 
 -- a word that is not empty and does not begin with a hyphen
 abbrev pub is_plain_word : Text → Bool
@@ -98,10 +135,10 @@ pub record ArePlain (choices : List Choice) (image : Text) (words : List Text) :
   -- as many as a list in memory can have
   pub few : length words < 2 ^ 64
 
--- Plain words are taken, where the report's path is among them.
+-- Plain words are taken, where each option is one of `run` and the report's path is among them.
 abbrev pub PlainWordsAreTaken : Type 0
 PlainWordsAreTaken = (program : Text) (choices : List Choice) (image : Text) (words : List Text)
-    → ArePlain choices image words → is_chosen (codes "output") choices ≡ true
+    → ArePlain choices image words → list_all is_of_run choices ≡ true → is_chosen (codes "output") choices ≡ true
     → takes the_app (run_words program choices image words) ≡ true
 
 -- the value that the choices give an argument
@@ -113,7 +150,7 @@ given id (c ∷ cs) = if bytes_eq (id_of c) id then value_of c else given id cs
 -- `--stats` is among the words.
 abbrev pub PlainOptionsAreRead : Type 0
 PlainOptionsAreRead = (program : Text) (choices : List Choice) (image : Text) (words : List Text)
-    → ArePlain choices image words → list_any has_zero (run_words program choices image words) ≡ false
+    → ArePlain choices image words → list_all is_of_run choices ≡ true → list_any has_zero (run_words program choices image words) ≡ false
     → (report_path : Text) (turn_steps run_steps : ℕ) (width : StampBits) → given (codes "output") choices ≡ Some report_path
     → quantum_of (given (codes "quantum") choices) ≡ Some turn_steps
     → budget_of (given (codes "budget") choices) ≡ Some run_steps
@@ -157,6 +194,36 @@ PlainTraceIsRead = (program : Text) (choices : List Choice) (image : Text) (word
         words = words;
       };
       trace = trace_path;
+    }))
+
+-- ---- `cache`
+-- Plain words are taken, where each option is one of `cache`, and the shape of the cache and the path of the report are among
+-- them.
+abbrev pub PlainCacheIsTaken : Type 0
+PlainCacheIsTaken = (program : Text) (choices : List Choice) (image : Text) (words : List Text)
+    → ArePlain choices image words → list_all is_of_cache choices ≡ true
+    → is_chosen (codes "sets") choices ≡ true → is_chosen (codes "ways") choices ≡ true → is_chosen (codes "line") choices ≡ true
+    → is_chosen (codes "output") choices ≡ true → takes the_app (cache_words program choices image words) ≡ true
+
+-- The options are the values in the words, and the defaults of the numbers that are left out.
+abbrev pub PlainCacheIsRead : Type 0
+PlainCacheIsRead = (program : Text) (choices : List Choice) (image : Text) (words : List Text)
+    → ArePlain choices image words → list_all is_of_cache choices ≡ true → list_any has_zero (cache_words program choices image words) ≡ false
+    → (report_path : Text) (shape : Form) (turn_steps run_steps : ℕ) → given (codes "output") choices ≡ Some report_path
+    → shape_said (given (codes "sets") choices) (given (codes "ways") choices) (given (codes "line") choices) ≡ Some shape
+    → quantum_of (given (codes "quantum") choices) ≡ Some turn_steps
+    → budget_of (given (codes "budget") choices) ≡ Some run_steps
+    → asked_of (cache_words program choices image words) ≡ Some (Asked.Cache (record {
+      guest = record {
+        stdin = given (codes "stdin") choices;
+        schedule = given (codes "schedule") choices;
+        quantum = turn_steps;
+        budget = run_steps;
+        image = image;
+        words = words;
+      };
+      shape = shape;
+      report = report_path;
     }))
 
 -- ---- `demo`

@@ -1,10 +1,11 @@
 -- What a command that was read asks.
 use Rattle.std.specs.Prelude.{◌≤◌, map, option_map}
 use Rattle.guest_words.specs.declared.limits.TheConstants.{DEMO_ROUTINES, QUANTUM_STEPS, RUN_STEPS}
-use Rattle.command_line.specs.Options.{Asked, GuestOptions, RunOptions, TraceOptions}
+use Rattle.command_line.specs.Options.{Asked, CacheOptions, GuestOptions, RunOptions, TraceOptions}
 use Rattle.command_line.specs.declared.commands.Command.{Command}
 use Rattle.command_line.specs.declared.guest_options.GuestOptions as declared
 use Rattle.command_line.specs.declared.run_command.RunCommand.{RunCommand}
+use Rattle.command_line.specs.declared.cache_command.CacheCommand.{CacheCommand}
 use Rattle.command_line.specs.declared.trace_command.TraceCommand.{TraceCommand}
 
 -- what a command says of its guest
@@ -32,10 +33,15 @@ options_in command = record {
 abbrev pub trace_in : TraceCommand → TraceOptions
 trace_in command = record { guest = guest_in command.guest; trace = command.trace.now }
 
+-- what a command `cache` says
+abbrev pub cache_in : CacheCommand → CacheOptions
+cache_in command = record { guest = guest_in command.guest; shape = command.shape; report = command.report.now }
+
 -- what a command asks for
 abbrev pub asked_in : Command → Asked
 asked_in (Command.Run run) = Asked.Run (options_in run)
 asked_in (Command.Trace trace) = Asked.Trace (trace_in trace)
+asked_in (Command.Cache cache) = Asked.Cache (cache_in cache)
 asked_in (Command.Demo number) = Asked.Demo number
 
 -- The numbers of a guest's options are in their ranges.
@@ -49,4 +55,5 @@ pub record AreInRange (guest : GuestOptions) : Type 0 where
 abbrev pub IsInRange : Command → Type 0
 IsInRange (Command.Run run) = AreInRange (guest_in run.guest)
 IsInRange (Command.Trace trace) = AreInRange (guest_in trace.guest)
+IsInRange (Command.Cache cache) = AreInRange (guest_in cache.guest)
 IsInRange (Command.Demo number) = (1 ≤ number) × (number ≤ DEMO_ROUTINES)

@@ -3,7 +3,7 @@ use Rattle.std.specs.Prelude.{◌≡◌, ◌⊎◌, true, false, List, Option, S
 use Rattle.std.specs.List.{list_any}
 use Rattle.clap.specs.Words.{Row, Text, first_of, subcommand_of, takes}
 use Rattle.command_line.specs.App.{the_app}
-use Rattle.command_line.specs.Options.{asked_of, bits_of, budget_of, demo_of, has_zero, quantum_of}
+use Rattle.command_line.specs.Options.{asked_of, bits_of, budget_of, demo_of, has_zero, quantum_of, shape_said}
 
 -- a number of a guest is out of its form or range
 abbrev pub HasBadSteps : List Row → Type 0
@@ -13,6 +13,12 @@ HasBadSteps rows = (quantum_of (first_of (codes "quantum") rows) ≡ None) ⊎ (
 abbrev pub HasBadNumber : List Row → Type 0
 HasBadNumber rows = (quantum_of (first_of (codes "quantum") rows) ≡ None)
     ⊎ ((budget_of (first_of (codes "budget") rows) ≡ None) ⊎ (bits_of (first_of (codes "stamps") rows) ≡ None))
+
+-- a number of `cache` is out of its form or range, or those of the cache make no shape
+abbrev pub HasBadCache : List Row → Type 0
+HasBadCache rows = HasBadSteps rows
+    ⊎ ((sets : Text) × (ways : Text) × (line : Text) × (first_of (codes "sets") rows ≡ Some sets) × (first_of (codes "ways") rows ≡ Some ways)
+    × (first_of (codes "line") rows ≡ Some line) × (shape_said (Some sets) (Some ways) (Some line) ≡ None))
 
 -- the number of `demo` is there, and out of its form or range
 abbrev pub HasBadDemo : List Row → Type 0
@@ -25,7 +31,7 @@ IsFound found name Has = (rows : List Row) × (found ≡ Some (name, rows)) × H
 -- a subcommand was found that has a bad number
 abbrev pub FailsByNumber : Option (Text × List Row) → Type 0
 FailsByNumber found = IsFound found (codes "run") HasBadNumber
-    ⊎ (IsFound found (codes "trace") HasBadSteps ⊎ IsFound found (codes "demo") HasBadDemo)
+    ⊎ (IsFound found (codes "trace") HasBadSteps ⊎ (IsFound found (codes "cache") HasBadCache ⊎ IsFound found (codes "demo") HasBadDemo))
 
 -- Words that are taken and have no zero byte are refused only for a number: the subcommand is there, with what it needs.
 abbrev pub TakenWordsFailByNumbers : Type 0

@@ -2,7 +2,7 @@
 ghost use Rattle.std.specs.Prelude.{◌≡◌, IfOk, false, codes};
 ghost use Rattle.clap.specs.Words.{app_of, rule_of};
 ghost use Rattle.clap.specs.declared.builder.command.Command.TheViews.{out-Command};
-ghost use Rattle.command_line.specs.App.{the_app, top_app, run_app, demo_app, trace_app, flag_rule, output_rule, required_rule, value_rule, word_rule};
+ghost use Rattle.command_line.specs.App.{the_app, top_app, run_app, demo_app, trace_app, cache_app, flag_rule, output_rule, required_option, required_rule, value_rule, word_rule};
 
 use clap::{Arg, ArgAction, Command};
 use std::alloc::{AllocError, Global};
@@ -13,6 +13,17 @@ fn value_option<'a>(alloc: Global, name: &'a str) -> Arg<'a>
     ensures local { result.global ≡ false }
 {
     Arg::new(alloc, name).long(name).action(ArgAction::Set)
+}
+
+// The same, which has to be there.
+fn required_option<'a>(alloc: Global, name: &'a str) -> Arg<'a>
+    ensures rule { rule_of result ≡ required_option name.entry.now }
+    ensures local { result.global ≡ false }
+{
+    Arg::new(alloc, name)
+        .long(name)
+        .action(ArgAction::Set)
+        .required(true)
 }
 
 // An option without a value, `--name`.
@@ -85,6 +96,24 @@ fn trace_subcommand<'a>(alloc: Global) -> Result<Command<'a>, AllocError>
         .arg(further_words(alloc))
 }
 
+// `cache`, with its options, the image and the further words.
+fn cache_subcommand<'a>(alloc: Global) -> Result<Command<'a>, AllocError>
+    ensures app { IfOk result (λ c. app_of c ≡ cache_app) }
+    ensures local { IfOk result (λ c. (out-Command c).has_globals ≡ false) }
+{
+    Command::new(alloc, "cache")
+        .arg(value_option(alloc, "stdin"))?
+        .arg(value_option(alloc, "quantum"))?
+        .arg(value_option(alloc, "schedule"))?
+        .arg(value_option(alloc, "budget"))?
+        .arg(required_option(alloc, "sets"))?
+        .arg(required_option(alloc, "ways"))?
+        .arg(required_option(alloc, "line"))?
+        .arg(output_option(alloc))?
+        .arg(required_value(alloc, "image"))?
+        .arg(further_words(alloc))
+}
+
 // `demo`, with its number.
 #[tactic(auto, unfolding(crate::specs::App::demo_app))]
 fn demo_subcommand<'a>(alloc: Global) -> Result<Command<'a>, AllocError>
@@ -114,5 +143,6 @@ pub(crate) fn whole_command<'a>(alloc: Global) -> Result<Command<'a>, AllocError
     top_command(alloc)
         .subcommand(run_subcommand(alloc)?)?
         .subcommand(demo_subcommand(alloc)?)?
-        .subcommand(trace_subcommand(alloc)?)
+        .subcommand(trace_subcommand(alloc)?)?
+        .subcommand(cache_subcommand(alloc)?)
 }

@@ -6,6 +6,7 @@ ghost use Rattle.command_line.specs.Options.{AsksFor, asked_of_rows, demo_of_row
 ghost use Rattle.command_line.specs.Read.{IsInRange, asked_in};
 ghost use Rattle.command_line.specs.declared.commands.CommandError.TheVariants.{Memory, Refused};
 
+use crate::cache_command::{CacheCommand, cache_of_matches};
 use crate::matches::{matches_of_words, subcommand_of, text_of};
 use crate::numbers::number_between;
 use crate::run_command::{RunCommand, run_of_matches};
@@ -48,6 +49,8 @@ pub enum Command<'a> {
     Run(RunCommand<'a>),
     /// The trace of a guest's run.
     Trace(TraceCommand<'a>),
+    /// The cache misses of a guest's run.
+    Cache(CacheCommand<'a>),
     /// The demo of a number.
     Demo(u32),
 }
@@ -90,6 +93,9 @@ fn command_of<'a>(
     }
     if name == "trace" {
         return Ok(Command::Trace(trace_of_matches(alloc, matches)?));
+    }
+    if name == "cache" {
+        return Ok(Command::Cache(cache_of_matches(alloc, matches)?));
     }
     if name == "demo" {
         let number = demo_of_matches(matches).ok_or(CommandError::Refused)?;

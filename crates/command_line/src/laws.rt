@@ -1,5 +1,5 @@
 //! Laws of the words, each the contract of a function with no body.
-ghost use Rattle.command_line.specs.Plain.{PlainDemoIsRead, PlainDemoIsTaken, PlainOptionsAreRead, PlainTraceIsRead, PlainTraceIsTaken, PlainWordsAreTaken};
+ghost use Rattle.command_line.specs.Plain.{PlainCacheIsRead, PlainCacheIsTaken, PlainDemoIsRead, PlainDemoIsTaken, PlainOptionsAreRead, PlainTraceIsRead, PlainTraceIsTaken, PlainWordsAreTaken};
 ghost use Rattle.command_line.specs.Taken.{TakenWordsFailByNumbers};
 
 /// Plain words are taken: any program name, each option at most once and `-o` among them, in any order, then the image and
@@ -22,6 +22,17 @@ pub fn plain_traces_are_taken()
 /// What is read of them: the values in the words, and the defaults for what is left out.
 pub fn plain_traces_are_read()
     ensures { PlainTraceIsRead }
+{}
+
+/// Plain words of `cache` are taken: options that it has, each at most once and `--sets`, `--ways`, `--line` and `-o` among
+/// them, then the image and any further words.
+pub fn plain_caches_are_taken()
+    ensures { PlainCacheIsTaken }
+{}
+
+/// What is read of them: the values in the words, and the defaults for what is left out.
+pub fn plain_caches_are_read()
+    ensures { PlainCacheIsRead }
 {}
 
 /// `demo` and a plain number are taken, for any program name.

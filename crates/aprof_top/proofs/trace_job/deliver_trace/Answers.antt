@@ -6,7 +6,7 @@ use Rattle.run_trace.specs.declared.run_trace.TheConstants.{TRACE_BYTES}
 use Rattle.trace_file.specs.TraceText.{trace_text}
 use Rattle.aprof_top.specs.Jobs.{AreTexts}
 use Rattle.aprof_top.specs.Traces.{names_begun}
-use Rattle.aprof_top.proofs.Traced.{unstored}
+use Rattle.aprof_top.proofs.Recorded.{unstored}
 use Rattle.aprof_top.proofs.trace_job.deliver_trace.Goals as goal
 
 pub returns-in_err-store : goal.returns-in_err-store

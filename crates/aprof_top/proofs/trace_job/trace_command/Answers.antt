@@ -16,7 +16,7 @@ use Rattle.command_line.specs.Options.Asked.{Trace}
 use Rattle.aprof_top.proofs.Commands.{AskedEnds-run, AskedEnds-unprepared, is_trace_job}
 use Rattle.aprof_top.proofs.Lines.{IsCounted, counted_line}
 use Rattle.aprof_top.proofs.Runs.{FilesRun-given_up, FilesRun-stored, counted_observed, seen_run}
-use Rattle.aprof_top.proofs.Traced.{of_run_trace}
+use Rattle.aprof_top.proofs.Recorded.{of_run_trace}
 use Rattle.aprof_top.proofs.trace_job.trace_command.Goals as goal
 
 pub returns-in_err-prepared : goal.returns-in_err-prepared

@@ -1,6 +1,6 @@
 use Rattle.std.proofs.Common.{subst, sym, ◌∙◌}
 use Rattle.trace_file.specs.TraceText.{IsRising}
-use Rattle.aprof_top.proofs.Traced.{begun_rise}
+use Rattle.aprof_top.proofs.Recorded.{begun_rise}
 use Rattle.aprof_top.proofs.trace_job.whole_text.Goals as goal
 
 pub finish-requires-clause-rising : goal.finish-requires-clause-rising

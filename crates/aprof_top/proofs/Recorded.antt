@@ -1,4 +1,4 @@
--- The trace of a run.
+-- What the commands beside `run` make of a run, and what becomes of it.
 use Rattle.std.proofs.Common.{◌≡◌, ◌∙◌, ◌<◌, ◌≤◌, ℕ, Bool, true, false, List, [], ◌∷◌, ◌++◌, Option, Some, None, refl, ap, sym, subst, length, length-append, arith}
 use Rattle.std.specs.Prelude.{nat_le, if◌then◌else◌, Err}
 use Rattle.std.proofs.lemmas.Bool.Decides.{nat_tests}
@@ -7,7 +7,8 @@ use Rattle.std.specs.Option.{option_map, option_to_list}
 use Rattle.std.proofs.lemmas.List.Elements.{All-cons, All-nil, All-tail}
 use Rattle.std.proofs.lemmas.List.Kept.{AllPairs-cons}
 use Rattle.std.proofs.lemmas.Grind.{flat_map-append}
-use Rattle.command_line.specs.Options.{TraceOptions}
+use Rattle.cache_profile.specs.ReportText.{cache_text}
+use Rattle.command_line.specs.Options.{CacheOptions, TraceOptions}
 use Rattle.cost_points.specs.Keys as keys
 use Rattle.cost_points.proofs.Rising.{IsRising-above, IsRising-rising, IsRising-tail}
 use Rattle.elf_image.specs.Image.{Executable, name_of}
@@ -29,7 +30,8 @@ use Rattle.aprof_top.specs.declared.ending.Verdict.TheVariants.{Ran, ResultTooLa
 use Rattle.aprof_top.specs.Delivery.{StoreFails}
 use Rattle.aprof_top.specs.Ending.{of_store}
 use Rattle.aprof_top.specs.Jobs.{RunIsStored, desk}
-use Rattle.aprof_top.specs.Outcome.{trace_outcome}
+use Rattle.aprof_top.specs.CacheMisses.{misses_of}
+use Rattle.aprof_top.specs.Outcome.{cache_outcome, trace_outcome}
 use Rattle.aprof_top.specs.Traces.{is_storable, named_entries, trace_of}
 use Rattle.aprof_top.specs.Verdicts.{IsOfRun}
 
@@ -101,3 +103,12 @@ module _ (options : TraceOptions) (image : Executable) (run : Profiled) (bytes :
     err = refl;
   }
   unstored store.Memory old new err same = record { stored = (0, same); err = refl }
+
+-- ---- the store of a report of cache misses failed
+pub misses_unstored : (options : CacheOptions) (image : Executable) (run : Profiled) (bytes : List ℕ) → bytes ≡ cache_text (misses_of options.shape image run.finish run.past)
+    → (e : StoreError) (old new : FilesState) (err : SinkState) → StoreEnds options.report bytes old new (Err e) → RunIsStored (cache_outcome options image run) (desk old err) (desk new err) (Err (of_store e))
+misses_unstored options image run bytes is store.Failed old new err fails = record {
+  stored = subst (λ (text : List ℕ). StoreFails ((options.report, text) ∷ []) old new) is (record { count = 0; store = (options.report, bytes); next = refl; failed = fails });
+  err = refl;
+}
+misses_unstored options image run bytes is store.Memory old new err same = record { stored = (0, same); err = refl }

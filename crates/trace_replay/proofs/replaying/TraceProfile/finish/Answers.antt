@@ -1,0 +1,30 @@
+use Rattle.std.proofs.Common.{◌≡◌, List, refl, ap, subst, sym, ◌∙◌}
+use Rattle.std.proofs.lemmas.Result.{err_from_is_err_and}
+use Rattle.trace_model.specs.Cut.{cut}
+use Rattle.trace_model.specs.Depth.{is_within}
+use Rattle.trace_replay.specs.Replays.{Going, HasReplayed}
+use Rattle.trace_replay.proofs.Cuts.{cut_formed, light_of}
+use Rattle.trace_replay.proofs.replaying.TraceProfile.finish.Goals as goal
+
+pub returns-in_err-names : goal.returns-in_err-names
+returns-in_err-names g c = λ bytes has.
+    let was = subst (λ (k : Going). HasReplayed g.S.Stamp.MAX k bytes) (sym c.self.view_is) has in
+    let p = err_from_is_err_and c.from_residual.result c.from_residual.ensures.1 in
+    rw (p.1, p.2) (was.past, c.in_err-names.ensures.err bytes was.past was.read)
+
+pub into_totals-requires : goal.into_totals-requires
+into_totals-requires g c =
+    let was = subst (λ (k : Going). HasReplayed g.S.Stamp.MAX k c.requires.0) (sym c.self.view_is) c.requires.1 in
+    let formed = cut_formed (is_within g.S.Stamp.MAX) was.past (c.in_ok-names.ensures.ok c.requires.0 was.past was.read).told.formed in
+    let past = cut (is_within g.S.Stamp.MAX) was.past in
+    record { past = past; now = was.profile; light = light_of past formed }
+
+pub returns : goal.returns
+returns g c = λ bytes has.
+    let was = subst (λ (k : Going). HasReplayed g.S.Stamp.MAX k bytes) (sym c.self.view_is) has in
+    record {
+      past = was.past;
+      trace = c.in_ok-names.ensures.ok bytes was.past was.read;
+      totals = c.in_ok-totals.ensures (cut (is_within g.S.Stamp.MAX) was.past) was.profile;
+      whole = was.whole;
+    }

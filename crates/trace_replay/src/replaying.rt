@@ -1,0 +1,115 @@
+//! Reading a stored trace into a profile.
+ghost use Rattle.std.specs.Prelude.{◌≡◌, ◌≤◌, ◌<◌, ◌+◌, ◌^◌, ◌++◌, [], List, ℕ, length, IfOk, OnOk, IfErr, MatchResult};
+ghost use Rattle.trace_file.specs.Reading.{IsRefused};
+ghost use Rattle.trace_model.specs.declared.event_kinds.Event.{Event};
+ghost use Rattle.trace_replay.specs.Replays.{HasReplayed, IsReplayOf, Replays};
+
+use guest_words::{Addr, Finish, Name};
+use run_profile::{Profile, Totals};
+use stamp_lanes::Lanes;
+use std::alloc::{AllocError, Global};
+use std::marker::Model;
+use trace_file::{TraceEnd, TraceError, TraceReader};
+use trace_model::{Events, Observed, feed};
+
+/// How many bytes are read at a time.
+const PIECE: usize = 4096;
+
+/// What a stored trace comes to: `IsReplayOf` says it.
+#[derive(Drop)]
+pub struct Replayed {
+    /// The totals of the trace, as long as stamps of the width tell its open activations apart.
+    pub totals: Totals,
+    /// Whether they do so to its end.
+    pub whole: bool,
+    /// The names of the routines, by rising entry.
+    pub names: Vec<(Addr, Name)>,
+    /// How the run ended.
+    pub finish: Finish,
+}
+
+// A trace that is being read.
+#[derive(Drop)]
+struct TraceProfile<S: Lanes> {
+    reader: TraceReader,
+    profile: Profile<S>,
+    whole: bool,
+    // Room for the events of a piece.
+    events: Events,
+}
+
+impl<S: Lanes> Model for TraceProfile<S> {
+    ghost use Rattle.trace_replay.specs.Replays.{Going};
+
+    ghost Value = { Going };
+
+    ghost view = { λ r. record { reader = r.reader; profile = r.profile; whole = r.whole } };
+}
+
+impl<S: Lanes> TraceProfile<S> {
+    fn new(alloc: Global) -> Result<TraceProfile<S>, AllocError>
+        requires { 3 ≤ S.MAX }
+        ensures { IfOk result (λ replay. HasReplayed S.MAX replay []) }
+    {
+        Ok(TraceProfile {
+            reader: TraceReader::new(alloc)?,
+            profile: Profile::new(alloc)?,
+            whole: true,
+            events: Events::new(alloc)?,
+        })
+    }
+
+    // Reads a piece more, and profiles its events as long as they are taken.
+    fn feed(&mut self, piece: &[u8]) -> Result<(), TraceError>
+        requires { (bytes : List ℕ) × HasReplayed S.MAX self.old bytes × (length bytes + length piece.now < 2 ^ 64) }
+        ensures ok { (bytes : List ℕ) → HasReplayed S.MAX self.old bytes → OnOk result (HasReplayed S.MAX self.new (bytes ++ piece.now)) }
+        ensures err { (bytes more : List ℕ) → HasReplayed S.MAX self.old bytes
+            → IfErr result (λ e. (past : List Event) × IsRefused (bytes ++ (piece.now ++ more)) past e) }
+    {
+        self.events.clear();
+        self.reader.feed(piece, &mut self.events)?;
+        if self.whole {
+            match feed(self.events.list(), &mut self.profile)? {
+                Observed::Taken => {}
+                Observed::Refused => self.whole = false,
+            }
+        }
+        Ok(())
+    }
+
+    // What the trace comes to, where the bytes are one.
+    fn finish(self) -> Result<Replayed, TraceError>
+        requires { (bytes : List ℕ) × HasReplayed S.MAX self bytes }
+        ensures { (bytes : List ℕ) → HasReplayed S.MAX self bytes → Replays S.MAX bytes result }
+    {
+        let TraceProfile {
+            reader,
+            profile,
+            whole,
+            ..
+        } = self;
+        let TraceEnd { names, finish } = reader.finish()?;
+        let totals = profile.into_totals()?;
+        Ok(Replayed {
+            totals,
+            whole,
+            names,
+            finish,
+        })
+    }
+}
+
+/// Reads the text of a trace, and profiles its events by stamps of a width.
+pub fn replay<S: Lanes>(alloc: Global, bytes: &[u8]) -> Result<Replayed, TraceError>
+    requires { 3 ≤ S.MAX }
+    ensures { Replays S.MAX bytes.now result }
+{
+    let mut replay = TraceProfile::<S>::new(alloc)?;
+    let mut rest = bytes;
+    while !rest.is_empty() {
+        let (piece, behind) = rest.split_at(rest.len().min(PIECE));
+        replay.feed(piece)?;
+        rest = behind;
+    }
+    replay.finish()
+}
