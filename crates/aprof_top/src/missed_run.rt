@@ -1,5 +1,5 @@
 //! The run of a guest, whose cache misses are counted while it goes.
-ghost use Rattle.std.specs.Prelude.{◌≡◌, true, map, IfOk};
+ghost use Rattle.std.specs.Prelude.{◌≡◌, true, List, map, IfOk};
 ghost use Rattle.trace_model.specs.declared.event_kinds.Event.{Event};
 ghost use Rattle.command_line.specs.Options.{arguments};
 ghost use Rattle.command_line.specs.Read.{AreInRange, guest_in};
