@@ -118,3 +118,42 @@ fn points_are_by_size(rt: HostRuntime) -> Result<(), Fail> {
     assert_eq!(rt; table.routine(0), (0x10068, [small, large].as_slice()));
     Ok(())
 }
+
+// A point of two activations of size 2, of which one read two words that the kernel had filled, joins that of one which reads
+// two words first.
+#[test]
+fn a_point_joins_another(rt: HostRuntime) -> Result<(), Fail> {
+    let mut table = Table::new(rt.alloc())?;
+    add(&rt, &mut table, ended(0x10068, 2, 7))?;
+    let more = Point {
+        size: 2,
+        calls: 2,
+        least: 3,
+        most: 9,
+        sum: 12,
+        split: Some(Split {
+            plain: 1,
+            thread: 1,
+            kernel: 2,
+            bare: 2,
+        }),
+    };
+    assert_eq!(rt; table.members(), 1);
+    table.add_point(0x10068, &more)?;
+    assert_eq!(rt; table.routines(), 1);
+    let whole = Point {
+        size: 2,
+        calls: 3,
+        least: 3,
+        most: 9,
+        sum: 19,
+        split: Some(Split {
+            plain: 3,
+            thread: 1,
+            kernel: 2,
+            bare: 4,
+        }),
+    };
+    assert_eq!(rt; table.routine(0), (0x10068, [whole].as_slice()));
+    Ok(())
+}
