@@ -1,0 +1,4 @@
+pub mod Contexts
+pub mod Numbers
+pub mod Order
+pub mod Points

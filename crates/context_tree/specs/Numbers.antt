@@ -1,0 +1,28 @@
+-- Contexts by number. The context with no entry has the number 0, and the others those from 1 on, in order of first begin.
+use Rattle.std.specs.Prelude.{◌≡◌, ◌≢◌, ℕ, zero, suc, ◌<◌, ◌≤◌, false, List, [], ◌∷◌, ◌++◌, length, slice_index_or}
+use Rattle.std.specs.List.{list_any}
+use Rattle.context_tree.specs.declared.numbers.TheConstants.{CONTEXTS}
+use Rattle.context_tree.specs.Contexts.{same}
+
+-- the context of a number
+abbrev pub numbered : List (List ℕ) → ℕ → List ℕ
+numbered contexts zero = []
+numbered contexts (suc i) = slice_index_or contexts i []
+
+-- Of each context there are kept the number of the one right above it, which is smaller than its own, and its last entry.
+pub record StandsFor (places : List (ℕ × ℕ)) (contexts : List (List ℕ)) : Type 0 where
+  pub long : length places ≡ length contexts
+  pub above : (i : ℕ) → i < length contexts → (slice_index_or places i (0, 0)).0 ≤ i
+  pub each : (i : ℕ) → i < length contexts →
+      slice_index_or contexts i [] ≡ numbered contexts (slice_index_or places i (0, 0)).0 ++ (slice_index_or places i (0, 0)).1 ∷ []
+  pub once : (i j : ℕ) → i < j → j < length contexts → slice_index_or contexts i [] ≢ slice_index_or contexts j []
+
+-- The number is that of the context.
+pub record IsNumberOf (contexts : List (List ℕ)) (n : ℕ) (c : List ℕ) : Type 0 where
+  pub within : n ≤ length contexts
+  pub there : numbered contexts n ≡ c
+
+-- The context is not there, and there are as many as can be numbered.
+pub record IsBeyond (contexts : List (List ℕ)) (c : List ℕ) : Type 0 where
+  pub full : length contexts ≡ CONTEXTS
+  pub absent : list_any (same c) contexts ≡ false

@@ -1,0 +1,11 @@
+//! The calling contexts of a run: the lists of routines that call one another, from the first one of a thread down.
+#![tactic(auto)]
+
+mod errors;
+mod numbers;
+
+pub use errors::TreeError;
+pub use numbers::ContextNumbers;
+
+#[cfg(test)]
+mod tests;

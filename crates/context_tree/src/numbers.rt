@@ -1,0 +1,86 @@
+//! Contexts by number.
+ghost use Rattle.std.specs.Prelude.{◌≡◌, ◌<◌, ◌≤◌, ◌++◌, ◌∷◌, [], ℕ, List, length, Err, IfOk, OnErr, OnOk};
+ghost use Rattle.context_tree.specs.Contexts.{with_context};
+ghost use Rattle.context_tree.specs.declared.errors.TreeError.{TreeError};
+ghost use Rattle.context_tree.specs.Numbers.{IsBeyond, IsNumberOf, StandsFor, numbered};
+
+use crate::TreeError;
+use guest_words::Addr;
+use indexmap::IndexSet;
+use std::alloc::Global;
+use std::marker::Model;
+
+/// How many contexts there can be.
+pub const CONTEXTS: usize = 4_294_967_294;
+
+/// The contexts of a run, by number, in order of their first begin. The one with no entry has the number 0. Contracts see for
+/// each other one the number of the context right above it and its last entry. Looking one up, and adding one, takes a time
+/// that does not grow with them.
+#[derive(Drop)]
+pub struct ContextNumbers {
+    places: IndexSet<(u32, Addr)>,
+}
+
+impl Model for ContextNumbers {
+    ghost use Rattle.std.specs.Prelude.{ℕ, ◌≤◌, List, length};
+    ghost use Rattle.context_tree.specs.declared.numbers.TheConstants.{CONTEXTS};
+
+    ghost Value = { List (ℕ × ℕ) };
+
+    ghost view = { λ n. n.places.keys };
+
+    ghost invariant = { λ n. length n.places.keys ≤ CONTEXTS };
+}
+
+impl ContextNumbers {
+    /// No context but the one with no entry.
+    pub fn new(alloc: Global) -> ContextNumbers
+        ensures { StandsFor result [] }
+    {
+        ContextNumbers {
+            places: IndexSet::new(alloc),
+        }
+    }
+
+    /// How many contexts there are, without the one with no entry.
+    pub fn len(&self) -> usize
+        ensures { result ≡ length self.now }
+    {
+        self.places.len()
+    }
+
+    /// The number of the context right above that of this number, and the last entry of the latter.
+    pub fn place(&self, n: u32) -> (u32, Addr)
+        requires some { 1 ≤ n }
+        requires within { n ≤ length self.now }
+        ensures above { (contexts : List (List ℕ)) → StandsFor self.now contexts → result.0 < n }
+        ensures context { (contexts : List (List ℕ)) → StandsFor self.now contexts
+            → numbered contexts n ≡ numbered contexts result.0 ++ result.1 ∷ [] }
+    {
+        *self.places.get_index(n as usize - 1).unwrap()
+    }
+
+    /// The number of the context that has this entry right under the context `above`. Where it is not there it comes last. A
+    /// refusal changes nothing.
+    pub fn number_of(&mut self, above: u32, entry: Addr) -> Result<u32, TreeError>
+        requires { above ≤ length self.old }
+        ensures stands { (contexts : List (List ℕ)) → StandsFor self.old contexts
+            → OnOk result (StandsFor self.new (with_context contexts (numbered contexts above ++ entry ∷ []))) }
+        ensures number { (contexts : List (List ℕ)) → StandsFor self.old contexts
+            → IfOk result (λ n. IsNumberOf (with_context contexts (numbered contexts above ++ entry ∷ [])) n (numbered contexts above ++ entry ∷ [])) }
+        ensures too_many { (contexts : List (List ℕ)) → StandsFor self.old contexts
+            → result ≡ Err TreeError.TooMany → IsBeyond contexts (numbered contexts above ++ entry ∷ []) }
+        ensures only_memory { (contexts : List (List ℕ)) → StandsFor self.old contexts
+            → IsBeyond contexts (numbered contexts above ++ entry ∷ []) → result ≡ Err TreeError.TooMany }
+        ensures refused { OnErr result (self.new ≡ self.old) }
+    {
+        let place = (above, entry);
+        if self.places.len() >= CONTEXTS && !self.places.contains(&place) {
+            return Err(TreeError::TooMany);
+        }
+        match self.places.insert_full(place) {
+            Ok((index, _)) => Ok(index as u32 + 1),
+            Err(_) => Err(TreeError::Memory),
+        }
+    }
+}
