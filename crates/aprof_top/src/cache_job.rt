@@ -51,6 +51,14 @@ pub(crate) fn cache_command<F: Files, O: Sink, E: Sink>(
     let guest = &command.guest;
     let prepared = prepare(alloc, guest, files)?;
     let image = prepared.image;
-    let report = count_misses(alloc, command.shape, guest, &image, prepared.files, out, err)?;
+    let report = count_misses(
+        alloc,
+        command.shape,
+        guest,
+        &image,
+        prepared.files,
+        out,
+        err,
+    )?;
     deliver_misses(alloc, command, &report, files)
 }

@@ -17,8 +17,8 @@ pub use cache_command::CacheCommand;
 pub use commands::{Command, CommandError, read_command};
 pub use guest_options::GuestOptions;
 pub use laws::{
-    plain_caches_are_read, plain_caches_are_taken, plain_demo_is_read, plain_demo_is_taken, plain_options_are_read, plain_traces_are_read,
-    plain_traces_are_taken, plain_words_are_taken,
+    plain_caches_are_read, plain_caches_are_taken, plain_demo_is_read, plain_demo_is_taken,
+    plain_options_are_read, plain_traces_are_read, plain_traces_are_taken, plain_words_are_taken,
     taken_words_fail_by_numbers,
 };
 pub use run_command::RunCommand;

@@ -1,13 +1,12 @@
 -- Pasts that were read, and where they are cut.
-use Rattle.std.proofs.Common.{◌≡◌, ℕ, Bool, true, false, List, [], ◌∷◌, ◌++◌, Some, None, refl, sym, ap, subst, ◌∙◌, inl, inr, arith, length}
+use Rattle.std.proofs.Common.{◌≡◌, ℕ, Bool, true, false, List, [], ◌∷◌, None, refl, sym, subst, inl, inr, arith, length}
 use Rattle.trace_file.specs.Reading.{HasRead, HasReadBy, IsReading, ReaderState}
-use Rattle.trace_file.specs.declared.errors.TraceError.{TraceError}
-use Rattle.std.specs.Prelude.{◌==◌, Option}
+use Rattle.std.specs.Prelude.{◌==◌}
 use Rattle.std.proofs.lemmas.Bool.Decides.{nat_tests}
 use Rattle.trace_model.specs.declared.event_kinds.Event.{Event}
 use Rattle.trace_model.specs.Cut.{IsPrefixClosed, cut, past_after}
 use Rattle.trace_model.specs.WellFormed.{IsLight, IsWellFormed}
-use Rattle.trace_model.proofs.Cut.{cut-earlier, cut-fits, fits-earlier}
+use Rattle.trace_model.proofs.Cut.{cut-earlier, fits-earlier}
 
 pub light_of : (past : List Event) → IsWellFormed past → IsLight past
 light_of [] formed = omega arith

@@ -58,4 +58,3 @@ returns g c =
     files (sinks (g.O.Sink.state c.args.out.now) (g.E.Sink.state c.args.err.now)) (sinks out (g.E.Sink.state c.count_misses.new.err))
     c.in_ok-report.ensures.0 whole.output (g.F.Files.state c.deliver_misses.new.files) (g.E.Sink.state c.count_misses.new.err) c.deliver_misses.result
     (c.deliver_misses.ensures prepared.image seen whole.report_is (g.E.Sink.state c.count_misses.new.err)))
-

@@ -1,4 +1,4 @@
-use Rattle.std.proofs.Common.{◌≡◌, List, ◌++◌, append_assoc, ap, refl, subst, sym, ◌∙◌, true, false}
+use Rattle.std.proofs.Common.{◌≡◌, List, ◌++◌, append_assoc, ap, subst, sym, ◌∙◌}
 use Rattle.std.proofs.lemmas.Result.{err_from_is_err_and}
 use Rattle.trace_file.specs.Reading.{HasReadBy, IsRefused}
 use Rattle.trace_file.proofs.ReadBytes.{stays}
