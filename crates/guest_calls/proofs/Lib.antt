@@ -1,5 +1,6 @@
 pub mod AllCalls
 pub mod Births
+pub mod Blocked
 pub mod Breaks
 pub mod Carrying
 pub mod CopyEvents
@@ -18,5 +19,6 @@ pub mod Rows
 pub mod Settled
 pub mod Started
 pub mod Times
+pub mod ClockWakings
 pub mod Wakings
 pub mod Weights

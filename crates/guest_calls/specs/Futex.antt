@@ -1,14 +1,16 @@
 -- Waiting at a word and waking: futex(2), with 64-bit times.
-use Rattle.std.specs.Prelude.{ℕ, ◌+◌, ◌-◌, ◌%◌, ◌^◌, Bool, true, false, not, ◌&&◌, ◌==◌, bit_and, List, [], ◌∷◌, length, Option, Some, None}
+use Rattle.std.specs.Prelude.{ℕ, ◌+◌, ◌-◌, ◌%◌, ◌^◌, Bool, true, false, not, ◌&&◌, ◌==◌, bit_and, List, [], ◌∷◌, length, filter, Option, Some, None}
 use Rattle.std.specs.Option.{option_map, option_map_or}
 use Rattle.std.specs.List.{find}
 use Rattle.futex_table.specs.declared.waiter.Waiter.{Waiter}
-use Rattle.futex_table.specs.Waiting.{all_bits, after_forget, after_wait, woken, after_wake, shifted, after_requeue}
+use Rattle.futex_table.specs.Once.{waits}
+use Rattle.futex_table.specs.Waiting.{all_bits, after_wait, woken, after_wake, shifted, after_shift}
+use Rattle.virtual_clock.specs.declared.deadline.Deadline.{Deadline}
 use Rattle.guest_calls.specs.declared.answer.Answer.TheVariants.{Back, Block}
 use Rattle.guest_calls.specs.declared.operation.Operation.{Operation}
 use Rattle.guest_calls.specs.declared.operation.Operation.TheVariants.{Wait, Wake, Requeue, CmpRequeue, WaitBitset, WakeBitset}
 use Rattle.guest_calls.specs.Errors.{eagain, efault, einval, enosys}
-use Rattle.guest_calls.specs.Kernel.{KernelState}
+use Rattle.guest_calls.specs.Kernel.{KernelState, unblocked}
 use Rattle.guest_calls.specs.Results.{Call, CallResult, arg, returns, unless, ◌⇒◌, ◌or◌, ◌▷◌, either, answers, changes, reads, readable, word, has}
 
 abbrev pub operations : List (ℕ × Operation)
@@ -76,16 +78,32 @@ waits_for c bits r =
 -- this one waits no more
 abbrev pub woken_one : Option Waiter → KernelState → KernelState
 woken_one None k = k
-woken_one (Some w) k = record k { waiting = after_forget k.waiting w.tid }
+woken_one (Some w) k = unblocked w.tid k
 
--- the first `most` that wait at the address and meet the bits are woken
-abbrev pub wakes : ℕ → ℕ → ℕ → CallResult → CallResult
-wakes at most bits r = r ▷ changes (λ k. record k { waiting = after_wake k.waiting at most bits })
+-- the deadlines of all others than these
+abbrev pub deadlines_without : List Deadline → List Waiter → List Deadline
+deadlines_without deadlines gone = filter (λ d. not (waits gone d.tid)) deadlines
+
+-- the first `most` that wait at the address and meet the bits are woken, and have no deadline any more
+abbrev pub woken_at : ℕ → ℕ → ℕ → KernelState → KernelState
+woken_at at most bits k = record k {
+  waiting = after_wake k.waiting at most bits;
+  deadlines = deadlines_without k.deadlines (woken k.waiting at most bits);
+}
+
+-- the first `most` that wait at the address are moved to the other, and keep their deadlines
+abbrev pub moved_at : ℕ → ℕ → ℕ → KernelState → KernelState
+moved_at at most to k = record k { waiting = after_shift k.waiting at most to }
 
 -- the first are woken, and the next are moved to the other address
+abbrev pub requeued : ℕ → ℕ → ℕ → ℕ → KernelState → KernelState
+requeued at most shift to k = moved_at at shift to (woken_at at most all_bits k)
+
+abbrev pub wakes : ℕ → ℕ → ℕ → CallResult → CallResult
+wakes at most bits r = r ▷ changes (woken_at at most bits)
+
 abbrev pub requeues : Call → CallResult → CallResult
-requeues c r =
-    r ▷ changes (λ k. record k { waiting = after_requeue k.waiting (futex_at c) (futex_value c) (futex_limit c) (futex_to c) })
+requeues c r = r ▷ changes (requeued (futex_at c) (futex_value c) (futex_limit c) (futex_to c))
 
 abbrev pub count_woken : Call → ℕ → ℕ
 count_woken c bits = length (woken c.kernel.waiting (futex_at c) (futex_value c) bits)

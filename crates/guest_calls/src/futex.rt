@@ -1,6 +1,6 @@
 //! Waiting at a word and waking: futex(2).
 ghost use Rattle.std.specs.Prelude.{◌≡◌, ◌≢◌, ◌≤◌, ◌==◌, ◌++◌, ◌+◌, length, slice_index, true, IfNone};
-ghost use Rattle.futex_table.specs.Waiting.{after_wait, after_requeue, all_bits, shifted, woken};
+ghost use Rattle.futex_table.specs.Waiting.{after_wait, all_bits, shifted, woken};
 ghost use Rattle.guest_memory.specs.declared.reservations.Reservations.{Reservations};
 ghost use Rattle.guest_memory.specs.Guest.{memory_of};
 ghost use Rattle.guest_memory.specs.Memory.{number_at};
@@ -8,7 +8,7 @@ ghost use Rattle.guest_memory.specs.declared.memory.GuestMemory.{GuestMemory};
 ghost use Rattle.trace_model.specs.EventList.{EventList};
 ghost use Rattle.guest_calls.specs.declared.operation.Operation.TheVariants.{Requeue, CmpRequeue};
 ghost use Rattle.rv_exec.specs.Accesses.{can_read};
-ghost use Rattle.guest_calls.specs.Futex.{compares, count_woken, futex_at, futex_tests, futex_value, has_bitset, performed, reads_word, waits_for, wakes};
+ghost use Rattle.guest_calls.specs.Futex.{compares, count_woken, futex_at, futex_tests, futex_value, has_bitset, moved_at, performed, reads_word, requeued, waits_for, wakes};
 ghost use Rattle.guest_calls.specs.Futex as specs;
 ghost use Rattle.guest_calls.specs.Kernel.{KernelState, can_run};
 ghost use Rattle.guest_calls.specs.Outcome.{asked, Does};
@@ -88,15 +88,28 @@ impl State {
         self.waiting.wait(at, tid, bits);
     }
 
+    /// Moves the first that wait at the address to another, and answers how many. They keep their deadlines.
+    fn move_waiters(&mut self, at: Addr, most: u32, to: Addr) -> u32
+        ensures moved { result ≡ length (woken self.old.waiting at most all_bits) }
+        ensures few { result ≤ THREADS }
+        ensures after { self.new ≡ moved_at at most to self.old }
+    {
+        let _ = self.waiting.len();
+        let (_, moved) = self.waiting.requeue(at, 0, most, to);
+        moved
+    }
+
     /// Wakes the first that wait at the address, and moves the next to another. Answers how many of each.
     fn requeue(&mut self, at: Addr, most: u32, shift: u32, to: Addr) -> (u32, u32)
         ensures woken { result.0 ≡ length (woken self.old.waiting at most all_bits) }
         ensures moved { result.1 ≡ length (shifted self.old.waiting at most shift) }
         ensures few { (result.0 ≤ THREADS) × (result.1 ≤ THREADS) }
-        ensures after { self.new ≡ record self.old { waiting = after_requeue self.old.waiting at most shift to } }
+        ensures after { self.new ≡ requeued at most shift to self.old }
     {
         let _ = self.waiting.len();
-        self.waiting.requeue(at, most, shift, to)
+        let count = self.wake(at, most, ALL_BITS);
+        let moved = self.move_waiters(at, shift, to);
+        (count, moved)
     }
 
     /// FUTEX_WAIT and FUTEX_WAIT_BITSET: the thread waits where the word is the value.

@@ -11,3 +11,4 @@ pub mod Follows
 pub mod Weights
 pub mod StepParts
 pub mod Limits
+pub mod ClockWakings

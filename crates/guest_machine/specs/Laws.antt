@@ -8,8 +8,10 @@ use Rattle.trace_model.specs.Profile.{steps}
 use Rattle.trace_model.specs.WellFormed.{MayFollow, greatest_start, is_live, weight}
 use Rattle.guest_calls.specs.Invariant.{RisesTo}
 use Rattle.guest_calls.specs.Kernel.{lives}
+use Rattle.guest_calls.specs.Waking.{IsAwake}
 use Rattle.guest_machine.specs.Machine.{MachineState, can_run}
 use Rattle.guest_machine.specs.Step.{step}
+use Rattle.guest_machine.specs.Waking.{woken}
 
 -- these events, in order, may follow the past, one after another
 abbrev pub EachFollows : List Event → List Event → Type 0
@@ -58,3 +60,19 @@ abbrev pub EveryStepStaysWithinLimits : Type 0
 EveryStepStaysWithinLimits =
     (m : MachineState) (tid : ℕ) → map (λ h. h.0) m.harts ≡ map (λ t. t.tid) m.kernel.threads
     → IsWithinLimits m → IsWithinLimits (step m tid).machine
+
+-- Once all that are due are woken, no deadline is due, and a thread can run or no deadline is left.
+abbrev pub EveryWakingEnds : Type 0
+EveryWakingEnds = (m : MachineState) → IsAwake (woken m).kernel
+
+-- A waking leaves memory, the reservations, the live threads and the numbers given as they are.
+pub record KeepsThreads (m new : MachineState) : Type 0 where
+  pub memory : new.memory ≡ m.memory
+  pub held : new.held ≡ m.held
+  pub threads : new.kernel.threads ≡ m.kernel.threads
+  pub last : new.kernel.last_tid ≡ m.kernel.last_tid
+  pub program_break : new.kernel.program_break ≡ m.kernel.program_break
+  pub numbers : map (λ h. h.0) new.harts ≡ map (λ h. h.0) m.harts
+
+abbrev pub EveryWakingKeepsThreads : Type 0
+EveryWakingKeepsThreads = (m : MachineState) → KeepsThreads m (woken m)
