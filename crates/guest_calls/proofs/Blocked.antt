@@ -1,5 +1,5 @@
 -- Threads that are not blocked.
-use Rattle.std.proofs.Common.{◌≡◌, ℕ, Bool, true, false, List, filter, ap₂, sym, subst}
+use Rattle.std.proofs.Common.{◌≡◌, ℕ, Bool, true, false, filter, ap₂, sym, subst}
 use Rattle.std.specs.Prelude.{not, ◌&&◌, ◌||◌, ◌==◌}
 use Rattle.std.proofs.lemmas.Bool.{and_parts, not-true, or_parts}
 use Rattle.futex_table.specs.declared.waiter.Waiter.{Waiter}

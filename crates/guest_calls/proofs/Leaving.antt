@@ -2,14 +2,14 @@
 use Rattle.std.proofs.Common.{◌≡◌, ℕ, ◌<◌, ◌≤◌, ◌+◌, Bool, true, false, cond, List, [], ◌∷◌, length, map, filter, arith, refl, ap, ap₂, sym, subst, ◌∙◌, inl, inr}
 use Rattle.std.specs.Prelude.{not, ◌&&◌, ◌||◌, ◌==◌}
 use Rattle.std.specs.List.{list_any}
-use Rattle.std.proofs.lemmas.Bool.{and_parts, cases_eq, ne_eqb, not-true, or_parts}
+use Rattle.std.proofs.lemmas.Bool.{cases_eq, ne_eqb, or_parts}
 use Rattle.std.proofs.lemmas.Bool.Decides.{nat_tests}
 use Rattle.std.proofs.lemmas.List.{length-map}
 use Rattle.futex_table.specs.Once.{waits}
 use Rattle.futex_table.specs.Waiting.{woken}
 use Rattle.guest_calls.specs.declared.thread.Thread.{Thread}
 use Rattle.guest_calls.specs.Invariant.{IsState, RisesTo}
-use Rattle.guest_calls.specs.Kernel.{KernelState, is_thread, lives, can_run, is_blocked, other_threads}
+use Rattle.guest_calls.specs.Kernel.{KernelState, is_thread, can_run, is_blocked, other_threads}
 use Rattle.futex_table.specs.Waiting.{all_bits}
 use Rattle.guest_calls.specs.Futex.{wakes, woken_at}
 use Rattle.guest_calls.specs.Kernel.{has_others}

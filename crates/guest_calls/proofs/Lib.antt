@@ -17,8 +17,10 @@ pub mod Refusals
 pub mod Rising
 pub mod Rows
 pub mod Settled
+pub mod Sleeps
 pub mod Started
 pub mod Times
 pub mod ClockWakings
+pub mod Waits
 pub mod Wakings
 pub mod Weights

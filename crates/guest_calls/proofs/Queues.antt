@@ -2,7 +2,7 @@
 use Rattle.std.proofs.Common.{◌≡◌, ℕ, zero, suc, ◌<◌, ◌≤◌, ◌+◌, Bool, true, false, cond, List, [], ◌∷◌, length, map, filter, take, arith, refl, ap, ap₂, sym, subst, ◌∙◌, inl, inr}
 use Rattle.std.specs.Prelude.{not, ◌&&◌, ◌||◌, ◌==◌}
 use Rattle.std.specs.List.{list_any}
-use Rattle.std.proofs.lemmas.Bool.{and_parts, cases_eq, eq-eqb, or_parts}
+use Rattle.std.proofs.lemmas.Bool.{cases_eq, eq-eqb, or_parts}
 use Rattle.std.proofs.lemmas.List.Folds.{list_any-append}
 use Rattle.futex_table.specs.declared.waiter.Waiter.{Waiter}
 use Rattle.futex_table.specs.Once.{waits, IsOnce}
@@ -21,7 +21,7 @@ live_head true t rest n later all = omega (arith, all)
 live_head false t rest n later all = let h = later refl in omega (arith, h)
 
 -- fewer threads are left where a live one is taken out
-fewer_without : (ts : List Thread) (tid : ℕ) → list_any (is_thread tid) ts ≡ true → length (filter (λ t. not (is_thread tid t)) ts) < length ts
+pub fewer_without : (ts : List Thread) (tid : ℕ) → list_any (is_thread tid) ts ≡ true → length (filter (λ t. not (is_thread tid t)) ts) < length ts
 fewer_without [] tid live = absurd (cc)
 fewer_without (t ∷ ts) tid live =
     live_head (is_thread tid t) t (filter (λ u. not (is_thread tid u)) ts) (length ts)
@@ -33,7 +33,7 @@ bool_cases true P one other = one refl
 bool_cases false P one other = other refl
 
 -- who waits, each once, are no more than those who live
-no_more_wait : (ws : List Waiter) (ts : List Thread) → IsOnce ws → ((q : ℕ) → list_any (is_thread q) ts ≡ false → waits ws q ≡ false) → length ws ≤ length ts
+pub no_more_wait : (ws : List Waiter) (ts : List Thread) → IsOnce ws → ((q : ℕ) → list_any (is_thread q) ts ≡ false → waits ws q ≡ false) → length ws ≤ length ts
 no_more_wait [] ts once gone = omega arith
 no_more_wait (w ∷ ws) ts once gone =
     let live : list_any (is_thread w.tid) ts ≡ true = bool_cases (list_any (is_thread w.tid) ts) (list_any (is_thread w.tid) ts ≡ true) (λ h. h) (λ h. let bad : true ≡ false = ap (λ (b : Bool). b || waits ws w.tid) (sym (eq-eqb w.tid w.tid refl)) ∙ gone w.tid h in absurd (cc)) in

@@ -1,5 +1,5 @@
 -- Threads that are woken one after another.
-use Rattle.std.proofs.Common.{◌≡◌, ℕ, zero, suc, ◌+◌, ◌-◌, ◌<◌, ◌≤◌, Bool, true, false, cond, List, [], ◌∷◌, length, Option, Some, None, arith, refl, ap, ap₂, sym, subst, ◌∙◌}
+use Rattle.std.proofs.Common.{◌≡◌, ℕ, suc, ◌+◌, ◌-◌, ◌<◌, ◌≤◌, Bool, true, false, cond, List, [], ◌∷◌, length, Option, Some, None, arith, refl, ap, ap₂, sym, subst, ◌∙◌}
 use Rattle.std.specs.Prelude.{is_some, ◌||◌, ◌==◌, not}
 use Rattle.futex_table.specs.declared.waiter.Waiter.{Waiter}
 use Rattle.futex_table.specs.Once.{waits, IsOnce}

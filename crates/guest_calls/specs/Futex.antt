@@ -1,5 +1,5 @@
 -- Waiting at a word and waking: futex(2), with 64-bit times.
-use Rattle.std.specs.Prelude.{ℕ, ◌+◌, ◌-◌, ◌%◌, ◌^◌, Bool, true, false, not, ◌&&◌, ◌==◌, bit_and, List, [], ◌∷◌, length, filter, Option, Some, None}
+use Rattle.std.specs.Prelude.{ℕ, ◌+◌, ◌-◌, ◌%◌, ◌^◌, Bool, true, false, not, ◌&&◌, ◌==◌, bit_and, nat_le, List, [], ◌∷◌, length, filter, is_none, is_some, unwrap_or, Option, Some, None, if◌then◌else◌}
 use Rattle.std.specs.Option.{option_map, option_map_or}
 use Rattle.std.specs.List.{find}
 use Rattle.futex_table.specs.declared.waiter.Waiter.{Waiter}
@@ -9,9 +9,10 @@ use Rattle.virtual_clock.specs.declared.deadline.Deadline.{Deadline}
 use Rattle.guest_calls.specs.declared.answer.Answer.TheVariants.{Back, Block}
 use Rattle.guest_calls.specs.declared.operation.Operation.{Operation}
 use Rattle.guest_calls.specs.declared.operation.Operation.TheVariants.{Wait, Wake, Requeue, CmpRequeue, WaitBitset, WakeBitset}
-use Rattle.guest_calls.specs.Errors.{eagain, efault, einval, enosys}
+use Rattle.guest_calls.specs.Errors.{eagain, efault, einval, enosys, etimedout}
+use Rattle.guest_calls.specs.Clock.{from_now, time_at, time_size, with_deadline}
 use Rattle.guest_calls.specs.Kernel.{KernelState, unblocked}
-use Rattle.guest_calls.specs.Results.{Call, CallResult, arg, returns, unless, ◌⇒◌, ◌or◌, ◌▷◌, either, answers, changes, reads, readable, word, has}
+use Rattle.guest_calls.specs.Results.{Call, CallResult, arg, returns, unless, ◌⇒◌, ◌or◌, ◌▷◌, either, when, answers, changes, reads, readable, word, has}
 
 abbrev pub operations : List (ℕ × Operation)
 operations = (0, Wait) ∷ (1, Wake) ∷ (3, Requeue) ∷ (4, CmpRequeue) ∷ (9, WaitBitset) ∷ (10, WakeBitset) ∷ []
@@ -64,16 +65,51 @@ futex_to c = arg c 4
 abbrev pub futex_value3 : Call → ℕ
 futex_value3 c = arg c 5
 
+-- ---- the limit of a wait
+abbrev pub has_limit : Operation → Call → Bool
+has_limit o c = is_wait o && not (futex_limit c == 0)
+
+-- for FUTEX_WAIT the limit is so long after now, and for FUTEX_WAIT_BITSET it is the time itself
+abbrev pub limit_end : Operation → ℕ → ℕ → ℕ
+limit_end WaitBitset now time = time
+limit_end _ now time = from_now now time
+
+-- when a wait is over, where it has a limit
+abbrev pub wait_end : Operation → Call → Option ℕ
+wait_end o c =
+    if futex_limit c == 0 then None
+    else Some (limit_end o c.kernel.time (unwrap_or (time_at c.memory (futex_limit c)) 0))
+
+abbrev pub is_over : Option ℕ → ℕ → Bool
+is_over None now = false
+is_over (Some end) now = nat_le end now
+
 -- ---- the effects
 -- the word is read; where it is not the value, the answer is EAGAIN, and the read stays
 abbrev pub compares : Call → ℕ → (CallResult → CallResult) → CallResult → CallResult
 compares c value effect r =
     r ▷ reads c.tid (futex_at c) 4 ▷ either (word c (futex_at c) == value) effect (answers (Back eagain))
 
--- the thread begins to wait, with these bits
-abbrev pub waits_for : Call → ℕ → CallResult → CallResult
-waits_for c bits r =
-    r ▷ changes (λ k. record k { waiting = after_wait k.waiting (futex_at c) c.tid bits }) ▷ answers Block
+-- the thread is behind all others that wait, with these bits
+abbrev pub with_waiter : ℕ → ℕ → ℕ → KernelState → KernelState
+with_waiter at tid bits k = record k { waiting = after_wait k.waiting at tid bits }
+
+-- where its wait has an end, that is its deadline, with the answer ETIMEDOUT
+abbrev pub with_end : ℕ → Option ℕ → KernelState → KernelState
+with_end tid None k = k
+with_end tid (Some end) k = with_deadline tid end etimedout k
+
+-- the thread begins to wait, with these bits, until the end
+abbrev pub waits_for : Call → ℕ → Option ℕ → CallResult → CallResult
+waits_for c bits end r =
+    r ▷ changes (with_waiter (futex_at c) c.tid bits) ▷ changes (with_end c.tid end) ▷ answers Block
+
+-- A wait reads its limit, where it has one, and then the word. It begins where the word is the value and its end is ahead.
+abbrev pub waited : Call → ℕ → Option ℕ → CallResult
+waited c bits end =
+    returns c 0
+    ▷ when (is_some end) (reads c.tid (futex_limit c) time_size)
+    ▷ compares c (futex_value c) (either (is_over end c.kernel.time) (answers (Back etimedout)) (waits_for c bits end))
 
 -- this one waits no more
 abbrev pub woken_one : Option Waiter → KernelState → KernelState
@@ -112,8 +148,8 @@ abbrev pub count_shifted : Call → ℕ
 count_shifted c = length (shifted c.kernel.waiting (futex_at c) (futex_value c) (futex_limit c))
 
 abbrev pub performed : Operation → Call → CallResult
-performed Wait c = returns c 0 ▷ compares c (futex_value c) (waits_for c all_bits)
-performed WaitBitset c = returns c 0 ▷ compares c (futex_value c) (waits_for c (futex_value3 c))
+performed Wait c = waited c all_bits (wait_end Wait c)
+performed WaitBitset c = waited c (futex_value3 c) (wait_end WaitBitset c)
 performed Wake c = returns c (count_woken c all_bits) ▷ wakes (futex_at c) (futex_value c) all_bits
 performed WakeBitset c = returns c (count_woken c (futex_value3 c)) ▷ wakes (futex_at c) (futex_value c) (futex_value3 c)
 performed Requeue c = returns c (count_woken c all_bits) ▷ requeues c
@@ -125,7 +161,8 @@ futex_tests o c =
     or not (futex_at c % 4 == 0) ⇒ einval
     or is_requeue o && not (futex_to c % 4 == 0) ⇒ einval
     or has_bitset o && futex_value3 c == 0 ⇒ einval
-    or is_wait o && not (futex_limit c == 0) ⇒ enosys
+    or has_limit o c && not (readable c (futex_limit c) time_size) ⇒ efault
+    or has_limit o c && is_none (time_at c.memory (futex_limit c)) ⇒ einval
     or reads_word o && not (readable c (futex_at c) 4) ⇒ efault
 
 abbrev pub futex_by : Call → Operation → CallResult
