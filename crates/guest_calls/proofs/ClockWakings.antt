@@ -50,7 +50,7 @@ no_earlier k = by (some_can_run k) (first_of k.deadlines)
     by false (Some d) = grind arith
 
 -- ---- which deadline is due
-due-first : (ds : List Deadline) (now : ℕ) (d : Deadline) → due_of ds now ≡ Some d → first_of ds ≡ Some d
+pub due-first : (ds : List Deadline) (now : ℕ) (d : Deadline) → due_of ds now ≡ Some d → first_of ds ≡ Some d
 due-first ds now d is = by (first_of ds) is
   where
     by_test : (b : Bool) (e : Deadline) → cond b (Some e) None ≡ Some d → Some e ≡ Some d
@@ -61,12 +61,12 @@ due-first ds now d is = by (first_of ds) is
     by None is = absurd (cc)
     by (Some e) is = by_test (nat_le e.at now) e is
 
-or-true : (b : Bool) → (b || true) ≡ true
+pub or-true : (b : Bool) → (b || true) ≡ true
 or-true true = refl
 or-true false = refl
 
 -- who has one of the deadlines has a deadline
-has-at : (ds : List Deadline) (i : ℕ) (d : Deadline) → i < length ds → has ds (slice_index_or ds i d).tid ≡ true
+pub has-at : (ds : List Deadline) (i : ℕ) (d : Deadline) → i < length ds → has ds (slice_index_or ds i d).tid ≡ true
 has-at [] i d inside = absurd (omega arith)
 has-at (e ∷ ds) zero d inside = ap (λ (b : Bool). b || has ds e.tid) (eq-eqb e.tid e.tid refl)
 has-at (e ∷ ds) (suc i) d inside =
@@ -161,7 +161,7 @@ fewer_left (d ∷ ds) tid own =
     fewer_cond (d.tid == tid) d (after_forget ds tid) (length ds) (no_more_left ds tid)
     (λ other. fewer_left ds tid (ap (λ (b : Bool). b || has ds tid) (sym other) ∙ own))
 
-moved_deadlines : (b : Bool) (k : KernelState) (o : Option Deadline) → (cond b k (record k { time = no_sooner k.time o })).deadlines ≡ k.deadlines
+pub moved_deadlines : (b : Bool) (k : KernelState) (o : Option Deadline) → (cond b k (record k { time = no_sooner k.time o })).deadlines ≡ k.deadlines
 moved_deadlines true k o = refl
 moved_deadlines false k o = refl
 

@@ -22,7 +22,7 @@ pub idle : (m : MachineState) → next_due m.kernel ≡ None → one_woken m ≡
 idle m due =
     ap₂ (λ (o : Option Deadline) (k : KernelState). record m { harts = answered o m.harts; kernel = k }) due (sym (rests m.kernel due))
 
-idle_times : (n : ℕ) (m : MachineState) → next_due m.kernel ≡ None → woken_times n m ≡ m
+pub idle_times : (n : ℕ) (m : MachineState) → next_due m.kernel ≡ None → woken_times n m ≡ m
 unfolding woken_times
 idle_times zero m due = refl
 idle_times (suc n) m due = ap (woken_times n) (idle m due) ∙ idle_times n m due

@@ -12,3 +12,4 @@ pub mod Weights
 pub mod StepParts
 pub mod Limits
 pub mod ClockWakings
+pub mod AllWoken

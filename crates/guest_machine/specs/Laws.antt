@@ -1,14 +1,15 @@
 -- What holds of every step.
-use Rattle.std.specs.Prelude.{◌≡◌, ℕ, ◌+◌, ◌≤◌, true, List, [], ◌∷◌, ◌++◌, length, map, reverse}
+use Rattle.std.specs.Prelude.{◌≡◌, ℕ, ◌+◌, ◌≤◌, true, List, [], ◌∷◌, ◌++◌, length, map, reverse, filter, nat_lt}
 use Rattle.guest_words.specs.declared.limits.TheConstants.{LAST_TID, THREADS}
 use Rattle.trace_model.specs.declared.event_kinds.Event.{Event}
 use Rattle.trace_model.specs.declared.event_kinds.Event.TheVariants.{Step}
 use Rattle.trace_model.specs.Parts.{IsShort}
 use Rattle.trace_model.specs.Profile.{steps}
 use Rattle.trace_model.specs.WellFormed.{MayFollow, greatest_start, is_live, weight}
-use Rattle.guest_calls.specs.Invariant.{RisesTo}
+use Rattle.guest_calls.specs.Invariant.{IsState, RisesTo}
 use Rattle.guest_calls.specs.Kernel.{lives}
-use Rattle.guest_calls.specs.Waking.{IsAwake}
+use Rattle.guest_calls.specs.Waking.{IsAwake, moved_on}
+use Rattle.virtual_clock.specs.Once.{IsOnce}
 use Rattle.guest_machine.specs.Machine.{MachineState, can_run}
 use Rattle.guest_machine.specs.Step.{step}
 use Rattle.guest_machine.specs.Waking.{woken}
@@ -64,6 +65,14 @@ EveryStepStaysWithinLimits =
 -- Once all that are due are woken, no deadline is due, and a thread can run or no deadline is left.
 abbrev pub EveryWakingEnds : Type 0
 EveryWakingEnds = (m : MachineState) → IsAwake (woken m).kernel
+
+-- Those are woken whose deadlines have come by then: the later ones stay, in their order. The time is as before, or that of the
+-- earliest deadline, where no thread could run and it was ahead.
+abbrev pub EveryWakingTakesTheDue : Type 0
+EveryWakingTakesTheDue =
+    (m : MachineState) → IsState m.kernel → IsOnce m.kernel.deadlines →
+    let now = (moved_on m.kernel).time in
+    ((woken m).kernel.time ≡ now) × ((woken m).kernel.deadlines ≡ filter (λ d. nat_lt now d.at) m.kernel.deadlines)
 
 -- A waking leaves memory, the reservations, the live threads and the numbers given as they are.
 pub record KeepsThreads (m new : MachineState) : Type 0 where
