@@ -1,8 +1,8 @@
 -- All that are due are woken, and no others.
 use Rattle.std.proofs.Common.{◌≡◌, ℕ, zero, suc, ◌<◌, ◌≤◌, Bool, true, false, cond, List, [], ◌∷◌, length, filter, Option, Some, None, arith, refl, ap, ap₂, sym, subst, ◌∙◌, inl, inr}
-use Rattle.std.specs.Prelude.{not, ◌||◌, ◌==◌, All, slice_index_or, nat_le, nat_lt}
-use Rattle.std.specs.Option.{option_map}
-use Rattle.std.specs.List.{list_any}
+use Rattle.std.specs.Prelude.{not, ◌&&◌, ◌||◌, ◌==◌, is_some, All, slice_index_or, nat_le, nat_lt}
+use Rattle.std.specs.Option.{option_map, unwrap_or}
+use Rattle.std.specs.List.{find, list_any}
 use Rattle.std.proofs.lemmas.Bool.{eq-eqb, eqb-true, or_parts}
 use Rattle.std.proofs.lemmas.Bool.Decides.{nat_tests}
 use Rattle.futex_table.specs.declared.waiter.Waiter.{Waiter}
@@ -21,10 +21,15 @@ use Rattle.guest_calls.specs.Waking.{moved_on, next_due, no_sooner, some_can_run
 use Rattle.guest_calls.proofs.Blocked.{unblocked_state}
 use Rattle.guest_calls.proofs.ClockWakings.{awake, due-first, due_lives, has-at, moved_able, moved_deadlines, moved_none, none_due_of_none, one_less, or-true}
 use Rattle.guest_calls.proofs.Times.{at_time_is_state}
-use Rattle.guest_machine.specs.Laws.{EveryWakingTakesTheDue}
-use Rattle.guest_machine.specs.Machine.{MachineState}
-use Rattle.guest_machine.specs.Waking.{one_woken, woken, woken_times}
-use Rattle.guest_machine.proofs.ClockWakings.{idle_times}
+use Rattle.guest_machine.specs.Laws.{EveryWakingAnswers, EveryWakingTakesTheDue, due_answer, with_due}
+use Rattle.guest_words.specs.ByThread.{value_of}
+use Rattle.guest_words.proofs.ThreadTables.{value_of-with}
+use Rattle.rv_exec.specs.Registers.{Registers}
+use Rattle.guest_machine.specs.Machine.{Hart, MachineState, no_registers, registers_of, with_registers}
+use Rattle.guest_machine.specs.Sound.{IsSound}
+use Rattle.guest_machine.specs.Waking.{answered, one_woken, with_answer, woken, woken_times}
+use Rattle.guest_machine.proofs.ClockWakings.{has_registers, idle_times, sound_woken}
+use Rattle.guest_machine.proofs.Registers as registers
 
 -- ---- what one waking leaves
 forget-waits : (ws : List Waiter) (tid : ℕ) → waits (futexes.after_forget ws tid) tid ≡ false
@@ -101,6 +106,18 @@ not_there (d ∷ ds) tid none =
     let parts = or_parts (d.tid == tid) (has ds tid) none in
     ap (λ (b : Bool). cond (not b) (d ∷ after_forget ds tid) (after_forget ds tid)) parts.0 ∙ ap (λ (es : List Deadline). d ∷ es) (not_there ds tid parts.1)
 
+-- a thread has no second one
+only_one : (e : Deadline) (ds : List Deadline) (i : ℕ) (d : Deadline) → IsOnce (e ∷ ds) → i < length ds → slice_index_or ds i d ≡ d → (e.tid == d.tid) ≡ true → ⊥
+only_one e ds i d once inside is here =
+    let own : has ds d.tid ≡ true = subst (λ (x : Deadline). has ds x.tid ≡ true) is (has-at ds i d inside) in
+    let same : e.tid ≡ d.tid = eqb-true e.tid d.tid here in
+    let bad : true ≡ false = sym own ∙ ap (has ds) (sym same) ∙ once.0 in
+    cc
+
+and-false : (b : Bool) → (b && false) ≡ false
+and-false true = refl
+and-false false = refl
+
 later_forget : (ds : List Deadline) (now : ℕ) (i : ℕ) (d : Deadline) → IsOnce ds → i < length ds → slice_index_or ds i d ≡ d → d.at ≤ now →
     filter (λ (e : Deadline). nat_lt now e.at) (after_forget ds d.tid) ≡ filter (λ (e : Deadline). nat_lt now e.at) ds
 later_forget [] now i d once inside is low = absurd (omega arith)
@@ -115,16 +132,9 @@ later_forget (e ∷ ds) now zero d once inside is low =
     ∙ sym (ap (λ (b : Bool). cond b (e ∷ rest) rest) no)
 later_forget (e ∷ ds) now (suc i) d once inside is low = by (e.tid == d.tid) refl (later_forget ds now i d once.1 (omega (arith, inside)) is low)
   where
-    kept : (e.tid == d.tid) ≡ true → ⊥
-    kept here =
-        let own : has ds d.tid ≡ true = subst (λ (x : Deadline). has ds x.tid ≡ true) is (has-at ds i d (omega (arith, inside))) in
-        let same : e.tid ≡ d.tid = eqb-true e.tid d.tid here in
-        let bad : true ≡ false = sym own ∙ ap (has ds) (sym same) ∙ once.0 in
-        cc
-
     by : (b : Bool) → (e.tid == d.tid) ≡ b → filter (λ (x : Deadline). nat_lt now x.at) (after_forget ds d.tid) ≡ filter (λ (x : Deadline). nat_lt now x.at) ds →
         filter (λ (x : Deadline). nat_lt now x.at) (cond (not b) (e ∷ after_forget ds d.tid) (after_forget ds d.tid)) ≡ filter (λ (x : Deadline). nat_lt now x.at) (e ∷ ds)
-    by true here rest = absurd (kept here)
+    by true here rest = absurd (only_one e ds i d once (omega (arith, inside)) is here)
     by false here rest = ap (λ (xs : List Deadline). cond (nat_lt now e.at) (e ∷ xs) xs) rest
 
 due-past : (ds : List Deadline) (now : ℕ) (d : Deadline) → due_of ds now ≡ Some d → d.at ≤ now
@@ -189,8 +199,110 @@ left_after (suc n) m now is once time within = by (left_after n (one_woken m) no
           deadlines = left.deadlines ∙ ap (filter (λ (x : Deadline). nat_lt now x.at)) one.deadlines ∙ later;
         }
 
+-- ---- who has an answer
+-- the deadline of the thread, where it has come
+abbrev of_thread : ℕ → ℕ → Deadline → Bool
+of_thread now u d = (d.tid == u) && nat_le d.at now
+
+find_other : (ds : List Deadline) (now t u : ℕ) → (t == u) ≡ false → find (of_thread now u) (after_forget ds t) ≡ find (of_thread now u) ds
+find_other [] now t u differs = refl
+find_other (d ∷ ds) now t u differs = by (d.tid == t) refl (find_other ds now t u differs)
+  where
+    by : (b : Bool) → (d.tid == t) ≡ b → find (of_thread now u) (after_forget ds t) ≡ find (of_thread now u) ds →
+        find (of_thread now u) (cond (not b) (d ∷ after_forget ds t) (after_forget ds t)) ≡ find (of_thread now u) (d ∷ ds)
+    by true is rest =
+        let no : (d.tid == u) ≡ false = ap (λ (n : ℕ). n == u) (eqb-true d.tid t is) ∙ differs in
+        rest ∙ sym (ap (λ (b : Bool). cond (b && nat_le d.at now) (Some d) (find (of_thread now u) ds)) no)
+    by false is rest = ap (λ (o : Option Deadline). cond (of_thread now u d) (Some d) o) rest
+
+find_gone : (ds : List Deadline) (now t : ℕ) → find (of_thread now t) (after_forget ds t) ≡ None
+find_gone [] now t = refl
+find_gone (d ∷ ds) now t = by (d.tid == t) refl (find_gone ds now t)
+  where
+    by : (b : Bool) → (d.tid == t) ≡ b → find (of_thread now t) (after_forget ds t) ≡ None →
+        find (of_thread now t) (cond (not b) (d ∷ after_forget ds t) (after_forget ds t)) ≡ None
+    by true is rest = rest
+    by false is rest = ap (λ (b : Bool). cond (b && nat_le d.at now) (Some d) (find (of_thread now t) (after_forget ds t))) is ∙ rest
+
+find_later : (ds : List Deadline) (now u : ℕ) → All (λ (d : Deadline). now < d.at) ds → find (of_thread now u) ds ≡ None
+find_later [] now u ahead = refl
+find_later (d ∷ ds) now u ahead =
+    let first : now < d.at = ahead 0 d (omega arith) in
+    let no : nat_le d.at now ≡ false = grind (arith, nat_tests, first) in
+    let off : of_thread now u d ≡ false = ap (λ (b : Bool). (d.tid == u) && b) no ∙ and-false (d.tid == u) in
+    ap (λ (b : Bool). cond b (Some d) (find (of_thread now u) ds)) off ∙ find_later ds now u (λ i e inside. ahead (suc i) e (omega (arith, inside)))
+
+find_own : (ds : List Deadline) (now i : ℕ) (d : Deadline) → IsOnce ds → i < length ds → slice_index_or ds i d ≡ d → d.at ≤ now → find (of_thread now d.tid) ds ≡ Some d
+find_own [] now i d once inside is low = absurd (omega arith)
+find_own (e ∷ ds) now zero d once inside is low =
+    let here : (e.tid == d.tid) ≡ true = eq-eqb e.tid d.tid (ap (λ (x : Deadline). x.tid) is) in
+    let past : e.at ≤ now = subst (λ (x : Deadline). x.at ≤ now) (sym is) low in
+    let yes : nat_le e.at now ≡ true = grind (arith, nat_tests, past) in
+    let on : of_thread now d.tid e ≡ true = ap₂ (λ (a b : Bool). a && b) here yes in
+    ap (λ (b : Bool). cond b (Some e) (find (of_thread now d.tid) ds)) on ∙ ap (λ (x : Deadline). Some x) is
+find_own (e ∷ ds) now (suc i) d once inside is low = by (e.tid == d.tid) refl (find_own ds now i d once.1 (omega (arith, inside)) is low)
+  where
+    by : (b : Bool) → (e.tid == d.tid) ≡ b → find (of_thread now d.tid) ds ≡ Some d → cond (b && nat_le e.at now) (Some e) (find (of_thread now d.tid) ds) ≡ Some d
+    by true here rest = absurd (only_one e ds i d once (omega (arith, inside)) is here)
+    by false here rest = rest
+
+-- the registers after one waking
+registers_with : (harts : List Hart) (t u : ℕ) (r : Registers) → is_some (value_of harts t) ≡ true → registers_of (with_registers harts t r) u ≡ cond (t == u) r (registers_of harts u)
+registers_with harts t u r lives =
+    ap (λ (o : Option Registers). unwrap_or o no_registers) (value_of-with harts t r (registers_of harts t) (registers.has_registers harts t lives) u) ∙ by (t == u)
+  where
+    by : (b : Bool) → unwrap_or (cond b (Some r) (value_of harts u)) no_registers ≡ cond b r (registers_of harts u)
+    by true = refl
+    by false = refl
+
+-- each thread has the answer of its deadline, where that has come
+AreAnswered : MachineState → MachineState → ℕ → ℕ → Type 0
+AreAnswered m e now u = registers_of e.harts u ≡ with_due (due_answer m.kernel.deadlines now u) (registers_of m.harts u)
+
+answered_after : (n : ℕ) (m : MachineState) (now u : ℕ) → IsSound m → IsOnce m.kernel.deadlines → (moved_on m.kernel).time ≡ now → length m.kernel.deadlines ≤ n → AreAnswered m (woken_times n m) now u
+unfolding AreAnswered woken_times
+answered_after zero m now u sound once time within =
+    let due = none_due_of_none m.kernel (omega (arith, within)) in
+    let ahead = subst (λ (t : ℕ). All (λ (d : Deadline). t < d.at) m.kernel.deadlines) time (none_due m.kernel.deadlines (moved_on m.kernel).time due) in
+    sym (ap (λ (o : Option Deadline). with_due (option_map (λ (d : Deadline). d.answer) o) (registers_of m.harts u)) (find_later m.kernel.deadlines now u ahead))
+answered_after (suc n) m now u sound once time within = by (answered_after n (one_woken m) now u) (next_due m.kernel) refl
+  where
+    by_thread : (d : Deadline) (r : Registers) → r ≡ with_answer (registers_of m.harts d.tid) d.answer → find (of_thread now d.tid) m.kernel.deadlines ≡ Some d → (b : Bool) → (d.tid == u) ≡ b →
+        with_due (due_answer (after_forget m.kernel.deadlines d.tid) now u) (cond b r (registers_of m.harts u)) ≡ with_due (due_answer m.kernel.deadlines now u) (registers_of m.harts u)
+    by_thread d r is own true here =
+        let same : d.tid ≡ u = eqb-true d.tid u here in
+        subst (λ (v : ℕ). with_due (due_answer (after_forget m.kernel.deadlines d.tid) now v) r ≡ with_due (due_answer m.kernel.deadlines now v) (registers_of m.harts v)) same
+        (ap (λ (o : Option Deadline). with_due (option_map (λ (x : Deadline). x.answer) o) r) (find_gone m.kernel.deadlines now d.tid) ∙ is
+        ∙ sym (ap (λ (o : Option Deadline). with_due (option_map (λ (x : Deadline). x.answer) o) (registers_of m.harts d.tid)) own))
+    by_thread d r is own false here =
+        ap (λ (o : Option Deadline). with_due (option_map (λ (x : Deadline). x.answer) o) (registers_of m.harts u)) (find_other m.kernel.deadlines now d.tid u here)
+
+    by : (IsSound (one_woken m) → IsOnce (one_woken m).kernel.deadlines → (moved_on (one_woken m).kernel).time ≡ now → length (one_woken m).kernel.deadlines ≤ n → AreAnswered (one_woken m) (woken_times n (one_woken m)) now u) →
+        (due : Option Deadline) → next_due m.kernel ≡ due → registers_of (woken_times n (one_woken m)).harts u ≡ with_due (due_answer m.kernel.deadlines now u) (registers_of m.harts u)
+    by rest None due =
+        let ahead = subst (λ (t : ℕ). All (λ (d : Deadline). t < d.at) m.kernel.deadlines) time (none_due m.kernel.deadlines (moved_on m.kernel).time due) in
+        ap (λ (e : MachineState). registers_of e.harts u) (idle_times (suc n) m due)
+        ∙ sym (ap (λ (o : Option Deadline). with_due (option_map (λ (d : Deadline). d.answer) o) (registers_of m.harts u)) (find_later m.kernel.deadlines now u ahead))
+    by rest (Some d) due =
+        let one = one_is_woken m.kernel d sound.state due in
+        let less = one_less m.kernel d due in
+        let still : (moved_on (one_woken m).kernel).time ≡ now = ap (λ (s : KernelState). s.time) (sym (moved_able (one_woken m).kernel one.able)) ∙ one.time ∙ time in
+        let later = rest (sound_woken m sound one.state) (subst IsOnce (sym one.deadlines) (once_without m.kernel.deadlines d.tid once)) still (omega (arith, less, within)) in
+        let lives = has_registers m d.tid sound (due_lives m.kernel d sound.state due) in
+        let r : Registers = with_answer (registers_of m.harts d.tid) d.answer in
+        let harts : registers_of (one_woken m).harts u ≡ cond (d.tid == u) r (registers_of m.harts u) =
+        ap (λ (o : Option Deadline). registers_of (answered o m.harts) u) due ∙ registers_with m.harts d.tid u r lives in
+        let inside = (found_first m.kernel.deadlines d (due-first m.kernel.deadlines (moved_on m.kernel).time d due)).0 in
+        let past : d.at ≤ now = subst (λ (t : ℕ). d.at ≤ t) time (due-past m.kernel.deadlines (moved_on m.kernel).time d due) in
+        later ∙ ap₂ (λ (ds : List Deadline) (x : Registers). with_due (due_answer ds now u) x) one.deadlines harts
+        ∙ by_thread d r refl (find_own m.kernel.deadlines now inside.0 d once inside.1 inside.2 past) (d.tid == u) refl
+
 pub every_waking_takes_the_due : EveryWakingTakesTheDue
 unfolding woken
 every_waking_takes_the_due m is once =
     let left = left_after (length m.kernel.deadlines) m (moved_on m.kernel).time is once refl (omega arith) in
     (left.time, left.deadlines)
+
+pub every_waking_answers : EveryWakingAnswers
+unfolding AreAnswered woken
+every_waking_answers m sound once tid = answered_after (length m.kernel.deadlines) m (moved_on m.kernel).time tid sound once refl (omega arith)

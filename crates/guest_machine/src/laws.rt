@@ -1,5 +1,5 @@
 //! Laws of a step: each is the contract of a function that does nothing.
-ghost use Rattle.guest_machine.specs.Laws.{EveryStepContinues, EveryStepIsLight, EveryStepIsOnePart, EveryStepStaysWithinLimits, EveryWakingEnds, EveryWakingKeepsThreads, EveryWakingTakesTheDue};
+ghost use Rattle.guest_machine.specs.Laws.{EveryStepContinues, EveryStepIsLight, EveryStepIsOnePart, EveryStepStaysWithinLimits, EveryWakingEnds, EveryWakingAnswers, EveryWakingKeepsThreads, EveryWakingTakesTheDue};
 
 /// A step of a thread that can run, after any past after which exactly the machine's threads live: its events may follow
 /// that past, and after both exactly the threads of the new machine live. The events' weight and the number of threads after
@@ -22,5 +22,6 @@ pub fn every_step_is_short()
 pub fn every_waking_ends()
     ensures ends { EveryWakingEnds }
     ensures due { EveryWakingTakesTheDue }
+    ensures answers { EveryWakingAnswers }
     ensures keeps { EveryWakingKeepsThreads }
 {}
