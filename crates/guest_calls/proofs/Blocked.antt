@@ -24,9 +24,6 @@ unblocked_parts k tid out = or_parts (waits k.waiting tid) (has k.deadlines tid)
 pub does_not_wait : (k : KernelState) (tid : ℕ) → can_run k tid ≡ true → waits k.waiting tid ≡ false
 does_not_wait k tid can = (unblocked_parts k tid (not_blocked k tid can)).0
 
-pub has_no_deadline : (k : KernelState) (tid : ℕ) → can_run k tid ≡ true → has k.deadlines tid ≡ false
-has_no_deadline k tid can = (unblocked_parts k tid (not_blocked k tid can)).1
-
 -- nor is who is not blocked where some are left of those that wait and of the deadlines
 abbrev pub with_some : (Waiter → Bool) → (Deadline → Bool) → KernelState → KernelState
 with_some stays lasts k = record k { waiting = filter stays k.waiting; deadlines = filter lasts k.deadlines }

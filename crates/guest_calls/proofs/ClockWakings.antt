@@ -33,14 +33,6 @@ moved_none k none = by (first_of k.deadlines) refl none
 pub moved_able : (k : KernelState) → some_can_run k ≡ true → k ≡ moved_on k
 moved_able k can = sym (ap (λ (b : Bool). cond b k (record k { time = no_sooner k.time (first_of k.deadlines) })) can)
 
-pub moved_to : (k : KernelState) (at : ℕ) → option_map (λ (d : Deadline). d.at) (first_of k.deadlines) ≡ Some at → some_can_run k ≡ false → record k { time = max k.time at } ≡ moved_on k
-moved_to k at first none =
-    by (first_of k.deadlines) first ∙ sym (ap (λ (b : Bool). cond b k (record k { time = no_sooner k.time (first_of k.deadlines) })) none)
-  where
-    by : (o : Option Deadline) → option_map (λ (d : Deadline). d.at) o ≡ Some at → record k { time = max k.time at } ≡ record k { time = no_sooner k.time o }
-    by None e = absurd (cc)
-    by (Some d) e = let same : d.at ≡ at = cc in ap (λ (n : ℕ). record k { time = max k.time n }) (sym same)
-
 no_earlier : (k : KernelState) → k.time ≤ (moved_on k).time
 no_earlier k = by (some_can_run k) (first_of k.deadlines)
   where

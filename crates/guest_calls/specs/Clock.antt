@@ -75,9 +75,11 @@ clock_nanosleep_tests c =
 abbrev pub sleep_end : ℕ → ℕ → ℕ → ℕ
 sleep_end flags now time = if has flags timer_abstime then time else from_now now time
 
+-- of a call
 abbrev pub nanosleep_end : Call → ℕ
 nanosleep_end c = sleep_end (arg c 1) c.kernel.time (unwrap_or (time_at c.memory (arg c 2)) 0)
 
+-- the thread has the end as its deadline, and then 0 as the answer
 abbrev pub sleeps : Call → ℕ → CallResult → CallResult
 sleeps c end r = r ▷ changes (with_deadline c.tid end 0) ▷ answers Block
 

@@ -66,6 +66,7 @@ abbrev pub futex_value3 : Call → ℕ
 futex_value3 c = arg c 5
 
 -- ---- the limit of a wait
+-- it is a wait that names the address of one
 abbrev pub has_limit : Operation → Call → Bool
 has_limit o c = is_wait o && not (futex_limit c == 0)
 
@@ -80,6 +81,7 @@ wait_end o c =
     if futex_limit c == 0 then None
     else Some (limit_end o c.kernel.time (unwrap_or (time_at c.memory (futex_limit c)) 0))
 
+-- the end has come; a wait that has none is never over
 abbrev pub is_over : Option ℕ → ℕ → Bool
 is_over None now = false
 is_over (Some end) now = nat_le end now
