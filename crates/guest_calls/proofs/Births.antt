@@ -30,7 +30,7 @@ born_state : (k : KernelState) (tid clear_tid : ℕ) → IsState k → tid ≡ k
 born_state k tid clear_tid is next room = record {
   rising = rises_push 0 k.threads k.last_tid (record { tid = tid; clear_tid = clear_tid }) is.rising (omega (arith, next));
   few = let n = length-append k.threads (record { tid = tid; clear_tid = clear_tid } ∷ []) in let r = room_left k room in omega (arith, n, r);
-  waiting_live = λ q gone. is.waiting_live q (lived_before k.threads (record { tid = tid; clear_tid = clear_tid }) q gone);
+  blocked_live = λ q gone. is.blocked_live q (lived_before k.threads (record { tid = tid; clear_tid = clear_tid }) q gone);
   stdin_within = is.stdin_within;
   descriptors_sound = is.descriptors_sound;
 }

@@ -14,11 +14,11 @@ use Rattle.guest_calls.specs.declared.operation.Operation.TheVariants.{Wait, Wak
 use Rattle.guest_calls.specs.declared.vectors.IoVec.{IoVec}
 use Rattle.guest_calls.specs.declared.answer.Answer.{Answer}
 use Rattle.guest_calls.specs.declared.answer.Answer.TheVariants.{Back}
-use Rattle.guest_calls.specs.Clock.{clock_gettime}
+use Rattle.guest_calls.specs.Clock.{clock_gettime, clock_nanosleep, clock_nanosleep_effect, clock_nanosleep_tests, nanosleep_end, sleeps, time_size}
 use Rattle.guest_calls.specs.Clone.{clone}
-use Rattle.guest_calls.specs.Errors.{eagain, enosys, enotty}
+use Rattle.guest_calls.specs.Errors.{eagain, enosys, enotty, etimedout}
 use Rattle.guest_calls.specs.Files.{advanced, close, llseek, openat, read, write}
-use Rattle.guest_calls.specs.Futex.{count_woken, count_shifted, futex, futex_at, futex_by, futex_tests, futex_value, futex_value3, operation, performed, requeues, waits_for, wakes}
+use Rattle.guest_calls.specs.Futex.{count_shifted, count_woken, futex, futex_at, futex_by, futex_limit, futex_tests, futex_value, futex_value3, is_over, operation, performed, requeues, wait_end, waited, waits_for, wakes}
 use Rattle.futex_table.specs.Waiting.{all_bits}
 use Rattle.guest_calls.specs.Kernel.{KernelState}
 use Rattle.guest_calls.specs.Laws.{EveryCallKeepsTheBreakFree}
@@ -112,6 +112,10 @@ sigprocmask_keeps c = search (unless_keeps, when_keeps, plain_keeps)
 gettime_keeps : (c : Call) → KeepsPages c (clock_gettime c)
 gettime_keeps c = search (unless_keeps, plain_keeps)
 
+nanosleep_keeps : (c : Call) → KeepsPages c (clock_nanosleep c)
+nanosleep_keeps c = unless_keeps c (clock_nanosleep_tests c) (λ x. clock_nanosleep_effect c)
+    (either_keeps c (nat_le (nanosleep_end c) c.kernel.time) (λ r. r) (sleeps c (nanosleep_end c)) (returns c 0 ▷ reads c.tid (arg c 2) time_size) (record { rights = refl; break_is = refl }) (record { rights = refl; break_is = refl }))
+
 born_keeps : (c : Call) (a b : Bool) (to at n : ℕ) (answer : Answer) (change : KernelState → KernelState) → (change c.kernel).program_break ≡ c.kernel.program_break → KeepsPages c (returns c n ▷ fills_word_where a to n ▷ fills_word_where b at n ▷ changes change ▷ forgets n ▷ answers answer)
 born_keeps c a b to at n answer change same = record {
   rights = where_rights b at n (filled_where a to n (returns c n).guest) ∙ where_rights a to n (returns c n).guest;
@@ -121,9 +125,22 @@ born_keeps c a b to at n answer change same = record {
 clone_keeps : (c : Call) → KeepsPages c (clone c)
 clone_keeps c = search (unless_keeps, born_keeps)
 
+begun_keeps : (c : Call) (bits : ℕ) (end : Option ℕ) → KeepsPages c (waits_for c bits end (returns c 0 ▷ when (is_some end) (reads c.tid (futex_limit c) time_size) ▷ reads c.tid (futex_at c) 4))
+begun_keeps c bits None = record { rights = refl; break_is = refl }
+begun_keeps c bits (Some end) = record { rights = refl; break_is = refl }
+
+back_keeps : (c : Call) (errno : ℕ) (end : Option ℕ) → KeepsPages c (answers (Back errno) (returns c 0 ▷ when (is_some end) (reads c.tid (futex_limit c) time_size) ▷ reads c.tid (futex_at c) 4))
+back_keeps c errno None = record { rights = refl; break_is = refl }
+back_keeps c errno (Some end) = record { rights = refl; break_is = refl }
+
+waited_keeps : (c : Call) (bits : ℕ) (end : Option ℕ) → KeepsPages c (waited c bits end)
+waited_keeps c bits end =
+    either_keeps c (word c (futex_at c) == futex_value c) (either (is_over end c.kernel.time) (answers (Back etimedout)) (waits_for c bits end)) (answers (Back eagain)) (returns c 0 ▷ when (is_some end) (reads c.tid (futex_limit c) time_size) ▷ reads c.tid (futex_at c) 4)
+    (either_keeps c (is_over end c.kernel.time) (answers (Back etimedout)) (waits_for c bits end) (returns c 0 ▷ when (is_some end) (reads c.tid (futex_limit c) time_size) ▷ reads c.tid (futex_at c) 4) (back_keeps c etimedout end) (begun_keeps c bits end)) (back_keeps c eagain end)
+
 performed_keeps : (o : Operation) (c : Call) → KeepsPages c (performed o c)
-performed_keeps Wait c = either_keeps c (word c (futex_at c) == futex_value c) (waits_for c all_bits) (answers (Back eagain)) (returns c 0 ▷ reads c.tid (futex_at c) 4) (record { rights = refl; break_is = refl }) (record { rights = refl; break_is = refl })
-performed_keeps WaitBitset c = either_keeps c (word c (futex_at c) == futex_value c) (waits_for c (futex_value3 c)) (answers (Back eagain)) (returns c 0 ▷ reads c.tid (futex_at c) 4) (record { rights = refl; break_is = refl }) (record { rights = refl; break_is = refl })
+performed_keeps Wait c = waited_keeps c all_bits (wait_end Wait c)
+performed_keeps WaitBitset c = waited_keeps c (futex_value3 c) (wait_end WaitBitset c)
 performed_keeps Wake c = record { rights = refl; break_is = refl }
 performed_keeps WakeBitset c = record { rights = refl; break_is = refl }
 performed_keeps Requeue c = record { rights = refl; break_is = refl }
@@ -211,5 +228,5 @@ brk_free c = refused_free c (brk_tests c) (λ x. brk_effect c) (λ passed free. 
 pub every_call_keeps : EveryCallKeepsTheBreakFree
 unfolding table
 every_call_keeps = of_every_call KeepsFree
-    ((λ c. constant_keeps c enotty), ((λ c. kept_free c (openat c) (openat_keeps c)), ((λ c. kept_free c (close c) (close_keeps c)), ((λ c. kept_free c (llseek c) (llseek_keeps c)), ((λ c. kept_free c (read c) (read_keeps c)), ((λ c. kept_free c (write c) (write_keeps c)), ((λ c. kept_free c (readv c) (readv_keeps c)), ((λ c. kept_free c (writev c) (writev_keeps c)), ((λ c. kept_free c (exit c) (exit_keeps c)), ((λ c. kept_free c (exit_group c) (record { rights = refl; break_is = refl })), ((λ c. kept_free c (set_tid_address c) (record { rights = refl; break_is = refl })), ((λ c. constant_keeps c 0), ((λ c. kept_free c (sched_yield c) (record { rights = refl; break_is = refl })), ((λ c. constant_keeps c 0), ((λ c. kept_free c (rt_sigprocmask c) (sigprocmask_keeps c)), ((λ c. constant_keeps c 1), ((λ c. kept_free c (gettid c) (record { rights = refl; break_is = refl })), (brk_free, (munmap_free, ((λ c. kept_free c (clone c) (clone_keeps c)), (mmap2_free, (mprotect_free, ((λ c. constant_keeps c 0), ((λ c. kept_free c (clock_gettime c) (gettime_keeps c)), ((λ c. kept_free c (futex c) (operation_keeps (operation c) c)), tt)))))))))))))))))))))))))
+    ((λ c. constant_keeps c enotty), ((λ c. kept_free c (openat c) (openat_keeps c)), ((λ c. kept_free c (close c) (close_keeps c)), ((λ c. kept_free c (llseek c) (llseek_keeps c)), ((λ c. kept_free c (read c) (read_keeps c)), ((λ c. kept_free c (write c) (write_keeps c)), ((λ c. kept_free c (readv c) (readv_keeps c)), ((λ c. kept_free c (writev c) (writev_keeps c)), ((λ c. kept_free c (exit c) (exit_keeps c)), ((λ c. kept_free c (exit_group c) (record { rights = refl; break_is = refl })), ((λ c. kept_free c (set_tid_address c) (record { rights = refl; break_is = refl })), ((λ c. constant_keeps c 0), ((λ c. kept_free c (sched_yield c) (record { rights = refl; break_is = refl })), ((λ c. constant_keeps c 0), ((λ c. kept_free c (rt_sigprocmask c) (sigprocmask_keeps c)), ((λ c. constant_keeps c 1), ((λ c. kept_free c (gettid c) (record { rights = refl; break_is = refl })), (brk_free, (munmap_free, ((λ c. kept_free c (clone c) (clone_keeps c)), (mmap2_free, (mprotect_free, ((λ c. constant_keeps c 0), ((λ c. kept_free c (clock_gettime c) (gettime_keeps c)), ((λ c. kept_free c (clock_nanosleep c) (nanosleep_keeps c)), ((λ c. kept_free c (futex c) (operation_keeps (operation c) c)), tt))))))))))))))))))))))))))
     (λ c. constant_keeps c enosys)

@@ -1,6 +1,6 @@
 -- The events of a call are copies for its thread.
-use Rattle.std.proofs.Common.{◌≡◌, ℕ, zero, suc, ◌≤◌, ◌+◌, ◌-◌, ◌*◌, ◌/◌, ◌^◌, Bool, true, false, List, [], ◌∷◌, ◌++◌, length, take, drop, Option, Some, None, arith, refl, sym, subst}
-use Rattle.std.specs.Prelude.{not, ◌&&◌, ◌==◌, is_none, min, replicate, unsigned_abs, unwrap_or}
+use Rattle.std.proofs.Common.{cond, ◌≡◌, ℕ, zero, suc, ◌≤◌, ◌+◌, ◌-◌, ◌*◌, ◌/◌, ◌^◌, Bool, true, false, List, [], ◌∷◌, ◌++◌, length, take, drop, Option, Some, None, arith, refl, sym, subst}
+use Rattle.std.specs.Prelude.{not, ◌&&◌, ◌==◌, is_none, min, replicate, unsigned_abs, unwrap_or, nat_le, is_some}
 use Rattle.std.specs.Int.{w64, to_le_bytes}
 use Rattle.std.specs.Option.{option_map_or}
 use Rattle.std.proofs.lemmas.List.{length-take}
@@ -15,11 +15,11 @@ use Rattle.guest_calls.specs.declared.answer.Answer.TheVariants.{Back}
 use Rattle.guest_calls.specs.declared.operation.Operation.{Operation}
 use Rattle.guest_calls.specs.declared.operation.Operation.TheVariants.{Wait, Wake, Requeue, CmpRequeue, WaitBitset, WakeBitset}
 use Rattle.guest_calls.specs.declared.vectors.IoVec.{IoVec}
-use Rattle.guest_calls.specs.Clock.{clock_gettime, clock_gettime_tests, time_bytes}
+use Rattle.guest_calls.specs.Clock.{clock_gettime, clock_gettime_tests, clock_nanosleep, clock_nanosleep_effect, clock_nanosleep_tests, nanosleep_end, sleeps, time_bytes, time_size}
 use Rattle.guest_calls.specs.Clone.{clone, clone_effect, clone_tests, is_denied, sets_child, sets_parent}
-use Rattle.guest_calls.specs.Errors.{eagain, enosys, ebadf, efault}
+use Rattle.guest_calls.specs.Errors.{eagain, ebadf, efault, enosys, etimedout}
 use Rattle.guest_calls.specs.Files.{bytes_left, channel, close, ends_path, is_source, llseek, openat, path_end, read, target, write, openat_tests, openat_effect, llseek_tests, write_limit, with_position, advanced}
-use Rattle.guest_calls.specs.Futex.{count_shifted, count_woken, futex_at, futex_by, futex_tests, futex_value, futex_value3, operation, performed, reads_word, requeues, waits_for, wakes}
+use Rattle.guest_calls.specs.Futex.{count_shifted, count_woken, futex_at, futex_by, futex_limit, futex_tests, futex_value, futex_value3, has_limit, is_over, operation, performed, reads_word, requeues, wait_end, waited, waits_for, wakes}
 use Rattle.guest_calls.specs.Kernel.{descriptor, has_others}
 use Rattle.guest_calls.specs.Laws.{AreCopies, EveryCallCopies}
 use Rattle.guest_calls.specs.Pages.{brk, mmap2, mprotect, munmap}
@@ -215,18 +215,36 @@ word_copies : (c : Call) → (true && not (readable c (futex_at c) 4)) ≡ false
     AreCopies c.tid (read_event c.tid (futex_at c) 4)
 word_copies c reach = read_copies c.tid (futex_at c) 4 (readable_end c.memory (futex_at c) 4 (not-false (readable c (futex_at c) 4) reach))
 
-performed_copies : (o : Operation) (c : Call) → (reads_word o && not (readable c (futex_at c) 4)) ≡ false →
+-- so is the limit of a wait, before it
+limit_copies : (c : Call) (end : Option ℕ) → (is_some end ≡ true → readable c (futex_limit c) time_size ≡ true) → AreCopies c.tid (read_event c.tid (futex_at c) 4) →
+    AreCopies c.tid (returns c 0 ▷ when (is_some end) (reads c.tid (futex_limit c) time_size) ▷ reads c.tid (futex_at c) 4).guest.events
+limit_copies c None reach own = own
+limit_copies c (Some end) reach own =
+    copies_append c.tid (read_event c.tid (futex_limit c) time_size) (read_event c.tid (futex_at c) 4)
+    (read_copies c.tid (futex_limit c) time_size (readable_end c.memory (futex_limit c) time_size (reach refl))) own
+
+waited_copies : (c : Call) (bits : ℕ) (end : Option ℕ) → (is_some end ≡ true → readable c (futex_limit c) time_size ≡ true) → AreCopies c.tid (read_event c.tid (futex_at c) 4) →
+    AreCopies c.tid (waited c bits end).guest.events
+waited_copies c bits end reach own =
+    let h = limit_copies c end reach own in
+    either_copies c.tid (word c (futex_at c) == futex_value c) (either (is_over end c.kernel.time) (answers (Back etimedout)) (waits_for c bits end)) (answers (Back eagain)) (returns c 0 ▷ when (is_some end) (reads c.tid (futex_limit c) time_size) ▷ reads c.tid (futex_at c) 4)
+    (either_copies c.tid (is_over end c.kernel.time) (answers (Back etimedout)) (waits_for c bits end) (returns c 0 ▷ when (is_some end) (reads c.tid (futex_limit c) time_size) ▷ reads c.tid (futex_at c) 4) h h) h
+
+-- where there is an end there is a limit, which is in reach
+limit_reach : (c : Call) (b : Bool) (end : ℕ) → (true && (not b && not (readable c (futex_limit c) time_size))) ≡ false → is_some (cond b None (Some end)) ≡ true → readable c (futex_limit c) time_size ≡ true
+limit_reach c true end reach some = absurd (cc)
+limit_reach c false end reach some = not-false (readable c (futex_limit c) time_size) reach
+
+performed_copies : (o : Operation) (c : Call) → (has_limit o c && not (readable c (futex_limit c) time_size)) ≡ false → (reads_word o && not (readable c (futex_at c) 4)) ≡ false →
     AreCopies c.tid (performed o c).guest.events
-performed_copies Wait c reach =
-    let h = word_copies c reach in
-    either_copies c.tid (word c (futex_at c) == futex_value c) (waits_for c all_bits) (answers (Back eagain)) (returns c 0 ▷ reads c.tid (futex_at c) 4) h h
-performed_copies WaitBitset c reach =
-    let h = word_copies c reach in
-    either_copies c.tid (word c (futex_at c) == futex_value c) (waits_for c (futex_value3 c)) (answers (Back eagain)) (returns c 0 ▷ reads c.tid (futex_at c) 4) h h
-performed_copies Wake c reach = tt
-performed_copies WakeBitset c reach = tt
-performed_copies Requeue c reach = tt
-performed_copies CmpRequeue c reach =
+performed_copies Wait c limit reach =
+    waited_copies c all_bits (wait_end Wait c) (limit_reach c (futex_limit c == 0) _ limit) (word_copies c reach)
+performed_copies WaitBitset c limit reach =
+    waited_copies c (futex_value3 c) (wait_end WaitBitset c) (limit_reach c (futex_limit c == 0) _ limit) (word_copies c reach)
+performed_copies Wake c limit reach = tt
+performed_copies WakeBitset c limit reach = tt
+performed_copies Requeue c limit reach = tt
+performed_copies CmpRequeue c limit reach =
     let h = word_copies c reach in
     either_copies c.tid (word c (futex_at c) == futex_value3 c) (requeues c) (answers (Back eagain)) (returns c (count_woken c all_bits + count_shifted c) ▷ reads c.tid (futex_at c) 4) h h
 
@@ -234,12 +252,18 @@ futex_copies : (o : Option Operation) (c : Call) → CopiesOnly c (option_map_or
 futex_copies None c = tt
 futex_copies (Some o) c = tested c (futex_tests o c) (λ x. performed o c) (λ passed.
     let all : AreFailed (futex_tests o c) = all_failed (futex_tests o c) passed in
-    performed_copies o c all.1.1.1.1.1.0)
+    performed_copies o c all.1.1.1.1.0 all.1.1.1.1.1.1.0)
 
 gettime_copies : (c : Call) → CopiesOnly c (clock_gettime c)
 gettime_copies c = tested c (clock_gettime_tests c) (λ x. returns c 0 ▷ fills (arg c 1) (time_bytes c.kernel.time)) (λ passed.
     let all : AreFailed (clock_gettime_tests c) = all_failed (clock_gettime_tests c) passed in
     fill_copies c.tid (arg c 1) 16 (writable_end c.memory (arg c 1) 16 (not-false (writable c (arg c 1) 16) all.1.0)))
+
+nanosleep_copies : (c : Call) → CopiesOnly c (clock_nanosleep c)
+nanosleep_copies c = tested c (clock_nanosleep_tests c) (λ x. clock_nanosleep_effect c) (λ passed.
+    let all : AreFailed (clock_nanosleep_tests c) = all_failed (clock_nanosleep_tests c) passed in
+    let h = read_copies c.tid (arg c 2) time_size (readable_end c.memory (arg c 2) time_size (not-false (readable c (arg c 2) time_size) all.1.0)) in
+    either_copies c.tid (nat_le (nanosleep_end c) c.kernel.time) (λ r. r) (sleeps c (nanosleep_end c)) (returns c 0 ▷ reads c.tid (arg c 2) time_size) h h)
 
 brk_copies : (c : Call) → CopiesOnly c (brk c)
 brk_copies c = search quiet_copies
@@ -256,5 +280,5 @@ mprotect_copies c = search quiet_copies
 pub every_call_copies : EveryCallCopies
 unfolding table
 every_call_copies = of_every_call CopiesOnly
-    ((λ k. tt), (openat_copies, (close_copies, (llseek_copies, (read-copies, (write_copies, (readv_copies, (writev_copies, (exit_copies, ((λ k. tt), ((λ k. tt), ((λ k. tt), ((λ k. tt), ((λ k. tt), (sigprocmask_copies, ((λ k. tt), ((λ k. tt), (brk_copies, (munmap_copies, (clone_copies, (mmap2_copies, (mprotect_copies, ((λ k. tt), (gettime_copies, ((λ k. futex_copies (operation k) k), tt)))))))))))))))))))))))))
+    ((λ k. tt), (openat_copies, (close_copies, (llseek_copies, (read-copies, (write_copies, (readv_copies, (writev_copies, (exit_copies, ((λ k. tt), ((λ k. tt), ((λ k. tt), ((λ k. tt), ((λ k. tt), (sigprocmask_copies, ((λ k. tt), ((λ k. tt), (brk_copies, (munmap_copies, (clone_copies, (mmap2_copies, (mprotect_copies, ((λ k. tt), (gettime_copies, (nanosleep_copies, ((λ k. futex_copies (operation k) k), tt))))))))))))))))))))))))))
     (λ k. tt)

@@ -2,20 +2,20 @@
 use Rattle.std.proofs.Common.{◌≡◌, ℕ, ◌<◌, ◌≤◌, ◌+◌, Bool, true, false, cond, List, [], ◌∷◌, length, map, filter, arith, refl, ap, ap₂, sym, subst, ◌∙◌, inl, inr}
 use Rattle.std.specs.Prelude.{not, ◌&&◌, ◌||◌, ◌==◌}
 use Rattle.std.specs.List.{list_any}
-use Rattle.std.proofs.lemmas.Bool.{and_parts, cases_eq, ne_eqb, not-true, or_parts}
+use Rattle.std.proofs.lemmas.Bool.{cases_eq, ne_eqb, or_parts}
 use Rattle.std.proofs.lemmas.Bool.Decides.{nat_tests}
 use Rattle.std.proofs.lemmas.List.{length-map}
 use Rattle.futex_table.specs.Once.{waits}
-use Rattle.futex_table.specs.Waiting.{woken, after_wake}
-use Rattle.futex_table.proofs.Partitions.{waits-filter}
+use Rattle.futex_table.specs.Waiting.{woken}
 use Rattle.guest_calls.specs.declared.thread.Thread.{Thread}
 use Rattle.guest_calls.specs.Invariant.{IsState, RisesTo}
-use Rattle.guest_calls.specs.Kernel.{KernelState, is_thread, lives, can_run, other_threads}
+use Rattle.guest_calls.specs.Kernel.{KernelState, is_thread, can_run, is_blocked, other_threads}
 use Rattle.futex_table.specs.Waiting.{all_bits}
-use Rattle.guest_calls.specs.Futex.{wakes}
+use Rattle.guest_calls.specs.Futex.{wakes, woken_at}
 use Rattle.guest_calls.specs.Kernel.{has_others}
 use Rattle.guest_calls.specs.Results.{Call, returns, writable, fills_word, when, ◌▷◌}
 use Rattle.guest_calls.specs.Threads.{with_clear_tid, clear_tid, told_end}
+use Rattle.guest_calls.proofs.Blocked.{not_blocked, still_can_run}
 use Rattle.guest_calls.proofs.Rising.{rises_filter}
 
 gone_head : (b : Bool) (q : ℕ) (t : Thread) (rest : List Thread) → (b ≡ false → is_thread q t ≡ false) → list_any (is_thread q) (cond b (t ∷ rest) rest) ≡ false → (is_thread q t ≡ false) × (list_any (is_thread q) rest ≡ false)
@@ -41,39 +41,23 @@ pub few_left : (test : Thread → Bool) (ts : List Thread) → length (filter te
 few_left test [] = omega arith
 few_left test (t ∷ ts) = let h = few_cond (test t) t (filter test ts) (length ts) (few_left test ts) in omega (arith, h)
 
-pub does_not_wait : (k : KernelState) (tid : ℕ) → can_run k tid ≡ true → waits k.waiting tid ≡ false
-does_not_wait k tid can = not-true (waits k.waiting tid) (and_parts (lives k tid) (not (waits k.waiting tid)) can).1
-
 -- who can run still can where others are woken
-pub woken_can_run : (k new : KernelState) (at most bits tid : ℕ) → new ≡ record k { waiting = after_wake k.waiting at most bits } → can_run k tid ≡ true → can_run new tid ≡ true
+pub woken_can_run : (k new : KernelState) (at most bits tid : ℕ) → new ≡ woken_at at most bits k → can_run k tid ≡ true → can_run new tid ≡ true
 woken_can_run k new at most bits tid is can =
-    let parts = and_parts (lives k tid) (not (waits k.waiting tid)) can in
-    let after = waits-filter (λ w. not (waits (woken k.waiting at most bits) w.tid)) k.waiting tid (does_not_wait k tid can) in
-    ap (λ (s : KernelState). can_run s tid) is ∙ ap₂ (λ (a b : Bool). a && not b) parts.0 after
+    let gone = woken k.waiting at most bits in
+    ap (λ (s : KernelState). can_run s tid) is ∙ still_can_run k (λ w. not (waits gone w.tid)) (λ d. not (waits gone d.tid)) tid can
 
 left_state : (k : KernelState) (tid : ℕ) → IsState k → can_run k tid ≡ true → IsState (record k { threads = other_threads k tid })
 left_state k tid is can = record {
   rising = rises_filter (λ t. not (is_thread tid t)) 0 k.threads k.last_tid is.rising;
   few = let h = few_left (λ t. not (is_thread tid t)) k.threads in omega (arith, h, is.few);
-  waiting_live = λ q gone. elim (cases_eq q tid) [
-    | inl same ↦ subst (λ (n : ℕ). waits k.waiting n ≡ false) (sym same) (does_not_wait k tid can)
-    | inr differs ↦ is.waiting_live q (still_gone k.threads tid q differs gone)
+  blocked_live = λ q gone. elim (cases_eq q tid) [
+    | inl same ↦ subst (λ (n : ℕ). is_blocked k n ≡ false) (sym same) (not_blocked k tid can)
+    | inr differs ↦ is.blocked_live q (still_gone k.threads tid q differs gone)
   ];
   stdin_within = is.stdin_within;
   descriptors_sound = is.descriptors_sound;
 }
-
-woken_state : (k : KernelState) (at most bits : ℕ) → IsState k → IsState (record k { waiting = after_wake k.waiting at most bits })
-woken_state k at most bits is = record {
-  rising = is.rising;
-  few = is.few;
-  waiting_live = λ q gone. waits-filter (λ w. not (waits (woken k.waiting at most bits) w.tid)) k.waiting q (is.waiting_live q gone);
-  stdin_within = is.stdin_within;
-  descriptors_sound = is.descriptors_sound;
-}
-
-pub woken_is_state : (k new : KernelState) (at most bits : ℕ) → IsState k → new ≡ record k { waiting = after_wake k.waiting at most bits } → IsState new
-woken_is_state k new at most bits is after = subst IsState (sym after) (woken_state k at most bits is)
 
 pub left_is_state : (k new : KernelState) (tid : ℕ) → IsState k → can_run k tid ≡ true → new ≡ record k { threads = other_threads k tid } → IsState new
 left_is_state k new tid is can after = subst IsState (sym after) (left_state k tid is can)
@@ -100,7 +84,7 @@ cleared_state : (k : KernelState) (tid at : ℕ) → IsState k → IsState (reco
 cleared_state k tid at is = record {
   rising = cleared_rises tid at 0 k.threads k.last_tid is.rising;
   few = simp length-map is.few;
-  waiting_live = λ q gone. is.waiting_live q (sym (cleared_lives tid at q k.threads) ∙ gone);
+  blocked_live = λ q gone. is.blocked_live q (sym (cleared_lives tid at q k.threads) ∙ gone);
   stdin_within = is.stdin_within;
   descriptors_sound = is.descriptors_sound;
 }

@@ -1,5 +1,6 @@
 pub mod AllCalls
 pub mod Births
+pub mod Blocked
 pub mod Breaks
 pub mod Carrying
 pub mod CopyEvents
@@ -16,7 +17,10 @@ pub mod Refusals
 pub mod Rising
 pub mod Rows
 pub mod Settled
+pub mod Sleeps
 pub mod Started
 pub mod Times
+pub mod ClockWakings
+pub mod Waits
 pub mod Wakings
 pub mod Weights

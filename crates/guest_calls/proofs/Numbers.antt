@@ -1,6 +1,6 @@
 -- The numbers that calls give to threads.
 use Rattle.std.proofs.Common.{◌≡◌, ℕ, ◌+◌, Bool, true, false, cond, List, Option, Some, None, length, refl}
-use Rattle.std.specs.Prelude.{◌==◌}
+use Rattle.std.specs.Prelude.{◌==◌, nat_le, is_some}
 use Rattle.std.specs.Option.{option_map_or}
 use Rattle.futex_table.specs.Waiting.{all_bits}
 use Rattle.guest_calls.specs.declared.answer.Answer.TheVariants.{Back, ThreadEnd, ProcessEnd}
@@ -8,11 +8,11 @@ use Rattle.guest_calls.specs.declared.descriptor.Descriptor.{Descriptor}
 use Rattle.guest_calls.specs.declared.descriptor.Descriptor.TheVariants.{Closed, StandardInput, Output, InputFile}
 use Rattle.guest_calls.specs.declared.operation.Operation.{Operation}
 use Rattle.guest_calls.specs.declared.operation.Operation.TheVariants.{Wait, Wake, Requeue, CmpRequeue, WaitBitset, WakeBitset}
-use Rattle.guest_calls.specs.Clock.{clock_gettime}
+use Rattle.guest_calls.specs.Clock.{clock_gettime, clock_nanosleep, clock_nanosleep_effect, clock_nanosleep_tests, nanosleep_end, sleeps, time_size}
 use Rattle.guest_calls.specs.Clone.{clone, clone_effect, clone_tests}
-use Rattle.guest_calls.specs.Errors.{eagain, enosys}
+use Rattle.guest_calls.specs.Errors.{eagain, enosys, etimedout}
 use Rattle.guest_calls.specs.Files.{advanced, close, llseek, openat, read, write}
-use Rattle.guest_calls.specs.Futex.{count_shifted, count_woken, futex_at, futex_by, futex_tests, futex_value, futex_value3, operation, performed, requeues, waits_for}
+use Rattle.guest_calls.specs.Futex.{count_shifted, count_woken, futex_at, futex_by, futex_limit, futex_tests, futex_value, futex_value3, is_over, operation, performed, requeues, wait_end, waited, waits_for}
 use Rattle.guest_calls.specs.Kernel.{KernelState, descriptor, has_others}
 use Rattle.guest_calls.specs.Laws.{EveryCallGivesNumber, GivesNumber}
 use Rattle.guest_calls.specs.Pages.{brk, mmap2, mprotect, munmap}
@@ -73,9 +73,22 @@ sigprocmask_numbers c = search (tested, when_numbers)
 clone_numbers : (c : Call) → Numbers c (clone c)
 clone_numbers c = of_unless Numbers c (clone_tests c) (λ x. clone_effect c) (λ value. refl) (λ passed. (refl, refl, (all_failed (clone_tests c) passed).1.0))
 
+begun_numbers : (c : Call) (bits : ℕ) (end : Option ℕ) → Numbers c (waits_for c bits end (returns c 0 ▷ when (is_some end) (reads c.tid (futex_limit c) time_size) ▷ reads c.tid (futex_at c) 4))
+begun_numbers c bits None = refl
+begun_numbers c bits (Some end) = refl
+
+over_numbers : (c : Call) (errno : ℕ) (end : Option ℕ) → Numbers c (answers (Back errno) (returns c 0 ▷ when (is_some end) (reads c.tid (futex_limit c) time_size) ▷ reads c.tid (futex_at c) 4))
+over_numbers c errno None = refl
+over_numbers c errno (Some end) = refl
+
+waited_numbers : (c : Call) (bits : ℕ) (end : Option ℕ) → Numbers c (waited c bits end)
+waited_numbers c bits end =
+    either_numbers c (word c (futex_at c) == futex_value c) (either (is_over end c.kernel.time) (answers (Back etimedout)) (waits_for c bits end)) (answers (Back eagain)) (returns c 0 ▷ when (is_some end) (reads c.tid (futex_limit c) time_size) ▷ reads c.tid (futex_at c) 4)
+    (either_numbers c (is_over end c.kernel.time) (answers (Back etimedout)) (waits_for c bits end) (returns c 0 ▷ when (is_some end) (reads c.tid (futex_limit c) time_size) ▷ reads c.tid (futex_at c) 4) (over_numbers c etimedout end) (begun_numbers c bits end)) (over_numbers c eagain end)
+
 performed_numbers : (o : Operation) (c : Call) → Numbers c (performed o c)
-performed_numbers Wait c = either_numbers c (word c (futex_at c) == futex_value c) (waits_for c all_bits) (answers (Back eagain)) (returns c 0 ▷ reads c.tid (futex_at c) 4) refl refl
-performed_numbers WaitBitset c = either_numbers c (word c (futex_at c) == futex_value c) (waits_for c (futex_value3 c)) (answers (Back eagain)) (returns c 0 ▷ reads c.tid (futex_at c) 4) refl refl
+performed_numbers Wait c = waited_numbers c all_bits (wait_end Wait c)
+performed_numbers WaitBitset c = waited_numbers c (futex_value3 c) (wait_end WaitBitset c)
 performed_numbers Wake c = refl
 performed_numbers WakeBitset c = refl
 performed_numbers Requeue c = refl
@@ -103,6 +116,10 @@ writev_numbers c = search tested
 gettime_numbers : (c : Call) → Numbers c (clock_gettime c)
 gettime_numbers c = search tested
 
+nanosleep_numbers : (c : Call) → Numbers c (clock_nanosleep c)
+nanosleep_numbers c = tested c (clock_nanosleep_tests c) (λ x. clock_nanosleep_effect c)
+    (either_numbers c (nat_le (nanosleep_end c) c.kernel.time) (λ r. r) (sleeps c (nanosleep_end c)) (returns c 0 ▷ reads c.tid (arg c 2) time_size) refl refl)
+
 brk_numbers : (c : Call) → Numbers c (brk c)
 brk_numbers c = search tested
 
@@ -118,5 +135,5 @@ mprotect_numbers c = search tested
 pub every_call_numbers : EveryCallGivesNumber
 unfolding table
 every_call_numbers = of_every_call Numbers
-    ((λ k. refl), (openat_numbers, (close_numbers, (llseek_numbers, (read-numbers, (write_numbers, (readv_numbers, (writev_numbers, (exit_numbers, ((λ k. refl), ((λ k. refl), ((λ k. refl), ((λ k. refl), ((λ k. refl), (sigprocmask_numbers, ((λ k. refl), ((λ k. refl), (brk_numbers, (munmap_numbers, (clone_numbers, (mmap2_numbers, (mprotect_numbers, ((λ k. refl), (gettime_numbers, ((λ k. futex_numbers (operation k) k), tt)))))))))))))))))))))))))
+    ((λ k. refl), (openat_numbers, (close_numbers, (llseek_numbers, (read-numbers, (write_numbers, (readv_numbers, (writev_numbers, (exit_numbers, ((λ k. refl), ((λ k. refl), ((λ k. refl), ((λ k. refl), ((λ k. refl), (sigprocmask_numbers, ((λ k. refl), ((λ k. refl), (brk_numbers, (munmap_numbers, (clone_numbers, (mmap2_numbers, (mprotect_numbers, ((λ k. refl), (gettime_numbers, (nanosleep_numbers, ((λ k. futex_numbers (operation k) k), tt))))))))))))))))))))))))))
     (λ k. refl)

@@ -1,24 +1,27 @@
 -- Threads that wait.
 use Rattle.std.proofs.Common.{◌≡◌, ℕ, zero, suc, ◌<◌, ◌≤◌, ◌+◌, Bool, true, false, cond, List, [], ◌∷◌, length, map, filter, take, arith, refl, ap, ap₂, sym, subst, ◌∙◌, inl, inr}
-use Rattle.std.specs.Prelude.{not, ◌||◌, ◌==◌}
+use Rattle.std.specs.Prelude.{not, ◌&&◌, ◌||◌, ◌==◌}
 use Rattle.std.specs.List.{list_any}
-use Rattle.std.proofs.lemmas.Bool.{and_parts, cases_eq, eq-eqb, or_parts}
+use Rattle.std.proofs.lemmas.Bool.{cases_eq, eq-eqb, or_parts}
 use Rattle.std.proofs.lemmas.List.Folds.{list_any-append}
 use Rattle.futex_table.specs.declared.waiter.Waiter.{Waiter}
 use Rattle.futex_table.specs.Once.{waits, IsOnce}
-use Rattle.futex_table.specs.Waiting.{all_bits, woken, after_wake, shifted, after_requeue, moved_to, waits_at}
+use Rattle.futex_table.specs.Waiting.{all_bits, woken, after_wake, after_shift, shifted, after_requeue, moved_to, waits_at}
 use Rattle.futex_table.proofs.Partitions.{waits-filter, waits-take}
+use Rattle.futex_table.proofs.Wakings.{wake-zero}
+use Rattle.guest_calls.specs.Futex.{moved_at, requeued, woken_at}
 use Rattle.guest_calls.specs.declared.thread.Thread.{Thread}
 use Rattle.guest_calls.specs.Invariant.{IsState}
-use Rattle.guest_calls.specs.Kernel.{KernelState, is_thread, lives, can_run}
-use Rattle.guest_calls.proofs.Leaving.{does_not_wait, few_left, still_gone}
+use Rattle.guest_calls.specs.Kernel.{KernelState, is_blocked, is_thread, lives, can_run}
+use Rattle.guest_calls.proofs.Blocked.{can_run-lives, does_not_wait, not_blocked, unblocked_parts}
+use Rattle.guest_calls.proofs.Leaving.{few_left, still_gone, woken_can_run}
 
 live_head : (b : Bool) (t : Thread) (rest : List Thread) (n : ℕ) → (b ≡ false → length rest < n) → length rest ≤ n → length (cond (not b) (t ∷ rest) rest) < suc n
 live_head true t rest n later all = omega (arith, all)
 live_head false t rest n later all = let h = later refl in omega (arith, h)
 
 -- fewer threads are left where a live one is taken out
-fewer_without : (ts : List Thread) (tid : ℕ) → list_any (is_thread tid) ts ≡ true → length (filter (λ t. not (is_thread tid t)) ts) < length ts
+pub fewer_without : (ts : List Thread) (tid : ℕ) → list_any (is_thread tid) ts ≡ true → length (filter (λ t. not (is_thread tid t)) ts) < length ts
 fewer_without [] tid live = absurd (cc)
 fewer_without (t ∷ ts) tid live =
     live_head (is_thread tid t) t (filter (λ u. not (is_thread tid u)) ts) (length ts)
@@ -30,7 +33,7 @@ bool_cases true P one other = one refl
 bool_cases false P one other = other refl
 
 -- who waits, each once, are no more than those who live
-no_more_wait : (ws : List Waiter) (ts : List Thread) → IsOnce ws → ((q : ℕ) → list_any (is_thread q) ts ≡ false → waits ws q ≡ false) → length ws ≤ length ts
+pub no_more_wait : (ws : List Waiter) (ts : List Thread) → IsOnce ws → ((q : ℕ) → list_any (is_thread q) ts ≡ false → waits ws q ≡ false) → length ws ≤ length ts
 no_more_wait [] ts once gone = omega arith
 no_more_wait (w ∷ ws) ts once gone =
     let live : list_any (is_thread w.tid) ts ≡ true = bool_cases (list_any (is_thread w.tid) ts) (list_any (is_thread w.tid) ts ≡ true) (λ h. h) (λ h. let bad : true ≡ false = ap (λ (b : Bool). b || waits ws w.tid) (sym (eq-eqb w.tid w.tid refl)) ∙ gone w.tid h in absurd (cc)) in
@@ -44,11 +47,11 @@ no_more_wait (w ∷ ws) ts once gone =
 -- fewer wait than live, where one can run
 pub fewer_wait : (k : KernelState) (tid : ℕ) → IsState k → IsOnce k.waiting → can_run k tid ≡ true → length k.waiting < length k.threads
 fewer_wait k tid is once can =
-    let live = (and_parts (lives k tid) (not (waits k.waiting tid)) can).0 in
+    let live : lives k tid ≡ true = can_run-lives k tid can in
     let fewer = fewer_without k.threads tid live in
     let rest = no_more_wait k.waiting (filter (λ t. not (is_thread tid t)) k.threads) once (λ q out. elim (cases_eq q tid) [
       | inl same ↦ subst (λ (n : ℕ). waits k.waiting n ≡ false) (sym same) (does_not_wait k tid can)
-      | inr differs ↦ is.waiting_live q (still_gone k.threads tid q differs out)
+      | inr differs ↦ (unblocked_parts k q (is.blocked_live q (still_gone k.threads tid q differs out))).0
     ]) in
     omega (arith, fewer, rest)
 
@@ -58,28 +61,44 @@ no_move to (w ∷ ws) q out =
     let parts = or_parts (w.tid == q) (waits ws q) out in
     ap₂ (λ (a b : Bool). a || b) parts.0 (no_move to ws q parts.1)
 
--- who does not wait does not wait after a requeue
-pub requeued_out : (ws : List Waiter) (at most shift to q : ℕ) → waits ws q ≡ false → waits (after_requeue ws at most shift to) q ≡ false
-requeued_out ws at most shift to q out =
-    let left : List Waiter = after_wake ws at most all_bits in
-    let moved : List Waiter = woken left at shift all_bits in
-    let still : waits left q ≡ false = waits-filter (λ w. not (waits (woken ws at most all_bits) w.tid)) ws q out in
-    let front : waits (filter (λ w. not (waits moved w.tid)) left) q ≡ false = waits-filter (λ w. not (waits moved w.tid)) left q still in
-    let back : waits (map (moved_to to) moved) q ≡ false = no_move to moved q (waits-take shift (filter (waits_at at all_bits) left) q (waits-filter (waits_at at all_bits) left q still)) in
-    list_any-append (λ w. w.tid == q) (filter (λ w. not (waits moved w.tid)) left) (map (moved_to to) moved) ∙ ap₂ (λ (a b : Bool). a || b) front back
+-- who does not wait does not wait after others are moved
+moved_out : (ws : List Waiter) (at most to q : ℕ) → waits ws q ≡ false → waits (after_shift ws at most to) q ≡ false
+moved_out ws at most to q out =
+    let moved : List Waiter = woken ws at most all_bits in
+    let front : waits (filter (λ w. not (waits moved w.tid)) ws) q ≡ false = waits-filter (λ w. not (waits moved w.tid)) ws q out in
+    let back : waits (map (moved_to to) moved) q ≡ false = no_move to moved q (waits-take most (filter (waits_at at all_bits) ws) q (waits-filter (waits_at at all_bits) ws q out)) in
+    list_any-append (λ w. w.tid == q) (filter (λ w. not (waits moved w.tid)) ws) (map (moved_to to) moved) ∙ ap₂ (λ (a b : Bool). a || b) front back
 
-with_waiting : (k : KernelState) (ws : List Waiter) → IsState k → ((q : ℕ) → lives k q ≡ false → waits ws q ≡ false) → IsState (record k { waiting = ws })
-with_waiting k ws is out = record {
+moved_unblocked : (k : KernelState) (at most to q : ℕ) → is_blocked k q ≡ false → is_blocked (moved_at at most to k) q ≡ false
+moved_unblocked k at most to q out =
+    let parts = unblocked_parts k q out in
+    ap₂ (λ (a b : Bool). a || b) (moved_out k.waiting at most to q parts.0) parts.1
+
+-- who can run still can where others are woken and moved
+pub requeued_can_run : (k : KernelState) (at most shift to tid : ℕ) → can_run k tid ≡ true → can_run (requeued at most shift to k) tid ≡ true
+requeued_can_run k at most shift to tid can =
+    let left : KernelState = woken_at at most all_bits k in
+    let still : can_run left tid ≡ true = woken_can_run k left at most all_bits tid refl can in
+    ap₂ (λ (a b : Bool). a && not b) (can_run-lives left tid still) (moved_unblocked left at shift to tid (not_blocked left tid still))
+
+moved_state : (k : KernelState) (at most to : ℕ) → IsState k → IsState (moved_at at most to k)
+moved_state k at most to is = record {
   rising = is.rising;
   few = is.few;
-  waiting_live = out;
+  blocked_live = λ q gone. moved_unblocked k at most to q (is.blocked_live q gone);
   stdin_within = is.stdin_within;
   descriptors_sound = is.descriptors_sound;
 }
 
-pub requeued_is_state : (k new : KernelState) (at most shift to : ℕ) → IsState k → new ≡ record k { waiting = after_requeue k.waiting at most shift to } → IsState new
-requeued_is_state k new at most shift to is after =
-    subst IsState (sym after) (with_waiting k (after_requeue k.waiting at most shift to) is (λ q gone. requeued_out k.waiting at most shift to q (is.waiting_live q gone)))
+pub moved_is_state : (k new : KernelState) (at most to : ℕ) → IsState k → new ≡ moved_at at most to k → IsState new
+moved_is_state k new at most to is after = subst IsState (sym after) (moved_state k at most to is)
+
+-- a requeue that wakes none moves the first
+pub moves_only : (ws : List Waiter) (at most to : ℕ) → after_requeue ws at 0 most to ≡ after_shift ws at most to
+moves_only ws at most to = ap (λ (xs : List Waiter). after_shift xs at most to) (wake-zero ws at all_bits)
+
+pub shifts_only : (ws : List Waiter) (at most : ℕ) → length (shifted ws at 0 most) ≡ length (woken ws at most all_bits)
+shifts_only ws at most = ap (λ (xs : List Waiter). length (woken xs at most all_bits)) (wake-zero ws at all_bits)
 
 length_take_le : (n : ℕ) (ws : List Waiter) → length (take n ws) ≤ length ws
 length_take_le zero ws = omega arith

@@ -8,7 +8,7 @@ use Rattle.guest_calls.specs.Files.{openat, close, llseek, read, write}
 use Rattle.guest_calls.specs.Vectors.{readv, writev}
 use Rattle.guest_calls.specs.Threads.{exit, exit_group, set_tid_address, sched_yield, rt_sigprocmask}
 use Rattle.guest_calls.specs.Pages.{brk, munmap, mmap2, mprotect}
-use Rattle.guest_calls.specs.Clock.{clock_gettime}
+use Rattle.guest_calls.specs.Clock.{clock_gettime, clock_nanosleep}
 use Rattle.guest_calls.specs.Clone.{clone}
 use Rattle.guest_calls.specs.Futex.{futex}
 use Rattle.guest_calls.specs.Table.{always, table, call, call_numbered, constant_answer, gettid}
@@ -89,6 +89,10 @@ pub call_clock_gettime : (c : Call) → number c ≡ 403 → call c ≡ clock_ge
 unfolding call table
 call_clock_gettime c is = ap (λ n. call_numbered n table c) is
 
+pub call_clock_nanosleep : (c : Call) → number c ≡ 407 → call c ≡ clock_nanosleep c
+unfolding call table
+call_clock_nanosleep c is = ap (λ n. call_numbered n table c) is
+
 pub call_futex : (c : Call) → number c ≡ 422 → call c ≡ futex c
 unfolding call table
 call_futex c is = ap (λ n. call_numbered n table c) is
@@ -114,6 +118,7 @@ pub record DoesNothing (n : ℕ) : Type 0 where
   pub n222 : n ≢ 222
   pub n226 : n ≢ 226
   pub n403 : n ≢ 403
+  pub n407 : n ≢ 407
   pub n422 : n ≢ 422
 
 constant_rows : (b29 b99 b134 b172 b233 : Bool) (c : Call) → (cond b29 (always enotty) (cond b99 (always 0) (cond b134 (always 0) (cond b172 (always 1) (cond b233 (always 0) (always enosys)))))) c ≡ returns c (cond b29 enotty (cond b99 0 (cond b134 0 (cond b172 1 (cond b233 0 enosys)))))
@@ -132,5 +137,5 @@ pub call_constant : (c : Call) → DoesNothing (number c) → call c ≡ returns
 unfolding call table
 call_constant c none =
     let n : ℕ = number c in
-    rw (skipped 56 n none.n56, skipped 57 n none.n57, skipped 62 n none.n62, skipped 63 n none.n63, skipped 64 n none.n64, skipped 65 n none.n65, skipped 66 n none.n66, skipped 93 n none.n93, skipped 94 n none.n94, skipped 96 n none.n96, skipped 124 n none.n124, skipped 135 n none.n135, skipped 178 n none.n178, skipped 214 n none.n214, skipped 215 n none.n215, skipped 220 n none.n220, skipped 222 n none.n222, skipped 226 n none.n226, skipped 403 n none.n403, skipped 422 n none.n422)
+    rw (skipped 56 n none.n56, skipped 57 n none.n57, skipped 62 n none.n62, skipped 63 n none.n63, skipped 64 n none.n64, skipped 65 n none.n65, skipped 66 n none.n66, skipped 93 n none.n93, skipped 94 n none.n94, skipped 96 n none.n96, skipped 124 n none.n124, skipped 135 n none.n135, skipped 178 n none.n178, skipped 214 n none.n214, skipped 215 n none.n215, skipped 220 n none.n220, skipped 222 n none.n222, skipped 226 n none.n226, skipped 403 n none.n403, skipped 407 n none.n407, skipped 422 n none.n422)
     (constant_rows (29 == n) (99 == n) (134 == n) (172 == n) (233 == n) c)

@@ -1,6 +1,6 @@
 -- From the calls of the state to the calls of the kernel.
 use Rattle.std.proofs.Common.{◌≡◌, ◌≢◌, ℕ, ◌+◌, Bool, true, false, List, [], ◌∷◌, ◌++◌, Option, Some, None, Ok, Err, refl, ap, sym, subst, ◌∙◌}
-use Rattle.std.specs.Prelude.{Result, IfOk, OnErr, ◌==◌}
+use Rattle.std.specs.Prelude.{Result, IfOk, OnErr, ◌==◌, nat_le, is_some}
 use Rattle.std.specs.Option.{option_map_or}
 use Rattle.std.specs.declared.alloc.AllocError.{AllocError}
 use Rattle.guest_memory.specs.declared.memory.GuestMemory.{GuestMemory}
@@ -14,15 +14,15 @@ use Rattle.guest_calls.specs.declared.answer.Answer.{Answer}
 use Rattle.guest_calls.specs.declared.answer.Answer.TheVariants.{Back}
 use Rattle.guest_calls.specs.declared.operation.Operation.{Operation}
 use Rattle.guest_calls.specs.declared.operation.Operation.TheVariants.{Wait, Wake, Requeue, CmpRequeue, WaitBitset, WakeBitset}
-use Rattle.guest_calls.specs.Clock.{clock_gettime}
+use Rattle.guest_calls.specs.Clock.{clock_gettime, clock_nanosleep, clock_nanosleep_effect, clock_nanosleep_tests, nanosleep_end, sleeps, time_size}
 use Rattle.guest_calls.specs.Clone.{clone}
-use Rattle.guest_calls.specs.Errors.{eagain, enosys}
+use Rattle.guest_calls.specs.Errors.{eagain, enosys, etimedout}
 use Rattle.guest_calls.specs.Files.{close, llseek, openat, read}
-use Rattle.guest_calls.specs.Futex.{count_shifted, count_woken, futex, futex_at, futex_by, futex_tests, futex_value, futex_value3, operation, performed, requeues, waits_for, wakes}
+use Rattle.guest_calls.specs.Futex.{count_shifted, count_woken, futex, futex_at, futex_by, futex_limit, futex_tests, futex_value, futex_value3, is_over, operation, performed, requeues, wait_end, waited, waits_for, wakes}
 use Rattle.guest_calls.specs.Kernel.{KernelState, Kept}
 use Rattle.guest_calls.specs.Outcome.{Does, Gives, IsAsBefore}
 use Rattle.guest_calls.specs.Pages.{IsBreakFree, brk, mmap2, mprotect, munmap}
-use Rattle.guest_calls.specs.Results.{Call, CallResult, answers, either, fills_word, number, reads, returns, unless, when, word, ◌▷◌}
+use Rattle.guest_calls.specs.Results.{arg, Call, CallResult, answers, either, fills_word, number, reads, returns, unless, when, word, ◌▷◌}
 use Rattle.guest_calls.specs.Table.{call, gettid, getpid, ioctl, madvise, rt_sigaction, set_robust_list, table}
 use Rattle.guest_calls.specs.Threads.{clear_tid, exit, exit_group, is_cleared, rt_sigprocmask, sched_yield, set_tid_address}
 use Rattle.guest_calls.specs.Vectors.{readv}
@@ -81,9 +81,22 @@ quiet_either : (b : Bool) (one other : CallResult → CallResult) (r : CallResul
 quiet_either true one other r here there = here
 quiet_either false one other r here there = there
 
+begun_quiet : (c : Call) (bits : ℕ) (end : Option ℕ) → (waits_for c bits end (returns c 0 ▷ when (is_some end) (reads c.tid (futex_limit c) time_size) ▷ reads c.tid (futex_at c) 4)).out ≡ None
+begun_quiet c bits None = refl
+begun_quiet c bits (Some end) = refl
+
+over_quiet : (c : Call) (errno : ℕ) (end : Option ℕ) → (answers (Back errno) (returns c 0 ▷ when (is_some end) (reads c.tid (futex_limit c) time_size) ▷ reads c.tid (futex_at c) 4)).out ≡ None
+over_quiet c errno None = refl
+over_quiet c errno (Some end) = refl
+
+waited_quiet : (c : Call) (bits : ℕ) (end : Option ℕ) → (waited c bits end).out ≡ None
+waited_quiet c bits end =
+    quiet_either (word c (futex_at c) == futex_value c) (either (is_over end c.kernel.time) (answers (Back etimedout)) (waits_for c bits end)) (answers (Back eagain)) (returns c 0 ▷ when (is_some end) (reads c.tid (futex_limit c) time_size) ▷ reads c.tid (futex_at c) 4)
+    (quiet_either (is_over end c.kernel.time) (answers (Back etimedout)) (waits_for c bits end) (returns c 0 ▷ when (is_some end) (reads c.tid (futex_limit c) time_size) ▷ reads c.tid (futex_at c) 4) (over_quiet c etimedout end) (begun_quiet c bits end)) (over_quiet c eagain end)
+
 quiet_performed : (o : Operation) (c : Call) → (performed o c).out ≡ None
-quiet_performed Wait c = quiet_either (word c (futex_at c) == futex_value c) (waits_for c all_bits) (answers (Back eagain)) (returns c 0 ▷ reads c.tid (futex_at c) 4) refl refl
-quiet_performed WaitBitset c = quiet_either (word c (futex_at c) == futex_value c) (waits_for c (futex_value3 c)) (answers (Back eagain)) (returns c 0 ▷ reads c.tid (futex_at c) 4) refl refl
+quiet_performed Wait c = waited_quiet c all_bits (wait_end Wait c)
+quiet_performed WaitBitset c = waited_quiet c (futex_value3 c) (wait_end WaitBitset c)
 quiet_performed Wake c = refl
 quiet_performed WakeBitset c = refl
 quiet_performed Requeue c = refl
@@ -123,6 +136,10 @@ quiet_munmap c = search quiet
 quiet_gettime : (c : Call) → IsSilent c (clock_gettime c)
 quiet_gettime c = search quiet
 
+quiet_nanosleep : (c : Call) → IsSilent c (clock_nanosleep c)
+quiet_nanosleep c = quiet c (clock_nanosleep_tests c) (λ x. clock_nanosleep_effect c)
+    (quiet_either (nat_le (nanosleep_end c) c.kernel.time) (λ r. r) (sleeps c (nanosleep_end c)) (returns c 0 ▷ reads c.tid (arg c 2) time_size) refl refl)
+
 quiet_clone : (c : Call) → IsSilent c (clone c)
 quiet_clone c = search quiet
 
@@ -138,11 +155,11 @@ quiet_table =
     (29, ioctl) ∷ (56, openat) ∷ (57, close) ∷ (62, llseek) ∷ (63, read) ∷ (65, readv) ∷ (93, exit) ∷ (94, exit_group)
     ∷ (96, set_tid_address) ∷ (99, set_robust_list) ∷ (124, sched_yield) ∷ (134, rt_sigaction) ∷ (135, rt_sigprocmask)
     ∷ (172, getpid) ∷ (178, gettid) ∷ (214, brk) ∷ (215, munmap) ∷ (220, clone) ∷ (222, mmap2) ∷ (226, mprotect)
-    ∷ (233, madvise) ∷ (403, clock_gettime) ∷ (422, futex) ∷ []
+    ∷ (233, madvise) ∷ (403, clock_gettime) ∷ (407, clock_nanosleep) ∷ (422, futex) ∷ []
 
 -- every call but write and writev is silent
 pub silent : (c : Call) → number c ≢ 64 → number c ≢ 66 → (call c).out ≡ None
 unfolding call table
 silent c no_write no_writev =
     rw (skipped 64 (number c) no_write, skipped 66 (number c) no_writev)
-    (of_numbered IsSilent (number c) quiet_table ((λ k. refl), (quiet_openat, (quiet_close, (quiet_llseek, (quiet_read, (quiet_readv, (quiet_exit, ((λ k. refl), ((λ k. refl), ((λ k. refl), ((λ k. refl), ((λ k. refl), (quiet_sigprocmask, ((λ k. refl), ((λ k. refl), (quiet_brk, (quiet_munmap, (quiet_clone, (quiet_mmap2, (quiet_mprotect, ((λ k. refl), (quiet_gettime, ((λ k. quiet_operation (operation k) k), tt))))))))))))))))))))))) (λ k. refl) c)
+    (of_numbered IsSilent (number c) quiet_table ((λ k. refl), (quiet_openat, (quiet_close, (quiet_llseek, (quiet_read, (quiet_readv, (quiet_exit, ((λ k. refl), ((λ k. refl), ((λ k. refl), ((λ k. refl), ((λ k. refl), (quiet_sigprocmask, ((λ k. refl), ((λ k. refl), (quiet_brk, (quiet_munmap, (quiet_clone, (quiet_mmap2, (quiet_mprotect, ((λ k. refl), (quiet_gettime, (quiet_nanosleep, ((λ k. quiet_operation (operation k) k), tt)))))))))))))))))))))))) (λ k. refl) c)

@@ -24,7 +24,7 @@ started_holds : (inputs : List Input) (stdin : List ℕ) (first_break : ℕ) →
 started_holds inputs stdin first_break = record {
   rising = (omega arith, omega arith);
   few = omega arith;
-  waiting_live = λ tid h. refl;
+  blocked_live = λ tid h. refl;
   stdin_within = omega arith;
   descriptors_sound = λ fd. sound_at (started inputs stdin first_break).descriptors fd (tt, ((omega arith, omega arith), ((omega arith, omega arith), closed_are_sound 29)));
 }

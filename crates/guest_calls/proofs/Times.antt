@@ -21,7 +21,7 @@ at_time : (k : KernelState) (time : ℕ) → IsState k → IsState (record k { t
 at_time k time is = record {
   rising = is.rising;
   few = is.few;
-  waiting_live = is.waiting_live;
+  blocked_live = is.blocked_live;
   stdin_within = is.stdin_within;
   descriptors_sound = is.descriptors_sound;
 }

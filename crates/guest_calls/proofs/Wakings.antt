@@ -1,20 +1,50 @@
 -- Threads that are woken one after another.
-use Rattle.std.proofs.Common.{◌≡◌, ℕ, zero, suc, ◌+◌, ◌-◌, ◌<◌, ◌≤◌, Bool, true, false, List, length, Option, Some, None, arith, refl, ap, ap₂, sym, subst, ◌∙◌}
-use Rattle.std.specs.Prelude.{is_some, ◌&&◌, ◌==◌, not}
-use Rattle.std.proofs.lemmas.Bool.{and_parts}
+use Rattle.std.proofs.Common.{◌≡◌, ℕ, suc, ◌+◌, ◌-◌, ◌<◌, ◌≤◌, Bool, true, false, cond, List, [], ◌∷◌, length, Option, Some, None, arith, refl, ap, ap₂, sym, subst, ◌∙◌}
+use Rattle.std.specs.Prelude.{is_some, ◌||◌, ◌==◌, not}
 use Rattle.futex_table.specs.declared.waiter.Waiter.{Waiter}
 use Rattle.futex_table.specs.Once.{waits, IsOnce}
 use Rattle.futex_table.specs.Waiting.{after_wake, after_forget, first_at, woken}
-use Rattle.futex_table.proofs.Partitions.{waits-filter}
+use Rattle.futex_table.proofs.Partitions.{nat_eq-sym}
 use Rattle.futex_table.proofs.Wakings.{wake-first, wake-none, wake-zero, woken-first, woken-none}
-use Rattle.guest_calls.specs.Futex.{woken_one}
-use Rattle.guest_calls.specs.Invariant.{IsState}
-use Rattle.guest_calls.specs.Kernel.{KernelState, can_run, lives}
-use Rattle.guest_calls.proofs.Leaving.{does_not_wait}
+use Rattle.virtual_clock.specs.declared.deadline.Deadline.{Deadline}
+use Rattle.virtual_clock.specs.Steps as clock
+use Rattle.guest_calls.specs.Futex.{deadlines_without, woken_at, woken_one}
+use Rattle.guest_calls.specs.Kernel.{KernelState, can_run, unblocked}
+use Rattle.guest_calls.proofs.Blocked.{still_can_run}
+
+-- the deadlines without one more
+without_more : (ds : List Deadline) (gone : List Waiter) (v : Waiter) → deadlines_without ds (v ∷ gone) ≡ deadlines_without (clock.after_forget ds v.tid) gone
+without_more [] gone v = refl
+without_more (d ∷ ds) gone v = by (d.tid == v.tid) refl (without_more ds gone v)
+  where
+    by : (b : Bool) → (d.tid == v.tid) ≡ b → deadlines_without ds (v ∷ gone) ≡ deadlines_without (clock.after_forget ds v.tid) gone →
+        deadlines_without (d ∷ ds) (v ∷ gone) ≡ deadlines_without (cond (not b) (d ∷ clock.after_forget ds v.tid) (clock.after_forget ds v.tid)) gone
+    by true is rest =
+        let same : (v.tid == d.tid) ≡ true = nat_eq-sym v.tid d.tid ∙ is in
+        ap (λ (b : Bool). cond (not (b || waits gone d.tid)) (d ∷ deadlines_without ds (v ∷ gone)) (deadlines_without ds (v ∷ gone))) same ∙ rest
+    by false is rest =
+        let same : (v.tid == d.tid) ≡ false = nat_eq-sym v.tid d.tid ∙ is in
+        ap₂ (λ (b : Bool) (xs : List Deadline). cond (not (b || waits gone d.tid)) (d ∷ xs) xs) same rest
+
+without_none : (ds : List Deadline) → deadlines_without ds [] ≡ ds
+without_none [] = refl
+without_none (d ∷ ds) = ap (λ (xs : List Deadline). d ∷ xs) (without_none ds)
+
+-- where none is woken, nothing changes
+none_at : (k : KernelState) (at n bits : ℕ) → woken k.waiting at n bits ≡ [] → after_wake k.waiting at n bits ≡ k.waiting → woken_at at n bits k ≡ k
+none_at k at n bits none same =
+    ap₂ (λ (ws : List Waiter) (ds : List Deadline). record k { waiting = ws; deadlines = ds }) same
+    (ap (deadlines_without k.deadlines) none ∙ without_none k.deadlines)
+
+-- the first is woken, and then one less
+first_at_once : (k : KernelState) (at n bits : ℕ) (v : Waiter) → IsOnce k.waiting → first_at k.waiting at bits ≡ Some v → woken_at at (suc n) bits k ≡ woken_at at n bits (unblocked v.tid k)
+first_at_once k at n bits v once is =
+    ap₂ (λ (ws : List Waiter) (ds : List Deadline). record k { waiting = ws; deadlines = ds }) (wake-first k.waiting at bits n v once is)
+    (ap (deadlines_without k.deadlines) (woken-first k.waiting at bits n v once is) ∙ without_more k.deadlines (woken (after_forget k.waiting v.tid) at n bits) v)
 
 -- some were woken, and those that are still to be woken are so many
 pub record IsWaking (old k : KernelState) (at bits most done : ℕ) : Type 0 where
-  pub state : record k { waiting = after_wake k.waiting at (most - done) bits } ≡ record old { waiting = after_wake old.waiting at most bits }
+  pub state : woken_at at (most - done) bits k ≡ woken_at at most bits old
   pub count : done + length (woken k.waiting at (most - done) bits) ≡ length (woken old.waiting at most bits)
   pub able : (tid : ℕ) → can_run old tid ≡ true → can_run k tid ≡ true
   pub inside : done ≤ most
@@ -24,16 +54,14 @@ none_woken k at bits most =
     let all : most - 0 ≡ most = omega arith in
     let same : length (woken k.waiting at (most - 0) bits) ≡ length (woken k.waiting at most bits) = ap (λ (n : ℕ). length (woken k.waiting at n bits)) all in
     record {
-      state = ap (λ (n : ℕ). record k { waiting = after_wake k.waiting at n bits }) all;
+      state = ap (λ (n : ℕ). woken_at at n bits k) all;
       count = omega (arith, same);
       able = λ tid can. can;
       inside = omega arith;
     }
 
-one_able : (k : KernelState) (v : Waiter) (tid : ℕ) → can_run k tid ≡ true → can_run (record k { waiting = after_forget k.waiting v.tid }) tid ≡ true
-one_able k v tid can =
-    let parts = and_parts (lives k tid) (not (waits k.waiting tid)) can in
-    ap₂ (λ (a b : Bool). a && not b) parts.0 (waits-filter (λ w. not (w.tid == v.tid)) k.waiting tid (does_not_wait k tid can))
+one_able : (k : KernelState) (v : Waiter) (tid : ℕ) → can_run k tid ≡ true → can_run (unblocked v.tid k) tid ≡ true
+one_able k v tid can = still_can_run k (λ w. not (w.tid == v.tid)) (λ d. not (d.tid == v.tid)) tid can
 
 -- one more
 pub one_woken : (old k new : KernelState) (at bits most done : ℕ) → IsOnce k.waiting → IsWaking old k at bits most done → done < most → new ≡ woken_one (first_at k.waiting at bits) k → is_some (first_at k.waiting at bits) ≡ true → IsWaking old new at bits most (done + 1)
@@ -44,10 +72,10 @@ one_woken old k new at bits most done once so_far less after some = by_first (fi
     by_first (Some v) is after some =
         let left : most - done ≡ suc (most - (done + 1)) = omega (arith, less) in
         let n = most - (done + 1) in
-        let wakes : after_wake k.waiting at (most - done) bits ≡ after_wake (after_forget k.waiting v.tid) at n bits = ap (λ (m : ℕ). after_wake k.waiting at m bits) left ∙ wake-first k.waiting at bits n v once is in
+        let wakes : woken_at at (most - done) bits k ≡ woken_at at n bits (unblocked v.tid k) = ap (λ (m : ℕ). woken_at at m bits k) left ∙ first_at_once k at n bits v once is in
         let counts : length (woken k.waiting at (most - done) bits) ≡ suc (length (woken (after_forget k.waiting v.tid) at n bits)) = ap (λ (m : ℕ). length (woken k.waiting at m bits)) left ∙ ap length (woken-first k.waiting at bits n v once is) in
         subst (λ (s : KernelState). IsWaking old s at bits most (done + 1)) (sym after) (record {
-          state = ap (λ (ws : List Waiter). record k { waiting = ws }) (sym wakes) ∙ so_far.state;
+          state = sym wakes ∙ so_far.state;
           count = omega (arith, counts, so_far.count);
           able = λ tid can. one_able k v tid (so_far.able tid can);
           inside = omega (arith, less);
@@ -55,7 +83,7 @@ one_woken old k new at bits most done once so_far less after some = by_first (fi
 
 -- none is left to be woken
 pub record AreWoken (old new : KernelState) (at bits most count : ℕ) : Type 0 where
-  pub state : new ≡ record old { waiting = after_wake old.waiting at most bits }
+  pub state : new ≡ woken_at at most bits old
   pub count_is : count ≡ length (woken old.waiting at most bits)
 
 pub all_found : (old k new : KernelState) (at bits most done : ℕ) → IsWaking old k at bits most done → new ≡ woken_one (first_at k.waiting at bits) k → is_some (first_at k.waiting at bits) ≡ false → AreWoken old new at bits most done
@@ -65,9 +93,10 @@ all_found old k new at bits most done so_far after none = by_first (first_at k.w
     by_first (Some v) is after none = absurd (cc)
     by_first None is after none =
         let n = most - done in
-        let counts : length (woken k.waiting at n bits) ≡ 0 = ap length (woken-none k.waiting at bits n is) in
+        let empty = woken-none k.waiting at bits n is in
+        let counts : length (woken k.waiting at n bits) ≡ 0 = ap length empty in
         record {
-          state = after ∙ ap (λ (ws : List Waiter). record k { waiting = ws }) (sym (wake-none k.waiting at bits n is)) ∙ so_far.state;
+          state = after ∙ sym (none_at k at n bits empty (wake-none k.waiting at bits n is)) ∙ so_far.state;
           count_is = omega (arith, counts, so_far.count);
         }
 
@@ -77,19 +106,6 @@ all_woken old k at bits most done so_far enough =
     let here : most ≡ done = omega (arith, enough, so_far.inside) in
     let counts : length (woken k.waiting at (most - done) bits) ≡ 0 = ap (λ (n : ℕ). length (woken k.waiting at n bits)) none in
     record {
-      state = ap (λ (ws : List Waiter). record k { waiting = ws }) (sym (ap (λ (n : ℕ). after_wake k.waiting at n bits) none ∙ wake-zero k.waiting at bits)) ∙ so_far.state;
+      state = sym (ap (λ (n : ℕ). woken_at at n bits k) none ∙ none_at k at 0 bits refl (wake-zero k.waiting at bits)) ∙ so_far.state;
       count_is = omega (arith, counts, so_far.count, here);
     }
-
--- the state is sound without one that waited
-one_state : (k : KernelState) (tid : ℕ) → IsState k → IsState (record k { waiting = after_forget k.waiting tid })
-one_state k tid is = record {
-  rising = is.rising;
-  few = is.few;
-  waiting_live = λ q gone. waits-filter (λ w. not (w.tid == tid)) k.waiting q (is.waiting_live q gone);
-  stdin_within = is.stdin_within;
-  descriptors_sound = is.descriptors_sound;
-}
-
-pub one_is_state : (k new : KernelState) (tid : ℕ) → IsState k → new ≡ record k { waiting = after_forget k.waiting tid } → IsState new
-one_is_state k new tid is after = subst IsState (sym after) (one_state k tid is)

@@ -1,6 +1,6 @@
 -- How many events a call has, and how much they weigh.
 use Rattle.std.proofs.Common.{◌≡◌, ℕ, zero, suc, ◌≤◌, ◌+◌, ◌-◌, ◌*◌, ◌/◌, Bool, true, false, List, [], ◌∷◌, ◌++◌, length, length-append, take, drop, Option, Some, None, arith, refl, ap, sym, ◌∙◌}
-use Rattle.std.specs.Prelude.{not, ◌==◌, nat_lt, is_none, min, unwrap_or}
+use Rattle.std.specs.Prelude.{not, ◌==◌, nat_le, nat_lt, is_none, min, unwrap_or, is_some}
 use Rattle.std.specs.Option.{option_map_or}
 use Rattle.std.proofs.lemmas.Bool.Decides.{nat_tests}
 use Rattle.std.proofs.lemmas.List.Sums.{sum_by-cons}
@@ -13,11 +13,11 @@ use Rattle.guest_calls.specs.declared.answer.Answer.TheVariants.{Back}
 use Rattle.guest_calls.specs.declared.operation.Operation.{Operation}
 use Rattle.guest_calls.specs.declared.operation.Operation.TheVariants.{Wait, Wake, Requeue, CmpRequeue, WaitBitset, WakeBitset}
 use Rattle.guest_calls.specs.declared.vectors.IoVec.{IoVec}
-use Rattle.guest_calls.specs.Clock.{clock_gettime}
+use Rattle.guest_calls.specs.Clock.{clock_gettime, clock_nanosleep, clock_nanosleep_effect, clock_nanosleep_tests, nanosleep_end, sleeps, time_size}
 use Rattle.guest_calls.specs.Clone.{clone}
-use Rattle.guest_calls.specs.Errors.{eagain, ebadf, efault, enosys}
+use Rattle.guest_calls.specs.Errors.{eagain, ebadf, efault, enosys, etimedout}
 use Rattle.guest_calls.specs.Files.{channel, close, ends_path, is_source, llseek, openat, openat_effect, openat_tests, path_end, read, write}
-use Rattle.guest_calls.specs.Futex.{count_shifted, count_woken, futex_at, futex_by, futex_tests, futex_value, futex_value3, operation, performed, requeues, waits_for, wakes}
+use Rattle.guest_calls.specs.Futex.{count_shifted, count_woken, futex_at, futex_by, futex_limit, futex_tests, futex_value, futex_value3, is_over, operation, performed, requeues, wait_end, waited, waits_for, wakes}
 use Rattle.guest_calls.specs.Kernel.{descriptor}
 use Rattle.rv_exec.specs.Accesses.{can_read, can_write}
 use Rattle.guest_calls.specs.Laws.{EveryCallHasFewEvents, EveryCallIsLight}
@@ -176,9 +176,25 @@ either_light : (b : Bool) (one other : CallResult → CallResult) (r : CallResul
 either_light true one other r here there = here
 either_light false one other r here there = there
 
+both_read : (tid at n other k : ℕ) → n ≤ 100 → k ≤ 100 → AreLight (read_event tid at n ++ read_event tid other k)
+both_read tid at n other k few also = record {
+  few = omega (arith, length-append (read_event tid at n) (read_event tid other k), read_few tid at n, read_few tid other k);
+  light = omega (arith, weight-append (read_event tid at n) (read_event tid other k), read_weight tid at n, read_weight tid other k, few, also);
+}
+
+limit_read_light : (c : Call) (end : Option ℕ) → AreLight (returns c 0 ▷ when (is_some end) (reads c.tid (futex_limit c) time_size) ▷ reads c.tid (futex_at c) 4).guest.events
+limit_read_light c None = one_read c.tid (futex_at c) 4 (omega arith)
+limit_read_light c (Some end) = both_read c.tid (futex_limit c) time_size (futex_at c) 4 (omega arith) (omega arith)
+
+waited_light : (c : Call) (bits : ℕ) (end : Option ℕ) → AreLight (waited c bits end).guest.events
+waited_light c bits end =
+    let h = limit_read_light c end in
+    either_light (word c (futex_at c) == futex_value c) (either (is_over end c.kernel.time) (answers (Back etimedout)) (waits_for c bits end)) (answers (Back eagain)) (returns c 0 ▷ when (is_some end) (reads c.tid (futex_limit c) time_size) ▷ reads c.tid (futex_at c) 4)
+    (either_light (is_over end c.kernel.time) (answers (Back etimedout)) (waits_for c bits end) (returns c 0 ▷ when (is_some end) (reads c.tid (futex_limit c) time_size) ▷ reads c.tid (futex_at c) 4) h h) h
+
 performed_light : (o : Operation) (c : Call) → AreLight (performed o c).guest.events
-performed_light Wait c = let h = one_read c.tid (futex_at c) 4 (omega arith) in either_light (word c (futex_at c) == futex_value c) (waits_for c all_bits) (answers (Back eagain)) (returns c 0 ▷ reads c.tid (futex_at c) 4) h h
-performed_light WaitBitset c = let h = one_read c.tid (futex_at c) 4 (omega arith) in either_light (word c (futex_at c) == futex_value c) (waits_for c (futex_value3 c)) (answers (Back eagain)) (returns c 0 ▷ reads c.tid (futex_at c) 4) h h
+performed_light Wait c = waited_light c all_bits (wait_end Wait c)
+performed_light WaitBitset c = waited_light c (futex_value3 c) (wait_end WaitBitset c)
 performed_light Wake c = none_light
 performed_light WakeBitset c = none_light
 performed_light Requeue c = none_light
@@ -187,6 +203,11 @@ performed_light CmpRequeue c = let h = one_read c.tid (futex_at c) 4 (omega arit
 operation_light : (o : Option Operation) (c : Call) → AreLight (option_map_or (futex_by c) o (returns c enosys)).guest.events
 operation_light None c = none_light
 operation_light (Some o) c = light c (futex_tests o c) (λ x. performed o c) (λ passed. performed_light o c)
+
+nanosleep_light : (c : Call) → IsLightResult c (clock_nanosleep c)
+nanosleep_light c = light c (clock_nanosleep_tests c) (λ x. clock_nanosleep_effect c) (λ passed.
+    let h = one_read c.tid (arg c 2) time_size (omega arith) in
+    either_light (nat_le (nanosleep_end c) c.kernel.time) (λ r. r) (sleeps c (nanosleep_end c)) (returns c 0 ▷ reads c.tid (arg c 2) time_size) h h)
 
 -- ---- the calls in parts
 readv_events : (tid at n : ℕ) (ps : List IoVec) (bytes : List ℕ) (m : Guest) → n ≤ 1024 → length ps ≡ n → m.events ≡ read_event tid at (8 * n) → AreLight (filled_parts ps bytes m).events
@@ -226,7 +247,7 @@ writev_light c = light c (writev_tests c) (λ x. writev_effect c) (λ passed.
 every_call : (c : Call) → IsLightResult c (call c)
 unfolding table
 every_call = of_every_call IsLightResult
-    ((λ k. none_light), (openat_light, (close_light, (llseek_light, (read_light, (write_light, (readv_light, (writev_light, (exit_light, ((λ k. none_light), ((λ k. none_light), ((λ k. none_light), ((λ k. none_light), ((λ k. none_light), (sigprocmask_light, ((λ k. none_light), ((λ k. none_light), (brk_light, (munmap_light, (clone_light, (mmap2_light, (mprotect_light, ((λ k. none_light), (gettime_light, ((λ k. operation_light (operation k) k), tt)))))))))))))))))))))))))
+    ((λ k. none_light), (openat_light, (close_light, (llseek_light, (read_light, (write_light, (readv_light, (writev_light, (exit_light, ((λ k. none_light), ((λ k. none_light), ((λ k. none_light), ((λ k. none_light), ((λ k. none_light), (sigprocmask_light, ((λ k. none_light), ((λ k. none_light), (brk_light, (munmap_light, (clone_light, (mmap2_light, (mprotect_light, ((λ k. none_light), (gettime_light, (nanosleep_light, ((λ k. operation_light (operation k) k), tt))))))))))))))))))))))))))
     (λ k. none_light)
 
 pub every_call_light : EveryCallIsLight

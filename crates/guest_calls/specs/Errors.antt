@@ -48,6 +48,10 @@ espipe = minus 29
 abbrev pub enametoolong : ℕ
 enametoolong = minus 36
 
+-- Connection timed out
+abbrev pub etimedout : ℕ
+etimedout = minus 110
+
 -- Function not implemented
 abbrev pub enosys : ℕ
 enosys = minus 38

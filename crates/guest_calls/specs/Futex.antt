@@ -1,15 +1,18 @@
 -- Waiting at a word and waking: futex(2), with 64-bit times.
-use Rattle.std.specs.Prelude.{ℕ, ◌+◌, ◌-◌, ◌%◌, ◌^◌, Bool, true, false, not, ◌&&◌, ◌==◌, bit_and, List, [], ◌∷◌, length, Option, Some, None}
+use Rattle.std.specs.Prelude.{ℕ, ◌+◌, ◌-◌, ◌%◌, ◌^◌, Bool, true, false, not, ◌&&◌, ◌==◌, bit_and, nat_le, List, [], ◌∷◌, length, filter, is_none, is_some, unwrap_or, Option, Some, None, if◌then◌else◌}
 use Rattle.std.specs.Option.{option_map, option_map_or}
 use Rattle.std.specs.List.{find}
 use Rattle.futex_table.specs.declared.waiter.Waiter.{Waiter}
-use Rattle.futex_table.specs.Waiting.{all_bits, after_forget, after_wait, woken, after_wake, shifted, after_requeue}
+use Rattle.futex_table.specs.Once.{waits}
+use Rattle.futex_table.specs.Waiting.{all_bits, after_wait, woken, after_wake, shifted, after_shift}
+use Rattle.virtual_clock.specs.declared.deadline.Deadline.{Deadline}
 use Rattle.guest_calls.specs.declared.answer.Answer.TheVariants.{Back, Block}
 use Rattle.guest_calls.specs.declared.operation.Operation.{Operation}
 use Rattle.guest_calls.specs.declared.operation.Operation.TheVariants.{Wait, Wake, Requeue, CmpRequeue, WaitBitset, WakeBitset}
-use Rattle.guest_calls.specs.Errors.{eagain, efault, einval, enosys}
-use Rattle.guest_calls.specs.Kernel.{KernelState}
-use Rattle.guest_calls.specs.Results.{Call, CallResult, arg, returns, unless, ◌⇒◌, ◌or◌, ◌▷◌, either, answers, changes, reads, readable, word, has}
+use Rattle.guest_calls.specs.Errors.{eagain, efault, einval, enosys, etimedout}
+use Rattle.guest_calls.specs.Clock.{from_now, time_at, time_size, with_deadline}
+use Rattle.guest_calls.specs.Kernel.{KernelState, unblocked}
+use Rattle.guest_calls.specs.Results.{Call, CallResult, arg, returns, unless, ◌⇒◌, ◌or◌, ◌▷◌, either, when, answers, changes, reads, readable, word, has}
 
 abbrev pub operations : List (ℕ × Operation)
 operations = (0, Wait) ∷ (1, Wake) ∷ (3, Requeue) ∷ (4, CmpRequeue) ∷ (9, WaitBitset) ∷ (10, WakeBitset) ∷ []
@@ -62,30 +65,83 @@ futex_to c = arg c 4
 abbrev pub futex_value3 : Call → ℕ
 futex_value3 c = arg c 5
 
+-- ---- the limit of a wait
+-- it is a wait that names the address of one
+abbrev pub has_limit : Operation → Call → Bool
+has_limit o c = is_wait o && not (futex_limit c == 0)
+
+-- for FUTEX_WAIT the limit is so long after now, and for FUTEX_WAIT_BITSET it is the time itself
+abbrev pub limit_end : Operation → ℕ → ℕ → ℕ
+limit_end WaitBitset now time = time
+limit_end _ now time = from_now now time
+
+-- when a wait is over, where it has a limit
+abbrev pub wait_end : Operation → Call → Option ℕ
+wait_end o c =
+    if futex_limit c == 0 then None
+    else Some (limit_end o c.kernel.time (unwrap_or (time_at c.memory (futex_limit c)) 0))
+
+-- the end has come; a wait that has none is never over
+abbrev pub is_over : Option ℕ → ℕ → Bool
+is_over None now = false
+is_over (Some end) now = nat_le end now
+
 -- ---- the effects
 -- the word is read; where it is not the value, the answer is EAGAIN, and the read stays
 abbrev pub compares : Call → ℕ → (CallResult → CallResult) → CallResult → CallResult
 compares c value effect r =
     r ▷ reads c.tid (futex_at c) 4 ▷ either (word c (futex_at c) == value) effect (answers (Back eagain))
 
--- the thread begins to wait, with these bits
-abbrev pub waits_for : Call → ℕ → CallResult → CallResult
-waits_for c bits r =
-    r ▷ changes (λ k. record k { waiting = after_wait k.waiting (futex_at c) c.tid bits }) ▷ answers Block
+-- the thread is behind all others that wait, with these bits
+abbrev pub with_waiter : ℕ → ℕ → ℕ → KernelState → KernelState
+with_waiter at tid bits k = record k { waiting = after_wait k.waiting at tid bits }
+
+-- where its wait has an end, that is its deadline, with the answer ETIMEDOUT
+abbrev pub with_end : ℕ → Option ℕ → KernelState → KernelState
+with_end tid None k = k
+with_end tid (Some end) k = with_deadline tid end etimedout k
+
+-- the thread begins to wait, with these bits, until the end
+abbrev pub waits_for : Call → ℕ → Option ℕ → CallResult → CallResult
+waits_for c bits end r =
+    r ▷ changes (with_waiter (futex_at c) c.tid bits) ▷ changes (with_end c.tid end) ▷ answers Block
+
+-- A wait reads its limit, where it has one, and then the word. It begins where the word is the value and its end is ahead.
+abbrev pub waited : Call → ℕ → Option ℕ → CallResult
+waited c bits end =
+    returns c 0
+    ▷ when (is_some end) (reads c.tid (futex_limit c) time_size)
+    ▷ compares c (futex_value c) (either (is_over end c.kernel.time) (answers (Back etimedout)) (waits_for c bits end))
 
 -- this one waits no more
 abbrev pub woken_one : Option Waiter → KernelState → KernelState
 woken_one None k = k
-woken_one (Some w) k = record k { waiting = after_forget k.waiting w.tid }
+woken_one (Some w) k = unblocked w.tid k
 
--- the first `most` that wait at the address and meet the bits are woken
-abbrev pub wakes : ℕ → ℕ → ℕ → CallResult → CallResult
-wakes at most bits r = r ▷ changes (λ k. record k { waiting = after_wake k.waiting at most bits })
+-- the deadlines of all others than these
+abbrev pub deadlines_without : List Deadline → List Waiter → List Deadline
+deadlines_without deadlines gone = filter (λ d. not (waits gone d.tid)) deadlines
+
+-- the first `most` that wait at the address and meet the bits are woken, and have no deadline any more
+abbrev pub woken_at : ℕ → ℕ → ℕ → KernelState → KernelState
+woken_at at most bits k = record k {
+  waiting = after_wake k.waiting at most bits;
+  deadlines = deadlines_without k.deadlines (woken k.waiting at most bits);
+}
+
+-- the first `most` that wait at the address are moved to the other, and keep their deadlines
+abbrev pub moved_at : ℕ → ℕ → ℕ → KernelState → KernelState
+moved_at at most to k = record k { waiting = after_shift k.waiting at most to }
 
 -- the first are woken, and the next are moved to the other address
+abbrev pub requeued : ℕ → ℕ → ℕ → ℕ → KernelState → KernelState
+requeued at most shift to k = moved_at at shift to (woken_at at most all_bits k)
+
+abbrev pub wakes : ℕ → ℕ → ℕ → CallResult → CallResult
+wakes at most bits r = r ▷ changes (woken_at at most bits)
+
 abbrev pub requeues : Call → CallResult → CallResult
-requeues c r =
-    r ▷ changes (λ k. record k { waiting = after_requeue k.waiting (futex_at c) (futex_value c) (futex_limit c) (futex_to c) })
+requeues c r = r ▷ changes (requeued (futex_at c) (futex_value c) (futex_limit c) (futex_to c))
 
 abbrev pub count_woken : Call → ℕ → ℕ
 count_woken c bits = length (woken c.kernel.waiting (futex_at c) (futex_value c) bits)
@@ -94,8 +150,8 @@ abbrev pub count_shifted : Call → ℕ
 count_shifted c = length (shifted c.kernel.waiting (futex_at c) (futex_value c) (futex_limit c))
 
 abbrev pub performed : Operation → Call → CallResult
-performed Wait c = returns c 0 ▷ compares c (futex_value c) (waits_for c all_bits)
-performed WaitBitset c = returns c 0 ▷ compares c (futex_value c) (waits_for c (futex_value3 c))
+performed Wait c = waited c all_bits (wait_end Wait c)
+performed WaitBitset c = waited c (futex_value3 c) (wait_end WaitBitset c)
 performed Wake c = returns c (count_woken c all_bits) ▷ wakes (futex_at c) (futex_value c) all_bits
 performed WakeBitset c = returns c (count_woken c (futex_value3 c)) ▷ wakes (futex_at c) (futex_value c) (futex_value3 c)
 performed Requeue c = returns c (count_woken c all_bits) ▷ requeues c
@@ -107,7 +163,8 @@ futex_tests o c =
     or not (futex_at c % 4 == 0) ⇒ einval
     or is_requeue o && not (futex_to c % 4 == 0) ⇒ einval
     or has_bitset o && futex_value3 c == 0 ⇒ einval
-    or is_wait o && not (futex_limit c == 0) ⇒ enosys
+    or has_limit o c && not (readable c (futex_limit c) time_size) ⇒ efault
+    or has_limit o c && is_none (time_at c.memory (futex_limit c)) ⇒ einval
     or reads_word o && not (readable c (futex_at c) 4) ⇒ efault
 
 abbrev pub futex_by : Call → Operation → CallResult

@@ -1,11 +1,10 @@
 -- What holds of the kernel's state between calls.
 use Rattle.std.specs.Prelude.{◌≡◌, ℕ, ◌<◌, ◌≤◌, ◌^◌, false, List, [], ◌∷◌, length}
 use Rattle.guest_words.specs.declared.limits.TheConstants.{THREADS}
-use Rattle.futex_table.specs.Once.{waits}
 use Rattle.guest_calls.specs.declared.descriptor.Descriptor.{Descriptor}
 use Rattle.guest_calls.specs.declared.descriptor.Descriptor.TheVariants.{StandardInput, Output, InputFile}
 use Rattle.guest_calls.specs.declared.thread.Thread.{Thread}
-use Rattle.guest_calls.specs.Kernel.{KernelState, lives, descriptor}
+use Rattle.guest_calls.specs.Kernel.{KernelState, lives, is_blocked, descriptor}
 
 -- the numbers of the threads rise, from above one number up to another at most
 abbrev pub RisesTo : ℕ → List Thread → ℕ → Type 0
@@ -27,7 +26,7 @@ position_of k _ = 0
 pub record IsState (k : KernelState) : Type 0 where
   pub rising : RisesTo 0 k.threads k.last_tid
   pub few : length k.threads ≤ THREADS
-  -- who does not live does not wait
-  pub waiting_live : (tid : ℕ) → lives k tid ≡ false → waits k.waiting tid ≡ false
+  -- who does not live neither waits nor has a deadline
+  pub blocked_live : (tid : ℕ) → lives k tid ≡ false → is_blocked k tid ≡ false
   pub stdin_within : k.stdin_position < 2 ^ 63
   pub descriptors_sound : (fd : ℕ) → IsSoundDescriptor (descriptor k fd)

@@ -1,8 +1,12 @@
 -- What the kernel keeps of a guest.
-use Rattle.std.specs.Prelude.{ℕ, ◌+◌, ◌-◌, ◌^◌, min, Bool, not, ◌&&◌, ◌==◌, List, [], ◌∷◌, ◌++◌, map, filter, replicate, slice_set, slice_index_or, Option, Some, None}
+use Rattle.std.specs.Prelude.{ℕ, ◌+◌, ◌-◌, ◌^◌, min, Bool, not, ◌&&◌, ◌||◌, ◌==◌, List, [], ◌∷◌, ◌++◌, map, filter, replicate, slice_set, slice_index_or, Option, Some, None}
 use Rattle.std.specs.List.{list_any}
 use Rattle.futex_table.specs.declared.waiter.Waiter.{Waiter}
 use Rattle.futex_table.specs.Once.{waits}
+use Rattle.futex_table.specs.Waiting as futexes
+use Rattle.virtual_clock.specs.declared.deadline.Deadline.{Deadline}
+use Rattle.virtual_clock.specs.Once.{has}
+use Rattle.virtual_clock.specs.Steps as clock
 use Rattle.guest_calls.specs.declared.descriptor.Descriptor.{Descriptor}
 use Rattle.guest_calls.specs.declared.descriptor.Descriptor.TheVariants.{Closed, StandardInput, Output}
 use Rattle.guest_calls.specs.declared.thread.Thread.{Thread}
@@ -13,6 +17,8 @@ pub record KernelState : Type 0 where
   pub threads : List Thread
   -- those of them that wait at a futex, in order of waiting
   pub waiting : List Waiter
+  -- when those of them wake that wait for a time, also at a futex
+  pub deadlines : List Deadline
   -- what the numbers 0 to 31 stand for
   pub descriptors : List Descriptor
   pub stdin : List ℕ
@@ -31,6 +37,7 @@ abbrev pub started : List Input → List ℕ → ℕ → KernelState
 started inputs stdin first_break = record {
   threads = record { tid = 1; clear_tid = 0 } ∷ [];
   waiting = [];
+  deadlines = [];
   descriptors = StandardInput ∷ Output 1 ∷ Output 2 ∷ [] ++ replicate 29 Closed;
   stdin = stdin;
   stdin_position = 0;
@@ -68,9 +75,18 @@ is_thread tid t = t.tid == tid
 abbrev pub lives : KernelState → ℕ → Bool
 lives k tid = list_any (is_thread tid) k.threads
 
--- a thread can run where it lives and does not wait
+-- a thread is blocked where it waits at a futex or has a deadline
+abbrev pub is_blocked : KernelState → ℕ → Bool
+is_blocked k tid = waits k.waiting tid || has k.deadlines tid
+
+-- a thread can run where it lives, is not in the waiting list and has no deadline
 abbrev pub can_run : KernelState → ℕ → Bool
-can_run k tid = lives k tid && not (waits k.waiting tid)
+can_run k tid = lives k tid && not (is_blocked k tid)
+
+-- the thread is not blocked any more
+abbrev pub unblocked : ℕ → KernelState → KernelState
+unblocked tid k =
+    record k { waiting = futexes.after_forget k.waiting tid; deadlines = clock.after_forget k.deadlines tid }
 
 abbrev pub other_threads : KernelState → ℕ → List Thread
 other_threads k tid = filter (λ t. not (is_thread tid t)) k.threads
@@ -81,7 +97,7 @@ has_others k tid = list_any (λ t. not (is_thread tid t)) k.threads
 
 -- the live threads by rising number, each with whether it can run
 abbrev pub ready : KernelState → List (ℕ × Bool)
-ready k = map (λ t. (t.tid, not (waits k.waiting t.tid))) k.threads
+ready k = map (λ t. (t.tid, not (is_blocked k t.tid))) k.threads
 
 -- ---- the kernel between calls
 -- bytes that go out, with their channel; of no byte there is nothing

@@ -1,5 +1,5 @@
 -- What holds of every call.
-use Rattle.std.specs.Prelude.{◌≡◌, ℕ, ◌≤◌, ◌+◌, false, List, [], ◌∷◌, length}
+use Rattle.std.specs.Prelude.{◌≡◌, ◌↔◌, ℕ, ◌≤◌, ◌+◌, false, List, [], ◌∷◌, length, None}
 use Rattle.guest_words.specs.declared.limits.TheConstants.{CALL_EVENTS}
 use Rattle.trace_model.specs.declared.event_kinds.Event.{Event}
 use Rattle.trace_model.specs.declared.event_kinds.Event.TheVariants.{Read, Fill}
@@ -11,6 +11,7 @@ use Rattle.guest_calls.specs.Kernel.{KernelState}
 use Rattle.guest_calls.specs.Pages.{IsBreakFree}
 use Rattle.guest_calls.specs.Results.{Call}
 use Rattle.guest_calls.specs.Table.{call}
+use Rattle.guest_calls.specs.Waking.{IsAwake, next_due}
 
 -- the copies of one call are few events that read few words
 abbrev pub EveryCallIsLight : Type 0
@@ -46,3 +47,7 @@ GivesNumber _ old new = new.last_tid ≡ old.last_tid
 
 abbrev pub EveryCallGivesNumber : Type 0
 EveryCallGivesNumber = (c : Call) → GivesNumber (call c).answer c.kernel (call c).kernel
+
+-- no thread is woken exactly where no deadline is due, and a thread can run or no deadline is left
+abbrev pub WakesExactly : Type 0
+WakesExactly = (k : KernelState) → (next_due k ≡ None) ↔ IsAwake k

@@ -16,5 +16,6 @@ pub mod State
 pub mod Table
 pub mod Threads
 pub mod Vectors
+pub mod Waking
 -- What the private parts owe one another.
 pub mod IoVecRefusal

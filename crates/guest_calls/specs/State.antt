@@ -10,6 +10,7 @@ abbrev pub state_in : Inside → KernelState
 state_in s = record {
   threads = s.threads.items;
   waiting = s.waiting;
+  deadlines = s.deadlines;
   descriptors = s.descriptors;
   stdin = s.stdin.items;
   stdin_position = s.stdin_position;

@@ -6,7 +6,7 @@ use Rattle.guest_calls.specs.Files.{openat, close, llseek, read, write}
 use Rattle.guest_calls.specs.Vectors.{readv, writev}
 use Rattle.guest_calls.specs.Pages.{brk, munmap, mmap2, mprotect}
 use Rattle.guest_calls.specs.Threads.{exit, exit_group, set_tid_address, sched_yield, rt_sigprocmask}
-use Rattle.guest_calls.specs.Clock.{clock_gettime}
+use Rattle.guest_calls.specs.Clock.{clock_gettime, clock_nanosleep}
 use Rattle.guest_calls.specs.Clone.{clone}
 use Rattle.guest_calls.specs.Futex.{futex}
 
@@ -61,6 +61,7 @@ table =
     ∷ (226, mprotect)
     ∷ (233, madvise)
     ∷ (403, clock_gettime)
+    ∷ (407, clock_nanosleep)
     ∷ (422, futex)
     ∷ []
 

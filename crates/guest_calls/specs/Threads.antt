@@ -44,7 +44,7 @@ exit c =
 -- no thread lives any more, and all reservations go
 abbrev pub ends_all : CallResult → CallResult
 ends_all r = record r {
-  kernel = record r.kernel { threads = []; waiting = [] };
+  kernel = record r.kernel { threads = []; waiting = []; deadlines = [] };
   guest = record r.guest { held = nothing_reserved };
 }
 

@@ -1,15 +1,23 @@
-//! Reading the clock: clock_gettime(2).
-ghost use Rattle.std.specs.Prelude.{◌≡◌, ◌≤◌, ◌+◌};
-ghost use Rattle.guest_calls.specs.Clock.{is_clock, time_bytes};
+//! The clock: clock_gettime(2) and clock_nanosleep(2).
+ghost use Rattle.std.specs.Prelude.{◌≡◌, ◌≤◌, ◌+◌, nat_le, true, false, if◌then◌else◌};
+ghost use Rattle.guest_memory.specs.declared.reservations.Reservations.{Reservations};
+ghost use Rattle.guest_memory.specs.Guest.{memory_of};
+ghost use Rattle.rv_exec.specs.Accesses.{can_read};
+ghost use Rattle.virtual_clock.specs.Once.{has};
+ghost use Rattle.guest_calls.specs.Clock.{from_now, is_clock, sleep_end, time_at, time_bytes, time_of, with_deadline};
+ghost use Rattle.guest_calls.specs.Kernel.{can_run, lives};
+ghost use Rattle.guest_calls.specs.declared.answer.Answer.TheVariants.{Back, Block};
 ghost use Rattle.guest_calls.specs.Clock as specs;
 ghost use Rattle.guest_calls.specs.Outcome.{asked, Does};
 
 use crate::Answer;
 use crate::caller::Caller;
-use crate::copies::fill;
+use crate::copies::{fill, note_read};
 use crate::errors::{EFAULT, EINVAL};
 use crate::state::State;
+use crate::vectors::word_at;
 use guest_memory::{GuestMemory, Reservations};
+use guest_words::{Addr, Tid};
 use trace_model::Events;
 
 /// CLOCK_MONOTONIC, the last clock there is; the other is CLOCK_REALTIME 0.
@@ -18,7 +26,13 @@ const CLOCK_MONOTONIC: u32 = 1;
 const SECOND: u64 = 1_000_000_000;
 
 /// A time has this many bytes: the seconds, the nanoseconds, and padding.
-const TIME_SIZE: usize = 16;
+pub(crate) const TIME_SIZE: usize = 16;
+
+/// The greatest signed number of 64 bits. No time and no deadline is later.
+const LATEST: u64 = i64::MAX as u64;
+
+/// TIMER_ABSTIME: the time is no time from now on.
+const TIMER_ABSTIME: u32 = 1;
 
 /// Whether there is such a clock.
 fn is_clock(clock: u32) -> bool
@@ -37,6 +51,34 @@ fn time_bytes(time: u64) -> [u8; TIME_SIZE]
     bytes[..8].copy_from_slice(&seconds);
     bytes[8..12].copy_from_slice(&rest);
     bytes
+}
+
+/// The time at an address, each byte of which can be read, in nanoseconds. None where one of its numbers is negative, or the
+/// nanoseconds are a second or more.
+#[tactic(auto, using(crate::proofs::Reach::reads_within, crate::proofs::Reach::readable_end))]
+pub(crate) fn time_at(memory: &GuestMemory, at: Addr) -> Option<u64>
+    requires reach { can_read (memory_of memory.now) at 16 ≡ true }
+    ensures { result ≡ time_at (memory_of memory.now) at }
+{
+    let low = u64::from(word_at(memory, at));
+    let high = u64::from(word_at(memory, at + 4));
+    time_of(low + (high << 32), word_at(memory, at + 8))
+}
+
+/// The time of so many seconds and nanoseconds, each the bits of a signed number.
+fn time_of(seconds: u64, nanoseconds: u32) -> Option<u64>
+    ensures { result ≡ time_of seconds nanoseconds }
+{
+    let rest = u64::from(nanoseconds);
+    if seconds > LATEST || rest >= SECOND {
+        return None;
+    }
+    Some(
+        seconds
+            .saturating_mul(SECOND)
+            .saturating_add(rest)
+            .min(LATEST),
+    )
 }
 
 impl State {
@@ -61,5 +103,73 @@ impl State {
         }
         fill(memory, held, events, at, &time_bytes(self.time));
         Answer::Back { value: 0 }
+    }
+
+    /// So long after now.
+    pub(crate) fn from_now(&self, time: u64) -> u64
+        ensures { result ≡ from_now self.now.time time }
+    {
+        self.time.saturating_add(time).min(LATEST)
+    }
+
+    /// When a sleep of so long is over, or until then.
+    fn sleep_end(&self, flags: u32, time: u64) -> u64
+        ensures { result ≡ sleep_end flags self.now.time time }
+    {
+        if flags & TIMER_ABSTIME != 0 {
+            time
+        } else {
+            self.from_now(time)
+        }
+    }
+
+    /// The thread, which has no deadline, wakes at the time, with the answer.
+    pub(crate) fn set_deadline(&mut self, tid: Tid, at: u64, answer: u32)
+        requires lives { lives self.old tid ≡ true }
+        requires none { has self.old.deadlines tid ≡ false }
+        ensures { self.new ≡ with_deadline tid at answer self.old }
+    {
+        let _ = self.deadlines.has(tid);
+        self.deadlines.set(tid, at, answer);
+    }
+
+    /// The thread sleeps until then, where that is ahead.
+    fn sleep_until(&mut self, tid: Tid, end: u64) -> Answer
+        requires can_run { can_run self.old tid ≡ true }
+        ensures answer { result ≡ (if nat_le end self.old.time then Back 0 else Block) }
+        ensures after { self.new ≡ (if nat_le end self.old.time then self.old else with_deadline tid end 0 self.old) }
+    {
+        if end <= self.time {
+            return Answer::Back { value: 0 };
+        }
+        self.set_deadline(tid, end, 0);
+        Answer::Block
+    }
+
+    /// clock_nanosleep(2)
+    pub(crate) fn clock_nanosleep(
+        &mut self,
+        memory: &GuestMemory,
+        events: &mut Events,
+        caller: &Caller,
+    ) -> Answer
+        requires can_run { can_run self.old caller.now.tid ≡ true }
+        requires room { 1 ≤ events.old.room }
+        ensures does { (held : Reservations) → Does (specs.clock_nanosleep (asked caller.now self.old memory.now held)) result self.new memory.now held events.old events.new }
+        ensures room { events.old.room ≤ events.new.room + 1 }
+    {
+        if !is_clock(caller.argument(0)) {
+            return Answer::Back { value: EINVAL };
+        }
+        let at = caller.argument(2);
+        if !memory.can_read(at, TIME_SIZE as u64) {
+            return Answer::Back { value: EFAULT };
+        }
+        let Some(time) = time_at(memory, at) else {
+            return Answer::Back { value: EINVAL };
+        };
+        note_read(memory, events, caller.tid, at, TIME_SIZE as u32);
+        let end = self.sleep_end(caller.argument(1), time);
+        self.sleep_until(caller.tid, end)
     }
 }

@@ -23,3 +23,5 @@ pub const ESPIPE: u32 = u32::MAX - 28;
 pub const ENAMETOOLONG: u32 = u32::MAX - 35;
 
 pub const ENOSYS: u32 = u32::MAX - 37;
+
+pub const ETIMEDOUT: u32 = u32::MAX - 109;

@@ -1,23 +1,28 @@
 //! Waiting at a word and waking: futex(2).
-ghost use Rattle.std.specs.Prelude.{◌≡◌, ◌≢◌, ◌≤◌, ◌==◌, ◌++◌, ◌+◌, length, slice_index, true, IfNone};
-ghost use Rattle.futex_table.specs.Waiting.{after_wait, after_requeue, all_bits, shifted, woken};
+ghost use Rattle.std.specs.Prelude.{◌≡◌, ◌≢◌, ◌≤◌, ◌==◌, ◌++◌, ◌+◌, ◌&&◌, [], length, not, slice_index, true, false, is_none, is_some, IfNone, if◌then◌else◌};
+ghost use Rattle.futex_table.specs.Waiting.{all_bits, shifted, woken};
+ghost use Rattle.virtual_clock.specs.Once.{has};
 ghost use Rattle.guest_memory.specs.declared.reservations.Reservations.{Reservations};
 ghost use Rattle.guest_memory.specs.Guest.{memory_of};
 ghost use Rattle.guest_memory.specs.Memory.{number_at};
 ghost use Rattle.guest_memory.specs.declared.memory.GuestMemory.{GuestMemory};
 ghost use Rattle.trace_model.specs.EventList.{EventList};
+ghost use Rattle.guest_calls.specs.declared.answer.Answer.TheVariants.{Back, Block};
 ghost use Rattle.guest_calls.specs.declared.operation.Operation.TheVariants.{Requeue, CmpRequeue};
 ghost use Rattle.rv_exec.specs.Accesses.{can_read};
-ghost use Rattle.guest_calls.specs.Futex.{compares, count_woken, futex_at, futex_tests, futex_value, has_bitset, performed, reads_word, waits_for, wakes};
+ghost use Rattle.guest_calls.specs.Futex.{count_woken, futex_at, futex_tests, futex_value, has_bitset, is_over, is_wait, limit_end, moved_at, performed, reads_word, requeued, wait_end, waited, wakes, with_end, with_waiter};
+ghost use Rattle.guest_calls.specs.Clock.{time_at};
+ghost use Rattle.guest_calls.specs.Errors.{etimedout};
 ghost use Rattle.guest_calls.specs.Futex as specs;
-ghost use Rattle.guest_calls.specs.Kernel.{KernelState, can_run};
+ghost use Rattle.guest_calls.specs.Kernel.{KernelState, can_run, lives};
 ghost use Rattle.guest_calls.specs.Outcome.{asked, Does};
 ghost use Rattle.guest_calls.specs.Results.{first_answer, read_event, returns, ◌▷◌};
 
 use crate::Answer;
 use crate::caller::Caller;
+use crate::clock::{TIME_SIZE, time_at};
 use crate::copies::note_read;
-use crate::errors::{EAGAIN, EFAULT, EINVAL, ENOSYS};
+use crate::errors::{EAGAIN, EFAULT, EINVAL, ENOSYS, ETIMEDOUT};
 use crate::operation::Operation;
 use crate::state::State;
 use crate::vectors::word_at;
@@ -35,11 +40,36 @@ const NUMBER_BITS: u32 = u32::MAX - 128 - FUTEX_CLOCK_REALTIME;
 /// The bits of a wait or a wake that names none.
 const ALL_BITS: u32 = u32::MAX;
 
+/// Whether it is a wait with a limit.
+fn has_limit(operation: Operation, caller: &Caller) -> bool
+    ensures { result ≡ (is_wait operation && not (slice_index caller.now.cpu.regs 13 == 0)) }
+{
+    operation.is_wait() && caller.argument(3) != 0
+}
+
+/// Whether it is a wait whose limit can't be read.
+fn is_limit_denied(memory: &GuestMemory, caller: &Caller, operation: Operation) -> bool
+    ensures { result ≡ ((is_wait operation && not (slice_index caller.now.cpu.regs 13 == 0)) && not (can_read (memory_of memory.now) (slice_index caller.now.cpu.regs 13) 16)) }
+{
+    has_limit(operation, caller) && !memory.can_read(caller.argument(3), TIME_SIZE as u64)
+}
+
+/// Whether it is a wait whose limit, which can be read, is a bad time.
+#[tactic(auto, using(crate::proofs::Passed::asked_reach))]
+fn is_limit_bad(memory: &GuestMemory, caller: &Caller, operation: Operation) -> bool
+    requires { ((is_wait operation && not (slice_index caller.now.cpu.regs 13 == 0)) && not (can_read (memory_of memory.now) (slice_index caller.now.cpu.regs 13) 16)) ≡ false }
+    ensures { result ≡ ((is_wait operation && not (slice_index caller.now.cpu.regs 13 == 0)) && is_none (time_at (memory_of memory.now) (slice_index caller.now.cpu.regs 13))) }
+{
+    has_limit(operation, caller) && time_at(memory, caller.argument(3)).is_none()
+}
+
 /// The answer of the first test that holds.
+#[tactic(auto, using(crate::proofs::Waits::limit_in_reach))]
 fn refusal(memory: &GuestMemory, caller: &Caller, operation: Operation) -> Option<u32>
     ensures value { (state : KernelState) (held : Reservations) → result ≡ first_answer (futex_tests operation (asked caller.now state memory.now held)) }
     ensures reach { IfNone result (reads_word operation ≡ true → can_read (memory_of memory.now) (slice_index caller.now.cpu.regs 10) 4 ≡ true) }
     ensures bits { IfNone result (has_bitset operation ≡ true → slice_index caller.now.cpu.regs 15 ≢ 0) }
+    ensures limit { IfNone result (is_wait operation ≡ true → slice_index caller.now.cpu.regs 13 ≢ 0 → can_read (memory_of memory.now) (slice_index caller.now.cpu.regs 13) 16 ≡ true) }
 {
     let at = caller.argument(0);
     if caller.argument(1) & FUTEX_CLOCK_REALTIME != 0 && !operation.is_wait() {
@@ -54,8 +84,11 @@ fn refusal(memory: &GuestMemory, caller: &Caller, operation: Operation) -> Optio
     if operation.has_bitset() && caller.argument(5) == 0 {
         return Some(EINVAL);
     }
-    if operation.is_wait() && caller.argument(3) != 0 {
-        return Some(ENOSYS);
+    if is_limit_denied(memory, caller, operation) {
+        return Some(EFAULT);
+    }
+    if is_limit_bad(memory, caller, operation) {
+        return Some(EINVAL);
     }
     if operation.reads_word() && !memory.can_read(at, 4) {
         return Some(EFAULT);
@@ -76,16 +109,102 @@ fn compare(memory: &GuestMemory, events: &mut Events, caller: &Caller, value: u3
     word_at(memory, at) == value
 }
 
+/// The limit of a wait is read, where it has one, and the read is an event.
+fn note_limit(memory: &GuestMemory, events: &mut Events, caller: &Caller, end: Option<u64>)
+    requires reach { is_some end ≡ true → can_read (memory_of memory.now) (slice_index caller.now.cpu.regs 13) 16 ≡ true }
+    requires room { 1 ≤ events.old.room }
+    ensures events { events.new.list ≡ events.old.list ++ (if is_some end then read_event caller.now.tid (slice_index caller.now.cpu.regs 13) 16 else []) }
+    ensures room { events.old.room ≤ events.new.room + 1 }
+{
+    if end.is_some() {
+        let limit = caller.argument(3);
+        note_read(memory, events, caller.tid, limit, TIME_SIZE as u32);
+    }
+}
+
 impl State {
+    /// When a wait with a limit is over.
+    fn limit_end(&self, operation: Operation, time: u64) -> u64
+        ensures { result ≡ limit_end operation self.now.time time }
+    {
+        match operation {
+            Operation::WaitBitset => time,
+            _ => self.from_now(time),
+        }
+    }
+
+    /// When a wait is over, where it has a limit.
+    fn wait_end(&self, memory: &GuestMemory, caller: &Caller, operation: Operation) -> Option<u64>
+        requires reach { slice_index caller.now.cpu.regs 13 ≢ 0 → can_read (memory_of memory.now) (slice_index caller.now.cpu.regs 13) 16 ≡ true }
+        ensures value { (held : Reservations) → result ≡ wait_end operation (asked caller.now self.now memory.now held) }
+        ensures reach { is_some result ≡ true → can_read (memory_of memory.now) (slice_index caller.now.cpu.regs 13) 16 ≡ true }
+    {
+        let limit = caller.argument(3);
+        if limit == 0 {
+            return None;
+        }
+        let time = time_at(memory, limit).unwrap_or(0);
+        Some(self.limit_end(operation, time))
+    }
+
+    /// Whether the time has come.
+    fn is_over(&self, end: Option<u64>) -> bool
+        ensures { result ≡ is_over end self.now.time }
+    {
+        match end {
+            Some(end) => end <= self.time,
+            None => false,
+        }
+    }
+
+    /// The thread, which has no deadline, has the end of its wait as one, where there is one.
+    fn set_end(&mut self, tid: Tid, end: Option<u64>)
+        requires lives { lives self.old tid ≡ true }
+        requires none { has self.old.deadlines tid ≡ false }
+        ensures { self.new ≡ with_end tid end self.old }
+    {
+        if let Some(end) = end {
+            self.set_deadline(tid, end, ETIMEDOUT);
+        }
+    }
+
+    /// The thread begins to wait until the end, where that is ahead.
+    fn wait_until(&mut self, at: Addr, tid: Tid, bits: u32, end: Option<u64>) -> Answer
+        requires can_run { can_run self.old tid ≡ true }
+        requires bits { bits ≢ 0 }
+        ensures answer { result ≡ (if is_over end self.old.time then Back etimedout else Block) }
+        ensures after { self.new ≡ (if is_over end self.old.time then self.old else with_end tid end (with_waiter at tid bits self.old)) }
+    {
+        if self.is_over(end) {
+            return Answer::Back { value: ETIMEDOUT };
+        }
+        self.begin_to_wait(at, tid, bits);
+        self.set_end(tid, end);
+        Answer::Block
+    }
+
     /// The thread begins to wait.
     fn begin_to_wait(&mut self, at: Addr, tid: Tid, bits: u32)
         requires can_run { can_run self.old tid ≡ true }
         requires bits { bits ≢ 0 }
-        ensures { self.new ≡ record self.old { waiting = after_wait self.old.waiting at tid bits } }
+        ensures after { self.new ≡ with_waiter at tid bits self.old }
+        ensures lives { lives self.new tid ≡ true }
+        ensures none { has self.new.deadlines tid ≡ false }
     {
         let waiting = self.waiting.len();
         prove!(waiting < self.threads.len());
         self.waiting.wait(at, tid, bits);
+    }
+
+    /// Moves the first that wait at the address to another, and answers how many. They keep their deadlines.
+    fn move_waiters(&mut self, at: Addr, most: u32, to: Addr) -> u32
+        ensures moved { result ≡ length (woken self.old.waiting at most all_bits) }
+        ensures few { result ≤ THREADS }
+        ensures after { self.new ≡ moved_at at most to self.old }
+    {
+        let _ = self.waiting.len();
+        let (_, moved) = self.waiting.requeue(at, 0, most, to);
+        moved
     }
 
     /// Wakes the first that wait at the address, and moves the next to another. Answers how many of each.
@@ -93,32 +212,37 @@ impl State {
         ensures woken { result.0 ≡ length (woken self.old.waiting at most all_bits) }
         ensures moved { result.1 ≡ length (shifted self.old.waiting at most shift) }
         ensures few { (result.0 ≤ THREADS) × (result.1 ≤ THREADS) }
-        ensures after { self.new ≡ record self.old { waiting = after_requeue self.old.waiting at most shift to } }
+        ensures after { self.new ≡ requeued at most shift to self.old }
     {
         let _ = self.waiting.len();
-        self.waiting.requeue(at, most, shift, to)
+        let count = self.wake(at, most, ALL_BITS);
+        let moved = self.move_waiters(at, shift, to);
+        (count, moved)
     }
 
-    /// FUTEX_WAIT and FUTEX_WAIT_BITSET: the thread waits where the word is the value.
+    /// FUTEX_WAIT and FUTEX_WAIT_BITSET: the thread waits where the word is the value and its end is ahead.
     fn futex_wait(
         &mut self,
         memory: &GuestMemory,
         events: &mut Events,
         caller: &Caller,
+        operation: Operation,
         bits: u32,
     ) -> Answer
         requires can_run { can_run self.old caller.now.tid ≡ true }
         requires reach { can_read (memory_of memory.now) (slice_index caller.now.cpu.regs 10) 4 ≡ true }
+        requires limit { slice_index caller.now.cpu.regs 13 ≢ 0 → can_read (memory_of memory.now) (slice_index caller.now.cpu.regs 13) 16 ≡ true }
         requires bits { bits ≢ 0 }
-        requires room { 1 ≤ events.old.room }
-        ensures does { (held : Reservations) → let c = asked caller.now self.old memory.now held in Does (returns c 0 ▷ compares c (futex_value c) (waits_for c bits)) result self.new memory.now held events.old events.new }
-        ensures room { events.old.room ≤ events.new.room + 1 }
+        requires room { 2 ≤ events.old.room }
+        ensures does { (held : Reservations) → let c = asked caller.now self.old memory.now held in Does (waited c bits (wait_end operation c)) result self.new memory.now held events.old events.new }
+        ensures room { events.old.room ≤ events.new.room + 2 }
     {
+        let end = self.wait_end(memory, caller, operation);
+        note_limit(memory, events, caller, end);
         if !compare(memory, events, caller, caller.argument(2)) {
             return Answer::Back { value: EAGAIN };
         }
-        self.begin_to_wait(caller.argument(0), caller.tid, bits);
-        Answer::Block
+        self.wait_until(caller.argument(0), caller.tid, bits, end)
     }
 
     /// FUTEX_WAKE and FUTEX_WAKE_BITSET
@@ -178,9 +302,9 @@ impl State {
         caller: &Caller,
     ) -> Answer
         requires can_run { can_run self.old caller.now.tid ≡ true }
-        requires room { 1 ≤ events.old.room }
+        requires room { 2 ≤ events.old.room }
         ensures does { (held : Reservations) → Does (specs.futex (asked caller.now self.old memory.now held)) result self.new memory.now held events.old events.new }
-        ensures room { events.old.room ≤ events.new.room + 1 }
+        ensures room { events.old.room ≤ events.new.room + 2 }
     {
         let Some(operation) = Operation::numbered(caller.argument(1) & NUMBER_BITS) else {
             return Answer::Back { value: ENOSYS };
@@ -189,8 +313,13 @@ impl State {
             return Answer::Back { value: errno };
         }
         match operation {
-            Operation::Wait => self.futex_wait(memory, events, caller, ALL_BITS),
-            Operation::WaitBitset => self.futex_wait(memory, events, caller, caller.argument(5)),
+            Operation::Wait => {
+                self.futex_wait(memory, events, caller, Operation::Wait, ALL_BITS)
+            }
+            Operation::WaitBitset => {
+                let bits = caller.argument(5);
+                self.futex_wait(memory, events, caller, Operation::WaitBitset, bits)
+            }
             Operation::Wake => self.futex_wake(caller, ALL_BITS),
             Operation::WakeBitset => self.futex_wake(caller, caller.argument(5)),
             Operation::Requeue => self.futex_requeue(caller),

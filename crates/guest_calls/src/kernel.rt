@@ -3,8 +3,10 @@ ghost use Rattle.std.specs.Prelude.{◌≡◌, ◌≤◌, ◌+◌, true, None, I
 ghost use Rattle.std.specs.Option.{option_map};
 ghost use Rattle.guest_memory.specs.Guest.{memory_of};
 ghost use Rattle.guest_calls.specs.Invariant.{IsState};
-ghost use Rattle.guest_calls.specs.Kernel.{started, can_run, later, ready};
+ghost use Rattle.guest_calls.specs.Kernel.{started, can_run, later, lives, ready};
 ghost use Rattle.guest_calls.specs.Pages.{IsBreakFree};
+ghost use Rattle.guest_calls.specs.Waking.{moved_on, next_due, woken_by_time};
+ghost use Rattle.virtual_clock.specs.Order.{IsDue};
 ghost use Rattle.guest_calls.specs.Outcome.{asked, Gives, IsAsBefore};
 ghost use Rattle.guest_calls.specs.Table.{call};
 
@@ -85,8 +87,8 @@ impl Kernel {
         }
     }
 
-    /// Carries out the call that the thread's registers hold: the number in a7, the arguments in a0 to a5. It is a step, so
-    /// that the time goes on first. The copies from and to the guest are added to the events, in order, at most `CALL_EVENTS`
+    /// Carries out the call that the thread's registers hold: the number in a7, the arguments in a0 to a5. The thread can run,
+    /// so it does not wait and has no deadline. The call is a step, so that the time goes on first. The copies from and to the guest are added to the events, in order, at most `CALL_EVENTS`
     /// of them; that a thread is born or ends is not. All memory is taken before anything changes.
     pub fn call(
         &mut self,
@@ -122,11 +124,26 @@ impl Kernel {
         self.state.tick();
     }
 
-    /// Whether the thread lives and does not wait.
+    /// Whether the thread lives, does not wait and has no deadline.
     pub fn can_run(&self, tid: Tid) -> bool
         ensures { result ≡ can_run self.now.state tid }
     {
         self.state.can_run(tid)
+    }
+
+    /// Wakes the thread whose deadline is due first, by time and then by thread, and says with which answer; its place among
+    /// those that wait goes too. Where none is due and no thread can run, the time first goes on to the earliest deadline, if
+    /// there is one. None where nothing is due, and a thread can run or no deadline is left.
+    pub fn wake_due(&mut self) -> Option<(Tid, u32)>
+        ensures due { result ≡ option_map (λ d. (d.tid, d.answer)) (next_due self.old.state) }
+        ensures first { IsDue self.old.state.deadlines (moved_on self.old.state).time result }
+        ensures after { self.new ≡ record self.old { state = woken_by_time self.old.state } }
+        ensures lives { IfSome result (λ woken. lives self.old.state woken.0 ≡ true) }
+        ensures state { IsState self.new.state }
+    {
+        let woken = self.state.wake_due();
+        self.state.holds();
+        woken
     }
 
     /// The channel, 1 or 2, and the bytes of the last call, where it was a write of at least one byte.

@@ -1,5 +1,5 @@
 //! Laws of the calls: each is the contract of a function that does nothing.
-ghost use Rattle.guest_calls.specs.Laws.{EveryCallCopies, EveryCallGivesNumber, EveryCallHasFewEvents, EveryCallIsLight, EveryCallKeepsTheBreakFree};
+ghost use Rattle.guest_calls.specs.Laws.{EveryCallCopies, EveryCallGivesNumber, EveryCallHasFewEvents, EveryCallIsLight, EveryCallKeepsTheBreakFree, WakesExactly};
 
 /// The events of one call weigh at most 65536, and are at most `CALL_EVENTS`.
 pub fn every_call_is_light()
@@ -17,4 +17,9 @@ pub fn every_call_keeps_the_break_free()
 pub fn every_call_is_traced()
     ensures copies { EveryCallCopies }
     ensures numbers { EveryCallGivesNumber }
+{}
+
+/// No thread is woken exactly where no deadline is due, and a thread can run or no deadline is left.
+pub fn wakes_exactly()
+    ensures exactly { WakesExactly }
 {}

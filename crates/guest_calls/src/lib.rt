@@ -25,9 +25,12 @@ mod table;
 mod thread;
 mod threads;
 mod vectors;
+mod waking;
 mod writes;
 
 pub use answer::Answer;
 pub use inputs::Inputs;
 pub use kernel::Kernel;
-pub use laws::{every_call_is_light, every_call_is_traced, every_call_keeps_the_break_free};
+pub use laws::{
+    every_call_is_light, every_call_is_traced, every_call_keeps_the_break_free, wakes_exactly,
+};

@@ -1,7 +1,7 @@
 //! What the kernel keeps of a guest.
 ghost use Rattle.std.specs.Prelude.{◌≡◌, IfOk};
 ghost use Rattle.guest_calls.specs.Invariant.{IsState};
-ghost use Rattle.guest_calls.specs.Kernel.{can_run, later, lives, ready, started};
+ghost use Rattle.guest_calls.specs.Kernel.{can_run, is_blocked, later, lives, ready, started};
 
 use crate::Inputs;
 use crate::descriptor::Descriptor;
@@ -11,6 +11,7 @@ use guest_words::limits::THREADS;
 use guest_words::{Addr, ReadyList, Tid};
 use std::alloc::{AllocError, Global};
 use std::marker::Model;
+use virtual_clock::Deadlines;
 
 /// The numbers of descriptors are 0 to 31.
 const DESCRIPTORS: usize = 32;
@@ -24,6 +25,7 @@ pub(crate) struct State {
     pub(crate) alloc: Global,
     pub(crate) threads: Vec<Thread>,
     pub(crate) waiting: FutexTable,
+    pub(crate) deadlines: Deadlines,
     pub(crate) descriptors: [Descriptor; DESCRIPTORS],
     pub(crate) stdin: Vec<u8>,
     pub(crate) stdin_position: u64,
@@ -69,6 +71,7 @@ impl State {
             alloc,
             threads,
             waiting: FutexTable::new(alloc)?,
+            deadlines: Deadlines::new(alloc)?,
             descriptors,
             stdin,
             stdin_position: 0,
@@ -108,8 +111,15 @@ impl State {
     {
         *into = ReadyList::new();
         for t in &self.threads {
-            into.push(t.tid, !self.waiting.waits(t.tid));
+            into.push(t.tid, !self.is_blocked(t.tid));
         }
+    }
+
+    /// Whether the thread waits or has a deadline.
+    pub(crate) fn is_blocked(&self, tid: Tid) -> bool
+        ensures { result ≡ is_blocked self.now tid }
+    {
+        self.waiting.waits(tid) || self.deadlines.has(tid)
     }
 
     /// Whether the thread lives.
@@ -119,10 +129,10 @@ impl State {
         self.threads.iter().any(|t| t.tid == tid)
     }
 
-    /// Whether the thread lives and does not wait.
+    /// Whether the thread lives, does not wait and has no deadline.
     pub fn can_run(&self, tid: Tid) -> bool
         ensures { result ≡ can_run self.now tid }
     {
-        self.lives(tid) && !self.waiting.waits(tid)
+        self.lives(tid) && !self.is_blocked(tid)
     }
 }

@@ -71,6 +71,7 @@ impl State {
             222 => mmap2(memory, caller),
             226 => Ok(mprotect(memory, caller)),
             403 => Ok(self.clock_gettime(memory, held, events, caller)),
+            407 => Ok(self.clock_nanosleep(memory, events, caller)),
             422 => Ok(self.futex(memory, events, caller)),
             number => Ok(Answer::Back {
                 value: constant_answer(number),

@@ -2,12 +2,12 @@
 ghost use Rattle.std.specs.Prelude.{◌≡◌, ◌≤◌, ℕ, ◌+◌, length, true, not, map, filter, is_some};
 ghost use Rattle.std.specs.Vec.{vec_capacity};
 ghost use Rattle.futex_table.specs.Once.{IsOnce};
-ghost use Rattle.futex_table.specs.Waiting.{first_at, woken, after_wake};
-ghost use Rattle.guest_calls.specs.Futex.{woken_one};
+ghost use Rattle.futex_table.specs.Waiting.{first_at, woken};
+ghost use Rattle.guest_calls.specs.Futex.{woken_at, woken_one};
 ghost use Rattle.guest_memory.specs.declared.memory.GuestMemory.{GuestMemory};
 ghost use Rattle.trace_model.specs.EventList.{EventList};
 ghost use Rattle.guest_calls.specs.declared.answer.Answer.TheVariants.{Back};
-ghost use Rattle.guest_calls.specs.Kernel.{KernelState, can_run, has_others, is_thread, other_threads};
+ghost use Rattle.guest_calls.specs.Kernel.{KernelState, can_run, has_others, is_thread, other_threads, unblocked};
 ghost use Rattle.guest_calls.specs.Outcome.{asked, Does, DoesQuietly};
 ghost use Rattle.guest_calls.specs.Threads.{clear_tid_of, with_clear_tid};
 ghost use Rattle.guest_calls.specs.Threads as specs;
@@ -42,7 +42,7 @@ impl State {
         0
     }
 
-    /// The thread lives no more. It does not wait.
+    /// The thread lives no more. It is not blocked.
     fn remove(&mut self, tid: Tid)
         requires { can_run self.old tid ≡ true }
         ensures { self.new ≡ record self.old { threads = other_threads self.old tid } }
@@ -106,6 +106,14 @@ impl State {
         self.wake(at, 1, u32::MAX);
     }
 
+    /// The thread waits no more, and has no deadline any more.
+    pub(crate) fn unblock(&mut self, tid: Tid)
+        ensures { self.new ≡ unblocked tid self.old }
+    {
+        self.waiting.forget(tid);
+        self.deadlines.forget(tid);
+    }
+
     /// Wakes the first that waits at the address and whose bits meet these, if there is one.
     fn wake_first(&mut self, at: Addr, bits: u32) -> bool
         ensures found { result ≡ is_some (first_at self.old.waiting at bits) }
@@ -115,14 +123,14 @@ impl State {
         let Some(tid) = self.waiting.first(at, bits) else {
             return false;
         };
-        self.waiting.forget(tid);
+        self.unblock(tid);
         true
     }
 
     /// Wakes the first that wait at the address and whose bits meet these, and answers how many.
     pub(crate) fn wake(&mut self, at: Addr, most: u32, bits: u32) -> u32
         ensures count { result ≡ length (woken self.old.waiting at most bits) }
-        ensures after { self.new ≡ record self.old { waiting = after_wake self.old.waiting at most bits } }
+        ensures after { self.new ≡ woken_at at most bits self.old }
         ensures can_run { (tid : ℕ) → can_run self.old tid ≡ true → can_run self.new tid ≡ true }
     {
         for count in 0..most {
@@ -139,6 +147,7 @@ impl State {
     {
         self.threads.clear();
         self.waiting.clear();
+        self.deadlines.clear();
         *held = Reservations::new();
         Answer::ProcessEnd {
             status: caller.status(),

@@ -1,7 +1,7 @@
 -- What every call of the kernel keeps: which threads live afterwards, that those with a reservation do, and that a new
 -- thread begins at a multiple of 4.
 use Rattle.std.proofs.Common.{◌≡◌, ℕ, ◌%◌, List, [], ◌∷◌, ◌++◌, map, take, drop, Bool, true, false, not, ◌||◌, ap, ap₂, sym, refl, ◌∙◌, arith, Option, Some, None, cond}
-use Rattle.std.specs.Prelude.{◌==◌, if◌then◌else◌, filter, is_some}
+use Rattle.std.specs.Prelude.{◌==◌, if◌then◌else◌, filter, is_some, nat_le}
 use Rattle.std.specs.List.{list_any}
 use Rattle.std.proofs.lemmas.List.{map-append}
 use Rattle.std.proofs.lemmas.Bool.Decides.{nat_tests}
@@ -19,15 +19,15 @@ use Rattle.guest_calls.specs.declared.thread.Thread.{Thread}
 use Rattle.guest_calls.specs.declared.vectors.IoVec.{IoVec}
 use Rattle.guest_calls.specs.Kernel.{KernelState, has_others, is_thread, lives, with_descriptor}
 use Rattle.futex_table.specs.Waiting.{all_bits}
-use Rattle.guest_calls.specs.Errors.{eagain, enosys, enotty}
+use Rattle.guest_calls.specs.Errors.{eagain, enosys, enotty, etimedout}
 use Rattle.guest_calls.specs.Results.{Call, CallResult, Guest, answered_or, answers, arg, changes, either, fills, first_answer, forgets, puts, reads, returns, fills_word, fills_word_where, number, sets, unless, when, word}
 use Rattle.guest_calls.specs.Files.{advanced, close, llseek, openat, read, write}
 use Rattle.guest_calls.specs.Vectors.{fills_parts, reads_parts, readv, writev}
 use Rattle.guest_calls.specs.Pages.{brk, mmap2, mprotect, munmap, remaps}
 use Rattle.guest_calls.specs.Threads.{clear_tid, exit, exit_group, is_cleared, leaves, told_end, rt_sigprocmask, sched_yield, set_tid_address, status, with_clear_tid}
-use Rattle.guest_calls.specs.Clock.{clock_gettime}
+use Rattle.guest_calls.specs.Clock.{clock_gettime, clock_nanosleep, clock_nanosleep_effect, clock_nanosleep_tests, nanosleep_end, sleeps, time_size}
 use Rattle.guest_calls.specs.Clone.{child_registers, clone, with_thread}
-use Rattle.guest_calls.specs.Futex.{compares, futex, futex_at, futex_by, futex_tests, operation, performed, requeues, waits_for, wakes}
+use Rattle.guest_calls.specs.Futex.{compares, futex, futex_at, futex_by, futex_tests, operation, performed, requeues, waits_for, wakes, futex_limit, futex_value, futex_value3, is_over, wait_end, waited}
 use Rattle.guest_calls.specs.Table.{call, call_numbered, table}
 use Rattle.guest_machine.specs.Sound.{HoldersLive}
 use Rattle.guest_memory.proofs.CallerLemmas.{some_of_rest}
@@ -184,6 +184,12 @@ lawful_writev c = search (quiet_unless, quiet_puts, quiet_reads_parts, quiet_rea
 lawful_clock_gettime : (c : Call) → IsLawful c (clock_gettime c)
 lawful_clock_gettime c = search (quiet_unless, quiet_fills, quiet_returns) depth 9
 
+lawful_clock_nanosleep : (c : Call) → IsLawful c (clock_nanosleep c)
+lawful_clock_nanosleep c =
+    let read = quiet_reads c (returns c 0) c.tid (arg c 2) time_size (quiet_returns c 0) in
+    quiet_unless c (clock_nanosleep_tests c) (λ _. clock_nanosleep_effect c)
+    (quiet_either c _ (nat_le (nanosleep_end c) c.kernel.time) (λ r. r) (sleeps c (nanosleep_end c)) read (record { stays = tt; threads = read.threads; held = read.held }))
+
 -- ---- pages
 quiet_moves_break : (c : Call) (r : CallResult) (at : ℕ) → IsQuiet c r → IsQuiet c (changes (λ k. record k { program_break = at }) r)
 quiet_moves_break c r at quiet = record { stays = quiet.stays; threads = quiet.threads; held = quiet.held }
@@ -306,8 +312,17 @@ lawful_clone : (c : Call) → IsLawful c (clone c)
 lawful_clone c = search (lawful_unless, lawful_born, quiet_fills_where, quiet_returns) depth 12
 
 -- ---- futex
-quiet_waits_for : (c : Call) (r : CallResult) (bits : ℕ) → IsQuiet c r → IsQuiet c (waits_for c bits r)
-quiet_waits_for c r bits quiet = record { stays = tt; threads = quiet.threads; held = quiet.held }
+quiet_waits_for : (c : Call) (r : CallResult) (bits : ℕ) (end : Option ℕ) → IsQuiet c r → IsQuiet c (waits_for c bits end r)
+quiet_waits_for c r bits None quiet = record { stays = tt; threads = quiet.threads; held = quiet.held }
+quiet_waits_for c r bits (Some end) quiet = record { stays = tt; threads = quiet.threads; held = quiet.held }
+
+quiet_begins : (c : Call) (r : CallResult) (bits : ℕ) (end : Option ℕ) → IsQuiet c r → IsQuiet c (either (is_over end c.kernel.time) (answers (Back etimedout)) (waits_for c bits end) r)
+quiet_begins c r bits end quiet =
+    quiet_either c r (is_over end c.kernel.time) (answers (Back etimedout)) (waits_for c bits end) (quiet_answers c r (Back etimedout) tt quiet) (quiet_waits_for c r bits end quiet)
+
+quiet_reads_where : (c : Call) (b : Bool) (at n : ℕ) → IsQuiet c (when b (reads c.tid at n) (returns c 0))
+quiet_reads_where c true at n = quiet_reads c (returns c 0) c.tid at n (quiet_returns c 0)
+quiet_reads_where c false at n = quiet_returns c 0
 
 quiet_requeues : (c : Call) (r : CallResult) → IsQuiet c r → IsQuiet c (requeues c r)
 quiet_requeues c r quiet = record { stays = quiet.stays; threads = quiet.threads; held = quiet.held }
@@ -317,12 +332,17 @@ quiet_compares c r value effect own quiet =
     let read = quiet_reads c r c.tid (futex_at c) 4 quiet in
     quiet_either c _ (word c (futex_at c) == value) effect (answers (Back eagain)) (own _ read) (quiet_answers c _ (Back eagain) tt read)
 
+quiet_waited : (c : Call) (bits : ℕ) (end : Option ℕ) → IsQuiet c (waited c bits end)
+quiet_waited c bits end =
+    quiet_compares c (when (is_some end) (reads c.tid (futex_limit c) time_size) (returns c 0)) (futex_value c) (either (is_over end c.kernel.time) (answers (Back etimedout)) (waits_for c bits end))
+    (λ s q. quiet_begins c s bits end q) (quiet_reads_where c (is_some end) (futex_limit c) time_size)
+
 quiet_performed : (c : Call) (o : Operation) → IsQuiet c (performed o c)
-quiet_performed c op.Wait = quiet_compares c _ _ _ (λ s q. quiet_waits_for c s _ q) (quiet_returns c 0)
+quiet_performed c op.Wait = quiet_waited c all_bits (wait_end op.Wait c)
 quiet_performed c op.Wake = quiet_wakes c _ _ _ _ (quiet_returns c _)
 quiet_performed c op.Requeue = quiet_requeues c _ (quiet_returns c _)
 quiet_performed c op.CmpRequeue = quiet_compares c _ _ _ (λ s q. quiet_requeues c s q) (quiet_returns c _)
-quiet_performed c op.WaitBitset = quiet_compares c _ _ _ (λ s q. quiet_waits_for c s _ q) (quiet_returns c 0)
+quiet_performed c op.WaitBitset = quiet_waited c (futex_value3 c) (wait_end op.WaitBitset c)
 quiet_performed c op.WakeBitset = quiet_wakes c _ _ _ _ (quiet_returns c _)
 
 lawful_futex_by : (c : Call) (o : Option Operation) → IsLawful c (option_map_or (futex_by c) o (returns c enosys))
@@ -387,7 +407,7 @@ call_lawful c =
                                         lawful_brk c,
                                         (
                                           lawful_munmap c,
-                                          (lawful_clone c, (lawful_mmap2 c, (lawful_mprotect c, (lawful_returns c 0, (lawful_clock_gettime c, (lawful_futex c, tt)))))),
+                                          (lawful_clone c, (lawful_mmap2 c, (lawful_mprotect c, (lawful_returns c 0, (lawful_clock_gettime c, (lawful_clock_nanosleep c, (lawful_futex c, tt))))))),
                                         ),
                                       ),
                                     ),

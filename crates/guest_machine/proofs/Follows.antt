@@ -2,12 +2,12 @@
 use Rattle.std.proofs.Common.{◌≡◌, ℕ, ◌+◌, ◌<◌, ◌≤◌, ◌^◌, ◌%◌, Bool, true, false, cond, List, [], ◌∷◌, ◌++◌, map, reverse, append_assoc, refl, sym, ap, ap₂, subst, ◌∙◌, arith, Ok, Err, inl, inr}
 use Rattle.std.specs.Prelude.{◌==◌, ◌&&◌, ◌||◌, not, nat_eq, filter, Result}
 use Rattle.std.specs.List.{list_any}
-use Rattle.std.proofs.lemmas.Bool.{and_parts, cases_eq, eq-eqb}
+use Rattle.std.proofs.lemmas.Bool.{cases_eq, eq-eqb}
 use Rattle.std.proofs.lemmas.Bool.Decides.{nat_tests}
 use Rattle.std.proofs.lemmas.List.{reverse-append}
 use Rattle.std.proofs.lemmas.List.Folds.{list_any-append}
 use Rattle.guest_words.specs.declared.endings.FaultKind.{FaultKind}
-use Rattle.futex_table.specs.Once.{waits}
+use Rattle.guest_calls.proofs.Blocked.{can_run-lives}
 use Rattle.rv_isa.specs.declared.instruction.Instr.{Instr}
 use Rattle.rv_exec.specs.Effects.{ExecState, effect}
 use Rattle.rv_exec.specs.Laws.{AccessesMemory, IsInMemory}
@@ -377,6 +377,6 @@ step_grows m tid past stands live = executed_follows m tid (next_instruction m t
 
 pub every_step_continues : EveryStepContinues
 every_step_continues m tid past stands can =
-    let live = stands.live tid ∙ (and_parts (lives m.kernel tid) (not (waits m.kernel.waiting tid)) can).0 in
+    let live = stands.live tid ∙ can_run-lives m.kernel tid can in
     let grows = step_grows m tid past stands live in
     (grows.0, subst (StandsFor (step m tid).machine) (grown-is (step m tid).events past) grows.1)

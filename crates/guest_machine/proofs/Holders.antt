@@ -1,15 +1,15 @@
 -- Live threads, and those that have a reservation.
-use Rattle.std.proofs.Common.{◌≡◌, ℕ, ◌<◌, ◌≤◌, ◌-◌, suc, List, [], ◌∷◌, length, map, Bool, true, false, not, ◌||◌, ap, sym, refl, ◌∙◌, arith, Option, cond}
+use Rattle.std.proofs.Common.{◌≡◌, ℕ, ◌<◌, ◌≤◌, ◌-◌, suc, List, [], ◌∷◌, length, map, Bool, true, false, ◌||◌, ap, sym, refl, ◌∙◌, arith, Option, cond}
 use Rattle.std.specs.Prelude.{◌==◌, is_some}
 use Rattle.std.specs.List.{Contains, list_any}
 use Rattle.std.proofs.lemmas.Bool.Decides.{nat_tests}
 use Rattle.std.proofs.lemmas.List.{length-map}
-use Rattle.std.proofs.lemmas.Bool.{and_parts, eqb-true}
+use Rattle.std.proofs.lemmas.Bool.{eqb-true}
 use Rattle.guest_words.specs.declared.limits.TheConstants.{THREADS}
 use Rattle.guest_memory.specs.Reserved.{HoldAtMost, without_thread}
 use Rattle.guest_memory.proofs.CallerLemmas.{some_of_rest}
-use Rattle.futex_table.specs.Once.{waits}
 use Rattle.guest_calls.specs.Kernel.{lives}
+use Rattle.guest_calls.proofs.Blocked as calls
 use Rattle.guest_machine.specs.Machine.{Hart, MachineState, can_run, without_hart}
 use Rattle.guest_words.specs.ByThread.{value_of}
 use Rattle.guest_machine.specs.Sound.{IsSound}
@@ -25,7 +25,7 @@ pub lives-harts : (m : MachineState) (tid : ℕ) → map (λ h. h.0) m.harts ≡
 lives-harts m tid same = any_hart m.harts tid ∙ ap (list_any (λ n. n == tid)) same ∙ sym (any_thread m.kernel.threads tid)
 
 pub can_run-lives : (m : MachineState) (tid : ℕ) → can_run m tid ≡ true → lives m.kernel tid ≡ true
-can_run-lives m tid can = (and_parts (lives m.kernel tid) (not (waits m.kernel.waiting tid)) can).0
+can_run-lives m tid can = calls.can_run-lives m.kernel tid can
 
 -- a thread that can run has registers
 pub lives_kept : (m : MachineState) (tid : ℕ) → IsSound m → can_run m tid ≡ true → is_some (value_of m.harts tid) ≡ true

@@ -11,3 +11,5 @@ pub mod Follows
 pub mod Weights
 pub mod StepParts
 pub mod Limits
+pub mod ClockWakings
+pub mod AllWoken

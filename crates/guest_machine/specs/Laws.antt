@@ -1,15 +1,23 @@
 -- What holds of every step.
-use Rattle.std.specs.Prelude.{◌≡◌, ℕ, ◌+◌, ◌≤◌, true, List, [], ◌∷◌, ◌++◌, length, map, reverse}
+use Rattle.std.specs.Prelude.{◌≡◌, ℕ, ◌+◌, ◌≤◌, true, List, [], ◌∷◌, ◌++◌, length, map, reverse, filter, nat_lt, nat_le, ◌&&◌, ◌==◌, Option, Some, None}
 use Rattle.guest_words.specs.declared.limits.TheConstants.{LAST_TID, THREADS}
 use Rattle.trace_model.specs.declared.event_kinds.Event.{Event}
 use Rattle.trace_model.specs.declared.event_kinds.Event.TheVariants.{Step}
 use Rattle.trace_model.specs.Parts.{IsShort}
 use Rattle.trace_model.specs.Profile.{steps}
 use Rattle.trace_model.specs.WellFormed.{MayFollow, greatest_start, is_live, weight}
-use Rattle.guest_calls.specs.Invariant.{RisesTo}
+use Rattle.guest_calls.specs.Invariant.{IsState, RisesTo}
 use Rattle.guest_calls.specs.Kernel.{lives}
-use Rattle.guest_machine.specs.Machine.{MachineState, can_run}
+use Rattle.guest_calls.specs.Waking.{IsAwake, moved_on}
+use Rattle.virtual_clock.specs.Once.{IsOnce}
+use Rattle.virtual_clock.specs.declared.deadline.Deadline.{Deadline}
+use Rattle.rv_exec.specs.Registers.{Registers}
+use Rattle.std.specs.List.{find}
+use Rattle.std.specs.Option.{option_map}
+use Rattle.guest_machine.specs.Machine.{MachineState, can_run, registers_of}
 use Rattle.guest_machine.specs.Step.{step}
+use Rattle.guest_machine.specs.Sound.{IsSound}
+use Rattle.guest_machine.specs.Waking.{with_answer, woken}
 
 -- these events, in order, may follow the past, one after another
 abbrev pub EachFollows : List Event → List Event → Type 0
@@ -58,3 +66,42 @@ abbrev pub EveryStepStaysWithinLimits : Type 0
 EveryStepStaysWithinLimits =
     (m : MachineState) (tid : ℕ) → map (λ h. h.0) m.harts ≡ map (λ t. t.tid) m.kernel.threads
     → IsWithinLimits m → IsWithinLimits (step m tid).machine
+
+-- Once all that are due are woken, no deadline is due, and a thread can run or no deadline is left.
+abbrev pub EveryWakingEnds : Type 0
+EveryWakingEnds = (m : MachineState) → IsAwake (woken m).kernel
+
+-- Those are woken whose deadlines have come by then: the later ones stay, in their order. The time is as before, or that of the
+-- earliest deadline, where no thread could run and it was ahead.
+abbrev pub EveryWakingTakesTheDue : Type 0
+EveryWakingTakesTheDue =
+    (m : MachineState) → IsState m.kernel → IsOnce m.kernel.deadlines →
+    let now = (moved_on m.kernel).time in
+    ((woken m).kernel.time ≡ now) × ((woken m).kernel.deadlines ≡ filter (λ d. nat_lt now d.at) m.kernel.deadlines)
+
+-- the answer of the thread's deadline, where that has come
+abbrev pub due_answer : List Deadline → ℕ → ℕ → Option ℕ
+due_answer deadlines now tid = option_map (λ d. d.answer) (find (λ d. (d.tid == tid) && nat_le d.at now) deadlines)
+
+abbrev pub with_due : Option ℕ → Registers → Registers
+with_due None r = r
+with_due (Some value) r = with_answer r value
+
+-- Each thread that is woken has its answer in a0; all other registers and the pc stay, and so do those of the other threads.
+abbrev pub EveryWakingAnswers : Type 0
+EveryWakingAnswers =
+    (m : MachineState) → IsSound m → IsOnce m.kernel.deadlines → (tid : ℕ) →
+    registers_of (woken m).harts tid
+    ≡ with_due (due_answer m.kernel.deadlines (moved_on m.kernel).time tid) (registers_of m.harts tid)
+
+-- A waking leaves memory, the reservations, the live threads and the numbers given as they are.
+pub record KeepsThreads (m new : MachineState) : Type 0 where
+  pub memory : new.memory ≡ m.memory
+  pub held : new.held ≡ m.held
+  pub threads : new.kernel.threads ≡ m.kernel.threads
+  pub last : new.kernel.last_tid ≡ m.kernel.last_tid
+  pub program_break : new.kernel.program_break ≡ m.kernel.program_break
+  pub numbers : map (λ h. h.0) new.harts ≡ map (λ h. h.0) m.harts
+
+abbrev pub EveryWakingKeepsThreads : Type 0
+EveryWakingKeepsThreads = (m : MachineState) → KeepsThreads m (woken m)

@@ -2,6 +2,7 @@
 pub mod Machine
 pub mod Start
 pub mod Step
+pub mod Waking
 pub mod Kept
 pub mod Told
 pub mod Sound

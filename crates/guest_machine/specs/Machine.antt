@@ -23,7 +23,7 @@ pub record MachineState : Type 0 where
 abbrev pub later : MachineState → MachineState
 later m = record m { kernel = kernel.later m.kernel }
 
--- a thread can run where it lives and does not wait
+-- a thread can run where it lives, is not in the waiting list and has no deadline
 abbrev pub can_run : MachineState → ℕ → Bool
 can_run m tid = kernel.can_run m.kernel tid
 

@@ -7,6 +7,7 @@ ghost use Rattle.guest_words.specs.ByThread.{value_of};
 ghost use Rattle.rv_exec.specs.Effects.{effect};
 ghost use Rattle.guest_machine.specs.Machine.{registers_of, with_registers};
 ghost use Rattle.guest_machine.specs.Step.{resumed};
+ghost use Rattle.guest_machine.specs.Waking.{with_answer};
 
 use guest_memory::{GuestMemory, Reservations};
 use guest_words::limits::THREADS;
@@ -55,4 +56,14 @@ pub(crate) fn resume(harts: &mut ByThread<Cpu>, tid: Tid, value: u32)
     let cpu = harts.get_mut(tid).unwrap();
     cpu.write(Reg::new(10).unwrap(), value);
     cpu.advance();
+}
+
+/// A live thread has this in a0, and its pc stays.
+pub(crate) fn answer(harts: &mut ByThread<Cpu>, tid: Tid, value: u32)
+    requires { is_some (value_of harts.old.list tid) ≡ true }
+    ensures list { harts.new.list ≡ with_registers harts.old.list tid (with_answer (registers_of harts.old.list tid) value) }
+    ensures room { harts.new.room ≡ harts.old.room }
+{
+    let cpu = harts.get_mut(tid).unwrap();
+    cpu.write(Reg::new(10).unwrap(), value);
 }

@@ -1,5 +1,5 @@
 //! Laws of a step: each is the contract of a function that does nothing.
-ghost use Rattle.guest_machine.specs.Laws.{EveryStepContinues, EveryStepIsLight, EveryStepIsOnePart, EveryStepStaysWithinLimits};
+ghost use Rattle.guest_machine.specs.Laws.{EveryStepContinues, EveryStepIsLight, EveryStepIsOnePart, EveryStepStaysWithinLimits, EveryWakingEnds, EveryWakingAnswers, EveryWakingKeepsThreads, EveryWakingTakesTheDue};
 
 /// A step of a thread that can run, after any past after which exactly the machine's threads live: its events may follow
 /// that past, and after both exactly the threads of the new machine live. The events' weight and the number of threads after
@@ -15,4 +15,13 @@ pub fn every_step_is_traced()
 pub fn every_step_is_short()
     ensures part { EveryStepIsOnePart }
     ensures limits { EveryStepStaysWithinLimits }
+{}
+
+/// Once all threads are woken that are due, no deadline is due, and a thread can run or no deadline is left. Those are woken
+/// whose deadlines have come by then, and no others. Memory, the reservations, the live threads and their numbers are as before.
+pub fn every_waking_ends()
+    ensures ends { EveryWakingEnds }
+    ensures due { EveryWakingTakesTheDue }
+    ensures answers { EveryWakingAnswers }
+    ensures keeps { EveryWakingKeepsThreads }
 {}

@@ -18,8 +18,9 @@ mod stack;
 mod start_memory;
 mod step_events;
 mod stepped;
+mod waking;
 
-pub use laws::{every_step_is_short, every_step_is_traced};
+pub use laws::{every_step_is_short, every_step_is_traced, every_waking_ends};
 pub use machine::Machine;
 pub use setup::SetupError;
 pub use stepped::{Advanced, Stepped};

@@ -50,6 +50,7 @@ impl Machine {
     ghost use Rattle.guest_machine.specs.Told.{IsQuiet, stepped_of, told};
     ghost use Rattle.std.specs.Prelude.{◌++◌};
     ghost use Rattle.guest_machine.specs.Step.{next_instruction, step};
+    ghost use Rattle.guest_machine.specs.Waking.{woken};
 
     /// A machine that begins: the image's segments, the argument strings, the first of which is the program's name, the
     /// input files, and what is on standard input.
@@ -114,7 +115,17 @@ impl Machine {
         self.guest.step(&mut self.decoder, tid, events)
     }
 
-    /// Whether the thread lives and does not wait.
+    /// Wakes all threads that are due by the clock, each with its deadline's answer in a0. Where then no thread can run and a
+    /// deadline is left, the time goes on to the earliest, and those due are woken. It takes no memory.
+    pub fn wake_due(&mut self)
+        ensures woken { machine_of self.new ≡ woken (machine_of self.old) }
+        ensures out { out_of self.new ≡ out_of self.old }
+        ensures entry { self.new.entry ≡ self.old.entry }
+    {
+        self.guest.wake_due();
+    }
+
+    /// Whether the thread lives, does not wait and has no deadline.
     pub fn can_run(&self, tid: Tid) -> bool
         ensures { result ≡ can_run (machine_of self.now) tid }
     {

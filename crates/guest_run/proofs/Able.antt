@@ -1,14 +1,13 @@
 -- A thread that went on by its step can run.
 use Rattle.std.proofs.Common.{◌≡◌, ℕ, ◌+◌, Bool, true, false, cond, List, [], ◌∷◌, Option, Some, None, refl, ap, ap₂, ◌∙◌, Ok, Err}
-use Rattle.std.specs.Prelude.{◌*◌, ◌/◌, not, ◌&&◌, ◌||◌, ◌==◌, min, take, length, replicate, is_none, unwrap_or, unsigned_abs, Result}
+use Rattle.std.specs.Prelude.{◌*◌, ◌/◌, not, ◌&&◌, ◌||◌, ◌==◌, min, take, length, replicate, is_none, nat_le, unwrap_or, unsigned_abs, Result, is_some}
 use Rattle.std.specs.Int.{w64, to_le_bytes}
 use Rattle.guest_memory.specs.Memory.{bytes_at, with_rights}
 use Rattle.std.specs.List.{list_any}
 use Rattle.std.specs.Option.{option_map_or}
 use Rattle.std.proofs.lemmas.List.Folds.{list_any-append}
 use Rattle.std.proofs.lemmas.Bool.{and_parts}
-use Rattle.futex_table.specs.Once.{waits}
-use Rattle.futex_table.specs.Waiting.{all_bits, after_requeue}
+use Rattle.futex_table.specs.Waiting.{all_bits}
 use Rattle.guest_words.specs.declared.endings.FaultKind.{FaultKind}
 use Rattle.rv_isa.specs.declared.instruction.Instr.{Instr}
 use Rattle.rv_exec.specs.Effects.{ExecState, effect}
@@ -20,21 +19,21 @@ use Rattle.guest_calls.specs.declared.descriptor.Descriptor.{Descriptor}
 use Rattle.guest_calls.specs.declared.descriptor.Descriptor.TheVariants.{Closed, StandardInput, Output, InputFile}
 use Rattle.guest_calls.specs.declared.operation.Operation.{Operation}
 use Rattle.guest_calls.specs.declared.operation.Operation.TheVariants.{Wait, Wake, Requeue, CmpRequeue, WaitBitset, WakeBitset}
-use Rattle.guest_calls.specs.Errors.{eagain, ebadf, efault, enosys}
+use Rattle.guest_calls.specs.Errors.{eagain, ebadf, efault, enosys, etimedout}
 use Rattle.guest_calls.specs.Kernel as kernel
-use Rattle.guest_calls.specs.Kernel.{KernelState, is_thread, lives, has_others, descriptor}
+use Rattle.guest_calls.specs.Kernel.{KernelState, is_blocked, is_thread, lives, has_others, descriptor}
 use Rattle.guest_calls.specs.Results.{Call, CallResult, arg, returns, unless, ◌⇒◌, ◌or◌, ◌▷◌, sets, puts, readable, either, when, answers, changes, reads, fills, word, writable}
 use Rattle.guest_calls.specs.Files.{advanced, bytes_left, channel, is_closed, is_source, openat_effect, openat_tests, llseek_tests, target, with_position, write_limit}
 use Rattle.guest_calls.specs.Vectors.{readv_tests, readv_bytes, readv_effect, writev_tests, writev_effect}
 use Rattle.guest_calls.specs.Pages.{brk_tests, brk_effect, munmap_tests, unmaps, pages, maps, remaps, rights_of, first_fit, mmap2_tests, mprotect_tests}
 use Rattle.guest_calls.specs.Threads.{exit, rt_sigprocmask, status}
-use Rattle.guest_calls.specs.Clock.{clock_gettime_tests, time_bytes}
+use Rattle.guest_calls.specs.Clock.{clock_gettime_tests, clock_nanosleep_effect, clock_nanosleep_tests, nanosleep_end, sleeps, time_bytes, time_size}
 use Rattle.guest_calls.specs.Clone.{clone_effect, clone_tests, with_thread, child_clear_tid}
-use Rattle.guest_calls.specs.Futex.{futex_by, futex_tests, futex_at, futex_value, futex_value3, futex_limit, futex_to, operation, performed, waits_for, requeues, count_woken, count_shifted}
+use Rattle.guest_calls.specs.Futex.{futex_by, futex_tests, futex_at, futex_value, futex_value3, futex_limit, futex_to, operation, performed, waits_for, requeues, count_woken, count_shifted, is_over, wait_end, waited}
 use Rattle.guest_calls.specs.Table.{call, table}
 use Rattle.guest_calls.proofs.AllCalls.{of_every_call, of_unless}
-use Rattle.guest_calls.proofs.Leaving.{cleared_lives, does_not_wait, woken_can_run}
-use Rattle.guest_calls.proofs.Queues.{requeued_out}
+use Rattle.guest_calls.proofs.Leaving.{cleared_lives, woken_can_run}
+use Rattle.guest_calls.proofs.Queues.{requeued_can_run}
 use Rattle.guest_machine.specs.declared.stepped.Stepped.TheVariants.{Went}
 use Rattle.guest_machine.specs.Machine.{MachineState, can_run, later}
 use Rattle.guest_machine.specs.Step.{after_effect, call_of, exec_state_of, executed, next_instruction, step, stepped_by}
@@ -100,7 +99,7 @@ or_true b = refl
 
 born_able : (tid clear : ℕ) (k : KernelState) (q : ℕ) → kernel.can_run k q ≡ true → kernel.can_run (with_thread tid clear k) q ≡ true
 born_able tid clear k q can =
-    let parts = and_parts (lives k q) (not (waits k.waiting q)) can in
+    let parts = and_parts (lives k q) (not (is_blocked k q)) can in
     ap₂ (λ (a b : Bool). a && b)
     (list_any-append (is_thread q) k.threads (record { tid = tid; clear_tid = clear } ∷ []) ∙ ap (λ (b : Bool). b || list_any (is_thread q) (record { tid = tid; clear_tid = clear } ∷ [])) parts.0)
     parts.1
@@ -119,24 +118,27 @@ sigprocmask_able c =
     (λ can goes. ap (λ (k : KernelState). kernel.can_run k c.tid) (when_kernel (not (old == 0)) (fills old (replicate 8 0)) (returns c 0) refl) ∙ can)
 
 -- ---- the futexes
-requeued_able : (k : KernelState) (at most shift to tid : ℕ) → kernel.can_run k tid ≡ true → kernel.can_run (record k { waiting = after_requeue k.waiting at most shift to }) tid ≡ true
-requeued_able k at most shift to tid can =
-    let parts = and_parts (lives k tid) (not (waits k.waiting tid)) can in
-    ap₂ (λ (a b : Bool). a && not b) parts.0 (requeued_out k.waiting at most shift to tid (does_not_wait k tid can))
-
 either_able : (c : Call) (b : Bool) (one other : CallResult → CallResult) (r : CallResult) → StaysAble c (one r) → StaysAble c (other r) → StaysAble c (either b one other r)
 either_able c true one other r here there = here
 either_able c false one other r here there = there
 
+waited_able : (c : Call) (bits : ℕ) (end : Option ℕ) → StaysAble c (waited c bits end)
+waited_able c bits end =
+    let still : kernel.can_run c.kernel c.tid ≡ true → kernel.can_run (when (is_some end) (reads c.tid (futex_limit c) time_size) (returns c 0)).kernel c.tid ≡ true =
+    λ can. ap (λ (k : KernelState). kernel.can_run k c.tid) (when_kernel (is_some end) (reads c.tid (futex_limit c) time_size) (returns c 0) refl) ∙ can in
+    either_able c (word c (futex_at c) == futex_value c) (either (is_over end c.kernel.time) (answers (Back etimedout)) (waits_for c bits end)) (answers (Back eagain)) (reads c.tid (futex_at c) 4 (when (is_some end) (reads c.tid (futex_limit c) time_size) (returns c 0)))
+    (either_able c (is_over end c.kernel.time) (answers (Back etimedout)) (waits_for c bits end) (reads c.tid (futex_at c) 4 (when (is_some end) (reads c.tid (futex_limit c) time_size) (returns c 0))) (λ can goes. still can) (λ can goes. absurd (cc)))
+    (λ can goes. still can)
+
 performed_able : (o : Operation) (c : Call) → StaysAble c (performed o c)
-performed_able Wait c = either_able c (word c (futex_at c) == futex_value c) (waits_for c all_bits) (answers (Back eagain)) (reads c.tid (futex_at c) 4 (returns c 0)) (λ can goes. absurd (cc)) (λ can goes. can)
-performed_able WaitBitset c = either_able c (word c (futex_at c) == futex_value c) (waits_for c (futex_value3 c)) (answers (Back eagain)) (reads c.tid (futex_at c) 4 (returns c 0)) (λ can goes. absurd (cc)) (λ can goes. can)
+performed_able Wait c = waited_able c all_bits (wait_end Wait c)
+performed_able WaitBitset c = waited_able c (futex_value3 c) (wait_end WaitBitset c)
 performed_able Wake c = λ can goes. woken_can_run c.kernel _ (futex_at c) (futex_value c) all_bits c.tid refl can
 performed_able WakeBitset c = λ can goes. woken_can_run c.kernel _ (futex_at c) (futex_value c) (futex_value3 c) c.tid refl can
-performed_able Requeue c = λ can goes. requeued_able c.kernel (futex_at c) (futex_value c) (futex_limit c) (futex_to c) c.tid can
+performed_able Requeue c = λ can goes. requeued_can_run c.kernel (futex_at c) (futex_value c) (futex_limit c) (futex_to c) c.tid can
 performed_able CmpRequeue c =
     either_able c (word c (futex_at c) == futex_value3 c) (requeues c) (answers (Back eagain)) (reads c.tid (futex_at c) 4 (returns c (count_woken c all_bits + count_shifted c)))
-    (λ can goes. requeued_able c.kernel (futex_at c) (futex_value c) (futex_limit c) (futex_to c) c.tid can) (λ can goes. can)
+    (λ can goes. requeued_can_run c.kernel (futex_at c) (futex_value c) (futex_limit c) (futex_to c) c.tid can) (λ can goes. can)
 
 futex_able : (o : Option Operation) (c : Call) → StaysAble c (option_map_or (futex_by c) o (returns c enosys))
 futex_able None c = λ can goes. can
@@ -166,7 +168,7 @@ every_call_able = of_every_call StaysAble (
                   (
                     (λ c can goes. absurd (cc)),
                     (
-                      (λ c can goes. ap (λ (b : Bool). b && not (waits c.kernel.waiting c.tid)) (cleared_lives c.tid (arg c 0) c.tid c.kernel.threads) ∙ can),
+                      (λ c can goes. ap (λ (b : Bool). b && not (is_blocked c.kernel c.tid)) (cleared_lives c.tid (arg c 0) c.tid c.kernel.threads) ∙ can),
                       (
                         (λ c can goes. can),
                         (
@@ -193,7 +195,10 @@ every_call_able = of_every_call StaysAble (
                                               (λ c can goes. can),
                                               (
                                                 (λ c. tested c (clock_gettime_tests c) (λ x. fills (arg c 1) (time_bytes c.kernel.time) (returns c 0)) (λ can goes. can)),
-                                                ((λ c. futex_able (operation c) c), tt),
+                                                (
+                                                  (λ c. tested c (clock_nanosleep_tests c) (λ x. clock_nanosleep_effect c) (either_able c (nat_le (nanosleep_end c) c.kernel.time) (λ r. r) (sleeps c (nanosleep_end c)) (reads c.tid (arg c 2) time_size (returns c 0)) (λ can goes. can) (λ can goes. absurd (cc)))),
+                                                  ((λ c. futex_able (operation c) c), tt),
+                                                ),
                                               ),
                                             ),
                                           ),

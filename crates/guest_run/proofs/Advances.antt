@@ -11,6 +11,7 @@ use Rattle.trace_model.specs.Profile.{steps}
 use Rattle.thread_sched.specs.TurnRule.{SchedulerState}
 use Rattle.trace_model.proofs.Cut.{cut-fits}
 use Rattle.guest_machine.specs.Kept.{machine_of}
+use Rattle.guest_machine.specs.Laws.{KeepsThreads}
 use Rattle.guest_machine.specs.Machine.{MachineState, can_run}
 use Rattle.guest_machine.specs.Step.{step}
 use Rattle.guest_run.specs.declared.turn_status.TurnStatus.{TurnStatus}
@@ -36,7 +37,7 @@ use Rattle.guest_run.proofs.Able.{step_able}
 use Rattle.guest_run.proofs.Guarded.{goes_went}
 use Rattle.guest_run.proofs.Observed.{observed-after, past-last, profiled-deep, profiled-head, profiled-none, profiled-one, with_first}
 use Rattle.guest_run.proofs.Output.{output-last}
-use Rattle.guest_run.proofs.Pasts.{past_step, step_adds}
+use Rattle.guest_run.proofs.Pasts.{past_kept, past_step, step_adds}
 
 -- ---- what is left of a run, by what is chosen and by the step
 run-stops : {State : Type 0} (machine : Machine State) (more : ℕ) (at : Position State) (finish : Finish) →
@@ -53,34 +54,34 @@ run-moves machine more at opens to e = ap (go_on machine (run_from machine more)
 -- the events of its next step may come
 pub may_take : {W : Type 0} (Stands : W → List Event → Type 0) (fits : List Event → Bool) (first : List Event) (start : Position MachineState)
     (moves : List Move) (r : Runner) (observer : W) → IsGoing Stands fits first start moves r observer → length moves < RUN_STEPS →
-    (tid : ℕ) → can_run (machine_of r.stepper.machine) tid ≡ true →
-    MayTakeAll Stands fits observer (guest.step (machine_of r.stepper.machine) tid).events
-may_take Stands fits first start moves r observer going room tid can = record {
+    (now : MachineState) → KeepsThreads (machine_of r.stepper.machine) now → (tid : ℕ) → can_run now tid ≡ true →
+    MayTakeAll Stands fits observer (guest.step now tid).events
+may_take Stands fits first start moves r observer going room now kept tid can = record {
   past = past_by first moves;
   now = going.stands;
   fitting = going.fitting;
-  formed = (past_step (machine_of r.stepper.machine) tid (past_by first moves) going.past can (omega (arith, going.few, room))).formed;
+  formed = (past_step now tid (past_by first moves) (past_kept (machine_of r.stepper.machine) now (past_by first moves) kept going.past) can (omega (arith, going.few, room))).formed;
 }
 
 -- where the run stands, what the step of a thread gives, and the move that it is
 abbrev at_of : Runner → Position MachineState
 at_of r = position (machine_of r.stepper.machine) r.turn
 
-abbrev given_of : Runner → ℕ → Progress MachineState
-given_of r tid = guest.step (machine_of r.stepper.machine) tid
+abbrev given_of : MachineState → ℕ → Progress MachineState
+given_of now tid = guest.step now tid
 
-abbrev made_of : Runner → CurrentTurn → Bool → Move
-made_of r turn opens = move_of opens turn.tid (given_of r turn.tid)
+abbrev made_of : MachineState → CurrentTurn → Bool → Move
+made_of now turn opens = move_of opens turn.tid (given_of now turn.tid)
 
 -- the run by the step's status
-abbrev rest_by : Runner → CurrentTurn → Bool → ℕ → TurnStatus → WrittenRun
-rest_by r turn opens n status =
-    by_turn_status (run_from guest n) (made_of r turn opens) (position (machine_of r.stepper.machine) turn) (given_of r turn.tid).state status
+abbrev rest_by : MachineState → CurrentTurn → Bool → ℕ → TurnStatus → WrittenRun
+rest_by now turn opens n status =
+    by_turn_status (run_from guest n) (made_of now turn opens) (position now turn) (given_of now turn.tid).state status
 
-rest-head : (r : Runner) (turn : CurrentTurn) (opens : Bool) (n : ℕ) (status : TurnStatus) → (run : WrittenRun) × (rest_by r turn opens n status ≡ with_move (made_of r turn opens) run)
-rest-head r turn opens n GoesOn = (_, refl)
-rest-head r turn opens n TurnOver = (_, refl)
-rest-head r turn opens n (Ends finish) = (record { moves = []; finish = finish }, refl)
+rest-head : (now : MachineState) (turn : CurrentTurn) (opens : Bool) (n : ℕ) (status : TurnStatus) → (run : WrittenRun) × (rest_by now turn opens n status ≡ with_move (made_of now turn opens) run)
+rest-head now turn opens n GoesOn = (_, refl)
+rest-head now turn opens n TurnOver = (_, refl)
+rest-head now turn opens n (Ends finish) = (record { moves = []; finish = finish }, refl)
 
 module _ {W : Type 0} (Stands : W → List Event → Type 0) (fits : List Event → Bool) (closed : IsPrefixClosed fits)
     (first : List Event) (start : Position MachineState) (moves : List Move) (before : Sinks)
@@ -107,27 +108,27 @@ module _ {W : Type 0} (Stands : W → List Event → Type 0) (fits : List Event 
         finish_is = refl;
       })
 
-  pub over_stopped : (turn : CurrentTurn) (finish : Finish) → chosen guest (at_of old) ≡ chosen_of (machine_of old.stepper.machine) turn (choice.Stops finish) →
+  pub over_stopped : (now : MachineState) (turn : CurrentTurn) (finish : Finish) → chosen guest (at_of old) ≡ chosen_of now turn (choice.Stops finish) →
       (new : Runner) → new.recorder ≡ old.recorder → (n : ℕ) → IsOver Stands (observed fits first start (length moves + suc n)) before new watcher mid finish
-  over_stopped turn finish chose new same n = over-none finish (suc n) (run-stops guest n (at_of old) finish chose) new same
+  over_stopped now turn finish chose new same n = over-none finish (suc n) (run-stops guest n (at_of old) finish chose) new same
 
   pub over_spent : IsOver Stands (observed fits first start (length moves + 0)) before old watcher mid Budget
   unfolding run_from
   over_spent = over-none Budget 0 refl old refl
 
   -- ---- a move
-  module _ (turn : CurrentTurn) (opens : Bool) (chose : chosen guest (at_of old) ≡ chosen_of (machine_of old.stepper.machine) turn (choice.Moves opens))
-      (way : IsUnderWay (machine_of old.stepper.machine) turn) where
-    run-by_status : (n : ℕ) → run_from guest (suc n) (at_of old) ≡ rest_by old turn opens n (given_of old turn.tid).turn_status
+  module _ (now : MachineState) (kept : KeepsThreads (machine_of old.stepper.machine) now) (turn : CurrentTurn) (opens : Bool)
+      (chose : chosen guest (at_of old) ≡ chosen_of now turn (choice.Moves opens)) (way : IsUnderWay now turn) where
+    run-by_status : (n : ℕ) → run_from guest (suc n) (at_of old) ≡ rest_by now turn opens n (given_of now turn.tid).turn_status
     run-by_status n =
-        run-moves guest n (at_of old) opens (position (machine_of old.stepper.machine) turn) chose
-        ∙ ap (λ t. by_turn_status (run_from guest n) (move_of opens t (given_of old t)) (position (machine_of old.stepper.machine) turn) (given_of old t).state (given_of old t).turn_status) (sym way.last)
+        run-moves guest n (at_of old) opens (position now turn) chose
+        ∙ ap (λ t. by_turn_status (run_from guest n) (move_of opens t (given_of now t)) (position now turn) (given_of now t).state (given_of now t).turn_status) (sym way.last)
 
     -- the move is the next one that is observed
-    next-move : (n : ℕ) → (later : List Move) × (moves ++ made_of old turn opens ∷ later ≡ (observed fits first start (length moves + suc n)).moves)
+    next-move : (n : ℕ) → (later : List Move) × (moves ++ made_of now turn opens ∷ later ≡ (observed fits first start (length moves + suc n)).moves)
     next-move n =
-        let run = rest-head old turn opens n (given_of old turn.tid).turn_status in
-        let kept = profiled-head fits closed (past_by first moves) (made_of old turn opens) run.0 in (
+        let run = rest-head now turn opens n (given_of now turn.tid).turn_status in
+        let kept = profiled-head fits closed (past_by first moves) (made_of now turn opens) run.0 in (
           kept.0,
           sym (ap (λ (p : Profiled). p.moves) (whole (suc n))
               ∙ ap (λ r. moves ++ (profiled fits (past_by first moves) r).moves) (run-by_status n ∙ run.1)
@@ -135,32 +136,32 @@ module _ {W : Type 0} (Stands : W → List Event → Type 0) (fits : List Event 
         )
 
     -- the put of its bytes fails
-    stops_at_put : (channel : Channel) (after : Sinks) → FailsOn channel (given_of old turn.tid).out mid after →
+    stops_at_put : (channel : Channel) (after : Sinks) → FailsOn channel (given_of now turn.tid).out mid after →
         (n : ℕ) → StopsAtPut channel (observed fits first start (length moves + suc n)).moves before after
     stops_at_put channel after failed n = record {
       earlier = moves;
-      move = made_of old turn opens;
+      move = made_of now turn opens;
       later = (next-move n).0;
       are = (next-move n).1;
-      failed = subst (λ s. FailsOn channel (given_of old turn.tid).out s after) put failed;
+      failed = subst (λ s. FailsOn channel (given_of now turn.tid).out s after) put failed;
     }
 
-    sent-now : (after : Sinks) → after ≡ with_sent (given_of old turn.tid).out mid → after ≡ with_output (moves ++ made_of old turn opens ∷ []) before
+    sent-now : (after : Sinks) → after ≡ with_sent (given_of now turn.tid).out mid → after ≡ with_output (moves ++ made_of now turn opens ∷ []) before
     sent-now after sent =
-        sent ∙ ap (with_sent (given_of old turn.tid).out) put ∙ sym (output-last moves (made_of old turn opens) before)
+        sent ∙ ap (with_sent (given_of now turn.tid).out) put ∙ sym (output-last moves (made_of now turn opens) before)
 
     -- it is given up after its bytes were put
-    gives_up_put : (after : Sinks) → after ≡ with_sent (given_of old turn.tid).out mid →
+    gives_up_put : (after : Sinks) → after ≡ with_sent (given_of now turn.tid).out mid →
         (n : ℕ) → IsGivenUp (observed fits first start (length moves + suc n)).moves before after
     gives_up_put after sent n = record {
-      earlier = moves ++ made_of old turn opens ∷ [];
+      earlier = moves ++ made_of now turn opens ∷ [];
       later = (next-move n).0;
-      are = append_assoc moves (made_of old turn opens ∷ []) (next-move n).0 ∙ (next-move n).1;
+      are = append_assoc moves (made_of now turn opens ∷ []) (next-move n).0 ∙ (next-move n).1;
       output = sent-now after sent;
     }
 
     -- the step fails
-    pub step_failed : (new : Runner) (watched : W) (after : Sinks) (e : RunError) → StepEnds Stands fits (given_of old turn.tid) watcher mid new.stepper watched after (Err e) →
+    pub step_failed : (new : Runner) (watched : W) (after : Sinks) (e : RunError) → StepEnds Stands fits (given_of now turn.tid) watcher mid new.stepper watched after (Err e) →
         Advances Stands fits first start moves before new watched after (Err e)
     step_failed new watched after (CannotPut channel) failed = stops_at_put channel after failed
     step_failed new watched after Memory (inl same) = λ n. subst (IsGivenUp (observed fits first start (length moves + suc n)).moves before) (sym same) (gives_up n)
@@ -168,41 +169,41 @@ module _ {W : Type 0} (Stands : W → List Event → Type 0) (fits : List Event 
 
     -- ---- the move is made
     module _ (watched : W) (new : Runner) (after : Sinks) (status : TurnStatus)
-        (is : IsStepped Stands fits (given_of old turn.tid) watcher watched mid new.stepper after status)
+        (is : IsStepped Stands fits (given_of now turn.tid) watcher watched mid new.stepper after status)
         (takes : (m : Move) (rest : List Move) → m.opens ≡ opens → m.tid ≡ turn.tid → recorded old.recorder (m ∷ rest) ≡ recorded new.recorder rest) where
-      turns-now : (rest : List Move) → recorded new.recorder rest ≡ recording ((moves ++ made_of old turn opens ∷ []) ++ rest)
+      turns-now : (rest : List Move) → recorded new.recorder rest ≡ recording ((moves ++ made_of now turn opens ∷ []) ++ rest)
       turns-now rest =
-          sym (takes (made_of old turn opens) rest refl refl) ∙ goes.turns (made_of old turn opens ∷ rest)
-          ∙ ap recording (sym (append_assoc moves (made_of old turn opens ∷ []) rest))
+          sym (takes (made_of now turn opens) rest refl refl) ∙ goes.turns (made_of now turn opens ∷ rest)
+          ∙ ap recording (sym (append_assoc moves (made_of now turn opens ∷ []) rest))
 
-      seen : Stands watched (cut fits (past_after (past_by first moves) (given_of old turn.tid).events))
-          × (status ≡ cond (fits (past_after (past_by first moves) (given_of old turn.tid).events)) (given_of old turn.tid).turn_status (Ends Deep))
+      seen : Stands watched (cut fits (past_after (past_by first moves) (given_of now turn.tid).events))
+          × (status ≡ cond (fits (past_after (past_by first moves) (given_of now turn.tid).events)) (given_of now turn.tid).turn_status (Ends Deep))
       seen = is.observed (past_by first moves) goes.stands goes.fitting
 
       -- the run ends by the move
-      ends-so : (finish : Finish) (n : ℕ) (b : Bool) → fits (past_after (past_by first moves) (given_of old turn.tid).events) ≡ b →
-          Ends finish ≡ cond b (given_of old turn.tid).turn_status (Ends Deep) →
+      ends-so : (finish : Finish) (n : ℕ) (b : Bool) → fits (past_after (past_by first moves) (given_of now turn.tid).events) ≡ b →
+          Ends finish ≡ cond b (given_of now turn.tid).turn_status (Ends Deep) →
           profiled fits (past_by first moves) (run_from guest (suc n) (at_of old))
-          ≡ record { moves = made_of old turn opens ∷ []; past = cut fits (past_after (past_by first moves) (given_of old turn.tid).events); finish = finish }
+          ≡ record { moves = made_of now turn opens ∷ []; past = cut fits (past_after (past_by first moves) (given_of now turn.tid).events); finish = finish }
       ends-so finish n true fit e =
-          ap (profiled fits (past_by first moves)) (run-by_status n ∙ ap (rest_by old turn opens n) (sym e))
-          ∙ profiled-one fits closed (past_by first moves) (made_of old turn opens) finish fit
+          ap (profiled fits (past_by first moves)) (run-by_status n ∙ ap (rest_by now turn opens n) (sym e))
+          ∙ profiled-one fits closed (past_by first moves) (made_of now turn opens) finish fit
       ends-so finish n false not_fits e =
-          let run = rest-head old turn opens n (given_of old turn.tid).turn_status in
+          let run = rest-head now turn opens n (given_of now turn.tid).turn_status in
           let same : Deep ≡ finish = cc in
           ap (profiled fits (past_by first moves)) (run-by_status n ∙ run.1)
-          ∙ profiled-deep fits closed (past_by first moves) (made_of old turn opens) run.0 not_fits
-          ∙ ap (λ f. let p : Profiled = record { moves = made_of old turn opens ∷ []; past = cut fits (past_after (past_by first moves) (given_of old turn.tid).events); finish = f } in p) same
+          ∙ profiled-deep fits closed (past_by first moves) (made_of now turn opens) run.0 not_fits
+          ∙ ap (λ f. let p : Profiled = record { moves = made_of now turn opens ∷ []; past = cut fits (past_after (past_by first moves) (given_of now turn.tid).events); finish = f } in p) same
 
       pub over_moved : (finish : Finish) → status ≡ Ends finish → (n : ℕ) → IsOver Stands (observed fits first start (length moves + suc n)) before new watched after finish
       over_moved finish e n =
-          let next = past_after (past_by first moves) (given_of old turn.tid).events in
-          let p : Profiled = record { moves = moves ++ made_of old turn opens ∷ []; past = cut fits next; finish = finish } in
+          let next = past_after (past_by first moves) (given_of now turn.tid).events in
+          let p : Profiled = record { moves = moves ++ made_of now turn opens ∷ []; past = cut fits next; finish = finish } in
           let ends : observed fits first start (length moves + suc n) ≡ p = whole (suc n) ∙ ap (with_first moves) (ends-so finish n (fits next) refl (sym e ∙ seen.1)) in
           subst (λ q. IsOver Stands q before new watched after finish) (sym ends) (record {
             past = seen.0;
             output = sent-now after is.output;
-            turns = turns-now [] ∙ ap recording (append-nil (moves ++ made_of old turn opens ∷ []));
+            turns = turns-now [] ∙ ap recording (append-nil (moves ++ made_of now turn opens ∷ []));
             finish_is = refl;
           })
 
@@ -212,44 +213,43 @@ module _ {W : Type 0} (Stands : W → List Event → Type 0) (fits : List Event 
       fits-on false status' e on = absurd (on e)
 
       fitting-now : (status ≡ Ends Deep → ⊥) →
-          (fits (past_after (past_by first moves) (given_of old turn.tid).events) ≡ true) × (status ≡ (given_of old turn.tid).turn_status)
-      fitting-now on = fits-on (fits (past_after (past_by first moves) (given_of old turn.tid).events)) (given_of old turn.tid).turn_status seen.1 on
+          (fits (past_after (past_by first moves) (given_of now turn.tid).events) ≡ true) × (status ≡ (given_of now turn.tid).turn_status)
+      fitting-now on = fits-on (fits (past_after (past_by first moves) (given_of now turn.tid).events)) (given_of now turn.tid).turn_status seen.1 on
 
-      leads-on : (k : ℕ) → ((n : ℕ) → run_from guest (suc n) (at_of old) ≡ with_move (made_of old turn opens) (run_from guest n (position_after (position (machine_of old.stepper.machine) turn) (given_of old turn.tid).state k))) →
-          new.turn.scheduler ≡ turn.scheduler → new.turn.left ≡ k → Leads start (moves ++ made_of old turn opens ∷ []) (at_of new)
+      leads-on : (k : ℕ) → ((n : ℕ) → run_from guest (suc n) (at_of old) ≡ with_move (made_of now turn opens) (run_from guest n (position_after (position now turn) (given_of now turn.tid).state k))) →
+          new.turn.scheduler ≡ turn.scheduler → new.turn.left ≡ k → Leads start (moves ++ made_of now turn opens ∷ []) (at_of new)
       leads-on k rest turns left n =
-          let longer : length (moves ++ made_of old turn opens ∷ []) + n ≡ length moves + suc n = omega (arith, length-append moves (made_of old turn opens ∷ [])) in
-          let there = position_after (position (machine_of old.stepper.machine) turn) (given_of old turn.tid).state k in
+          let longer : length (moves ++ made_of now turn opens ∷ []) + n ≡ length moves + suc n = omega (arith, length-append moves (made_of now turn opens ∷ [])) in
+          let there = position_after (position now turn) (given_of now turn.tid).state k in
           let of : List Move → Finish → WrittenRun = λ ms finish. record { moves = ms; finish = finish } in
           ap (λ l. run_from guest l start) longer ∙ goes.leads (suc n) ∙ ap (with_moves moves) (rest n)
-          ∙ ap (λ ms. of ms (run_from guest n there).finish) (sym (append_assoc moves (made_of old turn opens ∷ []) (run_from guest n there).moves))
-          ∙ ap (λ at. with_moves (moves ++ made_of old turn opens ∷ []) (run_from guest n at)) (same k turns left)
+          ∙ ap (λ ms. of ms (run_from guest n there).finish) (sym (append_assoc moves (made_of now turn opens ∷ []) (run_from guest n there).moves))
+          ∙ ap (λ at. with_moves (moves ++ made_of now turn opens ∷ []) (run_from guest n at)) (same k turns left)
         where
           same : (k : ℕ) → new.turn.scheduler ≡ turn.scheduler → new.turn.left ≡ k →
-              position_after (position (machine_of old.stepper.machine) turn) (given_of old turn.tid).state k ≡ at_of new
+              position_after (position now turn) (given_of now turn.tid).state k ≡ at_of new
           same k turns left =
               ap (λ (m : MachineState). let q : Position MachineState = record { state = m; turns = turn.scheduler; left = k } in q) (sym is.state)
               ∙ ap (λ l. let q : Position MachineState = record { state = machine_of new.stepper.machine; turns = turn.scheduler; left = l } in q) (sym left)
               ∙ ap (λ s. let q : Position MachineState = record { state = machine_of new.stepper.machine; turns = s; left = new.turn.left } in q) (sym turns)
 
       module _ (room : length moves < RUN_STEPS) (made_one : new.recorder.made ≤ old.recorder.made + 1) where
-        goes-on : fits (past_after (past_by first moves) (given_of old turn.tid).events) ≡ true → Leads start (moves ++ made_of old turn opens ∷ []) (at_of new) →
+        goes-on : fits (past_after (past_by first moves) (given_of now turn.tid).events) ≡ true → Leads start (moves ++ made_of now turn opens ∷ []) (at_of new) →
             (0 < new.turn.left → IsUnderWay (machine_of new.stepper.machine) new.turn) → (0 < new.turn.left → 0 < new.recorder.made) →
             going.GoesOn Stands fits first start moves before new watched after
         goes-on fit leads ways began =
-            let next = past_after (past_by first moves) (given_of old turn.tid).events in
-            let there : next ≡ past_by first (moves ++ made_of old turn opens ∷ []) = sym (past-last first moves (made_of old turn opens)) in
-            let m = machine_of old.stepper.machine in
-            let past = past_step m turn.tid (past_by first moves) goes.past way.able (omega (arith, goes.few, room)) in
-            let count = length-append moves (made_of old turn opens ∷ []) in
+            let next = past_after (past_by first moves) (given_of now turn.tid).events in
+            let there : next ≡ past_by first (moves ++ made_of now turn opens ∷ []) = sym (past-last first moves (made_of now turn opens)) in
+            let past = past_step now turn.tid (past_by first moves) (past_kept (machine_of old.stepper.machine) now (past_by first moves) kept goes.past) way.able (omega (arith, goes.few, room)) in
+            let count = length-append moves (made_of now turn opens ∷ []) in
             record {
-              move = made_of old turn opens;
+              move = made_of now turn opens;
               going = record {
                 leads = leads;
                 stands = subst (Stands watched) (cut-fits fits next fit ∙ there) seen.0;
                 fitting = ap fits (sym there) ∙ fit;
                 past = subst (λ p. IsPastOf p (machine_of new.stepper.machine)) there (subst (IsPastOf next) (sym is.state) past);
-                few = subst (λ p. steps p ≤ length (moves ++ made_of old turn opens ∷ [])) there (omega (arith, step_adds m turn.tid (past_by first moves), goes.few, count));
+                few = subst (λ p. steps p ≤ length (moves ++ made_of now turn opens ∷ [])) there (omega (arith, step_adds now turn.tid (past_by first moves), goes.few, count));
                 turns = turns-now;
                 made = omega (arith, made_one, goes.made, count);
                 way = ways;
@@ -263,7 +263,7 @@ module _ {W : Type 0} (Stands : W → List Event → Type 0) (fits : List Event 
             let on : status ≡ Ends Deep → ⊥ = λ bad. absurd (let no_end : TurnOver ≡ Ends Deep = sym e ∙ bad in cc) in
             let fit = fitting-now on in
             goes-on fit.0
-            (leads-on 0 (λ n. run-by_status n ∙ ap (rest_by old turn opens n) (sym fit.1 ∙ e)) turns over)
+            (leads-on 0 (λ n. run-by_status n ∙ ap (rest_by now turn opens n) (sym fit.1 ∙ e)) turns over)
             (λ some. absurd (omega (arith, some, over)))
             (λ some. absurd (omega (arith, some, over)))
 
@@ -276,10 +276,9 @@ module _ {W : Type 0} (Stands : W → List Event → Type 0) (fits : List Event 
         goes_turn e turns tid less began =
             let on : status ≡ Ends Deep → ⊥ = λ bad. absurd (let no_end : GoesOn ≡ Ends Deep = sym e ∙ bad in cc) in
             let fit = fitting-now on in
-            let m = machine_of old.stepper.machine in
-            let able : can_run (step m turn.tid).machine turn.tid ≡ true = step_able m turn.tid way.able (goes_went turn.tid (step m turn.tid).outcome (sym fit.1 ∙ e)) in
+            let able : can_run (step now turn.tid).machine turn.tid ≡ true = step_able now turn.tid way.able (goes_went turn.tid (step now turn.tid).outcome (sym fit.1 ∙ e)) in
             goes-on fit.0
-            (leads-on (pred turn.left) (λ n. run-by_status n ∙ ap (rest_by old turn opens n) (sym fit.1 ∙ e)) turns (less ∙ sym (pred-minus turn.left)))
+            (leads-on (pred turn.left) (λ n. run-by_status n ∙ ap (rest_by now turn opens n) (sym fit.1 ∙ e)) turns (less ∙ sym (pred-minus turn.left)))
             (λ some. record {
               last = tid ∙ way.last ∙ ap (λ (k : SchedulerState). k.last) (sym turns);
               able = ap (can_run (machine_of new.stepper.machine)) tid ∙ ap (λ (k : MachineState). can_run k turn.tid) is.state ∙ able;

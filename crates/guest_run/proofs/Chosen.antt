@@ -5,9 +5,8 @@ use Rattle.std.specs.List.{list_any}
 use Rattle.std.specs.Option.{option_or}
 use Rattle.std.proofs.lemmas.Bool.{eq-eqb, or_left, or_right, cases_lt, or_cases}
 use Rattle.std.proofs.lemmas.Bool.Decides.{nat_tests}
-use Rattle.futex_table.specs.Once.{waits}
 use Rattle.guest_calls.specs.declared.thread.Thread.{Thread}
-use Rattle.guest_calls.specs.Kernel.{KernelState, can_run, is_thread, ready}
+use Rattle.guest_calls.specs.Kernel.{KernelState, can_run, is_blocked, is_thread, ready}
 use Rattle.thread_sched.specs.declared.entry.Entry.{Entry}
 use Rattle.thread_sched.specs.declared.turns.Turn.TheVariants.{Run, Mismatch}
 use Rattle.thread_sched.specs.TurnRule.{SchedulerState, able, above, least, lesser, next_thread, scheduled, turn_if, turn_of}
@@ -90,5 +89,5 @@ ready-can waiting (x ∷ threads) t h = by (not (waiting x.tid)) refl (ready-can
 
 pub turn-can : (k : SchedulerState) (kernel : KernelState) (t most : ℕ) → turn_of k (ready kernel) ≡ Run t most → can_run kernel t ≡ true
 turn-can k kernel t most e =
-    let parts = ready-can (λ u. waits kernel.waiting u) kernel.threads t (Has-turn k (ready kernel) t most e) in
+    let parts = ready-can (is_blocked kernel) kernel.threads t (Has-turn k (ready kernel) t most e) in
     ap₂ (λ (a b : Bool). a && b) parts.0 parts.1

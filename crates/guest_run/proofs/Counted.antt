@@ -14,6 +14,7 @@ use Rattle.guest_machine.specs.declared.stepped.Stepped.{Stepped}
 use Rattle.guest_machine.specs.declared.stepped.Stepped.TheVariants.{Went, Yielded, Blocked, Ended, Finished, Faulted}
 use Rattle.guest_machine.specs.Machine.{MachineState}
 use Rattle.guest_machine.specs.Step.{step}
+use Rattle.guest_machine.specs.Waking.{woken}
 use Rattle.guest_machine.proofs.StepParts.{faulted, step_counts, steps-append}
 use Rattle.guest_run.specs.declared.turn_status.TurnStatus.TheVariants.{Ends}
 use Rattle.guest_run.specs.Machine.{guest, turn_status_of}
@@ -54,13 +55,13 @@ chosen_faultless : (at : Position MachineState) (finish : Finish) → chosen gue
 unfolding chosen
 chosen_faultless at finish e = by at.left e
   where
-    turned : (t : Turn) → by_turn at.turns at.state t ≡ Stops finish → 0 + faults finish ≡ 0
+    turned : (t : Turn) → by_turn at.turns (woken at.state) t ≡ Stops finish → 0 + faults finish ≡ 0
     turned (turn.Run tid most) e' = absurd (cc)
     turned turn.Deadlock e' = let same : Deadlock ≡ finish = cc in ap (λ f. 0 + faults f) (sym same)
     turned (turn.Mismatch line) e' = let same : Schedule line ≡ finish = cc in ap (λ f. 0 + faults f) (sym same)
 
     by : (left : ℕ) → chosen_by guest at left ≡ Stops finish → 0 + faults finish ≡ 0
-    by zero e' = turned (turn_of at.turns (ready at.state.kernel)) e'
+    by zero e' = turned (turn_of at.turns (ready (woken at.state).kernel)) e'
     by (suc more) e' = absurd (cc)
 
 guest_counts : (fuel : ℕ) (at : Position MachineState) → moved_steps fuel (run_from guest fuel at)

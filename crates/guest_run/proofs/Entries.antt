@@ -19,7 +19,7 @@ use Rattle.guest_run.specs.Run as runs
 use Rattle.guest_run.specs.Profiled.{first_past, profiled}
 use Rattle.guest_run.specs.Traces.{EveryRunRecordsEntries}
 use Rattle.guest_run.proofs.Bounds.{current-le, profiled-prefix, profiled_within, stays_within}
-use Rattle.guest_run.proofs.Guarded.{IsSoundAfter, Steps, each_move, sound_next, start_able, start_sound}
+use Rattle.guest_run.proofs.Guarded.{IsSoundAfter, Steps, each_move, sound_next, sound_woken, start_able, start_sound}
 
 -- ---- the numbers of threads
 rises-last : (low : ℕ) (threads : List Thread) (last : ℕ) → RisesTo low threads last → low ≤ last
@@ -52,6 +52,7 @@ numbered m tid past sound can =
 run_numbered : Steps IsSoundAfter (λ past moves. AllByRecursion IsNumbered moves)
 run_numbered = record {
   keeps = sound_next;
+  wakes = sound_woken;
   none = λ past. tt;
   moves = λ opens m tid past moves sound can rest. (numbered m tid past sound can, rest);
 }

@@ -13,7 +13,7 @@ use Rattle.guest_run.specs.Run.{events_of, run}
 use Rattle.guest_run.specs.Run as runs
 use Rattle.guest_run.specs.Profiled.{first_past, profiled}
 use Rattle.guest_run.specs.Traces.{EveryRunIsWellFormed}
-use Rattle.guest_run.proofs.Guarded.{IsSoundAfter, Steps, each_move, sound_next, start_able, start_sound}
+use Rattle.guest_run.proofs.Guarded.{IsSoundAfter, Steps, each_move, sound_next, sound_woken, start_able, start_sound}
 use Rattle.guest_run.proofs.Weights.{every_run_light, whole_light}
 
 follows-append : (xs ys past : List Event) → EachFollows xs past → EachFollows ys (past_after past xs) →
@@ -25,6 +25,7 @@ follows-append (e ∷ xs) ys past front back = (front.0, follows-append xs ys (e
 run_follows : Steps IsSoundAfter (λ past moves. EachFollows (events_of moves) past)
 run_follows = record {
   keeps = sound_next;
+  wakes = sound_woken;
   none = λ past. tt;
   moves = λ opens m tid past moves sound can rest.
       follows-append (step m tid).events (events_of moves) past (every_step_continues m tid past sound.0 can).0 rest;

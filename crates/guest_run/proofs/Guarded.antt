@@ -1,22 +1,30 @@
 -- What holds of the moves of a run of the guest, each of a thread that can run.
-use Rattle.std.proofs.Common.{◌≡◌, ℕ, zero, suc, ◌<◌, Bool, true, false, List, [], ◌∷◌, refl, sym, ap, subst, ◌∙◌, arith, inl, inr}
+use Rattle.std.proofs.Common.{◌≡◌, ◌⊎◌, ℕ, zero, suc, ◌<◌, ◌≤◌, Bool, true, false, List, [], ◌∷◌, length, map, refl, sym, ap, subst, ◌∙◌, arith, inl, inr}
 use Rattle.std.specs.Prelude.{◌==◌, ◌||◌, nat_eq, pred}
+use Rattle.std.specs.List.{list_any}
+use Rattle.std.proofs.lemmas.List.{length-map}
 use Rattle.std.proofs.lemmas.Bool.{cases_eq}
 use Rattle.std.proofs.lemmas.Bool.Decides.{nat_tests}
 use Rattle.trace_model.specs.Cut.{past_after}
 use Rattle.trace_model.specs.declared.event_kinds.Event.{Event}
+use Rattle.trace_model.specs.WellFormed.{greatest_start}
+use Rattle.guest_words.specs.declared.limits.TheConstants.{LAST_TID}
 use Rattle.thread_sched.specs.TurnRule.{turn_of}
 use Rattle.thread_sched.specs.declared.turns.Turn.{Turn}
 use Rattle.thread_sched.specs.declared.turns.Turn.TheVariants as turn
 use Rattle.elf_image.specs.Image.{Executable}
 use Rattle.guest_calls.specs.Inputs.{Input}
-use Rattle.guest_calls.specs.Kernel.{ready}
+use Rattle.guest_calls.specs.Kernel.{is_thread, ready}
+use Rattle.guest_calls.specs.declared.thread.Thread.{Thread}
+use Rattle.guest_calls.specs.Invariant.{RisesTo}
 use Rattle.guest_machine.specs.declared.stepped.Stepped.{Stepped}
 use Rattle.guest_machine.specs.declared.stepped.Stepped.TheVariants.{Went, Yielded, Blocked, Ended, Finished, Faulted}
-use Rattle.guest_machine.specs.Laws.{IsWithinLimits, StandsFor}
-use Rattle.guest_machine.specs.Machine.{MachineState, can_run}
+use Rattle.guest_machine.specs.Laws.{IsWithinLimits, KeepsThreads, StandsFor}
+use Rattle.guest_machine.specs.Machine.{Hart, MachineState, can_run}
 use Rattle.guest_machine.specs.Start.{start}
 use Rattle.guest_machine.specs.Step.{step}
+use Rattle.guest_machine.specs.Waking.{woken}
+use Rattle.guest_machine.proofs.ClockWakings.{every_waking_keeps}
 use Rattle.guest_machine.proofs.Follows.{every_step_continues}
 use Rattle.guest_machine.proofs.Limits.{every_step_within}
 use Rattle.guest_run.specs.declared.turn_status.TurnStatus.{TurnStatus}
@@ -28,9 +36,9 @@ use Rattle.guest_run.specs.Profiled.{first_past}
 use Rattle.guest_run.proofs.Able.{step_able}
 use Rattle.guest_run.proofs.Chosen.{turn-can}
 
--- the thread that moves next can run
+-- the thread that moves next can run, in the machine or once all that are due are woken
 abbrev IsChosenAble : MachineState → Chosen MachineState → Type 0
-IsChosenAble m (Moves opens to) = (to.state ≡ m) × (can_run m to.turns.last ≡ true)
+IsChosenAble m (Moves opens to) = ((to.state ≡ m) ⊎ (to.state ≡ woken m)) × (can_run to.state to.turns.last ≡ true)
 IsChosenAble m (Stops finish) = Unit {0}
 
 -- the thread whose turn goes on can run
@@ -41,16 +49,16 @@ chosen_able : (at : Position MachineState) → IsAble at → IsChosenAble at.sta
 unfolding chosen
 chosen_able at able = by at.left able
   where
-    turned : (t : Turn) → turn_of at.turns (ready at.state.kernel) ≡ t →
-        IsChosenAble at.state (by_turn at.turns at.state t)
-    turned (turn.Run tid most) is = (refl, turn-can at.turns at.state.kernel tid most is)
+    turned : (t : Turn) → turn_of at.turns (ready (woken at.state).kernel) ≡ t →
+        IsChosenAble at.state (by_turn at.turns (woken at.state) t)
+    turned (turn.Run tid most) is = (inr refl, turn-can at.turns (woken at.state).kernel tid most is)
     turned turn.Deadlock is = tt
     turned (turn.Mismatch line) is = tt
 
     by : (left : ℕ) → (0 < left → can_run at.state at.turns.last ≡ true) →
         IsChosenAble at.state (chosen_by guest at left)
-    by zero able' = turned (turn_of at.turns (ready at.state.kernel)) refl
-    by (suc more) able' = (refl, able' (omega arith))
+    by zero able' = turned (turn_of at.turns (ready (woken at.state).kernel)) refl
+    by (suc more) able' = (inl refl, able' (omega arith))
 
 pub goes_went : (tid : ℕ) (outcome : Stepped) → turn_status_of tid outcome ≡ GoesOn → outcome ≡ Went
 goes_went tid Went e = refl
@@ -61,9 +69,10 @@ goes_went tid (Finished status) e = absurd (cc)
 goes_went tid (Faulted kind at) e = absurd (cc)
 
 -- A fact of the moves of every run from a past on, by a step of a thread that can run, where something is kept of the machine
--- and the past.
+-- and the past, also where threads are woken.
 pub record Steps (Kept : MachineState → List Event → Type 0) (Holds : List Event → List Move → Type 0) : Type 0 where
   pub keeps : (m : MachineState) (tid : ℕ) (past : List Event) → Kept m past → can_run m tid ≡ true → Kept (step m tid).machine (past_after past (step m tid).events)
+  pub wakes : (m : MachineState) (past : List Event) → Kept m past → Kept (woken m) past
   pub none : (past : List Event) → Holds past []
   pub moves : (opens : Bool) (m : MachineState) (tid : ℕ) (past : List Event) (moves : List Move) → Kept m past → can_run m tid ≡ true →
       Holds (past_after past (step m tid).events) moves → Holds past (move_of opens tid (guest.step m tid) ∷ moves)
@@ -97,8 +106,11 @@ each_move Kept Holds steps (suc more) at past kept able = by (chosen guest at) (
 
     by : (c : Chosen MachineState) → IsChosenAble at.state c → HoldsFor Kept Holds more → Holds past (go_on guest (run_from guest more) c).moves
     by (Moves opens to) is ih =
-        by_status ih opens to (guest.step to.state to.turns.last).turn_status (subst (λ m. Kept m past) (sym is.0) kept)
-        (ap (λ m. can_run m to.turns.last) is.0 ∙ is.1) refl
+        let still : Kept to.state past = elim is.0 [
+          | inl same ↦ subst (λ m. Kept m past) (sym same) kept
+          | inr later ↦ subst (λ m. Kept m past) (sym later) (steps.wakes at.state past kept)
+        ] in
+        by_status ih opens to (guest.step to.state to.turns.last).turn_status still is.1 refl
     by (Stops finish) is ih = steps.none past
 
 -- ---- runs from the start
@@ -109,6 +121,28 @@ IsSoundAfter m past = StandsFor m past × IsWithinLimits m
 pub sound_next : (m : MachineState) (tid : ℕ) (past : List Event) → IsSoundAfter m past → can_run m tid ≡ true →
     IsSoundAfter (step m tid).machine (past_after past (step m tid).events)
 sound_next m tid past sound can = ((every_step_continues m tid past sound.0 can).1, every_step_within m tid sound.0.same_threads sound.1)
+
+-- a machine with the same threads stands for the same past
+pub stands_kept : (m new : MachineState) (past : List Event) → KeepsThreads m new → StandsFor m past → StandsFor new past
+stands_kept m new past keeps stands = record {
+  same_threads = keeps.numbers ∙ stands.same_threads ∙ ap (map (λ (t : Thread). t.tid)) (sym keeps.threads);
+  rising = subst (λ (ts : List Thread). RisesTo 0 ts new.kernel.last_tid) (sym keeps.threads) (subst (λ (n : ℕ). RisesTo 0 m.kernel.threads n) (sym keeps.last) stands.rising);
+  live = λ tid. stands.live tid ∙ ap (list_any (is_thread tid)) (sym keeps.threads);
+  started = subst (λ (n : ℕ). greatest_start past ≤ n) (sym keeps.last) stands.started;
+}
+
+pub limits_kept : (m new : MachineState) → KeepsThreads m new → IsWithinLimits m → IsWithinLimits new
+limits_kept m new keeps within =
+    let same : length new.harts ≡ length m.harts = sym (length-map new.harts (λ (h : Hart). h.0)) ∙ ap length keeps.numbers ∙ length-map m.harts (λ (h : Hart). h.0) in
+    record {
+      few = omega (arith, same, within.few);
+      last = subst (λ (n : ℕ). n ≤ LAST_TID) (sym keeps.last) within.last;
+    }
+
+pub sound_woken : (m : MachineState) (past : List Event) → IsSoundAfter m past → IsSoundAfter (woken m) past
+sound_woken m past sound =
+    let keeps = every_waking_keeps m in
+    (stands_kept m (woken m) past keeps sound.0, limits_kept m (woken m) keeps sound.1)
 
 -- the first thread lives
 one_live : (t : ℕ) → (nat_eq t 1 || false) ≡ ((1 == t) || false)

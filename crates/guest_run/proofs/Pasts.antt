@@ -6,12 +6,14 @@ use Rattle.trace_model.specs.Cut.{past_after}
 use Rattle.trace_model.specs.Profile.{steps}
 use Rattle.trace_model.specs.WellFormed.{IsLight, IsWellFormed}
 use Rattle.trace_model.proofs.Parts.{short_light}
+use Rattle.guest_machine.specs.Laws.{KeepsThreads}
 use Rattle.guest_machine.specs.Machine.{MachineState, can_run}
 use Rattle.guest_machine.specs.Step.{step}
 use Rattle.guest_machine.proofs.Follows.{every_step_continues}
 use Rattle.guest_machine.proofs.Limits.{every_step_within}
 use Rattle.guest_machine.proofs.StepParts.{every_step_part, step_counts, steps-append}
 use Rattle.guest_run.specs.Going.{IsPastOf}
+use Rattle.guest_run.proofs.Guarded.{limits_kept, stands_kept}
 use Rattle.guest_run.proofs.Counted.{steps-reverse}
 use Rattle.guest_run.proofs.Formed.{AllFollow, all_after, formed_of}
 use Rattle.guest_run.proofs.ShortParts.{move_short}
@@ -19,6 +21,15 @@ use Rattle.guest_run.proofs.ShortParts.{move_short}
 all_follow : (past : List Event) → IsWellFormed past → AllFollow past
 all_follow [] formed = tt
 all_follow (e ∷ past) formed = (formed.0, all_follow past formed.2)
+
+-- a machine with the same threads has the same past
+pub past_kept : (m new : MachineState) (past : List Event) → KeepsThreads m new → IsPastOf past m → IsPastOf past new
+past_kept m new past keeps is = record {
+  threads = stands_kept m new past keeps is.threads;
+  limits = limits_kept m new keeps is.limits;
+  formed = is.formed;
+  short = is.short;
+}
 
 -- it has one more step at most
 pub step_adds : (m : MachineState) (tid : ℕ) (past : List Event) → steps (past_after past (step m tid).events) ≤ steps past + 1

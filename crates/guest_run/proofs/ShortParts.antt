@@ -19,7 +19,7 @@ use Rattle.guest_run.specs.Run.{events_of, run}
 use Rattle.guest_run.specs.Run as runs
 use Rattle.guest_run.specs.Profiled.{first_past, profiled}
 use Rattle.guest_run.specs.Traces.{EveryRunIsOfShortParts}
-use Rattle.guest_run.proofs.Guarded.{IsSoundAfter, Steps, each_move, sound_next, start_able, start_sound}
+use Rattle.guest_run.proofs.Guarded.{IsSoundAfter, Steps, each_move, sound_next, sound_woken, start_able, start_sound}
 
 abbrev HasShortParts : List Event → Type 0
 HasShortParts past = All IsShort (parts past)
@@ -64,6 +64,7 @@ move_short tid (e ∷ events) past part short =
 run_short : Steps IsSoundAfter (λ past moves. HasShortParts past → HasShortParts (past_after past (events_of moves)))
 run_short = record {
   keeps = sound_next;
+  wakes = sound_woken;
   none = λ past short. short;
   moves = λ opens m tid past moves sound can rest short.
       let events = (step m tid).events in

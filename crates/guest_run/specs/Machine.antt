@@ -7,6 +7,7 @@ use Rattle.guest_machine.specs.declared.stepped.Stepped.{Stepped}
 use Rattle.guest_machine.specs.declared.stepped.Stepped.TheVariants.{Went, Yielded, Blocked, Ended, Finished, Faulted}
 use Rattle.guest_machine.specs.Machine.{MachineState}
 use Rattle.guest_machine.specs.Step.{StepResult, step}
+use Rattle.guest_machine.specs.Waking.{woken}
 use Rattle.guest_run.specs.declared.turn_status.TurnStatus.{TurnStatus}
 use Rattle.guest_run.specs.declared.turn_status.TurnStatus.TheVariants.{GoesOn, TurnOver, Ends}
 
@@ -36,10 +37,10 @@ pub record Machine (State : Type 0) : Type 0 where
 abbrev pub progress_of : ℕ → StepResult → Progress MachineState
 progress_of tid r = record { state = r.machine; events = r.events; out = r.out; turn_status = turn_status_of tid r.outcome }
 
--- The guest, whose threads no clock wakes.
+-- The guest, whose threads the clock wakes.
 abbrev pub guest : Machine MachineState
 guest = record {
   step = λ m tid. progress_of tid (step m tid);
   ready = λ m. ready m.kernel;
-  wake = λ m. m;
+  wake = woken;
 }

@@ -84,7 +84,7 @@ impl Runner {
         ensures same { W.fits observer.new ≡ W.fits observer.old }
         ensures made { IfOk result (λ end. self.new.recorder.made ≤ self.old.recorder.made + 1) }
     {
-        let opens = match self.turn.choose(&self.stepper.machine) {
+        let opens = match self.turn.choose(&mut self.stepper.machine) {
             Choice::Stops { finish } => return Ok(Some(finish)),
             Choice::Moves { opens } => opens,
         };

@@ -2,7 +2,7 @@
 ghost use Rattle.std.specs.Prelude.{◌≡◌, ◌≤◌, ◌+◌, ◌<◌, [], ◌∷◌, List, true, false, IfOk};
 ghost use Rattle.thread_sched.specs.TurnRule.{SchedulerState};
 ghost use Rattle.guest_machine.specs.Kept.{machine_of};
-ghost use Rattle.guest_machine.specs.Machine.{can_run};
+ghost use Rattle.guest_machine.specs.Laws.{KeepsThreads};
 ghost use Rattle.guest_run.specs.Machine.{guest};
 ghost use Rattle.guest_run.specs.CurrentTurn.{IsUnderWay, chosen_of, position, recorded};
 ghost use Rattle.guest_run.specs.Run.{Move, chosen};
@@ -40,15 +40,17 @@ impl CurrentTurn {
         }
     }
 
-    // Begins a turn.
+    // Begins a turn, once all threads are woken that are due by the clock.
     #[tactic(auto, unfolding(crate::specs::Run::chosen))]
     #[cold]
     #[inline(never)]
-    fn begin_turn(&mut self, machine: &Machine) -> Choice
+    fn begin_turn(&mut self, machine: &mut Machine) -> Choice
         requires { self.old.left ≡ 0 }
-        ensures chosen { chosen guest (position (machine_of machine.now) self.old) ≡ chosen_of (machine_of machine.now) self.new result }
-        ensures way { (opens : _) → result ≡ Choice.Moves opens → (opens ≡ true) × IsUnderWay (machine_of machine.now) self.new }
+        ensures chosen { chosen guest (position (machine_of machine.old) self.old) ≡ chosen_of (machine_of machine.new) self.new result }
+        ensures way { (opens : _) → result ≡ Choice.Moves opens → (opens ≡ true) × IsUnderWay (machine_of machine.new) self.new }
+        ensures kept { KeepsThreads (machine_of machine.old) (machine_of machine.new) }
     {
+        machine.wake_due();
         let mut live = ReadyList::new();
         machine.ready_into(&mut live);
         match self.scheduler.next(&live) {
@@ -69,10 +71,11 @@ impl CurrentTurn {
     /// Chooses who moves next.
     #[tactic(auto, unfolding(crate::specs::Run::chosen))]
     #[inline(always)]
-    pub(crate) fn choose(&mut self, machine: &Machine) -> Choice
-        requires { 0 < self.old.left → IsUnderWay (machine_of machine.now) self.old }
-        ensures chosen { chosen guest (position (machine_of machine.now) self.old) ≡ chosen_of (machine_of machine.now) self.new result }
-        ensures way { (opens : _) → result ≡ Choice.Moves opens → IsUnderWay (machine_of machine.now) self.new }
+    pub(crate) fn choose(&mut self, machine: &mut Machine) -> Choice
+        requires { 0 < self.old.left → IsUnderWay (machine_of machine.old) self.old }
+        ensures chosen { chosen guest (position (machine_of machine.old) self.old) ≡ chosen_of (machine_of machine.new) self.new result }
+        ensures way { (opens : _) → result ≡ Choice.Moves opens → IsUnderWay (machine_of machine.new) self.new }
+        ensures kept { KeepsThreads (machine_of machine.old) (machine_of machine.new) }
         ensures going { result ≡ Choice.Moves false → 0 < self.old.left }
     {
         if self.left > 0 {

@@ -18,7 +18,7 @@ nat_eq-sym : (a b : ℕ) → nat_eq a b ≡ nat_eq b a
 nat_eq-sym a b = grind (arith, nat_tests)
 
 -- who has no deadline has none in a part of the list
-has-filter : (p : Deadline → Bool) (xs : List Deadline) (t : ℕ) → has xs t ≡ false → has (filter p xs) t ≡ false
+pub has-filter : (p : Deadline → Bool) (xs : List Deadline) (t : ℕ) → has xs t ≡ false → has (filter p xs) t ≡ false
 has-filter p [] t e = refl
 has-filter p (x ∷ xs) t e =
     let here = or-left (nat_eq x.tid t) (has xs t) e in

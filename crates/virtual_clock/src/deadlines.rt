@@ -87,4 +87,11 @@ impl Deadlines {
     {
         self.list.retain(|d| d.tid != tid);
     }
+
+    /// No thread has a deadline any more.
+    pub fn clear(&mut self)
+        ensures empty { self.new ≡ [] }
+    {
+        self.list.clear();
+    }
 }

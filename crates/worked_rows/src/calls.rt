@@ -97,6 +97,11 @@ impl Guest {
         let (memory, held, events) = (&mut self.memory, &mut self.held, &mut self.events);
         Ok(self.kernel.call(memory, held, tid, &cpu, events)?)
     }
+
+    // Which thread the clock wakes, with which answer.
+    fn wake(&mut self) -> Option<(Tid, u32)> {
+        self.kernel.wake_due()
+    }
 }
 
 // An error is its number with a minus, and any other value is in hexadecimal.
@@ -149,6 +154,17 @@ pub fn answer(alloc: Global, guest: &mut Guest, row: &str) -> Result<String> {
         Some((channel, bytes)) => {
             let (count, first) = (bytes.len(), &bytes[..bytes.len().min(4)]);
             Ok(format!(in alloc; "{text}, on {channel} {count} bytes {first:?}")?)
+        }
+    }
+}
+
+/// Which thread the clock wakes, and with which answer.
+pub fn wake(alloc: Global, guest: &mut Guest) -> Result<String> {
+    match guest.wake() {
+        None => Ok(String::from_str(alloc, "none")?),
+        Some((tid, value)) => {
+            let (number, text) = (tid.number(), text_of_value(alloc, value)?);
+            Ok(format!(in alloc; "{number} {text}")?)
         }
     }
 }

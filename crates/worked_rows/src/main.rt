@@ -5,6 +5,7 @@
 //!     instruction W X5 X6                 what the instruction does
 //!     guest                               a new guest
 //!     call THREAD NUMBER A0 .. A5         what the kernel answers the guest
+//!     wake due                            which thread the clock wakes, and with which answer
 //!     report LINE/LINE/..                 whether the lines are a report
 //!     schedule LINE/LINE/..               whether they are a schedule
 //!     file BYTE BYTE ..                   the file that is read
@@ -53,6 +54,8 @@ impl Rows {
             instructions::answer(alloc, &mut self.memory, row)?
         } else if kind == "call" {
             calls::answer(alloc, &mut self.guest, row)?
+        } else if kind == "wake" {
+            calls::wake(alloc, &mut self.guest)?
         } else if kind == "report" {
             reports::answer(alloc, row)?
         } else if kind == "schedule" {

@@ -6,7 +6,7 @@ use Rattle.guest_calls.specs.Outcome.{asked, Does}
 use Rattle.guest_calls.specs.Results.{Call, CallResult, number, returns}
 use Rattle.guest_calls.specs.Table.{constant_answer}
 use Rattle.guest_calls.proofs.Refusals.{does_nothing, does_yield}
-use Rattle.guest_calls.proofs.Rows.{call_openat, call_close, call_llseek, call_read, call_readv, call_exit, call_exit_group, call_set_tid_address, call_sched_yield, call_rt_sigprocmask, call_gettid, call_brk, call_munmap, call_clone, call_mmap2, call_mprotect, call_clock_gettime, call_futex, call_constant, DoesNothing}
+use Rattle.guest_calls.proofs.Rows.{call_openat, call_close, call_llseek, call_read, call_readv, call_exit, call_exit_group, call_set_tid_address, call_sched_yield, call_rt_sigprocmask, call_gettid, call_brk, call_munmap, call_clone, call_mmap2, call_mprotect, call_clock_gettime, call_clock_nanosleep, call_futex, call_constant, DoesNothing}
 use Rattle.guest_calls.proofs.state.State.call.Goals as goal
 
 pub returns-in-56-clause-does : goal.returns-in-56-clause-does
@@ -111,6 +111,12 @@ returns-in-403-clause-does c =
     let is : number made ≡ 403 = sym c.number.ensures ∙ c.in-403.is in
     subst (λ (r : CallResult). Does r c.clock_gettime.result c.args.self.now c.clock_gettime.new.memory c.clock_gettime.new.held c.args.events.now c.clock_gettime.new.events) (sym (call_clock_gettime made is)) (c.clock_gettime.ensures.does)
 
+pub returns-in-407-clause-does : goal.returns-in-407-clause-does
+returns-in-407-clause-does c =
+    let made : Call = asked c.args.caller.now c.args.self.now c.args.memory.now c.args.held.now in
+    let is : number made ≡ 407 = sym c.number.ensures ∙ c.in-407.is in
+    subst (λ (r : CallResult). Does r c.clock_nanosleep.result c.clock_nanosleep.new.self c.args.memory.now c.args.held.now c.args.events.now c.clock_nanosleep.new.events) (sym (call_clock_nanosleep made is)) (c.clock_nanosleep.ensures.does c.args.held.now)
+
 pub returns-in-422-clause-does : goal.returns-in-422-clause-does
 returns-in-422-clause-does c =
     let made : Call = asked c.args.caller.now c.args.self.now c.args.memory.now c.args.held.now in
@@ -120,7 +126,7 @@ returns-in-422-clause-does c =
 pub returns-in_default-clause-does : goal.returns-in_default-clause-does
 returns-in_default-clause-does c =
     let made : Call = asked c.args.caller.now c.args.self.now c.args.memory.now c.args.held.now in
-    let none : DoesNothing c.number.result = record { n56 = λ e. omega arith; n57 = λ e. omega arith; n62 = λ e. omega arith; n63 = λ e. omega arith; n64 = λ e. c.requires.no_write (sym c.number.ensures ∙ e); n65 = λ e. omega arith; n66 = λ e. c.requires.no_writev (sym c.number.ensures ∙ e); n93 = λ e. omega arith; n94 = λ e. omega arith; n96 = λ e. omega arith; n124 = λ e. omega arith; n135 = λ e. omega arith; n178 = λ e. omega arith; n214 = λ e. omega arith; n215 = λ e. omega arith; n220 = λ e. omega arith; n222 = λ e. omega arith; n226 = λ e. omega arith; n403 = λ e. omega arith; n422 = λ e. omega arith } in
+    let none : DoesNothing c.number.result = record { n56 = λ e. omega arith; n57 = λ e. omega arith; n62 = λ e. omega arith; n63 = λ e. omega arith; n64 = λ e. c.requires.no_write (sym c.number.ensures ∙ e); n65 = λ e. omega arith; n66 = λ e. c.requires.no_writev (sym c.number.ensures ∙ e); n93 = λ e. omega arith; n94 = λ e. omega arith; n96 = λ e. omega arith; n124 = λ e. omega arith; n135 = λ e. omega arith; n178 = λ e. omega arith; n214 = λ e. omega arith; n215 = λ e. omega arith; n220 = λ e. omega arith; n222 = λ e. omega arith; n226 = λ e. omega arith; n403 = λ e. omega arith; n407 = λ e. omega arith; n422 = λ e. omega arith } in
     let same = call_constant made (subst DoesNothing c.number.ensures none) in
     let value : c.constant_answer.result ≡ constant_answer (number made) = c.constant_answer.ensures ∙ ap constant_answer c.number.ensures in
     subst (λ (r : CallResult). Does r (Back c.constant_answer.result) c.args.self.now c.args.memory.now c.args.held.now c.args.events.now c.args.events.now)

@@ -2,7 +2,8 @@ use Rattle.std.proofs.Common.{◌≡◌, ℕ, Some, None, ap, sym, subst, ◌∙
 use Rattle.std.specs.Prelude.{bit_and}
 use Rattle.guest_calls.specs.declared.answer.Answer.TheVariants.{Back}
 use Rattle.guest_calls.specs.declared.operation.Operation.{Operation}
-use Rattle.guest_calls.specs.Futex.{compares, count_woken, futex_at, futex_tests, futex_value, operation, operation_numbered, performed, waits_for, wakes}
+use Rattle.guest_calls.specs.Futex.{count_woken, futex_at, futex_tests, futex_value, operation, operation_numbered, performed, wakes, waited, wait_end}
+use Rattle.guest_calls.specs.declared.operation.Operation.TheVariants.{WaitBitset}
 use Rattle.guest_calls.specs.Outcome.{asked, Does}
 use Rattle.guest_calls.specs.Results.{Call, CallResult, first_answer, returns, ◌▷◌}
 use Rattle.guest_calls.proofs.Refusals.{does_nothing, futex_performed, futex_refused}
@@ -31,7 +32,7 @@ returns-in-WaitBitset-clause-does c = λ held.
     let is : operation made ≡ Some c.in-Some.operation = ap (λ (n : ℕ). operation_numbered (bit_and n 4294966911)) (sym c.argument.ensures) ∙ sym c.numbered.ensures ∙ c.in-Some.is in
     let passed : first_answer (futex_tests c.in-Some.operation made) ≡ None = sym (c.refusal.ensures.value c.args.self.now held) ∙ c.in_default-refusal.is in
     let same = futex_performed made c.in-Some.operation is passed ∙ ap (λ (o : Operation). performed o made) c.in-WaitBitset.is in
-    subst (λ (r : CallResult). Does r c.futex_wait-in-WaitBitset.result c.futex_wait-in-WaitBitset.new.self c.args.memory.now held c.args.events.now c.futex_wait-in-WaitBitset.new.events) (sym same) (subst (λ (bits : ℕ). Does (returns made 0 ▷ compares made (futex_value made) (waits_for made bits)) c.futex_wait-in-WaitBitset.result c.futex_wait-in-WaitBitset.new.self c.args.memory.now held c.args.events.now c.futex_wait-in-WaitBitset.new.events) c.argument-in-WaitBitset.ensures (c.futex_wait-in-WaitBitset.ensures.does held))
+    subst (λ (r : CallResult). Does r c.futex_wait-in-WaitBitset.result c.futex_wait-in-WaitBitset.new.self c.args.memory.now held c.args.events.now c.futex_wait-in-WaitBitset.new.events) (sym same) (subst (λ (bits : ℕ). Does (waited made bits (wait_end WaitBitset made)) c.futex_wait-in-WaitBitset.result c.futex_wait-in-WaitBitset.new.self c.args.memory.now held c.args.events.now c.futex_wait-in-WaitBitset.new.events) c.argument-bits.ensures (c.futex_wait-in-WaitBitset.ensures.does held))
 
 pub returns-in-Wake-clause-does : goal.returns-in-Wake-clause-does
 returns-in-Wake-clause-does c = λ held.
