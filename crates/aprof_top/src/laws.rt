@@ -3,6 +3,7 @@ ghost use Rattle.aprof_top.specs.Laws.{OneOutcome, RunsAreBounded, TwoRunsAgree}
 
 use demo_guest::a_demo_has_one_file;
 use guest_run::{recordings_are_schedules, runs_replay, runs_stay_within};
+use trace_file::{a_text_is_of_one_trace, bytes_read_in_one_way};
 
 /// A command has at most one outcome over the files that it loads: one verdict, with the same output and the same files to
 /// store.
@@ -10,6 +11,8 @@ pub fn a_command_has_one_outcome()
     ensures { OneOutcome }
 {
     a_demo_has_one_file();
+    a_text_is_of_one_trace();
+    bytes_read_in_one_way();
 }
 
 /// Two runs agree, where the second is under the recording that the first stored, with the same other words and files: verdict,
