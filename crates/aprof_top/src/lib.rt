@@ -24,7 +24,7 @@ mod trace_job;
 mod trace_names;
 mod traced_run;
 
-pub use laws::{a_command_has_one_outcome, runs_are_bounded, two_runs_agree};
+pub use laws::{a_command_has_one_outcome, runs_are_bounded, traces_replay, two_runs_agree};
 pub use top::aprof;
 
 #[cfg(test)]
