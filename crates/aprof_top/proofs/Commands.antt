@@ -1,7 +1,7 @@
 -- From the loads and the run of a command to how it ends.
-use Rattle.std.proofs.Common.{◌∙◌, ◌≡◌, ◌⊎◌, ℕ, ◌<◌, Bool, true, false, cond, List, [], Option, Some, None, Err, refl, sym, ap, subst, inl, inr, arith, length, slice_get}
+use Rattle.std.proofs.Common.{◌∙◌, ◌≡◌, ◌⊎◌, ℕ, ◌<◌, Bool, true, false, cond, List, [], Option, Some, None, Err, refl, sym, ap, subst, inl, inr, arith, length, slice_get, ◌≤◌}
 use Rattle.std.specs.Prelude.{nat_lt}
-use Rattle.std.specs.List.{list_any}
+use Rattle.std.specs.List.{AllByRecursion, list_any}
 use Rattle.std.proofs.lemmas.Bool.Decides.{nat_tests}
 use Rattle.std.proofs.lemmas.Option.{slice_get_within}
 use Rattle.command_line.specs.Options.{Asked, AsksFor, CacheOptions, GuestOptions, RunOptions, TraceOptions, has_zero}
@@ -17,10 +17,11 @@ use Rattle.aprof_top.specs.declared.ending.Ending as declared
 use Rattle.aprof_top.specs.declared.ending.Ending.TheVariants as ending
 use Rattle.aprof_top.specs.declared.ending.Verdict as verdicts
 use Rattle.aprof_top.specs.declared.ending.Verdict.TheVariants as verdict
-use Rattle.aprof_top.specs.Ending.{AskedEnds, Delivers, end_of, guest_of, of_command, of_put}
+use Rattle.aprof_top.specs.Ending.{AskedEnds, Delivers, end_of, of_command, wanted_of, of_put}
 use Rattle.aprof_top.specs.Ends.{Reaches}
 use Rattle.aprof_top.specs.Ends.End.{Decided}
-use Rattle.aprof_top.specs.Found.{Decision, Found, paths_of}
+use Rattle.aprof_top.specs.Found.{Decision, Found, length_limit, paths_of}
+use Rattle.aprof_top.specs.Limits.{file_limit}
 use Rattle.aprof_top.specs.Loading.{LoadsEnd}
 use Rattle.aprof_top.specs.Loads.{loaded_of, loaded_paths, passes_limit, shared_count}
 use Rattle.aprof_top.specs.Outcome.{Follows, IsDemo, IsOutcome, IsRun, IsUndecided, Job, Outcome, cache_job, refusal, run_job, stage, trace_job}
@@ -30,6 +31,7 @@ use Rattle.aprof_top.specs.Jobs.{FilesRun, summed}
 use Rattle.aprof_top.specs.Preparing.{AreAll, AreRefused}
 use Rattle.aprof_top.proofs.Runs.{FilesRun-refused}
 use Rattle.aprof_top.specs.Sources.{path_of}
+use Rattle.aprof_top.specs.Sources.Wanted.{Nothing, OfGuest}
 use Rattle.aprof_top.specs.Verdicts.{IsOfRun}
 use Rattle.aprof_top.proofs.Sinks.{appended-nothing, same_files, takes_none}
 
@@ -56,7 +58,7 @@ complete_stage options files few all =
 
 -- ---- refusals
 -- a verdict that stores nothing was reached, and the sinks are untouched
-refused_by : (words : List (List ℕ)) (v : verdicts.Verdict) (files now : FilesState) (out err : SinkState) (found : Found words (outside files out err) (outside now out err)) → IsOutcome found.asked found.files (refusal v) → AreFiles files now → Reaches words (Decided v) (outside files out err) (outside now out err)
+pub refused_by : (words : List (List ℕ)) (v : verdicts.Verdict) (files now : FilesState) (out err : SinkState) (found : Found words (outside files out err) (outside now out err)) → IsOutcome found.asked found.files (refusal v) → AreFiles files now → Reaches words (Decided v) (outside files out err) (outside now out err)
 refused_by words v files now out err found written unchanged = (
   record { found = found; outcome = refusal v; written = written },
   refl,
@@ -69,7 +71,7 @@ Reaches-bad_command words files out err asks =
     refused_by words verdict.BadCommand files files out err (record { asked = None; asks = asks; files = []; held = tt; limit = inl tt }) refl (same_files files)
 
 -- no command was made of the words
-pub Reaches-unread : (words : List (List ℕ)) (e : CommandError) (outside' : Outside) → (e ≡ command.Refused → AsksFor words None) → (e ≡ command.Memory → list_any has_zero words ≡ false) → Reaches words (end_of None (of_command e)) outside' outside'
+pub Reaches-unread : (words : List (List ℕ)) (e : CommandError) (outside' : Outside) → (e ≡ command.Refused → AsksFor words None) → (e ≡ command.Memory → list_any has_zero words ≡ false) → Reaches words (end_of Nothing (of_command e)) outside' outside'
 Reaches-unread words command.Refused o asks zero = Reaches-bad_command words o.files o.out o.err (asks refl)
 Reaches-unread words command.Memory o asks zero = record { no_zero = zero refl; done = inl refl }
 
@@ -79,16 +81,17 @@ pub record IsJob (asked : Asked) (job : Job) : Type 0 where
   pub outcome : (files : List (List ℕ)) (outcome : Outcome) → Follows job files outcome (stage job.guest files) → IsOutcome (Some asked) files outcome
   pub undecided : (files : List (List ℕ)) → stage job.guest files ≡ Loading → IsUndecided (Some asked) files
   pub paths : loaded_paths job.guest ≡ paths_of (Some asked)
-  pub guest : guest_of asked ≡ Some job.guest
+  pub wanted : wanted_of asked ≡ OfGuest job.guest
+  pub limit : length_limit (Some asked) ≡ file_limit
 
 pub is_run_job : (options : RunOptions) → IsJob (Run options) (run_job options)
-is_run_job options = record { outcome = λ files outcome follows. follows; undecided = λ files is. is; paths = refl; guest = refl }
+is_run_job options = record { outcome = λ files outcome follows. follows; undecided = λ files is. is; paths = refl; wanted = refl; limit = refl }
 
 pub is_trace_job : (options : TraceOptions) → IsJob (Trace options) (trace_job options)
-is_trace_job options = record { outcome = λ files outcome follows. follows; undecided = λ files is. is; paths = refl; guest = refl }
+is_trace_job options = record { outcome = λ files outcome follows. follows; undecided = λ files is. is; paths = refl; wanted = refl; limit = refl }
 
 pub is_cache_job : (options : CacheOptions) → IsJob (Cache options) (cache_job options)
-is_cache_job options = record { outcome = λ files outcome follows. follows; undecided = λ files is. is; paths = refl; guest = refl }
+is_cache_job options = record { outcome = λ files outcome follows. follows; undecided = λ files is. is; paths = refl; wanted = refl; limit = refl }
 
 -- ---- before its loads and after them; its sinks are untouched
 module _ (asked : Asked) (job : Job) (is_job : IsJob asked job) (files loaded : FilesState) (out err : SinkState) where
@@ -102,19 +105,26 @@ module _ (asked : Asked) (job : Job) (is_job : IsJob asked job) (files loaded : 
   held_by : (contents : Option Contents) (found : List (List ℕ)) → AreHeld contents (loaded_paths job.guest) found → AreHeld contents (paths_of (Some asked)) found
   held_by contents found held = subst (λ paths. AreHeld contents paths found) is_job.paths held
 
-  end_is : (e : declared.Ending) → end_of (Some job.guest) e ≡ end_of (guest_of asked) e
-  end_is e = ap (λ guest. end_of guest e) (sym is_job.guest)
+  limited_by : (found : List (List ℕ)) → AllByRecursion (λ file. length file ≤ file_limit) found → AllByRecursion (λ file. length file ≤ length_limit (Some asked)) found
+  limited_by found each = subst (λ most. AllByRecursion (λ file. length file ≤ most) found) (sym is_job.limit) each
+
+  limited : {rose : Type 0} (found : List (List ℕ)) → AllByRecursion (λ file. length file ≤ file_limit) found ⊎ rose → AllByRecursion (λ file. length file ≤ length_limit (Some asked)) found ⊎ rose
+  limited found (inl each) = inl (limited_by found each)
+  limited found (inr rose) = inr rose
+
+  end_is : (e : declared.Ending) → end_of (OfGuest job.guest) e ≡ end_of (wanted_of asked) e
+  end_is e = ap (λ what. end_of what e) (sym is_job.wanted)
 
   -- how the command ends, told by its guest
   abbrev Told : Outside → declared.Ending → Type 0
-  Told after e = (words : List (List ℕ)) → AsksFor words (Some asked) → Reaches words (end_of (Some job.guest) e) before after
+  Told after e = (words : List (List ℕ)) → AsksFor words (Some asked) → Reaches words (end_of (OfGuest job.guest) e) before after
 
   asked_ends : (after : Outside) (e : declared.Ending) → Told after e → AskedEnds asked before after e
   asked_ends after e told words asks = subst (λ end. Reaches words end before after) (end_is e) (told words asks)
 
   told_unloaded : (e : declared.Ending) → LoadsEnd job.guest files loaded e → Told between e
   told_unloaded (ending.CannotRead source) fails words asks = record {
-    found = record { asked = Some asked; asks = asks; files = fails.files; held = held_by files.contents fails.files fails.held; limit = inl fails.each };
+    found = record { asked = Some asked; asks = asks; files = fails.files; held = held_by files.contents fails.files fails.held; limit = inl (limited_by fails.files fails.each) };
     undecided = is_job.undecided fails.files (loading_stage job.guest fails.files (path_of job.guest source) fails.few fails.next);
     next = subst (λ paths. slice_get paths (length fails.files) ≡ Some (path_of job.guest source)) is_job.paths fails.next;
     failed = fails.failed;
@@ -124,7 +134,7 @@ module _ (asked : Asked) (job : Job) (is_job : IsJob asked job) (files loaded : 
   }
   told_unloaded (ending.Decided why) (too_large, passes) words asks =
       refused_by words why files loaded out err
-      (record { asked = Some asked; asks = asks; files = passes.files; held = held_by files.contents passes.files passes.held; limit = passes.limit })
+      (record { asked = Some asked; asks = asks; files = passes.files; held = held_by files.contents passes.files passes.held; limit = limited passes.files passes.limit })
       (is_job.outcome passes.files (refusal why) (subst (λ s. Follows job passes.files (refusal why) s) (sym (past_stage job.guest passes.files passes.many)) (ap refusal too_large)))
       passes.unchanged
   told_unloaded ending.CannotWrite ends' words asks = absurd ends'
@@ -143,7 +153,7 @@ module _ (asked : Asked) (job : Job) (is_job : IsJob asked job) (files loaded : 
 
     abbrev decision : (words : List (List ℕ)) (after : Outside) (outcome : Outcome) → AsksFor words (Some asked) → IsRun job (loaded_of job.guest found) outcome → Decision words before after
     decision words after outcome asks is_run = record {
-      found = record { asked = Some asked; asks = asks; files = found; held = held_by files.contents found all.are.held; limit = inl all.are.each };
+      found = record { asked = Some asked; asks = asks; files = found; held = held_by files.contents found all.are.held; limit = inl (limited_by found all.are.each) };
       outcome = outcome;
       written = decided outcome is_run;
     }
@@ -187,7 +197,7 @@ module _ (number : ℕ) (outcome : Outcome) (before after : Outside) (is_demo : 
 -- it has no summary for want of memory alone
 pub AskedEnds-unshown : (number : ℕ) (before : Outside) (e : declared.Ending) → e ≡ ending.OutOfMemory → AskedEnds (Demo number) before before e
 AskedEnds-unshown number before e is words asks =
-    subst (λ x. Reaches words (end_of (guest_of (Demo number)) x) before before) (sym is) (record { no_zero = no_zero words (Demo number) asks; done = inl refl })
+    subst (λ x. Reaches words (end_of (wanted_of (Demo number)) x) before before) (sym is) (record { no_zero = no_zero words (Demo number) asks; done = inl refl })
 
 -- its summary was put, or that failed
 pub AskedEnds-put : (number : ℕ) (summary : List ℕ) (files : FilesState) (out new err : SinkState) → IsDemo number (summed summary) → new ≡ appended out summary →

@@ -107,10 +107,10 @@ held_more contents [] (f ∷ files) path file held next one = absurd held
 held_more contents (p ∷ paths) (f ∷ files) path file (here, held) next one = (here, held_more contents paths files path file held next one)
 
 -- a file that is longer than the limit, where the object tells no contents
-unfoldable long_file : ℕ → List ℕ
+unfoldable pub long_file : ℕ → List ℕ
 long_file most = replicate (most + 1) 0
 
-long_file-long : (most : ℕ) → most < length (long_file most)
+pub long_file-long : (most : ℕ) → most < length (long_file most)
 unfolding long_file
 long_file-long most = let e = length-replicate {A = ℕ} (most + 1) 0 in omega (arith, e)
 

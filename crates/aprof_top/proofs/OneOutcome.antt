@@ -1,15 +1,19 @@
 -- A command has one outcome.
-use Rattle.std.proofs.Common.{◌≡◌, ℕ, List, [], Option, Some, None, sym, ap, ◌∙◌}
+use Rattle.std.proofs.Common.{◌≡◌, ℕ, Bool, true, false, List, [], ◌∷◌, length, Option, Some, None, inl, inr, sym, ap, ap₂, ◌∙◌}
+use Rattle.std.specs.Prelude.{nat_lt}
+use Rattle.trace_file.specs.Laws.{BytesAreRefusedInOneWay, TextIsOfOneTrace, TracesAreNotRefused}
 use Rattle.thread_sched.proofs.Read.{never_both, one_bad_line, read_once}
-use Rattle.command_line.specs.Options.{RunOptions}
-use Rattle.command_line.specs.Options.Asked.{Run, Trace, Cache, Demo}
+use Rattle.command_line.specs.Options.{ReplayOptions}
+use Rattle.command_line.specs.Options.Asked.{Run, Trace, Cache, Replay, Demo}
 use Rattle.demo_guest.specs.Image.{OneDemoFile}
 use Rattle.elf_image.specs.Reading.{image_of}
 use Rattle.elf_image.specs.declared.error.ElfError.{ElfError}
 use Rattle.aprof_top.specs.Loads.{Loaded, loaded_of}
-use Rattle.aprof_top.specs.Outcome.{ByImage, Follows, IsScheduled, Job, Outcome, Stage, cache_job, demo_files, demo_options, demo_outcome, run_job, scheduled_outcome, stage, trace_job}
+use Rattle.aprof_top.specs.Outcome.{ByImage, ByLength, Follows, IsOfNoTrace, IsOfTrace, IsReplay, IsScheduled, Job, Outcome, Stage, cache_job, demo_files, demo_options, demo_outcome, refusal, replay_outcome, run_job, scheduled_outcome, stage, trace_job}
 use Rattle.aprof_top.specs.Outcome.Stage.{PastLimit, Loading, Complete}
 use Rattle.aprof_top.specs.Laws.{OneOutcome}
+use Rattle.aprof_top.specs.Limits.{trace_limit}
+use Rattle.aprof_top.specs.declared.ending.Verdict.TheVariants.{BadTrace}
 use Rattle.aprof_top.specs.Run.{run_of}
 use Rattle.stamps.specs.declared.width.StampBits.TheVariants.{B32}
 use Rattle.aprof_top.specs.Schedules.{Reading, Reads}
@@ -34,12 +38,48 @@ follows_once job files a b PastLimit p q = p ∙ sym q
 follows_once job files a b Loading p q = absurd p
 follows_once job files a b Complete p q = image_once job (loaded_of job.guest files) a b _ p q
 
-pub one_outcome : OneDemoFile → OneOutcome
-one_outcome one_file None files a b p q = p ∙ sym q
-one_outcome one_file (Some (Run options)) files a b p q = follows_once (run_job options) files a b (stage options.guest files) p q
-one_outcome one_file (Some (Trace options)) files a b p q = follows_once (trace_job options) files a b (stage options.guest files) p q
-one_outcome one_file (Some (Cache options)) files a b p q = follows_once (cache_job options) files a b (stage options.guest files) p q
-one_outcome one_file (Some (Demo number)) files a b p q =
+-- ---- a stored trace
+-- What is known of the text of traces.
+pub record TracesAreKnown : Type 0 where
+  pub one_trace : TextIsOfOneTrace
+  pub one_refusal : BytesAreRefusedInOneWay
+  pub apart : TracesAreNotRefused
+
+module _ (known : TracesAreKnown) (options : ReplayOptions) (bytes : List ℕ) (a b : Outcome) where
+  traces_once : IsOfTrace options bytes a → IsOfTrace options bytes b → a ≡ b
+  traces_once p q =
+      let same = known.one_trace bytes p.past q.past p.names q.names p.finish q.finish p.trace q.trace in
+      p.answered
+      ∙ ap (λ past. replay_outcome options p.names p.finish past) same.0
+      ∙ ap₂ (λ names finish. replay_outcome options names finish q.past) same.1 same.2
+      ∙ sym q.answered
+
+  refusals_once : IsOfNoTrace bytes a → IsOfNoTrace bytes b → a ≡ b
+  refusals_once p q =
+      let same = known.one_refusal bytes p.past q.past p.why q.why p.refused q.refused p.no_memory q.no_memory in
+      p.answered ∙ ap (λ why. refusal (BadTrace why)) same.0 ∙ sym q.answered
+
+  never_both' : {x y : Outcome} → IsOfTrace options bytes x → IsOfNoTrace bytes y → ⊥
+  never_both' p q = q.no_memory (known.apart bytes p.past q.past p.names p.finish q.why p.trace q.refused)
+
+  by_length : (long : Bool) → ByLength options bytes a long → ByLength options bytes b long → a ≡ b
+  by_length true p q = p ∙ sym q
+  by_length false (inl p) (inl q) = traces_once p q
+  by_length false (inl p) (inr q) = absurd (never_both' p q)
+  by_length false (inr p) (inl q) = absurd (never_both' q p)
+  by_length false (inr p) (inr q) = refusals_once p q
+
+pub replay_once : TracesAreKnown → (options : ReplayOptions) (files : List (List ℕ)) (a b : Outcome) → IsReplay options files a → IsReplay options files b → a ≡ b
+replay_once known options [] a b p q = absurd p
+replay_once known options (bytes ∷ files) a b p q = by_length known options bytes a b (nat_lt trace_limit (length bytes)) p q
+
+pub one_outcome : OneDemoFile → TracesAreKnown → OneOutcome
+one_outcome one_file known None files a b p q = p ∙ sym q
+one_outcome one_file known (Some (Run options)) files a b p q = follows_once (run_job options) files a b (stage options.guest files) p q
+one_outcome one_file known (Some (Trace options)) files a b p q = follows_once (trace_job options) files a b (stage options.guest files) p q
+one_outcome one_file known (Some (Cache options)) files a b p q = follows_once (cache_job options) files a b (stage options.guest files) p q
+one_outcome one_file known (Some (Replay options)) files a b p q = replay_once known options files a b p q
+one_outcome one_file known (Some (Demo number)) files a b p q =
     p.answered
     ∙ ap (λ file. demo_outcome number (image_of file) (run_of B32 demo_options (demo_files file) [])) (one_file number p.file q.file p.is_demo q.is_demo)
     ∙ sym q.answered

@@ -7,6 +7,7 @@ use Rattle.cost_points.specs.Points.{Routine}
 use Rattle.cache_profile.specs.declared.routines.RoutineMisses.{RoutineMisses}
 use Rattle.aprof_top.specs.CacheMisses.{named_misses}
 use Rattle.aprof_top.specs.Report.{named}
+use Rattle.trace_file.specs.TraceText.{Names}
 
 -- one item more
 map-more : {X Y : Type 0} (f : X → Y) (xs : List X) (i : ℕ) (x : X) → slice_get xs i ≡ Some x → map f (take (i + 1) xs) ≡ map f (take i xs) ++ f x ∷ []
@@ -16,8 +17,8 @@ map-more f xs i x e =
     ∙ ap (λ y. map f (take i xs) ++ f y ∷ []) (get_or_from_slice_get xs i x x e)
 
 -- one routine more
-pub named-more : (image : Executable) (routines : List Routine) (i : ℕ) (r : Routine) → slice_get routines i ≡ Some r → map (named image) (take (i + 1) routines) ≡ map (named image) (take i routines) ++ named image r ∷ []
-named-more image = map-more (named image)
+pub named-more : (names : Names) (routines : List Routine) (i : ℕ) (r : Routine) → slice_get routines i ≡ Some r → map (named names) (take (i + 1) routines) ≡ map (named names) (take i routines) ++ named names r ∷ []
+named-more names = map-more (named names)
 
 pub misses-more : (image : Executable) (routines : List RoutineMisses) (i : ℕ) (r : RoutineMisses) → slice_get routines i ≡ Some r → map (named_misses image) (take (i + 1) routines) ≡ map (named_misses image) (take i routines) ++ named_misses image r ∷ []
 misses-more image = map-more (named_misses image)

@@ -29,7 +29,7 @@ use Rattle.thread_sched.specs.ScheduleText.{IsBadLine, IsEntry, IsText}
 use Rattle.aprof_top.specs.declared.ending.Ending as declared
 use Rattle.aprof_top.specs.declared.ending.Ending.TheVariants as ending
 use Rattle.aprof_top.specs.declared.ending.Verdict.{Verdict}
-use Rattle.aprof_top.specs.declared.ending.Verdict.TheVariants.{BadCommand, BadImage, BadSchedule, TooLarge, Ran, ResultTooLarge, Summarized}
+use Rattle.aprof_top.specs.declared.ending.Verdict.TheVariants.{BadCommand, BadImage, BadSchedule, BadTrace, TooLarge, Ran, Replayed, ResultTooLarge, Summarized}
 use Rattle.aprof_top.specs.Preparing.{Refuses}
 use Rattle.aprof_top.specs.Jobs.{FilesRun, IsRefused, RunIsStored, RunStops, desk, ending_by}
 use Rattle.aprof_top.specs.Delivery.{FailsWithin, PutsOutput}
@@ -99,9 +99,11 @@ FilesRun-refused job loaded o (ending.Decided (BadImage e)) refused =
     handed_refusal job loaded (BadImage e) o (subst (λ why. ByImage job loaded (refusal (BadImage e)) why) (sym refused) refl)
 FilesRun-refused job loaded o (ending.Decided (BadSchedule line)) (accepted, bad) = handed_refusal job loaded (BadSchedule line) o (IsRun-bad_line job loaded accepted line bad)
 FilesRun-refused job loaded o (ending.Decided BadCommand) refused = absurd refused
+FilesRun-refused job loaded o (ending.Decided (BadTrace why)) refused = absurd refused
 FilesRun-refused job loaded o (ending.Decided TooLarge) refused = absurd refused
 FilesRun-refused job loaded o (ending.Decided (Ran finish)) refused = absurd refused
 FilesRun-refused job loaded o (ending.Decided ResultTooLarge) refused = absurd refused
+FilesRun-refused job loaded o (ending.Decided Replayed) refused = absurd refused
 FilesRun-refused job loaded o (ending.Decided Summarized) refused = absurd refused
 FilesRun-refused job loaded o (ending.CannotRead source) refused = absurd refused
 FilesRun-refused job loaded o ending.CannotWrite refused = absurd refused

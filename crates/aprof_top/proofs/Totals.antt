@@ -5,7 +5,7 @@ use Rattle.std.proofs.lemmas.Bool.Decides.{nat_tests, eqb_tells}
 use Rattle.std.proofs.lemmas.List.{length-map}
 use Rattle.std.proofs.lemmas.List.Sums.{sum_by-cons, sum_by-le, sum_by_more, sum_by_more_le, sum-map}
 use Rattle.std.proofs.lemmas.List.Elements.{All-nil, All-cons, All-head, All-tail, All-weaker}
-use Rattle.elf_image.specs.Image.{Executable}
+use Rattle.trace_file.specs.TraceText.{Names}
 use Rattle.trace_model.specs.declared.event_kinds.Event.{Event}
 use Rattle.trace_model.specs.declared.slow_profile.Done.{Done}
 use Rattle.trace_model.specs.Profile.{done}
@@ -117,10 +117,10 @@ module _ {A : Type 0} (key : A → ℕ) (number : A → ℕ) where
       ∙ sum_keys all
 
 -- a total of the points is a sum over the activations, where it is so for the activations of one size
-module _ (image : Executable) (of : Point → ℕ) (number : Done → ℕ) (each : (k : ℕ) (members : List Done) → of (point_of k (having (λ d. d.size) k members)) ≡ sum_by number (having (λ d. d.size) k members)) where
-  pub total-points : (all : List Done) → total of (map (named image) (points all)) ≡ sum_by number all
+module _ (names : Names) (of : Point → ℕ) (number : Done → ℕ) (each : (k : ℕ) (members : List Done) → of (point_of k (having (λ d. d.size) k members)) ≡ sum_by number (having (λ d. d.size) k members)) where
+  pub total-points : (all : List Done) → total of (map (named names) (points all)) ≡ sum_by number all
   total-points all =
-      sum_by-map (λ r. sum_by of r.points) (named image) (points all)
+      sum_by-map (λ r. sum_by of r.points) (named names) (points all)
       ∙ sum-grouped (λ (d : Done). d.entry) number routine_of (λ r. sum_by of r.points) all (λ k.
       let members = having (λ (d : Done). d.entry) k all in
       sum-grouped (λ (d : Done). d.size) number point_of of members (λ size. each size members))
@@ -143,43 +143,43 @@ sizes-having k (d ∷ members) =
     ]
 
 -- as many activations are reported as ended
-pub activations-points : (image : Executable) (all : List Done) → activations (map (named image) (points all)) ≡ length all
-activations-points image all =
-    total-points image (λ p. p.calls) (λ d. 1) (λ k members.
+pub activations-points : (names : Names) (all : List Done) → activations (map (named names) (points all)) ≡ length all
+activations-points names all =
+    total-points names (λ p. p.calls) (λ d. 1) (λ k members.
     let here = having (λ (d : Done). d.size) k members in
     length-map here (λ (d : Done). d.cost) ∙ sym (sum_by-ones here)) all
     ∙ sum_by-ones all
 
 -- the sizes add up to those of the activations
-pub sizes-points : (image : Executable) (all : List Done) → sizes (map (named image) (points all)) ≡ sum_by (λ d. d.size) all
-sizes-points image all =
-    total-points image (λ p. p.size * p.calls) (λ d. d.size) (λ k members.
+pub sizes-points : (names : Names) (all : List Done) → sizes (map (named names) (points all)) ≡ sum_by (λ d. d.size) all
+sizes-points names all =
+    total-points names (λ p. p.size * p.calls) (λ d. d.size) (λ k members.
     let here = having (λ (d : Done). d.size) k members in
     ap (λ n. k * n) (length-map here (λ (d : Done). d.cost)) ∙ sym (sizes-having k members)) all
 
 -- the costs add up to those of the activations
-pub costs-points : (image : Executable) (all : List Done) → costs (map (named image) (points all)) ≡ sum_by (λ d. d.cost) all
-costs-points image all =
-    total-points image (λ p. p.sum) (λ d. d.cost) (λ k members. sum-map (λ (d : Done). d.cost) (having (λ d. d.size) k members)) all
+pub costs-points : (names : Names) (all : List Done) → costs (map (named names) (points all)) ≡ sum_by (λ d. d.cost) all
+costs-points names all =
+    total-points names (λ p. p.sum) (λ d. d.cost) (λ k members. sum-map (λ (d : Done). d.cost) (having (λ d. d.size) k members)) all
 
 -- The totals of fewer than 2^63 activations fit.
-pub FitsTotals-points : (image : Executable) (all : List Done) → length all < 2 ^ 63 → All (λ d. d.size < 2 ^ 64) all → All (λ d. d.cost < 2 ^ 64) all → FitsTotals (map (named image) (points all))
-FitsTotals-points image all few small cheap =
+pub FitsTotals-points : (names : Names) (all : List Done) → length all < 2 ^ 63 → All (λ d. d.size < 2 ^ 64) all → All (λ d. d.cost < 2 ^ 64) all → FitsTotals (map (named names) (points all))
+FitsTotals-points names all few small cheap =
     let size_bound : sum_by (λ (d : Done). d.size) all ≤ length all * 18446744073709551615 =
     sum_by-le (λ (d : Done). d.size) 18446744073709551615 all (All-weaker (λ d. d.size < 2 ^ 64) (λ d. d.size ≤ 18446744073709551615) (λ d h. omega arith) all small) in
     let cost_bound : sum_by (λ (d : Done). d.cost) all ≤ length all * 18446744073709551615 =
     sum_by-le (λ (d : Done). d.cost) 18446744073709551615 all (All-weaker (λ d. d.cost < 2 ^ 64) (λ d. d.cost ≤ 18446744073709551615) (λ d h. omega arith) all cheap) in
     record {
-      activations = rw (activations-points image all) (omega arith);
-      sizes = rw (sizes-points image all) (omega (arith, size_bound));
-      costs = rw (costs-points image all) (omega (arith, cost_bound));
+      activations = rw (activations-points names all) (omega arith);
+      sizes = rw (sizes-points names all) (omega (arith, size_bound));
+      costs = rw (costs-points names all) (omega (arith, cost_bound));
     }
 
 -- So those of a light past fit.
-pub FitsTotals-past : (image : Executable) (past : List Event) → IsLight past → FitsTotals (map (named image) (points (done past)))
-FitsTotals-past image past light =
+pub FitsTotals-past : (names : Names) (past : List Event) → IsLight past → FitsTotals (map (named names) (points (done past)))
+FitsTotals-past names past light =
     let small = small_done past in
-    FitsTotals-points image (done past) (omega (arith, few_done past light))
+    FitsTotals-points names (done past) (omega (arith, few_done past light))
     (All-weaker (IsSmall (weight past)) (λ d. d.size < 2 ^ 64) (λ d s. omega (arith, s.0, light)) (done past) small)
     (All-weaker (IsSmall (weight past)) (λ d. d.cost < 2 ^ 64) (λ d s. omega (arith, s.1, light)) (done past) small)
 

@@ -223,7 +223,7 @@ two_runs_agree replays entries options files first second path text few is leave
     let image = image_of loaded.image in
     let seen : Profiled = run_of options.bits options.guest loaded run.turns in
     let is_text : text ≡ schedule_text (recording seen.moves) =
-    stored_is options.recording (recording seen.moves) ((options.report, report_text (report_of image seen.finish seen.past)) ∷ []) leaves.path text leaves.asked (ap (λ (o : Outcome). slice_get o.stores 0) (sym run.answered) ∙ leaves.stored) in
+    stored_is options.recording (recording seen.moves) ((options.report, report_text (report_of image.names seen.finish seen.past)) ∷ []) leaves.path text leaves.asked (ap (λ (o : Outcome). slice_get o.stores 0) (sym run.answered) ∙ leaves.stored) in
     let finish : seen.finish ≡ leaves.finish = same_finish seen.finish leaves.finish (ap (λ (o : Outcome). o.verdict) (sym run.answered) ∙ leaves.ran) in
     let complete = second_files options.guest path text files short ran.0 in
     let is_run : IsRun (run_job (scheduled options path)) (record loaded { schedule = text }) second =

@@ -1,12 +1,10 @@
 -- How the parts of the program end: the ends of a call, as the program has them.
-use Rattle.std.specs.Prelude.{◌≡◌, ◌⊎◌, ℕ, List, Option, Some, None, option_map}
-use Rattle.std.specs.Borrow.{Bor}
-use Rattle.command_line.specs.Options.{Asked, AsksFor, GuestOptions}
-use Rattle.command_line.specs.Options.Asked.{Run, Trace, Cache, Demo}
+use Rattle.std.specs.Prelude.{◌≡◌, ◌⊎◌, ℕ, List, Some}
+use Rattle.command_line.specs.Options.{Asked, AsksFor}
+use Rattle.command_line.specs.Options.Asked.{Run, Trace, Cache, Replay, Demo}
 use Rattle.command_line.specs.Read.{guest_in}
 use Rattle.command_line.specs.declared.commands.CommandError.{CommandError}
 use Rattle.command_line.specs.declared.commands.CommandError.TheVariants as command
-use Rattle.command_line.specs.declared.guest_options.GuestOptions as declared
 use Rattle.elf_image.specs.declared.error.ElfError.{ElfError}
 use Rattle.elf_image.specs.declared.error.ElfError.TheVariants as elf
 use Rattle.guest_machine.specs.declared.setup.SetupError.{SetupError}
@@ -20,15 +18,20 @@ use Rattle.host_io.specs.declared.sink.PutError.{PutError}
 use Rattle.host_io.specs.declared.sink.PutError.TheVariants as put
 use Rattle.thread_sched.specs.declared.schedule.ScheduleError.{ScheduleError}
 use Rattle.thread_sched.specs.declared.schedule.ScheduleError.TheVariants as schedule
+use Rattle.trace_file.specs.declared.errors.TraceError.{TraceError}
+use Rattle.trace_file.specs.declared.errors.TraceError.TheVariants as trace
 use Rattle.aprof_top.specs.Delivery.{DoesAll, FailsAtStats, FailsAtStore, FailsOnErr, FailsOnOut, StopsShort}
 use Rattle.aprof_top.specs.Ends as ends
 use Rattle.aprof_top.specs.Ends.{End, Reaches}
 use Rattle.aprof_top.specs.Outcome.{Outcome}
 use Rattle.aprof_top.specs.Outside.{Outside}
-use Rattle.aprof_top.specs.Sources.{known_path}
+use Rattle.aprof_top.specs.Sources.{Wanted, wanted_path}
+use Rattle.aprof_top.specs.Sources.Wanted.{Nothing, OfGuest, OfTrace}
+use Rattle.aprof_top.specs.declared.source.Wanted as declared
+use Rattle.aprof_top.specs.declared.source.Wanted.TheVariants as wanted
 use Rattle.aprof_top.specs.declared.ending.Ending.{Ending}
 use Rattle.aprof_top.specs.declared.ending.Ending.TheVariants.{Decided, CannotRead, CannotWrite, CannotPut, OutOfMemory}
-use Rattle.aprof_top.specs.declared.ending.Verdict.TheVariants.{BadCommand, BadImage, BadSchedule, TooLarge}
+use Rattle.aprof_top.specs.declared.ending.Verdict.TheVariants.{BadCommand, BadImage, BadSchedule, BadTrace, TooLarge}
 
 -- ---- by the failures of parts
 -- by that of the words
@@ -45,6 +48,11 @@ of_image e = Decided (BadImage e)
 abbrev pub of_schedule : ScheduleError → Ending
 of_schedule (schedule.BadLine line) = Decided (BadSchedule line)
 of_schedule schedule.Memory = OutOfMemory
+
+-- by that of a trace
+abbrev pub of_trace : TraceError → Ending
+of_trace trace.Memory = OutOfMemory
+of_trace e = Decided (BadTrace e)
 
 -- by that of a guest's start
 abbrev pub of_setup : SetupError → Ending
@@ -69,29 +77,32 @@ of_store store.Failed = CannotWrite
 of_store store.Memory = OutOfMemory
 
 -- ---- the end
--- how the guest is run, where the program has it
-abbrev pub known_guest : Option (Bor declared.GuestOptions) → Option GuestOptions
-known_guest guest = option_map (λ g. guest_in g.now) guest
+-- what a command loads, as the program has it
+abbrev pub wanted_in : declared.Wanted → Wanted
+wanted_in wanted.Nothing = Nothing
+wanted_in (wanted.Guest guest) = OfGuest (guest_in guest.now)
+wanted_in (wanted.Trace path) = OfTrace path.now
 
--- the guest of what is asked, whose files are loaded
-abbrev pub guest_of : Asked → Option GuestOptions
-guest_of (Run options) = Some options.guest
-guest_of (Trace options) = Some options.guest
-guest_of (Cache options) = Some options.guest
-guest_of (Demo number) = None
+-- what is loaded for what is asked
+abbrev pub wanted_of : Asked → Wanted
+wanted_of (Run options) = OfGuest options.guest
+wanted_of (Trace options) = OfGuest options.guest
+wanted_of (Cache options) = OfGuest options.guest
+wanted_of (Replay options) = OfTrace options.trace
+wanted_of (Demo number) = Nothing
 
--- the end that an ending is, of a command that runs this guest
-abbrev pub end_of : Option GuestOptions → Ending → End
-end_of guest (Decided verdict) = ends.End.Decided verdict
-end_of guest (CannotRead source) = ends.End.CannotRead (known_path guest source)
-end_of guest CannotWrite = ends.End.CannotWrite
-end_of guest CannotPut = ends.End.CannotPut
-end_of guest OutOfMemory = ends.End.OutOfMemory
+-- the end that an ending is, of a command that loads this
+abbrev pub end_of : Wanted → Ending → End
+end_of what (Decided verdict) = ends.End.Decided verdict
+end_of what (CannotRead source) = ends.End.CannotRead (wanted_path what source)
+end_of what CannotWrite = ends.End.CannotWrite
+end_of what CannotPut = ends.End.CannotPut
+end_of what OutOfMemory = ends.End.OutOfMemory
 
 -- so a command ends on all words that ask for it
 abbrev pub AskedEnds : Asked → Outside → Outside → Ending → Type 0
 AskedEnds asked before after ending =
-    (words : List (List ℕ)) → AsksFor words (Some asked) → Reaches words (end_of (guest_of asked) ending) before after
+    (words : List (List ℕ)) → AsksFor words (Some asked) → Reaches words (end_of (wanted_of asked) ending) before after
 
 -- how an outcome is handed out
 abbrev pub Delivers : Outcome → Outside → Outside → Ending → Type 0

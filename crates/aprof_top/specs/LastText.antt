@@ -2,7 +2,7 @@
 use Rattle.std.specs.Prelude.{◌≡◌, ◌⊎◌, ◌<◌, ℕ, List, length}
 use Rattle.host_io.specs.Sink.{SinkState, FailsToAppend, appended}
 use Rattle.guest_words.specs.declared.endings.Finish.TheVariants.{Fault, Schedule}
-use Rattle.aprof_top.specs.declared.ending.Verdict.TheVariants.{BadImage, BadSchedule, Ran}
+use Rattle.aprof_top.specs.declared.ending.Verdict.TheVariants.{BadImage, BadSchedule, BadTrace, Ran}
 use Rattle.aprof_top.specs.Ends.{End, end_status, end_text}
 use Rattle.aprof_top.specs.Ends.End.{Decided, CannotRead, OutOfMemory}
 use Rattle.aprof_top.specs.Texts.{out_of_memory_text}
@@ -15,6 +15,7 @@ IsPut text old new = (new ≡ appended old text) ⊎ ((0 < length text) × Fails
 abbrev pub IsMade : End → Type 0
 IsMade (Decided (BadImage e)) = Unit {0}
 IsMade (Decided (BadSchedule line)) = Unit {0}
+IsMade (Decided (BadTrace why)) = Unit {0}
 IsMade (Decided (Ran (Fault kind tid at))) = Unit {0}
 IsMade (Decided (Ran (Schedule line))) = Unit {0}
 IsMade (CannotRead path) = Unit {0}

@@ -24,4 +24,5 @@ pub mod Jobs
 pub mod LastTexts
 pub mod Loading
 pub mod Preparing
+pub mod Replaying
 pub mod Sources

@@ -1,7 +1,7 @@
 -- What the written product answers to a command, over the files that it loads.
-use Rattle.std.specs.Prelude.{◌≡◌, ℕ, ◌^◌, codes, nat_lt, List, [], ◌∷◌, ◌++◌, length, Option, Some, None, if◌then◌else◌}
-use Rattle.command_line.specs.Options.{Asked, CacheOptions, GuestOptions, RunOptions, TraceOptions, arguments}
-use Rattle.command_line.specs.Options.Asked.{Run, Trace, Cache, Demo}
+use Rattle.std.specs.Prelude.{◌≡◌, ◌≢◌, ◌⊎◌, ℕ, ◌^◌, Bool, true, false, codes, nat_lt, List, [], ◌∷◌, ◌++◌, length, Option, Some, None, if◌then◌else◌}
+use Rattle.command_line.specs.Options.{Asked, CacheOptions, GuestOptions, ReplayOptions, RunOptions, TraceOptions, arguments}
+use Rattle.command_line.specs.Options.Asked.{Run, Trace, Cache, Replay, Demo}
 use Rattle.elf_image.specs.declared.error.ElfError.{ElfError}
 use Rattle.elf_image.specs.Image.{Executable}
 use Rattle.elf_image.specs.Reading.{image_of}
@@ -11,17 +11,26 @@ use Rattle.guest_machine.specs.Setup.{setup_refusal}
 use Rattle.guest_run.specs.Profiled.{Profiled}
 use Rattle.guest_run.specs.Run.{bytes_on, recording}
 use Rattle.guest_words.specs.declared.endings.Finish.{Finish}
+use Rattle.guest_words.specs.declared.endings.Finish.TheVariants.{Deep}
+use Rattle.trace_file.specs.Reading.{IsRefused}
+use Rattle.trace_file.specs.TraceText.{IsTrace, Names}
+use Rattle.trace_file.specs.declared.errors.TraceError.{TraceError}
+use Rattle.trace_file.specs.declared.errors.TraceError.TheVariants.{Memory}
 use Rattle.trace_model.specs.declared.event_kinds.Event.{Event}
+use Rattle.trace_model.specs.Cut.{cut}
+use Rattle.trace_model.specs.Depth.{is_within}
 use Rattle.profile_report.specs.ReportText.{report_text}
 use Rattle.shadow_core.specs.Counting.{renumberings}
+use Rattle.stamps.specs.declared.width.StampBits.{StampBits}
 use Rattle.stamps.specs.declared.width.StampBits.TheVariants.{B32}
 use Rattle.stamps.specs.Widths.{greatest}
 use Rattle.thread_sched.specs.declared.entry.Entry.{Entry}
 use Rattle.thread_sched.specs.ScheduleText as recordings
 use Rattle.aprof_top.specs.declared.ending.Verdict.{Verdict}
-use Rattle.aprof_top.specs.declared.ending.Verdict.TheVariants.{BadCommand, BadImage, BadSchedule, TooLarge, Ran, ResultTooLarge, Summarized}
+use Rattle.aprof_top.specs.declared.ending.Verdict.TheVariants.{BadCommand, BadImage, BadSchedule, BadTrace, TooLarge, Ran, Replayed, ResultTooLarge, Summarized}
 use Rattle.cache_profile.specs.ReportText.{cache_text}
 use Rattle.aprof_top.specs.CacheMisses.{misses_of}
+use Rattle.aprof_top.specs.Limits.{trace_limit}
 use Rattle.aprof_top.specs.Loads.{Loaded, loaded_of, loaded_paths, passes_limit, shared_count}
 use Rattle.aprof_top.specs.Report.{report_of}
 use Rattle.aprof_top.specs.Run.{run_of, whole_run_of}
@@ -57,11 +66,11 @@ recording_stores (Some path) turns = (path, recordings.schedule_text turns) ∷ 
 -- the files of a run that ended so, by its trace and its turns: its recording where it is asked for, and then its report
 abbrev pub run_stores : RunOptions → Executable → Finish → List Event → List Entry → List (List ℕ × List ℕ)
 run_stores options image finish past turns =
-    recording_stores options.recording turns ++ (options.report, report_text (report_of image finish past)) ∷ []
+    recording_stores options.recording turns ++ (options.report, report_text (report_of image.names finish past)) ∷ []
 
 -- how often stamps were renumbered, where that is asked for
-abbrev pub stats_of : RunOptions → ℕ → List ℕ
-stats_of options count = if options.stats then renumberings_text count else []
+abbrev pub stats_of : Bool → ℕ → List ℕ
+stats_of asked count = if asked then renumberings_text count else []
 
 -- what a run leaves: its output and its files
 abbrev pub run_outcome : RunOptions → Executable → Profiled → Outcome
@@ -70,7 +79,7 @@ run_outcome options image run = record {
   out = bytes_on 1 run.moves;
   err = bytes_on 2 run.moves;
   stores = run_stores options image run.finish run.past (recording run.moves);
-  stats = stats_of options (renumberings (greatest options.bits) run.past);
+  stats = stats_of options.stats (renumberings (greatest options.bits) run.past);
 }
 
 -- what a run leaves that is traced: its output, and its trace unless that is too long
@@ -161,6 +170,55 @@ Follows job files outcome PastLimit = outcome ≡ refusal TooLarge
 Follows job files outcome Loading = ⊥
 Follows job files outcome Complete = IsRun job (loaded_of job.guest files) outcome
 
+-- ---- the report of a stored trace
+-- the trace as long as stamps of the width tell its open activations apart
+abbrev pub told_apart : StampBits → List Event → List Event
+told_apart bits past = cut (is_within (greatest bits)) past
+
+-- how it ended: as the trace says, where they do so to its end
+abbrev pub told_finish : StampBits → List Event → Finish → Finish
+told_finish bits past finish = if is_within (greatest bits) past then finish else Deep
+
+-- the text of its report, with these names
+abbrev pub replay_text : StampBits → Names → Finish → List Event → List ℕ
+replay_text bits names finish past = report_text (report_of names (told_finish bits past finish) (told_apart bits past))
+
+-- what a trace leaves: its report, with the names that it gives
+abbrev pub replay_outcome : ReplayOptions → Names → Finish → List Event → Outcome
+replay_outcome options names finish past = record {
+  verdict = Replayed;
+  out = [];
+  err = [];
+  stores = (options.report, replay_text options.bits names finish past) ∷ [];
+  stats = stats_of options.stats (renumberings (greatest options.bits) (told_apart options.bits past));
+}
+
+-- The bytes are the text of a trace, and the outcome is what that leaves.
+pub record IsOfTrace (options : ReplayOptions) (bytes : List ℕ) (outcome : Outcome) : Type 0 where
+  pub past : List Event
+  pub names : Names
+  pub finish : Finish
+  pub trace : IsTrace bytes past names finish
+  pub answered : outcome ≡ replay_outcome options names finish past
+
+-- The bytes are refused, for another cause than want of memory.
+pub record IsOfNoTrace (bytes : List ℕ) (outcome : Outcome) : Type 0 where
+  pub past : List Event
+  pub why : TraceError
+  pub refused : IsRefused bytes past why
+  pub no_memory : why ≢ Memory
+  pub answered : outcome ≡ refusal (BadTrace why)
+
+-- by whether the trace is too long
+abbrev pub ByLength : ReplayOptions → List ℕ → Outcome → Bool → Type 0
+ByLength options bytes outcome true = outcome ≡ refusal TooLarge
+ByLength options bytes outcome false = IsOfTrace options bytes outcome ⊎ IsOfNoTrace bytes outcome
+
+-- the outcome of the file that was loaded
+abbrev pub IsReplay : ReplayOptions → List (List ℕ) → Outcome → Type 0
+IsReplay options [] outcome = ⊥
+IsReplay options (bytes ∷ files) outcome = ByLength options bytes outcome (nat_lt trace_limit (length bytes))
+
 -- ---- the demo
 -- what the demo is run with: its one argument is its name, and all else is as without options
 abbrev pub demo_options : GuestOptions
@@ -181,7 +239,7 @@ demo_files file = record { image = file; inputs = []; stdin = []; schedule = [] 
 abbrev pub demo_outcome : ℕ → Executable → Profiled → Outcome
 demo_outcome number image run = record {
   verdict = Summarized;
-  out = summary_text number (report_of image run.finish run.past);
+  out = summary_text number (report_of image.names run.finish run.past);
   err = [];
   stores = [];
   stats = [];
@@ -200,6 +258,7 @@ IsOutcome None files outcome = outcome ≡ refusal BadCommand
 IsOutcome (Some (Run options)) files outcome = Follows (run_job options) files outcome (stage options.guest files)
 IsOutcome (Some (Trace options)) files outcome = Follows (trace_job options) files outcome (stage options.guest files)
 IsOutcome (Some (Cache options)) files outcome = Follows (cache_job options) files outcome (stage options.guest files)
+IsOutcome (Some (Replay options)) files outcome = IsReplay options files outcome
 IsOutcome (Some (Demo number)) files outcome = IsDemo number outcome
 
 -- these files decide nothing yet
@@ -208,4 +267,5 @@ IsUndecided None files = ⊥
 IsUndecided (Some (Run options)) files = stage options.guest files ≡ Loading
 IsUndecided (Some (Trace options)) files = stage options.guest files ≡ Loading
 IsUndecided (Some (Cache options)) files = stage options.guest files ≡ Loading
+IsUndecided (Some (Replay options)) files = files ≡ []
 IsUndecided (Some (Demo number)) files = ⊥

@@ -10,7 +10,7 @@ use Rattle.aprof_top.specs.Schedules.{Reads}
 use Rattle.aprof_top.specs.Schedules.Reading.{BadLine, Turns}
 use Rattle.aprof_top.specs.declared.ending.Ending.{Ending}
 use Rattle.aprof_top.specs.declared.ending.Ending.TheVariants.{Decided, CannotRead, CannotWrite, CannotPut, OutOfMemory}
-use Rattle.aprof_top.specs.declared.ending.Verdict.TheVariants.{BadCommand, BadImage, BadSchedule, TooLarge, Ran, ResultTooLarge, Summarized}
+use Rattle.aprof_top.specs.declared.ending.Verdict.TheVariants.{BadCommand, BadImage, BadSchedule, BadTrace, TooLarge, Ran, Replayed, ResultTooLarge, Summarized}
 use Rattle.aprof_top.specs.declared.preparation.Prepared as declared
 
 -- All files of a command were loaded, and no limit is passed: these.
@@ -23,9 +23,11 @@ abbrev pub Refuses : Loaded → Ending → Type 0
 Refuses loaded (Decided (BadImage e)) = first_refusal loaded.image ≡ Some e
 Refuses loaded (Decided (BadSchedule line)) = (first_refusal loaded.image ≡ None) × Reads loaded.schedule (BadLine line)
 Refuses loaded (Decided BadCommand) = ⊥
+Refuses loaded (Decided (BadTrace why)) = ⊥
 Refuses loaded (Decided TooLarge) = ⊥
 Refuses loaded (Decided (Ran finish)) = ⊥
 Refuses loaded (Decided ResultTooLarge) = ⊥
+Refuses loaded (Decided Replayed) = ⊥
 Refuses loaded (Decided Summarized) = ⊥
 Refuses loaded (CannotRead source) = ⊥
 Refuses loaded CannotWrite = ⊥

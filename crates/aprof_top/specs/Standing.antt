@@ -112,7 +112,7 @@ pub record StandsUnread (words : List (List ℕ)) (before after : Outside) : Typ
 -- After status 4.
 pub record StandsAfterFault (words : List (List ℕ)) (before after : Outside) : Type 0 where
   pub decision : Decision words before after
-  -- no refusal of the words, the image, the schedule or a length applied
+  -- no refusal of the words, the image, the schedule, the trace or a length applied
   pub ran : IsOfRun decision.outcome.verdict
   pub part : LeavesPart decision.outcome cannot_write_text before after
   -- a put failed, or a store did

@@ -3,8 +3,8 @@ use Rattle.std.specs.Prelude.{ℕ, List, []}
 use Rattle.guest_words.specs.declared.endings.Finish.{Finish}
 use Rattle.guest_words.specs.declared.endings.Finish.TheVariants.{Exit, Fault, Budget, Deadlock, Deep, Schedule}
 use Rattle.aprof_top.specs.declared.ending.Verdict.{Verdict}
-use Rattle.aprof_top.specs.declared.ending.Verdict.TheVariants.{BadCommand, BadImage, BadSchedule, TooLarge, Ran, ResultTooLarge, Summarized}
-use Rattle.aprof_top.specs.Texts.{bad_command_text, finish_text, image_text, schedule_text, too_large_text}
+use Rattle.aprof_top.specs.declared.ending.Verdict.TheVariants.{BadCommand, BadImage, BadSchedule, BadTrace, TooLarge, Ran, Replayed, ResultTooLarge, Summarized}
+use Rattle.aprof_top.specs.Texts.{bad_command_text, bad_trace_text, finish_text, image_text, schedule_text, too_large_text}
 
 -- the status of a run that ended so
 abbrev pub finish_status : Finish → ℕ
@@ -19,26 +19,32 @@ abbrev pub verdict_status : Verdict → ℕ
 verdict_status BadCommand = 1
 verdict_status (BadImage e) = 3
 verdict_status (BadSchedule line) = 9
+verdict_status (BadTrace why) = 13
 verdict_status TooLarge = 11
 verdict_status (Ran finish) = finish_status finish
 verdict_status ResultTooLarge = 11
+verdict_status Replayed = 0
 verdict_status Summarized = 0
 
 abbrev pub verdict_text : Verdict → List ℕ
 verdict_text BadCommand = bad_command_text
 verdict_text (BadImage e) = image_text e
 verdict_text (BadSchedule line) = schedule_text line
+verdict_text (BadTrace why) = bad_trace_text why
 verdict_text TooLarge = too_large_text
 verdict_text (Ran finish) = finish_text finish
 verdict_text ResultTooLarge = too_large_text
+verdict_text Replayed = []
 verdict_text Summarized = []
 
--- a run came to it
+-- a run came to it, or a trace was read
 abbrev pub IsOfRun : Verdict → Type 0
 IsOfRun BadCommand = ⊥
 IsOfRun (BadImage e) = ⊥
 IsOfRun (BadSchedule line) = ⊥
+IsOfRun (BadTrace why) = ⊥
 IsOfRun TooLarge = ⊥
 IsOfRun (Ran finish) = Unit {0}
 IsOfRun ResultTooLarge = Unit {0}
+IsOfRun Replayed = Unit {0}
 IsOfRun Summarized = Unit {0}

@@ -1,9 +1,13 @@
 //! Handing out what a command leaves: bytes to a sink, and files.
 ghost use Rattle.std.specs.Prelude.{◌<◌, length, map, OnErr};
 ghost use Rattle.host_io.specs.Sink.{PutEnds};
-ghost use Rattle.aprof_top.specs.Jobs.{StoresEnd, store_of};
+ghost use Rattle.aprof_top.specs.Jobs.{StatsEnd, StoresEnd, store_of};
+ghost use Rattle.aprof_top.specs.Outcome.{stats_of};
 
+use crate::ending::Ending;
+use crate::texts::renumberings_text;
 use host_io::{Files, PutError, Sink, StoreError};
+use std::alloc::Global;
 
 /// A file to store.
 #[derive(Drop)]
@@ -21,6 +25,26 @@ pub(crate) fn put_all<S: Sink>(bytes: &[u8], sink: &mut S) -> Result<(), PutErro
         return Ok(());
     }
     sink.put(bytes)
+}
+
+/// Puts how often stamps were renumbered, where that is asked for.
+pub(crate) fn put_stats<E: Sink>(
+    alloc: Global,
+    asked: bool,
+    count: u64,
+    err: &mut E,
+) -> Result<(), Ending>
+    ensures { StatsEnd (stats_of asked count) (E.state err.old) (E.state err.new) result }
+{
+    if !asked {
+        return Ok(());
+    }
+    let text = renumberings_text(alloc, count)?;
+    match put_all(text.as_slice(), err) {
+        Ok(()) => Ok(()),
+        Err(PutError::Failed) => Err(Ending::CannotPut),
+        Err(PutError::Memory) => Err(Ending::OutOfMemory),
+    }
 }
 
 /// Stores files, in order.

@@ -1,7 +1,7 @@
 //! How a command ends: its status and its last text.
-ghost use Rattle.std.specs.Prelude.{◌≡◌, ◌<◌, length, Option, IfOk, OnOk, OnErr};
-ghost use Rattle.command_line.specs.Options as options;
-ghost use Rattle.aprof_top.specs.Ending.{end_of, known_guest};
+ghost use Rattle.std.specs.Prelude.{◌≡◌, ◌<◌, length, IfOk, OnOk, OnErr};
+ghost use Rattle.aprof_top.specs.Ending.{end_of, wanted_in};
+ghost use Rattle.aprof_top.specs.Sources as sources;
 ghost use Rattle.aprof_top.specs.Ends.{end_status, end_text};
 ghost use Rattle.aprof_top.specs.Jobs.{ending_by};
 ghost use Rattle.aprof_top.specs.LastTexts.{bytes_of};
@@ -9,9 +9,9 @@ ghost use Rattle.aprof_top.specs.LastText.{IsMade, IsPut, LastText};
 ghost use Rattle.aprof_top.specs.Verdicts.{finish_status, verdict_status};
 
 use crate::delivery::put_all;
-use crate::source::Source;
+use crate::source::{Source, Wanted};
 use crate::texts::{Text, unread_text, verdict_text};
-use command_line::{CommandError, GuestOptions};
+use command_line::CommandError;
 use elf_image::ElfError;
 use guest_machine::SetupError;
 use guest_run::{Channel, RunError};
@@ -19,6 +19,7 @@ use guest_words::Finish;
 use host_io::{PutError, Sink, StoreError};
 use std::alloc::{AllocError, AllocFailed, Global};
 use thread_sched::ScheduleError;
+use trace_file::TraceError;
 
 /// What the program answers by the words, the files and the run of the guest.
 #[derive(Clone, Copy)]
@@ -26,10 +27,13 @@ pub(crate) enum Verdict {
     BadCommand,
     BadImage(ElfError),
     BadSchedule(u64),
+    BadTrace(TraceError),
     TooLarge,
     Ran(Finish),
     // The guest ran, and what is made of its run is too long to be stored.
     ResultTooLarge,
+    // The report of a stored trace was made.
+    Replayed,
     Summarized,
 }
 
@@ -104,6 +108,20 @@ impl From<ScheduleError> for Ending {
         match error {
             ScheduleError::BadLine { line } => Ending::Decided(Verdict::BadSchedule(line)),
             ScheduleError::Memory => Ending::OutOfMemory,
+        }
+    }
+}
+
+impl From<TraceError> for Ending {
+    ghost use Rattle.std.specs.Prelude.{◌≡◌};
+    ghost use Rattle.aprof_top.specs.Ending.{of_trace};
+
+    ghost from_gives = { λ error e. e ≡ of_trace error };
+
+    fn from(error: TraceError) -> Ending {
+        match error {
+            TraceError::Memory => Ending::OutOfMemory,
+            _ => Ending::Decided(Verdict::BadTrace(error)),
         }
     }
 }
@@ -200,15 +218,16 @@ fn verdict_status(verdict: Verdict) -> u8
         Verdict::BadCommand => 1,
         Verdict::BadImage(_) => 3,
         Verdict::BadSchedule(_) => 9,
+        Verdict::BadTrace(_) => 13,
         Verdict::TooLarge | Verdict::ResultTooLarge => 11,
         Verdict::Ran(finish) => finish_status(finish),
-        Verdict::Summarized => 0,
+        Verdict::Replayed | Verdict::Summarized => 0,
     }
 }
 
 // The status of an ending.
 fn status(ending: &Ending) -> u8
-    ensures { (guest : Option options.GuestOptions) → result ≡ end_status (end_of guest ending.now) }
+    ensures { (wanted : sources.Wanted) → result ≡ end_status (end_of wanted ending.now) }
 {
     match ending {
         Ending::Decided(verdict) => verdict_status(*verdict),
@@ -218,18 +237,14 @@ fn status(ending: &Ending) -> u8
     }
 }
 
-// The last text of an ending, of a command that runs this guest.
-fn text_of(
-    alloc: Global,
-    guest: Option<&GuestOptions<'_>>,
-    ending: &Ending,
-) -> Result<Text, AllocError>
-    ensures text { IfOk result (λ text. bytes_of text ≡ end_text (end_of (known_guest guest.entry) ending.now)) }
-    ensures made { OnErr result (IsMade (end_of (known_guest guest.entry) ending.now)) }
+// The last text of an ending, of a command that loads this.
+fn text_of(alloc: Global, wanted: Wanted<'_, '_>, ending: &Ending) -> Result<Text, AllocError>
+    ensures text { IfOk result (λ text. bytes_of text ≡ end_text (end_of (wanted_in wanted.entry) ending.now)) }
+    ensures made { OnErr result (IsMade (end_of (wanted_in wanted.entry) ending.now)) }
 {
     match ending {
         Ending::Decided(verdict) => verdict_text(alloc, *verdict),
-        Ending::CannotRead(source) => unread_text(alloc, guest, *source),
+        Ending::CannotRead(source) => unread_text(alloc, wanted, *source),
         Ending::CannotWrite => Ok(Text::Fixed(b"aprof: cannot write\n")),
         Ending::CannotPut => Ok(Text::Fixed(b"")),
         Ending::OutOfMemory => Ok(Text::Fixed(b"aprof: out of memory\n")),
@@ -249,17 +264,17 @@ fn put_text<E: Sink>(text: &[u8], err: &mut E) -> Result<(), AllocError>
     }
 }
 
-/// Puts the last text of an ending, of a command that runs this guest, and answers the status. No text follows one that is
+/// Puts the last text of an ending, of a command that loads this, and answers the status. No text follows one that is
 /// refused.
 pub(crate) fn tell<E: Sink>(
     alloc: Global,
-    guest: Option<&GuestOptions<'_>>,
+    wanted: Wanted<'_, '_>,
     ending: &Ending,
     err: &mut E,
 ) -> u8
-    ensures { LastText (end_of (known_guest guest.entry) ending.now) result (E.state err.old) (E.state err.new) }
+    ensures { LastText (end_of (wanted_in wanted.entry) ending.now) result (E.state err.old) (E.state err.new) }
 {
-    match text_of(alloc, guest, ending) {
+    match text_of(alloc, wanted, ending) {
         Ok(text) => match put_text(text.as_slice(), err) {
             Ok(()) => status(ending),
             Err(_) => 10,

@@ -240,3 +240,52 @@ pub(crate) const FAILED_PUTS: &[Failure] = &[
         },
     },
 ];
+
+/// The trace of the smallest guest: a start, three steps and an end of thread 1, and its exit.
+pub(crate) const TRACE: &[u8] =
+    b"aprof trace 1\n\x07\x01\0\0\0\x54\0\x01\0\x01\x01\0\0\0\x01\x01\0\0\0\x01\x01\0\0\0\x08\x01\0\0\0\x0a\0\0\0\0\0";
+
+// What is left where it is replayed with its statistics, and nothing fails.
+const REPLAYED: Left = Left {
+    err: "aprof: renumberings 0\n",
+    report: Some(
+        "aprof 2\nend exit 0\nsteps 3\nopen 0\nroutine 00010054 -\n0 1 3 3 3 0 0 0 0\ndone 1\n",
+    ),
+    ..NOTHING
+};
+
+/// A replay loads its trace, stores the report of it, and puts its statistics then.
+pub(crate) const FAILED_REPLAYS: &[Failure] = &[
+    Failure {
+        name: "nothing",
+        failing: NOWHERE,
+        left: REPLAYED,
+    },
+    Failure {
+        name: "the load of the trace",
+        failing: Failing { file: 0, ..NOWHERE },
+        left: Left {
+            status: 2,
+            err: "aprof: cannot read img\n",
+            ..NOTHING
+        },
+    },
+    Failure {
+        name: "the store of the report",
+        failing: Failing { file: 1, ..NOWHERE },
+        left: Left {
+            status: 4,
+            err: "aprof: cannot write\n",
+            ..NOTHING
+        },
+    },
+    Failure {
+        name: "the put of the statistics",
+        failing: Failing { err: 0, ..NOWHERE },
+        left: Left {
+            status: 4,
+            err: "aprof: renu",
+            ..REPLAYED
+        },
+    },
+];

@@ -1,8 +1,9 @@
 //! Laws on the written product, each the contract of a function that does nothing but call other laws.
-ghost use Rattle.aprof_top.specs.Laws.{OneOutcome, RunsAreBounded, TwoRunsAgree};
+ghost use Rattle.aprof_top.specs.Laws.{OneOutcome, RunsAreBounded, TracesReplay, TwoRunsAgree};
 
 use demo_guest::a_demo_has_one_file;
 use guest_run::{recordings_are_schedules, runs_replay, runs_stay_within};
+use trace_file::{a_text_is_of_one_trace, bytes_read_in_one_way};
 
 /// A command has at most one outcome over the files that it loads: one verdict, with the same output and the same files to
 /// store.
@@ -10,6 +11,8 @@ pub fn a_command_has_one_outcome()
     ensures { OneOutcome }
 {
     a_demo_has_one_file();
+    a_text_is_of_one_trace();
+    bytes_read_in_one_way();
 }
 
 /// Two runs agree, where the second is under the recording that the first stored, with the same other words and files: verdict,
@@ -19,6 +22,16 @@ pub fn two_runs_agree()
 {
     runs_replay();
     recordings_are_schedules();
+}
+
+/// The report of a stored trace is that of its run: what `replay` makes of the trace that `trace` stores is what `run` stores with
+/// the same other words and files, for stamps of any width, and `--stats` counts the same. The numbers of the trace have to be in
+/// the ranges of its records, as they are in what the program writes.
+pub fn traces_replay()
+    ensures { TracesReplay }
+{
+    a_text_is_of_one_trace();
+    bytes_read_in_one_way();
 }
 
 /// The run of a command is bounded by its budget, whatever the executable, its files and its schedule: in its steps, and in the

@@ -1,4 +1,5 @@
-//! The top call: it reads the words of a command line, loads its files, runs the guest and stores the report of its run.
+//! The top call: it reads the words of a command line, loads its files, runs the guest or reads a stored trace, and stores the
+//! report.
 #![tactic(auto)]
 
 mod cache_job;
@@ -12,6 +13,7 @@ mod loads;
 mod missed_run;
 mod preparation;
 mod profiled_run;
+mod replay_job;
 mod report;
 mod run_job;
 mod source;
@@ -19,9 +21,10 @@ mod summary;
 mod texts;
 mod top;
 mod trace_job;
+mod trace_names;
 mod traced_run;
 
-pub use laws::{a_command_has_one_outcome, runs_are_bounded, two_runs_agree};
+pub use laws::{a_command_has_one_outcome, runs_are_bounded, traces_replay, two_runs_agree};
 pub use top::aprof;
 
 #[cfg(test)]

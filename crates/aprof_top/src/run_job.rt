@@ -7,20 +7,19 @@ ghost use Rattle.stamps.specs.Widths.{greatest};
 ghost use Rattle.run_profile.specs.Profile.{AreTotalsOf};
 ghost use Rattle.command_line.specs.Options.Asked.{Run};
 ghost use Rattle.aprof_top.specs.Ending.{AskedEnds};
-ghost use Rattle.aprof_top.specs.Jobs.{RunIsStored, StatsEnd, desk, ending_by, store_of};
-ghost use Rattle.aprof_top.specs.Outcome.{recording_stores, run_outcome, run_stores, stats_of};
+ghost use Rattle.aprof_top.specs.Jobs.{RunIsStored, desk, ending_by, store_of};
+ghost use Rattle.aprof_top.specs.Outcome.{recording_stores, run_outcome, run_stores};
 ghost use Rattle.aprof_top.specs.Outside.{outside};
 ghost use Rattle.trace_model.specs.declared.event_kinds.Event.{Event};
 
-use crate::delivery::{Store, put_all, store_all};
+use crate::delivery::{Store, put_stats, store_all};
 use crate::ending::{Ending, Verdict};
 use crate::preparation::prepare;
 use crate::profiled_run::{ProfiledRun, profile_image};
 use crate::report::report_of;
-use crate::texts::renumberings_text;
 use command_line::RunCommand;
 use elf_image::Image;
-use host_io::{Files, PutError, Sink};
+use host_io::{Files, Sink};
 use profile_report::write_report;
 use std::alloc::{AllocError, Global};
 use thread_sched::Recording;
@@ -61,26 +60,6 @@ fn run_stores<'a>(
     Ok(stores)
 }
 
-// Puts how often stamps were renumbered, where that is asked for.
-fn put_stats<E: Sink>(
-    alloc: Global,
-    command: &RunCommand<'_>,
-    count: u64,
-    err: &mut E,
-) -> Result<(), Ending>
-    ensures { StatsEnd (stats_of (options_in command.now) count) (E.state err.old) (E.state err.new) result }
-{
-    if !command.stats {
-        return Ok(());
-    }
-    let text = renumberings_text(alloc, count)?;
-    match put_all(text.as_slice(), err) {
-        Ok(()) => Ok(()),
-        Err(PutError::Failed) => Err(Ending::CannotPut),
-        Err(PutError::Memory) => Err(Ending::OutOfMemory),
-    }
-}
-
 // Stores what a run leaves, and then puts its statistics.
 fn deliver_run<F: Files, E: Sink>(
     alloc: Global,
@@ -97,7 +76,7 @@ fn deliver_run<F: Files, E: Sink>(
 {
     let stores = run_stores(alloc, command, image, run)?;
     store_all(stores.as_slice(), files)?;
-    put_stats(alloc, command, run.totals.renumbered, err)?;
+    put_stats(alloc, command.stats, run.totals.renumbered, err)?;
     Ok(Verdict::Ran(run.ended.finish))
 }
 

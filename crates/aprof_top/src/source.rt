@@ -1,14 +1,24 @@
-//! Which of a guest's files a load is of.
+//! What a command loads, and which of its files a load is of.
 ghost use Rattle.std.specs.Prelude.{◌≡◌, ℕ, List, length, slice_get, Some, IfOk};
 ghost use Rattle.command_line.specs.Options.{inputs};
 ghost use Rattle.command_line.specs.Read.{guest_in};
 ghost use Rattle.aprof_top.specs.Loads.{loaded_paths};
-ghost use Rattle.aprof_top.specs.Sources.{path_of};
+ghost use Rattle.aprof_top.specs.Ending.{wanted_in};
+ghost use Rattle.aprof_top.specs.Sources.{path_of, wanted_path};
 
 use command_line::GuestOptions;
 use std::alloc::{AllocError, Global};
 
-/// A file that a guest is run with.
+/// What a command loads.
+#[derive(Clone, Copy)]
+pub(crate) enum Wanted<'c, 'a> {
+    Nothing,
+    Guest(&'c GuestOptions<'a>),
+    // The trace at this path.
+    Trace(&'a str),
+}
+
+/// A file that a guest is run with, or a stored trace.
 #[derive(Clone, Copy)]
 pub(crate) enum Source {
     Image,
@@ -16,6 +26,7 @@ pub(crate) enum Source {
     Input(usize),
     Stdin,
     Schedule,
+    Trace,
 }
 
 /// Which file the one at this place of the loads is, so many of them being input files.
@@ -36,8 +47,8 @@ pub(crate) fn source_at(guest: &GuestOptions<'_>, count: usize, index: usize) ->
     }
 }
 
-/// The path of a file.
-pub(crate) fn path_of<'a>(
+// The path of a file that a guest is run with. A trace is none.
+fn path_of<'a>(
     alloc: Global,
     guest: &GuestOptions<'a>,
     source: Source,
@@ -52,5 +63,21 @@ pub(crate) fn path_of<'a>(
         }
         Source::Stdin => Ok(guest.stdin.unwrap_or("")),
         Source::Schedule => Ok(guest.schedule.unwrap_or("")),
+        Source::Trace => Ok(""),
+    }
+}
+
+/// The path of a file that a command loads. Where it loads nothing there is none.
+pub(crate) fn wanted_path<'a>(
+    alloc: Global,
+    wanted: Wanted<'_, 'a>,
+    source: Source,
+) -> Result<&'a str, AllocError>
+    ensures { IfOk result (λ path. path.now ≡ wanted_path (wanted_in wanted.entry) source) }
+{
+    match wanted {
+        Wanted::Nothing => Ok(""),
+        Wanted::Guest(guest) => path_of(alloc, guest, source),
+        Wanted::Trace(path) => Ok(path),
     }
 }

@@ -1,6 +1,6 @@
 //! The top call over files and sinks in memory.
 use crate::aprof;
-use crate::failures::{FAILED_PUTS, FAILURES, Failing, NOWHERE};
+use crate::failures::{FAILED_PUTS, FAILED_REPLAYS, FAILURES, Failing, NOWHERE, TRACE};
 use crate::worked::{Guest, Left, NOTHING, PLAIN, THREADED, THREADED_LEFT};
 use crate::worked_code::{BOTH_OUTPUTS, FILE_HEADER, OUTPUTS_IN_TURNS, SEGMENT};
 use host_io::{MemoryFiles, MemorySink};
@@ -189,6 +189,25 @@ fn a_failed_put_ends_the_run(rt: HostRuntime) -> Result<(), Fail> {
         let seen = call_guest(rt.alloc(), &guest, failure.failing)?;
         assert_left(&rt, failure.name, &seen, &failure.left);
     }
+    Ok(())
+}
+
+#[test]
+fn a_stored_trace_is_replayed(rt: HostRuntime) -> Result<(), Fail> {
+    let texts = &[
+        "aprof", "replay", "--stats", "--stamps", "8", "-o", "r", "img",
+    ];
+    for failure in FAILED_REPLAYS {
+        let seen = call(rt.alloc(), texts, TRACE, b"", failure.failing)?;
+        assert_left(&rt, failure.name, &seen, &failure.left);
+    }
+    let refused = Left {
+        status: 13,
+        err: "aprof: trace 4\n",
+        ..NOTHING
+    };
+    let seen = call(rt.alloc(), texts, &TRACE[..48], b"", NOWHERE)?;
+    assert_left(&rt, "a trace that is cut off", &seen, &refused);
     Ok(())
 }
 

@@ -1,21 +1,21 @@
 //! The texts that the program puts.
 ghost use Rattle.std.specs.Prelude.{◌≡◌, IfOk, OnErr};
-ghost use Rattle.aprof_top.specs.Ending.{known_guest};
+ghost use Rattle.aprof_top.specs.Ending.{wanted_in};
 ghost use Rattle.aprof_top.specs.Ends.End.{Decided};
 ghost use Rattle.aprof_top.specs.LastText.{IsMade};
 ghost use Rattle.aprof_top.specs.LastTexts.{bytes_of};
-ghost use Rattle.aprof_top.specs.Sources.{known_path};
-ghost use Rattle.aprof_top.specs.Texts.{cannot_read_text, fault_text, finish_text, image_text, renumberings_text, schedule_text};
+ghost use Rattle.aprof_top.specs.Sources.{wanted_path};
+ghost use Rattle.aprof_top.specs.Texts.{bad_trace_text, cannot_read_text, fault_text, finish_text, image_text, renumberings_text, schedule_text};
 ghost use Rattle.aprof_top.specs.Verdicts.{verdict_text};
 ghost use Rattle.aprof_top.specs.declared.ending.Verdict.TheVariants.{Ran};
 
 use crate::ending::Verdict;
-use crate::source::{Source, path_of};
-use command_line::GuestOptions;
+use crate::source::{Source, Wanted, wanted_path};
 use elf_image::ElfError;
 use guest_words::{Addr, FaultKind, Finish, Tid};
 use profile_report::hex_address;
 use std::alloc::{AllocError, Global};
+use trace_file::TraceError;
 
 /// A last text: always the same, or made with a path or a number in it.
 #[derive(Drop)]
@@ -41,18 +41,15 @@ fn cannot_read_text(alloc: Global, path: &str) -> Result<Text, AllocError>
     Ok(Text::Made(format!(in alloc; "aprof: cannot read {path}\n")?.into_bytes()))
 }
 
-// The text after a failed load. No guest has no files.
+// The text after a failed load.
 pub(crate) fn unread_text(
     alloc: Global,
-    guest: Option<&GuestOptions<'_>>,
+    wanted: Wanted<'_, '_>,
     source: Source,
 ) -> Result<Text, AllocError>
-    ensures { IfOk result (λ text. bytes_of text ≡ cannot_read_text (known_path (known_guest guest.entry) source)) }
+    ensures { IfOk result (λ text. bytes_of text ≡ cannot_read_text (wanted_path (wanted_in wanted.entry) source)) }
 {
-    match guest {
-        Some(guest) => cannot_read_text(alloc, path_of(alloc, guest, source)?),
-        None => cannot_read_text(alloc, ""),
-    }
+    cannot_read_text(alloc, wanted_path(alloc, wanted, source)?)
 }
 
 fn image_text(alloc: Global, error: ElfError) -> Result<Text, AllocError>
@@ -66,6 +63,13 @@ fn schedule_text(alloc: Global, line: u64) -> Result<Text, AllocError>
     ensures { IfOk result (λ text. bytes_of text ≡ schedule_text line) }
 {
     Ok(Text::Made(format!(in alloc; "aprof: schedule {line}\n")?.into_bytes()))
+}
+
+fn bad_trace_text(alloc: Global, error: TraceError) -> Result<Text, AllocError>
+    ensures { IfOk result (λ text. bytes_of text ≡ bad_trace_text error) }
+{
+    let number = error.number().unwrap_or(0);
+    Ok(Text::Made(format!(in alloc; "aprof: trace {number}\n")?.into_bytes()))
 }
 
 fn fault_text(alloc: Global, kind: FaultKind, tid: Tid, at: Addr) -> Result<Text, AllocError>
@@ -109,8 +113,9 @@ pub(crate) fn verdict_text(alloc: Global, verdict: Verdict) -> Result<Text, Allo
         Verdict::BadCommand => Ok(Text::Fixed(b"aprof: bad command line\n")),
         Verdict::BadImage(error) => image_text(alloc, error),
         Verdict::BadSchedule(line) => schedule_text(alloc, line),
+        Verdict::BadTrace(error) => bad_trace_text(alloc, error),
         Verdict::TooLarge | Verdict::ResultTooLarge => Ok(Text::Fixed(b"aprof: too large\n")),
         Verdict::Ran(finish) => finish_text(alloc, finish),
-        Verdict::Summarized => Ok(Text::Fixed(b"")),
+        Verdict::Replayed | Verdict::Summarized => Ok(Text::Fixed(b"")),
     }
 }

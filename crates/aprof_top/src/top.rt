@@ -3,7 +3,7 @@ ghost use Rattle.std.specs.Prelude.{◌≡◌, ◌≤◌, map, string_bytes};
 ghost use Rattle.aprof_top.specs.Answers.{EndsBy, IsAnswered};
 ghost use Rattle.aprof_top.specs.Ends.{End};
 ghost use Rattle.aprof_top.specs.Standing.{Stands};
-ghost use Rattle.aprof_top.specs.Ending.{AskedEnds, guest_of, known_guest};
+ghost use Rattle.aprof_top.specs.Ending.{AskedEnds, wanted_in, wanted_of};
 ghost use Rattle.aprof_top.specs.Jobs.{ending_by};
 ghost use Rattle.aprof_top.specs.Outside.{outside};
 ghost use Rattle.host_io.specs.Files.{FilesState};
@@ -15,9 +15,11 @@ use crate::cache_job::cache_command;
 use crate::delivery::put_all;
 use crate::demo::run_demo;
 use crate::ending::{Ending, Verdict, ending_by, tell};
+use crate::replay_job::replay_command;
 use crate::run_job::run_command;
+use crate::source::Wanted;
 use crate::trace_job::trace_command;
-use command_line::{Command, GuestOptions, read_command};
+use command_line::{Command, read_command};
 use guest_words::limits::DEMO_ROUTINES;
 use host_io::{Files, Sink};
 use std::alloc::Global;
@@ -50,19 +52,21 @@ fn do_command<F: Files, O: Sink, E: Sink>(
         Command::Run(command) => run_command(alloc, command, files, out, err),
         Command::Trace(command) => trace_command(alloc, command, files, out, err),
         Command::Cache(command) => cache_command(alloc, command, files, out, err),
+        Command::Replay(command) => replay_command(alloc, command, files, err),
         Command::Demo(number) => show_demo(alloc, *number, out),
     }
 }
 
-// The guest whose files a command loads.
-fn guest_of<'c, 'a>(command: &'c Command<'a>) -> Option<&'c GuestOptions<'a>>
-    ensures { known_guest result ≡ guest_of (asked_in command.now) }
+// What a command loads.
+fn wanted_of<'c, 'a>(command: &'c Command<'a>) -> Wanted<'c, 'a>
+    ensures { wanted_in result ≡ wanted_of (asked_in command.now) }
 {
     match command {
-        Command::Run(command) => Some(&command.guest),
-        Command::Trace(command) => Some(&command.guest),
-        Command::Cache(command) => Some(&command.guest),
-        Command::Demo(_) => None,
+        Command::Run(command) => Wanted::Guest(&command.guest),
+        Command::Trace(command) => Wanted::Guest(&command.guest),
+        Command::Cache(command) => Wanted::Guest(&command.guest),
+        Command::Replay(command) => Wanted::Trace(command.trace),
+        Command::Demo(_) => Wanted::Nothing,
     }
 }
 
@@ -81,9 +85,9 @@ fn answer<F: Files, O: Sink, E: Sink>(
     match read_command(alloc, words) {
         Ok(command) => {
             let ending = ending_by(do_command(alloc, &command, files, out, err));
-            tell(alloc, guest_of(&command), &ending, err)
+            tell(alloc, wanted_of(&command), &ending, err)
         }
-        Err(error) => tell(alloc, None, &Ending::from(error), err),
+        Err(error) => tell(alloc, Wanted::Nothing, &Ending::from(error), err),
     }
 }
 

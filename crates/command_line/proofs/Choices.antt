@@ -1,5 +1,5 @@
 -- The walk over the options, the image and the further words.
-use Rattle.std.proofs.Common.{◌≡◌, ◌<◌, ◌^◌, true, false, refl, ap, ap₂, subst, sym, ◌∙◌, ◌||◌, append_assoc, List, [], ◌∷◌, ◌++◌, length, Some, None, codes}
+use Rattle.std.proofs.Common.{◌≡◌, ◌<◌, ◌^◌, true, false, refl, ap, ap₂, subst, sym, ◌∙◌, ◌||◌, append_assoc, List, [], ◌∷◌, ◌++◌, length, Some, None, codes, ◌⊎◌, inl, inr}
 use Rattle.std.proofs.lemmas.List.{append-nil}
 use Rattle.std.proofs.lemmas.List.Sums.{fold-append}
 use Rattle.std.specs.Prelude.{fold}
@@ -10,13 +10,13 @@ use Rattle.clap.specs.Takes.{walk_passes}
 use Rattle.clap.specs.Walk.{Waiting, Walk, has_row, idle, option, positional, settled_rows, walked}
 use Rattle.clap.specs.Words.{Row, Text}
 use Rattle.command_line.specs.Plain.{ArePlain, Choice, HasNoRepeat, budget, choice_words, has_plain_value, id_of, is_chosen, is_plain_word, line, quantum, recording, report, schedule, sets, stamps, stats, stdin, ways, words_of}
-use Rattle.command_line.proofs.Rows.{absent_in_both, choice_row, choice_rows, image_is_none, made_rows, no_choice_row, plain_row, tail_rows, word_is_none, word_rows}
-use Rattle.command_line.proofs.Steps.{GuestCommand, has_option, caching, running, tracing, IsNoFlag, Pending, Settles, TakesValue, first_turn, first_word, further_turn, further_word, image_settles, image_turn, image_word, pass_step, plain_is_no_flag, rules, shape, stand, stats_turn, stats_word, takes_budget, takes_line, takes_output, takes_quantum, takes_recording, takes_schedule, takes_sets, takes_stamps, takes_stdin, takes_ways, turn, words_settle}
+use Rattle.command_line.proofs.Rows.{absent_in_both, IsNoChoice, choice_row, choice_rows, image_is_none, made_rows, no_choice_row, plain_row, tail_rows, trace_is_none, word_is_none, word_rows}
+use Rattle.command_line.proofs.Steps.{IsNoFlag, Pending, RunsGuest, Settles, Subcommand, TakesStats, TakesValue, caching, first_turn, first_word, further_turn, further_word, has_option, pass_step, path_id, path_settles, path_turn, path_word, plain_is_no_flag, replay_takes_stamps, replay_takes_stats, replaying, rules, run_takes_stats, running, shape, stand, takes_budget, takes_line, takes_output, takes_quantum, takes_recording, takes_schedule, takes_sets, takes_stamps, takes_stdin, takes_ways, tracing, turn, words_settle}
 
 -- ---- the options
 
 -- After these words, which pass, what is held settles with these rows, and another option may come.
-record Goes (k : GuestCommand) (rows : List Row) (p : Pending) (words : List Text) (all : List Row) : Type 0 where
+record Goes (k : Subcommand) (rows : List Row) (p : Pending) (words : List Text) (all : List Row) : Type 0 where
   rows2 : List Row
   p2 : Pending
   walk : fold (walked (rules k) []) (stand rows p idle 1) words ≡ stand rows2 p2 idle 1
@@ -24,7 +24,7 @@ record Goes (k : GuestCommand) (rows : List Row) (p : Pending) (words : List Tex
       ≡ walk_passes (shape k) [] (stand rows2 p2 idle 1) rest
   settles : Settles k rows2 p2 all
 
-goes_value : (k : GuestCommand) (flag id v : Text) (rows : List Row) (p : Pending) (all : List Row) → TakesValue k flag id → Settles k rows p all
+goes_value : (k : Subcommand) (flag id v : Text) (rows : List Row) (p : Pending) (all : List Row) → TakesValue k flag id → Settles k rows p all
     → IsNoFlag v → has_row id all ≡ false → Goes k rows p (flag ∷ v ∷ []) (all ++ plain_row id (v ∷ []) ∷ [])
 goes_value k flag id v rows p all takes h plain fresh =
     let first : walked (rules k) [] (stand rows p idle 1) flag ≡ stand all (Some (id, [])) (option id) 1 =
@@ -40,32 +40,41 @@ goes_value k flag id v rows p all takes h plain fresh =
       settles = takes.settles all v fresh;
     }
 
-goes_stats : (rows : List Row) (p : Pending) (all : List Row) → Settles running rows p all → has_row (codes "stats") all ≡ false
-    → Goes running rows p (codes "--stats" ∷ []) (all ++ choice_row stats ∷ [])
-goes_stats rows p all h fresh =
-    let absent : has_row (codes "stats") (settled_rows (rules running) p rows) ≡ false = rw h.rows_are fresh in
-    let step = stats_word rows p absent ∙ ap (λ (xs : List Row). stand (xs ++ choice_row stats ∷ []) None idle 1) h.rows_are in
+goes_stats : (k : Subcommand) (rows : List Row) (p : Pending) (all : List Row) → TakesStats k → Settles k rows p all → has_row (codes "stats") all ≡ false
+    → Goes k rows p (codes "--stats" ∷ []) (all ++ choice_row stats ∷ [])
+goes_stats k rows p all takes h fresh =
+    let absent : has_row (codes "stats") (settled_rows (rules k) p rows) ≡ false = rw h.rows_are fresh in
+    let step = takes.flag_word rows p absent ∙ ap (λ (xs : List Row). stand (xs ++ choice_row stats ∷ []) None idle 1) h.rows_are in
     record {
       rows2 = all ++ choice_row stats ∷ [];
       p2 = None;
       walk = step;
-      pass = λ rest. pass_step running _ _ (codes "--stats") rest (stats_turn rows p absent ∙ h.passes) step;
+      pass = λ rest. pass_step k _ _ (codes "--stats") rest (takes.flag_turn rows p absent ∙ h.passes) step;
       settles = record { rows_are = refl; passes = refl };
     }
 
-goes_choice : (k : GuestCommand) (c : Choice) (rows : List Row) (p : Pending) (all : List Row) → Settles k rows p all → has_option k c ≡ true
+goes_choice : (k : Subcommand) (c : Choice) (rows : List Row) (p : Pending) (all : List Row) → Settles k rows p all → has_option k c ≡ true
     → has_plain_value c ≡ true → has_row (id_of c) all ≡ false → Goes k rows p (words_of c) (all ++ choice_row c ∷ [])
-goes_choice k (stdin v) rows p all h has plain fresh = goes_value k _ _ v rows p all (takes_stdin k) h (plain_is_no_flag v plain) fresh
-goes_choice k (quantum v) rows p all h has plain fresh = goes_value k _ _ v rows p all (takes_quantum k) h (plain_is_no_flag v plain) fresh
-goes_choice k (schedule v) rows p all h has plain fresh = goes_value k _ _ v rows p all (takes_schedule k) h (plain_is_no_flag v plain) fresh
-goes_choice k (budget v) rows p all h has plain fresh = goes_value k _ _ v rows p all (takes_budget k) h (plain_is_no_flag v plain) fresh
+goes_choice running (stdin v) rows p all h has plain fresh = goes_value running _ _ v rows p all (takes_stdin running tt) h (plain_is_no_flag v plain) fresh
+goes_choice tracing (stdin v) rows p all h has plain fresh = goes_value tracing _ _ v rows p all (takes_stdin tracing tt) h (plain_is_no_flag v plain) fresh
+goes_choice caching (stdin v) rows p all h has plain fresh = goes_value caching _ _ v rows p all (takes_stdin caching tt) h (plain_is_no_flag v plain) fresh
+goes_choice replaying (stdin v) rows p all h has plain fresh = let no : false ≡ true = has in cc
+goes_choice running (quantum v) rows p all h has plain fresh = goes_value running _ _ v rows p all (takes_quantum running tt) h (plain_is_no_flag v plain) fresh
+goes_choice tracing (quantum v) rows p all h has plain fresh = goes_value tracing _ _ v rows p all (takes_quantum tracing tt) h (plain_is_no_flag v plain) fresh
+goes_choice caching (quantum v) rows p all h has plain fresh = goes_value caching _ _ v rows p all (takes_quantum caching tt) h (plain_is_no_flag v plain) fresh
+goes_choice replaying (quantum v) rows p all h has plain fresh = let no : false ≡ true = has in cc
+goes_choice running (schedule v) rows p all h has plain fresh = goes_value running _ _ v rows p all (takes_schedule running tt) h (plain_is_no_flag v plain) fresh
+goes_choice tracing (schedule v) rows p all h has plain fresh = goes_value tracing _ _ v rows p all (takes_schedule tracing tt) h (plain_is_no_flag v plain) fresh
+goes_choice caching (schedule v) rows p all h has plain fresh = goes_value caching _ _ v rows p all (takes_schedule caching tt) h (plain_is_no_flag v plain) fresh
+goes_choice replaying (schedule v) rows p all h has plain fresh = let no : false ≡ true = has in cc
+goes_choice running (budget v) rows p all h has plain fresh = goes_value running _ _ v rows p all (takes_budget running tt) h (plain_is_no_flag v plain) fresh
+goes_choice tracing (budget v) rows p all h has plain fresh = goes_value tracing _ _ v rows p all (takes_budget tracing tt) h (plain_is_no_flag v plain) fresh
+goes_choice caching (budget v) rows p all h has plain fresh = goes_value caching _ _ v rows p all (takes_budget caching tt) h (plain_is_no_flag v plain) fresh
+goes_choice replaying (budget v) rows p all h has plain fresh = let no : false ≡ true = has in cc
 goes_choice k (report v) rows p all h has plain fresh = goes_value k _ _ v rows p all (takes_output k) h (plain_is_no_flag v plain) fresh
 goes_choice running (recording v) rows p all h has plain fresh = goes_value running _ _ v rows p all takes_recording h (plain_is_no_flag v plain) fresh
 goes_choice running (stamps v) rows p all h has plain fresh = goes_value running _ _ v rows p all takes_stamps h (plain_is_no_flag v plain) fresh
-goes_choice running stats rows p all h has plain fresh = goes_stats rows p all h fresh
-goes_choice caching (sets v) rows p all h has plain fresh = goes_value caching _ _ v rows p all takes_sets h (plain_is_no_flag v plain) fresh
-goes_choice caching (ways v) rows p all h has plain fresh = goes_value caching _ _ v rows p all takes_ways h (plain_is_no_flag v plain) fresh
-goes_choice caching (line v) rows p all h has plain fresh = goes_value caching _ _ v rows p all takes_line h (plain_is_no_flag v plain) fresh
+goes_choice running stats rows p all h has plain fresh = goes_stats running rows p all run_takes_stats h fresh
 goes_choice running (sets v) rows p all h has plain fresh = let no : false ≡ true = has in cc
 goes_choice running (ways v) rows p all h has plain fresh = let no : false ≡ true = has in cc
 goes_choice running (line v) rows p all h has plain fresh = let no : false ≡ true = has in cc
@@ -78,6 +87,15 @@ goes_choice tracing (line v) rows p all h has plain fresh = let no : false ≡ t
 goes_choice caching (recording v) rows p all h has plain fresh = let no : false ≡ true = has in cc
 goes_choice caching (stamps v) rows p all h has plain fresh = let no : false ≡ true = has in cc
 goes_choice caching stats rows p all h has plain fresh = let no : false ≡ true = has in cc
+goes_choice caching (sets v) rows p all h has plain fresh = goes_value caching _ _ v rows p all takes_sets h (plain_is_no_flag v plain) fresh
+goes_choice caching (ways v) rows p all h has plain fresh = goes_value caching _ _ v rows p all takes_ways h (plain_is_no_flag v plain) fresh
+goes_choice caching (line v) rows p all h has plain fresh = goes_value caching _ _ v rows p all takes_line h (plain_is_no_flag v plain) fresh
+goes_choice replaying (recording v) rows p all h has plain fresh = let no : false ≡ true = has in cc
+goes_choice replaying (stamps v) rows p all h has plain fresh = goes_value replaying _ _ v rows p all replay_takes_stamps h (plain_is_no_flag v plain) fresh
+goes_choice replaying stats rows p all h has plain fresh = goes_stats replaying rows p all replay_takes_stats h fresh
+goes_choice replaying (sets v) rows p all h has plain fresh = let no : false ≡ true = has in cc
+goes_choice replaying (ways v) rows p all h has plain fresh = let no : false ≡ true = has in cc
+goes_choice replaying (line v) rows p all h has plain fresh = let no : false ≡ true = has in cc
 
 -- none of the choices has a row
 abbrev AllFresh : List Row → List Choice → Type 0
@@ -95,7 +113,7 @@ fresh_at_first : (cs : List Choice) → AllFresh [] cs
 fresh_at_first [] = tt
 fresh_at_first (c ∷ cs) = (refl, fresh_at_first cs)
 
-goes_choices : (k : GuestCommand) (cs : List Choice) (rows : List Row) (p : Pending) (all : List Row) → Settles k rows p all
+goes_choices : (k : Subcommand) (cs : List Choice) (rows : List Row) (p : Pending) (all : List Row) → Settles k rows p all
     → list_all (has_option k) cs ≡ true → list_all has_plain_value cs ≡ true → HasNoRepeat cs → AllFresh all cs
     → Goes k rows p (choice_words cs) (all ++ choice_rows cs)
 goes_choices k [] rows p all h has plain once fresh = record {
@@ -121,10 +139,31 @@ goes_choices k (c ∷ cs) rows p all h has plain once fresh =
       settles = subst (Settles k more.rows2 more.p2) (append_assoc all (choice_row c ∷ []) (choice_rows cs)) more.settles;
     }
 
--- ---- the image and the further words
+-- ---- the path and the further words
+
+pub path_is_none : (k : Subcommand) → IsNoChoice (path_id k)
+path_is_none running = image_is_none
+path_is_none tracing = image_is_none
+path_is_none caching = image_is_none
+path_is_none replaying = trace_is_none
+
+-- no row of the path is one of further words
+path_is_no_word : (k : Subcommand) → bytes_eq (path_id k) (codes "word") ≡ false
+path_is_no_word running = refl
+path_is_no_word tracing = refl
+path_is_no_word caching = refl
+path_is_no_word replaying = refl
+
+-- further words stand behind the path only of a command that runs a guest
+abbrev pub MayFollow : Subcommand → List Text → Type 0
+MayFollow k words = RunsGuest k ⊎ (words ≡ [])
+
+some_follow : (k : Subcommand) (w : Text) (ws : List Text) → MayFollow k (w ∷ ws) → RunsGuest k
+some_follow k w ws (inl guest) = guest
+some_follow k w ws (inr none) = absurd (cc)
 
 -- After all words, which pass, what is held settles with these rows.
-pub record Ends (k : GuestCommand) (w : Walk) (words : List Text) (all : List Row) : Type 0 where
+pub record Ends (k : Subcommand) (w : Walk) (words : List Text) (all : List Row) : Type 0 where
   pub rows2 : List Row
   pub p2 : Pending
   pub waits : Waiting
@@ -132,68 +171,69 @@ pub record Ends (k : GuestCommand) (w : Walk) (words : List Text) (all : List Ro
   pub pass : walk_passes (shape k) [] w words ≡ true
   pub settles : Settles k rows2 p2 all
 
-further_words : (k : GuestCommand) (ws : List Text) (rows : List Row) (before : List Text) → list_all is_plain_word ws ≡ true
+further_words : (k : Subcommand) → RunsGuest k → (ws : List Text) (rows : List Row) (before : List Text) → list_all is_plain_word ws ≡ true
     → (fold (walked (rules k) []) (stand rows (Some (codes "word", before)) positional 2) ws
     ≡ stand rows (Some (codes "word", before ++ ws)) positional 2)
     × (walk_passes (shape k) [] (stand rows (Some (codes "word", before)) positional 2) ws ≡ true)
 unfolding walk_passes
-further_words k [] rows before h =
+further_words k guest [] rows before h =
     (ap (λ (vs : List Text). stand rows (Some (codes "word", vs)) positional 2) (sym (append-nil before)), refl)
-further_words k (w ∷ ws) rows before h =
+further_words k guest (w ∷ ws) rows before h =
     let two = and_parts (is_plain_word w) (list_all is_plain_word ws) h in
     let plain = plain_is_no_flag w two.0 in
-    let step = further_word k rows before w plain in
-    let more = further_words k ws rows (before ++ w ∷ []) two.1 in
+    let step = further_word k guest rows before w plain in
+    let more = further_words k guest ws rows (before ++ w ∷ []) two.1 in
     let joined = append_assoc before (w ∷ []) ws in (
       ap (λ u. fold (walked (rules k) []) u ws) step
           ∙ (more.0 ∙ ap (λ (vs : List Text). stand rows (Some (codes "word", vs)) positional 2) joined),
-      pass_step k _ _ w ws (further_turn k rows before w plain) step ∙ more.1,
+      pass_step k _ _ w ws (further_turn k guest rows before w plain) step ∙ more.1,
     )
 
-ends_words : (k : GuestCommand) (ws : List Text) (rows : List Row) (image : Text) → list_all is_plain_word ws ≡ true → length ws < 2 ^ 64
-    → has_row (codes "image") rows ≡ false → has_row (codes "word") rows ≡ false
-    → Ends k (stand rows (Some (codes "image", image ∷ [])) idle 2) ws (rows ++ tail_rows image ws)
+ends_words : (k : Subcommand) (ws : List Text) (rows : List Row) (image : Text) → MayFollow k ws → list_all is_plain_word ws ≡ true → length ws < 2 ^ 64
+    → has_row (path_id k) rows ≡ false → has_row (codes "word") rows ≡ false
+    → Ends k (stand rows (Some (path_id k, image ∷ [])) idle 2) ws (rows ++ tail_rows (path_id k) image ws)
 unfolding walk_passes
-ends_words k [] rows image h few i w = record {
+ends_words k [] rows image may h few i w = record {
   rows2 = rows;
-  p2 = Some (codes "image", image ∷ []);
+  p2 = Some (path_id k, image ∷ []);
   waits = idle;
   walk = refl;
   pass = refl;
-  settles = image_settles k rows image i;
+  settles = path_settles k rows image i;
 }
-ends_words k (v ∷ vs) rows image h few i w =
+ends_words k (v ∷ vs) rows image may h few i w =
+    let guest = some_follow k v vs may in
     let two = and_parts (is_plain_word v) (list_all is_plain_word vs) h in
     let plain = plain_is_no_flag v two.0 in
-    let row = plain_row (codes "image") (image ∷ []) in
+    let row = plain_row (path_id k) (image ∷ []) in
     let all = rows ++ row ∷ [] in
-    let settled = image_settles k rows image i in
-    let step : walked (rules k) [] (stand rows (Some (codes "image", image ∷ [])) idle 2) v
+    let settled = path_settles k rows image i in
+    let step : walked (rules k) [] (stand rows (Some (path_id k, image ∷ [])) idle 2) v
     ≡ stand all (Some (codes "word", v ∷ [])) positional 2 =
-    first_word k rows image v plain ∙ ap (λ (xs : List Row). stand xs (Some (codes "word", v ∷ [])) positional 2) settled.rows_are in
-    let more = further_words k vs all (v ∷ []) two.1 in
+    first_word k guest rows image v plain ∙ ap (λ (xs : List Row). stand xs (Some (codes "word", v ∷ [])) positional 2) settled.rows_are in
+    let more = further_words k guest vs all (v ∷ []) two.1 in
     record {
       rows2 = all;
       p2 = Some (codes "word", v ∷ vs);
       waits = positional;
       walk = ap (λ u. fold (walked (rules k) []) u vs) step ∙ more.0;
-      pass = pass_step k _ _ v vs (first_turn k rows image v plain ∙ settled.passes) step ∙ more.1;
+      pass = pass_step k _ _ v vs (first_turn k guest rows image v plain ∙ settled.passes) step ∙ more.1;
       settles = subst (Settles k all (Some (codes "word", v ∷ vs))) (append_assoc rows (row ∷ []) (word_rows (v ∷ vs)))
-          (words_settle k all v vs (absent_in_both (codes "word") rows (row ∷ []) w refl) few);
+          (words_settle k guest all v vs (absent_in_both (codes "word") rows (row ∷ []) w (ap₂ ◌||◌ (path_is_no_word k) refl)) few);
     }
 
-pub ends_guest : (k : GuestCommand) (choices : List Choice) (image : Text) (words : List Text) → ArePlain choices image words → list_all (has_option k) choices ≡ true
-    → Ends k (stand [] None idle 1) (choice_words choices ++ image ∷ words) (made_rows choices image words)
-ends_guest k choices image words plain has =
+pub ends_command : (k : Subcommand) (choices : List Choice) (image : Text) (words : List Text) → MayFollow k words → ArePlain choices image words → list_all (has_option k) choices ≡ true
+    → Ends k (stand [] None idle 1) (choice_words choices ++ image ∷ words) (made_rows (path_id k) choices image words)
+ends_command k choices image words may plain has =
     let start : Settles k [] None [] = record { rows_are = refl; passes = refl } in
     let one = goes_choices k choices [] None [] start has plain.plain_values plain.once (fresh_at_first choices) in
     let image_plain = plain_is_no_flag image plain.plain_image in
     let step : walked (rules k) [] (stand one.rows2 one.p2 idle 1) image
-    ≡ stand (choice_rows choices) (Some (codes "image", image ∷ [])) idle 2 =
-    image_word k one.rows2 one.p2 image image_plain
-    ∙ ap (λ (xs : List Row). stand xs (Some (codes "image", image ∷ [])) idle 2) one.settles.rows_are in
-    let two = ends_words k words (choice_rows choices) image plain.plain_words plain.few
-    (no_choice_row (codes "image") choices image_is_none) (no_choice_row (codes "word") choices word_is_none) in
+    ≡ stand (choice_rows choices) (Some (path_id k, image ∷ [])) idle 2 =
+    path_word k one.rows2 one.p2 image image_plain
+    ∙ ap (λ (xs : List Row). stand xs (Some (path_id k, image ∷ [])) idle 2) one.settles.rows_are in
+    let two = ends_words k words (choice_rows choices) image may plain.plain_words plain.few
+    (no_choice_row (path_id k) choices (path_is_none k)) (no_choice_row (codes "word") choices word_is_none) in
     record {
       rows2 = two.rows2;
       p2 = two.p2;
@@ -202,6 +242,6 @@ ends_guest k choices image words plain has =
           ∙ (ap (λ w. fold (walked (rules k) []) w (image ∷ words)) one.walk
           ∙ (ap (λ w. fold (walked (rules k) []) w words) step ∙ two.walk));
       pass = one.pass (image ∷ words)
-          ∙ (pass_step k _ _ image words (image_turn k one.rows2 one.p2 image image_plain ∙ one.settles.passes) step ∙ two.pass);
+          ∙ (pass_step k _ _ image words (path_turn k one.rows2 one.p2 image image_plain ∙ one.settles.passes) step ∙ two.pass);
       settles = two.settles;
     }

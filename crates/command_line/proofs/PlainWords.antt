@@ -12,12 +12,12 @@ use Rattle.clap.specs.Takes.{built_takes, default_passes, entered_passes, is_giv
 use Rattle.clap.specs.Walk.{Names, Walk, default_rows, finished, has_row, idle, nothing_held, reading_by, rows_after, settled_rows, walk_from, walked, with_default}
 use Rattle.clap.specs.Words.{Row, Rule, Text, built, subcommand_of, takes}
 use Rattle.clap.proofs.OnLiterals.{clap_on_literals}
-use Rattle.command_line.specs.App.{the_app, top_app, run_app, demo_app, trace_app, cache_app}
-use Rattle.command_line.specs.Plain.{ArePlain, Choice, PlainCacheIsTaken, PlainTraceIsTaken, PlainWordsAreTaken, budget, choice_words, id_of, is_chosen, line, quantum, recording, report, schedule, sets, stamps, stats, stdin, ways}
-use Rattle.command_line.proofs.Choices.{ends_guest}
+use Rattle.command_line.specs.App.{the_app, top_app, run_app, demo_app, trace_app, cache_app, replay_app}
+use Rattle.command_line.specs.Plain.{ArePlain, Choice, PlainCacheIsTaken, PlainReplayIsTaken, PlainTraceIsTaken, PlainWordsAreTaken, budget, choice_words, id_of, is_chosen, line, quantum, recording, report, schedule, sets, stamps, stats, stdin, ways}
+use Rattle.command_line.proofs.Choices.{MayFollow, ends_command}
 use Rattle.command_line.proofs.Fixed.{the_app_is_simple}
-use Rattle.command_line.proofs.Rows.{choice_rows, if_unset, image_is_none, made_rows, plain_rows, tail_rows, unset_rows, IsNoChoice}
-use Rattle.command_line.proofs.Steps.{GuestCommand, caching, has_option, rules, running, shape, stand, tracing}
+use Rattle.command_line.proofs.Rows.{choice_rows, if_unset, image_is_none, made_rows, plain_rows, tail_rows, trace_is_none, unset_rows, IsNoChoice}
+use Rattle.command_line.proofs.Steps.{Subcommand, caching, has_option, path_id, replaying, rules, running, shape, stand, tracing}
 
 -- ---- defaults
 
@@ -34,20 +34,28 @@ no_defaults [] rows h = refl
 no_defaults (a ∷ rest) rows h =
     ap (λ x. fold with_default x rest) (if_none (has_row a.id rows) a rows h.0) ∙ no_defaults rest rows h.1
 
--- only `--stats` of `run` has a default
+-- only `--stats` has a default: that of `run`
 pub finished_rows : (rows : List Row) → fold with_default rows (rules running) ≡ rows ++ unset_rows (has_row (codes "stats") rows)
-unfolding the_app top_app run_app demo_app trace_app cache_app clap_on_literals
+unfolding the_app top_app run_app demo_app trace_app cache_app replay_app clap_on_literals
 finished_rows rows =
     ap (λ x. fold with_default x (drop 6 (rules running))) (no_defaults (take 6 (rules running)) rows (refl, (refl, (refl, (refl, (refl, (refl, tt)))))))
     ∙ (no_defaults (drop 7 (rules running)) (fold with_default rows (take 1 (drop 6 (rules running)))) (refl, (refl, (refl, tt)))
     ∙ if_unset (has_row (codes "stats") rows) rows refl)
 
+-- and of `replay`
+pub finished_replay : (rows : List Row) → fold with_default rows (rules replaying) ≡ rows ++ unset_rows (has_row (codes "stats") rows)
+unfolding the_app top_app run_app demo_app trace_app cache_app replay_app clap_on_literals
+finished_replay rows =
+    ap (λ x. fold with_default x (drop 1 (rules replaying))) (no_defaults (take 1 (rules replaying)) rows (refl, tt))
+    ∙ (no_defaults (drop 2 (rules replaying)) (fold with_default rows (take 1 (drop 1 (rules replaying)))) (refl, (refl, tt))
+    ∙ if_unset (has_row (codes "stats") rows) rows refl)
+
 pub finished_trace : (rows : List Row) → fold with_default rows (rules tracing) ≡ rows
-unfolding the_app top_app run_app demo_app trace_app cache_app clap_on_literals
+unfolding the_app top_app run_app demo_app trace_app cache_app replay_app clap_on_literals
 finished_trace rows = no_defaults (rules tracing) rows (refl, (refl, (refl, (refl, (refl, (refl, (refl, tt)))))))
 
 pub finished_cache : (rows : List Row) → fold with_default rows (rules caching) ≡ rows
-unfolding the_app top_app run_app demo_app trace_app cache_app clap_on_literals
+unfolding the_app top_app run_app demo_app trace_app cache_app replay_app clap_on_literals
 finished_cache rows = no_defaults (rules caching) rows (refl, (refl, (refl, (refl, (refl, (refl, (refl, (refl, (refl, (refl, tt))))))))))
 
 chosen_stats : (cs : List Choice) → has_row (codes "stats") (choice_rows cs) ≡ is_chosen (codes "stats") cs
@@ -64,28 +72,40 @@ chosen_stats (sets v ∷ cs) = chosen_stats cs
 chosen_stats (ways v ∷ cs) = chosen_stats cs
 chosen_stats (line v ∷ cs) = chosen_stats cs
 
-no_stats_tail : (image : Text) (words : List Text) → has_row (codes "stats") (tail_rows image words) ≡ false
-no_stats_tail image [] = refl
-no_stats_tail image (w ∷ ws) = refl
+no_stats_tail : (k : Subcommand) (path : Text) (words : List Text) → has_row (codes "stats") (tail_rows (path_id k) path words) ≡ false
+no_stats_tail running path [] = refl
+no_stats_tail running path (w ∷ ws) = refl
+no_stats_tail tracing path [] = refl
+no_stats_tail tracing path (w ∷ ws) = refl
+no_stats_tail caching path [] = refl
+no_stats_tail caching path (w ∷ ws) = refl
+no_stats_tail replaying path [] = refl
+no_stats_tail replaying path (w ∷ ws) = refl
 
 -- the rows that plain words make of a command
-abbrev pub all_rows : GuestCommand → List Choice → Text → List Text → List Row
-all_rows running choices image words = plain_rows choices image words
-all_rows tracing choices image words = made_rows choices image words
-all_rows caching choices image words = made_rows choices image words
+abbrev pub all_rows : Subcommand → List Choice → Text → List Text → List Row
+all_rows running choices path words = plain_rows (path_id running) choices path words
+all_rows tracing choices path words = made_rows (path_id tracing) choices path words
+all_rows caching choices path words = made_rows (path_id caching) choices path words
+all_rows replaying choices path words = plain_rows (path_id replaying) choices path words
 
-finished_plain : (k : GuestCommand) (choices : List Choice) (image : Text) (words : List Text)
-    → fold with_default (made_rows choices image words) (rules k) ≡ all_rows k choices image words
-finished_plain running choices image words =
-    let made = made_rows choices image words in
-    let tail = tail_rows image words in
+-- where the row of `--stats` is added if there is none
+with_unset : (k : Subcommand) (choices : List Choice) (path : Text) (words : List Text)
+    → (let made = made_rows (path_id k) choices path words in made ++ unset_rows (has_row (codes "stats") made)) ≡ plain_rows (path_id k) choices path words
+with_unset k choices path words =
+    let made = made_rows (path_id k) choices path words in
+    let tail = tail_rows (path_id k) path words in
     let chosen : has_row (codes "stats") made ≡ is_chosen (codes "stats") choices =
     list_any-append (λ r. bytes_eq r.id (codes "stats")) (choice_rows choices) tail
-    ∙ (ap₂ ◌||◌ (chosen_stats choices) (no_stats_tail image words) ∙ or-false _) in
-    finished_rows made
-    ∙ (ap (λ b. made ++ unset_rows b) chosen ∙ append_assoc (choice_rows choices) tail (unset_rows (is_chosen (codes "stats") choices)))
-finished_plain tracing choices image words = finished_trace (made_rows choices image words)
-finished_plain caching choices image words = finished_cache (made_rows choices image words)
+    ∙ (ap₂ ◌||◌ (chosen_stats choices) (no_stats_tail k path words) ∙ or-false _) in
+    ap (λ b. made ++ unset_rows b) chosen ∙ append_assoc (choice_rows choices) tail (unset_rows (is_chosen (codes "stats") choices))
+
+finished_plain : (k : Subcommand) (choices : List Choice) (path : Text) (words : List Text)
+    → fold with_default (made_rows (path_id k) choices path words) (rules k) ≡ all_rows k choices path words
+finished_plain running choices path words = finished_rows (made_rows (path_id running) choices path words) ∙ with_unset running choices path words
+finished_plain tracing choices path words = finished_trace (made_rows (path_id tracing) choices path words)
+finished_plain caching choices path words = finished_cache (made_rows (path_id caching) choices path words)
+finished_plain replaying choices path words = finished_replay (made_rows (path_id replaying) choices path words) ∙ with_unset replaying choices path words
 
 -- ---- what is required is there
 
@@ -121,9 +141,10 @@ given_after id [] rest h g = g
 given_after id (c ∷ cs) rest h g = rw (h c) (given_after id cs rest h g)
 
 -- the options that a command has to have are among the choices
-abbrev pub HasRequired : GuestCommand → List Choice → Type 0
+abbrev pub HasRequired : Subcommand → List Choice → Type 0
 HasRequired running cs = is_chosen (codes "output") cs ≡ true
 HasRequired tracing cs = is_chosen (codes "output") cs ≡ true
+HasRequired replaying cs = is_chosen (codes "output") cs ≡ true
 HasRequired caching cs =
     (is_chosen (codes "sets") cs ≡ true) × (is_chosen (codes "ways") cs ≡ true) × (is_chosen (codes "line") cs ≡ true) × (is_chosen (codes "output") cs ≡ true)
 
@@ -131,50 +152,57 @@ HasRequired caching cs =
 given_first : (id : Text) (choices : List Choice) (rest : List Row) → is_chosen id choices ≡ true → is_given id (choice_rows choices ++ rest) ≡ true
 given_first id choices rest chosen = given_left id (choice_rows choices) rest (given_chosen id choices chosen)
 
-command_valid : (k : GuestCommand) (choices : List Choice) (image : Text) (words : List Text) → HasRequired k choices
+command_valid : (k : Subcommand) (choices : List Choice) (image : Text) (words : List Text) → HasRequired k choices
     → is_valid (shape k) (all_rows k choices image words) false ≡ true
-unfolding the_app top_app run_app demo_app trace_app cache_app clap_on_literals
+unfolding the_app top_app run_app demo_app trace_app cache_app replay_app clap_on_literals
 command_valid running choices image words chosen =
-    let tail = tail_rows image words ++ unset_rows (is_chosen (codes "stats") choices) in
+    let tail = tail_rows (path_id running) image words ++ unset_rows (is_chosen (codes "stats") choices) in
     let o = given_first (codes "output") choices tail chosen in
     let i = given_after (codes "image") choices tail image_is_none refl in
     rw (o, i) refl
 command_valid tracing choices image words chosen =
-    let tail = tail_rows image words in
+    let tail = tail_rows (path_id tracing) image words in
     let o = given_first (codes "output") choices tail chosen in
     let i = given_after (codes "image") choices tail image_is_none refl in
     rw (o, i) refl
 command_valid caching choices image words chosen =
-    let tail = tail_rows image words in
+    let tail = tail_rows (path_id caching) image words in
     let s = given_first (codes "sets") choices tail chosen.0 in
     let w = given_first (codes "ways") choices tail chosen.1 in
     let l = given_first (codes "line") choices tail chosen.2 in
     let o = given_first (codes "output") choices tail chosen.3 in
     let i = given_after (codes "image") choices tail image_is_none refl in
     rw (s, w, l, o, i) refl
+command_valid replaying choices trace words chosen =
+    let tail = tail_rows (path_id replaying) trace words ++ unset_rows (is_chosen (codes "stats") choices) in
+    let o = given_first (codes "output") choices tail chosen in
+    let t = given_after (codes "trace") choices tail trace_is_none refl in
+    rw (o, t) refl
 
 -- ---- the command and its words
 
-command_rows : (k : GuestCommand) (choices : List Choice) (image : Text) (words : List Text) → ArePlain choices image words → list_all (has_option k) choices ≡ true
+command_rows : (k : Subcommand) (choices : List Choice) (image : Text) (words : List Text) → MayFollow k words → ArePlain choices image words → list_all (has_option k) choices ≡ true
     → rows_after (rules k) [] (choice_words choices ++ image ∷ words) ≡ all_rows k choices image words
-command_rows k choices image words plain has =
-    let end = ends_guest k choices image words plain has in
+command_rows k choices image words may plain has =
+    let end = ends_command k choices image words may plain has in
     ap (λ w. fold with_default (settled_rows (rules k) w.held.pending w.held.rows) (rules k)) end.walk
     ∙ (ap (λ rows. fold with_default rows (rules k)) end.settles.rows_are ∙ finished_plain k choices image words)
 
-no_override : (k : GuestCommand) → (shape k).args_override_self ≡ false
-unfolding the_app top_app run_app demo_app trace_app cache_app
+no_override : (k : Subcommand) → (shape k).args_override_self ≡ false
+unfolding the_app top_app run_app demo_app trace_app cache_app replay_app
 no_override running = refl
 no_override tracing = refl
 no_override caching = refl
+no_override replaying = refl
 
-defaults_pass : (k : GuestCommand) → list_all default_passes (rules k) ≡ true
-unfolding the_app top_app run_app demo_app trace_app cache_app clap_on_literals
+defaults_pass : (k : Subcommand) → list_all default_passes (rules k) ≡ true
+unfolding the_app top_app run_app demo_app trace_app cache_app replay_app clap_on_literals
 defaults_pass running = refl
 defaults_pass tracing = refl
 defaults_pass caching = refl
+defaults_pass replaying = refl
 
-level_from : (k : GuestCommand) (words : List Text) (w : Walk) → fold (walked (rules k) []) (stand [] None idle 1) words ≡ w
+level_from : (k : Subcommand) (words : List Text) (w : Walk) → fold (walked (rules k) []) (stand [] None idle 1) words ≡ w
     → walk_passes (shape k) [] (stand [] None idle 1) words ≡ true
     → settle_passes (rules k) false w.held ≡ true → is_valid (shape k) (finished (rules k) w.held) false ≡ true
     → level_passes (shape k) [] nothing_held words false ≡ true
@@ -184,11 +212,11 @@ level_from k words w walk pass settles valid =
     && (list_all default_passes (rules k) && is_valid (shape k) (finished (rules k) v.held) false)) walk
     ∙ ap₂ ◌&&◌ (ap (λ (b : Bool). settle_passes (rules k) b w.held) (no_override k) ∙ settles) (ap₂ ◌&&◌ (defaults_pass k) valid))
 
-command_passes : (k : GuestCommand) (choices : List Choice) (image : Text) (words : List Text) → ArePlain choices image words → list_all (has_option k) choices ≡ true
+command_passes : (k : Subcommand) (choices : List Choice) (image : Text) (words : List Text) → MayFollow k words → ArePlain choices image words → list_all (has_option k) choices ≡ true
     → HasRequired k choices
     → level_passes (shape k) [] nothing_held (choice_words choices ++ image ∷ words) false ≡ true
-command_passes k choices image words plain has chosen =
-    let end = ends_guest k choices image words plain has in
+command_passes k choices image words may plain has chosen =
+    let end = ends_command k choices image words may plain has in
     let valid = command_valid k choices image words chosen in
     level_from k _ _ end.walk end.pass end.settles.passes
     (ap (λ rows. is_valid (shape k) (fold with_default rows (rules k)) false) end.settles.rows_are
@@ -203,68 +231,73 @@ abbrev pub names : Names
 names = names_of (built the_app)
 
 -- the name of a command
-abbrev pub name_of : GuestCommand → Text
+abbrev pub name_of : Subcommand → Text
 name_of running = codes "run"
 name_of tracing = codes "trace"
 name_of caching = codes "cache"
+name_of replaying = codes "replay"
 
 -- the walk stopped at the command, with these words after it
-abbrev at_command : GuestCommand → List Text → Walk
+abbrev at_command : Subcommand → List Text → Walk
 at_command k words = record (walk_from nothing_held) { stopped = Some (name_of k, words) }
 
-stops_at : (k : GuestCommand) → walked top_rules names (walk_from nothing_held) (name_of k) ≡ at_command k []
-unfolding the_app top_app run_app demo_app trace_app cache_app clap_on_literals
+stops_at : (k : Subcommand) → walked top_rules names (walk_from nothing_held) (name_of k) ≡ at_command k []
+unfolding the_app top_app run_app demo_app trace_app cache_app replay_app clap_on_literals
 stops_at running = refl
 stops_at tracing = refl
 stops_at caching = refl
+stops_at replaying = refl
 
-turn_at : (k : GuestCommand) → turn_passes (built the_app).top names (walk_from nothing_held) (name_of k) ≡ true
-unfolding the_app top_app run_app demo_app trace_app cache_app clap_on_literals
+turn_at : (k : Subcommand) → turn_passes (built the_app).top names (walk_from nothing_held) (name_of k) ≡ true
+unfolding the_app top_app run_app demo_app trace_app cache_app replay_app clap_on_literals
 turn_at running = refl
 turn_at tracing = refl
 turn_at caching = refl
+turn_at replaying = refl
 
-stays_at : (k : GuestCommand) (rest before : List Text) → fold (walked top_rules names) (at_command k before) rest ≡ at_command k (before ++ rest)
+stays_at : (k : Subcommand) (rest before : List Text) → fold (walked top_rules names) (at_command k before) rest ≡ at_command k (before ++ rest)
 unfolding walked
 stays_at k [] before = ap (at_command k) (sym (append-nil before))
 stays_at k (w ∷ ws) before = stays_at k ws (before ++ w ∷ []) ∙ ap (at_command k) (append_assoc before (w ∷ []) ws)
 
-passes_at : (k : GuestCommand) (rest before : List Text) → walk_passes (built the_app).top names (at_command k before) rest ≡ true
+passes_at : (k : Subcommand) (rest before : List Text) → walk_passes (built the_app).top names (at_command k before) rest ≡ true
 unfolding walked walk_passes
 passes_at k [] before = refl
 passes_at k (w ∷ ws) before = passes_at k ws (before ++ w ∷ [])
 
-top_walk : (k : GuestCommand) (rest : List Text) → fold (walked top_rules names) (walk_from nothing_held) (name_of k ∷ rest) ≡ at_command k rest
+top_walk : (k : Subcommand) (rest : List Text) → fold (walked top_rules names) (walk_from nothing_held) (name_of k ∷ rest) ≡ at_command k rest
 top_walk k rest = ap (λ w. fold (walked top_rules names) w rest) (stops_at k) ∙ stays_at k rest []
 
-top_passes : (k : GuestCommand) (rest : List Text) → walk_passes (built the_app).top names (walk_from nothing_held) (name_of k ∷ rest) ≡ true
+top_passes : (k : Subcommand) (rest : List Text) → walk_passes (built the_app).top names (walk_from nothing_held) (name_of k ∷ rest) ≡ true
 unfolding walk_passes
 top_passes k rest =
     ap₂ ◌&&◌ (turn_at k) (ap (λ w. walk_passes (built the_app).top names w rest) (stops_at k) ∙ passes_at k rest [])
 
-enters_command : (k : GuestCommand) (rest : List Text) → entered (built the_app) (Some (name_of k, rest)) ≡ Some (name_of k, rows_after (rules k) [] rest)
-unfolding the_app top_app run_app demo_app trace_app cache_app clap_on_literals
+enters_command : (k : Subcommand) (rest : List Text) → entered (built the_app) (Some (name_of k, rest)) ≡ Some (name_of k, rows_after (rules k) [] rest)
+unfolding the_app top_app run_app demo_app trace_app cache_app replay_app clap_on_literals
 enters_command running rest = refl
 enters_command tracing rest = refl
 enters_command caching rest = refl
+enters_command replaying rest = refl
 
 -- what holds after the walk of the top command, by what was met and whether it has matches
 abbrev pub top_ends : Walk → Bool → Bool
 top_ends w has_subcommand = settle_passes top_rules (built the_app).top.args_override_self w.held
     && (list_all default_passes top_rules && is_valid (built the_app).top (finished top_rules w.held) has_subcommand)
 
-top_valid : (k : GuestCommand) (rest : List Text) → top_ends (at_command k rest) true ≡ true
-unfolding the_app top_app run_app demo_app trace_app cache_app clap_on_literals
+top_valid : (k : Subcommand) (rest : List Text) → top_ends (at_command k rest) true ≡ true
+unfolding the_app top_app run_app demo_app trace_app cache_app replay_app clap_on_literals
 top_valid k rest = refl
 
-enters_passes : (k : GuestCommand) (rest : List Text) → level_passes (shape k) [] nothing_held rest false ≡ true
+enters_passes : (k : Subcommand) (rest : List Text) → level_passes (shape k) [] nothing_held rest false ≡ true
     → entered_passes (built the_app) (Some (name_of k, rest)) ≡ true
-unfolding the_app top_app run_app demo_app trace_app cache_app clap_on_literals
+unfolding the_app top_app run_app demo_app trace_app cache_app replay_app clap_on_literals
 enters_passes running rest h = h
 enters_passes tracing rest h = h
 enters_passes caching rest h = h
+enters_passes replaying rest h = h
 
-built_takes_command : (k : GuestCommand) (rest : List Text) → level_passes (shape k) [] nothing_held rest false ≡ true
+built_takes_command : (k : Subcommand) (rest : List Text) → level_passes (shape k) [] nothing_held rest false ≡ true
     → built_takes (built the_app) nothing_held (name_of k ∷ rest) ≡ true
 built_takes_command k rest h =
     let walk = top_walk k rest in
@@ -274,35 +307,38 @@ built_takes_command k rest h =
     ∙ (ap (λ (o : Option (Text × List Row)). top_ends (at_command k rest) (is_some o)) (enters_command k rest) ∙ top_valid k rest)))
 
 pub after_program : (program : Text) (words : List Text) → argument_words the_app (program ∷ words) ≡ words
-unfolding the_app top_app run_app demo_app trace_app cache_app
+unfolding the_app top_app run_app demo_app trace_app cache_app replay_app
 after_program program words = refl
 
 -- the words of a whole command line
-abbrev pub command_words : GuestCommand → Text → List Choice → Text → List Text → List Text
+abbrev pub command_words : Subcommand → Text → List Choice → Text → List Text → List Text
 command_words k program choices image words = program ∷ name_of k ∷ (choice_words choices ++ image ∷ words)
 
-plain_taken : (k : GuestCommand) (program : Text) (choices : List Choice) (image : Text) (words : List Text) → ArePlain choices image words
+plain_taken : (k : Subcommand) (program : Text) (choices : List Choice) (image : Text) (words : List Text) → MayFollow k words → ArePlain choices image words
     → list_all (has_option k) choices ≡ true → HasRequired k choices → takes the_app (command_words k program choices image words) ≡ true
-plain_taken k program choices image words plain has chosen =
+plain_taken k program choices image words may plain has chosen =
     let rest = choice_words choices ++ image ∷ words in
     ap₂ ◌&&◌ the_app_is_simple
     (ap (built_takes (built the_app) nothing_held) (after_program program (name_of k ∷ rest))
-    ∙ built_takes_command k rest (command_passes k choices image words plain has chosen))
+    ∙ built_takes_command k rest (command_passes k choices image words may plain has chosen))
 
 pub plain_words : PlainWordsAreTaken
-plain_words program choices image words plain of_run chosen = plain_taken running program choices image words plain of_run chosen
+plain_words program choices image words plain of_run chosen = plain_taken running program choices image words (inl tt) plain of_run chosen
 
 pub plain_trace : PlainTraceIsTaken
-plain_trace program choices image words plain of_trace chosen = plain_taken tracing program choices image words plain of_trace chosen
+plain_trace program choices image words plain of_trace chosen = plain_taken tracing program choices image words (inl tt) plain of_trace chosen
 
 pub plain_cache : PlainCacheIsTaken
-plain_cache program choices image words plain of_cache s w l o = plain_taken caching program choices image words plain of_cache (s, w, l, o)
+plain_cache program choices image words plain of_cache s w l o = plain_taken caching program choices image words (inl tt) plain of_cache (s, w, l, o)
 
-pub plain_subcommand : (k : GuestCommand) (program : Text) (choices : List Choice) (image : Text) (words : List Text) → ArePlain choices image words
+pub plain_replay : PlainReplayIsTaken
+plain_replay program choices trace plain of_replay chosen = plain_taken replaying program choices trace [] (inr refl) plain of_replay chosen
+
+pub plain_subcommand : (k : Subcommand) (program : Text) (choices : List Choice) (image : Text) (words : List Text) → MayFollow k words → ArePlain choices image words
     → list_all (has_option k) choices ≡ true
     → subcommand_of the_app (command_words k program choices image words) ≡ Some (name_of k, all_rows k choices image words)
-plain_subcommand k program choices image words plain has =
+plain_subcommand k program choices image words may plain has =
     let rest = choice_words choices ++ image ∷ words in
     ap (λ ws. entered (built the_app) (fold (walked top_rules names) (walk_from nothing_held) ws).stopped) (after_program program (name_of k ∷ rest))
     ∙ (ap (λ (w : Walk). entered (built the_app) w.stopped) (top_walk k rest)
-    ∙ (enters_command k rest ∙ ap (λ (rows : List Row). Some (name_of k, rows)) (command_rows k choices image words plain has)))
+    ∙ (enters_command k rest ∙ ap (λ (rows : List Row). Some (name_of k, rows)) (command_rows k choices image words may plain has)))

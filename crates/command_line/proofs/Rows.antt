@@ -35,9 +35,9 @@ abbrev pub word_rows : List Text → List Row
 word_rows [] = []
 word_rows (w ∷ ws) = plain_row (codes "word") (w ∷ ws) ∷ []
 
--- the rows of the image and the further words
-abbrev pub tail_rows : Text → List Text → List Row
-tail_rows image words = plain_row (codes "image") (image ∷ []) ∷ word_rows words
+-- the rows of the path behind the options, by its argument, and the further words
+abbrev pub tail_rows : Text → Text → List Text → List Row
+tail_rows id path words = plain_row id (path ∷ []) ∷ word_rows words
 
 -- the row that is added where `--stats` is not given
 abbrev pub unset_row : Row
@@ -47,11 +47,11 @@ abbrev pub unset_rows : Bool → List Row
 unset_rows given = cond given [] (unset_row ∷ [])
 
 -- the rows that plain words make, and all rows
-abbrev pub made_rows : List Choice → Text → List Text → List Row
-made_rows choices image words = choice_rows choices ++ tail_rows image words
+abbrev pub made_rows : Text → List Choice → Text → List Text → List Row
+made_rows id choices path words = choice_rows choices ++ tail_rows id path words
 
-abbrev pub plain_rows : List Choice → Text → List Text → List Row
-plain_rows choices image words = choice_rows choices ++ (tail_rows image words ++ unset_rows (is_chosen (codes "stats") choices))
+abbrev pub plain_rows : Text → List Choice → Text → List Text → List Row
+plain_rows id choices path words = choice_rows choices ++ (tail_rows id path words ++ unset_rows (is_chosen (codes "stats") choices))
 
 absent_at_end : (id : Text) (change : Row → List Row) (missing rows : List Row) → has_row id rows ≡ false
     → at_row id change missing rows ≡ rows ++ missing
@@ -101,6 +101,19 @@ image_is_none (report v) = refl
 image_is_none (sets v) = refl
 image_is_none (ways v) = refl
 image_is_none (line v) = refl
+
+pub trace_is_none : IsNoChoice (codes "trace")
+trace_is_none (stdin v) = refl
+trace_is_none (quantum v) = refl
+trace_is_none (schedule v) = refl
+trace_is_none (recording v) = refl
+trace_is_none (budget v) = refl
+trace_is_none (stamps v) = refl
+trace_is_none stats = refl
+trace_is_none (report v) = refl
+trace_is_none (sets v) = refl
+trace_is_none (ways v) = refl
+trace_is_none (line v) = refl
 
 pub word_is_none : IsNoChoice (codes "word")
 word_is_none (stdin v) = refl

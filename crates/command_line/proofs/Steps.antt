@@ -1,4 +1,4 @@
--- The walk of `clap` over the words of `run`, word by word.
+-- The walk of `clap` over the words of a command that has options, word by word.
 use Rattle.std.proofs.Common.{◌≡◌, ◌<◌, ◌^◌, ℕ, Bool, true, false, refl, ◌&&◌, ap, ap₂, ◌∙◌, List, [], ◌∷◌, ◌++◌, Option, Some, None, codes, unwrap_or, arith, nat_eq, nat_le, length}
 use Rattle.std.proofs.lemmas.Bool.Decides.{nat_tests}
 use Rattle.std.specs.Prelude.{slice_get}
@@ -11,8 +11,8 @@ use Rattle.clap.specs.Takes.{settle_passes, turn_passes, walk_passes}
 use Rattle.clap.specs.Walk.{Waiting, Walk, has_row, idle, option, positional, settled_rows, walked}
 use Rattle.clap.specs.Words.{Row, Rule, Shape, Text, built}
 use Rattle.clap.proofs.OnLiterals.{clap_on_literals}
-use Rattle.command_line.specs.App.{the_app, top_app, run_app, demo_app, trace_app, cache_app}
-use Rattle.command_line.specs.Plain.{Choice, is_of_cache, is_of_run, is_of_trace, is_plain_word, stats}
+use Rattle.command_line.specs.App.{the_app, top_app, run_app, demo_app, trace_app, cache_app, replay_app}
+use Rattle.command_line.specs.Plain.{Choice, is_of_cache, is_of_replay, is_of_run, is_of_trace, is_plain_word, stats}
 use Rattle.command_line.proofs.Rows.{choice_row, new_row, new_row_kept, plain_row}
 
 -- the commands as `clap` builds them
@@ -28,25 +28,41 @@ trace_shape = unwrap_or (slice_get (built the_app).subs 2) (new_shape [])
 abbrev pub cache_shape : Shape
 cache_shape = unwrap_or (slice_get (built the_app).subs 3) (new_shape [])
 
--- The commands that run a guest.
-pub data GuestCommand : Type 0 where
-  running : GuestCommand
-  tracing : GuestCommand
-  caching : GuestCommand
+abbrev pub replay_shape : Shape
+replay_shape = unwrap_or (slice_get (built the_app).subs 4) (new_shape [])
 
-abbrev pub shape : GuestCommand → Shape
+-- The commands that have options.
+pub data Subcommand : Type 0 where
+  running : Subcommand
+  tracing : Subcommand
+  caching : Subcommand
+  replaying : Subcommand
+
+-- it runs a guest: its image and further words follow the options
+abbrev pub RunsGuest : Subcommand → Type 0
+RunsGuest replaying = ⊥
+RunsGuest k = Unit {0}
+
+-- the argument of the path that follows the options
+abbrev pub path_id : Subcommand → Text
+path_id replaying = codes "trace"
+path_id k = codes "image"
+
+abbrev pub shape : Subcommand → Shape
 shape running = run_shape
 shape tracing = trace_shape
 shape caching = cache_shape
+shape replaying = replay_shape
 
-abbrev pub rules : GuestCommand → List Rule
+abbrev pub rules : Subcommand → List Rule
 rules k = (shape k).rules
 
 -- the option is one of the command
-abbrev pub has_option : GuestCommand → Choice → Bool
+abbrev pub has_option : Subcommand → Choice → Bool
 has_option running c = is_of_run c
 has_option tracing c = is_of_trace c
 has_option caching c = is_of_cache c
+has_option replaying c = is_of_replay c
 
 -- an argument whose values are being read
 abbrev pub Pending : Type 0
@@ -63,15 +79,15 @@ stand rows pending waiting position = record {
 }
 
 -- the next word passes here
-abbrev pub turn : GuestCommand → List Row → Pending → Waiting → ℕ → Text → Bool
+abbrev pub turn : Subcommand → List Row → Pending → Waiting → ℕ → Text → Bool
 turn k rows pending waiting position word = turn_passes (shape k) [] (stand rows pending waiting position) word
 
 -- what is pending may be used
-abbrev pub may_settle : GuestCommand → List Row → Pending → Bool
+abbrev pub may_settle : Subcommand → List Row → Pending → Bool
 may_settle k rows pending = settle_passes (rules k) false (record { rows = rows; pending = pending; skip = 0 })
 
 -- What is pending settles with these rows.
-pub record Settles (k : GuestCommand) (rows : List Row) (pending : Pending) (all : List Row) : Type 0 where
+pub record Settles (k : Subcommand) (rows : List Row) (pending : Pending) (all : List Row) : Type 0 where
   pub rows_are : settled_rows (rules k) pending rows ≡ all
   pub passes : may_settle k rows pending ≡ true
 
@@ -95,7 +111,7 @@ all_true (w ∷ ws) = all_true ws
 -- ---- an option and its value
 
 -- This flag is that of an option with one value.
-pub record TakesValue (k : GuestCommand) (flag id : Text) : Type 0 where
+pub record TakesValue (k : Subcommand) (flag id : Text) : Type 0 where
   pub flag_word : (rows : List Row) (p : Pending)
       → walked (rules k) [] (stand rows p idle 1) flag ≡ stand (settled_rows (rules k) p rows) (Some (id, [])) (option id) 1
   pub flag_turn : (rows : List Row) (p : Pending) → turn k rows p idle 1 flag ≡ may_settle k rows p
@@ -105,104 +121,108 @@ pub record TakesValue (k : GuestCommand) (flag id : Text) : Type 0 where
   pub settles : (rows : List Row) (word : Text) → has_row id rows ≡ false
       → Settles k rows (Some (id, word ∷ [])) (rows ++ plain_row id (word ∷ []) ∷ [])
 
-pub takes_stdin : (k : GuestCommand) → TakesValue k (codes "--stdin") (codes "stdin")
-unfolding the_app top_app run_app demo_app trace_app cache_app clap_on_literals
-takes_stdin running = record {
+pub takes_stdin : (k : Subcommand) → RunsGuest k → TakesValue k (codes "--stdin") (codes "stdin")
+unfolding the_app top_app run_app demo_app trace_app cache_app replay_app clap_on_literals
+takes_stdin running guest = record {
   flag_word = λ rows p. refl;
   flag_turn = λ rows p. and-true _;
   value_word = λ rows word h. rw (h.no_dashes, h.no_long, h.no_short) refl;
   value_turn = λ rows word h. rw (h.no_dashes, h.no_long, h.no_short) refl;
   settles = λ rows word h. record { rows_are = new_row (codes "stdin") (word ∷ []) rows h; passes = rw h refl };
 }
-takes_stdin tracing = record {
+takes_stdin tracing guest = record {
   flag_word = λ rows p. refl;
   flag_turn = λ rows p. and-true _;
   value_word = λ rows word h. rw (h.no_dashes, h.no_long, h.no_short) refl;
   value_turn = λ rows word h. rw (h.no_dashes, h.no_long, h.no_short) refl;
   settles = λ rows word h. record { rows_are = new_row (codes "stdin") (word ∷ []) rows h; passes = rw h refl };
 }
-takes_stdin caching = record {
+takes_stdin caching guest = record {
   flag_word = λ rows p. refl;
   flag_turn = λ rows p. and-true _;
   value_word = λ rows word h. rw (h.no_dashes, h.no_long, h.no_short) refl;
   value_turn = λ rows word h. rw (h.no_dashes, h.no_long, h.no_short) refl;
   settles = λ rows word h. record { rows_are = new_row (codes "stdin") (word ∷ []) rows h; passes = rw h refl };
 }
+takes_stdin replaying guest = absurd guest
 
-pub takes_quantum : (k : GuestCommand) → TakesValue k (codes "--quantum") (codes "quantum")
-unfolding the_app top_app run_app demo_app trace_app cache_app clap_on_literals
-takes_quantum running = record {
+pub takes_quantum : (k : Subcommand) → RunsGuest k → TakesValue k (codes "--quantum") (codes "quantum")
+unfolding the_app top_app run_app demo_app trace_app cache_app replay_app clap_on_literals
+takes_quantum running guest = record {
   flag_word = λ rows p. refl;
   flag_turn = λ rows p. and-true _;
   value_word = λ rows word h. rw (h.no_dashes, h.no_long, h.no_short) refl;
   value_turn = λ rows word h. rw (h.no_dashes, h.no_long, h.no_short) refl;
   settles = λ rows word h. record { rows_are = new_row (codes "quantum") (word ∷ []) rows h; passes = rw h refl };
 }
-takes_quantum tracing = record {
+takes_quantum tracing guest = record {
   flag_word = λ rows p. refl;
   flag_turn = λ rows p. and-true _;
   value_word = λ rows word h. rw (h.no_dashes, h.no_long, h.no_short) refl;
   value_turn = λ rows word h. rw (h.no_dashes, h.no_long, h.no_short) refl;
   settles = λ rows word h. record { rows_are = new_row (codes "quantum") (word ∷ []) rows h; passes = rw h refl };
 }
-takes_quantum caching = record {
+takes_quantum caching guest = record {
   flag_word = λ rows p. refl;
   flag_turn = λ rows p. and-true _;
   value_word = λ rows word h. rw (h.no_dashes, h.no_long, h.no_short) refl;
   value_turn = λ rows word h. rw (h.no_dashes, h.no_long, h.no_short) refl;
   settles = λ rows word h. record { rows_are = new_row (codes "quantum") (word ∷ []) rows h; passes = rw h refl };
 }
+takes_quantum replaying guest = absurd guest
 
-pub takes_schedule : (k : GuestCommand) → TakesValue k (codes "--schedule") (codes "schedule")
-unfolding the_app top_app run_app demo_app trace_app cache_app clap_on_literals
-takes_schedule running = record {
+pub takes_schedule : (k : Subcommand) → RunsGuest k → TakesValue k (codes "--schedule") (codes "schedule")
+unfolding the_app top_app run_app demo_app trace_app cache_app replay_app clap_on_literals
+takes_schedule running guest = record {
   flag_word = λ rows p. refl;
   flag_turn = λ rows p. and-true _;
   value_word = λ rows word h. rw (h.no_dashes, h.no_long, h.no_short) refl;
   value_turn = λ rows word h. rw (h.no_dashes, h.no_long, h.no_short) refl;
   settles = λ rows word h. record { rows_are = new_row (codes "schedule") (word ∷ []) rows h; passes = rw h refl };
 }
-takes_schedule tracing = record {
+takes_schedule tracing guest = record {
   flag_word = λ rows p. refl;
   flag_turn = λ rows p. and-true _;
   value_word = λ rows word h. rw (h.no_dashes, h.no_long, h.no_short) refl;
   value_turn = λ rows word h. rw (h.no_dashes, h.no_long, h.no_short) refl;
   settles = λ rows word h. record { rows_are = new_row (codes "schedule") (word ∷ []) rows h; passes = rw h refl };
 }
-takes_schedule caching = record {
+takes_schedule caching guest = record {
   flag_word = λ rows p. refl;
   flag_turn = λ rows p. and-true _;
   value_word = λ rows word h. rw (h.no_dashes, h.no_long, h.no_short) refl;
   value_turn = λ rows word h. rw (h.no_dashes, h.no_long, h.no_short) refl;
   settles = λ rows word h. record { rows_are = new_row (codes "schedule") (word ∷ []) rows h; passes = rw h refl };
 }
+takes_schedule replaying guest = absurd guest
 
-pub takes_budget : (k : GuestCommand) → TakesValue k (codes "--budget") (codes "budget")
-unfolding the_app top_app run_app demo_app trace_app cache_app clap_on_literals
-takes_budget running = record {
+pub takes_budget : (k : Subcommand) → RunsGuest k → TakesValue k (codes "--budget") (codes "budget")
+unfolding the_app top_app run_app demo_app trace_app cache_app replay_app clap_on_literals
+takes_budget running guest = record {
   flag_word = λ rows p. refl;
   flag_turn = λ rows p. and-true _;
   value_word = λ rows word h. rw (h.no_dashes, h.no_long, h.no_short) refl;
   value_turn = λ rows word h. rw (h.no_dashes, h.no_long, h.no_short) refl;
   settles = λ rows word h. record { rows_are = new_row (codes "budget") (word ∷ []) rows h; passes = rw h refl };
 }
-takes_budget tracing = record {
+takes_budget tracing guest = record {
   flag_word = λ rows p. refl;
   flag_turn = λ rows p. and-true _;
   value_word = λ rows word h. rw (h.no_dashes, h.no_long, h.no_short) refl;
   value_turn = λ rows word h. rw (h.no_dashes, h.no_long, h.no_short) refl;
   settles = λ rows word h. record { rows_are = new_row (codes "budget") (word ∷ []) rows h; passes = rw h refl };
 }
-takes_budget caching = record {
+takes_budget caching guest = record {
   flag_word = λ rows p. refl;
   flag_turn = λ rows p. and-true _;
   value_word = λ rows word h. rw (h.no_dashes, h.no_long, h.no_short) refl;
   value_turn = λ rows word h. rw (h.no_dashes, h.no_long, h.no_short) refl;
   settles = λ rows word h. record { rows_are = new_row (codes "budget") (word ∷ []) rows h; passes = rw h refl };
 }
+takes_budget replaying guest = absurd guest
 
-pub takes_output : (k : GuestCommand) → TakesValue k (codes "-o") (codes "output")
-unfolding the_app top_app run_app demo_app trace_app cache_app clap_on_literals
+pub takes_output : (k : Subcommand) → TakesValue k (codes "-o") (codes "output")
+unfolding the_app top_app run_app demo_app trace_app cache_app replay_app clap_on_literals
 takes_output running = record {
   flag_word = λ rows p. refl;
   flag_turn = λ rows p. and-true _;
@@ -224,9 +244,16 @@ takes_output caching = record {
   value_turn = λ rows word h. rw (h.no_dashes, h.no_long, h.no_short) refl;
   settles = λ rows word h. record { rows_are = new_row (codes "output") (word ∷ []) rows h; passes = rw h refl };
 }
+takes_output replaying = record {
+  flag_word = λ rows p. refl;
+  flag_turn = λ rows p. and-true _;
+  value_word = λ rows word h. rw (h.no_dashes, h.no_long, h.no_short) refl;
+  value_turn = λ rows word h. rw (h.no_dashes, h.no_long, h.no_short) refl;
+  settles = λ rows word h. record { rows_are = new_row (codes "output") (word ∷ []) rows h; passes = rw h refl };
+}
 
 pub takes_recording : TakesValue running (codes "--record") (codes "record")
-unfolding the_app top_app run_app demo_app trace_app cache_app clap_on_literals
+unfolding the_app top_app run_app demo_app trace_app cache_app replay_app clap_on_literals
 takes_recording = record {
   flag_word = λ rows p. refl;
   flag_turn = λ rows p. and-true _;
@@ -236,7 +263,7 @@ takes_recording = record {
 }
 
 pub takes_stamps : TakesValue running (codes "--stamps") (codes "stamps")
-unfolding the_app top_app run_app demo_app trace_app cache_app clap_on_literals
+unfolding the_app top_app run_app demo_app trace_app cache_app replay_app clap_on_literals
 takes_stamps = record {
   flag_word = λ rows p. refl;
   flag_turn = λ rows p. and-true _;
@@ -245,8 +272,18 @@ takes_stamps = record {
   settles = λ rows word h. record { rows_are = new_row (codes "stamps") (word ∷ []) rows h; passes = rw h refl };
 }
 
+pub replay_takes_stamps : TakesValue replaying (codes "--stamps") (codes "stamps")
+unfolding the_app top_app run_app demo_app trace_app cache_app replay_app clap_on_literals
+replay_takes_stamps = record {
+  flag_word = λ rows p. refl;
+  flag_turn = λ rows p. and-true _;
+  value_word = λ rows word h. rw (h.no_dashes, h.no_long, h.no_short) refl;
+  value_turn = λ rows word h. rw (h.no_dashes, h.no_long, h.no_short) refl;
+  settles = λ rows word h. record { rows_are = new_row (codes "stamps") (word ∷ []) rows h; passes = rw h refl };
+}
+
 pub takes_sets : TakesValue caching (codes "--sets") (codes "sets")
-unfolding the_app top_app run_app demo_app trace_app cache_app clap_on_literals
+unfolding the_app top_app run_app demo_app trace_app cache_app replay_app clap_on_literals
 takes_sets = record {
   flag_word = λ rows p. refl;
   flag_turn = λ rows p. and-true _;
@@ -256,7 +293,7 @@ takes_sets = record {
 }
 
 pub takes_ways : TakesValue caching (codes "--ways") (codes "ways")
-unfolding the_app top_app run_app demo_app trace_app cache_app clap_on_literals
+unfolding the_app top_app run_app demo_app trace_app cache_app replay_app clap_on_literals
 takes_ways = record {
   flag_word = λ rows p. refl;
   flag_turn = λ rows p. and-true _;
@@ -266,7 +303,7 @@ takes_ways = record {
 }
 
 pub takes_line : TakesValue caching (codes "--line") (codes "line")
-unfolding the_app top_app run_app demo_app trace_app cache_app clap_on_literals
+unfolding the_app top_app run_app demo_app trace_app cache_app replay_app clap_on_literals
 takes_line = record {
   flag_word = λ rows p. refl;
   flag_turn = λ rows p. and-true _;
@@ -277,98 +314,118 @@ takes_line = record {
 
 -- ---- the option without a value
 
-pub stats_word : (rows : List Row) (p : Pending) → has_row (codes "stats") (settled_rows (rules running) p rows) ≡ false
-    → walked (rules running) [] (stand rows p idle 1) (codes "--stats") ≡ stand (settled_rows (rules running) p rows ++ choice_row stats ∷ []) None idle 1
-unfolding the_app top_app run_app demo_app trace_app cache_app clap_on_literals
-stats_word rows p h =
-    ap (λ (all : List Row). stand all None idle 1) (new_row (codes "stats") (codes "true" ∷ []) (settled_rows (rules running) p rows) h)
+-- The command has the flag `--stats`.
+pub record TakesStats (k : Subcommand) : Type 0 where
+  pub flag_word : (rows : List Row) (p : Pending) → has_row (codes "stats") (settled_rows (rules k) p rows) ≡ false
+      → walked (rules k) [] (stand rows p idle 1) (codes "--stats") ≡ stand (settled_rows (rules k) p rows ++ choice_row stats ∷ []) None idle 1
+  pub flag_turn : (rows : List Row) (p : Pending) → has_row (codes "stats") (settled_rows (rules k) p rows) ≡ false
+      → turn k rows p idle 1 (codes "--stats") ≡ may_settle k rows p
 
-pub stats_turn : (rows : List Row) (p : Pending) → has_row (codes "stats") (settled_rows (rules running) p rows) ≡ false
-    → turn running rows p idle 1 (codes "--stats") ≡ may_settle running rows p
-unfolding the_app top_app run_app demo_app trace_app cache_app clap_on_literals
-stats_turn rows p h = rw h (and-true _ ∙ and-true _)
+pub run_takes_stats : TakesStats running
+unfolding the_app top_app run_app demo_app trace_app cache_app replay_app clap_on_literals
+run_takes_stats = record {
+  flag_word = λ rows p h. ap (λ (all : List Row). stand all None idle 1) (new_row (codes "stats") (codes "true" ∷ []) (settled_rows (rules running) p rows) h);
+  flag_turn = λ rows p h. rw h (and-true _ ∙ and-true _);
+}
 
--- ---- the image
+pub replay_takes_stats : TakesStats replaying
+unfolding the_app top_app run_app demo_app trace_app cache_app replay_app clap_on_literals
+replay_takes_stats = record {
+  flag_word = λ rows p h. ap (λ (all : List Row). stand all None idle 1) (new_row (codes "stats") (codes "true" ∷ []) (settled_rows (rules replaying) p rows) h);
+  flag_turn = λ rows p h. rw h (and-true _ ∙ and-true _);
+}
 
-pub image_word : (k : GuestCommand) (rows : List Row) (p : Pending) (word : Text) → IsNoFlag word
-    → walked (rules k) [] (stand rows p idle 1) word ≡ stand (settled_rows (rules k) p rows) (Some (codes "image", word ∷ [])) idle 2
-unfolding the_app top_app run_app demo_app trace_app cache_app clap_on_literals
-image_word running rows None word h = rw (h.no_dashes, h.no_long, h.no_short) refl
-image_word running rows (Some q) word h = rw (h.no_dashes, h.no_long, h.no_short, and-false (bytes_eq q.0 (codes "image"))) refl
-image_word tracing rows None word h = rw (h.no_dashes, h.no_long, h.no_short) refl
-image_word tracing rows (Some q) word h = rw (h.no_dashes, h.no_long, h.no_short, and-false (bytes_eq q.0 (codes "image"))) refl
-image_word caching rows None word h = rw (h.no_dashes, h.no_long, h.no_short) refl
-image_word caching rows (Some q) word h = rw (h.no_dashes, h.no_long, h.no_short, and-false (bytes_eq q.0 (codes "image"))) refl
+-- ---- the image, or the trace
 
-pub image_turn : (k : GuestCommand) (rows : List Row) (p : Pending) (word : Text) → IsNoFlag word
+pub path_word : (k : Subcommand) (rows : List Row) (p : Pending) (word : Text) → IsNoFlag word
+    → walked (rules k) [] (stand rows p idle 1) word ≡ stand (settled_rows (rules k) p rows) (Some (path_id k, word ∷ [])) idle 2
+unfolding the_app top_app run_app demo_app trace_app cache_app replay_app clap_on_literals
+path_word running rows None word h = rw (h.no_dashes, h.no_long, h.no_short) refl
+path_word running rows (Some q) word h = rw (h.no_dashes, h.no_long, h.no_short, and-false (bytes_eq q.0 (codes "image"))) refl
+path_word tracing rows None word h = rw (h.no_dashes, h.no_long, h.no_short) refl
+path_word tracing rows (Some q) word h = rw (h.no_dashes, h.no_long, h.no_short, and-false (bytes_eq q.0 (codes "image"))) refl
+path_word caching rows None word h = rw (h.no_dashes, h.no_long, h.no_short) refl
+path_word caching rows (Some q) word h = rw (h.no_dashes, h.no_long, h.no_short, and-false (bytes_eq q.0 (codes "image"))) refl
+path_word replaying rows None word h = rw (h.no_dashes, h.no_long, h.no_short) refl
+path_word replaying rows (Some q) word h = rw (h.no_dashes, h.no_long, h.no_short, and-false (bytes_eq q.0 (codes "trace"))) refl
+
+pub path_turn : (k : Subcommand) (rows : List Row) (p : Pending) (word : Text) → IsNoFlag word
     → turn k rows p idle 1 word ≡ may_settle k rows p
-unfolding the_app top_app run_app demo_app trace_app cache_app clap_on_literals
-image_turn running rows None word h = rw (h.no_dashes, h.no_long, h.no_short) refl
-image_turn running rows (Some q) word h = rw (h.no_dashes, h.no_long, h.no_short, and-false (bytes_eq q.0 (codes "image"))) refl
-image_turn tracing rows None word h = rw (h.no_dashes, h.no_long, h.no_short) refl
-image_turn tracing rows (Some q) word h = rw (h.no_dashes, h.no_long, h.no_short, and-false (bytes_eq q.0 (codes "image"))) refl
-image_turn caching rows None word h = rw (h.no_dashes, h.no_long, h.no_short) refl
-image_turn caching rows (Some q) word h = rw (h.no_dashes, h.no_long, h.no_short, and-false (bytes_eq q.0 (codes "image"))) refl
+unfolding the_app top_app run_app demo_app trace_app cache_app replay_app clap_on_literals
+path_turn running rows None word h = rw (h.no_dashes, h.no_long, h.no_short) refl
+path_turn running rows (Some q) word h = rw (h.no_dashes, h.no_long, h.no_short, and-false (bytes_eq q.0 (codes "image"))) refl
+path_turn tracing rows None word h = rw (h.no_dashes, h.no_long, h.no_short) refl
+path_turn tracing rows (Some q) word h = rw (h.no_dashes, h.no_long, h.no_short, and-false (bytes_eq q.0 (codes "image"))) refl
+path_turn caching rows None word h = rw (h.no_dashes, h.no_long, h.no_short) refl
+path_turn caching rows (Some q) word h = rw (h.no_dashes, h.no_long, h.no_short, and-false (bytes_eq q.0 (codes "image"))) refl
+path_turn replaying rows None word h = rw (h.no_dashes, h.no_long, h.no_short) refl
+path_turn replaying rows (Some q) word h = rw (h.no_dashes, h.no_long, h.no_short, and-false (bytes_eq q.0 (codes "trace"))) refl
 
-pub image_settles : (k : GuestCommand) (rows : List Row) (image : Text) → has_row (codes "image") rows ≡ false
-    → Settles k rows (Some (codes "image", image ∷ [])) (rows ++ plain_row (codes "image") (image ∷ []) ∷ [])
-unfolding the_app top_app run_app demo_app trace_app cache_app clap_on_literals
-image_settles running rows image h = record { rows_are = new_row (codes "image") (image ∷ []) rows h; passes = rw h refl }
-image_settles tracing rows image h = record { rows_are = new_row (codes "image") (image ∷ []) rows h; passes = rw h refl }
-image_settles caching rows image h = record { rows_are = new_row (codes "image") (image ∷ []) rows h; passes = rw h refl }
+pub path_settles : (k : Subcommand) (rows : List Row) (path : Text) → has_row (path_id k) rows ≡ false
+    → Settles k rows (Some (path_id k, path ∷ [])) (rows ++ plain_row (path_id k) (path ∷ []) ∷ [])
+unfolding the_app top_app run_app demo_app trace_app cache_app replay_app clap_on_literals
+path_settles running rows path h = record { rows_are = new_row (codes "image") (path ∷ []) rows h; passes = rw h refl }
+path_settles tracing rows path h = record { rows_are = new_row (codes "image") (path ∷ []) rows h; passes = rw h refl }
+path_settles caching rows path h = record { rows_are = new_row (codes "image") (path ∷ []) rows h; passes = rw h refl }
+path_settles replaying rows path h = record { rows_are = new_row (codes "trace") (path ∷ []) rows h; passes = rw h refl }
 
 -- ---- the further words
 
-pub first_word : (k : GuestCommand) (rows : List Row) (image word : Text) → IsNoFlag word
-    → walked (rules k) [] (stand rows (Some (codes "image", image ∷ [])) idle 2) word
-    ≡ stand (settled_rows (rules k) (Some (codes "image", image ∷ [])) rows) (Some (codes "word", word ∷ [])) positional 2
-unfolding the_app top_app run_app demo_app trace_app cache_app clap_on_literals
-first_word running rows image word h = rw (h.no_dashes, h.no_long, h.no_short) refl
-first_word tracing rows image word h = rw (h.no_dashes, h.no_long, h.no_short) refl
-first_word caching rows image word h = rw (h.no_dashes, h.no_long, h.no_short) refl
+pub first_word : (k : Subcommand) → RunsGuest k → (rows : List Row) (image word : Text) → IsNoFlag word
+    → walked (rules k) [] (stand rows (Some (path_id k, image ∷ [])) idle 2) word
+    ≡ stand (settled_rows (rules k) (Some (path_id k, image ∷ [])) rows) (Some (codes "word", word ∷ [])) positional 2
+unfolding the_app top_app run_app demo_app trace_app cache_app replay_app clap_on_literals
+first_word running guest rows image word h = rw (h.no_dashes, h.no_long, h.no_short) refl
+first_word tracing guest rows image word h = rw (h.no_dashes, h.no_long, h.no_short) refl
+first_word caching guest rows image word h = rw (h.no_dashes, h.no_long, h.no_short) refl
+first_word replaying guest rows image word h = absurd guest
 
-pub first_turn : (k : GuestCommand) (rows : List Row) (image word : Text) → IsNoFlag word
-    → turn k rows (Some (codes "image", image ∷ [])) idle 2 word ≡ may_settle k rows (Some (codes "image", image ∷ []))
-unfolding the_app top_app run_app demo_app trace_app cache_app clap_on_literals
-first_turn running rows image word h = rw (h.no_dashes, h.no_long, h.no_short) refl
-first_turn tracing rows image word h = rw (h.no_dashes, h.no_long, h.no_short) refl
-first_turn caching rows image word h = rw (h.no_dashes, h.no_long, h.no_short) refl
+pub first_turn : (k : Subcommand) → RunsGuest k → (rows : List Row) (image word : Text) → IsNoFlag word
+    → turn k rows (Some (path_id k, image ∷ [])) idle 2 word ≡ may_settle k rows (Some (path_id k, image ∷ []))
+unfolding the_app top_app run_app demo_app trace_app cache_app replay_app clap_on_literals
+first_turn running guest rows image word h = rw (h.no_dashes, h.no_long, h.no_short) refl
+first_turn tracing guest rows image word h = rw (h.no_dashes, h.no_long, h.no_short) refl
+first_turn caching guest rows image word h = rw (h.no_dashes, h.no_long, h.no_short) refl
+first_turn replaying guest rows image word h = absurd guest
 
-pub further_word : (k : GuestCommand) (rows : List Row) (words : List Text) (word : Text) → IsNoFlag word
+pub further_word : (k : Subcommand) → RunsGuest k → (rows : List Row) (words : List Text) (word : Text) → IsNoFlag word
     → walked (rules k) [] (stand rows (Some (codes "word", words)) positional 2) word
     ≡ stand rows (Some (codes "word", words ++ word ∷ [])) positional 2
-unfolding the_app top_app run_app demo_app trace_app cache_app clap_on_literals
-further_word running rows words word h = rw (h.no_dashes, h.no_long, h.no_short) refl
-further_word tracing rows words word h = rw (h.no_dashes, h.no_long, h.no_short) refl
-further_word caching rows words word h = rw (h.no_dashes, h.no_long, h.no_short) refl
+unfolding the_app top_app run_app demo_app trace_app cache_app replay_app clap_on_literals
+further_word running guest rows words word h = rw (h.no_dashes, h.no_long, h.no_short) refl
+further_word tracing guest rows words word h = rw (h.no_dashes, h.no_long, h.no_short) refl
+further_word caching guest rows words word h = rw (h.no_dashes, h.no_long, h.no_short) refl
+further_word replaying guest rows words word h = absurd guest
 
-pub further_turn : (k : GuestCommand) (rows : List Row) (words : List Text) (word : Text) → IsNoFlag word
+pub further_turn : (k : Subcommand) → RunsGuest k → (rows : List Row) (words : List Text) (word : Text) → IsNoFlag word
     → turn k rows (Some (codes "word", words)) positional 2 word ≡ true
-unfolding the_app top_app run_app demo_app trace_app cache_app clap_on_literals
-further_turn running rows words word h = rw (h.no_dashes, h.no_long, h.no_short) refl
-further_turn tracing rows words word h = rw (h.no_dashes, h.no_long, h.no_short) refl
-further_turn caching rows words word h = rw (h.no_dashes, h.no_long, h.no_short) refl
+unfolding the_app top_app run_app demo_app trace_app cache_app replay_app clap_on_literals
+further_turn running guest rows words word h = rw (h.no_dashes, h.no_long, h.no_short) refl
+further_turn tracing guest rows words word h = rw (h.no_dashes, h.no_long, h.no_short) refl
+further_turn caching guest rows words word h = rw (h.no_dashes, h.no_long, h.no_short) refl
+further_turn replaying guest rows words word h = absurd guest
 
-pub words_settle : (k : GuestCommand) (rows : List Row) (word : Text) (words : List Text) → has_row (codes "word") rows ≡ false
+pub words_settle : (k : Subcommand) → RunsGuest k → (rows : List Row) (word : Text) (words : List Text) → has_row (codes "word") rows ≡ false
     → length (word ∷ words) < 2 ^ 64
     → Settles k rows (Some (codes "word", word ∷ words)) (rows ++ plain_row (codes "word") (word ∷ words) ∷ [])
-unfolding the_app top_app run_app demo_app trace_app cache_app clap_on_literals
-words_settle running rows word words h lt =
+unfolding the_app top_app run_app demo_app trace_app cache_app replay_app clap_on_literals
+words_settle running guest rows word words h lt =
     let few : nat_le (length (word ∷ words)) usize_max ≡ true = grind (arith, nat_tests) in
     let some : nat_le 0 (length (word ∷ words)) ≡ true = grind (arith, nat_tests) in
     record { rows_are = new_row_kept (codes "word") (word ∷ words) rows h; passes = rw (some, few) (all_true words) }
-words_settle tracing rows word words h lt =
+words_settle tracing guest rows word words h lt =
     let few : nat_le (length (word ∷ words)) usize_max ≡ true = grind (arith, nat_tests) in
     let some : nat_le 0 (length (word ∷ words)) ≡ true = grind (arith, nat_tests) in
     record { rows_are = new_row_kept (codes "word") (word ∷ words) rows h; passes = rw (some, few) (all_true words) }
-words_settle caching rows word words h lt =
+words_settle caching guest rows word words h lt =
     let few : nat_le (length (word ∷ words)) usize_max ≡ true = grind (arith, nat_tests) in
     let some : nat_le 0 (length (word ∷ words)) ≡ true = grind (arith, nat_tests) in
     record { rows_are = new_row_kept (codes "word") (word ∷ words) rows h; passes = rw (some, few) (all_true words) }
+words_settle replaying guest rows word words h lt = absurd guest
 
 -- ---- one word of a walk
 
-pub pass_step : (k : GuestCommand) (w v : Walk) (word : Text) (rest : List Text) → turn_passes (shape k) [] w word ≡ true → walked (rules k) [] w word ≡ v
+pub pass_step : (k : Subcommand) (w v : Walk) (word : Text) (rest : List Text) → turn_passes (shape k) [] w word ≡ true → walked (rules k) [] w word ≡ v
     → walk_passes (shape k) [] w (word ∷ rest) ≡ walk_passes (shape k) [] v rest
 unfolding walk_passes
 pass_step k w v word rest h e = ap₂ ◌&&◌ h (ap (λ u. walk_passes (shape k) [] u rest) e)

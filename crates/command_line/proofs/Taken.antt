@@ -13,14 +13,14 @@ use Rattle.stamps.specs.declared.width.StampBits.{StampBits}
 use Rattle.clap.specs.Words.{Row, Rule, Text, built, first_of, subcommand_of, takes}
 use Rattle.clap.specs.Facts.{explicit_source}
 use Rattle.std.specs.Str.{bytes_eq}
-use Rattle.command_line.specs.App.{the_app, top_app, run_app, demo_app, trace_app, cache_app}
-use Rattle.command_line.specs.Options.{Cache, CacheOptions, Demo, GuestOptions, Run, RunOptions, Trace, TraceOptions, bits_of, budget_of, cache_of_rows, cache_with, demo_of, demo_of_rows, guest_of_rows, guest_with, options_of_rows, options_with, quantum_of, shape_of_rows, shape_said, trace_of_rows, trace_with}
-use Rattle.command_line.specs.Taken.{FailsByNumber, HasBadCache, HasBadDemo, HasBadNumber, HasBadSteps, TakenWordsFailByNumbers}
+use Rattle.command_line.specs.App.{the_app, top_app, run_app, demo_app, trace_app, cache_app, replay_app}
+use Rattle.command_line.specs.Options.{Cache, CacheOptions, Demo, GuestOptions, Replay, ReplayOptions, Run, RunOptions, Trace, TraceOptions, bits_of, budget_of, cache_of_rows, cache_with, demo_of, demo_of_rows, guest_of_rows, guest_with, options_of_rows, options_with, quantum_of, replay_of_rows, replay_with, shape_of_rows, shape_said, trace_of_rows, trace_with}
+use Rattle.command_line.specs.Taken.{FailsByNumber, HasBadCache, HasBadDemo, HasBadNumber, HasBadSteps, HasBadWidth, TakenWordsFailByNumbers}
 use Rattle.command_line.proofs.Filled.{AllKeep, IsKept, filled_same, is_appended, is_filled, is_flag, is_own, is_set, kept_keeps, row_for, settle_keeps, walk_keeps}
-use Rattle.command_line.proofs.PlainWords.{finished_cache, finished_rows, finished_trace, no_defaults}
+use Rattle.command_line.proofs.PlainWords.{finished_cache, finished_replay, finished_rows, finished_trace, no_defaults}
 use Rattle.command_line.proofs.Refusals.{asked_is, read_of}
 use Rattle.command_line.proofs.Rows.{unset_rows}
-use Rattle.command_line.proofs.Steps.{cache_shape, caching, demo_shape, rules, run_shape, running, trace_shape, tracing}
+use Rattle.command_line.proofs.Steps.{cache_shape, caching, demo_shape, replay_shape, replaying, rules, run_shape, running, trace_shape, tracing}
 
 -- what a search among these can find
 abbrev FoundIn : List Shape → Option Shape → Type 0
@@ -69,29 +69,33 @@ enters_one a None p q = let no : false ≡ true = q in cc
 enters_one a (Some met) p q =
     enters_any a.subs (find (λ u. answers_to met.0 (label_of u)) a.subs) met.1 (found_in (λ u. answers_to met.0 (label_of u)) a.subs) p q
 
-subs_are : (built the_app).subs ≡ run_shape ∷ demo_shape ∷ trace_shape ∷ cache_shape ∷ []
-unfolding the_app top_app run_app demo_app trace_app cache_app clap_on_literals
+subs_are : (built the_app).subs ≡ run_shape ∷ demo_shape ∷ trace_shape ∷ cache_shape ∷ replay_shape ∷ []
+unfolding the_app top_app run_app demo_app trace_app cache_app replay_app clap_on_literals
 subs_are = refl
 
 run_is_named : run_shape.name ≡ codes "run"
-unfolding the_app top_app run_app demo_app trace_app cache_app clap_on_literals
+unfolding the_app top_app run_app demo_app trace_app cache_app replay_app clap_on_literals
 run_is_named = refl
 
 trace_is_named : trace_shape.name ≡ codes "trace"
-unfolding the_app top_app run_app demo_app trace_app cache_app clap_on_literals
+unfolding the_app top_app run_app demo_app trace_app cache_app replay_app clap_on_literals
 trace_is_named = refl
 
 cache_is_named : cache_shape.name ≡ codes "cache"
-unfolding the_app top_app run_app demo_app trace_app cache_app clap_on_literals
+unfolding the_app top_app run_app demo_app trace_app cache_app replay_app clap_on_literals
 cache_is_named = refl
 
+replay_is_named : replay_shape.name ≡ codes "replay"
+unfolding the_app top_app run_app demo_app trace_app cache_app replay_app clap_on_literals
+replay_is_named = refl
+
 demo_is_named : demo_shape.name ≡ codes "demo"
-unfolding the_app top_app run_app demo_app trace_app cache_app clap_on_literals
+unfolding the_app top_app run_app demo_app trace_app cache_app replay_app clap_on_literals
 demo_is_named = refl
 
 -- the subcommand has to be there
 top_requires : (rows : List Row) (has : Bool) → is_valid (built the_app).top rows has ≡ true → has ≡ true
-unfolding the_app top_app run_app demo_app trace_app cache_app clap_on_literals
+unfolding the_app top_app run_app demo_app trace_app cache_app replay_app clap_on_literals
 top_requires rows true h = refl
 top_requires rows false h = let no : false ≡ true = h in cc
 
@@ -102,12 +106,17 @@ two_given false i h = let no : false ≡ true = h in cc
 
 -- and `-o` and the image
 run_requires : (rows : List Row) → is_valid run_shape rows false ≡ true → (is_given (codes "output") rows ≡ true) × (is_given (codes "image") rows ≡ true)
-unfolding the_app top_app run_app demo_app trace_app cache_app clap_on_literals
+unfolding the_app top_app run_app demo_app trace_app cache_app replay_app clap_on_literals
 run_requires rows h = two_given (is_given (codes "output") rows) (is_given (codes "image") rows) h
 
 trace_requires : (rows : List Row) → is_valid trace_shape rows false ≡ true → (is_given (codes "output") rows ≡ true) × (is_given (codes "image") rows ≡ true)
-unfolding the_app top_app run_app demo_app trace_app cache_app clap_on_literals
+unfolding the_app top_app run_app demo_app trace_app cache_app replay_app clap_on_literals
 trace_requires rows h = two_given (is_given (codes "output") rows) (is_given (codes "image") rows) h
+
+-- `replay` the trace
+replay_requires : (rows : List Row) → is_valid replay_shape rows false ≡ true → (is_given (codes "output") rows ≡ true) × (is_given (codes "trace") rows ≡ true)
+unfolding the_app top_app run_app demo_app trace_app cache_app replay_app clap_on_literals
+replay_requires rows h = two_given (is_given (codes "output") rows) (is_given (codes "trace") rows) h
 
 -- `cache` the shape too
 five_given : (s w l o i : Bool) → (s && (w && (l && (o && (i && true))))) ≡ true → (s ≡ true) × (w ≡ true) × (l ≡ true) × (o ≡ true) × (i ≡ true)
@@ -121,7 +130,7 @@ five_given s w l o i h =
 cache_requires : (rows : List Row) → is_valid cache_shape rows false ≡ true
     → (is_given (codes "sets") rows ≡ true) × (is_given (codes "ways") rows ≡ true) × (is_given (codes "line") rows ≡ true)
     × (is_given (codes "output") rows ≡ true) × (is_given (codes "image") rows ≡ true)
-unfolding the_app top_app run_app demo_app trace_app cache_app clap_on_literals
+unfolding the_app top_app run_app demo_app trace_app cache_app replay_app clap_on_literals
 cache_requires rows h =
     five_given (is_given (codes "sets") rows) (is_given (codes "ways") rows) (is_given (codes "line") rows) (is_given (codes "output") rows) (is_given (codes "image") rows) h
 
@@ -131,12 +140,12 @@ one_given false h = let no : false ≡ true = h in cc
 
 -- `demo` its number
 demo_requires : (rows : List Row) → is_valid demo_shape rows false ≡ true → is_given (codes "number") rows ≡ true
-unfolding the_app top_app run_app demo_app trace_app cache_app clap_on_literals
+unfolding the_app top_app run_app demo_app trace_app cache_app replay_app clap_on_literals
 demo_requires rows h = one_given (is_given (codes "number") rows) h
 
 -- words that are taken enter a subcommand
 taken_enters : (words : List Text) → takes the_app words ≡ true
-    → EntersOne (run_shape ∷ demo_shape ∷ trace_shape ∷ cache_shape ∷ []) (subcommand_of the_app words)
+    → EntersOne (run_shape ∷ demo_shape ∷ trace_shape ∷ cache_shape ∷ replay_shape ∷ []) (subcommand_of the_app words)
 taken_enters words h =
     let ws = argument_words the_app words in
     let top = (built the_app).top in
@@ -163,7 +172,7 @@ all_keep id [] same k = tt
 all_keep id (a ∷ rest) same k = (kept_keeps id a same k.0, all_keep id rest same k.1)
 
 output_keeps : AllKeep (codes "output") (rules running)
-unfolding the_app top_app run_app demo_app trace_app cache_app clap_on_literals
+unfolding the_app top_app run_app demo_app trace_app cache_app replay_app clap_on_literals
 output_keeps = all_keep (codes "output") (rules running) refl (
   is_set refl refl,
   (
@@ -182,7 +191,7 @@ output_keeps = all_keep (codes "output") (rules running) refl (
 )
 
 image_keeps : AllKeep (codes "image") (rules running)
-unfolding the_app top_app run_app demo_app trace_app cache_app clap_on_literals
+unfolding the_app top_app run_app demo_app trace_app cache_app replay_app clap_on_literals
 image_keeps = all_keep (codes "image") (rules running) refl (
   is_set refl refl,
   (
@@ -201,41 +210,49 @@ image_keeps = all_keep (codes "image") (rules running) refl (
 )
 
 trace_output_keeps : AllKeep (codes "output") (rules tracing)
-unfolding the_app top_app run_app demo_app trace_app cache_app clap_on_literals
+unfolding the_app top_app run_app demo_app trace_app cache_app replay_app clap_on_literals
 trace_output_keeps = all_keep (codes "output") (rules tracing) refl (
   is_set refl refl,
   (is_set refl refl, (is_set refl refl, (is_set refl refl, (is_own refl refl refl, (is_set refl refl, (is_appended refl refl, tt)))))),
 )
 
 trace_image_keeps : AllKeep (codes "image") (rules tracing)
-unfolding the_app top_app run_app demo_app trace_app cache_app clap_on_literals
+unfolding the_app top_app run_app demo_app trace_app cache_app replay_app clap_on_literals
 trace_image_keeps = all_keep (codes "image") (rules tracing) refl (
   is_set refl refl,
   (is_set refl refl, (is_set refl refl, (is_set refl refl, (is_set refl refl, (is_own refl refl refl, (is_appended refl refl, tt)))))),
 )
 
 cache_sets_keeps : AllKeep (codes "sets") (rules caching)
-unfolding the_app top_app run_app demo_app trace_app cache_app clap_on_literals
+unfolding the_app top_app run_app demo_app trace_app cache_app replay_app clap_on_literals
 cache_sets_keeps = all_keep (codes "sets") (rules caching) refl (is_set refl refl, (is_set refl refl, (is_set refl refl, (is_set refl refl, (is_own refl refl refl, (is_set refl refl, (is_set refl refl, (is_set refl refl, (is_set refl refl, (is_appended refl refl, tt))))))))))
 
 cache_ways_keeps : AllKeep (codes "ways") (rules caching)
-unfolding the_app top_app run_app demo_app trace_app cache_app clap_on_literals
+unfolding the_app top_app run_app demo_app trace_app cache_app replay_app clap_on_literals
 cache_ways_keeps = all_keep (codes "ways") (rules caching) refl (is_set refl refl, (is_set refl refl, (is_set refl refl, (is_set refl refl, (is_set refl refl, (is_own refl refl refl, (is_set refl refl, (is_set refl refl, (is_set refl refl, (is_appended refl refl, tt))))))))))
 
 cache_line_keeps : AllKeep (codes "line") (rules caching)
-unfolding the_app top_app run_app demo_app trace_app cache_app clap_on_literals
+unfolding the_app top_app run_app demo_app trace_app cache_app replay_app clap_on_literals
 cache_line_keeps = all_keep (codes "line") (rules caching) refl (is_set refl refl, (is_set refl refl, (is_set refl refl, (is_set refl refl, (is_set refl refl, (is_set refl refl, (is_own refl refl refl, (is_set refl refl, (is_set refl refl, (is_appended refl refl, tt))))))))))
 
 cache_output_keeps : AllKeep (codes "output") (rules caching)
-unfolding the_app top_app run_app demo_app trace_app cache_app clap_on_literals
+unfolding the_app top_app run_app demo_app trace_app cache_app replay_app clap_on_literals
 cache_output_keeps = all_keep (codes "output") (rules caching) refl (is_set refl refl, (is_set refl refl, (is_set refl refl, (is_set refl refl, (is_set refl refl, (is_set refl refl, (is_set refl refl, (is_own refl refl refl, (is_set refl refl, (is_appended refl refl, tt))))))))))
 
 cache_image_keeps : AllKeep (codes "image") (rules caching)
-unfolding the_app top_app run_app demo_app trace_app cache_app clap_on_literals
+unfolding the_app top_app run_app demo_app trace_app cache_app replay_app clap_on_literals
 cache_image_keeps = all_keep (codes "image") (rules caching) refl (is_set refl refl, (is_set refl refl, (is_set refl refl, (is_set refl refl, (is_set refl refl, (is_set refl refl, (is_set refl refl, (is_set refl refl, (is_own refl refl refl, (is_appended refl refl, tt))))))))))
 
+replay_output_keeps : AllKeep (codes "output") (rules replaying)
+unfolding the_app top_app run_app demo_app trace_app cache_app replay_app clap_on_literals
+replay_output_keeps = all_keep (codes "output") (rules replaying) refl (is_set refl refl, (is_flag refl refl, (is_own refl refl refl, (is_set refl refl, tt))))
+
+replay_trace_keeps : AllKeep (codes "trace") (rules replaying)
+unfolding the_app top_app run_app demo_app trace_app cache_app replay_app clap_on_literals
+replay_trace_keeps = all_keep (codes "trace") (rules replaying) refl (is_set refl refl, (is_flag refl refl, (is_set refl refl, (is_own refl refl refl, tt))))
+
 number_keeps : AllKeep (codes "number") demo_shape.rules
-unfolding the_app top_app run_app demo_app trace_app cache_app clap_on_literals
+unfolding the_app top_app run_app demo_app trace_app cache_app replay_app clap_on_literals
 number_keeps = all_keep (codes "number") demo_shape.rules refl (is_own refl refl refl, tt)
 
 -- a row that is given and filled has a first value
@@ -254,7 +271,7 @@ abbrev DefaultsKeep : Text → Shape → Type 0
 DefaultsKeep id s = (rows : List Row) → row_for id (fold with_default rows s.rules) ≡ row_for id rows
 
 demo_defaults : (id : Text) → DefaultsKeep id demo_shape
-unfolding the_app top_app run_app demo_app trace_app cache_app clap_on_literals
+unfolding the_app top_app run_app demo_app trace_app cache_app replay_app clap_on_literals
 demo_defaults id rows = ap (row_for id) (no_defaults demo_shape.rules rows (refl, tt))
 
 trace_defaults : (id : Text) → DefaultsKeep id trace_shape
@@ -271,6 +288,9 @@ unset_elsewhere id given (r ∷ rs) apart = ap (λ (o : Option Row). cond (bytes
 
 run_defaults : (id : Text) → bytes_eq (codes "stats") id ≡ false → DefaultsKeep id run_shape
 run_defaults id apart rows = ap (row_for id) (finished_rows rows) ∙ unset_elsewhere id (has_row (codes "stats") rows) rows apart
+
+replay_defaults : (id : Text) → bytes_eq (codes "stats") id ≡ false → DefaultsKeep id replay_shape
+replay_defaults id apart rows = ap (row_for id) (finished_replay rows) ∙ unset_elsewhere id (has_row (codes "stats") rows) rows apart
 
 -- what a pass of a subcommand leaves
 rows_filled : (s : Shape) (id : Text) (rest : List Text) → DefaultsKeep id s → AllKeep id s.rules
@@ -341,6 +361,16 @@ bad_cache rows path image sets ways line r i s w l none =
     go (Some g) None g_is f_is h = inr (sets, ways, line, s, w, l, sym said ∙ f_is)
     go (Some g) (Some f) g_is f_is h = cc
 
+bad_width : (rows : List Row) (path trace : Text) → first_of (codes "output") rows ≡ Some path → first_of (codes "trace") rows ≡ Some trace
+    → replay_of_rows rows ≡ None → HasBadWidth rows
+bad_width rows path trace r t none =
+    go (bits_of (first_of (codes "stamps") rows)) refl
+    (sym (ap₂ (λ x y. replay_with rows x y (bits_of (first_of (codes "stamps") rows))) t r) ∙ none)
+  where
+    go : (n : Option StampBits) → bits_of (first_of (codes "stamps") rows) ≡ n → replay_with rows (Some trace) (Some path) n ≡ None → HasBadWidth rows
+    go None n_is h = n_is
+    go (Some n) n_is h = cc
+
 no_run : (o : Option RunOptions) → option_map Run o ≡ None → o ≡ None
 no_run None h = refl
 no_run (Some x) h = cc
@@ -352,6 +382,10 @@ no_trace (Some x) h = cc
 no_cache : (o : Option CacheOptions) → option_map Cache o ≡ None → o ≡ None
 no_cache None h = refl
 no_cache (Some x) h = cc
+
+no_replay : (o : Option ReplayOptions) → option_map Replay o ≡ None → o ≡ None
+no_replay None h = refl
+no_replay (Some x) h = cc
 
 no_demo : (o : Option ℕ) → option_map Demo o ≡ None → o ≡ None
 no_demo None h = refl
@@ -390,6 +424,16 @@ cache_fails found enters none =
     let image = first_there (row_for (codes "image") rows) needs.4 (rows_filled cache_shape (codes "image") enters.rest (cache_defaults (codes "image")) cache_image_keeps enters.passes) in
     (rows, found_is, bad_cache rows path.0 image.0 sets.0 ways.0 line.0 path.1 image.1 sets.1 ways.1 line.1 (no_cache (cache_of_rows rows) (sym (ap read_of found_is) ∙ none)))
 
+replay_fails : (found : Option (Text × List Row)) → Enters replay_shape found → read_of found ≡ None
+    → (rows : List Row) × (found ≡ Some (codes "replay", rows)) × HasBadWidth rows
+replay_fails found enters none =
+    let rows = rows_after (rules replaying) [] enters.rest in
+    let found_is : found ≡ Some (codes "replay", rows) = enters.found_is ∙ ap (λ (name : Text). Some (name, rows)) replay_is_named in
+    let needs = replay_requires rows (rows_valid replay_shape enters.rest enters.passes) in
+    let path = first_there (row_for (codes "output") rows) needs.0 (rows_filled replay_shape (codes "output") enters.rest (replay_defaults (codes "output") refl) replay_output_keeps enters.passes) in
+    let trace = first_there (row_for (codes "trace") rows) needs.1 (rows_filled replay_shape (codes "trace") enters.rest (replay_defaults (codes "trace") refl) replay_trace_keeps enters.passes) in
+    (rows, found_is, bad_width rows path.0 trace.0 path.1 trace.1 (no_replay (replay_of_rows rows) (sym (ap read_of found_is) ∙ none)))
+
 demo_fails : (found : Option (Text × List Row)) → Enters demo_shape found → read_of found ≡ None
     → (rows : List Row) × (found ≡ Some (codes "demo", rows)) × HasBadDemo rows
 demo_fails found enters none =
@@ -409,9 +453,10 @@ fails_by_numbers words taken zeros none = go (taken_enters words taken)
     read_none : read_of found ≡ None
     read_none = sym (asked_is words zeros) ∙ none
 
-    go : EntersOne (run_shape ∷ demo_shape ∷ trace_shape ∷ cache_shape ∷ []) found → FailsByNumber found
+    go : EntersOne (run_shape ∷ demo_shape ∷ trace_shape ∷ cache_shape ∷ replay_shape ∷ []) found → FailsByNumber found
     go (inl enters) = inl (run_fails found enters read_none)
-    go (inr (inl enters)) = inr (inr (inr (demo_fails found enters read_none)))
+    go (inr (inl enters)) = inr (inr (inr (inr (demo_fails found enters read_none))))
     go (inr (inr (inl enters))) = inr (inl (trace_fails found enters read_none))
     go (inr (inr (inr (inl enters)))) = inr (inr (inl (cache_fails found enters read_none)))
-    go (inr (inr (inr (inr none')))) = absurd none'
+    go (inr (inr (inr (inr (inl enters))))) = inr (inr (inr (inl (replay_fails found enters read_none))))
+    go (inr (inr (inr (inr (inr none'))))) = absurd none'

@@ -51,6 +51,11 @@ cache_app = with_rule (with_rule (with_rule (with_rule (with_rule (with_rule (wi
     (value_rule (codes "budget"))) (required_option (codes "sets"))) (required_option (codes "ways")))
     (required_option (codes "line"))) output_rule) (required_rule (codes "image"))) word_rule
 
+-- `replay` with its options and the trace
+unfoldable pub replay_app : App
+replay_app = with_rule (with_rule (with_rule (with_rule (new_app (codes "replay")) (value_rule (codes "stamps"))) (flag_rule (codes "stats")))
+    output_rule) (required_rule (codes "trace"))
+
 -- `demo` with its number
 unfoldable pub demo_app : App
 demo_app = with_rule (new_app (codes "demo")) (required_rule (codes "number"))
@@ -68,4 +73,5 @@ top_app = let app = new_app (codes "aprof") in record app {
 
 -- the whole command
 unfoldable pub the_app : App
-the_app = with_subcommand (with_subcommand (with_subcommand (with_subcommand top_app run_app.top) demo_app.top) trace_app.top) cache_app.top
+the_app = with_subcommand (with_subcommand (with_subcommand (with_subcommand (with_subcommand top_app run_app.top) demo_app.top) trace_app.top)
+    cache_app.top) replay_app.top

@@ -53,6 +53,17 @@ pub record CacheOptions : Type 0 where
   -- the path of the report
   pub report : List ℕ
 
+-- What `replay` is asked.
+pub record ReplayOptions : Type 0 where
+  -- the path of the trace
+  pub trace : List ℕ
+  -- the path of the report
+  pub report : List ℕ
+  -- the width of stamps
+  pub bits : StampBits
+  -- whether the number of renumberings is to be put
+  pub stats : Bool
+
 -- ---- the further words
 
 -- the word stands for itself: it begins with `=`
@@ -193,6 +204,15 @@ cache_with _ _ _ = None
 abbrev pub cache_of_rows : List Row → Option CacheOptions
 cache_of_rows rows = cache_with (guest_of_rows rows) (shape_of_rows rows) (first_of (codes "output") rows)
 
+-- the options of `replay` with this trace, this path and this width, where all are there; the rest is read of the rows
+abbrev pub replay_with : List Row → Option (List ℕ) → Option (List ℕ) → Option StampBits → Option ReplayOptions
+replay_with rows (Some trace) (Some report) (Some bits) = Some (record { trace = trace; report = report; bits = bits; stats = has_flag (codes "stats") rows })
+replay_with rows _ _ _ = None
+
+-- the options of `replay` that `clap`'s matches say
+abbrev pub replay_of_rows : List Row → Option ReplayOptions
+replay_of_rows rows = replay_with rows (first_of (codes "trace") rows) (first_of (codes "output") rows) (bits_of (first_of (codes "stamps") rows))
+
 -- ---- the demos
 
 -- the number of a demo: 1 to `DEMO_ROUTINES`
@@ -205,11 +225,13 @@ demo_of_rows rows = option_and_then demo_of (first_of (codes "number") rows)
 
 -- ---- the words
 
--- What the words ask for: a run, the trace of a run, the cache misses of a run, or the demo of a number.
+-- What the words ask for: a run, the trace of a run, the cache misses of a run, the report of a stored trace, or the demo of a
+-- number.
 pub data Asked : Type 0 where
   Run : RunOptions → Asked
   Trace : TraceOptions → Asked
   Cache : CacheOptions → Asked
+  Replay : ReplayOptions → Asked
   Demo : ℕ → Asked
 
 -- what a subcommand asks for, by its name and its matches
@@ -218,6 +240,7 @@ asked_of_rows name rows =
     if bytes_eq name (codes "run") then option_map Run (options_of_rows rows)
     else if bytes_eq name (codes "trace") then option_map Trace (trace_of_rows rows)
     else if bytes_eq name (codes "cache") then option_map Cache (cache_of_rows rows)
+    else if bytes_eq name (codes "replay") then option_map Replay (replay_of_rows rows)
     else if bytes_eq name (codes "demo") then option_map Demo (demo_of_rows rows)
     else None
 

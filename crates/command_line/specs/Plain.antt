@@ -7,7 +7,7 @@ use Rattle.cache_lines.specs.Shapes.{Form}
 use Rattle.stamps.specs.declared.width.StampBits.{StampBits}
 use Rattle.clap.specs.Words.{Text, takes}
 use Rattle.command_line.specs.App.{the_app}
-use Rattle.command_line.specs.Options.{Asked, asked_of, bits_of, budget_of, demo_of, has_zero, quantum_of, shape_said}
+use Rattle.command_line.specs.Options.{Asked, GuestOptions, asked_of, bits_of, budget_of, demo_of, has_zero, quantum_of, shape_said}
 
 -- an option of a command that runs a guest, with its value where it takes one
 pub data Choice : Type 0 where
@@ -81,6 +81,10 @@ trace_words program choices image words = program ∷ codes "trace" ∷ (choice_
 abbrev pub cache_words : Text → List Choice → Text → List Text → List Text
 cache_words program choices image words = program ∷ codes "cache" ∷ (choice_words choices ++ image ∷ words)
 
+-- and of `replay`, with the trace behind the options
+abbrev pub replay_words : Text → List Choice → Text → List Text
+replay_words program choices trace = program ∷ codes "replay" ∷ (choice_words choices ++ trace ∷ [])
+
 -- the option says how a guest is run, or where the result is stored
 abbrev pub is_of_all : Choice → Bool
 is_of_all (stdin v) = true
@@ -108,6 +112,13 @@ is_of_cache (ways v) = true
 is_of_cache (line v) = true
 is_of_cache c = is_of_all c
 
+-- the option is one of `replay`
+abbrev pub is_of_replay : Choice → Bool
+is_of_replay (stamps v) = true
+is_of_replay stats = true
+is_of_replay (report v) = true
+is_of_replay _ = false
+
 -- a word that is not empty and does not begin with a hyphen
 abbrev pub is_plain_word : Text → Bool
 is_plain_word [] = false
@@ -126,7 +137,7 @@ abbrev pub HasNoRepeat : List Choice → Type 0
 HasNoRepeat [] = Unit {0}
 HasNoRepeat (c ∷ cs) = (is_chosen (id_of c) cs ≡ false) × HasNoRepeat cs
 
--- Each option is given at most once, and no value, image or further word looks like an option.
+-- Each option is given at most once, and no value, further word or path of an image or a trace looks like an option.
 pub record ArePlain (choices : List Choice) (image : Text) (words : List Text) : Type 0 where
   pub plain_values : list_all has_plain_value choices ≡ true
   pub once : HasNoRepeat choices
@@ -146,6 +157,17 @@ abbrev pub given : Text → List Choice → Option Text
 given id [] = None
 given id (c ∷ cs) = if bytes_eq (id_of c) id then value_of c else given id cs
 
+-- the guest's options that the choices say, with these numbers, this image and these further words
+abbrev pub guest_given : List Choice → ℕ → ℕ → Text → List Text → GuestOptions
+guest_given choices turn_steps run_steps image words = record {
+  stdin = given (codes "stdin") choices;
+  schedule = given (codes "schedule") choices;
+  quantum = turn_steps;
+  budget = run_steps;
+  image = image;
+  words = words;
+}
+
 -- The options of plain words are the values in the words, the defaults of the numbers that are left out, and whether
 -- `--stats` is among the words.
 abbrev pub PlainOptionsAreRead : Type 0
@@ -156,14 +178,7 @@ PlainOptionsAreRead = (program : Text) (choices : List Choice) (image : Text) (w
     → budget_of (given (codes "budget") choices) ≡ Some run_steps
     → bits_of (given (codes "stamps") choices) ≡ Some width
     → asked_of (run_words program choices image words) ≡ Some (Asked.Run (record {
-      guest = record {
-        stdin = given (codes "stdin") choices;
-        schedule = given (codes "schedule") choices;
-        quantum = turn_steps;
-        budget = run_steps;
-        image = image;
-        words = words;
-      };
+      guest = guest_given choices turn_steps run_steps image words;
       report = report_path;
       recording = given (codes "record") choices;
       bits = width;
@@ -185,14 +200,7 @@ PlainTraceIsRead = (program : Text) (choices : List Choice) (image : Text) (word
     → quantum_of (given (codes "quantum") choices) ≡ Some turn_steps
     → budget_of (given (codes "budget") choices) ≡ Some run_steps
     → asked_of (trace_words program choices image words) ≡ Some (Asked.Trace (record {
-      guest = record {
-        stdin = given (codes "stdin") choices;
-        schedule = given (codes "schedule") choices;
-        quantum = turn_steps;
-        budget = run_steps;
-        image = image;
-        words = words;
-      };
+      guest = guest_given choices turn_steps run_steps image words;
       trace = trace_path;
     }))
 
@@ -214,16 +222,28 @@ PlainCacheIsRead = (program : Text) (choices : List Choice) (image : Text) (word
     → quantum_of (given (codes "quantum") choices) ≡ Some turn_steps
     → budget_of (given (codes "budget") choices) ≡ Some run_steps
     → asked_of (cache_words program choices image words) ≡ Some (Asked.Cache (record {
-      guest = record {
-        stdin = given (codes "stdin") choices;
-        schedule = given (codes "schedule") choices;
-        quantum = turn_steps;
-        budget = run_steps;
-        image = image;
-        words = words;
-      };
+      guest = guest_given choices turn_steps run_steps image words;
       shape = shape;
       report = report_path;
+    }))
+
+-- ---- `replay`
+-- Plain words are taken, where each option is one of `replay` and the path of the report is among them.
+abbrev pub PlainReplayIsTaken : Type 0
+PlainReplayIsTaken = (program : Text) (choices : List Choice) (trace : Text) → ArePlain choices trace []
+    → list_all is_of_replay choices ≡ true → is_chosen (codes "output") choices ≡ true → takes the_app (replay_words program choices trace) ≡ true
+
+-- The options are the values in the words, the width of 32 bits where none is given, and whether `--stats` is among the words.
+abbrev pub PlainReplayIsRead : Type 0
+PlainReplayIsRead = (program : Text) (choices : List Choice) (trace : Text) → ArePlain choices trace []
+    → list_all is_of_replay choices ≡ true → list_any has_zero (replay_words program choices trace) ≡ false
+    → (report_path : Text) (width : StampBits) → given (codes "output") choices ≡ Some report_path
+    → bits_of (given (codes "stamps") choices) ≡ Some width
+    → asked_of (replay_words program choices trace) ≡ Some (Asked.Replay (record {
+      trace = trace;
+      report = report_path;
+      bits = width;
+      stats = is_chosen (codes "stats") choices;
     }))
 
 -- ---- `demo`

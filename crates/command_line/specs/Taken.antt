@@ -20,6 +20,10 @@ HasBadCache rows = HasBadSteps rows
     ⊎ ((sets : Text) × (ways : Text) × (line : Text) × (first_of (codes "sets") rows ≡ Some sets) × (first_of (codes "ways") rows ≡ Some ways)
     × (first_of (codes "line") rows ≡ Some line) × (shape_said (Some sets) (Some ways) (Some line) ≡ None))
 
+-- the width of stamps is none
+abbrev pub HasBadWidth : List Row → Type 0
+HasBadWidth rows = bits_of (first_of (codes "stamps") rows) ≡ None
+
 -- the number of `demo` is there, and out of its form or range
 abbrev pub HasBadDemo : List Row → Type 0
 HasBadDemo rows = (number : Text) × (first_of (codes "number") rows ≡ Some number) × (demo_of number ≡ None)
@@ -31,7 +35,8 @@ IsFound found name Has = (rows : List Row) × (found ≡ Some (name, rows)) × H
 -- a subcommand was found that has a bad number
 abbrev pub FailsByNumber : Option (Text × List Row) → Type 0
 FailsByNumber found = IsFound found (codes "run") HasBadNumber
-    ⊎ (IsFound found (codes "trace") HasBadSteps ⊎ (IsFound found (codes "cache") HasBadCache ⊎ IsFound found (codes "demo") HasBadDemo))
+    ⊎ (IsFound found (codes "trace") HasBadSteps
+    ⊎ (IsFound found (codes "cache") HasBadCache ⊎ (IsFound found (codes "replay") HasBadWidth ⊎ IsFound found (codes "demo") HasBadDemo)))
 
 -- Words that are taken and have no zero byte are refused only for a number: the subcommand is there, with what it needs.
 abbrev pub TakenWordsFailByNumbers : Type 0

@@ -2,7 +2,7 @@
 ghost use Rattle.std.specs.Prelude.{◌≡◌, IfOk, false, codes};
 ghost use Rattle.clap.specs.Words.{app_of, rule_of};
 ghost use Rattle.clap.specs.declared.builder.command.Command.TheViews.{out-Command};
-ghost use Rattle.command_line.specs.App.{the_app, top_app, run_app, demo_app, trace_app, cache_app, flag_rule, output_rule, required_option, required_rule, value_rule, word_rule};
+ghost use Rattle.command_line.specs.App.{the_app, top_app, run_app, demo_app, trace_app, cache_app, replay_app, flag_rule, output_rule, required_option, required_rule, value_rule, word_rule};
 
 use clap::{Arg, ArgAction, Command};
 use std::alloc::{AllocError, Global};
@@ -114,6 +114,18 @@ fn cache_subcommand<'a>(alloc: Global) -> Result<Command<'a>, AllocError>
         .arg(further_words(alloc))
 }
 
+// `replay`, with its options and the trace.
+fn replay_subcommand<'a>(alloc: Global) -> Result<Command<'a>, AllocError>
+    ensures app { IfOk result (λ c. app_of c ≡ replay_app) }
+    ensures local { IfOk result (λ c. (out-Command c).has_globals ≡ false) }
+{
+    Command::new(alloc, "replay")
+        .arg(value_option(alloc, "stamps"))?
+        .arg(flag(alloc, "stats"))?
+        .arg(output_option(alloc))?
+        .arg(required_value(alloc, "trace"))
+}
+
 // `demo`, with its number.
 #[tactic(auto, unfolding(crate::specs::App::demo_app))]
 fn demo_subcommand<'a>(alloc: Global) -> Result<Command<'a>, AllocError>
@@ -144,5 +156,6 @@ pub(crate) fn whole_command<'a>(alloc: Global) -> Result<Command<'a>, AllocError
         .subcommand(run_subcommand(alloc)?)?
         .subcommand(demo_subcommand(alloc)?)?
         .subcommand(trace_subcommand(alloc)?)?
-        .subcommand(cache_subcommand(alloc)?)
+        .subcommand(cache_subcommand(alloc)?)?
+        .subcommand(replay_subcommand(alloc)?)
 }

@@ -9,6 +9,7 @@ ghost use Rattle.command_line.specs.declared.commands.CommandError.TheVariants.{
 use crate::cache_command::{CacheCommand, cache_of_matches};
 use crate::matches::{matches_of_words, subcommand_of, text_of};
 use crate::numbers::number_between;
+use crate::replay_command::{ReplayCommand, replay_of_matches};
 use crate::run_command::{RunCommand, run_of_matches};
 use crate::trace_command::{TraceCommand, trace_of_matches};
 use clap::ArgMatches;
@@ -51,6 +52,8 @@ pub enum Command<'a> {
     Trace(TraceCommand<'a>),
     /// The cache misses of a guest's run.
     Cache(CacheCommand<'a>),
+    /// The report of a stored trace.
+    Replay(ReplayCommand<'a>),
     /// The demo of a number.
     Demo(u32),
 }
@@ -96,6 +99,10 @@ fn command_of<'a>(
     }
     if name == "cache" {
         return Ok(Command::Cache(cache_of_matches(alloc, matches)?));
+    }
+    if name == "replay" {
+        let command = replay_of_matches(matches).ok_or(CommandError::Refused)?;
+        return Ok(Command::Replay(command));
     }
     if name == "demo" {
         let number = demo_of_matches(matches).ok_or(CommandError::Refused)?;

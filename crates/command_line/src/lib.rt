@@ -1,5 +1,5 @@
-//! The words of the command line, `aprof run ...`, `aprof trace ...`, `aprof cache ...` or `aprof demo N`, read by one fixed
-//! `clap` command. What they ask for is `asked_of` the words, a function of the rows that `clap` states for that command;
+//! The words of the command line, `aprof run ...`, `aprof trace ...`, `aprof cache ...`, `aprof replay ...` or
+//! `aprof demo N`, read by one fixed `clap` command. What they ask for is `asked_of` the words, a function of the rows that `clap` states for that command;
 //! where `clap`'s stated test does not take the words, they may be refused instead.
 #![tactic(auto)]
 
@@ -10,6 +10,7 @@ mod guest_options;
 mod laws;
 mod matches;
 mod numbers;
+mod replay_command;
 mod run_command;
 mod trace_command;
 
@@ -18,9 +19,10 @@ pub use commands::{Command, CommandError, read_command};
 pub use guest_options::GuestOptions;
 pub use laws::{
     plain_caches_are_read, plain_caches_are_taken, plain_demo_is_read, plain_demo_is_taken,
-    plain_options_are_read, plain_traces_are_read, plain_traces_are_taken, plain_words_are_taken,
-    taken_words_fail_by_numbers,
+    plain_options_are_read, plain_replays_are_read, plain_replays_are_taken, plain_traces_are_read,
+    plain_traces_are_taken, plain_words_are_taken, taken_words_fail_by_numbers,
 };
+pub use replay_command::ReplayCommand;
 pub use run_command::RunCommand;
 pub use trace_command::TraceCommand;
 

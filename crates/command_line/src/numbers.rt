@@ -1,7 +1,9 @@
 //! Numbers among the words.
 ghost use Rattle.std.specs.Prelude.{◌≡◌, ◌≤◌, IfSome, option_map};
 ghost use Rattle.std.specs.List.{list_all};
-ghost use Rattle.command_line.specs.Options.{is_digit, is_numeral, number_between, number_or};
+ghost use Rattle.command_line.specs.Options.{bits_of, is_digit, is_numeral, number_between, number_or};
+
+use stamps::StampBits;
 
 // Whether each byte is a digit.
 fn are_digits(bytes: &[u8]) -> bool
@@ -48,5 +50,17 @@ pub(crate) fn number_or(usual: u64, least: u64, greatest: u64, text: Option<&str
     match text {
         None => Some(usual),
         Some(text) => number_between(least, greatest, text),
+    }
+}
+
+/// The width of stamps that the text says, 32 bits where there is none.
+pub(crate) fn bits_of(text: Option<&str>) -> Option<StampBits>
+    ensures { result ≡ bits_of (option_map (λ s. s.now) text.entry) }
+{
+    match number_or(32, 8, 32, text)? {
+        8 => Some(StampBits::B8),
+        16 => Some(StampBits::B16),
+        32 => Some(StampBits::B32),
+        _ => None,
     }
 }

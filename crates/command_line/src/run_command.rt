@@ -1,14 +1,14 @@
 //! The command `run`, of the matches that `clap` makes.
 ghost use Rattle.std.specs.Prelude.{◌≡◌, IfOk, IfErr, Some, None, option_map};
 ghost use Rattle.clap.specs.Words.{found_of, rows_of};
-ghost use Rattle.command_line.specs.Options.{bits_of, options_of_rows};
+ghost use Rattle.command_line.specs.Options.{options_of_rows};
 ghost use Rattle.command_line.specs.Read.{AreInRange, guest_in, options_in};
 ghost use Rattle.command_line.specs.declared.commands.CommandError.TheVariants.{Refused};
 
 use crate::commands::CommandError;
 use crate::guest_options::{GuestOptions, guest_of_matches};
 use crate::matches::{has_flag, text_of};
-use crate::numbers::number_or;
+use crate::numbers::bits_of;
 use clap::ArgMatches;
 use stamps::StampBits;
 use std::alloc::Global;
@@ -26,18 +26,6 @@ pub struct RunCommand<'a> {
     pub bits: StampBits,
     /// Whether the number of renumberings is to be put.
     pub stats: bool,
-}
-
-// The width of stamps that the text says, 32 bits where there is none.
-fn bits_of(text: Option<&str>) -> Option<StampBits>
-    ensures { result ≡ bits_of (option_map (λ s. s.now) text.entry) }
-{
-    match number_or(32, 8, 32, text)? {
-        8 => Some(StampBits::B8),
-        16 => Some(StampBits::B16),
-        32 => Some(StampBits::B32),
-        _ => None,
-    }
 }
 
 /// The command that the matches of `run` say.

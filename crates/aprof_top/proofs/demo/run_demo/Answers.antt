@@ -22,7 +22,7 @@ summary-requires c =
     let image = c.in_ok-image.image in
     let seen = observed_from (is_within (greatest B32)) options c.in_ok-schedule.schedule image.entry (start image (arguments options) c.in_ok-inputs.inputs c.new-2.result.items) in
     let light = light_observed (is_within (greatest B32)) options c.in_ok-schedule.schedule image c.in_ok-inputs.inputs c.new-2.result.items (omega (arith, budget)) in
-    subst (λ (r : Reported). FitsTotals r.routines) (sym (c.in_ok-report.ensures (greatest B32) seen.past c.in_ok-run.ensures.1.totals)) (FitsTotals-past image seen.past light)
+    subst (λ (r : Reported). FitsTotals r.routines) (sym (c.in_ok-report.ensures (greatest B32) seen.past c.in_ok-run.ensures.1.totals)) (FitsTotals-past image.names seen.past light)
 
 pub returns-clause-summary : goal.returns-clause-summary
 returns-clause-summary c =
@@ -35,7 +35,7 @@ returns-clause-summary c =
       file = c.in_ok-file.file.items;
       is_demo = c.in_ok-file.ensures.file;
       answered = demo_answer c.args.number image seen c.in_ok-text.text.items
-          (c.in_ok-text.ensures ∙ ap (summary_text c.args.number) (c.in_ok-report.ensures (greatest B32) seen.past whole.totals ∙ ap (λ finish. report_of image finish seen.past) whole.finish))
+          (c.in_ok-text.ensures ∙ ap (summary_text c.args.number) (c.in_ok-report.ensures (greatest B32) seen.past whole.totals ∙ ap (λ finish. report_of image.names finish seen.past) whole.finish))
           c.in_ok-file.file.items is
           (demo_run c.in_ok-file.file.items image is options c.in_ok-schedule.schedule c.in_ok-inputs.inputs c.new-2.result.items
           c.demo_guest-guest.ensures c.in_ok-schedule.ensures c.in_ok-inputs.ensures c.new-2.ensures.items);

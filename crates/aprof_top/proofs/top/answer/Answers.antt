@@ -1,8 +1,9 @@
-use Rattle.std.proofs.Common.{map, None, string_bytes, subst, sym}
+use Rattle.std.proofs.Common.{map, string_bytes, subst, sym}
 use Rattle.command_line.specs.Read.{asked_in}
-use Rattle.aprof_top.specs.Ending.{end_of, guest_of, of_command}
+use Rattle.aprof_top.specs.Ending.{end_of, of_command, wanted_of}
 use Rattle.aprof_top.specs.Ends.{Reaches}
 use Rattle.aprof_top.specs.LastText.{LastText}
+use Rattle.aprof_top.specs.Sources.Wanted.{Nothing}
 use Rattle.aprof_top.specs.Outside.{outside}
 use Rattle.aprof_top.proofs.Commands.{Reaches-unread}
 use Rattle.aprof_top.proofs.top.answer.Goals as goal
@@ -16,11 +17,11 @@ returns-in-Ok g c =
     let out = g.O.Sink.state c.do_command.new.out in
     let err = g.E.Sink.state c.do_command.new.err in
     let last = g.E.Sink.state c.tell.new.err in (
-      end_of (guest_of asked) ending,
+      end_of (wanted_of asked) ending,
       record {
         err = err;
-        reached = subst (λ e. Reaches words (end_of (guest_of asked) e) (outside (g.F.Files.state c.args.files.now) (g.O.Sink.state c.args.out.now) (g.E.Sink.state c.args.err.now)) (outside files out err)) (sym c.ending_by-ending.ensures) (c.do_command.ensures words c.in-Ok.ensures.asked);
-        told = subst (λ guest. LastText (end_of guest ending) c.tell.result err last) c.guest_of.ensures c.tell.ensures;
+        reached = subst (λ e. Reaches words (end_of (wanted_of asked) e) (outside (g.F.Files.state c.args.files.now) (g.O.Sink.state c.args.out.now) (g.E.Sink.state c.args.err.now)) (outside files out err)) (sym c.ending_by-ending.ensures) (c.do_command.ensures words c.in-Ok.ensures.asked);
+        told = subst (λ what. LastText (end_of what ending) c.tell.result err last) c.wanted_of.ensures c.tell.ensures;
       },
     )
 
@@ -32,10 +33,10 @@ returns-in-Err g c =
     let out = g.O.Sink.state c.args.out.now in
     let err = g.E.Sink.state c.args.err.now in
     let last = g.E.Sink.state c.tell-in-Err.new.err in (
-      end_of None (of_command error),
+      end_of Nothing (of_command error),
       record {
         err = err;
         reached = Reaches-unread words error (outside files out err) c.in-Err.ensures.refused c.in-Err.ensures.zero;
-        told = subst (λ ending. LastText (end_of None ending) c.tell-in-Err.result err last) c.from.ensures c.tell-in-Err.ensures;
+        told = subst (λ ending. LastText (end_of Nothing ending) c.tell-in-Err.result err last) c.from.ensures c.tell-in-Err.ensures;
       },
     )

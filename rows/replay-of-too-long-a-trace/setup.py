@@ -1,0 +1,2 @@
+with open("t", "wb") as file:
+    file.truncate(67108865)
