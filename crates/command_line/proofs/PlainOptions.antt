@@ -4,11 +4,11 @@ use Rattle.std.specs.Prelude.{option_map, unwrap_or}
 use Rattle.std.specs.Str.{bytes_eq}
 use Rattle.clap.specs.Words.{Row, Text, all_of, first_of}
 use Rattle.stamps.specs.declared.width.StampBits.{StampBits}
-use Rattle.command_line.specs.Options.{Cache, GuestOptions, Replay, Run, Trace, bits_of, budget_of, cache_with, guest_of_rows, guest_with, has_flag, options_of_rows, options_with, quantum_of, replay_of_rows, replay_with, shape_of_rows, shape_said, trace_with}
-use Rattle.command_line.specs.Plain.{Choice, PlainCacheIsRead, PlainOptionsAreRead, PlainReplayIsRead, PlainTraceIsRead, budget, cache_words, given, guest_given, id_of, is_chosen, line, quantum, recording, replay_words, report, run_words, schedule, sets, stamps, stats, stdin, trace_words, value_of, ways}
+use Rattle.command_line.specs.Options.{Cache, Contexts, GuestOptions, Replay, Run, Trace, bits_of, budget_of, cache_with, contexts_with, guest_of_rows, guest_with, has_flag, options_of_rows, options_with, quantum_of, replay_of_rows, replay_with, shape_of_rows, shape_said, trace_with}
+use Rattle.command_line.specs.Plain.{Choice, PlainCacheIsRead, PlainContextsIsRead, PlainOptionsAreRead, PlainReplayIsRead, PlainTraceIsRead, budget, cache_words, contexts_words, given, guest_given, id_of, is_chosen, line, quantum, recording, replay_words, report, run_words, schedule, sets, stamps, stats, stdin, trace_words, value_of, ways}
 use Rattle.command_line.proofs.Refusals.{asked_is, read_of}
 use Rattle.command_line.proofs.PlainWords.{plain_subcommand}
-use Rattle.command_line.proofs.Steps.{Subcommand, caching, path_id, replaying, running, tracing}
+use Rattle.command_line.proofs.Steps.{Subcommand, caching, path_id, replaying, running, telling, tracing}
 use Rattle.command_line.proofs.Rows.{IsNoChoice, choice_row, choice_rows, image_is_none, made_rows, plain_rows, row_value, tail_rows, trace_is_none, unset_rows, word_is_none}
 
 -- a choice of this argument has a value, where that is not `stats`
@@ -79,6 +79,10 @@ no_flag tracing path [] true = refl
 no_flag tracing path [] false = refl
 no_flag tracing path (w ∷ ws) true = refl
 no_flag tracing path (w ∷ ws) false = refl
+no_flag telling path [] true = refl
+no_flag telling path [] false = refl
+no_flag telling path (w ∷ ws) true = refl
+no_flag telling path (w ∷ ws) false = refl
 no_flag caching path [] true = refl
 no_flag caching path [] false = refl
 no_flag caching path (w ∷ ws) true = refl
@@ -96,6 +100,7 @@ IsOption id = (bytes_eq (codes "image") id ≡ false) × (bytes_eq (codes "trace
 path_apart : (k : Subcommand) (id : Text) → IsOption id → bytes_eq (path_id k) id ≡ false
 path_apart running id h = h.0
 path_apart tracing id h = h.0
+path_apart telling id h = h.0
 path_apart caching id h = h.0
 path_apart replaying id h = h.1
 
@@ -201,6 +206,14 @@ plain_trace_options program choices image words plain of_trace zeros trace_path 
     ∙ (ap read_of (plain_subcommand tracing program choices image words (inl tt) plain of_trace)
     ∙ ap (option_map Trace) (ap₂ trace_with (bare_guest choices image words turn_steps run_steps q b)
     (bare_option_read (codes "output") choices image words (refl, refl, refl, refl) ∙ t)))
+
+pub plain_contexts_options : PlainContextsIsRead
+plain_contexts_options program choices image words plain of_contexts zeros report_path turn_steps run_steps width r q b n =
+    asked_is (contexts_words program choices image words) zeros
+    ∙ (ap read_of (plain_subcommand telling program choices image words (inl tt) plain of_contexts)
+    ∙ ap (option_map Contexts) (ap₂ (λ g o. contexts_with g o (bits_of (first_of (codes "stamps") (made_rows (codes "image") choices image words))))
+    (bare_guest choices image words turn_steps run_steps q b) (bare_option_read (codes "output") choices image words (refl, refl, refl, refl) ∙ r)
+    ∙ ap (contexts_with (Some _) (Some report_path)) (ap bits_of (bare_option_read (codes "stamps") choices image words (refl, refl, refl, refl)) ∙ n)))
 
 pub plain_cache_options : PlainCacheIsRead
 plain_cache_options program choices image words plain of_cache zeros report_path shape turn_steps run_steps r s q b =

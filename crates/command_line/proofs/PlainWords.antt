@@ -12,12 +12,12 @@ use Rattle.clap.specs.Takes.{built_takes, default_passes, entered_passes, is_giv
 use Rattle.clap.specs.Walk.{Names, Walk, default_rows, finished, has_row, idle, nothing_held, reading_by, rows_after, settled_rows, walk_from, walked, with_default}
 use Rattle.clap.specs.Words.{Row, Rule, Text, built, subcommand_of, takes}
 use Rattle.clap.proofs.OnLiterals.{clap_on_literals}
-use Rattle.command_line.specs.App.{the_app, top_app, run_app, demo_app, trace_app, cache_app, replay_app}
-use Rattle.command_line.specs.Plain.{ArePlain, Choice, PlainCacheIsTaken, PlainReplayIsTaken, PlainTraceIsTaken, PlainWordsAreTaken, budget, choice_words, id_of, is_chosen, line, quantum, recording, report, schedule, sets, stamps, stats, stdin, ways}
+use Rattle.command_line.specs.App.{the_app, top_app, run_app, demo_app, trace_app, cache_app, replay_app, contexts_app}
+use Rattle.command_line.specs.Plain.{ArePlain, Choice, PlainCacheIsTaken, PlainContextsIsTaken, PlainReplayIsTaken, PlainTraceIsTaken, PlainWordsAreTaken, budget, choice_words, id_of, is_chosen, line, quantum, recording, report, schedule, sets, stamps, stats, stdin, ways}
 use Rattle.command_line.proofs.Choices.{MayFollow, ends_command}
 use Rattle.command_line.proofs.Fixed.{the_app_is_simple}
 use Rattle.command_line.proofs.Rows.{choice_rows, if_unset, image_is_none, made_rows, plain_rows, tail_rows, trace_is_none, unset_rows, IsNoChoice}
-use Rattle.command_line.proofs.Steps.{Subcommand, caching, has_option, path_id, replaying, rules, running, shape, stand, tracing}
+use Rattle.command_line.proofs.Steps.{Subcommand, caching, has_option, path_id, replaying, rules, running, shape, stand, telling, tracing}
 
 -- ---- defaults
 
@@ -36,7 +36,7 @@ no_defaults (a ∷ rest) rows h =
 
 -- only `--stats` has a default: that of `run`
 pub finished_rows : (rows : List Row) → fold with_default rows (rules running) ≡ rows ++ unset_rows (has_row (codes "stats") rows)
-unfolding the_app top_app run_app demo_app trace_app cache_app replay_app clap_on_literals
+unfolding the_app top_app run_app demo_app trace_app cache_app replay_app contexts_app clap_on_literals
 finished_rows rows =
     ap (λ x. fold with_default x (drop 6 (rules running))) (no_defaults (take 6 (rules running)) rows (refl, (refl, (refl, (refl, (refl, (refl, tt)))))))
     ∙ (no_defaults (drop 7 (rules running)) (fold with_default rows (take 1 (drop 6 (rules running)))) (refl, (refl, (refl, tt)))
@@ -44,18 +44,22 @@ finished_rows rows =
 
 -- and of `replay`
 pub finished_replay : (rows : List Row) → fold with_default rows (rules replaying) ≡ rows ++ unset_rows (has_row (codes "stats") rows)
-unfolding the_app top_app run_app demo_app trace_app cache_app replay_app clap_on_literals
+unfolding the_app top_app run_app demo_app trace_app cache_app replay_app contexts_app clap_on_literals
 finished_replay rows =
     ap (λ x. fold with_default x (drop 1 (rules replaying))) (no_defaults (take 1 (rules replaying)) rows (refl, tt))
     ∙ (no_defaults (drop 2 (rules replaying)) (fold with_default rows (take 1 (drop 1 (rules replaying)))) (refl, (refl, tt))
     ∙ if_unset (has_row (codes "stats") rows) rows refl)
 
 pub finished_trace : (rows : List Row) → fold with_default rows (rules tracing) ≡ rows
-unfolding the_app top_app run_app demo_app trace_app cache_app replay_app clap_on_literals
+unfolding the_app top_app run_app demo_app trace_app cache_app replay_app contexts_app clap_on_literals
 finished_trace rows = no_defaults (rules tracing) rows (refl, (refl, (refl, (refl, (refl, (refl, (refl, tt)))))))
 
+pub finished_contexts : (rows : List Row) → fold with_default rows (rules telling) ≡ rows
+unfolding the_app top_app run_app demo_app trace_app cache_app replay_app contexts_app clap_on_literals
+finished_contexts rows = no_defaults (rules telling) rows (refl, (refl, (refl, (refl, (refl, (refl, (refl, (refl, tt))))))))
+
 pub finished_cache : (rows : List Row) → fold with_default rows (rules caching) ≡ rows
-unfolding the_app top_app run_app demo_app trace_app cache_app replay_app clap_on_literals
+unfolding the_app top_app run_app demo_app trace_app cache_app replay_app contexts_app clap_on_literals
 finished_cache rows = no_defaults (rules caching) rows (refl, (refl, (refl, (refl, (refl, (refl, (refl, (refl, (refl, (refl, tt))))))))))
 
 chosen_stats : (cs : List Choice) → has_row (codes "stats") (choice_rows cs) ≡ is_chosen (codes "stats") cs
@@ -77,6 +81,8 @@ no_stats_tail running path [] = refl
 no_stats_tail running path (w ∷ ws) = refl
 no_stats_tail tracing path [] = refl
 no_stats_tail tracing path (w ∷ ws) = refl
+no_stats_tail telling path [] = refl
+no_stats_tail telling path (w ∷ ws) = refl
 no_stats_tail caching path [] = refl
 no_stats_tail caching path (w ∷ ws) = refl
 no_stats_tail replaying path [] = refl
@@ -86,6 +92,7 @@ no_stats_tail replaying path (w ∷ ws) = refl
 abbrev pub all_rows : Subcommand → List Choice → Text → List Text → List Row
 all_rows running choices path words = plain_rows (path_id running) choices path words
 all_rows tracing choices path words = made_rows (path_id tracing) choices path words
+all_rows telling choices path words = made_rows (path_id telling) choices path words
 all_rows caching choices path words = made_rows (path_id caching) choices path words
 all_rows replaying choices path words = plain_rows (path_id replaying) choices path words
 
@@ -104,6 +111,7 @@ finished_plain : (k : Subcommand) (choices : List Choice) (path : Text) (words :
     → fold with_default (made_rows (path_id k) choices path words) (rules k) ≡ all_rows k choices path words
 finished_plain running choices path words = finished_rows (made_rows (path_id running) choices path words) ∙ with_unset running choices path words
 finished_plain tracing choices path words = finished_trace (made_rows (path_id tracing) choices path words)
+finished_plain telling choices path words = finished_contexts (made_rows (path_id telling) choices path words)
 finished_plain caching choices path words = finished_cache (made_rows (path_id caching) choices path words)
 finished_plain replaying choices path words = finished_replay (made_rows (path_id replaying) choices path words) ∙ with_unset replaying choices path words
 
@@ -144,6 +152,7 @@ given_after id (c ∷ cs) rest h g = rw (h c) (given_after id cs rest h g)
 abbrev pub HasRequired : Subcommand → List Choice → Type 0
 HasRequired running cs = is_chosen (codes "output") cs ≡ true
 HasRequired tracing cs = is_chosen (codes "output") cs ≡ true
+HasRequired telling cs = is_chosen (codes "output") cs ≡ true
 HasRequired replaying cs = is_chosen (codes "output") cs ≡ true
 HasRequired caching cs =
     (is_chosen (codes "sets") cs ≡ true) × (is_chosen (codes "ways") cs ≡ true) × (is_chosen (codes "line") cs ≡ true) × (is_chosen (codes "output") cs ≡ true)
@@ -154,7 +163,7 @@ given_first id choices rest chosen = given_left id (choice_rows choices) rest (g
 
 command_valid : (k : Subcommand) (choices : List Choice) (image : Text) (words : List Text) → HasRequired k choices
     → is_valid (shape k) (all_rows k choices image words) false ≡ true
-unfolding the_app top_app run_app demo_app trace_app cache_app replay_app clap_on_literals
+unfolding the_app top_app run_app demo_app trace_app cache_app replay_app contexts_app clap_on_literals
 command_valid running choices image words chosen =
     let tail = tail_rows (path_id running) image words ++ unset_rows (is_chosen (codes "stats") choices) in
     let o = given_first (codes "output") choices tail chosen in
@@ -162,6 +171,11 @@ command_valid running choices image words chosen =
     rw (o, i) refl
 command_valid tracing choices image words chosen =
     let tail = tail_rows (path_id tracing) image words in
+    let o = given_first (codes "output") choices tail chosen in
+    let i = given_after (codes "image") choices tail image_is_none refl in
+    rw (o, i) refl
+command_valid telling choices image words chosen =
+    let tail = tail_rows (path_id telling) image words in
     let o = given_first (codes "output") choices tail chosen in
     let i = given_after (codes "image") choices tail image_is_none refl in
     rw (o, i) refl
@@ -189,16 +203,18 @@ command_rows k choices image words may plain has =
     ∙ (ap (λ rows. fold with_default rows (rules k)) end.settles.rows_are ∙ finished_plain k choices image words)
 
 no_override : (k : Subcommand) → (shape k).args_override_self ≡ false
-unfolding the_app top_app run_app demo_app trace_app cache_app replay_app
+unfolding the_app top_app run_app demo_app trace_app cache_app replay_app contexts_app
 no_override running = refl
 no_override tracing = refl
+no_override telling = refl
 no_override caching = refl
 no_override replaying = refl
 
 defaults_pass : (k : Subcommand) → list_all default_passes (rules k) ≡ true
-unfolding the_app top_app run_app demo_app trace_app cache_app replay_app clap_on_literals
+unfolding the_app top_app run_app demo_app trace_app cache_app replay_app contexts_app clap_on_literals
 defaults_pass running = refl
 defaults_pass tracing = refl
+defaults_pass telling = refl
 defaults_pass caching = refl
 defaults_pass replaying = refl
 
@@ -234,6 +250,7 @@ names = names_of (built the_app)
 abbrev pub name_of : Subcommand → Text
 name_of running = codes "run"
 name_of tracing = codes "trace"
+name_of telling = codes "contexts"
 name_of caching = codes "cache"
 name_of replaying = codes "replay"
 
@@ -242,16 +259,18 @@ abbrev at_command : Subcommand → List Text → Walk
 at_command k words = record (walk_from nothing_held) { stopped = Some (name_of k, words) }
 
 stops_at : (k : Subcommand) → walked top_rules names (walk_from nothing_held) (name_of k) ≡ at_command k []
-unfolding the_app top_app run_app demo_app trace_app cache_app replay_app clap_on_literals
+unfolding the_app top_app run_app demo_app trace_app cache_app replay_app contexts_app clap_on_literals
 stops_at running = refl
 stops_at tracing = refl
+stops_at telling = refl
 stops_at caching = refl
 stops_at replaying = refl
 
 turn_at : (k : Subcommand) → turn_passes (built the_app).top names (walk_from nothing_held) (name_of k) ≡ true
-unfolding the_app top_app run_app demo_app trace_app cache_app replay_app clap_on_literals
+unfolding the_app top_app run_app demo_app trace_app cache_app replay_app contexts_app clap_on_literals
 turn_at running = refl
 turn_at tracing = refl
+turn_at telling = refl
 turn_at caching = refl
 turn_at replaying = refl
 
@@ -274,9 +293,10 @@ top_passes k rest =
     ap₂ ◌&&◌ (turn_at k) (ap (λ w. walk_passes (built the_app).top names w rest) (stops_at k) ∙ passes_at k rest [])
 
 enters_command : (k : Subcommand) (rest : List Text) → entered (built the_app) (Some (name_of k, rest)) ≡ Some (name_of k, rows_after (rules k) [] rest)
-unfolding the_app top_app run_app demo_app trace_app cache_app replay_app clap_on_literals
+unfolding the_app top_app run_app demo_app trace_app cache_app replay_app contexts_app clap_on_literals
 enters_command running rest = refl
 enters_command tracing rest = refl
+enters_command telling rest = refl
 enters_command caching rest = refl
 enters_command replaying rest = refl
 
@@ -286,14 +306,15 @@ top_ends w has_subcommand = settle_passes top_rules (built the_app).top.args_ove
     && (list_all default_passes top_rules && is_valid (built the_app).top (finished top_rules w.held) has_subcommand)
 
 top_valid : (k : Subcommand) (rest : List Text) → top_ends (at_command k rest) true ≡ true
-unfolding the_app top_app run_app demo_app trace_app cache_app replay_app clap_on_literals
+unfolding the_app top_app run_app demo_app trace_app cache_app replay_app contexts_app clap_on_literals
 top_valid k rest = refl
 
 enters_passes : (k : Subcommand) (rest : List Text) → level_passes (shape k) [] nothing_held rest false ≡ true
     → entered_passes (built the_app) (Some (name_of k, rest)) ≡ true
-unfolding the_app top_app run_app demo_app trace_app cache_app replay_app clap_on_literals
+unfolding the_app top_app run_app demo_app trace_app cache_app replay_app contexts_app clap_on_literals
 enters_passes running rest h = h
 enters_passes tracing rest h = h
+enters_passes telling rest h = h
 enters_passes caching rest h = h
 enters_passes replaying rest h = h
 
@@ -307,7 +328,7 @@ built_takes_command k rest h =
     ∙ (ap (λ (o : Option (Text × List Row)). top_ends (at_command k rest) (is_some o)) (enters_command k rest) ∙ top_valid k rest)))
 
 pub after_program : (program : Text) (words : List Text) → argument_words the_app (program ∷ words) ≡ words
-unfolding the_app top_app run_app demo_app trace_app cache_app replay_app
+unfolding the_app top_app run_app demo_app trace_app cache_app replay_app contexts_app
 after_program program words = refl
 
 -- the words of a whole command line
@@ -327,6 +348,9 @@ plain_words program choices image words plain of_run chosen = plain_taken runnin
 
 pub plain_trace : PlainTraceIsTaken
 plain_trace program choices image words plain of_trace chosen = plain_taken tracing program choices image words (inl tt) plain of_trace chosen
+
+pub plain_contexts : PlainContextsIsTaken
+plain_contexts program choices image words plain of_contexts chosen = plain_taken telling program choices image words (inl tt) plain of_contexts chosen
 
 pub plain_cache : PlainCacheIsTaken
 plain_cache program choices image words plain of_cache s w l o = plain_taken caching program choices image words (inl tt) plain of_cache (s, w, l, o)

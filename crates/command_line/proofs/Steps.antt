@@ -11,8 +11,8 @@ use Rattle.clap.specs.Takes.{settle_passes, turn_passes, walk_passes}
 use Rattle.clap.specs.Walk.{Waiting, Walk, has_row, idle, option, positional, settled_rows, walked}
 use Rattle.clap.specs.Words.{Row, Rule, Shape, Text, built}
 use Rattle.clap.proofs.OnLiterals.{clap_on_literals}
-use Rattle.command_line.specs.App.{the_app, top_app, run_app, demo_app, trace_app, cache_app, replay_app}
-use Rattle.command_line.specs.Plain.{Choice, is_of_cache, is_of_replay, is_of_run, is_of_trace, is_plain_word, stats}
+use Rattle.command_line.specs.App.{the_app, top_app, run_app, demo_app, trace_app, cache_app, replay_app, contexts_app}
+use Rattle.command_line.specs.Plain.{Choice, is_of_cache, is_of_contexts, is_of_replay, is_of_run, is_of_trace, is_plain_word, stats}
 use Rattle.command_line.proofs.Rows.{choice_row, new_row, new_row_kept, plain_row}
 
 -- the commands as `clap` builds them
@@ -31,12 +31,16 @@ cache_shape = unwrap_or (slice_get (built the_app).subs 3) (new_shape [])
 abbrev pub replay_shape : Shape
 replay_shape = unwrap_or (slice_get (built the_app).subs 4) (new_shape [])
 
+abbrev pub contexts_shape : Shape
+contexts_shape = unwrap_or (slice_get (built the_app).subs 5) (new_shape [])
+
 -- The commands that have options.
 pub data Subcommand : Type 0 where
   running : Subcommand
   tracing : Subcommand
   caching : Subcommand
   replaying : Subcommand
+  telling : Subcommand
 
 -- it runs a guest: its image and further words follow the options
 abbrev pub RunsGuest : Subcommand → Type 0
@@ -51,6 +55,7 @@ path_id k = codes "image"
 abbrev pub shape : Subcommand → Shape
 shape running = run_shape
 shape tracing = trace_shape
+shape telling = contexts_shape
 shape caching = cache_shape
 shape replaying = replay_shape
 
@@ -61,6 +66,7 @@ rules k = (shape k).rules
 abbrev pub has_option : Subcommand → Choice → Bool
 has_option running c = is_of_run c
 has_option tracing c = is_of_trace c
+has_option telling c = is_of_contexts c
 has_option caching c = is_of_cache c
 has_option replaying c = is_of_replay c
 
@@ -122,7 +128,7 @@ pub record TakesValue (k : Subcommand) (flag id : Text) : Type 0 where
       → Settles k rows (Some (id, word ∷ [])) (rows ++ plain_row id (word ∷ []) ∷ [])
 
 pub takes_stdin : (k : Subcommand) → RunsGuest k → TakesValue k (codes "--stdin") (codes "stdin")
-unfolding the_app top_app run_app demo_app trace_app cache_app replay_app clap_on_literals
+unfolding the_app top_app run_app demo_app trace_app cache_app replay_app contexts_app clap_on_literals
 takes_stdin running guest = record {
   flag_word = λ rows p. refl;
   flag_turn = λ rows p. and-true _;
@@ -131,6 +137,13 @@ takes_stdin running guest = record {
   settles = λ rows word h. record { rows_are = new_row (codes "stdin") (word ∷ []) rows h; passes = rw h refl };
 }
 takes_stdin tracing guest = record {
+  flag_word = λ rows p. refl;
+  flag_turn = λ rows p. and-true _;
+  value_word = λ rows word h. rw (h.no_dashes, h.no_long, h.no_short) refl;
+  value_turn = λ rows word h. rw (h.no_dashes, h.no_long, h.no_short) refl;
+  settles = λ rows word h. record { rows_are = new_row (codes "stdin") (word ∷ []) rows h; passes = rw h refl };
+}
+takes_stdin telling guest = record {
   flag_word = λ rows p. refl;
   flag_turn = λ rows p. and-true _;
   value_word = λ rows word h. rw (h.no_dashes, h.no_long, h.no_short) refl;
@@ -147,7 +160,7 @@ takes_stdin caching guest = record {
 takes_stdin replaying guest = absurd guest
 
 pub takes_quantum : (k : Subcommand) → RunsGuest k → TakesValue k (codes "--quantum") (codes "quantum")
-unfolding the_app top_app run_app demo_app trace_app cache_app replay_app clap_on_literals
+unfolding the_app top_app run_app demo_app trace_app cache_app replay_app contexts_app clap_on_literals
 takes_quantum running guest = record {
   flag_word = λ rows p. refl;
   flag_turn = λ rows p. and-true _;
@@ -156,6 +169,13 @@ takes_quantum running guest = record {
   settles = λ rows word h. record { rows_are = new_row (codes "quantum") (word ∷ []) rows h; passes = rw h refl };
 }
 takes_quantum tracing guest = record {
+  flag_word = λ rows p. refl;
+  flag_turn = λ rows p. and-true _;
+  value_word = λ rows word h. rw (h.no_dashes, h.no_long, h.no_short) refl;
+  value_turn = λ rows word h. rw (h.no_dashes, h.no_long, h.no_short) refl;
+  settles = λ rows word h. record { rows_are = new_row (codes "quantum") (word ∷ []) rows h; passes = rw h refl };
+}
+takes_quantum telling guest = record {
   flag_word = λ rows p. refl;
   flag_turn = λ rows p. and-true _;
   value_word = λ rows word h. rw (h.no_dashes, h.no_long, h.no_short) refl;
@@ -172,7 +192,7 @@ takes_quantum caching guest = record {
 takes_quantum replaying guest = absurd guest
 
 pub takes_schedule : (k : Subcommand) → RunsGuest k → TakesValue k (codes "--schedule") (codes "schedule")
-unfolding the_app top_app run_app demo_app trace_app cache_app replay_app clap_on_literals
+unfolding the_app top_app run_app demo_app trace_app cache_app replay_app contexts_app clap_on_literals
 takes_schedule running guest = record {
   flag_word = λ rows p. refl;
   flag_turn = λ rows p. and-true _;
@@ -181,6 +201,13 @@ takes_schedule running guest = record {
   settles = λ rows word h. record { rows_are = new_row (codes "schedule") (word ∷ []) rows h; passes = rw h refl };
 }
 takes_schedule tracing guest = record {
+  flag_word = λ rows p. refl;
+  flag_turn = λ rows p. and-true _;
+  value_word = λ rows word h. rw (h.no_dashes, h.no_long, h.no_short) refl;
+  value_turn = λ rows word h. rw (h.no_dashes, h.no_long, h.no_short) refl;
+  settles = λ rows word h. record { rows_are = new_row (codes "schedule") (word ∷ []) rows h; passes = rw h refl };
+}
+takes_schedule telling guest = record {
   flag_word = λ rows p. refl;
   flag_turn = λ rows p. and-true _;
   value_word = λ rows word h. rw (h.no_dashes, h.no_long, h.no_short) refl;
@@ -197,7 +224,7 @@ takes_schedule caching guest = record {
 takes_schedule replaying guest = absurd guest
 
 pub takes_budget : (k : Subcommand) → RunsGuest k → TakesValue k (codes "--budget") (codes "budget")
-unfolding the_app top_app run_app demo_app trace_app cache_app replay_app clap_on_literals
+unfolding the_app top_app run_app demo_app trace_app cache_app replay_app contexts_app clap_on_literals
 takes_budget running guest = record {
   flag_word = λ rows p. refl;
   flag_turn = λ rows p. and-true _;
@@ -206,6 +233,13 @@ takes_budget running guest = record {
   settles = λ rows word h. record { rows_are = new_row (codes "budget") (word ∷ []) rows h; passes = rw h refl };
 }
 takes_budget tracing guest = record {
+  flag_word = λ rows p. refl;
+  flag_turn = λ rows p. and-true _;
+  value_word = λ rows word h. rw (h.no_dashes, h.no_long, h.no_short) refl;
+  value_turn = λ rows word h. rw (h.no_dashes, h.no_long, h.no_short) refl;
+  settles = λ rows word h. record { rows_are = new_row (codes "budget") (word ∷ []) rows h; passes = rw h refl };
+}
+takes_budget telling guest = record {
   flag_word = λ rows p. refl;
   flag_turn = λ rows p. and-true _;
   value_word = λ rows word h. rw (h.no_dashes, h.no_long, h.no_short) refl;
@@ -222,7 +256,7 @@ takes_budget caching guest = record {
 takes_budget replaying guest = absurd guest
 
 pub takes_output : (k : Subcommand) → TakesValue k (codes "-o") (codes "output")
-unfolding the_app top_app run_app demo_app trace_app cache_app replay_app clap_on_literals
+unfolding the_app top_app run_app demo_app trace_app cache_app replay_app contexts_app clap_on_literals
 takes_output running = record {
   flag_word = λ rows p. refl;
   flag_turn = λ rows p. and-true _;
@@ -231,6 +265,13 @@ takes_output running = record {
   settles = λ rows word h. record { rows_are = new_row (codes "output") (word ∷ []) rows h; passes = rw h refl };
 }
 takes_output tracing = record {
+  flag_word = λ rows p. refl;
+  flag_turn = λ rows p. and-true _;
+  value_word = λ rows word h. rw (h.no_dashes, h.no_long, h.no_short) refl;
+  value_turn = λ rows word h. rw (h.no_dashes, h.no_long, h.no_short) refl;
+  settles = λ rows word h. record { rows_are = new_row (codes "output") (word ∷ []) rows h; passes = rw h refl };
+}
+takes_output telling = record {
   flag_word = λ rows p. refl;
   flag_turn = λ rows p. and-true _;
   value_word = λ rows word h. rw (h.no_dashes, h.no_long, h.no_short) refl;
@@ -253,7 +294,7 @@ takes_output replaying = record {
 }
 
 pub takes_recording : TakesValue running (codes "--record") (codes "record")
-unfolding the_app top_app run_app demo_app trace_app cache_app replay_app clap_on_literals
+unfolding the_app top_app run_app demo_app trace_app cache_app replay_app contexts_app clap_on_literals
 takes_recording = record {
   flag_word = λ rows p. refl;
   flag_turn = λ rows p. and-true _;
@@ -263,7 +304,7 @@ takes_recording = record {
 }
 
 pub takes_stamps : TakesValue running (codes "--stamps") (codes "stamps")
-unfolding the_app top_app run_app demo_app trace_app cache_app replay_app clap_on_literals
+unfolding the_app top_app run_app demo_app trace_app cache_app replay_app contexts_app clap_on_literals
 takes_stamps = record {
   flag_word = λ rows p. refl;
   flag_turn = λ rows p. and-true _;
@@ -273,7 +314,7 @@ takes_stamps = record {
 }
 
 pub replay_takes_stamps : TakesValue replaying (codes "--stamps") (codes "stamps")
-unfolding the_app top_app run_app demo_app trace_app cache_app replay_app clap_on_literals
+unfolding the_app top_app run_app demo_app trace_app cache_app replay_app contexts_app clap_on_literals
 replay_takes_stamps = record {
   flag_word = λ rows p. refl;
   flag_turn = λ rows p. and-true _;
@@ -282,8 +323,18 @@ replay_takes_stamps = record {
   settles = λ rows word h. record { rows_are = new_row (codes "stamps") (word ∷ []) rows h; passes = rw h refl };
 }
 
+pub contexts_takes_stamps : TakesValue telling (codes "--stamps") (codes "stamps")
+unfolding the_app top_app run_app demo_app trace_app cache_app replay_app contexts_app clap_on_literals
+contexts_takes_stamps = record {
+  flag_word = λ rows p. refl;
+  flag_turn = λ rows p. and-true _;
+  value_word = λ rows word h. rw (h.no_dashes, h.no_long, h.no_short) refl;
+  value_turn = λ rows word h. rw (h.no_dashes, h.no_long, h.no_short) refl;
+  settles = λ rows word h. record { rows_are = new_row (codes "stamps") (word ∷ []) rows h; passes = rw h refl };
+}
+
 pub takes_sets : TakesValue caching (codes "--sets") (codes "sets")
-unfolding the_app top_app run_app demo_app trace_app cache_app replay_app clap_on_literals
+unfolding the_app top_app run_app demo_app trace_app cache_app replay_app contexts_app clap_on_literals
 takes_sets = record {
   flag_word = λ rows p. refl;
   flag_turn = λ rows p. and-true _;
@@ -293,7 +344,7 @@ takes_sets = record {
 }
 
 pub takes_ways : TakesValue caching (codes "--ways") (codes "ways")
-unfolding the_app top_app run_app demo_app trace_app cache_app replay_app clap_on_literals
+unfolding the_app top_app run_app demo_app trace_app cache_app replay_app contexts_app clap_on_literals
 takes_ways = record {
   flag_word = λ rows p. refl;
   flag_turn = λ rows p. and-true _;
@@ -303,7 +354,7 @@ takes_ways = record {
 }
 
 pub takes_line : TakesValue caching (codes "--line") (codes "line")
-unfolding the_app top_app run_app demo_app trace_app cache_app replay_app clap_on_literals
+unfolding the_app top_app run_app demo_app trace_app cache_app replay_app contexts_app clap_on_literals
 takes_line = record {
   flag_word = λ rows p. refl;
   flag_turn = λ rows p. and-true _;
@@ -322,14 +373,14 @@ pub record TakesStats (k : Subcommand) : Type 0 where
       → turn k rows p idle 1 (codes "--stats") ≡ may_settle k rows p
 
 pub run_takes_stats : TakesStats running
-unfolding the_app top_app run_app demo_app trace_app cache_app replay_app clap_on_literals
+unfolding the_app top_app run_app demo_app trace_app cache_app replay_app contexts_app clap_on_literals
 run_takes_stats = record {
   flag_word = λ rows p h. ap (λ (all : List Row). stand all None idle 1) (new_row (codes "stats") (codes "true" ∷ []) (settled_rows (rules running) p rows) h);
   flag_turn = λ rows p h. rw h (and-true _ ∙ and-true _);
 }
 
 pub replay_takes_stats : TakesStats replaying
-unfolding the_app top_app run_app demo_app trace_app cache_app replay_app clap_on_literals
+unfolding the_app top_app run_app demo_app trace_app cache_app replay_app contexts_app clap_on_literals
 replay_takes_stats = record {
   flag_word = λ rows p h. ap (λ (all : List Row). stand all None idle 1) (new_row (codes "stats") (codes "true" ∷ []) (settled_rows (rules replaying) p rows) h);
   flag_turn = λ rows p h. rw h (and-true _ ∙ and-true _);
@@ -339,11 +390,13 @@ replay_takes_stats = record {
 
 pub path_word : (k : Subcommand) (rows : List Row) (p : Pending) (word : Text) → IsNoFlag word
     → walked (rules k) [] (stand rows p idle 1) word ≡ stand (settled_rows (rules k) p rows) (Some (path_id k, word ∷ [])) idle 2
-unfolding the_app top_app run_app demo_app trace_app cache_app replay_app clap_on_literals
+unfolding the_app top_app run_app demo_app trace_app cache_app replay_app contexts_app clap_on_literals
 path_word running rows None word h = rw (h.no_dashes, h.no_long, h.no_short) refl
 path_word running rows (Some q) word h = rw (h.no_dashes, h.no_long, h.no_short, and-false (bytes_eq q.0 (codes "image"))) refl
 path_word tracing rows None word h = rw (h.no_dashes, h.no_long, h.no_short) refl
 path_word tracing rows (Some q) word h = rw (h.no_dashes, h.no_long, h.no_short, and-false (bytes_eq q.0 (codes "image"))) refl
+path_word telling rows None word h = rw (h.no_dashes, h.no_long, h.no_short) refl
+path_word telling rows (Some q) word h = rw (h.no_dashes, h.no_long, h.no_short, and-false (bytes_eq q.0 (codes "image"))) refl
 path_word caching rows None word h = rw (h.no_dashes, h.no_long, h.no_short) refl
 path_word caching rows (Some q) word h = rw (h.no_dashes, h.no_long, h.no_short, and-false (bytes_eq q.0 (codes "image"))) refl
 path_word replaying rows None word h = rw (h.no_dashes, h.no_long, h.no_short) refl
@@ -351,11 +404,13 @@ path_word replaying rows (Some q) word h = rw (h.no_dashes, h.no_long, h.no_shor
 
 pub path_turn : (k : Subcommand) (rows : List Row) (p : Pending) (word : Text) → IsNoFlag word
     → turn k rows p idle 1 word ≡ may_settle k rows p
-unfolding the_app top_app run_app demo_app trace_app cache_app replay_app clap_on_literals
+unfolding the_app top_app run_app demo_app trace_app cache_app replay_app contexts_app clap_on_literals
 path_turn running rows None word h = rw (h.no_dashes, h.no_long, h.no_short) refl
 path_turn running rows (Some q) word h = rw (h.no_dashes, h.no_long, h.no_short, and-false (bytes_eq q.0 (codes "image"))) refl
 path_turn tracing rows None word h = rw (h.no_dashes, h.no_long, h.no_short) refl
 path_turn tracing rows (Some q) word h = rw (h.no_dashes, h.no_long, h.no_short, and-false (bytes_eq q.0 (codes "image"))) refl
+path_turn telling rows None word h = rw (h.no_dashes, h.no_long, h.no_short) refl
+path_turn telling rows (Some q) word h = rw (h.no_dashes, h.no_long, h.no_short, and-false (bytes_eq q.0 (codes "image"))) refl
 path_turn caching rows None word h = rw (h.no_dashes, h.no_long, h.no_short) refl
 path_turn caching rows (Some q) word h = rw (h.no_dashes, h.no_long, h.no_short, and-false (bytes_eq q.0 (codes "image"))) refl
 path_turn replaying rows None word h = rw (h.no_dashes, h.no_long, h.no_short) refl
@@ -363,9 +418,10 @@ path_turn replaying rows (Some q) word h = rw (h.no_dashes, h.no_long, h.no_shor
 
 pub path_settles : (k : Subcommand) (rows : List Row) (path : Text) → has_row (path_id k) rows ≡ false
     → Settles k rows (Some (path_id k, path ∷ [])) (rows ++ plain_row (path_id k) (path ∷ []) ∷ [])
-unfolding the_app top_app run_app demo_app trace_app cache_app replay_app clap_on_literals
+unfolding the_app top_app run_app demo_app trace_app cache_app replay_app contexts_app clap_on_literals
 path_settles running rows path h = record { rows_are = new_row (codes "image") (path ∷ []) rows h; passes = rw h refl }
 path_settles tracing rows path h = record { rows_are = new_row (codes "image") (path ∷ []) rows h; passes = rw h refl }
+path_settles telling rows path h = record { rows_are = new_row (codes "image") (path ∷ []) rows h; passes = rw h refl }
 path_settles caching rows path h = record { rows_are = new_row (codes "image") (path ∷ []) rows h; passes = rw h refl }
 path_settles replaying rows path h = record { rows_are = new_row (codes "trace") (path ∷ []) rows h; passes = rw h refl }
 
@@ -374,46 +430,54 @@ path_settles replaying rows path h = record { rows_are = new_row (codes "trace")
 pub first_word : (k : Subcommand) → RunsGuest k → (rows : List Row) (image word : Text) → IsNoFlag word
     → walked (rules k) [] (stand rows (Some (path_id k, image ∷ [])) idle 2) word
     ≡ stand (settled_rows (rules k) (Some (path_id k, image ∷ [])) rows) (Some (codes "word", word ∷ [])) positional 2
-unfolding the_app top_app run_app demo_app trace_app cache_app replay_app clap_on_literals
+unfolding the_app top_app run_app demo_app trace_app cache_app replay_app contexts_app clap_on_literals
 first_word running guest rows image word h = rw (h.no_dashes, h.no_long, h.no_short) refl
 first_word tracing guest rows image word h = rw (h.no_dashes, h.no_long, h.no_short) refl
+first_word telling guest rows image word h = rw (h.no_dashes, h.no_long, h.no_short) refl
 first_word caching guest rows image word h = rw (h.no_dashes, h.no_long, h.no_short) refl
 first_word replaying guest rows image word h = absurd guest
 
 pub first_turn : (k : Subcommand) → RunsGuest k → (rows : List Row) (image word : Text) → IsNoFlag word
     → turn k rows (Some (path_id k, image ∷ [])) idle 2 word ≡ may_settle k rows (Some (path_id k, image ∷ []))
-unfolding the_app top_app run_app demo_app trace_app cache_app replay_app clap_on_literals
+unfolding the_app top_app run_app demo_app trace_app cache_app replay_app contexts_app clap_on_literals
 first_turn running guest rows image word h = rw (h.no_dashes, h.no_long, h.no_short) refl
 first_turn tracing guest rows image word h = rw (h.no_dashes, h.no_long, h.no_short) refl
+first_turn telling guest rows image word h = rw (h.no_dashes, h.no_long, h.no_short) refl
 first_turn caching guest rows image word h = rw (h.no_dashes, h.no_long, h.no_short) refl
 first_turn replaying guest rows image word h = absurd guest
 
 pub further_word : (k : Subcommand) → RunsGuest k → (rows : List Row) (words : List Text) (word : Text) → IsNoFlag word
     → walked (rules k) [] (stand rows (Some (codes "word", words)) positional 2) word
     ≡ stand rows (Some (codes "word", words ++ word ∷ [])) positional 2
-unfolding the_app top_app run_app demo_app trace_app cache_app replay_app clap_on_literals
+unfolding the_app top_app run_app demo_app trace_app cache_app replay_app contexts_app clap_on_literals
 further_word running guest rows words word h = rw (h.no_dashes, h.no_long, h.no_short) refl
 further_word tracing guest rows words word h = rw (h.no_dashes, h.no_long, h.no_short) refl
+further_word telling guest rows words word h = rw (h.no_dashes, h.no_long, h.no_short) refl
 further_word caching guest rows words word h = rw (h.no_dashes, h.no_long, h.no_short) refl
 further_word replaying guest rows words word h = absurd guest
 
 pub further_turn : (k : Subcommand) → RunsGuest k → (rows : List Row) (words : List Text) (word : Text) → IsNoFlag word
     → turn k rows (Some (codes "word", words)) positional 2 word ≡ true
-unfolding the_app top_app run_app demo_app trace_app cache_app replay_app clap_on_literals
+unfolding the_app top_app run_app demo_app trace_app cache_app replay_app contexts_app clap_on_literals
 further_turn running guest rows words word h = rw (h.no_dashes, h.no_long, h.no_short) refl
 further_turn tracing guest rows words word h = rw (h.no_dashes, h.no_long, h.no_short) refl
+further_turn telling guest rows words word h = rw (h.no_dashes, h.no_long, h.no_short) refl
 further_turn caching guest rows words word h = rw (h.no_dashes, h.no_long, h.no_short) refl
 further_turn replaying guest rows words word h = absurd guest
 
 pub words_settle : (k : Subcommand) → RunsGuest k → (rows : List Row) (word : Text) (words : List Text) → has_row (codes "word") rows ≡ false
     → length (word ∷ words) < 2 ^ 64
     → Settles k rows (Some (codes "word", word ∷ words)) (rows ++ plain_row (codes "word") (word ∷ words) ∷ [])
-unfolding the_app top_app run_app demo_app trace_app cache_app replay_app clap_on_literals
+unfolding the_app top_app run_app demo_app trace_app cache_app replay_app contexts_app clap_on_literals
 words_settle running guest rows word words h lt =
     let few : nat_le (length (word ∷ words)) usize_max ≡ true = grind (arith, nat_tests) in
     let some : nat_le 0 (length (word ∷ words)) ≡ true = grind (arith, nat_tests) in
     record { rows_are = new_row_kept (codes "word") (word ∷ words) rows h; passes = rw (some, few) (all_true words) }
 words_settle tracing guest rows word words h lt =
+    let few : nat_le (length (word ∷ words)) usize_max ≡ true = grind (arith, nat_tests) in
+    let some : nat_le 0 (length (word ∷ words)) ≡ true = grind (arith, nat_tests) in
+    record { rows_are = new_row_kept (codes "word") (word ∷ words) rows h; passes = rw (some, few) (all_true words) }
+words_settle telling guest rows word words h lt =
     let few : nat_le (length (word ∷ words)) usize_max ≡ true = grind (arith, nat_tests) in
     let some : nat_le 0 (length (word ∷ words)) ≡ true = grind (arith, nat_tests) in
     record { rows_are = new_row_kept (codes "word") (word ∷ words) rows h; passes = rw (some, few) (all_true words) }

@@ -13,14 +13,14 @@ use Rattle.stamps.specs.declared.width.StampBits.{StampBits}
 use Rattle.clap.specs.Words.{Row, Rule, Text, built, first_of, subcommand_of, takes}
 use Rattle.clap.specs.Facts.{explicit_source}
 use Rattle.std.specs.Str.{bytes_eq}
-use Rattle.command_line.specs.App.{the_app, top_app, run_app, demo_app, trace_app, cache_app, replay_app}
-use Rattle.command_line.specs.Options.{Cache, CacheOptions, Demo, GuestOptions, Replay, ReplayOptions, Run, RunOptions, Trace, TraceOptions, bits_of, budget_of, cache_of_rows, cache_with, demo_of, demo_of_rows, guest_of_rows, guest_with, options_of_rows, options_with, quantum_of, replay_of_rows, replay_with, shape_of_rows, shape_said, trace_of_rows, trace_with}
+use Rattle.command_line.specs.App.{the_app, top_app, run_app, demo_app, trace_app, cache_app, replay_app, contexts_app}
+use Rattle.command_line.specs.Options.{Cache, CacheOptions, Contexts, ContextsOptions, Demo, GuestOptions, Replay, ReplayOptions, Run, RunOptions, Trace, TraceOptions, bits_of, budget_of, cache_of_rows, cache_with, contexts_of_rows, contexts_with, demo_of, demo_of_rows, guest_of_rows, guest_with, options_of_rows, options_with, quantum_of, replay_of_rows, replay_with, shape_of_rows, shape_said, trace_of_rows, trace_with}
 use Rattle.command_line.specs.Taken.{FailsByNumber, HasBadCache, HasBadDemo, HasBadNumber, HasBadSteps, HasBadWidth, TakenWordsFailByNumbers}
 use Rattle.command_line.proofs.Filled.{AllKeep, IsKept, filled_same, is_appended, is_filled, is_flag, is_own, is_set, kept_keeps, row_for, settle_keeps, walk_keeps}
-use Rattle.command_line.proofs.PlainWords.{finished_cache, finished_replay, finished_rows, finished_trace, no_defaults}
+use Rattle.command_line.proofs.PlainWords.{finished_cache, finished_contexts, finished_replay, finished_rows, finished_trace, no_defaults}
 use Rattle.command_line.proofs.Refusals.{asked_is, read_of}
 use Rattle.command_line.proofs.Rows.{unset_rows}
-use Rattle.command_line.proofs.Steps.{cache_shape, caching, demo_shape, replay_shape, replaying, rules, run_shape, running, trace_shape, tracing}
+use Rattle.command_line.proofs.Steps.{cache_shape, caching, contexts_shape, demo_shape, replay_shape, replaying, rules, run_shape, running, telling, trace_shape, tracing}
 
 -- what a search among these can find
 abbrev FoundIn : List Shape → Option Shape → Type 0
@@ -69,33 +69,37 @@ enters_one a None p q = let no : false ≡ true = q in cc
 enters_one a (Some met) p q =
     enters_any a.subs (find (λ u. answers_to met.0 (label_of u)) a.subs) met.1 (found_in (λ u. answers_to met.0 (label_of u)) a.subs) p q
 
-subs_are : (built the_app).subs ≡ run_shape ∷ demo_shape ∷ trace_shape ∷ cache_shape ∷ replay_shape ∷ []
-unfolding the_app top_app run_app demo_app trace_app cache_app replay_app clap_on_literals
+subs_are : (built the_app).subs ≡ run_shape ∷ demo_shape ∷ trace_shape ∷ cache_shape ∷ replay_shape ∷ contexts_shape ∷ []
+unfolding the_app top_app run_app demo_app trace_app cache_app replay_app contexts_app clap_on_literals
 subs_are = refl
 
 run_is_named : run_shape.name ≡ codes "run"
-unfolding the_app top_app run_app demo_app trace_app cache_app replay_app clap_on_literals
+unfolding the_app top_app run_app demo_app trace_app cache_app replay_app contexts_app clap_on_literals
 run_is_named = refl
 
 trace_is_named : trace_shape.name ≡ codes "trace"
-unfolding the_app top_app run_app demo_app trace_app cache_app replay_app clap_on_literals
+unfolding the_app top_app run_app demo_app trace_app cache_app replay_app contexts_app clap_on_literals
 trace_is_named = refl
 
 cache_is_named : cache_shape.name ≡ codes "cache"
-unfolding the_app top_app run_app demo_app trace_app cache_app replay_app clap_on_literals
+unfolding the_app top_app run_app demo_app trace_app cache_app replay_app contexts_app clap_on_literals
 cache_is_named = refl
 
 replay_is_named : replay_shape.name ≡ codes "replay"
-unfolding the_app top_app run_app demo_app trace_app cache_app replay_app clap_on_literals
+unfolding the_app top_app run_app demo_app trace_app cache_app replay_app contexts_app clap_on_literals
 replay_is_named = refl
 
+contexts_is_named : contexts_shape.name ≡ codes "contexts"
+unfolding the_app top_app run_app demo_app trace_app cache_app replay_app contexts_app clap_on_literals
+contexts_is_named = refl
+
 demo_is_named : demo_shape.name ≡ codes "demo"
-unfolding the_app top_app run_app demo_app trace_app cache_app replay_app clap_on_literals
+unfolding the_app top_app run_app demo_app trace_app cache_app replay_app contexts_app clap_on_literals
 demo_is_named = refl
 
 -- the subcommand has to be there
 top_requires : (rows : List Row) (has : Bool) → is_valid (built the_app).top rows has ≡ true → has ≡ true
-unfolding the_app top_app run_app demo_app trace_app cache_app replay_app clap_on_literals
+unfolding the_app top_app run_app demo_app trace_app cache_app replay_app contexts_app clap_on_literals
 top_requires rows true h = refl
 top_requires rows false h = let no : false ≡ true = h in cc
 
@@ -106,16 +110,20 @@ two_given false i h = let no : false ≡ true = h in cc
 
 -- and `-o` and the image
 run_requires : (rows : List Row) → is_valid run_shape rows false ≡ true → (is_given (codes "output") rows ≡ true) × (is_given (codes "image") rows ≡ true)
-unfolding the_app top_app run_app demo_app trace_app cache_app replay_app clap_on_literals
+unfolding the_app top_app run_app demo_app trace_app cache_app replay_app contexts_app clap_on_literals
 run_requires rows h = two_given (is_given (codes "output") rows) (is_given (codes "image") rows) h
 
 trace_requires : (rows : List Row) → is_valid trace_shape rows false ≡ true → (is_given (codes "output") rows ≡ true) × (is_given (codes "image") rows ≡ true)
-unfolding the_app top_app run_app demo_app trace_app cache_app replay_app clap_on_literals
+unfolding the_app top_app run_app demo_app trace_app cache_app replay_app contexts_app clap_on_literals
 trace_requires rows h = two_given (is_given (codes "output") rows) (is_given (codes "image") rows) h
+
+contexts_requires : (rows : List Row) → is_valid contexts_shape rows false ≡ true → (is_given (codes "output") rows ≡ true) × (is_given (codes "image") rows ≡ true)
+unfolding the_app top_app run_app demo_app trace_app cache_app replay_app contexts_app clap_on_literals
+contexts_requires rows h = two_given (is_given (codes "output") rows) (is_given (codes "image") rows) h
 
 -- `replay` the trace
 replay_requires : (rows : List Row) → is_valid replay_shape rows false ≡ true → (is_given (codes "output") rows ≡ true) × (is_given (codes "trace") rows ≡ true)
-unfolding the_app top_app run_app demo_app trace_app cache_app replay_app clap_on_literals
+unfolding the_app top_app run_app demo_app trace_app cache_app replay_app contexts_app clap_on_literals
 replay_requires rows h = two_given (is_given (codes "output") rows) (is_given (codes "trace") rows) h
 
 -- `cache` the shape too
@@ -130,7 +138,7 @@ five_given s w l o i h =
 cache_requires : (rows : List Row) → is_valid cache_shape rows false ≡ true
     → (is_given (codes "sets") rows ≡ true) × (is_given (codes "ways") rows ≡ true) × (is_given (codes "line") rows ≡ true)
     × (is_given (codes "output") rows ≡ true) × (is_given (codes "image") rows ≡ true)
-unfolding the_app top_app run_app demo_app trace_app cache_app replay_app clap_on_literals
+unfolding the_app top_app run_app demo_app trace_app cache_app replay_app contexts_app clap_on_literals
 cache_requires rows h =
     five_given (is_given (codes "sets") rows) (is_given (codes "ways") rows) (is_given (codes "line") rows) (is_given (codes "output") rows) (is_given (codes "image") rows) h
 
@@ -140,12 +148,12 @@ one_given false h = let no : false ≡ true = h in cc
 
 -- `demo` its number
 demo_requires : (rows : List Row) → is_valid demo_shape rows false ≡ true → is_given (codes "number") rows ≡ true
-unfolding the_app top_app run_app demo_app trace_app cache_app replay_app clap_on_literals
+unfolding the_app top_app run_app demo_app trace_app cache_app replay_app contexts_app clap_on_literals
 demo_requires rows h = one_given (is_given (codes "number") rows) h
 
 -- words that are taken enter a subcommand
 taken_enters : (words : List Text) → takes the_app words ≡ true
-    → EntersOne (run_shape ∷ demo_shape ∷ trace_shape ∷ cache_shape ∷ replay_shape ∷ []) (subcommand_of the_app words)
+    → EntersOne (run_shape ∷ demo_shape ∷ trace_shape ∷ cache_shape ∷ replay_shape ∷ contexts_shape ∷ []) (subcommand_of the_app words)
 taken_enters words h =
     let ws = argument_words the_app words in
     let top = (built the_app).top in
@@ -172,7 +180,7 @@ all_keep id [] same k = tt
 all_keep id (a ∷ rest) same k = (kept_keeps id a same k.0, all_keep id rest same k.1)
 
 output_keeps : AllKeep (codes "output") (rules running)
-unfolding the_app top_app run_app demo_app trace_app cache_app replay_app clap_on_literals
+unfolding the_app top_app run_app demo_app trace_app cache_app replay_app contexts_app clap_on_literals
 output_keeps = all_keep (codes "output") (rules running) refl (
   is_set refl refl,
   (
@@ -191,7 +199,7 @@ output_keeps = all_keep (codes "output") (rules running) refl (
 )
 
 image_keeps : AllKeep (codes "image") (rules running)
-unfolding the_app top_app run_app demo_app trace_app cache_app replay_app clap_on_literals
+unfolding the_app top_app run_app demo_app trace_app cache_app replay_app contexts_app clap_on_literals
 image_keeps = all_keep (codes "image") (rules running) refl (
   is_set refl refl,
   (
@@ -210,49 +218,57 @@ image_keeps = all_keep (codes "image") (rules running) refl (
 )
 
 trace_output_keeps : AllKeep (codes "output") (rules tracing)
-unfolding the_app top_app run_app demo_app trace_app cache_app replay_app clap_on_literals
+unfolding the_app top_app run_app demo_app trace_app cache_app replay_app contexts_app clap_on_literals
 trace_output_keeps = all_keep (codes "output") (rules tracing) refl (
   is_set refl refl,
   (is_set refl refl, (is_set refl refl, (is_set refl refl, (is_own refl refl refl, (is_set refl refl, (is_appended refl refl, tt)))))),
 )
 
 trace_image_keeps : AllKeep (codes "image") (rules tracing)
-unfolding the_app top_app run_app demo_app trace_app cache_app replay_app clap_on_literals
+unfolding the_app top_app run_app demo_app trace_app cache_app replay_app contexts_app clap_on_literals
 trace_image_keeps = all_keep (codes "image") (rules tracing) refl (
   is_set refl refl,
   (is_set refl refl, (is_set refl refl, (is_set refl refl, (is_set refl refl, (is_own refl refl refl, (is_appended refl refl, tt)))))),
 )
 
+contexts_output_keeps : AllKeep (codes "output") (rules telling)
+unfolding the_app top_app run_app demo_app trace_app cache_app replay_app contexts_app clap_on_literals
+contexts_output_keeps = all_keep (codes "output") (rules telling) refl (is_set refl refl, (is_set refl refl, (is_set refl refl, (is_set refl refl, (is_set refl refl, (is_own refl refl refl, (is_set refl refl, (is_appended refl refl, tt))))))))
+
+contexts_image_keeps : AllKeep (codes "image") (rules telling)
+unfolding the_app top_app run_app demo_app trace_app cache_app replay_app contexts_app clap_on_literals
+contexts_image_keeps = all_keep (codes "image") (rules telling) refl (is_set refl refl, (is_set refl refl, (is_set refl refl, (is_set refl refl, (is_set refl refl, (is_set refl refl, (is_own refl refl refl, (is_appended refl refl, tt))))))))
+
 cache_sets_keeps : AllKeep (codes "sets") (rules caching)
-unfolding the_app top_app run_app demo_app trace_app cache_app replay_app clap_on_literals
+unfolding the_app top_app run_app demo_app trace_app cache_app replay_app contexts_app clap_on_literals
 cache_sets_keeps = all_keep (codes "sets") (rules caching) refl (is_set refl refl, (is_set refl refl, (is_set refl refl, (is_set refl refl, (is_own refl refl refl, (is_set refl refl, (is_set refl refl, (is_set refl refl, (is_set refl refl, (is_appended refl refl, tt))))))))))
 
 cache_ways_keeps : AllKeep (codes "ways") (rules caching)
-unfolding the_app top_app run_app demo_app trace_app cache_app replay_app clap_on_literals
+unfolding the_app top_app run_app demo_app trace_app cache_app replay_app contexts_app clap_on_literals
 cache_ways_keeps = all_keep (codes "ways") (rules caching) refl (is_set refl refl, (is_set refl refl, (is_set refl refl, (is_set refl refl, (is_set refl refl, (is_own refl refl refl, (is_set refl refl, (is_set refl refl, (is_set refl refl, (is_appended refl refl, tt))))))))))
 
 cache_line_keeps : AllKeep (codes "line") (rules caching)
-unfolding the_app top_app run_app demo_app trace_app cache_app replay_app clap_on_literals
+unfolding the_app top_app run_app demo_app trace_app cache_app replay_app contexts_app clap_on_literals
 cache_line_keeps = all_keep (codes "line") (rules caching) refl (is_set refl refl, (is_set refl refl, (is_set refl refl, (is_set refl refl, (is_set refl refl, (is_set refl refl, (is_own refl refl refl, (is_set refl refl, (is_set refl refl, (is_appended refl refl, tt))))))))))
 
 cache_output_keeps : AllKeep (codes "output") (rules caching)
-unfolding the_app top_app run_app demo_app trace_app cache_app replay_app clap_on_literals
+unfolding the_app top_app run_app demo_app trace_app cache_app replay_app contexts_app clap_on_literals
 cache_output_keeps = all_keep (codes "output") (rules caching) refl (is_set refl refl, (is_set refl refl, (is_set refl refl, (is_set refl refl, (is_set refl refl, (is_set refl refl, (is_set refl refl, (is_own refl refl refl, (is_set refl refl, (is_appended refl refl, tt))))))))))
 
 cache_image_keeps : AllKeep (codes "image") (rules caching)
-unfolding the_app top_app run_app demo_app trace_app cache_app replay_app clap_on_literals
+unfolding the_app top_app run_app demo_app trace_app cache_app replay_app contexts_app clap_on_literals
 cache_image_keeps = all_keep (codes "image") (rules caching) refl (is_set refl refl, (is_set refl refl, (is_set refl refl, (is_set refl refl, (is_set refl refl, (is_set refl refl, (is_set refl refl, (is_set refl refl, (is_own refl refl refl, (is_appended refl refl, tt))))))))))
 
 replay_output_keeps : AllKeep (codes "output") (rules replaying)
-unfolding the_app top_app run_app demo_app trace_app cache_app replay_app clap_on_literals
+unfolding the_app top_app run_app demo_app trace_app cache_app replay_app contexts_app clap_on_literals
 replay_output_keeps = all_keep (codes "output") (rules replaying) refl (is_set refl refl, (is_flag refl refl, (is_own refl refl refl, (is_set refl refl, tt))))
 
 replay_trace_keeps : AllKeep (codes "trace") (rules replaying)
-unfolding the_app top_app run_app demo_app trace_app cache_app replay_app clap_on_literals
+unfolding the_app top_app run_app demo_app trace_app cache_app replay_app contexts_app clap_on_literals
 replay_trace_keeps = all_keep (codes "trace") (rules replaying) refl (is_set refl refl, (is_flag refl refl, (is_set refl refl, (is_own refl refl refl, tt))))
 
 number_keeps : AllKeep (codes "number") demo_shape.rules
-unfolding the_app top_app run_app demo_app trace_app cache_app replay_app clap_on_literals
+unfolding the_app top_app run_app demo_app trace_app cache_app replay_app contexts_app clap_on_literals
 number_keeps = all_keep (codes "number") demo_shape.rules refl (is_own refl refl refl, tt)
 
 -- a row that is given and filled has a first value
@@ -271,11 +287,14 @@ abbrev DefaultsKeep : Text → Shape → Type 0
 DefaultsKeep id s = (rows : List Row) → row_for id (fold with_default rows s.rules) ≡ row_for id rows
 
 demo_defaults : (id : Text) → DefaultsKeep id demo_shape
-unfolding the_app top_app run_app demo_app trace_app cache_app replay_app clap_on_literals
+unfolding the_app top_app run_app demo_app trace_app cache_app replay_app contexts_app clap_on_literals
 demo_defaults id rows = ap (row_for id) (no_defaults demo_shape.rules rows (refl, tt))
 
 trace_defaults : (id : Text) → DefaultsKeep id trace_shape
 trace_defaults id rows = ap (row_for id) (finished_trace rows)
+
+contexts_defaults : (id : Text) → DefaultsKeep id contexts_shape
+contexts_defaults id rows = ap (row_for id) (finished_contexts rows)
 
 cache_defaults : (id : Text) → DefaultsKeep id cache_shape
 cache_defaults id rows = ap (row_for id) (finished_cache rows)
@@ -328,14 +347,22 @@ bad_number rows report image r i none =
     go (guest_of_rows rows) (bits_of (first_of (codes "stamps") rows)) refl refl
     (sym (ap (λ x. options_with rows (guest_of_rows rows) x (bits_of (first_of (codes "stamps") rows))) r) ∙ none)
   where
-    of_guest : (quantum_of (first_of (codes "quantum") rows) ≡ None) ⊎ (budget_of (first_of (codes "budget") rows) ≡ None) → HasBadNumber rows
-    of_guest (inl q) = inl q
-    of_guest (inr b) = inr (inl b)
-
     go : (g : Option GuestOptions) (n : Option StampBits) → guest_of_rows rows ≡ g → bits_of (first_of (codes "stamps") rows) ≡ n
         → options_with rows g (Some report) n ≡ None → HasBadNumber rows
-    go None n g_is n_is h = of_guest (bad_guest rows image i g_is)
-    go (Some g) None g_is n_is h = inr (inr n_is)
+    go None n g_is n_is h = inl (bad_guest rows image i g_is)
+    go (Some g) None g_is n_is h = inr n_is
+    go (Some g) (Some n) g_is n_is h = cc
+
+bad_contexts : (rows : List Row) (report image : Text) → first_of (codes "output") rows ≡ Some report → first_of (codes "image") rows ≡ Some image
+    → contexts_of_rows rows ≡ None → HasBadNumber rows
+bad_contexts rows report image r i none =
+    go (guest_of_rows rows) (bits_of (first_of (codes "stamps") rows)) refl refl
+    (sym (ap (λ x. contexts_with (guest_of_rows rows) x (bits_of (first_of (codes "stamps") rows))) r) ∙ none)
+  where
+    go : (g : Option GuestOptions) (n : Option StampBits) → guest_of_rows rows ≡ g → bits_of (first_of (codes "stamps") rows) ≡ n
+        → contexts_with g (Some report) n ≡ None → HasBadNumber rows
+    go None n g_is n_is h = inl (bad_guest rows image i g_is)
+    go (Some g) None g_is n_is h = inr n_is
     go (Some g) (Some n) g_is n_is h = cc
 
 bad_steps : (rows : List Row) (path image : Text) → first_of (codes "output") rows ≡ Some path → first_of (codes "image") rows ≡ Some image
@@ -379,6 +406,10 @@ no_trace : (o : Option TraceOptions) → option_map Trace o ≡ None → o ≡ N
 no_trace None h = refl
 no_trace (Some x) h = cc
 
+no_contexts : (o : Option ContextsOptions) → option_map Contexts o ≡ None → o ≡ None
+no_contexts None h = refl
+no_contexts (Some x) h = cc
+
 no_cache : (o : Option CacheOptions) → option_map Cache o ≡ None → o ≡ None
 no_cache None h = refl
 no_cache (Some x) h = cc
@@ -410,6 +441,16 @@ trace_fails found enters none =
     let path = first_there (row_for (codes "output") rows) needs.0 (rows_filled trace_shape (codes "output") enters.rest (trace_defaults (codes "output")) trace_output_keeps enters.passes) in
     let image = first_there (row_for (codes "image") rows) needs.1 (rows_filled trace_shape (codes "image") enters.rest (trace_defaults (codes "image")) trace_image_keeps enters.passes) in
     (rows, found_is, bad_steps rows path.0 image.0 path.1 image.1 (no_trace (trace_of_rows rows) (sym (ap read_of found_is) ∙ none)))
+
+contexts_fails : (found : Option (Text × List Row)) → Enters contexts_shape found → read_of found ≡ None
+    → (rows : List Row) × (found ≡ Some (codes "contexts", rows)) × HasBadNumber rows
+contexts_fails found enters none =
+    let rows = rows_after (rules telling) [] enters.rest in
+    let found_is : found ≡ Some (codes "contexts", rows) = enters.found_is ∙ ap (λ (name : Text). Some (name, rows)) contexts_is_named in
+    let needs = contexts_requires rows (rows_valid contexts_shape enters.rest enters.passes) in
+    let report = first_there (row_for (codes "output") rows) needs.0 (rows_filled contexts_shape (codes "output") enters.rest (contexts_defaults (codes "output")) contexts_output_keeps enters.passes) in
+    let image = first_there (row_for (codes "image") rows) needs.1 (rows_filled contexts_shape (codes "image") enters.rest (contexts_defaults (codes "image")) contexts_image_keeps enters.passes) in
+    (rows, found_is, bad_contexts rows report.0 image.0 report.1 image.1 (no_contexts (contexts_of_rows rows) (sym (ap read_of found_is) ∙ none)))
 
 cache_fails : (found : Option (Text × List Row)) → Enters cache_shape found → read_of found ≡ None
     → (rows : List Row) × (found ≡ Some (codes "cache", rows)) × HasBadCache rows
@@ -453,10 +494,11 @@ fails_by_numbers words taken zeros none = go (taken_enters words taken)
     read_none : read_of found ≡ None
     read_none = sym (asked_is words zeros) ∙ none
 
-    go : EntersOne (run_shape ∷ demo_shape ∷ trace_shape ∷ cache_shape ∷ replay_shape ∷ []) found → FailsByNumber found
+    go : EntersOne (run_shape ∷ demo_shape ∷ trace_shape ∷ cache_shape ∷ replay_shape ∷ contexts_shape ∷ []) found → FailsByNumber found
     go (inl enters) = inl (run_fails found enters read_none)
-    go (inr (inl enters)) = inr (inr (inr (inr (demo_fails found enters read_none))))
+    go (inr (inl enters)) = inr (inr (inr (inr (inr (demo_fails found enters read_none)))))
     go (inr (inr (inl enters))) = inr (inl (trace_fails found enters read_none))
     go (inr (inr (inr (inl enters)))) = inr (inr (inl (cache_fails found enters read_none)))
     go (inr (inr (inr (inr (inl enters))))) = inr (inr (inr (inl (replay_fails found enters read_none))))
-    go (inr (inr (inr (inr (inr none'))))) = absurd none'
+    go (inr (inr (inr (inr (inr (inl enters)))))) = inr (inr (inr (inr (inl (contexts_fails found enters read_none)))))
+    go (inr (inr (inr (inr (inr (inr none')))))) = absurd none'

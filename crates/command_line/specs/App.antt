@@ -56,6 +56,12 @@ unfoldable pub replay_app : App
 replay_app = with_rule (with_rule (with_rule (with_rule (new_app (codes "replay")) (value_rule (codes "stamps"))) (flag_rule (codes "stats")))
     output_rule) (required_rule (codes "trace"))
 
+-- `contexts` with its options, the image and the further words
+unfoldable pub contexts_app : App
+contexts_app = with_rule (with_rule (with_rule (with_rule (with_rule (with_rule (with_rule (with_rule
+    (new_app (codes "contexts")) (value_rule (codes "stdin"))) (value_rule (codes "quantum"))) (value_rule (codes "schedule")))
+    (value_rule (codes "budget"))) (value_rule (codes "stamps"))) output_rule) (required_rule (codes "image"))) word_rule
+
 -- `demo` with its number
 unfoldable pub demo_app : App
 demo_app = with_rule (new_app (codes "demo")) (required_rule (codes "number"))
@@ -73,5 +79,5 @@ top_app = let app = new_app (codes "aprof") in record app {
 
 -- the whole command
 unfoldable pub the_app : App
-the_app = with_subcommand (with_subcommand (with_subcommand (with_subcommand (with_subcommand top_app run_app.top) demo_app.top) trace_app.top)
-    cache_app.top) replay_app.top
+the_app = with_subcommand (with_subcommand (with_subcommand (with_subcommand (with_subcommand (with_subcommand top_app run_app.top) demo_app.top)
+    trace_app.top) cache_app.top) replay_app.top) contexts_app.top

@@ -53,6 +53,15 @@ pub record CacheOptions : Type 0 where
   -- the path of the report
   pub report : List ℕ
 
+-- What `contexts` is asked.
+pub record ContextsOptions : Type 0 where
+  -- how the guest is run
+  pub guest : GuestOptions
+  -- the path of the report and the contexts
+  pub report : List ℕ
+  -- the width of stamps
+  pub bits : StampBits
+
 -- What `replay` is asked.
 pub record ReplayOptions : Type 0 where
   -- the path of the trace
@@ -204,6 +213,15 @@ cache_with _ _ _ = None
 abbrev pub cache_of_rows : List Row → Option CacheOptions
 cache_of_rows rows = cache_with (guest_of_rows rows) (shape_of_rows rows) (first_of (codes "output") rows)
 
+-- the options of `contexts` with these of the guest, this path and this width, where all are there
+abbrev pub contexts_with : Option GuestOptions → Option (List ℕ) → Option StampBits → Option ContextsOptions
+contexts_with (Some guest) (Some report) (Some bits) = Some (record { guest = guest; report = report; bits = bits })
+contexts_with _ _ _ = None
+
+-- the options of `contexts` that `clap`'s matches say
+abbrev pub contexts_of_rows : List Row → Option ContextsOptions
+contexts_of_rows rows = contexts_with (guest_of_rows rows) (first_of (codes "output") rows) (bits_of (first_of (codes "stamps") rows))
+
 -- the options of `replay` with this trace, this path and this width, where all are there; the rest is read of the rows
 abbrev pub replay_with : List Row → Option (List ℕ) → Option (List ℕ) → Option StampBits → Option ReplayOptions
 replay_with rows (Some trace) (Some report) (Some bits) = Some (record { trace = trace; report = report; bits = bits; stats = has_flag (codes "stats") rows })
@@ -225,12 +243,13 @@ demo_of_rows rows = option_and_then demo_of (first_of (codes "number") rows)
 
 -- ---- the words
 
--- What the words ask for: a run, the trace of a run, the cache misses of a run, the report of a stored trace, or the demo of a
--- number.
+-- What the words ask for: a run, the trace of a run, the cache misses of a run, the calling contexts of a run, the report of a
+-- stored trace, or the demo of a number.
 pub data Asked : Type 0 where
   Run : RunOptions → Asked
   Trace : TraceOptions → Asked
   Cache : CacheOptions → Asked
+  Contexts : ContextsOptions → Asked
   Replay : ReplayOptions → Asked
   Demo : ℕ → Asked
 
@@ -240,6 +259,7 @@ asked_of_rows name rows =
     if bytes_eq name (codes "run") then option_map Run (options_of_rows rows)
     else if bytes_eq name (codes "trace") then option_map Trace (trace_of_rows rows)
     else if bytes_eq name (codes "cache") then option_map Cache (cache_of_rows rows)
+    else if bytes_eq name (codes "contexts") then option_map Contexts (contexts_of_rows rows)
     else if bytes_eq name (codes "replay") then option_map Replay (replay_of_rows rows)
     else if bytes_eq name (codes "demo") then option_map Demo (demo_of_rows rows)
     else None

@@ -81,6 +81,10 @@ trace_words program choices image words = program ∷ codes "trace" ∷ (choice_
 abbrev pub cache_words : Text → List Choice → Text → List Text → List Text
 cache_words program choices image words = program ∷ codes "cache" ∷ (choice_words choices ++ image ∷ words)
 
+-- and of `contexts`
+abbrev pub contexts_words : Text → List Choice → Text → List Text → List Text
+contexts_words program choices image words = program ∷ codes "contexts" ∷ (choice_words choices ++ image ∷ words)
+
 -- and of `replay`, with the trace behind the options
 abbrev pub replay_words : Text → List Choice → Text → List Text
 replay_words program choices trace = program ∷ codes "replay" ∷ (choice_words choices ++ trace ∷ [])
@@ -111,6 +115,11 @@ is_of_cache (sets v) = true
 is_of_cache (ways v) = true
 is_of_cache (line v) = true
 is_of_cache c = is_of_all c
+
+-- the option is one of `contexts`
+abbrev pub is_of_contexts : Choice → Bool
+is_of_contexts (stamps v) = true
+is_of_contexts c = is_of_all c
 
 -- the option is one of `replay`
 abbrev pub is_of_replay : Choice → Bool
@@ -225,6 +234,27 @@ PlainCacheIsRead = (program : Text) (choices : List Choice) (image : Text) (word
       guest = guest_given choices turn_steps run_steps image words;
       shape = shape;
       report = report_path;
+    }))
+
+-- ---- `contexts`
+-- Plain words are taken, where each option is one of `contexts` and the path of the report is among them.
+abbrev pub PlainContextsIsTaken : Type 0
+PlainContextsIsTaken = (program : Text) (choices : List Choice) (image : Text) (words : List Text)
+    → ArePlain choices image words → list_all is_of_contexts choices ≡ true → is_chosen (codes "output") choices ≡ true
+    → takes the_app (contexts_words program choices image words) ≡ true
+
+-- The options are the values in the words, and the defaults of the numbers that are left out.
+abbrev pub PlainContextsIsRead : Type 0
+PlainContextsIsRead = (program : Text) (choices : List Choice) (image : Text) (words : List Text)
+    → ArePlain choices image words → list_all is_of_contexts choices ≡ true → list_any has_zero (contexts_words program choices image words) ≡ false
+    → (report_path : Text) (turn_steps run_steps : ℕ) (width : StampBits) → given (codes "output") choices ≡ Some report_path
+    → quantum_of (given (codes "quantum") choices) ≡ Some turn_steps
+    → budget_of (given (codes "budget") choices) ≡ Some run_steps
+    → bits_of (given (codes "stamps") choices) ≡ Some width
+    → asked_of (contexts_words program choices image words) ≡ Some (Asked.Contexts (record {
+      guest = guest_given choices turn_steps run_steps image words;
+      report = report_path;
+      bits = width;
     }))
 
 -- ---- `replay`

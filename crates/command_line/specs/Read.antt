@@ -1,11 +1,12 @@
 -- What a command that was read asks.
 use Rattle.std.specs.Prelude.{◌≤◌, map, option_map}
 use Rattle.guest_words.specs.declared.limits.TheConstants.{DEMO_ROUTINES, QUANTUM_STEPS, RUN_STEPS}
-use Rattle.command_line.specs.Options.{Asked, CacheOptions, GuestOptions, ReplayOptions, RunOptions, TraceOptions}
+use Rattle.command_line.specs.Options.{Asked, CacheOptions, ContextsOptions, GuestOptions, ReplayOptions, RunOptions, TraceOptions}
 use Rattle.command_line.specs.declared.commands.Command.{Command}
 use Rattle.command_line.specs.declared.guest_options.GuestOptions as declared
 use Rattle.command_line.specs.declared.run_command.RunCommand.{RunCommand}
 use Rattle.command_line.specs.declared.cache_command.CacheCommand.{CacheCommand}
+use Rattle.command_line.specs.declared.contexts_command.ContextsCommand.{ContextsCommand}
 use Rattle.command_line.specs.declared.replay_command.ReplayCommand.{ReplayCommand}
 use Rattle.command_line.specs.declared.trace_command.TraceCommand.{TraceCommand}
 
@@ -38,6 +39,10 @@ trace_in command = record { guest = guest_in command.guest; trace = command.trac
 abbrev pub cache_in : CacheCommand → CacheOptions
 cache_in command = record { guest = guest_in command.guest; shape = command.shape; report = command.report.now }
 
+-- what a command `contexts` says
+abbrev pub contexts_in : ContextsCommand → ContextsOptions
+contexts_in command = record { guest = guest_in command.guest; report = command.report.now; bits = command.bits }
+
 -- what a command `replay` says
 abbrev pub replay_in : ReplayCommand → ReplayOptions
 replay_in command = record { trace = command.trace.now; report = command.report.now; bits = command.bits; stats = command.stats }
@@ -47,6 +52,7 @@ abbrev pub asked_in : Command → Asked
 asked_in (Command.Run run) = Asked.Run (options_in run)
 asked_in (Command.Trace trace) = Asked.Trace (trace_in trace)
 asked_in (Command.Cache cache) = Asked.Cache (cache_in cache)
+asked_in (Command.Contexts contexts) = Asked.Contexts (contexts_in contexts)
 asked_in (Command.Replay replay) = Asked.Replay (replay_in replay)
 asked_in (Command.Demo number) = Asked.Demo number
 
@@ -62,5 +68,6 @@ abbrev pub IsInRange : Command → Type 0
 IsInRange (Command.Run run) = AreInRange (guest_in run.guest)
 IsInRange (Command.Trace trace) = AreInRange (guest_in trace.guest)
 IsInRange (Command.Cache cache) = AreInRange (guest_in cache.guest)
+IsInRange (Command.Contexts contexts) = AreInRange (guest_in contexts.guest)
 IsInRange (Command.Replay replay) = Unit {0}
 IsInRange (Command.Demo number) = (1 ≤ number) × (number ≤ DEMO_ROUTINES)

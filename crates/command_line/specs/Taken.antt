@@ -9,20 +9,19 @@ use Rattle.command_line.specs.Options.{asked_of, bits_of, budget_of, demo_of, ha
 abbrev pub HasBadSteps : List Row → Type 0
 HasBadSteps rows = (quantum_of (first_of (codes "quantum") rows) ≡ None) ⊎ (budget_of (first_of (codes "budget") rows) ≡ None)
 
--- a number of `run` is out of its form or range
+-- the width of stamps is none
+abbrev pub HasBadWidth : List Row → Type 0
+HasBadWidth rows = bits_of (first_of (codes "stamps") rows) ≡ None
+
+-- a number of `run` or `contexts` is out of its form or range
 abbrev pub HasBadNumber : List Row → Type 0
-HasBadNumber rows = (quantum_of (first_of (codes "quantum") rows) ≡ None)
-    ⊎ ((budget_of (first_of (codes "budget") rows) ≡ None) ⊎ (bits_of (first_of (codes "stamps") rows) ≡ None))
+HasBadNumber rows = HasBadSteps rows ⊎ HasBadWidth rows
 
 -- a number of `cache` is out of its form or range, or those of the cache make no shape
 abbrev pub HasBadCache : List Row → Type 0
 HasBadCache rows = HasBadSteps rows
     ⊎ ((sets : Text) × (ways : Text) × (line : Text) × (first_of (codes "sets") rows ≡ Some sets) × (first_of (codes "ways") rows ≡ Some ways)
     × (first_of (codes "line") rows ≡ Some line) × (shape_said (Some sets) (Some ways) (Some line) ≡ None))
-
--- the width of stamps is none
-abbrev pub HasBadWidth : List Row → Type 0
-HasBadWidth rows = bits_of (first_of (codes "stamps") rows) ≡ None
 
 -- the number of `demo` is there, and out of its form or range
 abbrev pub HasBadDemo : List Row → Type 0
@@ -36,7 +35,8 @@ IsFound found name Has = (rows : List Row) × (found ≡ Some (name, rows)) × H
 abbrev pub FailsByNumber : Option (Text × List Row) → Type 0
 FailsByNumber found = IsFound found (codes "run") HasBadNumber
     ⊎ (IsFound found (codes "trace") HasBadSteps
-    ⊎ (IsFound found (codes "cache") HasBadCache ⊎ (IsFound found (codes "replay") HasBadWidth ⊎ IsFound found (codes "demo") HasBadDemo)))
+    ⊎ (IsFound found (codes "cache") HasBadCache
+    ⊎ (IsFound found (codes "replay") HasBadWidth ⊎ (IsFound found (codes "contexts") HasBadNumber ⊎ IsFound found (codes "demo") HasBadDemo))))
 
 -- Words that are taken and have no zero byte are refused only for a number: the subcommand is there, with what it needs.
 abbrev pub TakenWordsFailByNumbers : Type 0

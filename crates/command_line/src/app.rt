@@ -2,7 +2,7 @@
 ghost use Rattle.std.specs.Prelude.{◌≡◌, IfOk, false, codes};
 ghost use Rattle.clap.specs.Words.{app_of, rule_of};
 ghost use Rattle.clap.specs.declared.builder.command.Command.TheViews.{out-Command};
-ghost use Rattle.command_line.specs.App.{the_app, top_app, run_app, demo_app, trace_app, cache_app, replay_app, flag_rule, output_rule, required_option, required_rule, value_rule, word_rule};
+ghost use Rattle.command_line.specs.App.{the_app, top_app, run_app, demo_app, trace_app, cache_app, replay_app, contexts_app, flag_rule, output_rule, required_option, required_rule, value_rule, word_rule};
 
 use clap::{Arg, ArgAction, Command};
 use std::alloc::{AllocError, Global};
@@ -126,6 +126,22 @@ fn replay_subcommand<'a>(alloc: Global) -> Result<Command<'a>, AllocError>
         .arg(required_value(alloc, "trace"))
 }
 
+// `contexts`, with its options, the image and the further words.
+fn contexts_subcommand<'a>(alloc: Global) -> Result<Command<'a>, AllocError>
+    ensures app { IfOk result (λ c. app_of c ≡ contexts_app) }
+    ensures local { IfOk result (λ c. (out-Command c).has_globals ≡ false) }
+{
+    Command::new(alloc, "contexts")
+        .arg(value_option(alloc, "stdin"))?
+        .arg(value_option(alloc, "quantum"))?
+        .arg(value_option(alloc, "schedule"))?
+        .arg(value_option(alloc, "budget"))?
+        .arg(value_option(alloc, "stamps"))?
+        .arg(output_option(alloc))?
+        .arg(required_value(alloc, "image"))?
+        .arg(further_words(alloc))
+}
+
 // `demo`, with its number.
 #[tactic(auto, unfolding(crate::specs::App::demo_app))]
 fn demo_subcommand<'a>(alloc: Global) -> Result<Command<'a>, AllocError>
@@ -157,5 +173,6 @@ pub(crate) fn whole_command<'a>(alloc: Global) -> Result<Command<'a>, AllocError
         .subcommand(demo_subcommand(alloc)?)?
         .subcommand(trace_subcommand(alloc)?)?
         .subcommand(cache_subcommand(alloc)?)?
-        .subcommand(replay_subcommand(alloc)?)
+        .subcommand(replay_subcommand(alloc)?)?
+        .subcommand(contexts_subcommand(alloc)?)
 }

@@ -7,6 +7,7 @@ ghost use Rattle.command_line.specs.Read.{IsInRange, asked_in};
 ghost use Rattle.command_line.specs.declared.commands.CommandError.TheVariants.{Memory, Refused};
 
 use crate::cache_command::{CacheCommand, cache_of_matches};
+use crate::contexts_command::{ContextsCommand, contexts_of_matches};
 use crate::matches::{matches_of_words, subcommand_of, text_of};
 use crate::numbers::number_between;
 use crate::replay_command::{ReplayCommand, replay_of_matches};
@@ -52,6 +53,8 @@ pub enum Command<'a> {
     Trace(TraceCommand<'a>),
     /// The cache misses of a guest's run.
     Cache(CacheCommand<'a>),
+    /// The calling contexts of a guest's run.
+    Contexts(ContextsCommand<'a>),
     /// The report of a stored trace.
     Replay(ReplayCommand<'a>),
     /// The demo of a number.
@@ -99,6 +102,9 @@ fn command_of<'a>(
     }
     if name == "cache" {
         return Ok(Command::Cache(cache_of_matches(alloc, matches)?));
+    }
+    if name == "contexts" {
+        return Ok(Command::Contexts(contexts_of_matches(alloc, matches)?));
     }
     if name == "replay" {
         let command = replay_of_matches(matches).ok_or(CommandError::Refused)?;

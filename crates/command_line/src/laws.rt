@@ -1,5 +1,5 @@
 //! Laws of the words, each the contract of a function with no body.
-ghost use Rattle.command_line.specs.Plain.{PlainCacheIsRead, PlainCacheIsTaken, PlainDemoIsRead, PlainDemoIsTaken, PlainOptionsAreRead, PlainReplayIsRead, PlainReplayIsTaken, PlainTraceIsRead, PlainTraceIsTaken, PlainWordsAreTaken};
+ghost use Rattle.command_line.specs.Plain.{PlainCacheIsRead, PlainCacheIsTaken, PlainContextsIsRead, PlainContextsIsTaken, PlainDemoIsRead, PlainDemoIsTaken, PlainOptionsAreRead, PlainReplayIsRead, PlainReplayIsTaken, PlainTraceIsRead, PlainTraceIsTaken, PlainWordsAreTaken};
 ghost use Rattle.command_line.specs.Taken.{TakenWordsFailByNumbers};
 
 /// Plain words are taken: any program name, each option at most once and `-o` among them, in any order, then the image and
@@ -33,6 +33,17 @@ pub fn plain_caches_are_taken()
 /// What is read of them: the values in the words, and the defaults for what is left out.
 pub fn plain_caches_are_read()
     ensures { PlainCacheIsRead }
+{}
+
+/// Plain words of `contexts` are taken: options that it has, each at most once and `-o` among them, then the image and any
+/// further words.
+pub fn plain_contexts_are_taken()
+    ensures { PlainContextsIsTaken }
+{}
+
+/// What is read of them: the values in the words, and the defaults for what is left out.
+pub fn plain_contexts_are_read()
+    ensures { PlainContextsIsRead }
 {}
 
 /// Plain words of `replay` are taken: options that it has, each at most once and `-o` among them, then the trace.

@@ -18,6 +18,9 @@ fn numbers_of(alloc: Global, words: &[String]) -> Result<Option<(u64, u64)>, All
         Ok(Command::Run(command)) => Ok(Some((command.guest.quantum, command.guest.budget))),
         Ok(Command::Trace(command)) => Ok(Some((command.guest.quantum, command.guest.budget))),
         Ok(Command::Cache(command)) => Ok(Some((command.guest.quantum, command.guest.budget))),
+        Ok(Command::Contexts(command)) => {
+            Ok(Some((command.guest.quantum, command.guest.budget)))
+        }
         Ok(Command::Replay(_)) => Ok(Some((0, 0))),
         Ok(Command::Demo(number)) => Ok(Some((0, u64::from(number)))),
         Err(CommandError::Refused) => Ok(None),
@@ -56,6 +59,10 @@ fn words_of_the_form_are_taken(rt: HostRuntime) -> Result<(), Fail> {
         (
             "aprof cache -o c --sets 65536 --budget 2 --ways 64 --line 4096 img",
             (10_000, 2),
+        ),
+        (
+            "aprof contexts -o c --stamps 8 img in --budget 3",
+            (10_000, 3),
         ),
         ("aprof replay -o r t", (0, 0)),
         ("aprof replay t --stats -o r --stamps 016", (0, 0)),
@@ -98,6 +105,8 @@ fn other_words_are_refused(rt: HostRuntime) -> Result<(), Fail> {
         "aprof cache --sets 1 --ways 1 --line 2 -o c img",
         "aprof cache --sets 1 --ways 1 -o c img",
         "aprof cache --sets 1 --ways 1 --line 64 --stats -o c img",
+        "aprof contexts --stats -o c img",
+        "aprof contexts --stamps 9 -o c img",
         "aprof replay t",
         "aprof replay -o r",
         "aprof replay -o r t u",
