@@ -56,7 +56,7 @@ seen_of fits options prepared =
 module _ (asked : Asked) (job : Job) (is_job : IsJob asked job)
     (fits : List Event → Bool) (left : Executable → Profiled → Outcome) (is_left : IsLeft job fits left)
     (files loaded : FilesState) (prepared : prepared_guest.Prepared) (all : IsPrepared job.guest files loaded prepared) (out err : SinkState) where
-  seen : Profiled
+  abbrev seen : Profiled
   seen = seen_of fits job.guest prepared
 
   left_is : left prepared.image seen ≡ job.leaves (loaded_of job.guest all.files) prepared.files.schedule
