@@ -4,7 +4,6 @@ use Rattle.std.specs.List.{AllByRecursion}
 use Rattle.std.proofs.Math.Seq.{take-length}
 use Rattle.guest_words.specs.declared.limits.TheConstants.{RUN_STEPS}
 use Rattle.trace_model.specs.declared.event_kinds.Event.{Event}
-use Rattle.trace_model.specs.Depth.{is_within}
 use Rattle.trace_model.specs.WellFormed.{IsLight, IsWellFormed}
 use Rattle.command_line.specs.Options.{GuestOptions, arguments, inputs}
 use Rattle.elf_image.specs.Image.{Executable}
@@ -22,8 +21,6 @@ use Rattle.guest_run.proofs.Formed.{every_run_formed}
 use Rattle.guest_run.proofs.Weights.{every_run_light}
 use Rattle.host_io.specs.Files.{FilesState}
 use Rattle.host_io.specs.Sink.{SinkState, appended}
-use Rattle.stamps.specs.declared.width.StampBits.{StampBits}
-use Rattle.stamps.specs.Widths.{greatest}
 use Rattle.thread_sched.specs.declared.entry.Entry.{Entry}
 use Rattle.thread_sched.specs.ScheduleText.{IsBadLine, IsEntry, IsText}
 use Rattle.aprof_top.specs.declared.ending.Ending as declared
@@ -36,7 +33,7 @@ use Rattle.aprof_top.specs.Delivery.{FailsWithin, PutsOutput}
 use Rattle.aprof_top.specs.Loads.{Loaded, with_inputs}
 use Rattle.aprof_top.specs.Outcome.{ByImage, IsRun, IsScheduled, Job, Outcome, begun_outcome, refusal}
 use Rattle.aprof_top.specs.Outside.{AreFiles, Outside, outside}
-use Rattle.aprof_top.specs.Run.{first_state, observed_from, run_of}
+use Rattle.aprof_top.specs.Run.{first_state, observed_from}
 use Rattle.aprof_top.specs.Schedules.Reading.{BadLine, Turns}
 use Rattle.aprof_top.specs.Verdicts.{IsOfRun}
 use Rattle.aprof_top.proofs.Lines.{IsCounted, observed_counted}
@@ -81,9 +78,6 @@ unfolding first_state
 seen_by fits options loaded turns image files stdin is files_are stdin_is =
     ap (λ i. observed_from fits options turns i.entry (start i (arguments options) files stdin)) is
     ∙ ap₂ (λ f s. observed_from fits options turns (image_of loaded.image).entry (start (image_of loaded.image) (arguments options) f s)) files_are stdin_is
-
-pub seen_run : (bits : StampBits) (options : GuestOptions) (loaded : Loaded) (turns : List Entry) (image : Executable) (files : List Input) (stdin : List ℕ) → image ≡ image_of loaded.image → files ≡ with_inputs [] (inputs options) loaded.inputs → stdin ≡ loaded.stdin → observed_from (is_within (greatest bits)) options turns image.entry (start image (arguments options) files stdin) ≡ run_of bits options loaded turns
-seen_run bits options loaded turns image files stdin is files_are stdin_is = seen_by (is_within (greatest bits)) options loaded turns image files stdin is files_are stdin_is
 
 -- a refusal is handed out by nothing
 handed_refusal : (job : Job) (loaded : Loaded) (v : Verdict) (o : Outside) → IsRun job loaded (refusal v) → FilesRun job loaded o o (ending.Decided v)

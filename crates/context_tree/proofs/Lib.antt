@@ -1,1 +1,2 @@
 pub mod Numbering
+mod Places

@@ -1,5 +1,5 @@
 -- What is kept of a run's trace. A past is the list of the events so far, the newest first.
-use Rattle.std.specs.Prelude.{◌≡◌, ℕ, ◌<◌, true, List, ◌++◌, length, Option, Some, None}
+use Rattle.std.specs.Prelude.{◌≡◌, ℕ, ◌<◌, ◌≤◌, true, List, ◌++◌, length, Option, Some, None}
 use Rattle.std.specs.Option.{option_to_list}
 use Rattle.cost_points.specs.Keys.{insert_rising}
 use Rattle.call_tracker.specs.CallStacks.{StandsFor, Stacks}
@@ -63,10 +63,10 @@ pub record IsTraceOfFormed (kept : Kept) : Type 0 where
   pub now : IsTraceOf kept past
   pub formed : IsWellFormed past
 
--- nothing is still to come
+-- nothing is still to come, and the text is no longer than the limit
 abbrev pub AreSettled : Option Written → Type 0
 AreSettled None = Unit {0}
-AreSettled (Some w) = (w.next ≡ None) × (w.entry ≡ None)
+AreSettled (Some w) = (w.next ≡ None) × (w.entry ≡ None) × (length w.text ≤ TRACE_BYTES)
 
 abbrev pub IsSettled : Kept → Type 0
 IsSettled kept = AreSettled kept.written

@@ -1,5 +1,5 @@
 //! The trace of a run that goes on.
-ghost use Rattle.std.specs.Prelude.{◌≡◌, ◌↔◌, ◌+◌, ◌<◌, ◌^◌, ◌∷◌, [], true, false, not, List, IfOk, IsTrue, OnOk, MatchOption};
+ghost use Rattle.std.specs.Prelude.{◌≡◌, ◌↔◌, ◌+◌, ◌<◌, ◌≤◌, ◌^◌, ◌∷◌, [], true, false, not, List, length, IfOk, IfSome, IsTrue, OnOk, MatchOption};
 ghost use Rattle.trace_model.specs.declared.event_kinds.Event.{Event};
 ghost use Rattle.trace_model.specs.Depth.{is_within};
 ghost use Rattle.trace_file.specs.TraceText.{IsTextOf};
@@ -76,8 +76,9 @@ impl RunTrace {
     /// The text of the events and the entries of the activations that began; `None` where the text is longer than the limit.
     pub fn into_text(self) -> Result<Option<EventText>, AllocError>
         requires { IsTraceOfFormed self }
-        ensures { IfOk result (λ found. (past : List Event) → IsTraceOf self past
+        ensures text { IfOk result (λ found. (past : List Event) → IsTraceOf self past
             → MatchOption found (IsTooLong past) (λ text. IsTextOf text.writer past × (text.entries.keys ≡ entries_begun past))) }
+        ensures within { IfOk result (λ found. IfSome found (λ text. length text.writer ≤ TRACE_BYTES)) }
     {
         let mut trace = self;
         trace.settle()?;

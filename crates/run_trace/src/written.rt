@@ -113,6 +113,7 @@ impl Written {
     pub(crate) fn into_text(self) -> EventText
         requires written { self.next ≡ None }
         requires added { self.entry ≡ None }
+        ensures same { result.writer ≡ self.text }
         ensures text { (past : List Event) → IsWrittenOf self past → IsTextOf result.writer past }
         ensures entries { (past : List Event) → IsWrittenOf self past → result.entries.keys ≡ entries_begun past }
     {
