@@ -35,14 +35,14 @@ same_front xs ys x y is =
 not_none : (xs : List ℕ) (x : ℕ) → [] ≢ xs ++ x ∷ []
 not_none xs x is = let short : length (xs ++ x ∷ []) ≡ 0 = ap length (sym is) in absurd (omega (arith, short, length-append xs (x ∷ [])))
 
-same_told : (xs ys : List ℕ) → xs ≡ ys → pointwise nat_eq xs ys ≡ true
+pub same_told : (xs ys : List ℕ) → xs ≡ ys → pointwise nat_eq xs ys ≡ true
 same_told xs ys is = by (pointwise nat_eq xs ys) refl
   where
     by : (b : Bool) → b ≡ pointwise nat_eq xs ys → pointwise nat_eq xs ys ≡ true
     by true told = sym told
     by false told = absurd ((told_text xs ys false told) is)
 
-other_told : (xs ys : List ℕ) → xs ≢ ys → pointwise nat_eq xs ys ≡ false
+pub other_told : (xs ys : List ℕ) → xs ≢ ys → pointwise nat_eq xs ys ≡ false
 other_told xs ys other = by (pointwise nat_eq xs ys) refl
   where
     by : (b : Bool) → b ≡ pointwise nat_eq xs ys → pointwise nat_eq xs ys ≡ false

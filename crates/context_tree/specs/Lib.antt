@@ -2,3 +2,4 @@ pub mod Contexts
 pub mod Numbers
 pub mod Order
 pub mod Points
+pub mod Ways

@@ -3,6 +3,7 @@
 
 mod errors;
 mod numbers;
+mod points;
 
 pub use errors::TreeError;
 pub use numbers::ContextNumbers;

@@ -1,5 +1,5 @@
 //! Contexts by number.
-ghost use Rattle.std.specs.Prelude.{◌≡◌, ◌<◌, ◌≤◌, ◌++◌, ◌∷◌, [], ℕ, List, length, Err, IfOk, OnErr, OnOk};
+ghost use Rattle.std.specs.Prelude.{◌≡◌, ◌<◌, ◌≤◌, ◌-◌, ◌++◌, ◌∷◌, [], ℕ, List, length, slice_index_or, Err, IfOk, OnErr, OnOk};
 ghost use Rattle.context_tree.specs.Contexts.{with_context};
 ghost use Rattle.context_tree.specs.declared.errors.TreeError.{TreeError};
 ghost use Rattle.context_tree.specs.Numbers.{IsBeyond, IsNumberOf, StandsFor, numbered};
@@ -53,6 +53,7 @@ impl ContextNumbers {
     pub fn place(&self, n: u32) -> (u32, Addr)
         requires some { 1 ≤ n }
         requires within { n ≤ length self.now }
+        ensures here { result ≡ slice_index_or self.now (n - 1) (0, 0) }
         ensures above { (contexts : List (List ℕ)) → StandsFor self.now contexts → result.0 < n }
         ensures context { (contexts : List (List ℕ)) → StandsFor self.now contexts
             → numbered contexts n ≡ numbered contexts result.0 ++ result.1 ∷ [] }
