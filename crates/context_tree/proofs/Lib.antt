@@ -1,2 +1,5 @@
 pub mod Numbering
 pub mod Climbing
+pub mod Known
+pub mod Following
+pub mod Rooms

@@ -1,6 +1,6 @@
 -- A context is found by the number of the one above it and its last entry.
 use Rattle.std.proofs.Common.{◌≡◌, ◌≢◌, ℕ, zero, suc, ◌+◌, ◌-◌, ◌<◌, ◌≤◌, Bool, true, false, cond, ◌⊎◌, inl, inr, List, [], ◌∷◌, ◌++◌, length, get_or, reverse, refl, sym, ap, ap₂, ◌∙◌, subst, arith, length-append}
-use Rattle.std.specs.Prelude.{◌&&◌, nat_eq, slice_get, slice_index_or, Option, Some, Result, Ok, Err, OnOk, IfOk}
+use Rattle.std.specs.Prelude.{◌&&◌, nat_eq, slice_get, Some, Result, Ok, Err, OnOk, IfOk}
 use Rattle.std.specs.Cmp.Lexicographic.{pointwise, told_text}
 use Rattle.std.specs.List.{list_any, position_or_len}
 use Rattle.std.proofs.lemmas.Bool.{cases_lt}
@@ -28,11 +28,11 @@ turned xs x = reverse-append xs (x ∷ [])
 same_last : (xs ys : List ℕ) (x y : ℕ) → xs ++ x ∷ [] ≡ ys ++ y ∷ [] → x ≡ y
 same_last xs ys x y is = ap first_or (sym (turned xs x) ∙ ap reverse is ∙ turned ys y)
 
-same_front : (xs ys : List ℕ) (x y : ℕ) → xs ++ x ∷ [] ≡ ys ++ y ∷ [] → xs ≡ ys
+pub same_front : (xs ys : List ℕ) (x y : ℕ) → xs ++ x ∷ [] ≡ ys ++ y ∷ [] → xs ≡ ys
 same_front xs ys x y is =
     sym (reverse-reverse xs) ∙ ap (λ zs. reverse (rest_of zs)) (sym (turned xs x) ∙ ap reverse is ∙ turned ys y) ∙ reverse-reverse ys
 
-not_none : (xs : List ℕ) (x : ℕ) → [] ≢ xs ++ x ∷ []
+pub not_none : (xs : List ℕ) (x : ℕ) → [] ≢ xs ++ x ∷ []
 not_none xs x is = let short : length (xs ++ x ∷ []) ≡ 0 = ap length (sym is) in absurd (omega (arith, short, length-append xs (x ∷ [])))
 
 pub same_told : (xs ys : List ℕ) → xs ≡ ys → pointwise nat_eq xs ys ≡ true

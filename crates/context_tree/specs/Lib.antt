@@ -3,3 +3,4 @@ pub mod Numbers
 pub mod Order
 pub mod Points
 pub mod Ways
+pub mod Trees

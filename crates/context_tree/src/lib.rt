@@ -4,9 +4,11 @@
 mod errors;
 mod numbers;
 mod points;
+mod tree;
 
 pub use errors::TreeError;
 pub use numbers::ContextNumbers;
+pub use tree::Tree;
 
 #[cfg(test)]
 mod tests;

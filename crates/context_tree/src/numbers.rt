@@ -1,5 +1,5 @@
 //! Contexts by number.
-ghost use Rattle.std.specs.Prelude.{◌≡◌, ◌<◌, ◌≤◌, ◌-◌, ◌++◌, ◌∷◌, [], ℕ, List, length, slice_index_or, Err, IfOk, OnErr, OnOk};
+ghost use Rattle.std.specs.Prelude.{◌≡◌, ◌<◌, ◌≤◌, ◌-◌, ◌++◌, ◌∷◌, [], ℕ, List, length, slice_index_or, true, Err, IfOk, OnErr, OnOk};
 ghost use Rattle.context_tree.specs.Contexts.{with_context};
 ghost use Rattle.context_tree.specs.declared.errors.TreeError.{TreeError};
 ghost use Rattle.context_tree.specs.Numbers.{IsBeyond, IsNumberOf, StandsFor, numbered};
@@ -59,6 +59,17 @@ impl ContextNumbers {
             → numbered contexts n ≡ numbered contexts result.0 ++ result.1 ∷ [] }
     {
         *self.places.get_index(n as usize - 1).unwrap()
+    }
+
+    /// Whether the context that has this entry right under the context `above` is not there, and can have no number.
+    pub fn is_beyond(&self, above: u32, entry: Addr) -> bool
+        requires { above ≤ length self.now }
+        ensures yes { (contexts : List (List ℕ)) → StandsFor self.now contexts
+            → result ≡ true → IsBeyond contexts (numbered contexts above ++ entry ∷ []) }
+        ensures no { (contexts : List (List ℕ)) → StandsFor self.now contexts
+            → IsBeyond contexts (numbered contexts above ++ entry ∷ []) → result ≡ true }
+    {
+        self.places.len() >= CONTEXTS && !self.places.contains(&(above, entry))
     }
 
     /// The number of the context that has this entry right under the context `above`. Where it is not there it comes last. A

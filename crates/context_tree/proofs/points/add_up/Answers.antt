@@ -1,6 +1,6 @@
-use Rattle.std.proofs.Common.{◌≡◌, ◌∙◌, ◌≤◌, ◌+◌, ◌-◌, arith, ℕ, length, List, ap, sym, refl}
+use Rattle.std.proofs.Common.{◌∙◌, ◌-◌, ℕ, length, ap, refl}
 use Rattle.std.proofs.lemmas.List.{length-set}
-use Rattle.context_tree.proofs.Climbing.{are_points, below_more, has_room, next_up, points_more, some_there, still_within}
+use Rattle.context_tree.proofs.Climbing.{are_points, below_more, next_up, points_more}
 use Rattle.context_tree.proofs.points.add_up.Goals as goal
 
 pub add-requires-clause-points : goal.add-requires-clause-points

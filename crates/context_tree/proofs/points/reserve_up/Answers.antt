@@ -1,6 +1,5 @@
-use Rattle.std.proofs.Common.{◌≡◌, ◌∙◌, ◌≤◌, ◌+◌, ◌-◌, arith, ℕ, length, List, ap, sym}
+use Rattle.std.proofs.Common.{◌∙◌, ◌-◌, arith, ℕ, ap}
 use Rattle.std.proofs.lemmas.List.{length-set}
-use Rattle.std.proofs.lemmas.Result.{err_from_is_err_and}
 use Rattle.context_tree.proofs.Climbing.{lists_kept, next_up, some_there, spare_more, still_within}
 use Rattle.context_tree.proofs.points.reserve_up.Goals as goal
 

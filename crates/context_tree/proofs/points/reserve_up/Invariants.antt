@@ -1,4 +1,4 @@
-use Rattle.std.proofs.Common.{◌≡◌, ℕ, length}
+use Rattle.std.proofs.Common.{◌≡◌, length}
 use Rattle.context_tree.specs.Ways.{HasSpare, lists, up}
 use Rattle.context_tree.proofs.points.reserve_up.Given as goal
 
