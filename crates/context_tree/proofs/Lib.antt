@@ -3,3 +3,4 @@ pub mod Climbing
 pub mod Known
 pub mod Following
 pub mod Rooms
+pub mod Reordered
