@@ -29,8 +29,12 @@ use Rattle.context_tree.proofs.Numbering.{none_stand, not_none, same_front}
 use Rattle.context_tree.proofs.Rooms.{rooms}
 
 -- ---- contexts of activations
-context_more : (a : Activation) (calls : List Activation) → context_of (a ∷ calls) ≡ context_of calls ++ a.entry ∷ []
+pub context_more : (a : Activation) (calls : List Activation) → context_of (a ∷ calls) ≡ context_of calls ++ a.entry ∷ []
 context_more a calls = reverse-append (a.entry ∷ []) (map (λ (b : Activation). b.entry) calls)
+
+pub shifted : {X : Type 0} (f : ℕ → X) (i m : ℕ) → map f (range_with_len (i + 1) m) ≡ map (λ k. f (suc k)) (range_with_len i m)
+shifted f i zero = refl
+shifted f i (suc m) = ap₂ (λ x xs. x ∷ xs) (ap f (omega arith)) (shifted f (i + 1) m)
 
 module _ (places : List (ℕ × ℕ)) (known : List (List ℕ)) (stands : by_number.StandsFor places known) where
   -- the one above, by number
@@ -70,10 +74,6 @@ module _ (places : List (ℕ × ℕ)) (known : List (List ℕ)) (stands : by_num
         let here = up_is n calls within is k (omega (arith, lt, le)) in
         (up_in (up places n k) (drop k calls) (omega (arith, lt, le, length-drop k calls)) here.within here.is).0;
   }
-
-  shifted : {X : Type 0} (f : ℕ → X) (i m : ℕ) → map f (range_with_len (i + 1) m) ≡ map (λ k. f (suc k)) (range_with_len i m)
-  shifted f i zero = refl
-  shifted f i (suc m) = ap₂ (λ x xs. x ∷ xs) (ap f (omega arith)) (shifted f (i + 1) m)
 
   -- the members on the way are the activations with their contexts
   pub tagged_is : (ds : List Done) (n : ℕ) (calls : List Activation) → length ds ≤ length calls → n ≤ length known → numbered known n ≡ context_of calls →

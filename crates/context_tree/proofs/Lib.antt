@@ -4,3 +4,4 @@ pub mod Known
 pub mod Following
 pub mod Rooms
 pub mod Reordered
+pub mod Summing

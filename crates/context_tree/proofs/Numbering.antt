@@ -25,7 +25,7 @@ rest_of (x ∷ xs) = xs
 turned : (xs : List ℕ) (x : ℕ) → reverse (xs ++ x ∷ []) ≡ x ∷ reverse xs
 turned xs x = reverse-append xs (x ∷ [])
 
-same_last : (xs ys : List ℕ) (x y : ℕ) → xs ++ x ∷ [] ≡ ys ++ y ∷ [] → x ≡ y
+pub same_last : (xs ys : List ℕ) (x y : ℕ) → xs ++ x ∷ [] ≡ ys ++ y ∷ [] → x ≡ y
 same_last xs ys x y is = ap first_or (sym (turned xs x) ∙ ap reverse is ∙ turned ys y)
 
 pub same_front : (xs ys : List ℕ) (x y : ℕ) → xs ++ x ∷ [] ≡ ys ++ y ∷ [] → xs ≡ ys

@@ -1,16 +1,16 @@
 -- The points of activations do not depend on the order in which these are told, so they may be told part by part.
-use Rattle.std.proofs.Common.{◌≡◌, ℕ, zero, suc, ◌+◌, ◌<◌, ◌≤◌, min, max, Bool, true, false, cond, List, [], ◌∷◌, ◌++◌, length, get_or, map, sum, refl, sym, ap, ap₂, ◌∙◌, subst, arith, append_assoc, length-append}
+use Rattle.std.proofs.Common.{◌≡◌, ℕ, suc, ◌<◌, min, max, Bool, true, false, cond, List, [], ◌∷◌, ◌++◌, length, get_or, map, sum, refl, sym, ap, ap₂, ◌∙◌, arith, append_assoc, length-append}
 use Rattle.std.specs.Prelude.{◌==◌, ◌||◌, Some}
-use Rattle.std.specs.List.{All, count_by, filter, flat_map, fold, list_any, sum_by}
+use Rattle.std.specs.List.{All, filter, flat_map, fold, list_any, sum_by}
 use Rattle.std.proofs.lemmas.List.{map-append}
 use Rattle.std.proofs.lemmas.List.Elements.{All-head, All-tail, filter-append}
 use Rattle.std.proofs.lemmas.List.Sums.{sum_by-append}
 use Rattle.trace_model.specs.declared.slow_profile.Done.{Done}
 use Rattle.cost_points.specs.declared.point.Point.{Point}
 use Rattle.cost_points.specs.declared.point.Split.{Split}
-use Rattle.cost_points.specs.Contents.{TableContents, contents_of}
+use Rattle.cost_points.specs.Contents.{contents_of}
 use Rattle.cost_points.specs.Keys.{grouped, insert_rising, rising}
-use Rattle.cost_points.specs.Points.{Routine, greatest_of, least_of, point_of, points, routine_of, split_of}
+use Rattle.cost_points.specs.Points.{Routine, greatest_of, least_of, point_of, routine_of, split_of}
 use Rattle.cost_points.proofs.Rising.{insert_comm}
 
 -- ---- two neighbours change places

@@ -6,7 +6,7 @@ use Rattle.trace_model.specs.declared.event_kinds.Event.{Event}
 use Rattle.trace_model.specs.declared.slow_profile.Done.{Done}
 use Rattle.trace_model.specs.Activations.{open_calls}
 use Rattle.trace_model.specs.Profile.{ended}
-use Rattle.trace_model.specs.WellFormed.{IsWellFormed, greatest_start, is_live}
+use Rattle.trace_model.specs.WellFormed.{IsLight, IsWellFormed, greatest_start, is_live}
 use Rattle.cost_points.specs.declared.point.Point.{Point}
 use Rattle.context_tree.specs.Contexts.{context_begun, context_of, contexts}
 use Rattle.context_tree.specs.Numbers.{IsBeyond, IsNumberOf}
@@ -39,6 +39,12 @@ pub record MayApply (kept : Kept) (e : Event) (ends : List Done) : Type 0 where
   pub now : StandsFor kept past
   pub formed : IsWellFormed (e ∷ past)
   pub ends_are : ends ≡ ended e past
+
+-- It is what is kept of a past that is light.
+pub record IsOfLight (kept : Kept) : Type 0 where
+  pub past : List Event
+  pub now : StandsFor kept past
+  pub light : IsLight past
 
 -- The event begins a context that is not there, where there are as many as can be numbered.
 abbrev pub HasTooMany : Event → List Event → Type 0

@@ -4,6 +4,7 @@
 mod errors;
 mod numbers;
 mod points;
+mod sums;
 mod tree;
 
 pub use errors::TreeError;

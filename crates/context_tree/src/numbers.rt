@@ -44,7 +44,8 @@ impl ContextNumbers {
 
     /// How many contexts there are, without the one with no entry.
     pub fn len(&self) -> usize
-        ensures { result ≡ length self.now }
+        ensures value { result ≡ length self.now }
+        ensures bound { result ≤ CONTEXTS }
     {
         self.places.len()
     }

@@ -4,16 +4,19 @@ ghost use Rattle.std.specs.List.{list_any};
 ghost use Rattle.guest_words.specs.ByThread.{numbers, value_of};
 ghost use Rattle.trace_model.specs.declared.event_kinds.Event.{Event};
 ghost use Rattle.trace_model.specs.declared.event_kinds.Event.TheVariants.{Call, End, Ret, Start};
-ghost use Rattle.trace_model.specs.Profile.{ended};
+ghost use Rattle.trace_model.specs.Profile.{done, ended};
+ghost use Rattle.cost_points.specs.Contents.{contents_of};
 ghost use Rattle.context_tree.specs.declared.errors.TreeError.{TreeError};
 ghost use Rattle.context_tree.specs.Contexts.{same, with_context};
 ghost use Rattle.context_tree.specs.Numbers.{IsBeyond, IsNumberOf, numbered};
 ghost use Rattle.context_tree.specs.Numbers as by_number;
-ghost use Rattle.context_tree.specs.Trees.{HasTooMany, MayApply, StandsFor, current_of, with_list};
+ghost use Rattle.context_tree.specs.Trees.{HasTooMany, IsOfLight, MayApply, StandsFor, current_of, with_list};
 ghost use Rattle.context_tree.specs.Ways.{ArePoints, IsWay, lists};
 
 use crate::points::{ContextPoints, add_up, reserve_up};
+use crate::sums::add_points;
 use crate::{ContextNumbers, TreeError};
+use cost_points::Table;
 use guest_words::{Addr, ByThread, Tid};
 use std::alloc::{AllocError, Global};
 use std::marker::Model;
@@ -102,6 +105,19 @@ impl Tree {
             Event::End { tid } => Ok(self.end(tid, ends)?),
             _ => Ok(()),
         }
+    }
+
+    /// The points of all contexts together, by routine: those of all activations that ended.
+    pub fn totals(&self, alloc: Global) -> Result<Table, AllocError>
+        requires { IsOfLight self.now }
+        ensures { (past : List Event) → StandsFor self.now past → IfOk result (λ table. table ≡ contents_of (done past)) }
+    {
+        let mut table = Table::new(alloc)?;
+        for i in 0..self.numbers.len() {
+            let (_, entry) = self.numbers.place(i as u32 + 1);
+            add_points(&mut table, entry, self.points[i].list())?;
+        }
+        Ok(table)
     }
 
     // The number of the context that the thread is in.
