@@ -19,12 +19,14 @@ use Rattle.trace_model.specs.WellFormed.{IsLight, IsRunning, MayFollow, greatest
 use Rattle.cost_points.specs.declared.point.Point.{Point}
 use Rattle.cost_points.specs.Keys.{grouped}
 use Rattle.context_tree.specs.Contexts.{context_of, contexts, same, with_context}
+use Rattle.context_tree.specs.Links.{IsLinked, no_links}
 use Rattle.context_tree.specs.Numbers.{IsBeyond, IsNumberOf, numbered}
 use Rattle.context_tree.specs.Numbers as by_number
 use Rattle.context_tree.specs.Points.{done_in_context, points_from, points_in, points_of}
 use Rattle.context_tree.specs.Trees.{Kept, StandsFor, current_of, with_list}
 use Rattle.context_tree.specs.Ways.{ArePoints, IsWay, above_of, tagged, up}
 use Rattle.context_tree.proofs.Known.{done_known, no_members}
+use Rattle.context_tree.proofs.Linking.{linked_none}
 use Rattle.context_tree.proofs.Numbering.{none_stand, not_none, same_front}
 use Rattle.context_tree.proofs.Rooms.{rooms}
 
@@ -156,12 +158,13 @@ module _ (old new : Kept) (past : List Event) (e : Event) (tid n : ℕ) (a : Act
   grown : contexts (e ∷ past) ≡ with_context (contexts past) (numbered (contexts past) (current_of old tid) ++ a.entry ∷ [])
   grown = begins ∙ ap (with_context (contexts past)) own_context
 
-  pub stands-begun : by_number.StandsFor new.places (with_context (contexts past) (numbered (contexts past) (current_of old tid) ++ a.entry ∷ [])) →
+  pub stands-begun : IsLinked new.places new.links → by_number.StandsFor new.places (with_context (contexts past) (numbered (contexts past) (current_of old tid) ++ a.entry ∷ [])) →
       new.points ≡ with_list (list_any (same (numbered (contexts past) (current_of old tid) ++ a.entry ∷ [])) (contexts past)) old.points →
       IsNumberOf (with_context (contexts past) (numbered (contexts past) (current_of old tid) ++ a.entry ∷ [])) n (numbered (contexts past) (current_of old tid) ++ a.entry ∷ []) →
       ((t : ℕ) → value_of new.threads t ≡ cond (tid == t) (Some n) (value_of old.threads t)) →
       ((t : ℕ) → is_some (value_of new.threads t) ≡ is_live (e ∷ past) t) → All (λ n. n ≤ greatest_start (e ∷ past)) (numbers new.threads) → StandsFor new (e ∷ past)
-  stands-begun places points number reads live began = record {
+  stands-begun linked places points number reads live began = record {
+    links_are = linked;
     contexts_are = subst (by_number.StandsFor new.places) (sym grown) places;
     points_are =
         points ∙ ap (with_list (list_any (same context) (contexts past))) stands.points_are ∙ points_grown past context (list_any (same context) (contexts past)) refl
@@ -192,13 +195,14 @@ module _ (old new : Kept) (past : List Event) (e : Event) (tid count : ℕ) (ds 
       ∙ ap (λ m. zip (map (λ k. context_of (drop k (open_calls past tid))) (range_with_len 0 m)) ds) long)
       ∙ ap₂ (λ all cs. map (points_of all) cs) (sym more) (sym same_contexts)
 
-  pub stands-ended : (v : Option ℕ) → by_number.StandsFor new.places (contexts past) →
+  pub stands-ended : (v : Option ℕ) → IsLinked new.places new.links → by_number.StandsFor new.places (contexts past) →
       new.points ≡ map (points_of (done_in_context past ++ tagged old.places (contexts past) (current_of old tid) ds)) (contexts past) →
       ((t : ℕ) → value_of new.threads t ≡ cond (tid == t) v (value_of old.threads t)) →
       IsNumberOf (contexts past) (number_or_none v) (context_of (open_calls (e ∷ past) tid)) →
       ((t : ℕ) → (tid == t) ≡ false → open_calls (e ∷ past) t ≡ open_calls past t) →
       ((t : ℕ) → is_some (value_of new.threads t) ≡ is_live (e ∷ past) t) → All (λ n. n ≤ greatest_start (e ∷ past)) (numbers new.threads) → StandsFor new (e ∷ past)
-  stands-ended v places points reads own others live began = record {
+  stands-ended v linked places points reads own others live began = record {
+    links_are = linked;
     contexts_are = subst (by_number.StandsFor new.places) (sym same_contexts) places;
     points_are = points_ended points;
     threads_live = live;
@@ -211,6 +215,7 @@ module _ (old new : Kept) (past : List Event) (e : Event) (tid count : ℕ) (ds 
 -- ---- each kind of event
 -- what the begin of a context right under another comes to
 pub record HasBegun (old new : Kept) (known : List (List ℕ)) (above entry n : ℕ) : Type 0 where
+  pub linked : IsLinked new.places new.links
   pub places : by_number.StandsFor new.places (with_context known (numbered known above ++ entry ∷ []))
   pub points : new.points ≡ with_list (list_any (same (numbered known above ++ entry ∷ [])) known) old.points
   pub number : IsNumberOf (with_context known (numbered known above ++ entry ∷ [])) n (numbered known above ++ entry ∷ [])
@@ -231,7 +236,7 @@ module _ (old new : Kept) (past : List Event) (tid entry n : ℕ) (above : All (
   pub stands-start : new.threads ≡ old.threads ++ (tid, n) ∷ [] → HasBegun old new (contexts past) 0 entry n → StandsFor new (Start tid entry ∷ past)
   stands-start threads first =
       let begun : HasBegun old new (contexts past) (current_of old tid) entry n = subst (λ m. HasBegun old new (contexts past) m entry n) (sym (first_number old tid above)) first in
-      stands-begun old new past (Start tid entry) tid n (record { at = length past; entry = entry; back = None }) stands (λ t. refl) refl (nothing_more past) begun.places begun.points begun.number reads
+      stands-begun old new past (Start tid entry) tid n (record { at = length past; entry = entry; back = None }) stands (λ t. refl) refl (nothing_more past) begun.linked begun.places begun.points begun.number reads
       (λ t. ap is_some (reads t) ∙ live t (tid == t) refl)
       (All-same (λ n. n ≤ max tid (greatest_start past)) (numbers new.threads) (numbers old.threads ++ tid ∷ [])
       (ap numbers threads ∙ map-append (λ x. x.0) old.threads ((tid, n) ∷ []))
@@ -272,14 +277,18 @@ pub stands-call : (old new : Kept) (past : List Event) (tid entry back above n :
     HasBegun old new (contexts past) above entry n → StandsFor new (Call tid entry back ∷ past)
 stands-call old new past tid entry back above n at lives threads stands there =
     let begun : HasBegun old new (contexts past) (current_of old tid) entry n = subst (λ m. HasBegun old new (contexts past) m entry n) at there in
-    stands-begun old new past (Call tid entry back) tid n (record { at = length past; entry = entry; back = Some back }) stands (λ t. refl) refl (nothing_more past) begun.places begun.points begun.number
+    stands-begun old new past (Call tid entry back) tid n (record { at = length past; entry = entry; back = Some back }) stands (λ t. refl) refl (nothing_more past) begun.linked begun.places begun.points begun.number
     (reads_changed old new past tid n lives threads stands) (still_live old new past tid n lives threads stands) (still_began old new past tid n lives threads stands)
 
 -- what the end of activations of the context of a number and those above it comes to
 pub record HaveEnded (old new : Kept) (from : ℕ) (ds : List Done) : Type 0 where
   pub places : new.places ≡ old.places
+  pub links : new.links ≡ old.links
   pub points : (known : List (List ℕ)) (members : List (List ℕ × Done)) → by_number.StandsFor old.places known → old.points ≡ map (points_of members) known →
       new.points ≡ map (points_of (members ++ tagged old.places known from ds)) known
+
+still_linked : (old new : Kept) → {past : List Event} → StandsFor old past → new.places ≡ old.places → new.links ≡ old.links → IsLinked new.places new.links
+still_linked old new stands places links = subst (λ ps. IsLinked ps new.links) (sym places) (subst (λ ls. IsLinked old.places ls) (sym links) stands.links_are)
 
 pub stands-return : (old new : Kept) (past : List Event) (tid target n : ℕ) (ds : List Done) → is_some (value_of old.threads tid) ≡ true → new.threads ≡ with_value old.threads tid n →
     n ≡ up old.places (current_of old tid) (length ds) → ds ≡ ended (Ret tid target) past → StandsFor old past → HaveEnded old new (current_of old tid) ds → StandsFor new (Ret tid target ∷ past)
@@ -292,7 +301,7 @@ stands-return old new past tid target n ds lives threads up_to are stands ends =
     let here = up_is old.places (contexts past) stands.contexts_are (current_of old tid) (open_calls past tid) (stands.threads_in tid).within (stands.threads_in tid).there (length ds) (omega (arith, long)) in
     stands-ended old new past (Ret tid target) tid (count_ending (Ret tid target) tid (backs (open_calls past tid))) ds stands are refl
     (ap (λ xs. done_in_context past ++ zip (map (λ k. context_of (drop k (open_calls past tid))) (range_with_len 0 (length (take (count_ending (Ret tid target) tid (backs (open_calls past tid))) (open_calls past tid))))) xs) (sym are))
-    (Some n) (subst (λ ps. by_number.StandsFor ps (contexts past)) (sym ends.places) stands.contexts_are) (ends.points (contexts past) (done_in_context past) stands.contexts_are stands.points_are)
+    (Some n) (still_linked old new stands ends.places ends.links) (subst (λ ps. by_number.StandsFor ps (contexts past)) (sym ends.places) stands.contexts_are) (ends.points (contexts past) (done_in_context past) stands.contexts_are stands.points_are)
     (reads_changed old new past tid n lives threads stands)
     (record {
       within = subst (λ m. m ≤ length (contexts past)) (sym up_to) here.within;
@@ -310,7 +319,7 @@ pub stands-end : (old new : Kept) (past : List Event) (tid : ℕ) (ds : List Don
 stands-end old new past tid ds threads are stands ends =
     stands-ended old new past (End tid) tid (count_ending (End tid) tid (backs (open_calls past tid))) ds stands are refl
     (ap (λ xs. done_in_context past ++ zip (map (λ k. context_of (drop k (open_calls past tid))) (range_with_len 0 (length (take (count_ending (End tid) tid (backs (open_calls past tid))) (open_calls past tid))))) xs) (sym are))
-    None (subst (λ ps. by_number.StandsFor ps (contexts past)) (sym ends.places) stands.contexts_are) (ends.points (contexts past) (done_in_context past) stands.contexts_are stands.points_are)
+    None (still_linked old new stands ends.places ends.links) (subst (λ ps. by_number.StandsFor ps (contexts past)) (sym ends.places) stands.contexts_are) (ends.points (contexts past) (done_in_context past) stands.contexts_are stands.points_are)
     reads
     (record { within = omega arith; there = sym (ap context_of all_ended) })
     (λ t isnt. ap (λ b. drop (cond b (length (backs (open_calls past t))) 0) (open_calls past t)) isnt)
@@ -361,6 +370,7 @@ pub stands-step : (kept : Kept) (past : List Event) (tid : ℕ) → StandsFor ke
 stands-step kept past tid stands = record {
   contexts_are = stands.contexts_are;
   points_are = stands.points_are ∙ quiet_points past;
+  links_are = stands.links_are;
   threads_live = stands.threads_live;
   threads_began = stands.threads_began;
   threads_in = stands.threads_in;
@@ -378,6 +388,7 @@ stands-quiet kept past (Step tid) is stands = stands-step kept past tid stands
 stands-quiet kept past (Read tid first count) is stands = record {
   contexts_are = stands.contexts_are;
   points_are = stands.points_are ∙ quiet_points past;
+  links_are = stands.links_are;
   threads_live = stands.threads_live;
   threads_began = stands.threads_began;
   threads_in = stands.threads_in;
@@ -385,6 +396,7 @@ stands-quiet kept past (Read tid first count) is stands = record {
 stands-quiet kept past (Write tid first count) is stands = record {
   contexts_are = stands.contexts_are;
   points_are = stands.points_are ∙ quiet_points past;
+  links_are = stands.links_are;
   threads_live = stands.threads_live;
   threads_began = stands.threads_began;
   threads_in = stands.threads_in;
@@ -392,6 +404,7 @@ stands-quiet kept past (Write tid first count) is stands = record {
 stands-quiet kept past (Fill first count) is stands = record {
   contexts_are = stands.contexts_are;
   points_are = stands.points_are ∙ quiet_points past;
+  links_are = stands.links_are;
   threads_live = stands.threads_live;
   threads_began = stands.threads_began;
   threads_in = stands.threads_in;
@@ -411,8 +424,9 @@ pub running_kept : (kept : Kept) (past : List Event) (tid : ℕ) → IsRunning p
 running_kept kept past tid running stands = stands.threads_live tid ∙ running.0
 
 -- at first
-pub stands-none : (kept : Kept) → kept.places ≡ [] → kept.points ≡ [] → kept.threads ≡ [] → StandsFor kept []
-stands-none kept places points threads = record {
+pub stands-none : (kept : Kept) → kept.places ≡ [] → kept.points ≡ [] → kept.links ≡ no_links ∷ [] → kept.threads ≡ [] → StandsFor kept []
+stands-none kept places points links threads = record {
+  links_are = subst (λ ps. IsLinked ps kept.links) (sym places) (subst (λ ls. IsLinked [] ls) (sym links) linked_none);
   contexts_are = subst (λ ps. by_number.StandsFor ps []) (sym places) none_stand;
   points_are = points;
   threads_live = λ t. ap (λ (xs : List (ℕ × ℕ)). is_some (value_of xs t)) threads;

@@ -5,3 +5,4 @@ pub mod Following
 pub mod Rooms
 pub mod Reordered
 pub mod Summing
+pub mod Linking

@@ -11,7 +11,7 @@ use Rattle.std.proofs.lemmas.Option.{get_or_from_slice_get}
 use Rattle.std.proofs.Math.Seq.{get_or-append_seam}
 use Rattle.std.proofs.lemmas.List.Sums.{passes_at_first}
 use Rattle.context_tree.specs.Contexts.{same, with_context}
-use Rattle.context_tree.specs.Numbers.{IsNumberOf, StandsFor, numbered}
+use Rattle.context_tree.specs.Numbers.{IsNumberOf, StandsFor, numbered, same_place}
 
 -- ---- lists with a last element
 abbrev first_or : List ℕ → ℕ
@@ -115,10 +115,6 @@ module _ {X : Type 0} (p : X → Bool) where
   past_all : (xs : List X) → list_any p xs ≡ false → position_or_len p xs ≡ length xs
   past_all [] none = refl
   past_all (x ∷ xs) none = grind (arith, past_all xs)
-
--- two places are the same
-abbrev pub same_place : ℕ × ℕ → ℕ × ℕ → Bool
-same_place x y = nat_eq x.0 y.0 && nat_eq x.1 y.1
 
 -- ---- after a context was looked up or added
 module _ (places : List (ℕ × ℕ)) (contexts : List (List ℕ)) (stands : StandsFor places contexts) (above entry : ℕ) (inside : above ≤ length contexts) where

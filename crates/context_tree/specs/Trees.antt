@@ -8,16 +8,19 @@ use Rattle.trace_model.specs.Activations.{open_calls}
 use Rattle.trace_model.specs.Profile.{ended}
 use Rattle.trace_model.specs.WellFormed.{IsLight, IsWellFormed, greatest_start, is_live}
 use Rattle.cost_points.specs.declared.point.Point.{Point}
+use Rattle.context_tree.specs.declared.order.Links.{Links}
 use Rattle.context_tree.specs.Contexts.{context_begun, context_of, contexts}
+use Rattle.context_tree.specs.Links.{IsLinked}
 use Rattle.context_tree.specs.Numbers.{IsBeyond, IsNumberOf}
 use Rattle.context_tree.specs.Numbers as by_number
 use Rattle.context_tree.specs.Points.{points_in}
 
--- The contexts by number, the points of each, and for each thread that lives the number of the context that it is in: that of
+-- The contexts by number, the points of each and which are right under it, and for each thread that lives the number of the context that it is in: that of
 -- its innermost open activation.
 pub record Kept : Type 0 where
   pub places : List (ℕ × ℕ)
   pub points : List (List Point)
+  pub links : List Links
   pub threads : List (ℕ × ℕ)
 
 -- the number of the context that the thread is in, and 0 where it has no open activation
@@ -29,6 +32,7 @@ current_of kept t = option_map_or (λ n. n) (value_of kept.threads t) 0
 pub record StandsFor (kept : Kept) (past : List Event) : Type 0 where
   pub contexts_are : by_number.StandsFor kept.places (contexts past)
   pub points_are : kept.points ≡ map (points_in past) (contexts past)
+  pub links_are : IsLinked kept.places kept.links
   pub threads_live : (t : ℕ) → is_some (value_of kept.threads t) ≡ is_live past t
   pub threads_began : All (λ n. n ≤ greatest_start past) (numbers kept.threads)
   pub threads_in : (t : ℕ) → IsNumberOf (contexts past) (current_of kept t) (context_of (open_calls past t))

@@ -3,6 +3,7 @@
 
 mod errors;
 mod numbers;
+mod order;
 mod points;
 mod sums;
 mod tree;

@@ -2,7 +2,7 @@
 ghost use Rattle.std.specs.Prelude.{◌≡◌, ◌<◌, ◌≤◌, ◌-◌, ◌++◌, ◌∷◌, [], ℕ, List, length, slice_index_or, true, Err, IfOk, OnErr, OnOk};
 ghost use Rattle.context_tree.specs.Contexts.{with_context};
 ghost use Rattle.context_tree.specs.declared.errors.TreeError.{TreeError};
-ghost use Rattle.context_tree.specs.Numbers.{IsBeyond, IsNumberOf, StandsFor, numbered};
+ghost use Rattle.context_tree.specs.Numbers.{IsBeyond, IsNumberOf, StandsFor, numbered, with_place};
 
 use crate::TreeError;
 use guest_words::Addr;
@@ -77,6 +77,7 @@ impl ContextNumbers {
     /// refusal changes nothing.
     pub fn number_of(&mut self, above: u32, entry: Addr) -> Result<u32, TreeError>
         requires { above ≤ length self.old }
+        ensures places { OnOk result (self.new ≡ with_place self.old (above, entry)) }
         ensures stands { (contexts : List (List ℕ)) → StandsFor self.old contexts
             → OnOk result (StandsFor self.new (with_context contexts (numbered contexts above ++ entry ∷ []))) }
         ensures number { (contexts : List (List ℕ)) → StandsFor self.old contexts

@@ -8,11 +8,13 @@ ghost use Rattle.trace_model.specs.Profile.{done, ended};
 ghost use Rattle.cost_points.specs.Contents.{contents_of};
 ghost use Rattle.context_tree.specs.declared.errors.TreeError.{TreeError};
 ghost use Rattle.context_tree.specs.Contexts.{same, with_context};
+ghost use Rattle.context_tree.specs.Links.{IsLinked};
 ghost use Rattle.context_tree.specs.Numbers.{IsBeyond, IsNumberOf, numbered};
 ghost use Rattle.context_tree.specs.Numbers as by_number;
 ghost use Rattle.context_tree.specs.Trees.{HasTooMany, IsOfLight, MayApply, StandsFor, current_of, with_list};
 ghost use Rattle.context_tree.specs.Ways.{ArePoints, IsWay, lists};
 
+use crate::order::{Links, add_link};
 use crate::points::{ContextPoints, add_up, reserve_up};
 use crate::sums::add_points;
 use crate::{ContextNumbers, TreeError};
@@ -29,6 +31,8 @@ pub struct Tree {
     alloc: Global,
     numbers: ContextNumbers,
     points: Vec<ContextPoints>,
+    // Of the context with no entry, and of each by number.
+    links: Vec<Links>,
     // For each thread that lives the number of the context that it is in.
     threads: ByThread<u32>,
 }
@@ -39,7 +43,7 @@ impl Model for Tree {
 
     ghost Value = { Kept };
 
-    ghost view = { λ t. record { places = t.numbers; points = lists t.points.items; threads = t.threads.list } };
+    ghost view = { λ t. record { places = t.numbers; points = lists t.points.items; links = t.links.items; threads = t.threads.list } };
 }
 
 /// The number of the context that begins with this entry right under the context `above`. Where it is not there it comes last,
@@ -48,11 +52,13 @@ fn begin(
     alloc: Global,
     numbers: &mut ContextNumbers,
     points: &mut Vec<ContextPoints>,
+    links: &mut Vec<Links>,
     above: u32,
     entry: Addr,
 ) -> Result<u32, TreeError>
     requires within { above ≤ length numbers.old }
     requires long { length points.old.items ≡ length numbers.old }
+    requires linked { IsLinked numbers.old links.old.items }
     ensures stands { (contexts : List (List ℕ)) → by_number.StandsFor numbers.old contexts
         → OnOk result (by_number.StandsFor numbers.new (with_context contexts (numbered contexts above ++ entry ∷ []))) }
     ensures number { (contexts : List (List ℕ)) → by_number.StandsFor numbers.old contexts
@@ -64,15 +70,19 @@ fn begin(
     ensures only_memory { (contexts : List (List ℕ)) → by_number.StandsFor numbers.old contexts
         → IsBeyond contexts (numbered contexts above ++ entry ∷ []) → result ≡ Err TreeError.TooMany }
     ensures refused_numbers { OnErr result (numbers.new ≡ numbers.old) }
+    ensures linked { OnOk result (IsLinked numbers.new links.new.items) }
     ensures refused_points { OnErr result (lists points.new.items ≡ lists points.old.items) }
+    ensures refused_links { OnErr result (links.new.items ≡ links.old.items) }
 {
     if numbers.is_beyond(above, entry) {
         return Err(TreeError::TooMany);
     }
     points.reserve(1)?;
+    links.reserve(1)?;
     let number = numbers.number_of(above, entry)?;
     if points.len() < numbers.len() {
         let _ = points.push(ContextPoints::new(alloc));
+        add_link(links, above);
     }
     Ok(number)
 }
@@ -82,10 +92,13 @@ impl Tree {
     pub fn new(alloc: Global) -> Result<Tree, AllocError>
         ensures { IfOk result (λ tree. StandsFor tree []) }
     {
+        let mut links = Vec::new(alloc);
+        links.push(Links::new(0))?;
         Ok(Tree {
             alloc,
             numbers: ContextNumbers::new(alloc),
             points: Vec::new(alloc),
+            links,
             threads: ByThread::new(alloc),
         })
     }
@@ -134,6 +147,7 @@ impl Tree {
     fn start(&mut self, tid: Tid, entry: Addr) -> Result<(), TreeError>
         requires above { All (λ n. n < tid) (numbers self.old.threads) }
         requires long { length self.old.points ≡ length self.old.places }
+        requires linked { IsLinked self.old.places self.old.links }
         ensures stands { (past : List Event) → StandsFor self.old past → OnOk result (StandsFor self.new (Start tid entry ∷ past)) }
         ensures too_many { (past : List Event) → StandsFor self.old past → result ≡ Err TreeError.TooMany → HasTooMany (Start tid entry) past }
         ensures only_memory { (past : List Event) → StandsFor self.old past → HasTooMany (Start tid entry) past → result ≡ Err TreeError.TooMany }
@@ -143,7 +157,14 @@ impl Tree {
             return Err(TreeError::TooMany);
         }
         self.threads.reserve(1)?;
-        let number = begin(self.alloc, &mut self.numbers, &mut self.points, 0, entry)?;
+        let number = begin(
+            self.alloc,
+            &mut self.numbers,
+            &mut self.points,
+            &mut self.links,
+            0,
+            entry,
+        )?;
         let _ = self.threads.insert(tid, number);
         Ok(())
     }
@@ -153,6 +174,7 @@ impl Tree {
         requires lives { is_some (value_of self.old.threads tid) ≡ true }
         requires within { current_of self.old tid ≤ length self.old.places }
         requires long { length self.old.points ≡ length self.old.places }
+        requires linked { IsLinked self.old.places self.old.links }
         ensures stands { (past : List Event) (back : ℕ) → StandsFor self.old past → OnOk result (StandsFor self.new (Call tid entry back ∷ past)) }
         ensures too_many { (past : List Event) (back : ℕ) → StandsFor self.old past → result ≡ Err TreeError.TooMany → HasTooMany (Call tid entry back) past }
         ensures only_memory { (past : List Event) (back : ℕ) → StandsFor self.old past → HasTooMany (Call tid entry back) past → result ≡ Err TreeError.TooMany }
@@ -163,6 +185,7 @@ impl Tree {
             self.alloc,
             &mut self.numbers,
             &mut self.points,
+            &mut self.links,
             above,
             entry,
         )?;

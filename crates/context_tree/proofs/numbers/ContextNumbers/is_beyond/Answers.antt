@@ -1,7 +1,7 @@
 use Rattle.std.proofs.Common.{◌≡◌, ◌≤◌, ℕ, List, length, Bool, true, false, ap, sym, ◌∙◌, subst, arith, not, refl}
 use Rattle.std.specs.List.{list_any}
-use Rattle.context_tree.specs.Numbers.{StandsFor}
-use Rattle.context_tree.proofs.Numbering.{any_is, same_place}
+use Rattle.context_tree.specs.Numbers.{StandsFor, same_place}
+use Rattle.context_tree.proofs.Numbering.{any_is}
 use Rattle.context_tree.proofs.numbers.ContextNumbers.is_beyond.Goals as goal
 
 turned : (b : Bool) → not b ≡ true → b ≡ false
