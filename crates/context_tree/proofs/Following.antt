@@ -5,7 +5,7 @@ use Rattle.std.specs.List.{list_any, range_with_len, zip}
 use Rattle.std.specs.Option.{option_map_or}
 use Rattle.std.proofs.lemmas.Bool.{eq-eqb}
 use Rattle.std.proofs.lemmas.Bool.Decides.{nat_tests}
-use Rattle.std.proofs.lemmas.List.{append-nil, drop-drop, drop_all, drop_min, get_or_append_left, length-drop, length-map, length-take, map-append, reverse-append}
+use Rattle.std.proofs.lemmas.List.{append-nil, drop-drop, drop_all, drop_min, get_or-map, get_or_append_left, length-drop, length-map, length-take, map-append, reverse-append}
 use Rattle.std.proofs.lemmas.List.Elements.{All-map, All-nil, All-push, All-same, All-weaker}
 use Rattle.guest_words.specs.ByThread.{numbers, value_of, with_value, without_thread}
 use Rattle.guest_words.proofs.ThreadTables.{All-numbers-without, numbers-with, value_of-above, value_of-pushed, value_of-with, value_of-without}
@@ -440,3 +440,10 @@ stands-none kept places points links threads = record {
 pub ok_of : {T E : Type 0} (r : Result T E) (P : Type 0) → IsOk r → OnOk r P → P
 ok_of (Ok x) P ok p = p
 ok_of (Err e) P ok p = absurd (cc)
+
+-- the points of the context of a number
+pub points_at : (kept : Kept) (past : List Event) → StandsFor kept past → (n : ℕ) → 1 ≤ n → n ≤ length (contexts past) → get_or kept.points (n - 1) [] ≡ points_in past (numbered (contexts past) n)
+points_at kept past stands zero some within = absurd (omega (arith, some))
+points_at kept past stands (suc i) some within =
+    let at : suc i - 1 ≡ i = omega arith in
+    ap (λ j. get_or kept.points j []) at ∙ ap (λ ls. get_or ls i []) stands.points_are ∙ get_or-map (points_in past) (contexts past) i [] [] (omega (arith, within))

@@ -6,3 +6,6 @@ pub mod Rooms
 pub mod Reordered
 pub mod Summing
 pub mod Linking
+pub mod Before
+pub mod Ordering
+pub mod Listed

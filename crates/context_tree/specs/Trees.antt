@@ -1,5 +1,5 @@
 -- What is kept of the calling contexts of a run.
-use Rattle.std.specs.Prelude.{◌≡◌, ℕ, ◌≤◌, Bool, if◌then◌else◌, List, [], ◌∷◌, ◌++◌, All, IsSomeAnd, is_some, map}
+use Rattle.std.specs.Prelude.{◌≡◌, ℕ, ◌+◌, ◌≤◌, length, Bool, if◌then◌else◌, List, [], ◌∷◌, ◌++◌, All, IsSomeAnd, is_some, map}
 use Rattle.std.specs.Option.{option_map_or}
 use Rattle.guest_words.specs.ByThread.{numbers, value_of}
 use Rattle.trace_model.specs.declared.event_kinds.Event.{Event}
@@ -43,6 +43,19 @@ pub record MayApply (kept : Kept) (e : Event) (ends : List Done) : Type 0 where
   pub now : StandsFor kept past
   pub formed : IsWellFormed (e ∷ past)
   pub ends_are : ends ≡ ended e past
+
+-- It is what is kept of some past.
+pub record IsOfSome (kept : Kept) : Type 0 where
+  pub past : List Event
+  pub now : StandsFor kept past
+
+-- They are the depth of the context, one less than its entries, the last of these, and its points.
+pub record IsShown (past : List Event) (c : List ℕ) (depth entry : ℕ) (points : List Point) : Type 0 where
+  pub depth_is : depth + 1 ≡ length c
+  -- the entries before the last
+  pub front : List ℕ
+  pub entry_is : c ≡ front ++ entry ∷ []
+  pub points_are : points ≡ points_in past c
 
 -- It is what is kept of a past that is light.
 pub record IsOfLight (kept : Kept) : Type 0 where

@@ -3,6 +3,10 @@ ghost use Rattle.std.specs.Prelude.{◌≡◌, ◌<◌, ◌≤◌, ◌++◌, ◌
 ghost use Rattle.std.specs.Vec.{vec_capacity};
 ghost use Rattle.context_tree.specs.declared.numbers.TheConstants.{CONTEXTS};
 ghost use Rattle.context_tree.specs.Links.{AreLinked, IsLinked};
+ghost use Rattle.context_tree.specs.Numbers.{StandsFor, numbered};
+ghost use Rattle.context_tree.specs.Order.{IsLeftBy};
+
+use crate::ContextNumbers;
 
 /// The places of a context in the order of the text: the first and the last of those right under it, the next one after it
 /// right under the same context, and how many entries it has.
@@ -44,4 +48,20 @@ pub(crate) fn add_link(links: &mut Vec<Links>, above: u32)
     }
     links[above as usize].last_child = Some(number);
     let _ = links.push(Links::new(place.depth + 1));
+}
+
+/// The first context in the order of the text that comes after the one of the number `from` and all that are under it.
+pub(crate) fn after_under(links: &[Links], numbers: &ContextNumbers, from: u32) -> Option<u32>
+    requires linked { IsLinked numbers.now links.now }
+    requires within { from ≤ length numbers.now }
+    ensures { (contexts : List (List ℕ)) → StandsFor numbers.now contexts → IsLeftBy contexts (numbered contexts from) result }
+{
+    let mut n = from;
+    while n != 0 {
+        if let Some(next) = links[n as usize].next_sibling {
+            return Some(next);
+        }
+        n = numbers.place(n).0;
+    }
+    None
 }

@@ -1,5 +1,5 @@
 //! The tree of a run's calling contexts.
-ghost use Rattle.std.specs.Prelude.{◌≡◌, ◌≤◌, ◌<◌, ◌++◌, ◌∷◌, [], true, ℕ, List, All, length, is_some, Err, IfOk, OnErr, OnOk};
+ghost use Rattle.std.specs.Prelude.{◌≡◌, ◌≤◌, ◌<◌, ◌++◌, ◌∷◌, [], true, ℕ, List, All, length, is_some, slice_index_or, Err, IfOk, OnErr, OnOk};
 ghost use Rattle.std.specs.List.{list_any};
 ghost use Rattle.guest_words.specs.ByThread.{numbers, value_of};
 ghost use Rattle.trace_model.specs.declared.event_kinds.Event.{Event};
@@ -7,18 +7,19 @@ ghost use Rattle.trace_model.specs.declared.event_kinds.Event.TheVariants.{Call,
 ghost use Rattle.trace_model.specs.Profile.{done, ended};
 ghost use Rattle.cost_points.specs.Contents.{contents_of};
 ghost use Rattle.context_tree.specs.declared.errors.TreeError.{TreeError};
-ghost use Rattle.context_tree.specs.Contexts.{same, with_context};
+ghost use Rattle.context_tree.specs.Contexts.{contexts, same, with_context};
 ghost use Rattle.context_tree.specs.Links.{IsLinked};
 ghost use Rattle.context_tree.specs.Numbers.{IsBeyond, IsNumberOf, numbered};
 ghost use Rattle.context_tree.specs.Numbers as by_number;
-ghost use Rattle.context_tree.specs.Trees.{HasTooMany, IsOfLight, MayApply, StandsFor, current_of, with_list};
+ghost use Rattle.context_tree.specs.Order.{IsFollowedBy, IsInOrder};
+ghost use Rattle.context_tree.specs.Trees.{HasTooMany, IsOfLight, IsOfSome, IsShown, MayApply, StandsFor, current_of, with_list};
 ghost use Rattle.context_tree.specs.Ways.{ArePoints, IsWay, lists};
 
-use crate::order::{Links, add_link};
+use crate::order::{Links, add_link, after_under};
 use crate::points::{ContextPoints, add_up, reserve_up};
 use crate::sums::add_points;
 use crate::{ContextNumbers, TreeError};
-use cost_points::Table;
+use cost_points::{Point, Table};
 use guest_words::{Addr, ByThread, Tid};
 use std::alloc::{AllocError, Global};
 use std::marker::Model;
@@ -118,6 +119,67 @@ impl Tree {
             Event::End { tid } => Ok(self.end(tid, ends)?),
             _ => Ok(()),
         }
+    }
+
+    /// How many contexts there are.
+    pub fn contexts(&self) -> usize
+        ensures value { result ≡ length self.now.places }
+        ensures stands { (past : List Event) → StandsFor self.now past → result ≡ length (contexts past) }
+    {
+        self.numbers.len()
+    }
+
+    /// The number of the context that comes next in the order of the text after that of the number `n`, and of the first one
+    /// where `n` is 0. To go through all of them takes a time that grows with how many they are.
+    pub fn next_in_order(&self, n: u32) -> Option<u32>
+        requires stands { IsOfSome self.now }
+        requires within { n ≤ length self.now.places }
+        ensures { (past : List Event) → StandsFor self.now past → IsFollowedBy (contexts past) (numbered (contexts past) n) result }
+    {
+        match self.links[n as usize].first_child {
+            Some(child) => Some(child),
+            None => after_under(&self.links, &self.numbers, n),
+        }
+    }
+
+    /// The depth, the entry and the points of a context, the contexts in the order of the text. It takes `i` steps: to go through
+    /// all of them, take `next_in_order` and `at`.
+    pub fn context(&self, i: usize) -> (u32, Addr, &[Point])
+        requires stands { IsOfSome self.now }
+        requires within { i < length self.now.places }
+        ensures { (past : List Event) (ordered : List (List ℕ)) → StandsFor self.now past → IsInOrder (contexts past) ordered
+            → IsShown past (slice_index_or ordered i []) result.0 result.1 result.2.now }
+    {
+        self.at(self.number_at(i))
+    }
+
+    // The number of a context, the contexts in the order of the text.
+    fn number_at(&self, i: usize) -> u32
+        requires stands { IsOfSome self.now }
+        requires within { i < length self.now.places }
+        ensures some { 1 ≤ result }
+        ensures within { result ≤ length self.now.places }
+        ensures listed { (past : List Event) (ordered : List (List ℕ)) → StandsFor self.now past → IsInOrder (contexts past) ordered
+            → numbered (contexts past) result ≡ slice_index_or ordered i [] }
+    {
+        let mut n = self.next_in_order(0).unwrap();
+        for _ in 0..i {
+            // There is a next one: `i` is below their number.
+            n = self.next_in_order(n).unwrap_or(n);
+        }
+        n
+    }
+
+    /// The depth of the context of a number, which is 0 where it has one entry, its entry, and its points.
+    pub fn at(&self, n: u32) -> (u32, Addr, &[Point])
+        requires stands { IsOfSome self.now }
+        requires some { 1 ≤ n }
+        requires within { n ≤ length self.now.places }
+        ensures { (past : List Event) → StandsFor self.now past → IsShown past (numbered (contexts past) n) result.0 result.1 result.2.now }
+    {
+        let (_, entry) = self.numbers.place(n);
+        let depth = self.links[n as usize].depth - 1;
+        (depth, entry, self.points[n as usize - 1].list())
     }
 
     /// The points of all contexts together, by routine: those of all activations that ended.
