@@ -95,3 +95,23 @@ pub record HasLast (r : List ℕ) : Type 0 where
 pub has_last : (j : ℕ) (r : List ℕ) → HasLast (j ∷ r)
 has_last j [] = record { front = []; last = j; is = refl }
 has_last j (x ∷ r) = let later = has_last x r in record { front = j ∷ later.front; last = later.last; is = ap (λ ns. j ∷ ns) later.is }
+
+pub before_trans : (a b c : List ℕ) → is_before a b ≡ true → is_before b c ≡ true → is_before a c ≡ true
+before_trans [] [] c one two = absurd (cc)
+before_trans [] (y ∷ b) [] one two = absurd (cc)
+before_trans [] (y ∷ b) (z ∷ c) one two = refl
+before_trans (x ∷ a) [] c one two = absurd (cc)
+before_trans (x ∷ a) (y ∷ b) [] one two = absurd (cc)
+before_trans (x ∷ a) (y ∷ b) (z ∷ c) one two = by (x == y) (y == z) (x == z) refl refl refl one two (before_trans a b c)
+  where
+    by : (s t u : Bool) → (x == y) ≡ s → (y == z) ≡ t → (x == z) ≡ u → cond s (is_before a b) (nat_lt x y) ≡ true → cond t (is_before b c) (nat_lt y z) ≡ true →
+        (is_before a b ≡ true → is_before b c ≡ true → is_before a c ≡ true) → cond u (is_before a c) (nat_lt x z) ≡ true
+    by true true true is is' is'' one two later = later one two
+    by true true false is is' is'' one two later = absurd (let same : (x == z) ≡ true = grind (arith, nat_tests, is, is') in cc)
+    by true false true is is' is'' one two later = absurd (let same : (y == z) ≡ true = grind (arith, nat_tests, is, is'') in cc)
+    by true false false is is' is'' one two later = let less : nat_lt x z ≡ true = grind (arith, nat_tests, is, two) in less
+    by false true true is is' is'' one two later = absurd (let same : (x == y) ≡ true = grind (arith, nat_tests, is', is'') in cc)
+    by false true false is is' is'' one two later = let less : nat_lt x z ≡ true = grind (arith, nat_tests, is', one) in less
+    by false false true is is' is'' one two later =
+        let under : x < y = grind (arith, nat_tests, one) in let over : y < z = grind (arith, nat_tests, two) in let same : x ≡ z = same_number x z is'' in absurd (omega (arith, under, over, same))
+    by false false false is is' is'' one two later = let less : nat_lt x z ≡ true = grind (arith, nat_tests, one, two) in less

@@ -9,3 +9,4 @@ pub mod Linking
 pub mod Before
 pub mod Ordering
 pub mod Listed
+pub mod Sorting

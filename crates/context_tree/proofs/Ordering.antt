@@ -84,7 +84,7 @@ module _ (places : List (ℕ × ℕ)) (known : List (List ℕ)) (stands : Stands
       on_way most (above_of places (suc i)) u j end.front (omega (arith, less, le)) (omega (arith, less, within))
       (same_from_push (key (above_of places (suc i))) (u ++ j ∷ end.front) i end.last whole).0
 
-  one_key : (m n : ℕ) → m ≤ length known → n ≤ length known → key m ≡ key n → m ≡ n
+  pub one_key : (m n : ℕ) → m ≤ length known → n ≤ length known → key m ≡ key n → m ≡ n
   one_key zero zero m_in n_in is = refl
   one_key zero (suc j) m_in n_in is = absurd (nothing_more (key (above_of places (suc j))) j [] (is ∙ key_number j (omega (arith, n_in))))
   one_key (suc i) zero m_in n_in is = absurd (nothing_more (key (above_of places (suc i))) i [] (sym is ∙ key_number i (omega (arith, m_in))))

@@ -102,11 +102,11 @@ pub(crate) fn add_up(
         → lists points.old.items ≡ map (points_of members) contexts
         → lists points.new.items ≡ map (points_of (members ++ tagged numbers.now contexts from ended.now)) contexts }
 {
-    let mut n = from;
+    let mut number = from;
     for done in ended {
-        let context = &mut points[n as usize - 1];
+        let context = &mut points[number as usize - 1];
         context.add(*done);
-        n = numbers.place(n).0;
+        number = numbers.place(number).0;
     }
-    n
+    number
 }

@@ -125,6 +125,7 @@ impl Tree {
     pub fn contexts(&self) -> usize
         ensures value { result ≡ length self.now.places }
         ensures stands { (past : List Event) → StandsFor self.now past → result ≡ length (contexts past) }
+        ensures ordered { (past : List Event) → StandsFor self.now past → (ordered : List (List ℕ)) × IsInOrder (contexts past) ordered }
     {
         self.numbers.len()
     }

@@ -7,9 +7,9 @@ use Rattle.context_tree.proofs.points.add_up.Given as goal
 
 abbrev pub invariant-loop-done : goal.invariant-loop-done
 invariant-loop-done l = record {
-  at : l.n ≡ up l.numbers l.from l.done-index;
+  at : l.number ≡ up l.numbers l.from l.done-index;
   long : length l.points.items ≡ length l.numbers;
-  below : (i : ℕ) → i < l.n → get_or l.points.items i no_points ≡ get_or l.initial.points.items i no_points;
+  below : (i : ℕ) → i < l.number → get_or l.points.items i no_points ≡ get_or l.initial.points.items i no_points;
   points : (contexts : List (List ℕ)) (members : List (List ℕ × Done)) → StandsFor l.numbers contexts →
       lists l.initial.points.items ≡ map (points_of members) contexts →
       lists l.points.items ≡ map (points_of (members ++ tagged l.numbers contexts l.from (take l.done-index l.ended))) contexts;
