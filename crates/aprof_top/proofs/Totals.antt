@@ -11,7 +11,7 @@ use Rattle.trace_model.specs.declared.slow_profile.Done.{Done}
 use Rattle.trace_model.specs.Profile.{done}
 use Rattle.trace_model.specs.WellFormed.{IsLight, weight}
 use Rattle.run_profile.proofs.Profiles.{few_done}
-use Rattle.run_profile.proofs.Small.{IsSmall, small_done}
+use Rattle.cost_points.proofs.Small.{IsSmall, small_done}
 use Rattle.cost_points.specs.declared.point.Point.{Point}
 use Rattle.cost_points.specs.Keys.{insert_rising, rising, IsRising, grouped}
 use Rattle.cost_points.specs.Points.{point_of, routine_of, points}

@@ -1,2 +1,12 @@
 pub mod Numbering
-mod Places
+pub mod Climbing
+pub mod Known
+pub mod Following
+pub mod Rooms
+pub mod Reordered
+pub mod Summing
+pub mod Linking
+pub mod Before
+pub mod Ordering
+pub mod Listed
+pub mod Sorting

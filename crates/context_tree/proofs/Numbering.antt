@@ -1,6 +1,6 @@
 -- A context is found by the number of the one above it and its last entry.
 use Rattle.std.proofs.Common.{◌≡◌, ◌≢◌, ℕ, zero, suc, ◌+◌, ◌-◌, ◌<◌, ◌≤◌, Bool, true, false, cond, ◌⊎◌, inl, inr, List, [], ◌∷◌, ◌++◌, length, get_or, reverse, refl, sym, ap, ap₂, ◌∙◌, subst, arith, length-append}
-use Rattle.std.specs.Prelude.{◌&&◌, nat_eq, slice_get, slice_index_or, Option, Some, Result, Ok, Err, OnOk, IfOk}
+use Rattle.std.specs.Prelude.{◌&&◌, nat_eq, slice_get, Some, Result, Ok, Err, OnOk, IfOk}
 use Rattle.std.specs.Cmp.Lexicographic.{pointwise, told_text}
 use Rattle.std.specs.List.{list_any, position_or_len}
 use Rattle.std.proofs.lemmas.Bool.{cases_lt}
@@ -11,7 +11,7 @@ use Rattle.std.proofs.lemmas.Option.{get_or_from_slice_get}
 use Rattle.std.proofs.Math.Seq.{get_or-append_seam}
 use Rattle.std.proofs.lemmas.List.Sums.{passes_at_first}
 use Rattle.context_tree.specs.Contexts.{same, with_context}
-use Rattle.context_tree.specs.Numbers.{IsNumberOf, StandsFor, numbered}
+use Rattle.context_tree.specs.Numbers.{IsNumberOf, StandsFor, numbered, same_place}
 
 -- ---- lists with a last element
 abbrev first_or : List ℕ → ℕ
@@ -25,24 +25,24 @@ rest_of (x ∷ xs) = xs
 turned : (xs : List ℕ) (x : ℕ) → reverse (xs ++ x ∷ []) ≡ x ∷ reverse xs
 turned xs x = reverse-append xs (x ∷ [])
 
-same_last : (xs ys : List ℕ) (x y : ℕ) → xs ++ x ∷ [] ≡ ys ++ y ∷ [] → x ≡ y
+pub same_last : (xs ys : List ℕ) (x y : ℕ) → xs ++ x ∷ [] ≡ ys ++ y ∷ [] → x ≡ y
 same_last xs ys x y is = ap first_or (sym (turned xs x) ∙ ap reverse is ∙ turned ys y)
 
-same_front : (xs ys : List ℕ) (x y : ℕ) → xs ++ x ∷ [] ≡ ys ++ y ∷ [] → xs ≡ ys
+pub same_front : (xs ys : List ℕ) (x y : ℕ) → xs ++ x ∷ [] ≡ ys ++ y ∷ [] → xs ≡ ys
 same_front xs ys x y is =
     sym (reverse-reverse xs) ∙ ap (λ zs. reverse (rest_of zs)) (sym (turned xs x) ∙ ap reverse is ∙ turned ys y) ∙ reverse-reverse ys
 
-not_none : (xs : List ℕ) (x : ℕ) → [] ≢ xs ++ x ∷ []
+pub not_none : (xs : List ℕ) (x : ℕ) → [] ≢ xs ++ x ∷ []
 not_none xs x is = let short : length (xs ++ x ∷ []) ≡ 0 = ap length (sym is) in absurd (omega (arith, short, length-append xs (x ∷ [])))
 
-same_told : (xs ys : List ℕ) → xs ≡ ys → pointwise nat_eq xs ys ≡ true
+pub same_told : (xs ys : List ℕ) → xs ≡ ys → pointwise nat_eq xs ys ≡ true
 same_told xs ys is = by (pointwise nat_eq xs ys) refl
   where
     by : (b : Bool) → b ≡ pointwise nat_eq xs ys → pointwise nat_eq xs ys ≡ true
     by true told = sym told
     by false told = absurd ((told_text xs ys false told) is)
 
-other_told : (xs ys : List ℕ) → xs ≢ ys → pointwise nat_eq xs ys ≡ false
+pub other_told : (xs ys : List ℕ) → xs ≢ ys → pointwise nat_eq xs ys ≡ false
 other_told xs ys other = by (pointwise nat_eq xs ys) refl
   where
     by : (b : Bool) → b ≡ pointwise nat_eq xs ys → pointwise nat_eq xs ys ≡ false
@@ -115,10 +115,6 @@ module _ {X : Type 0} (p : X → Bool) where
   past_all : (xs : List X) → list_any p xs ≡ false → position_or_len p xs ≡ length xs
   past_all [] none = refl
   past_all (x ∷ xs) none = grind (arith, past_all xs)
-
--- two places are the same
-abbrev pub same_place : ℕ × ℕ → ℕ × ℕ → Bool
-same_place x y = nat_eq x.0 y.0 && nat_eq x.1 y.1
 
 -- ---- after a context was looked up or added
 module _ (places : List (ℕ × ℕ)) (contexts : List (List ℕ)) (stands : StandsFor places contexts) (above entry : ℕ) (inside : above ≤ length contexts) where

@@ -1,5 +1,5 @@
 -- Contexts by number. The context with no entry has the number 0, and the others those from 1 on, in order of first begin.
-use Rattle.std.specs.Prelude.{◌≡◌, ◌≢◌, ℕ, zero, suc, ◌<◌, ◌≤◌, false, List, [], ◌∷◌, ◌++◌, length, slice_index_or}
+use Rattle.std.specs.Prelude.{◌≡◌, ◌≢◌, ℕ, zero, suc, ◌<◌, ◌≤◌, Bool, false, ◌&&◌, nat_eq, if◌then◌else◌, List, [], ◌∷◌, ◌++◌, length, slice_index_or}
 use Rattle.std.specs.List.{list_any}
 use Rattle.context_tree.specs.declared.numbers.TheConstants.{CONTEXTS}
 use Rattle.context_tree.specs.Contexts.{same}
@@ -8,6 +8,14 @@ use Rattle.context_tree.specs.Contexts.{same}
 abbrev pub numbered : List (List ℕ) → ℕ → List ℕ
 numbered contexts zero = []
 numbered contexts (suc i) = slice_index_or contexts i []
+
+-- two places are the same
+abbrev pub same_place : ℕ × ℕ → ℕ × ℕ → Bool
+same_place x y = nat_eq x.0 y.0 && nat_eq x.1 y.1
+
+-- the places with this one, which comes last where it is none of them
+abbrev pub with_place : List (ℕ × ℕ) → ℕ × ℕ → List (ℕ × ℕ)
+with_place places place = if list_any (same_place place) places then places else places ++ place ∷ []
 
 -- Of each context there are kept the number of the one right above it, which is smaller than its own, and its last entry.
 pub record StandsFor (places : List (ℕ × ℕ)) (contexts : List (List ℕ)) : Type 0 where

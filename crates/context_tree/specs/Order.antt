@@ -1,9 +1,10 @@
 -- The order of contexts in a text: depth first, each context before all that are under it, and the contexts right under one
 -- in order of their first begin.
-use Rattle.std.specs.Prelude.{◌≡◌, ℕ, ◌==◌, Bool, true, false, nat_lt, if◌then◌else◌, List, [], ◌∷◌, length, map, take}
+use Rattle.std.specs.Prelude.{◌≡◌, ◌⊎◌, ℕ, ◌≤◌, ◌==◌, Bool, true, false, nat_lt, if◌then◌else◌, List, [], ◌∷◌, ◌++◌, length, map, take, Option, Some, None}
 use Rattle.std.specs.List.{AllPairs, position_or_len, range_with_len}
 use Rattle.std.specs.List.Sorted.{IsPermutation}
 use Rattle.context_tree.specs.Contexts.{same}
+use Rattle.context_tree.specs.Numbers.{numbered}
 
 -- the numbers of the beginnings of a context, the shortest first, where contexts are numbered by their first begin
 abbrev pub numbers_down_to : List (List ℕ) → List ℕ → List ℕ
@@ -15,6 +16,39 @@ is_before [] [] = false
 is_before [] (n ∷ ns) = true
 is_before (m ∷ ms) [] = false
 is_before (m ∷ ms) (n ∷ ns) = if m == n then is_before ms ns else nat_lt m n
+
+-- one context stands before another in the text
+abbrev pub comes_before : List (List ℕ) → List ℕ → List ℕ → Bool
+comes_before contexts c d = is_before (numbers_down_to contexts c) (numbers_down_to contexts d)
+
+-- The number is that of the context that comes next after this one in the text, or none comes after it. The one with no entry
+-- comes before all.
+abbrev pub IsFollowedBy : List (List ℕ) → List ℕ → Option ℕ → Type 0
+IsFollowedBy contexts c None = (m : ℕ) → 1 ≤ m → m ≤ length contexts → comes_before contexts c (numbered contexts m) ≡ true → ⊥
+IsFollowedBy contexts c (Some n) =
+    (1 ≤ n)
+    × (n ≤ length contexts)
+    × (comes_before contexts c (numbered contexts n) ≡ true)
+    × ((m : ℕ) → 1 ≤ m → m ≤ length contexts → comes_before contexts c (numbered contexts m) ≡ true → (n ≡ m) ⊎ (comes_before contexts (numbered contexts n) (numbered contexts m) ≡ true))
+
+-- one list begins with the other
+pub record Extends (k m : List ℕ) : Type 0 where
+  pub rest : List ℕ
+  pub is : m ≡ k ++ rest
+
+-- the one context is the other, or under it
+abbrev pub IsUnder : List (List ℕ) → List ℕ → List ℕ → Type 0
+IsUnder contexts c d = Extends (numbers_down_to contexts c) (numbers_down_to contexts d)
+
+-- The number is that of the first context in the text that comes after this one and all that are under it, or none does.
+abbrev pub IsLeftBy : List (List ℕ) → List ℕ → Option ℕ → Type 0
+IsLeftBy contexts c None = (m : ℕ) → 1 ≤ m → m ≤ length contexts → comes_before contexts c (numbered contexts m) ≡ true → IsUnder contexts c (numbered contexts m)
+IsLeftBy contexts c (Some n) =
+    (1 ≤ n)
+    × (n ≤ length contexts)
+    × (comes_before contexts c (numbered contexts n) ≡ true)
+    × ((m : ℕ) → 1 ≤ m → m ≤ length contexts → comes_before contexts c (numbered contexts m) ≡ true →
+    IsUnder contexts c (numbered contexts m) ⊎ ((n ≡ m) ⊎ (comes_before contexts (numbered contexts n) (numbered contexts m) ≡ true)))
 
 -- These are the contexts in the order of the text.
 pub record IsInOrder (contexts ordered : List (List ℕ)) : Type 0 where

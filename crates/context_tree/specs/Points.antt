@@ -21,6 +21,18 @@ abbrev pub done_in_context : List Event → List (List ℕ × Done)
 done_in_context [] = []
 done_in_context (e ∷ past) = done_in_context past ++ zip (contexts_ended e past (thread_of e)) (ended e past)
 
+-- those of the ended activations that have the context, in order of ending
+abbrev pub members_of : List (List ℕ × Done) → List ℕ → List Done
+members_of all c = map (λ x. x.1) (filter (λ x. same c x.0) all)
+
+-- the points of activations of one routine, by rising size
+abbrev pub points_from : List Done → List Point
+points_from members = grouped (λ d. d.size) point_of members
+
+-- the points of a context, where these activations ended
+abbrev pub points_of : List (List ℕ × Done) → List ℕ → List Point
+points_of all c = points_from (members_of all c)
+
 -- the points of a context, by rising size
 abbrev pub points_in : List Event → List ℕ → List Point
-points_in past c = grouped (λ d. d.size) point_of (map (λ x. x.1) (filter (λ x. same c x.0) (done_in_context past)))
+points_in past c = points_of (done_in_context past) c

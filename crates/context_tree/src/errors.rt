@@ -1,4 +1,5 @@
 //! Why a tree takes no event.
+use std::alloc::AllocError;
 use thiserror::Error;
 
 /// Why a tree takes no event.
@@ -10,4 +11,15 @@ pub enum TreeError {
     /// Want of memory.
     #[error("out of memory")]
     Memory,
+}
+
+impl From<AllocError> for TreeError {
+    ghost use Rattle.std.specs.Prelude.{◌≡◌};
+    ghost use Rattle.context_tree.specs.declared.errors.TreeError.TheVariants.{Memory};
+
+    ghost from_gives = { λ _ e. e ≡ Memory };
+
+    fn from(_error: AllocError) -> TreeError {
+        TreeError::Memory
+    }
 }

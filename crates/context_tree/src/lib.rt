@@ -3,9 +3,14 @@
 
 mod errors;
 mod numbers;
+mod order;
+mod points;
+mod sums;
+mod tree;
 
 pub use errors::TreeError;
 pub use numbers::ContextNumbers;
+pub use tree::Tree;
 
 #[cfg(test)]
 mod tests;

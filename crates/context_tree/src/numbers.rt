@@ -1,8 +1,8 @@
 //! Contexts by number.
-ghost use Rattle.std.specs.Prelude.{◌≡◌, ◌<◌, ◌≤◌, ◌++◌, ◌∷◌, [], ℕ, List, length, Err, IfOk, OnErr, OnOk};
+ghost use Rattle.std.specs.Prelude.{◌≡◌, ◌<◌, ◌≤◌, ◌-◌, ◌++◌, ◌∷◌, [], ℕ, List, length, slice_index_or, true, Err, IfOk, OnErr, OnOk};
 ghost use Rattle.context_tree.specs.Contexts.{with_context};
 ghost use Rattle.context_tree.specs.declared.errors.TreeError.{TreeError};
-ghost use Rattle.context_tree.specs.Numbers.{IsBeyond, IsNumberOf, StandsFor, numbered};
+ghost use Rattle.context_tree.specs.Numbers.{IsBeyond, IsNumberOf, StandsFor, numbered, with_place};
 
 use crate::TreeError;
 use guest_words::Addr;
@@ -44,7 +44,8 @@ impl ContextNumbers {
 
     /// How many contexts there are, without the one with no entry.
     pub fn len(&self) -> usize
-        ensures { result ≡ length self.now }
+        ensures value { result ≡ length self.now }
+        ensures bound { result ≤ CONTEXTS }
     {
         self.places.len()
     }
@@ -53,6 +54,7 @@ impl ContextNumbers {
     pub fn place(&self, n: u32) -> (u32, Addr)
         requires some { 1 ≤ n }
         requires within { n ≤ length self.now }
+        ensures here { result ≡ slice_index_or self.now (n - 1) (0, 0) }
         ensures above { (contexts : List (List ℕ)) → StandsFor self.now contexts → result.0 < n }
         ensures context { (contexts : List (List ℕ)) → StandsFor self.now contexts
             → numbered contexts n ≡ numbered contexts result.0 ++ result.1 ∷ [] }
@@ -60,10 +62,22 @@ impl ContextNumbers {
         *self.places.get_index(n as usize - 1).unwrap()
     }
 
+    /// Whether the context that has this entry right under the context `above` is not there, and can have no number.
+    pub fn is_beyond(&self, above: u32, entry: Addr) -> bool
+        requires { above ≤ length self.now }
+        ensures yes { (contexts : List (List ℕ)) → StandsFor self.now contexts
+            → result ≡ true → IsBeyond contexts (numbered contexts above ++ entry ∷ []) }
+        ensures no { (contexts : List (List ℕ)) → StandsFor self.now contexts
+            → IsBeyond contexts (numbered contexts above ++ entry ∷ []) → result ≡ true }
+    {
+        self.places.len() >= CONTEXTS && !self.places.contains(&(above, entry))
+    }
+
     /// The number of the context that has this entry right under the context `above`. Where it is not there it comes last. A
     /// refusal changes nothing.
     pub fn number_of(&mut self, above: u32, entry: Addr) -> Result<u32, TreeError>
         requires { above ≤ length self.old }
+        ensures places { OnOk result (self.new ≡ with_place self.old (above, entry)) }
         ensures stands { (contexts : List (List ℕ)) → StandsFor self.old contexts
             → OnOk result (StandsFor self.new (with_context contexts (numbered contexts above ++ entry ∷ []))) }
         ensures number { (contexts : List (List ℕ)) → StandsFor self.old contexts

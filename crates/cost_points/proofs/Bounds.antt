@@ -100,7 +100,7 @@ IsPoint-of size members some sized fits = record {
 }
 
 -- the members of a size have it
-having_sized : (size : ℕ) (members : List Done) → All (λ d. d.size ≡ size) (having (λ (d : Done). d.size) size members)
+pub having_sized : (size : ℕ) (members : List Done) → All (λ d. d.size ≡ size) (having (λ (d : Done). d.size) size members)
 having_sized size members =
     All-weaker (λ (d : Done). nat_eq d.size size ≡ true) (λ d. d.size ≡ size) (λ d h. grind (arith, nat_tests)) (having (λ (d : Done). d.size) size members)
     (filter_passes (λ (d : Done). nat_eq d.size size) members)

@@ -5,3 +5,4 @@ pub mod Put
 pub mod Merged
 pub mod Tables
 pub mod Bounds
+pub mod Small

@@ -90,7 +90,7 @@ entry_of d = d.entry
 abbrev sized : List Done → List Point
 sized members = grouped size_of point_of members
 
-sized-more : (p : Point) (ms more : List Done) → 1 ≤ length more → All (λ d. d.size ≡ p.size) more → p ≡ point_of p.size more →
+pub sized-more : (p : Point) (ms more : List Done) → 1 ≤ length more → All (λ d. d.size ≡ p.size) more → p ≡ point_of p.size more →
     sized (ms ++ more) ≡ put (λ q. q.size) p.size (λ q. merged q p) p (sized ms)
 sized-more p ms more some sizes is =
     grouped_put size_of point_of (λ q. q.size) (λ k qs. refl) p.size (λ q. merged q p) p ms more sizes some

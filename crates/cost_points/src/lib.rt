@@ -9,6 +9,7 @@ mod routine;
 mod table;
 
 pub use point::{Point, Split};
+pub use routine::insert_point;
 pub use table::Table;
 
 #[cfg(test)]

@@ -58,7 +58,7 @@ impl Split {
 
 impl Point {
     /// The point of one activation.
-    pub(crate) fn of_one(ended: Done) -> Point
+    pub fn of_one(ended: Done) -> Point
         ensures { result ≡ point_of ended.size (ended ∷ []) }
     {
         let Done { size, cost, .. } = ended;

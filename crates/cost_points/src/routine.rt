@@ -1,8 +1,9 @@
 //! The points of one routine.
-ghost use Rattle.std.specs.Prelude.{◌≡◌, [], ◌∷◌, map, IfOk, OnOk, OnErr};
+ghost use Rattle.std.specs.Prelude.{◌≡◌, ◌<◌, [], ◌∷◌, map, vec_len, IfOk, OnOk, OnErr};
 ghost use Rattle.std.specs.List.{All};
-ghost use Rattle.cost_points.specs.Keys.{IsRising};
-ghost use Rattle.cost_points.specs.Merging.{point_added};
+ghost use Rattle.std.specs.Vec.{vec_capacity};
+ghost use Rattle.cost_points.specs.Keys.{IsRising, put};
+ghost use Rattle.cost_points.specs.Merging.{merged, point_added};
 ghost use Rattle.cost_points.specs.Search.{FindsKey, HasRoom};
 
 use crate::Point;
@@ -33,6 +34,23 @@ fn search(points: &[Point], size: u64) -> Result<usize, usize>
     points.binary_search_by_key(&size, |point| point.size)
 }
 
+/// One more point among points whose sizes rise: the one of its size takes it in, and where there is none it is a new one.
+/// There is room for one more, so it takes no memory.
+pub fn insert_point(points: &mut Vec<Point>, point: Point)
+    requires spare { vec_len points.old < vec_capacity points.old }
+    requires rising { IsRising (map (λ p. p.size) points.old.items) }
+    requires room { All HasRoom points.old.items }
+    requires fits { HasRoom point }
+    ensures { points.new.items ≡ put (λ q. q.size) point.size (λ q. merged q point) point points.old.items }
+{
+    match search(points, point.size) {
+        Ok(at) => points[at] = points[at].merged(point),
+        Err(at) => {
+            let _ = points.insert(at, point);
+        }
+    }
+}
+
 impl RoutinePoints {
     /// The routine of one point.
     pub fn of_one(alloc: Global, entry: Addr, point: Point) -> Result<RoutinePoints, AllocError>
@@ -51,12 +69,8 @@ impl RoutinePoints {
         ensures ok { OnOk result (self.new ≡ point_added point self.old) }
         ensures err { OnErr result (self.new ≡ self.old) }
     {
-        match search(&self.points, point.size) {
-            Ok(at) => {
-                self.points[at] = self.points[at].merged(point);
-                Ok(())
-            }
-            Err(at) => Ok(self.points.insert(at, point)?),
-        }
+        self.points.reserve(1)?;
+        insert_point(&mut self.points, point);
+        Ok(())
     }
 }

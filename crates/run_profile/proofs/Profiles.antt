@@ -8,11 +8,10 @@ use Rattle.trace_model.specs.declared.event_kinds.Event.{Event}
 use Rattle.trace_model.specs.declared.event_kinds.Event.TheVariants.{Step, Read, Write, Fill, Call, Ret, Start, End}
 use Rattle.trace_model.specs.declared.slow_profile.Done.{Done}
 use Rattle.trace_model.specs.Depth.{is_within, pending}
-use Rattle.trace_model.specs.Laws.{begun_count}
 use Rattle.trace_model.specs.Profile.{HasParts, done, ended, steps}
 use Rattle.trace_model.specs.WellFormed.{IsLight, weight}
 use Rattle.trace_model.proofs.Causes.{done_has_parts}
-use Rattle.trace_model.proofs.Pending.{done-pending}
+use Rattle.cost_points.proofs.Small.{few_done}
 use Rattle.cost_points.specs.Contents.{TableContents, contents_of}
 use Rattle.shadow_core.specs.Applying.{IsTaken, is_too_deep}
 use Rattle.shadow_core.specs.Profiling.{StandsFor}
@@ -33,20 +32,6 @@ steps-le-weight (Call tid entry back ∷ past) = omega (arith, steps-le-weight p
 steps-le-weight (Ret tid target ∷ past) = omega (arith, steps-le-weight past)
 steps-le-weight (Start tid entry ∷ past) = omega (arith, steps-le-weight past)
 steps-le-weight (End tid ∷ past) = omega (arith, steps-le-weight past)
-
-begun-le-weight : (past : List Event) → begun_count past ≤ weight past
-begun-le-weight [] = omega arith
-begun-le-weight (Step tid ∷ past) = omega (arith, begun-le-weight past)
-begun-le-weight (Read tid first count ∷ past) = omega (arith, begun-le-weight past)
-begun-le-weight (Write tid first count ∷ past) = omega (arith, begun-le-weight past)
-begun-le-weight (Fill first count ∷ past) = omega (arith, begun-le-weight past)
-begun-le-weight (Call tid entry back ∷ past) = omega (arith, begun-le-weight past)
-begun-le-weight (Ret tid target ∷ past) = omega (arith, begun-le-weight past)
-begun-le-weight (Start tid entry ∷ past) = omega (arith, begun-le-weight past)
-begun-le-weight (End tid ∷ past) = omega (arith, begun-le-weight past)
-
-pub few_done : (past : List Event) → IsLight past → length (done past) < 2 ^ 62
-few_done past light = omega (arith, done-pending past, begun-le-weight past, light)
 
 -- the steps of one event more
 pub one_more : (e : Event) (past : List Event) → steps (e ∷ past) ≡ steps past + steps (e ∷ [])

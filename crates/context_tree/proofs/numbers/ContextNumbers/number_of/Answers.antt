@@ -1,9 +1,9 @@
-use Rattle.std.proofs.Common.{rules, ◌≡◌, ◌≤◌, ◌<◌, ◌+◌, ℕ, List, ◌∷◌, ◌++◌, [], length, Bool, true, false, cond, ap, sym, ◌∙◌, subst, arith, refl}
+use Rattle.std.proofs.Common.{rules, ◌≡◌, ◌≤◌, ◌<◌, ◌+◌, ℕ, List, ◌∷◌, ◌++◌, [], length, false, sym, ◌∙◌, subst, arith, refl}
 use Rattle.std.specs.List.{list_any}
 use Rattle.context_tree.specs.declared.numbers.TheConstants.{CONTEXTS}
 use Rattle.context_tree.specs.Contexts.{with_context}
-use Rattle.context_tree.specs.Numbers.{IsNumberOf, StandsFor, numbered}
-use Rattle.context_tree.proofs.Numbering.{any_is, if_err_is, if_ok_is, number_with, on_err_is, on_ok_is, same_place, stands_with, still_few}
+use Rattle.context_tree.specs.Numbers.{IsNumberOf, StandsFor, numbered, same_place}
+use Rattle.context_tree.proofs.Numbering.{any_is, if_err_is, if_ok_is, number_with, on_err_is, on_ok_is, stands_with, still_few}
 use Rattle.context_tree.proofs.numbers.ContextNumbers.number_of.Goals as goal
 use Rattle.context_tree.proofs.numbers.ContextNumbers.number_of.Goals.{in-Ok, in-Err}
 use Rattle.context_tree.proofs.numbers.ContextNumbers.number_of.Goals.{else-len-ge-CONTEXTS-via-then-len-ge-CONTEXTS+else-not-contains, else-len-ge-CONTEXTS-via-else-len-ge-CONTEXTS}

@@ -1,18 +1,21 @@
--- The size and the cost of an activation are at most the weight of the past.
-use Rattle.std.proofs.Common.{◌≡◌, ℕ, ◌+◌, ◌-◌, ◌≤◌, List, [], ◌∷◌, ◌++◌, drop, length, take, ap, arith}
+-- The size and the cost of an activation are at most the weight of the past, and so are those that ended.
+use Rattle.std.proofs.Common.{ℕ, ◌+◌, ◌-◌, ◌<◌, ◌≤◌, ◌^◌, List, [], ◌∷◌, drop, length, take, ap, arith}
 use Rattle.std.specs.Prelude.{not, Option, Some, None}
 use Rattle.std.specs.List.{All}
 use Rattle.std.proofs.lemmas.List.{take-append-drop}
 use Rattle.std.proofs.lemmas.List.Elements.{All-append, All-cons, All-map, All-nil, All-weaker}
 use Rattle.trace_model.specs.declared.event_kinds.Event.{Event}
+use Rattle.trace_model.specs.declared.event_kinds.Event.TheVariants.{Step, Read, Write, Fill, Call, Ret, Start, End}
 use Rattle.trace_model.specs.declared.activations.Activation.{Activation}
 use Rattle.trace_model.specs.declared.slow_profile.Done.{Done}
 use Rattle.trace_model.specs.Activations.{ending_calls}
 use Rattle.trace_model.specs.Events.{thread_of}
+use Rattle.trace_model.specs.Laws.{begun_count}
 use Rattle.trace_model.specs.Profile.{done, done_of, ended, ended_of}
 use Rattle.trace_model.specs.Sizes.{known, since}
-use Rattle.trace_model.specs.WellFormed.{weight}
+use Rattle.trace_model.specs.WellFormed.{IsLight, weight}
 use Rattle.trace_model.proofs.Bounds.{cost-le-weight, pairs-le-weight, weight-append}
+use Rattle.trace_model.proofs.Pending.{done-pending}
 
 abbrev pub IsSmall : ℕ → Done → Type 0
 IsSmall most d = (d.size ≤ most) × (d.cost ≤ most)
@@ -41,3 +44,17 @@ small_done [] = All-nil (IsSmall 0)
 small_done (e ∷ past) =
     All-weaker (IsSmall (weight past)) (IsSmall (weight (e ∷ past))) (λ d small. (omega (arith, small.0), omega (arith, small.1))) (done (e ∷ past))
     (All-append (IsSmall (weight past)) (done past) (ended e past) (small_done past) (ended_small past e (thread_of e)))
+
+begun-le-weight : (past : List Event) → begun_count past ≤ weight past
+begun-le-weight [] = omega arith
+begun-le-weight (Step tid ∷ past) = omega (arith, begun-le-weight past)
+begun-le-weight (Read tid first count ∷ past) = omega (arith, begun-le-weight past)
+begun-le-weight (Write tid first count ∷ past) = omega (arith, begun-le-weight past)
+begun-le-weight (Fill first count ∷ past) = omega (arith, begun-le-weight past)
+begun-le-weight (Call tid entry back ∷ past) = omega (arith, begun-le-weight past)
+begun-le-weight (Ret tid target ∷ past) = omega (arith, begun-le-weight past)
+begun-le-weight (Start tid entry ∷ past) = omega (arith, begun-le-weight past)
+begun-le-weight (End tid ∷ past) = omega (arith, begun-le-weight past)
+
+pub few_done : (past : List Event) → IsLight past → length (done past) < 2 ^ 62
+few_done past light = omega (arith, done-pending past, begun-le-weight past, light)

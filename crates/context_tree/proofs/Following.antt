@@ -1,0 +1,449 @@
+-- What an event does to the tree.
+use Rattle.std.proofs.Common.{◌≡◌, ℕ, zero, suc, ◌+◌, ◌-◌, ◌<◌, ◌≤◌, max, min, Bool, true, false, cond, All, List, [], ◌∷◌, ◌++◌, length, get_or, take, drop, map, Option, Some, None, refl, sym, ap, ap₂, ◌∙◌, subst, arith, length-append, not}
+use Rattle.std.specs.Prelude.{◌==◌, ◌||◌, ◌&&◌, nat_eq, is_some, Result, Ok, Err, IsOk, OnOk}
+use Rattle.std.specs.List.{list_any, range_with_len, zip}
+use Rattle.std.specs.Option.{option_map_or}
+use Rattle.std.proofs.lemmas.Bool.{eq-eqb}
+use Rattle.std.proofs.lemmas.Bool.Decides.{nat_tests}
+use Rattle.std.proofs.lemmas.List.{append-nil, drop-drop, drop_all, drop_min, get_or-map, get_or_append_left, length-drop, length-map, length-take, map-append, reverse-append}
+use Rattle.std.proofs.lemmas.List.Elements.{All-map, All-nil, All-push, All-same, All-weaker}
+use Rattle.guest_words.specs.ByThread.{numbers, value_of, with_value, without_thread}
+use Rattle.guest_words.proofs.ThreadTables.{All-numbers-without, numbers-with, value_of-above, value_of-pushed, value_of-with, value_of-without}
+use Rattle.trace_model.specs.declared.event_kinds.Event.{Event}
+use Rattle.trace_model.specs.declared.event_kinds.Event.TheVariants.{Step, Read, Write, Fill, Call, Ret, Start, End}
+use Rattle.trace_model.specs.declared.activations.Activation.{Activation}
+use Rattle.trace_model.specs.declared.slow_profile.Done.{Done}
+use Rattle.trace_model.specs.Activations.{backs, count_ending, count_returned, open_calls}
+use Rattle.trace_model.specs.Profile.{done_of, ended}
+use Rattle.trace_model.specs.WellFormed.{IsLight, IsRunning, MayFollow, greatest_start, is_live}
+use Rattle.cost_points.specs.declared.point.Point.{Point}
+use Rattle.cost_points.specs.Keys.{grouped}
+use Rattle.context_tree.specs.Contexts.{context_of, contexts, same, with_context}
+use Rattle.context_tree.specs.Links.{IsLinked, no_links}
+use Rattle.context_tree.specs.Numbers.{IsBeyond, IsNumberOf, numbered}
+use Rattle.context_tree.specs.Numbers as by_number
+use Rattle.context_tree.specs.Points.{done_in_context, points_from, points_in, points_of}
+use Rattle.context_tree.specs.Trees.{Kept, StandsFor, current_of, with_list}
+use Rattle.context_tree.specs.Ways.{ArePoints, IsWay, above_of, tagged, up}
+use Rattle.context_tree.proofs.Known.{done_known, no_members}
+use Rattle.context_tree.proofs.Linking.{linked_none}
+use Rattle.context_tree.proofs.Numbering.{none_stand, not_none, same_front}
+use Rattle.context_tree.proofs.Rooms.{rooms}
+
+-- ---- contexts of activations
+pub context_more : (a : Activation) (calls : List Activation) → context_of (a ∷ calls) ≡ context_of calls ++ a.entry ∷ []
+context_more a calls = reverse-append (a.entry ∷ []) (map (λ (b : Activation). b.entry) calls)
+
+pub shifted : {X : Type 0} (f : ℕ → X) (i m : ℕ) → map f (range_with_len (i + 1) m) ≡ map (λ k. f (suc k)) (range_with_len i m)
+shifted f i zero = refl
+shifted f i (suc m) = ap₂ (λ x xs. x ∷ xs) (ap f (omega arith)) (shifted f (i + 1) m)
+
+module _ (places : List (ℕ × ℕ)) (known : List (List ℕ)) (stands : by_number.StandsFor places known) where
+  -- the one above, by number
+  up_one : (n : ℕ) (a : Activation) (calls : List Activation) → n ≤ length known → numbered known n ≡ context_of (a ∷ calls) →
+      (above_of places n < n) × (numbered known (above_of places n) ≡ context_of calls)
+  up_one zero a calls within is = absurd (not_none (context_of calls) a.entry (is ∙ context_more a calls))
+  up_one (suc i) a calls within is =
+      let at : suc i - 1 ≡ i = omega arith in
+      let inside : i < length known = omega (arith, within) in
+      subst (λ j. ((get_or places j (0, 0)).0 < suc i) × (numbered known (get_or places j (0, 0)).0 ≡ context_of calls)) (sym at)
+      (omega (arith, stands.above i inside), same_front (numbered known (get_or places i (0, 0)).0) (context_of calls) (get_or places i (0, 0)).1 a.entry (sym (stands.each i inside) ∙ is ∙ context_more a calls))
+
+  up_in : (n : ℕ) (calls : List Activation) → 1 ≤ length calls → n ≤ length known → numbered known n ≡ context_of calls →
+      (above_of places n < n) × (numbered known (above_of places n) ≡ context_of (drop 1 calls))
+  up_in n [] some within is = absurd (omega (arith, some))
+  up_in n (a ∷ calls) some within is = up_one n a calls within is
+
+  pub record IsUp (n k : ℕ) (calls : List Activation) : Type 0 where
+    pub within : up places n k ≤ length known
+    pub is : numbered known (up places n k) ≡ context_of (drop k calls)
+
+  pub up_is : (n : ℕ) (calls : List Activation) → n ≤ length known → numbered known n ≡ context_of calls → (k : ℕ) → k ≤ length calls → IsUp n k calls
+  up_is n calls within is zero le = record { within = within; is = is }
+  up_is n calls within is (suc k) le =
+      let below = up_is n calls within is k (omega (arith, le)) in
+      let next = up_in (up places n k) (drop k calls) (omega (arith, le, length-drop k calls)) below.within below.is in
+      let one : k + 1 ≡ suc k = omega arith in
+      record {
+        within = omega (arith, next.0, below.within);
+        is = next.1 ∙ ap context_of (drop-drop 1 k calls) ∙ ap (λ j. context_of (drop j calls)) one;
+      }
+
+  pub way_of : (n count : ℕ) (calls : List Activation) → n ≤ length known → numbered known n ≡ context_of calls → count ≤ length calls → IsWay places n count
+  way_of n count calls within is le = record {
+    within = omega (arith, within, stands.long);
+    falls = λ k lt.
+        let here = up_is n calls within is k (omega (arith, lt, le)) in
+        (up_in (up places n k) (drop k calls) (omega (arith, lt, le, length-drop k calls)) here.within here.is).0;
+  }
+
+  -- the members on the way are the activations with their contexts
+  pub tagged_is : (ds : List Done) (n : ℕ) (calls : List Activation) → length ds ≤ length calls → n ≤ length known → numbered known n ≡ context_of calls →
+      tagged places known n ds ≡ zip (map (λ k. context_of (drop k calls)) (range_with_len 0 (length ds))) ds
+  tagged_is [] n calls le within is = refl
+  tagged_is (d ∷ ds) n [] le within is = absurd (omega (arith, le))
+  tagged_is (d ∷ ds) n (a ∷ calls) le within is =
+      let next = up_one n a calls within is in
+      ap₂ (λ (x : List ℕ × Done) (xs : List (List ℕ × Done)). x ∷ xs) (ap (λ (b : List ℕ). (b, d)) is)
+      (tagged_is ds (above_of places n) calls (omega (arith, le)) (omega (arith, next.0, within)) next.1
+      ∙ ap (λ bs. zip bs ds) (sym (shifted (λ k. context_of (drop k (a ∷ calls))) 0 (length ds))))
+
+-- ---- threads and their contexts
+same_number : (n m : ℕ) → (n == m) ≡ true → n ≡ m
+same_number n m is = grind (arith, nat_tests)
+
+turned : (n m : ℕ) (b : Bool) → (n == m) ≡ b → nat_eq m n ≡ b
+turned n m true is = let same : n ≡ m = same_number n m is in let there : nat_eq m n ≡ true = grind (arith, nat_tests, same) in there
+turned n m false is = grind (arith, nat_tests, is)
+
+abbrev number_or_none : Option ℕ → ℕ
+number_or_none o = option_map_or (λ n. n) o 0
+
+some_kept : (o : Option ℕ) → is_some o ≡ true → o ≡ Some (number_or_none o)
+some_kept None is = absurd (cc)
+some_kept (Some n) is = refl
+
+-- each thread is in the context of its innermost activation
+threads_after : (old new : Kept) (past : List Event) (e : Event) (tid : ℕ) (v : Option ℕ) → StandsFor old past →
+    ((t : ℕ) → value_of new.threads t ≡ cond (tid == t) v (value_of old.threads t)) →
+    IsNumberOf (contexts (e ∷ past)) (number_or_none v) (context_of (open_calls (e ∷ past) tid)) →
+    ((t : ℕ) → (tid == t) ≡ false → open_calls (e ∷ past) t ≡ open_calls past t) →
+    ((m : ℕ) (c : List ℕ) → IsNumberOf (contexts past) m c → IsNumberOf (contexts (e ∷ past)) m c) →
+    (t : ℕ) → IsNumberOf (contexts (e ∷ past)) (current_of new t) (context_of (open_calls (e ∷ past) t))
+threads_after old new past e tid v stands reads own others grows t =
+    subst (λ (o : Option ℕ). IsNumberOf (contexts (e ∷ past)) (number_or_none o) (context_of (open_calls (e ∷ past) t))) (sym (reads t)) (by (tid == t) refl)
+  where
+    by : (b : Bool) → (tid == t) ≡ b → IsNumberOf (contexts (e ∷ past)) (number_or_none (cond b v (value_of old.threads t))) (context_of (open_calls (e ∷ past) t))
+    by true is = subst (λ u. IsNumberOf (contexts (e ∷ past)) (number_or_none v) (context_of (open_calls (e ∷ past) u))) (same_number tid t is) own
+    by false is = subst (λ (calls : List Activation). IsNumberOf (contexts (e ∷ past)) (current_of old t) (context_of calls)) (sym (others t is)) (grows (current_of old t) (context_of (open_calls past t)) (stands.threads_in t))
+
+-- ---- an activation begins
+still_number : (known : List (List ℕ)) (b : List ℕ) (m : ℕ) (c : List ℕ) → IsNumberOf known m c → IsNumberOf (with_context known b) m c
+still_number known b m c is = by (list_any (same b) known)
+  where
+    numbered_more : (m : ℕ) → m ≤ length known → numbered (known ++ b ∷ []) m ≡ numbered known m
+    numbered_more zero le = refl
+    numbered_more (suc i) le = get_or_append_left known (b ∷ []) [] i (omega (arith, le))
+
+    by : (there : Bool) → IsNumberOf (cond there known (known ++ b ∷ [])) m c
+    by true = is
+    by false = record {
+      within = omega (arith, is.within, length-append known (b ∷ []));
+      there = numbered_more m is.within ∙ is.there;
+    }
+
+no_point : points_from [] ≡ []
+unfolding grouped
+no_point = refl
+
+points_grown : (past : List Event) (c : List ℕ) (b : Bool) → list_any (same c) (contexts past) ≡ b →
+    with_list b (map (points_in past) (contexts past)) ≡ map (points_in past) (cond b (contexts past) (contexts past ++ c ∷ []))
+points_grown past c true is = refl
+points_grown past c false is =
+    let none : points_in past c ≡ [] = ap points_from (no_members (contexts past) c (done_in_context past) (done_known past) is) ∙ no_point in
+    ap (λ (ps : List Point). map (points_in past) (contexts past) ++ ps ∷ []) (sym none) ∙ sym (map-append (points_in past) (contexts past) (c ∷ []))
+
+module _ (old new : Kept) (past : List Event) (e : Event) (tid n : ℕ) (a : Activation) (stands : StandsFor old past)
+    (opens : (t : ℕ) → open_calls (e ∷ past) t ≡ cond (tid == t) (a ∷ []) [] ++ open_calls past t)
+    (begins : contexts (e ∷ past) ≡ with_context (contexts past) (context_of (open_calls (e ∷ past) tid)))
+    (none : done_in_context (e ∷ past) ≡ done_in_context past) where
+  abbrev context : List ℕ
+  context = numbered (contexts past) (current_of old tid) ++ a.entry ∷ []
+
+  pub own_context : context_of (open_calls (e ∷ past) tid) ≡ numbered (contexts past) (current_of old tid) ++ a.entry ∷ []
+  own_context =
+      ap context_of (opens tid ∙ ap (λ b. cond b (a ∷ []) [] ++ open_calls past tid) (eq-eqb tid tid refl))
+      ∙ context_more a (open_calls past tid) ∙ ap (λ c. c ++ a.entry ∷ []) (sym (stands.threads_in tid).there)
+
+  grown : contexts (e ∷ past) ≡ with_context (contexts past) (numbered (contexts past) (current_of old tid) ++ a.entry ∷ [])
+  grown = begins ∙ ap (with_context (contexts past)) own_context
+
+  pub stands-begun : IsLinked new.places new.links → by_number.StandsFor new.places (with_context (contexts past) (numbered (contexts past) (current_of old tid) ++ a.entry ∷ [])) →
+      new.points ≡ with_list (list_any (same (numbered (contexts past) (current_of old tid) ++ a.entry ∷ [])) (contexts past)) old.points →
+      IsNumberOf (with_context (contexts past) (numbered (contexts past) (current_of old tid) ++ a.entry ∷ [])) n (numbered (contexts past) (current_of old tid) ++ a.entry ∷ []) →
+      ((t : ℕ) → value_of new.threads t ≡ cond (tid == t) (Some n) (value_of old.threads t)) →
+      ((t : ℕ) → is_some (value_of new.threads t) ≡ is_live (e ∷ past) t) → All (λ n. n ≤ greatest_start (e ∷ past)) (numbers new.threads) → StandsFor new (e ∷ past)
+  stands-begun linked places points number reads live began = record {
+    links_are = linked;
+    contexts_are = subst (by_number.StandsFor new.places) (sym grown) places;
+    points_are =
+        points ∙ ap (with_list (list_any (same context) (contexts past))) stands.points_are ∙ points_grown past context (list_any (same context) (contexts past)) refl
+        ∙ ap₂ (λ all cs. map (points_of all) cs) (sym none) (sym grown);
+    threads_live = live;
+    threads_began = began;
+    threads_in =
+        threads_after old new past e tid (Some n) stands reads
+        (subst (λ c. IsNumberOf (contexts (e ∷ past)) n c) (sym own_context) (subst (λ cs. IsNumberOf cs n context) (sym grown) number))
+        (λ t isnt. opens t ∙ ap (λ b. cond b (a ∷ []) [] ++ open_calls past t) isnt)
+        (λ m c is. subst (λ cs. IsNumberOf cs m c) (sym grown) (still_number (contexts past) context m c is));
+  }
+
+-- ---- activations end
+module _ (old new : Kept) (past : List Event) (e : Event) (tid count : ℕ) (ds : List Done) (stands : StandsFor old past)
+    (ends_are : ds ≡ map (done_of past tid) (take count (open_calls past tid)))
+    (same_contexts : contexts (e ∷ past) ≡ contexts past)
+    (more : done_in_context (e ∷ past) ≡ done_in_context past ++ zip (map (λ k. context_of (drop k (open_calls past tid))) (range_with_len 0 (length (take count (open_calls past tid))))) ds) where
+  pub counted : length ds ≡ min count (length (open_calls past tid))
+  counted = ap length ends_are ∙ length-map (take count (open_calls past tid)) (done_of past tid) ∙ length-take count (open_calls past tid)
+
+  pub points_ended : new.points ≡ map (points_of (done_in_context past ++ tagged old.places (contexts past) (current_of old tid) ds)) (contexts past) → new.points ≡ map (points_in (e ∷ past)) (contexts (e ∷ past))
+  points_ended points =
+      let long : length ds ≡ length (take count (open_calls past tid)) = ap length ends_are ∙ length-map (take count (open_calls past tid)) (done_of past tid) in
+      points
+      ∙ ap (λ xs. map (points_of (done_in_context past ++ xs)) (contexts past))
+      (tagged_is old.places (contexts past) stands.contexts_are ds (current_of old tid) (open_calls past tid) (omega (arith, counted)) (stands.threads_in tid).within (stands.threads_in tid).there
+      ∙ ap (λ m. zip (map (λ k. context_of (drop k (open_calls past tid))) (range_with_len 0 m)) ds) long)
+      ∙ ap₂ (λ all cs. map (points_of all) cs) (sym more) (sym same_contexts)
+
+  pub stands-ended : (v : Option ℕ) → IsLinked new.places new.links → by_number.StandsFor new.places (contexts past) →
+      new.points ≡ map (points_of (done_in_context past ++ tagged old.places (contexts past) (current_of old tid) ds)) (contexts past) →
+      ((t : ℕ) → value_of new.threads t ≡ cond (tid == t) v (value_of old.threads t)) →
+      IsNumberOf (contexts past) (number_or_none v) (context_of (open_calls (e ∷ past) tid)) →
+      ((t : ℕ) → (tid == t) ≡ false → open_calls (e ∷ past) t ≡ open_calls past t) →
+      ((t : ℕ) → is_some (value_of new.threads t) ≡ is_live (e ∷ past) t) → All (λ n. n ≤ greatest_start (e ∷ past)) (numbers new.threads) → StandsFor new (e ∷ past)
+  stands-ended v linked places points reads own others live began = record {
+    links_are = linked;
+    contexts_are = subst (by_number.StandsFor new.places) (sym same_contexts) places;
+    points_are = points_ended points;
+    threads_live = live;
+    threads_began = began;
+    threads_in =
+        threads_after old new past e tid v stands reads (subst (λ cs. IsNumberOf cs (number_or_none v) (context_of (open_calls (e ∷ past) tid))) (sym same_contexts) own)
+        others (λ m c is. subst (λ cs. IsNumberOf cs m c) (sym same_contexts) is);
+  }
+
+-- ---- each kind of event
+-- what the begin of a context right under another comes to
+pub record HasBegun (old new : Kept) (known : List (List ℕ)) (above entry n : ℕ) : Type 0 where
+  pub linked : IsLinked new.places new.links
+  pub places : by_number.StandsFor new.places (with_context known (numbered known above ++ entry ∷ []))
+  pub points : new.points ≡ with_list (list_any (same (numbered known above ++ entry ∷ [])) known) old.points
+  pub number : IsNumberOf (with_context known (numbered known above ++ entry ∷ [])) n (numbered known above ++ entry ∷ [])
+
+nothing_more : (past : List Event) → done_in_context past ++ [] ≡ done_in_context past
+nothing_more past = append-nil (done_in_context past)
+
+first_number : (old : Kept) (tid : ℕ) → All (λ n. n < tid) (numbers old.threads) → current_of old tid ≡ 0
+first_number old tid above = ap number_or_none (value_of-above old.threads tid above)
+
+pub own-start : (old : Kept) (past : List Event) (tid entry : ℕ) → All (λ n. n < tid) (numbers old.threads) → StandsFor old past →
+    context_of (open_calls (Start tid entry ∷ past) tid) ≡ numbered (contexts past) 0 ++ entry ∷ []
+own-start old past tid entry above stands =
+    own_context old old past (Start tid entry) tid 0 (record { at = length past; entry = entry; back = None }) stands (λ t. refl) refl (nothing_more past)
+    ∙ ap (λ m. numbered (contexts past) m ++ entry ∷ []) (first_number old tid above)
+
+module _ (old new : Kept) (past : List Event) (tid entry n : ℕ) (above : All (λ n. n < tid) (numbers old.threads)) (stands : StandsFor old past) where
+  pub stands-start : new.threads ≡ old.threads ++ (tid, n) ∷ [] → HasBegun old new (contexts past) 0 entry n → StandsFor new (Start tid entry ∷ past)
+  stands-start threads first =
+      let begun : HasBegun old new (contexts past) (current_of old tid) entry n = subst (λ m. HasBegun old new (contexts past) m entry n) (sym (first_number old tid above)) first in
+      stands-begun old new past (Start tid entry) tid n (record { at = length past; entry = entry; back = None }) stands (λ t. refl) refl (nothing_more past) begun.linked begun.places begun.points begun.number reads
+      (λ t. ap is_some (reads t) ∙ live t (tid == t) refl)
+      (All-same (λ n. n ≤ max tid (greatest_start past)) (numbers new.threads) (numbers old.threads ++ tid ∷ [])
+      (ap numbers threads ∙ map-append (λ x. x.0) old.threads ((tid, n) ∷ []))
+      (All-push (λ n. n ≤ max tid (greatest_start past)) (numbers old.threads) tid
+      (All-weaker (λ n. n < tid) (λ n. n ≤ max tid (greatest_start past)) (λ n low. omega (arith, low)) (numbers old.threads) above) (omega arith)))
+    where
+      reads : (t : ℕ) → value_of new.threads t ≡ cond (tid == t) (Some n) (value_of old.threads t)
+      reads t = ap (λ (xs : List (ℕ × ℕ)). value_of xs t) threads ∙ value_of-pushed old.threads tid n above t
+
+      live : (t : ℕ) (b : Bool) → (tid == t) ≡ b → is_some (cond b (Some n) (value_of old.threads t)) ≡ (nat_eq t tid || is_live past t)
+      live t true is = sym (ap (λ b. b || is_live past t) (turned tid t true is))
+      live t false is = stands.threads_live t ∙ sym (ap (λ b. b || is_live past t) (turned tid t false is))
+
+-- a thread that lives is in another context
+module _ (old new : Kept) (past : List Event) (tid n : ℕ) (lives : is_some (value_of old.threads tid) ≡ true) (threads : new.threads ≡ with_value old.threads tid n) (stands : StandsFor old past) where
+  reads_changed : (t : ℕ) → value_of new.threads t ≡ cond (tid == t) (Some n) (value_of old.threads t)
+  reads_changed t =
+      ap (λ (xs : List (ℕ × ℕ)). value_of xs t) threads
+      ∙ value_of-with old.threads tid n (current_of old tid) (some_kept (value_of old.threads tid) lives) t
+
+  still_live : (t : ℕ) → is_some (value_of new.threads t) ≡ is_live past t
+  still_live t = ap is_some (reads_changed t) ∙ by (tid == t) refl
+    where
+      by : (b : Bool) → (tid == t) ≡ b → is_some (cond b (Some n) (value_of old.threads t)) ≡ is_live past t
+      by true is = sym lives ∙ ap (λ m. is_some (value_of old.threads m)) (same_number tid t is) ∙ stands.threads_live t
+      by false is = stands.threads_live t
+
+  still_began : All (λ n. n ≤ greatest_start past) (numbers new.threads)
+  still_began =
+      All-same (λ n. n ≤ greatest_start past) (numbers new.threads) (numbers old.threads) (ap numbers threads ∙ numbers-with old.threads tid n) stands.threads_began
+
+pub own-call : (old : Kept) (past : List Event) (tid entry back : ℕ) → StandsFor old past →
+    context_of (open_calls (Call tid entry back ∷ past) tid) ≡ numbered (contexts past) (current_of old tid) ++ entry ∷ []
+own-call old past tid entry back stands =
+    own_context old old past (Call tid entry back) tid 0 (record { at = length past; entry = entry; back = Some back }) stands (λ t. refl) refl (nothing_more past)
+
+pub stands-call : (old new : Kept) (past : List Event) (tid entry back above n : ℕ) → above ≡ current_of old tid → is_some (value_of old.threads tid) ≡ true → new.threads ≡ with_value old.threads tid n → StandsFor old past →
+    HasBegun old new (contexts past) above entry n → StandsFor new (Call tid entry back ∷ past)
+stands-call old new past tid entry back above n at lives threads stands there =
+    let begun : HasBegun old new (contexts past) (current_of old tid) entry n = subst (λ m. HasBegun old new (contexts past) m entry n) at there in
+    stands-begun old new past (Call tid entry back) tid n (record { at = length past; entry = entry; back = Some back }) stands (λ t. refl) refl (nothing_more past) begun.linked begun.places begun.points begun.number
+    (reads_changed old new past tid n lives threads stands) (still_live old new past tid n lives threads stands) (still_began old new past tid n lives threads stands)
+
+-- what the end of activations of the context of a number and those above it comes to
+pub record HaveEnded (old new : Kept) (from : ℕ) (ds : List Done) : Type 0 where
+  pub places : new.places ≡ old.places
+  pub links : new.links ≡ old.links
+  pub points : (known : List (List ℕ)) (members : List (List ℕ × Done)) → by_number.StandsFor old.places known → old.points ≡ map (points_of members) known →
+      new.points ≡ map (points_of (members ++ tagged old.places known from ds)) known
+
+still_linked : (old new : Kept) → {past : List Event} → StandsFor old past → new.places ≡ old.places → new.links ≡ old.links → IsLinked new.places new.links
+still_linked old new stands places links = subst (λ ps. IsLinked ps new.links) (sym places) (subst (λ ls. IsLinked old.places ls) (sym links) stands.links_are)
+
+pub stands-return : (old new : Kept) (past : List Event) (tid target n : ℕ) (ds : List Done) → is_some (value_of old.threads tid) ≡ true → new.threads ≡ with_value old.threads tid n →
+    n ≡ up old.places (current_of old tid) (length ds) → ds ≡ ended (Ret tid target) past → StandsFor old past → HaveEnded old new (current_of old tid) ds → StandsFor new (Ret tid target ∷ past)
+stands-return old new past tid target n ds lives threads up_to are stands ends =
+    let count = count_ending (Ret tid target) tid (backs (open_calls past tid)) in
+    let long : length ds ≡ min (count_ending (Ret tid target) tid (backs (open_calls past tid))) (length (open_calls past tid)) =
+    ap length are ∙ length-map (take (count_ending (Ret tid target) tid (backs (open_calls past tid))) (open_calls past tid)) (done_of past tid)
+    ∙ length-take (count_ending (Ret tid target) tid (backs (open_calls past tid))) (open_calls past tid)
+    in
+    let here = up_is old.places (contexts past) stands.contexts_are (current_of old tid) (open_calls past tid) (stands.threads_in tid).within (stands.threads_in tid).there (length ds) (omega (arith, long)) in
+    stands-ended old new past (Ret tid target) tid (count_ending (Ret tid target) tid (backs (open_calls past tid))) ds stands are refl
+    (ap (λ xs. done_in_context past ++ zip (map (λ k. context_of (drop k (open_calls past tid))) (range_with_len 0 (length (take (count_ending (Ret tid target) tid (backs (open_calls past tid))) (open_calls past tid))))) xs) (sym are))
+    (Some n) (still_linked old new stands ends.places ends.links) (subst (λ ps. by_number.StandsFor ps (contexts past)) (sym ends.places) stands.contexts_are) (ends.points (contexts past) (done_in_context past) stands.contexts_are stands.points_are)
+    (reads_changed old new past tid n lives threads stands)
+    (record {
+      within = subst (λ m. m ≤ length (contexts past)) (sym up_to) here.within;
+      there = ap (numbered (contexts past)) up_to ∙ here.is ∙ ap (λ k. context_of (drop k (open_calls past tid))) long
+          ∙ ap context_of (drop_min (count_ending (Ret tid target) tid (backs (open_calls past tid))) (open_calls past tid));
+    })
+    (λ t isnt. ap (λ b. drop (cond b (count_all_of t) 0) (open_calls past t)) isnt)
+    (still_live old new past tid n lives threads stands) (still_began old new past tid n lives threads stands)
+  where
+    count_all_of : ℕ → ℕ
+    count_all_of t = count_returned target (backs (open_calls past t))
+
+pub stands-end : (old new : Kept) (past : List Event) (tid : ℕ) (ds : List Done) → new.threads ≡ without_thread old.threads tid →
+    ds ≡ ended (End tid) past → StandsFor old past → HaveEnded old new (current_of old tid) ds → StandsFor new (End tid ∷ past)
+stands-end old new past tid ds threads are stands ends =
+    stands-ended old new past (End tid) tid (count_ending (End tid) tid (backs (open_calls past tid))) ds stands are refl
+    (ap (λ xs. done_in_context past ++ zip (map (λ k. context_of (drop k (open_calls past tid))) (range_with_len 0 (length (take (count_ending (End tid) tid (backs (open_calls past tid))) (open_calls past tid))))) xs) (sym are))
+    None (still_linked old new stands ends.places ends.links) (subst (λ ps. by_number.StandsFor ps (contexts past)) (sym ends.places) stands.contexts_are) (ends.points (contexts past) (done_in_context past) stands.contexts_are stands.points_are)
+    reads
+    (record { within = omega arith; there = sym (ap context_of all_ended) })
+    (λ t isnt. ap (λ b. drop (cond b (length (backs (open_calls past t))) 0) (open_calls past t)) isnt)
+    (λ t. ap is_some (reads t) ∙ live t (tid == t) refl)
+    (All-same (λ n. n ≤ greatest_start past) (numbers new.threads) (numbers (without_thread old.threads tid)) (ap numbers threads)
+    (All-numbers-without (λ n. n ≤ greatest_start past) old.threads tid stands.threads_began))
+  where
+    reads : (t : ℕ) → value_of new.threads t ≡ cond (tid == t) None (value_of old.threads t)
+    reads t = ap (λ (xs : List (ℕ × ℕ)). value_of xs t) threads ∙ value_of-without old.threads tid t
+
+    live : (t : ℕ) (b : Bool) → (tid == t) ≡ b → is_some (cond b None (value_of old.threads t)) ≡ (not (nat_eq t tid) && is_live past t)
+    live t true is = sym (ap (λ b. not b && is_live past t) (turned tid t true is))
+    live t false is = stands.threads_live t ∙ sym (ap (λ b. not b && is_live past t) (turned tid t false is))
+
+    all_ended : open_calls (End tid ∷ past) tid ≡ []
+    all_ended =
+        let long : length (backs (open_calls past tid)) ≡ length (open_calls past tid) = length-map (open_calls past tid) (λ a. a.back) in
+        ap (λ b. drop (cond b (length (backs (open_calls past tid))) 0) (open_calls past tid)) (eq-eqb tid tid refl)
+        ∙ drop_all (length (backs (open_calls past tid))) (open_calls past tid) (omega (arith, long))
+
+-- ---- what the calls of an event want
+pub light_before : (past : List Event) (e : Event) → IsLight (e ∷ past) → IsLight past
+light_before past e light = omega (arith, light)
+
+pub each_points : (kept : Kept) (past : List Event) → StandsFor kept past → IsLight past → All ArePoints kept.points
+each_points kept past stands light =
+    subst (All ArePoints) (sym stands.points_are) (All-map ArePoints (points_in past) (contexts past) (λ i d inside. rooms past light (get_or (contexts past) i d)))
+
+pub as_many : (kept : Kept) (past : List Event) → StandsFor kept past → length kept.points ≡ length kept.places
+as_many kept past stands = ap length stands.points_are ∙ length-map (contexts past) (points_in past) ∙ sym stands.contexts_are.long
+
+pub current_within : (kept : Kept) (past : List Event) (t : ℕ) → StandsFor kept past → current_of kept t ≤ length kept.places
+current_within kept past t stands = omega (arith, (stands.threads_in t).within, stands.contexts_are.long)
+
+pub way_ended : (kept : Kept) (past : List Event) (tid count : ℕ) (ds : List Done) → StandsFor kept past → ds ≡ map (done_of past tid) (take count (open_calls past tid)) →
+    IsWay kept.places (current_of kept tid) (length ds)
+way_ended kept past tid count ds stands are =
+    let long : length ds ≡ min count (length (open_calls past tid)) =
+    ap length are ∙ length-map (take count (open_calls past tid)) (done_of past tid) ∙ length-take count (open_calls past tid)
+    in
+    way_of kept.places (contexts past) stands.contexts_are (current_of kept tid) (length ds) (open_calls past tid) (stands.threads_in tid).within (stands.threads_in tid).there (omega (arith, long))
+
+-- events that neither begin nor end an activation
+quiet_points : (past : List Event) → map (points_in past) (contexts past) ≡ map (points_of (done_in_context past ++ [])) (contexts past)
+quiet_points past = ap (λ all. map (points_of all) (contexts past)) (sym (nothing_more past))
+
+pub stands-step : (kept : Kept) (past : List Event) (tid : ℕ) → StandsFor kept past → StandsFor kept (Step tid ∷ past)
+stands-step kept past tid stands = record {
+  contexts_are = stands.contexts_are;
+  points_are = stands.points_are ∙ quiet_points past;
+  links_are = stands.links_are;
+  threads_live = stands.threads_live;
+  threads_began = stands.threads_began;
+  threads_in = stands.threads_in;
+}
+
+abbrev pub is_quiet : Event → Bool
+is_quiet (Start _ _) = false
+is_quiet (Call _ _ _) = false
+is_quiet (Ret _ _) = false
+is_quiet (End _) = false
+is_quiet _ = true
+
+pub stands-quiet : (kept : Kept) (past : List Event) (e : Event) → is_quiet e ≡ true → StandsFor kept past → StandsFor kept (e ∷ past)
+stands-quiet kept past (Step tid) is stands = stands-step kept past tid stands
+stands-quiet kept past (Read tid first count) is stands = record {
+  contexts_are = stands.contexts_are;
+  points_are = stands.points_are ∙ quiet_points past;
+  links_are = stands.links_are;
+  threads_live = stands.threads_live;
+  threads_began = stands.threads_began;
+  threads_in = stands.threads_in;
+}
+stands-quiet kept past (Write tid first count) is stands = record {
+  contexts_are = stands.contexts_are;
+  points_are = stands.points_are ∙ quiet_points past;
+  links_are = stands.links_are;
+  threads_live = stands.threads_live;
+  threads_began = stands.threads_began;
+  threads_in = stands.threads_in;
+}
+stands-quiet kept past (Fill first count) is stands = record {
+  contexts_are = stands.contexts_are;
+  points_are = stands.points_are ∙ quiet_points past;
+  links_are = stands.links_are;
+  threads_live = stands.threads_live;
+  threads_began = stands.threads_began;
+  threads_in = stands.threads_in;
+}
+stands-quiet kept past (Start tid entry) is stands = absurd (cc)
+stands-quiet kept past (Call tid entry back) is stands = absurd (cc)
+stands-quiet kept past (Ret tid target) is stands = absurd (cc)
+stands-quiet kept past (End tid) is stands = absurd (cc)
+
+-- a thread that starts has a number above all
+pub above_all : (kept : Kept) (past : List Event) (tid entry : ℕ) → MayFollow (Start tid entry) past → StandsFor kept past → All (λ n. n < tid) (numbers kept.threads)
+above_all kept past tid entry may stands =
+    All-weaker (λ n. n ≤ greatest_start past) (λ n. n < tid) (λ n low. omega (arith, low, may)) (numbers kept.threads) stands.threads_began
+
+-- a thread that runs is kept
+pub running_kept : (kept : Kept) (past : List Event) (tid : ℕ) → IsRunning past tid → StandsFor kept past → is_some (value_of kept.threads tid) ≡ true
+running_kept kept past tid running stands = stands.threads_live tid ∙ running.0
+
+-- at first
+pub stands-none : (kept : Kept) → kept.places ≡ [] → kept.points ≡ [] → kept.links ≡ no_links ∷ [] → kept.threads ≡ [] → StandsFor kept []
+stands-none kept places points links threads = record {
+  links_are = subst (λ ps. IsLinked ps kept.links) (sym places) (subst (λ ls. IsLinked [] ls) (sym links) linked_none);
+  contexts_are = subst (λ ps. by_number.StandsFor ps []) (sym places) none_stand;
+  points_are = points;
+  threads_live = λ t. ap (λ (xs : List (ℕ × ℕ)). is_some (value_of xs t)) threads;
+  threads_began = subst (λ (xs : List (ℕ × ℕ)). All (λ n. n ≤ 0) (numbers xs)) (sym threads) (All-nil (λ n. n ≤ 0));
+  threads_in = λ t. record { within = omega (arith, current t); there = ap (numbered []) (current t) };
+}
+  where
+    current : (t : ℕ) → current_of kept t ≡ 0
+    current t = ap (λ (xs : List (ℕ × ℕ)). number_or_none (value_of xs t)) threads
+
+pub ok_of : {T E : Type 0} (r : Result T E) (P : Type 0) → IsOk r → OnOk r P → P
+ok_of (Ok x) P ok p = p
+ok_of (Err e) P ok p = absurd (cc)
+
+-- the points of the context of a number
+pub points_at : (kept : Kept) (past : List Event) → StandsFor kept past → (n : ℕ) → 1 ≤ n → n ≤ length (contexts past) → get_or kept.points (n - 1) [] ≡ points_in past (numbered (contexts past) n)
+points_at kept past stands zero some within = absurd (omega (arith, some))
+points_at kept past stands (suc i) some within =
+    let at : suc i - 1 ≡ i = omega arith in
+    ap (λ j. get_or kept.points j []) at ∙ ap (λ ls. get_or ls i []) stands.points_are ∙ get_or-map (points_in past) (contexts past) i [] [] (omega (arith, within))

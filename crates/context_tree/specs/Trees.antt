@@ -1,0 +1,72 @@
+-- What is kept of the calling contexts of a run.
+use Rattle.std.specs.Prelude.{◌≡◌, ℕ, ◌+◌, ◌≤◌, length, Bool, if◌then◌else◌, List, [], ◌∷◌, ◌++◌, All, IsSomeAnd, is_some, map}
+use Rattle.std.specs.Option.{option_map_or}
+use Rattle.guest_words.specs.ByThread.{numbers, value_of}
+use Rattle.trace_model.specs.declared.event_kinds.Event.{Event}
+use Rattle.trace_model.specs.declared.slow_profile.Done.{Done}
+use Rattle.trace_model.specs.Activations.{open_calls}
+use Rattle.trace_model.specs.Profile.{ended}
+use Rattle.trace_model.specs.WellFormed.{IsLight, IsWellFormed, greatest_start, is_live}
+use Rattle.cost_points.specs.declared.point.Point.{Point}
+use Rattle.context_tree.specs.declared.order.Links.{Links}
+use Rattle.context_tree.specs.Contexts.{context_begun, context_of, contexts}
+use Rattle.context_tree.specs.Links.{IsLinked}
+use Rattle.context_tree.specs.Numbers.{IsBeyond, IsNumberOf}
+use Rattle.context_tree.specs.Numbers as by_number
+use Rattle.context_tree.specs.Points.{points_in}
+
+-- The contexts by number, the points of each and which are right under it, and for each thread that lives the number of the context that it is in: that of
+-- its innermost open activation.
+pub record Kept : Type 0 where
+  pub places : List (ℕ × ℕ)
+  pub points : List (List Point)
+  pub links : List Links
+  pub threads : List (ℕ × ℕ)
+
+-- the number of the context that the thread is in, and 0 where it has no open activation
+abbrev pub current_of : Kept → ℕ → ℕ
+current_of kept t = option_map_or (λ n. n) (value_of kept.threads t) 0
+
+-- It is what is kept of this past. The contexts of all open activations of a thread are that of the innermost and its
+-- beginnings, so they are kept with it.
+pub record StandsFor (kept : Kept) (past : List Event) : Type 0 where
+  pub contexts_are : by_number.StandsFor kept.places (contexts past)
+  pub points_are : kept.points ≡ map (points_in past) (contexts past)
+  pub links_are : IsLinked kept.places kept.links
+  pub threads_live : (t : ℕ) → is_some (value_of kept.threads t) ≡ is_live past t
+  pub threads_began : All (λ n. n ≤ greatest_start past) (numbers kept.threads)
+  pub threads_in : (t : ℕ) → IsNumberOf (contexts past) (current_of kept t) (context_of (open_calls past t))
+
+-- It is what is kept of some past after which the event may come, and these are the activations that the event ends.
+pub record MayApply (kept : Kept) (e : Event) (ends : List Done) : Type 0 where
+  pub past : List Event
+  pub now : StandsFor kept past
+  pub formed : IsWellFormed (e ∷ past)
+  pub ends_are : ends ≡ ended e past
+
+-- It is what is kept of some past.
+pub record IsOfSome (kept : Kept) : Type 0 where
+  pub past : List Event
+  pub now : StandsFor kept past
+
+-- They are the depth of the context, one less than its entries, the last of these, and its points.
+pub record IsShown (past : List Event) (c : List ℕ) (depth entry : ℕ) (points : List Point) : Type 0 where
+  pub depth_is : depth + 1 ≡ length c
+  -- the entries before the last
+  pub front : List ℕ
+  pub entry_is : c ≡ front ++ entry ∷ []
+  pub points_are : points ≡ points_in past c
+
+-- It is what is kept of a past that is light.
+pub record IsOfLight (kept : Kept) : Type 0 where
+  pub past : List Event
+  pub now : StandsFor kept past
+  pub light : IsLight past
+
+-- The event begins a context that is not there, where there are as many as can be numbered.
+abbrev pub HasTooMany : Event → List Event → Type 0
+HasTooMany e past = IsSomeAnd (context_begun e past) (IsBeyond (contexts past))
+
+-- the points of each context with those of a context that comes last, which has none, unless it is one of them
+abbrev pub with_list : Bool → List (List Point) → List (List Point)
+with_list there lists = if there then lists else lists ++ [] ∷ []
