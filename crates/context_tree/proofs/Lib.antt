@@ -10,3 +10,5 @@ pub mod Before
 pub mod Ordering
 pub mod Listed
 pub mod Sorting
+pub mod InOrder
+mod Places

@@ -1,7 +1,7 @@
 -- The order of contexts in a text: depth first, each context before all that are under it, and the contexts right under one
 -- in order of their first begin.
-use Rattle.std.specs.Prelude.{◌≡◌, ◌⊎◌, ℕ, ◌≤◌, ◌==◌, Bool, true, false, nat_lt, if◌then◌else◌, List, [], ◌∷◌, ◌++◌, length, map, take, Option, Some, None}
-use Rattle.std.specs.List.{AllPairs, position_or_len, range_with_len}
+use Rattle.std.specs.Prelude.{◌≡◌, ◌⊎◌, ℕ, ◌≤◌, ◌==◌, Bool, true, false, nat_lt, if◌then◌else◌, List, [], ◌∷◌, ◌++◌, length, map, take, slice_index_or, Option, Some, None}
+use Rattle.std.specs.List.{AllPairs, count_by, filter, position_or_len, range_with_len}
 use Rattle.std.specs.List.Sorted.{IsPermutation}
 use Rattle.context_tree.specs.Contexts.{same}
 use Rattle.context_tree.specs.Numbers.{numbered}
@@ -54,3 +54,15 @@ IsLeftBy contexts c (Some n) =
 pub record IsInOrder (contexts ordered : List (List ℕ)) : Type 0 where
   pub all : IsPermutation contexts ordered
   pub order : AllPairs (λ c d. is_before (numbers_down_to contexts c) (numbers_down_to contexts d) ≡ true) ordered
+
+-- how many contexts come before it
+abbrev pub place : List (List ℕ) → List ℕ → ℕ
+place contexts c = count_by (λ d. comes_before contexts d c) contexts
+
+-- the context at a place
+abbrev pub at_place : List (List ℕ) → ℕ → List ℕ
+at_place contexts i = slice_index_or (filter (λ c. place contexts c == i) contexts) 0 []
+
+-- the contexts in that order
+abbrev pub in_order : List (List ℕ) → List (List ℕ)
+in_order contexts = map (at_place contexts) (range_with_len 0 (length contexts))

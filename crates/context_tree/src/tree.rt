@@ -7,6 +7,7 @@ ghost use Rattle.trace_model.specs.declared.event_kinds.Event.TheVariants.{Call,
 ghost use Rattle.trace_model.specs.Profile.{done, ended};
 ghost use Rattle.cost_points.specs.Contents.{contents_of};
 ghost use Rattle.context_tree.specs.declared.errors.TreeError.{TreeError};
+ghost use Rattle.context_tree.specs.declared.numbers.TheConstants.{CONTEXTS};
 ghost use Rattle.context_tree.specs.Contexts.{contexts, same, with_context};
 ghost use Rattle.context_tree.specs.Links.{IsLinked};
 ghost use Rattle.context_tree.specs.Numbers.{IsBeyond, IsNumberOf, numbered};
@@ -124,6 +125,7 @@ impl Tree {
     /// How many contexts there are.
     pub fn contexts(&self) -> usize
         ensures value { result ≡ length self.now.places }
+        ensures few { result ≤ CONTEXTS }
         ensures stands { (past : List Event) → StandsFor self.now past → result ≡ length (contexts past) }
         ensures ordered { (past : List Event) → StandsFor self.now past → (ordered : List (List ℕ)) × IsInOrder (contexts past) ordered }
     {

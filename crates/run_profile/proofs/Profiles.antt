@@ -121,6 +121,14 @@ observed most e k new after more past p taken adds = (
   taken.fits,
 )
 
+-- what is too deep does not fit
+pub does_not_fit : (most : ℕ) (e : Event) (k : State) (past : List Event) → StandsFor most k past → (is_too_deep most e past ≡ false → ⊥) → is_within most (e ∷ past) ≡ false
+does_not_fit most e k past stands deep = turn (is_too_deep most e past) (is_within most (e ∷ past)) (deep_does_not_fit most e (table_of_state k) past stands) deep
+  where
+    turn : (d w : Bool) → d ≡ not w → (d ≡ false → ⊥) → w ≡ false
+    turn d false is none = refl
+    turn d true is none = absurd (none is)
+
 -- it is too deep
 pub refused : (most : ℕ) (e : Event) (k : Kept) (new : State) (after : List Done) (past : List Event) → IsProfileOf most k past →
     table_of_state new ≡ table_of_state k.stamps → after ≡ k.ended → (is_too_deep most e past ≡ false → ⊥) →
@@ -134,12 +142,8 @@ refused most e k new after past p same kept deep = (
     points = p.points ∙ ap (λ (ds : List Done). contents_of (p.earlier ++ take k.added ds)) (sym kept);
     steps_are = p.steps_are;
   },
-  turn (is_too_deep most e past) (is_within most (e ∷ past)) (deep_does_not_fit most e (table_of_state k.stamps) past p.stands) deep,
+  does_not_fit most e k.stamps past p.stands deep,
 )
-  where
-    turn : (d w : Bool) → d ≡ not w → (d ≡ false → ⊥) → w ≡ false
-    turn d false is none = refl
-    turn d true is none = absurd (none is)
 
 -- ---- What the run comes to.
 pub comes_to : (most : ℕ) (k : Kept) (past : List Event) → IsProfileOf most k past → k.ended ≡ [] → k.points ≡ contents_of (done past)

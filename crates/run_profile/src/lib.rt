@@ -7,5 +7,5 @@ mod points;
 mod profile;
 mod totals;
 
-pub use profile::Profile;
+pub use profile::{Profile, steps_of};
 pub use totals::Totals;

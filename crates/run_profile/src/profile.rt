@@ -33,9 +33,9 @@ impl<S: Lanes> Model for Profile<S> {
     ghost view = { λ p. record { stamps = p.profiler; points = p.points; ended = p.ended.items; added = p.added; steps = p.steps } };
 }
 
-// How many steps the event is.
+/// How many steps the event is.
 #[inline(always)]
-fn steps_of(e: &Event) -> u64
+pub fn steps_of(e: &Event) -> u64
     ensures { result ≡ steps (e.now ∷ []) }
 {
     match *e {

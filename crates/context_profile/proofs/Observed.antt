@@ -1,0 +1,50 @@
+-- The contexts of a run with one event more.
+use Rattle.std.proofs.Common.{◌≡◌, ◌∙◌, ℕ, ◌+◌, false, true, List, [], ◌∷◌, ◌++◌, None, Some, ap, subst, sym, arith}
+use Rattle.std.specs.Option.{option_to_list}
+use Rattle.trace_model.specs.declared.event_kinds.Event.{Event}
+use Rattle.trace_model.specs.declared.slow_profile.Done.{Done}
+use Rattle.trace_model.specs.Depth.{is_within}
+use Rattle.trace_model.specs.Profile.{ended, steps}
+use Rattle.run_profile.proofs.Profiles.{does_not_fit, one_more}
+use Rattle.shadow_core.specs.Applying.{IsTaken, is_too_deep}
+use Rattle.shadow_core.specs.Stands.{Stands}
+use Rattle.shadow_core.specs.State.{State, table_of_state}
+use Rattle.shadow_core.specs.Table.{Table}
+use Rattle.context_profile.specs.Kept.{AreContextsOf, HasTree, Kept, ended_at}
+
+module _ (most : ℕ) (e : Event) (k : Kept) (new : State) (after : List Done) (past : List Event) (p : AreContextsOf most k past) (none : k.next ≡ None) where
+  -- it is taken
+  pub observed : (more : ℕ) → IsTaken most e past new k.ended after → more ≡ steps (e ∷ []) →
+      AreContextsOf most (record k { stamps = new; next = Some e; ended = after; steps = k.steps + more }) (e ∷ past) × (is_within most (e ∷ past) ≡ true)
+  observed more taken adds =
+      let same : past ≡ p.earlier = p.all ∙ ap (λ n. option_to_list n ++ p.earlier) none in
+      let empty : k.ended ≡ [] = p.ended_is ∙ ap (λ n. ended_at n p.earlier) none in (
+        record {
+          stands = taken.stands;
+          earlier = p.earlier;
+          all = ap (λ (es : List Event). e ∷ es) same;
+          tree = p.tree;
+          ended_is = taken.recorded ∙ ap (λ (ds : List Done). ds ++ ended e past) empty ∙ ap (ended e) same;
+          steps_are = omega (arith, p.steps_are, adds, one_more e past);
+        },
+        taken.fits,
+      )
+
+  -- it is too deep
+  pub refused : table_of_state new ≡ table_of_state k.stamps → after ≡ k.ended → (is_too_deep most e past ≡ false → ⊥) →
+      AreContextsOf most (record k { stamps = new; ended = after }) past × (is_within most (e ∷ past) ≡ false)
+  refused same kept deep = (
+    record {
+      stands = subst (λ (table : Table). Stands most table past) (sym same) p.stands;
+      earlier = p.earlier;
+      all = p.all;
+      tree = p.tree;
+      ended_is = kept ∙ p.ended_is;
+      steps_are = p.steps_are;
+    },
+    does_not_fit most e k.stamps past p.stands deep,
+  )
+
+-- what is kept where no event is still to come
+pub settled : (most : ℕ) (k : Kept) (past : List Event) → AreContextsOf most k past → k.next ≡ None → HasTree k.tree past
+settled most k past p none = subst (HasTree k.tree) (sym (p.all ∙ ap (λ n. option_to_list n ++ p.earlier) none)) p.tree

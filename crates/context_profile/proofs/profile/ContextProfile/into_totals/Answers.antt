@@ -1,0 +1,36 @@
+use Rattle.std.proofs.Common.{◌∙◌, ap, subst, sym}
+use Rattle.context_profile.specs.Kept.{AreContextsOf, HasTree, Kept}
+use Rattle.context_profile.proofs.Observed.{settled}
+use Rattle.context_profile.proofs.profile.ContextProfile.into_totals.Goals as goal
+
+pub returns-in_default : goal.returns-in_default
+returns-in_default g c = λ past kept.
+    let p = subst (λ (k : Kept). AreContextsOf g.S.Stamp.MAX k past) (sym c.profile.view_is) (c.settle.ensures.stands past kept) in
+    subst (λ tree. HasTree tree past) c.in_default.is
+    (settled g.S.Stamp.MAX _ past p (ap (λ (k : Kept). k.next) c.profile.view_is ∙ c.in_ok-settle.ensures.settled))
+
+pub totals-requires : goal.totals-requires
+totals-requires g c =
+    let past = c.requires.past in
+    let p = subst (λ (k : Kept). AreContextsOf g.S.Stamp.MAX k past) (sym c.profile.view_is) (c.settle.ensures.stands past c.requires.now) in
+    record {
+      past = past;
+      now = subst (λ tree. HasTree tree past) c.in-Some.is
+          (settled g.S.Stamp.MAX _ past p (ap (λ (k : Kept). k.next) c.profile.view_is ∙ c.in_ok-settle.ensures.settled));
+      light = c.requires.light;
+    }
+
+pub returns : goal.returns
+returns g c = λ past kept.
+    let p = subst (λ (k : Kept). AreContextsOf g.S.Stamp.MAX k past) (sym c.profile.view_is) (c.settle.ensures.stands past kept) in
+    let tree = subst (λ tree. HasTree tree past) c.in-Some.is
+    (settled g.S.Stamp.MAX _ past p (ap (λ (k : Kept). k.next) c.profile.view_is ∙ c.in_ok-settle.ensures.settled)) in
+    record {
+      totals_are = record {
+        points = c.in_ok-totals.ensures past tree;
+        steps_are = p.steps_are;
+        pending_are = c.pending.ensures.stands past p.stands;
+        renumbered_are = c.renumbered.ensures.stands past p.stands;
+      };
+      tree = tree;
+    }

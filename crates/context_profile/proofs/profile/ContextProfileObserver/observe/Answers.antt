@@ -1,0 +1,28 @@
+use Rattle.std.proofs.Common.{arith, ◌∙◌, ap, subst, sym}
+use Rattle.run_profile.proofs.Profiles.{few_steps}
+use Rattle.context_profile.specs.Kept.{AreContextsOf, Kept}
+use Rattle.context_profile.proofs.Observed.{observed, refused}
+use Rattle.context_profile.proofs.profile.ContextProfileObserver.observe.Goals as goal
+
+pub apply-requires : goal.apply-requires
+apply-requires g c =
+    let p = subst (λ (k : Kept). AreContextsOf g.S.Stamp.MAX k c.requires.past) (sym c.self.view_is) (c.settle.ensures.stands c.requires.past c.requires.now) in
+    record { past = c.requires.past; now = p.stands; formed = c.requires.formed }
+
+pub overflow_add-self : goal.overflow_add-self
+overflow_add-self g c =
+    let p = subst (λ (k : Kept). AreContextsOf g.S.Stamp.MAX k c.requires.past) (sym c.self.view_is) (c.settle.ensures.stands c.requires.past c.requires.now) in
+    omega (arith, few_steps c.self.inside.steps c.steps_of.result c.args.e c.requires.past c.requires.formed.1 p.steps_are c.steps_of.ensures)
+
+pub returns-in-Ok-clause-observed : goal.returns-in-Ok-clause-observed
+returns-in-Ok-clause-observed g c = λ past kept.
+    let p = subst (λ (k : Kept). AreContextsOf g.S.Stamp.MAX k past) (sym c.self.view_is) (c.settle.ensures.stands past kept) in
+    observed g.S.Stamp.MAX c.args.e _ c.apply.new.self c.apply.new.done.items past p (ap (λ (k : Kept). k.next) c.self.view_is ∙ c.in_ok-settle.ensures.settled)
+    c.steps_of.result (c.in-Ok.ensures.stands past p.stands) c.steps_of.ensures
+
+pub returns-in-Err-TooDeep-clause-observed : goal.returns-in-Err-TooDeep-clause-observed
+returns-in-Err-TooDeep-clause-observed g c = λ past kept.
+    let p = subst (λ (k : Kept). AreContextsOf g.S.Stamp.MAX k past) (sym c.self.view_is) (c.settle.ensures.stands past kept) in
+    refused g.S.Stamp.MAX c.args.e _ c.apply.new.self c.apply.new.done.items past p (ap (λ (k : Kept). k.next) c.self.view_is ∙ c.in_ok-settle.ensures.settled)
+    c.in-Err-TooDeep.ensures.refused c.in-Err-TooDeep.ensures.kept
+    (λ shallow. absurd (let no = c.in-Err-TooDeep.ensures.not_deep past p.stands shallow in cc))

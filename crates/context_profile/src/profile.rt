@@ -1,0 +1,143 @@
+//! The contexts of a run that goes on.
+ghost use Rattle.std.specs.Prelude.{◌≡◌, ◌≤◌, [], ◌∷◌, List, IfOk, MatchOption, None, OnErr, OnOk};
+ghost use Rattle.trace_model.specs.declared.event_kinds.Event.{Event};
+ghost use Rattle.trace_model.specs.Profile.{ended};
+ghost use Rattle.context_profile.specs.Kept.{AreContextsOf, AreOfLight, AreTotalsOf, HasTree, IsPastNumbers, MayGrow};
+
+use context_tree::{Tree, TreeError};
+use run_profile::{Totals, steps_of};
+use shadow_core::{ApplyError, Profiler};
+use stamp_lanes::Lanes;
+use std::alloc::{AllocError, Global};
+use std::marker::Model;
+use trace_model::{Done, Event, Observed, Observer};
+
+/// The contexts of the events so far with their points, by stamps of a width. They are dropped once there are more than can be
+/// numbered. It takes all pasts whose open activations the stamps tell apart.
+#[derive(Drop)]
+pub struct ContextProfile<S: Lanes> {
+    profiler: Profiler<S>,
+    tree: Option<Tree>,
+    // The newest event, where it is still to come into the tree, and what ended at it: an event that was taken is not refused
+    // for want of a context.
+    next: Option<Event>,
+    ended: Vec<Done>,
+    steps: u64,
+}
+
+impl<S: Lanes> Model for ContextProfile<S> {
+    ghost use Rattle.context_profile.specs.Kept.{Kept};
+
+    ghost Value = { Kept };
+
+    ghost view = { λ p. record { stamps = p.profiler; tree = p.tree; next = p.next; ended = p.ended.items; steps = p.steps } };
+}
+
+/// What a run comes to, and its contexts with their points.
+#[derive(Drop)]
+pub struct ContextTotals {
+    pub totals: Totals,
+    pub tree: Tree,
+}
+
+// Takes an event into the tree, unless there is none any more. A tree that has no number for a context is dropped.
+fn grow(tree: &mut Option<Tree>, e: Event, ends: &[Done]) -> Result<(), AllocError>
+    requires { MayGrow tree.old e ends.now }
+    ensures grown { (past : List Event) → HasTree tree.old past → ends.now ≡ ended e past → OnOk result (HasTree tree.new (e ∷ past)) }
+    ensures refused { OnErr result (tree.new ≡ tree.old) }
+{
+    let Some(kept) = tree else {
+        return Ok(());
+    };
+    match kept.apply(e, ends) {
+        Ok(()) => Ok(()),
+        Err(TreeError::TooMany) => {
+            *tree = None;
+            Ok(())
+        }
+        Err(TreeError::Memory) => Err(AllocError),
+    }
+}
+
+impl<S: Lanes> ContextProfile<S> {
+    /// No event so far.
+    pub fn new(alloc: Global) -> Result<ContextProfile<S>, AllocError>
+        requires { 3 ≤ S.MAX }
+        ensures { IfOk result (λ profile. AreContextsOf S.MAX profile []) }
+    {
+        Ok(ContextProfile {
+            profiler: Profiler::new(alloc)?,
+            tree: Some(Tree::new(alloc)?),
+            next: None,
+            ended: Vec::new(alloc),
+            steps: 0,
+        })
+    }
+
+    // Takes the newest event into the tree, where that is still to come.
+    #[inline(always)]
+    fn settle(&mut self) -> Result<(), AllocError>
+        requires { AreOfLight S.MAX self.old }
+        ensures stands { (past : List Event) → AreContextsOf S.MAX self.old past → AreContextsOf S.MAX self.new past }
+        ensures settled { OnOk result (self.new.next ≡ None) }
+    {
+        if let Some(e) = self.next {
+            grow(&mut self.tree, e, &self.ended)?;
+            self.ended.clear();
+            self.next = None;
+        }
+        Ok(())
+    }
+
+    /// What the run comes to with its contexts; `None` where they are more than can be numbered.
+    pub fn into_totals(self, alloc: Global) -> Result<Option<ContextTotals>, AllocError>
+        requires { AreOfLight S.MAX self }
+        ensures { IfOk result (λ found. (past : List Event) → AreContextsOf S.MAX self past
+            → MatchOption found (IsPastNumbers past) (λ totals. AreTotalsOf S.MAX totals past)) }
+    {
+        let mut profile = self;
+        profile.settle()?;
+        let ContextProfile {
+            profiler,
+            tree,
+            steps,
+            ..
+        } = profile;
+        let Some(tree) = tree else {
+            return Ok(None);
+        };
+        let totals = Totals {
+            pending: profiler.pending(),
+            renumbered: profiler.renumbered(),
+            steps,
+            points: tree.totals(alloc)?,
+        };
+        Ok(Some(ContextTotals { totals, tree }))
+    }
+}
+
+impl<S: Lanes> Observer for ContextProfile<S> {
+    ghost use Rattle.trace_model.specs.Depth.{is_within};
+    ghost use Rattle.trace_model.proofs.Cut.{within_closed};
+    ghost use Rattle.context_profile.specs.Kept.{AreContextsOf};
+
+    ghost stands = { AreContextsOf S.MAX };
+
+    ghost fits = { λ _. is_within S.MAX };
+
+    ghost fits_closed = { λ _. within_closed S.MAX };
+
+    #[inline(always)]
+    fn observe(&mut self, e: Event) -> Result<Observed, AllocError> {
+        self.settle()?;
+        match self.profiler.apply(e, &mut self.ended) {
+            Ok(()) => {
+                self.steps += steps_of(&e);
+                self.next = Some(e);
+                Ok(Observed::Taken)
+            }
+            Err(ApplyError::TooDeep { .. }) => Ok(Observed::Refused),
+            Err(ApplyError::Memory) => Err(AllocError),
+        }
+    }
+}
