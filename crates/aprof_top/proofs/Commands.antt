@@ -4,8 +4,8 @@ use Rattle.std.specs.Prelude.{nat_lt}
 use Rattle.std.specs.List.{AllByRecursion, list_any}
 use Rattle.std.proofs.lemmas.Bool.Decides.{nat_tests}
 use Rattle.std.proofs.lemmas.Option.{slice_get_within}
-use Rattle.command_line.specs.Options.{Asked, AsksFor, CacheOptions, GuestOptions, RunOptions, TraceOptions, has_zero}
-use Rattle.command_line.specs.Options.Asked.{Run, Trace, Cache, Demo}
+use Rattle.command_line.specs.Options.{Asked, AsksFor, CacheOptions, ContextsOptions, GuestOptions, RunOptions, TraceOptions, has_zero}
+use Rattle.command_line.specs.Options.Asked.{Run, Trace, Cache, Contexts, Demo}
 use Rattle.host_io.specs.Files.{Contents, FilesState}
 use Rattle.host_io.specs.Sink.{PutEnds, SinkState, appended}
 use Rattle.host_io.specs.declared.sink.PutError.{PutError}
@@ -24,7 +24,7 @@ use Rattle.aprof_top.specs.Found.{Decision, Found, length_limit, paths_of}
 use Rattle.aprof_top.specs.Limits.{file_limit}
 use Rattle.aprof_top.specs.Loading.{LoadsEnd}
 use Rattle.aprof_top.specs.Loads.{loaded_of, loaded_paths, passes_limit, shared_count}
-use Rattle.aprof_top.specs.Outcome.{Follows, IsDemo, IsOutcome, IsRun, IsUndecided, Job, Outcome, cache_job, refusal, run_job, stage, trace_job}
+use Rattle.aprof_top.specs.Outcome.{Follows, IsDemo, IsOutcome, IsRun, IsUndecided, Job, Outcome, cache_job, contexts_job, refusal, run_job, stage, trace_job}
 use Rattle.aprof_top.specs.Outcome.Stage.{Complete, Loading, PastLimit}
 use Rattle.aprof_top.specs.Outside.{AreFiles, AreHeld, Outside, outside}
 use Rattle.aprof_top.specs.Jobs.{FilesRun, summed}
@@ -92,6 +92,9 @@ is_trace_job options = record { outcome = λ files outcome follows. follows; und
 
 pub is_cache_job : (options : CacheOptions) → IsJob (Cache options) (cache_job options)
 is_cache_job options = record { outcome = λ files outcome follows. follows; undecided = λ files is. is; paths = refl; wanted = refl; limit = refl }
+
+pub is_contexts_job : (options : ContextsOptions) → IsJob (Contexts options) (contexts_job options)
+is_contexts_job options = record { outcome = λ files outcome follows. follows; undecided = λ files is. is; paths = refl; wanted = refl; limit = refl }
 
 -- ---- before its loads and after them; its sinks are untouched
 module _ (asked : Asked) (job : Job) (is_job : IsJob asked job) (files loaded : FilesState) (out err : SinkState) where

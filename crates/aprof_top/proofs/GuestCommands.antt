@@ -1,6 +1,6 @@
 -- How a command that runs a guest ends, once its guest is prepared.
 use Rattle.std.proofs.Common.{◌≡◌, ◌∙◌, ℕ, Bool, true, List, None, Result, refl, sym, ap₂}
-use Rattle.command_line.specs.Options.{Asked, CacheOptions, GuestOptions, RunOptions, TraceOptions, arguments}
+use Rattle.command_line.specs.Options.{Asked, CacheOptions, ContextsOptions, GuestOptions, RunOptions, TraceOptions, arguments}
 use Rattle.elf_image.specs.Image.{Executable}
 use Rattle.elf_image.specs.Reading.{image_of}
 use Rattle.guest_machine.specs.Setup.{setup_refusal}
@@ -21,13 +21,13 @@ use Rattle.aprof_top.specs.declared.preparation.Prepared as prepared_guest
 use Rattle.aprof_top.specs.Ending.{AskedEnds}
 use Rattle.aprof_top.specs.Jobs.{RunIsStored, RunStops, desk, ending_by}
 use Rattle.aprof_top.specs.Loads.{Loaded, loaded_of}
-use Rattle.aprof_top.specs.Outcome.{Job, Outcome, cache_job, cache_outcome, run_job, run_outcome, trace_job, trace_outcome}
+use Rattle.aprof_top.specs.Outcome.{Job, Outcome, cache_job, cache_outcome, contexts_job, contexts_outcome, run_job, run_outcome, trace_job, trace_outcome}
 use Rattle.aprof_top.specs.Outside.{outside}
 use Rattle.aprof_top.specs.Preparing.{IsPrepared}
 use Rattle.aprof_top.specs.Run.{first_state, observed_from}
 use Rattle.aprof_top.specs.Verdicts.{IsOfRun}
 use Rattle.aprof_top.proofs.Commands.{AskedEnds-run, IsJob}
-use Rattle.aprof_top.proofs.Recorded.{of_run_trace}
+use Rattle.aprof_top.proofs.Recorded.{of_run_contexts, of_run_trace}
 use Rattle.aprof_top.proofs.Runs.{FilesRun-given_up, FilesRun-stored, seen_by}
 
 -- What a job leaves is this of what is observed of its run, as far as it fits: the run came to it, and the output is the guest's.
@@ -46,6 +46,9 @@ trace_leaves options = record { leaves = λ loaded turns. refl; of_run = of_run_
 
 pub cache_leaves : (options : CacheOptions) → IsLeft (cache_job options) (λ past. true) (cache_outcome options)
 cache_leaves options = record { leaves = λ loaded turns. refl; of_run = λ image seen. tt; out = λ image seen. refl; err = λ image seen. refl }
+
+pub contexts_leaves : (options : ContextsOptions) → IsLeft (contexts_job options) (is_within (greatest options.bits)) (contexts_outcome options)
+contexts_leaves options = record { leaves = λ loaded turns. refl; of_run = of_run_contexts options; out = λ image seen. refl; err = λ image seen. refl }
 
 -- what is observed of the run of a guest that was prepared
 abbrev pub seen_of : (List Event → Bool) → GuestOptions → prepared_guest.Prepared → Profiled

@@ -8,7 +8,7 @@ use Rattle.std.proofs.lemmas.List.Elements.{All-cons, All-nil, All-tail}
 use Rattle.std.proofs.lemmas.List.Kept.{AllPairs-cons}
 use Rattle.std.proofs.lemmas.Grind.{flat_map-append}
 use Rattle.cache_profile.specs.ReportText.{cache_text}
-use Rattle.command_line.specs.Options.{CacheOptions, TraceOptions}
+use Rattle.command_line.specs.Options.{CacheOptions, ContextsOptions, TraceOptions}
 use Rattle.cost_points.specs.Keys as keys
 use Rattle.cost_points.proofs.Rising.{IsRising-above, IsRising-rising, IsRising-tail}
 use Rattle.elf_image.specs.Image.{Executable, name_of}
@@ -30,17 +30,25 @@ use Rattle.aprof_top.specs.declared.ending.Verdict.TheVariants.{Ran, ResultTooLa
 use Rattle.aprof_top.specs.Delivery.{StoreFails}
 use Rattle.aprof_top.specs.Ending.{of_store}
 use Rattle.aprof_top.specs.Jobs.{RunIsStored, desk}
+use Rattle.context_profile.specs.Kept.{IsPastNumbers}
+use Rattle.context_tree.specs.Contexts.{contexts}
+use Rattle.context_tree.specs.declared.numbers.TheConstants.{CONTEXTS}
+use Rattle.aprof_top.specs.ContextReports.{can_be_numbered, contexts_report}
 use Rattle.aprof_top.specs.CacheMisses.{misses_of}
-use Rattle.aprof_top.specs.Outcome.{cache_outcome, trace_outcome}
+use Rattle.aprof_top.specs.Outcome.{Outcome, cache_outcome, contexts_outcome, trace_outcome}
 use Rattle.aprof_top.specs.Traces.{is_storable, named_entries, trace_of}
 use Rattle.aprof_top.specs.Verdicts.{IsOfRun}
 
+-- a run came to a verdict by whether its result can be stored
+of_run_by : (b : Bool) (finish : Finish) → IsOfRun (if b then Ran finish else ResultTooLarge)
+of_run_by true finish = tt
+of_run_by false finish = tt
+
 pub of_run_trace : (options : TraceOptions) (image : Executable) (run : Profiled) → IsOfRun (trace_outcome options image run).verdict
-of_run_trace options image run = by (is_storable (trace_of image run)) refl
-  where
-    by : (b : Bool) → is_storable (trace_of image run) ≡ b → IsOfRun (trace_outcome options image run).verdict
-    by true is = rw is tt
-    by false is = rw is tt
+of_run_trace options image run = of_run_by (is_storable (trace_of image run)) run.finish
+
+pub of_run_contexts : (options : ContextsOptions) (image : Executable) (run : Profiled) → IsOfRun (contexts_outcome options image run).verdict
+of_run_contexts options image run = of_run_by (can_be_numbered run.past) run.finish
 
 -- a trace that is stored, and one that is too long
 pub storable : (text : List ℕ) → length text ≤ TRACE_BYTES → is_storable text ≡ true
@@ -90,7 +98,16 @@ names_rise image (e ∷ es) rising =
 pub begun_rise : (image : Executable) (entries : List ℕ) (past : List Event) → entries ≡ entries_begun past → IsRising (named_entries image entries)
 begun_rise image entries past are = names_rise image entries (subst keys.IsRising (sym are) (IsRising-rising (flat_map (λ e. option_to_list (entry_begun e)) past)))
 
--- ---- the store of a trace failed
+-- ---- the store of a result failed
+one_unstored : (outcome : Outcome) (path bytes : List ℕ) → outcome.stores ≡ (path, bytes) ∷ [] → (e : StoreError) (old new : FilesState) (err : SinkState)
+    → StoreEnds path bytes old new (Err e) → RunIsStored outcome (desk old err) (desk new err) (Err (of_store e))
+one_unstored outcome path bytes are store.Failed old new err fails = record {
+  stored = subst (λ stores. StoreFails stores old new) (sym are) (record { count = 0; store = (path, bytes); next = refl; failed = fails });
+  err = refl;
+}
+one_unstored outcome path bytes are store.Memory old new err same = record { stored = (0, same); err = refl }
+
+-- that of a trace
 module _ (options : TraceOptions) (image : Executable) (run : Profiled) (bytes : List ℕ) (is : bytes ≡ trace_of image run) (short : length bytes ≤ TRACE_BYTES) where
   stores_are : (trace_outcome options image run).stores ≡ (options.trace, bytes) ∷ []
   stores_are =
@@ -98,17 +115,23 @@ module _ (options : TraceOptions) (image : Executable) (run : Profiled) (bytes :
       ∙ ap (λ (text : List ℕ). (options.trace, text) ∷ []) (sym is)
 
   pub unstored : (e : StoreError) (old new : FilesState) (err : SinkState) → StoreEnds options.trace bytes old new (Err e) → RunIsStored (trace_outcome options image run) (desk old err) (desk new err) (Err (of_store e))
-  unstored store.Failed old new err fails = record {
-    stored = subst (λ stores. StoreFails stores old new) (sym stores_are) (record { count = 0; store = (options.trace, bytes); next = refl; failed = fails });
-    err = refl;
-  }
-  unstored store.Memory old new err same = record { stored = (0, same); err = refl }
+  unstored = one_unstored (trace_outcome options image run) options.trace bytes stores_are
 
--- ---- the store of a report of cache misses failed
+-- that of a report of cache misses
 pub misses_unstored : (options : CacheOptions) (image : Executable) (run : Profiled) (bytes : List ℕ) → bytes ≡ cache_text (misses_of options.shape image run.finish run.past)
     → (e : StoreError) (old new : FilesState) (err : SinkState) → StoreEnds options.report bytes old new (Err e) → RunIsStored (cache_outcome options image run) (desk old err) (desk new err) (Err (of_store e))
-misses_unstored options image run bytes is store.Failed old new err fails = record {
-  stored = subst (λ (text : List ℕ). StoreFails ((options.report, text) ∷ []) old new) is (record { count = 0; store = (options.report, bytes); next = refl; failed = fails });
-  err = refl;
-}
-misses_unstored options image run bytes is store.Memory old new err same = record { stored = (0, same); err = refl }
+misses_unstored options image run bytes is =
+    one_unstored (cache_outcome options image run) options.report bytes (ap (λ (text : List ℕ). (options.report, text) ∷ []) (sym is))
+
+-- that of a report with contexts
+pub few_contexts : (past : List Event) → length (contexts past) ≤ CONTEXTS → can_be_numbered past ≡ true
+few_contexts past few = grind (arith, nat_tests, few)
+
+pub many_contexts : (past : List Event) → IsPastNumbers past → can_be_numbered past ≡ false
+many_contexts past many = grind (arith, nat_tests, many)
+
+pub contexts_unstored : (options : ContextsOptions) (image : Executable) (run : Profiled) (bytes : List ℕ) → can_be_numbered run.past ≡ true → bytes ≡ contexts_report image run
+    → (e : StoreError) (old new : FilesState) (err : SinkState) → StoreEnds options.report bytes old new (Err e) → RunIsStored (contexts_outcome options image run) (desk old err) (desk new err) (Err (of_store e))
+contexts_unstored options image run bytes few is =
+    one_unstored (contexts_outcome options image run) options.report bytes
+    (ap (λ (b : Bool). if b then (options.report, contexts_report image run) ∷ [] else []) few ∙ ap (λ (text : List ℕ). (options.report, text) ∷ []) (sym is))

@@ -19,6 +19,10 @@ use Rattle.aprof_top.specs.declared.ending.Verdict.TheVariants.{Summarized, TooL
 use Rattle.run_profile.specs.Profile.{AreTotalsOf}
 use Rattle.aprof_top.specs.declared.delivery.Store.{Store}
 use Rattle.aprof_top.specs.declared.profiled_run.ProfiledRun.{ProfiledRun}
+use Rattle.aprof_top.specs.declared.contexts_run.ContextsRun.{ContextsRun}
+use Rattle.context_profile.specs.Kept.{IsPastNumbers}
+use Rattle.context_profile.specs.Kept as contexts
+use Rattle.context_profile.specs.declared.profile.ContextTotals.{ContextTotals}
 use Rattle.aprof_top.specs.declared.traced_run.TracedRun.{TracedRun}
 use Rattle.cache_lines.specs.Shapes.{Form}
 use Rattle.cache_profile.specs.ReportText.{Reported}
@@ -94,6 +98,22 @@ pub record IsMissed (shape : Form) (image : Executable) (run : Profiled) (before
 abbrev pub ImageIsMissed : Form → Executable → Option SetupError → Profiled → Sinks → Sinks → Result Reported Ending → Type 0
 ImageIsMissed shape image setup run before after (Ok report) = (setup ≡ None) × IsMissed shape image run before after report
 ImageIsMissed shape image setup run before after (Err e) = RunStops setup run before after e
+
+-- what the run comes to with its contexts, unless they are more than can be numbered
+abbrev pub HaveContexts : ℕ → Option ContextTotals → List Event → Type 0
+HaveContexts most None past = IsPastNumbers past
+HaveContexts most (Some totals) past = contexts.AreTotalsOf most totals past
+
+-- The run came to its end: these are its contexts; all of its output was put, and this is its end.
+pub record HasContexts (most : ℕ) (run : Profiled) (before after : Sinks) (told : ContextsRun) : Type 0 where
+  pub contexts_are : HaveContexts most told.contexts run.past
+  pub output : after ≡ with_output run.moves before
+  pub finish : told.finish ≡ run.finish
+
+-- How the run of an executable ends whose contexts are told apart by stamps up to the greatest.
+abbrev pub ImageHasContexts : ℕ → Option SetupError → Profiled → Sinks → Sinks → Result ContextsRun Ending → Type 0
+ImageHasContexts most setup run before after (Ok told) = (setup ≡ None) × HasContexts most run before after told
+ImageHasContexts most setup run before after (Err e) = RunStops setup run before after e
 
 -- the path and the bytes of a file to store
 abbrev pub store_of : Store → List ℕ × List ℕ

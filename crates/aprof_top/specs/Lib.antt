@@ -1,6 +1,7 @@
 -- What a reader has to believe: the headline is IsAnswered of Answers, over these.
 pub mod Answers
 pub mod CacheMisses
+pub mod ContextReports
 pub mod Delivery
 pub mod Ends
 pub mod Found

@@ -1,7 +1,7 @@
 -- What the written product answers to a command, over the files that it loads.
 use Rattle.std.specs.Prelude.{◌≡◌, ◌≢◌, ◌⊎◌, ℕ, ◌^◌, Bool, true, false, codes, nat_lt, List, [], ◌∷◌, ◌++◌, length, Option, Some, None, if◌then◌else◌}
-use Rattle.command_line.specs.Options.{Asked, CacheOptions, GuestOptions, ReplayOptions, RunOptions, TraceOptions, arguments}
-use Rattle.command_line.specs.Options.Asked.{Run, Trace, Cache, Replay, Demo}
+use Rattle.command_line.specs.Options.{Asked, CacheOptions, ContextsOptions, GuestOptions, ReplayOptions, RunOptions, TraceOptions, arguments}
+use Rattle.command_line.specs.Options.Asked.{Run, Trace, Cache, Contexts, Replay, Demo}
 use Rattle.elf_image.specs.declared.error.ElfError.{ElfError}
 use Rattle.elf_image.specs.Image.{Executable}
 use Rattle.elf_image.specs.Reading.{image_of}
@@ -30,6 +30,7 @@ use Rattle.aprof_top.specs.declared.ending.Verdict.{Verdict}
 use Rattle.aprof_top.specs.declared.ending.Verdict.TheVariants.{BadCommand, BadImage, BadSchedule, BadTrace, TooLarge, Ran, Replayed, ResultTooLarge, Summarized}
 use Rattle.cache_profile.specs.ReportText.{cache_text}
 use Rattle.aprof_top.specs.CacheMisses.{misses_of}
+use Rattle.aprof_top.specs.ContextReports.{can_be_numbered, contexts_report}
 use Rattle.aprof_top.specs.Limits.{trace_limit}
 use Rattle.aprof_top.specs.Loads.{Loaded, loaded_of, loaded_paths, passes_limit, shared_count}
 use Rattle.aprof_top.specs.Report.{report_of}
@@ -102,6 +103,17 @@ cache_outcome options image run = record {
   stats = [];
 }
 
+-- what a run leaves whose calling contexts are told: its output, and its report with them unless they are more than can be
+-- numbered
+abbrev pub contexts_outcome : ContextsOptions → Executable → Profiled → Outcome
+contexts_outcome options image run = record {
+  verdict = if can_be_numbered run.past then Ran run.finish else ResultTooLarge;
+  out = bytes_on 1 run.moves;
+  err = bytes_on 2 run.moves;
+  stores = if can_be_numbered run.past then (options.report, contexts_report image run) ∷ [] else [];
+  stats = [];
+}
+
 -- A command that runs a guest: how it is run, and what its run leaves with these files, under these turns.
 pub record Job : Type 0 where
   pub guest : GuestOptions
@@ -123,6 +135,12 @@ abbrev pub cache_job : CacheOptions → Job
 cache_job options = record {
   guest = options.guest;
   leaves = λ loaded turns. cache_outcome options (image_of loaded.image) (whole_run_of options.guest loaded turns);
+}
+
+abbrev pub contexts_job : ContextsOptions → Job
+contexts_job options = record {
+  guest = options.guest;
+  leaves = λ loaded turns. contexts_outcome options (image_of loaded.image) (run_of options.bits options.guest loaded turns);
 }
 
 -- a guest that can begin is run
@@ -258,6 +276,7 @@ IsOutcome None files outcome = outcome ≡ refusal BadCommand
 IsOutcome (Some (Run options)) files outcome = Follows (run_job options) files outcome (stage options.guest files)
 IsOutcome (Some (Trace options)) files outcome = Follows (trace_job options) files outcome (stage options.guest files)
 IsOutcome (Some (Cache options)) files outcome = Follows (cache_job options) files outcome (stage options.guest files)
+IsOutcome (Some (Contexts options)) files outcome = Follows (contexts_job options) files outcome (stage options.guest files)
 IsOutcome (Some (Replay options)) files outcome = IsReplay options files outcome
 IsOutcome (Some (Demo number)) files outcome = IsDemo number outcome
 
@@ -267,5 +286,6 @@ IsUndecided None files = ⊥
 IsUndecided (Some (Run options)) files = stage options.guest files ≡ Loading
 IsUndecided (Some (Trace options)) files = stage options.guest files ≡ Loading
 IsUndecided (Some (Cache options)) files = stage options.guest files ≡ Loading
+IsUndecided (Some (Contexts options)) files = stage options.guest files ≡ Loading
 IsUndecided (Some (Replay options)) files = files ≡ []
 IsUndecided (Some (Demo number)) files = ⊥

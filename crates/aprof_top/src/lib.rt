@@ -3,6 +3,8 @@
 #![tactic(auto)]
 
 mod cache_job;
+mod contexts_job;
+mod contexts_run;
 mod delivery;
 mod demo;
 mod ending;

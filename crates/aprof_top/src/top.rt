@@ -12,6 +12,7 @@ ghost use Rattle.command_line.specs.Options.Asked.{Demo};
 ghost use Rattle.command_line.specs.Read.{IsInRange, asked_in};
 
 use crate::cache_job::cache_command;
+use crate::contexts_job::contexts_command;
 use crate::delivery::put_all;
 use crate::demo::run_demo;
 use crate::ending::{Ending, Verdict, ending_by, tell};
@@ -52,6 +53,7 @@ fn do_command<F: Files, O: Sink, E: Sink>(
         Command::Run(command) => run_command(alloc, command, files, out, err),
         Command::Trace(command) => trace_command(alloc, command, files, out, err),
         Command::Cache(command) => cache_command(alloc, command, files, out, err),
+        Command::Contexts(command) => contexts_command(alloc, command, files, out, err),
         Command::Replay(command) => replay_command(alloc, command, files, err),
         Command::Demo(number) => show_demo(alloc, *number, out),
     }
@@ -65,6 +67,7 @@ fn wanted_of<'c, 'a>(command: &'c Command<'a>) -> Wanted<'c, 'a>
         Command::Run(command) => Wanted::Guest(&command.guest),
         Command::Trace(command) => Wanted::Guest(&command.guest),
         Command::Cache(command) => Wanted::Guest(&command.guest),
+        Command::Contexts(command) => Wanted::Guest(&command.guest),
         Command::Replay(command) => Wanted::Trace(command.trace),
         Command::Demo(_) => Wanted::Nothing,
     }
