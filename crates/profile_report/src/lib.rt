@@ -20,4 +20,4 @@ pub use line_text::{
 };
 pub use reader::{ReportError, read_report};
 pub use report::{Report, ReportVersion, Routine};
-pub use writer::write_report;
+pub use writer::{push_points, write_report};

@@ -12,7 +12,7 @@ use cost_points::Point;
 use std::alloc::{AllocError, Global};
 
 /// Appends a line for each point.
-fn push_points(text: &mut Vec<u8>, points: &[Point]) -> Result<(), AllocError>
+pub fn push_points(text: &mut Vec<u8>, points: &[Point]) -> Result<(), AllocError>
     ensures { OnOk result (text.new.items
         ≡ text.old.items ++ flat_map (λ p. ended (point_line p)) points.now) }
 {
