@@ -1,17 +1,18 @@
 -- The contexts that were told so far.
-use Rattle.std.proofs.Common.{◌≡◌, ℕ, suc, ◌+◌, ◌-◌, ◌<◌, ◌≤◌, List, [], ◌∷◌, ◌++◌, length, get_or, take, Option, Some, None, refl, sym, ap, ap₂, ◌∙◌, subst, arith, append_assoc, length-append}
+use Rattle.std.proofs.Common.{◌≡◌, ℕ, suc, ◌+◌, ◌-◌, ◌<◌, List, [], ◌∷◌, ◌++◌, length, get_or, take, Option, Some, None, refl, sym, ap, ap₂, ◌∙◌, arith, append_assoc, length-append}
+use Rattle.std.specs.Prelude.{codes}
 use Rattle.std.specs.List.{flat_map}
 use Rattle.std.specs.Option.{IsSome}
 use Rattle.std.proofs.lemmas.List.{flat_map_more, take_more}
 use Rattle.std.proofs.Math.Seq.{get_or-append_seam}
 use Rattle.trace_model.specs.declared.event_kinds.Event.{Event}
 use Rattle.cost_points.specs.declared.point.Point.{Point}
-use Rattle.profile_report.specs.LineForms.{ended, point_line}
+use Rattle.profile_report.specs.LineForms.{ended, labelled, point_line}
 use Rattle.context_tree.specs.Numbers.{StandsFor, numbered}
 use Rattle.context_tree.specs.Order.{IsFollowedBy, IsInOrder}
 use Rattle.context_tree.specs.Trees.{IsShown}
 use Rattle.context_tree.proofs.Listed.{as_long, first_listed, next_listed, next_there, some_entries, some_first}
-use Rattle.context_report.specs.ContextText.{context_line, context_text}
+use Rattle.context_report.specs.ContextText.{context_line, context_text, contexts_text}
 
 -- the number is that of the context at the place
 pub record StandsAt (known ordered : List (List ℕ)) (k : ℕ) (o : Option ℕ) : Type 0 where
@@ -19,10 +20,13 @@ pub record StandsAt (known ordered : List (List ℕ)) (k : ℕ) (o : Option ℕ)
   pub is : o ≡ Some number
   pub there : numbered known number ≡ get_or ordered k []
 
+not_none : (o : Option ℕ) → IsSome o → o ≡ None → ⊥
+not_none None is none = absurd (cc)
+not_none (Some n) is none = absurd (cc)
+
 pub stands_first : (places : List (ℕ × ℕ)) (known ordered : List (List ℕ)) → StandsFor places known → IsInOrder known ordered → (o : Option ℕ) → IsFollowedBy known [] o → 0 < length ordered → StandsAt known ordered 0 o
 stands_first places known ordered stands in_order None next some =
-    let there : IsSome None = some_first places known stands (omega (arith, some, as_long known ordered in_order)) None next in
-    absurd (cc)
+    absurd (not_none None (some_first places known stands (omega (arith, some, as_long known ordered in_order)) None next) refl)
 stands_first places known ordered stands in_order (Some n) next some = record {
   number = n;
   is = refl;
@@ -58,3 +62,21 @@ lines_of past c depth entry points shown first =
     in
     append_assoc first (ended (context_line depth entry)) (flat_map (λ p. ended (point_line p)) points)
     ∙ ap₂ (λ a b. first ++ (a ++ flat_map (λ p. ended (point_line p)) b)) (ap₂ (λ a b. ended (context_line a b)) deep last) shown.points_are
+
+-- what is kept as the next is the one at the place
+pub same_context : (known ordered : List (List ℕ)) (k : ℕ) (o : Option ℕ) (n : ℕ) → o ≡ Some n → StandsAt known ordered k o → numbered known n ≡ get_or ordered k []
+same_context known ordered k o n is at =
+    let both : Some n ≡ Some at.number = sym is ∙ at.is in
+    let same : n ≡ at.number = cc in
+    ap (numbered known) same ∙ at.there
+
+pub none_some : (o : Option ℕ) (n : ℕ) → o ≡ None → o ≡ Some n → ⊥
+none_some o n none some = let both : None ≡ Some n = sym none ∙ some in absurd (cc)
+
+-- the whole text
+pub whole_text : (past : List Event) (ordered : List (List ℕ)) (first one two : List ℕ) (n : ℕ) → one ≡ first ++ ended (codes "contexts 1") → two ≡ one ++ flat_map (context_text past) ordered → n ≡ length ordered →
+    two ++ ended (labelled (codes "done ") n) ≡ first ++ contexts_text past ordered
+whole_text past ordered first one two n starts goes counts =
+    ap₂ (λ us k. us ++ ended (labelled (codes "done ") k)) (goes ∙ ap (λ us. us ++ flat_map (context_text past) ordered) starts) counts
+    ∙ append_assoc (first ++ ended (codes "contexts 1")) (flat_map (context_text past) ordered) (ended (labelled (codes "done ") (length ordered)))
+    ∙ append_assoc first (ended (codes "contexts 1")) (flat_map (context_text past) ordered ++ ended (labelled (codes "done ") (length ordered)))

@@ -1,11 +1,16 @@
-use Rattle.std.proofs.Common.{◌≡◌, ◌∙◌, ◌++◌, ◌<◌, ◌≤◌, ◌+◌, [], ℕ, List, length, Option, Some, None, refl, ap, sym, subst, arith}
+use Rattle.std.proofs.Common.{◌≡◌, ◌∙◌, ◌++◌, ◌<◌, ◌≤◌, ◌+◌, [], ℕ, List, length, get_or, Option, ap, sym, subst, arith}
+use Rattle.std.specs.Prelude.{Vec}
+use Rattle.std.specs.declared.alloc.Global.{Global}
 use Rattle.std.specs.List.{flat_map}
+use Rattle.trace_model.specs.declared.event_kinds.Event.{Event}
+use Rattle.context_tree.specs.Order.{IsInOrder}
+use Rattle.context_tree.specs.Trees.{StandsFor}
 use Rattle.std.proofs.lemmas.List.{append-nil, take_all}
 use Rattle.context_tree.specs.Contexts.{contexts}
 use Rattle.context_tree.specs.Numbers.{numbered}
 use Rattle.context_tree.proofs.Listed.{as_long, follower_some}
 use Rattle.context_report.specs.ContextText.{context_text}
-use Rattle.context_report.proofs.Told.{StandsAt, stands_first, stands_next, told_more}
+use Rattle.context_report.proofs.Told.{StandsAt, none_some, same_context, stands_first, stands_next, told_more}
 use Rattle.context_report.proofs.writer.push_each.Goals as goal
 use Rattle.context_report.proofs.writer.push_each.Goals.{in-Some+in_ok-push_context, in_default}
 
@@ -21,8 +26,35 @@ loop-init c = record {
 
 pub loop-preserved : goal.loop-preserved
 loop-preserved c = elim c.match-next.branch [
-  | in-Some+in_ok-push_context w ↦ let a = w.next-is in let b = w.text-is in let d = w.in-Some in ?
-  | in_default w ↦ let a = w.next-is in let b = w.text-is in let d = w.in_default in ?
+  | in-Some+in_ok-push_context w ↦
+      let n = w.in-Some.n in
+      let p = c.requires in
+      let here : (past : List Event) (ordered : List (List ℕ)) → StandsFor c.args.tree.now past → IsInOrder (contexts past) ordered → c.loop.counter < length ordered →
+      numbered (contexts past) w.in-Some.n ≡ get_or ordered c.loop.counter [] =
+      λ past ordered stands in_order lt. same_context (contexts past) ordered c.loop.counter c.loop.next w.in-Some.n w.in-Some.is (c.loop.invariant.at past ordered stands in_order lt)
+      in
+      record {
+        one = λ m is.
+            let there = follower_some (contexts c.requires.past) (numbered (contexts c.requires.past) w.in-Some.n) w.next_in_order-next-in-Some.result m (w.next_in_order-next-in-Some.ensures c.requires.past c.requires.now) (sym w.next-is ∙ is) in
+            (there.0, omega (arith, there.1, c.requires.now.contexts_are.long));
+        at = λ past ordered stands in_order some.
+            subst (λ (o : Option ℕ). StandsAt (contexts past) ordered (c.loop.counter + 1) o) (sym w.next-is)
+            (stands_next (contexts past) ordered in_order c.loop.counter w.in-Some.n w.next_in_order-next-in-Some.result (here past ordered stands in_order (omega (arith, some)))
+            (w.next_in_order-next-in-Some.ensures past stands) some);
+        text = λ past ordered stands in_order.
+            let lt : c.loop.counter < length ordered = omega (arith, c.loop-test.true, c.contexts-end.ensures.stands past stands, as_long (contexts past) ordered in_order) in
+            told_more past ordered c.args.text.now.items c.loop.text.items c.match-next.text.items c.loop.counter (numbered (contexts past) w.in-Some.n) lt (c.loop.invariant.text past ordered stands in_order)
+            (here past ordered stands in_order lt) (ap (λ (v : Vec ℕ Global). v.items) w.text-is ∙ w.in_ok-push_context.ensures past stands);
+      }
+  | in_default w ↦
+      record {
+        one = λ m is. absurd (none_some c.loop.next m w.in_default.is (sym w.next-is ∙ is));
+        at = λ past ordered stands in_order some.
+            let st = c.loop.invariant.at past ordered stands in_order (omega (arith, some)) in absurd (none_some c.loop.next st.number w.in_default.is st.is);
+        text = λ past ordered stands in_order.
+            let lt : c.loop.counter < length ordered = omega (arith, c.loop-test.true, c.contexts-end.ensures.stands past stands, as_long (contexts past) ordered in_order) in
+            let st = c.loop.invariant.at past ordered stands in_order lt in absurd (none_some c.loop.next st.number w.in_default.is st.is);
+      }
 ]
 
 pub returns : goal.returns
