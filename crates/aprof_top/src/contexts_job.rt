@@ -30,14 +30,14 @@ fn contexts_report(
     alloc: Global,
     image: &Image,
     contexts: &ContextTotals,
-    finish: Finish,
+    finish: &Finish,
 ) -> Result<Vec<u8>, AllocError>
     requires { (most : ℕ) × ((past : List Event) × AreTotalsOf most contexts.now past) }
     ensures few { IfOk result (λ text. (most : ℕ) (past : List Event) → AreTotalsOf most contexts.now past → can_be_numbered past ≡ true) }
-    ensures text { IfOk result (λ text. (most : ℕ) (seen : Profiled) → AreTotalsOf most contexts.now seen.past → finish ≡ seen.finish
+    ensures text { IfOk result (λ text. (most : ℕ) (seen : Profiled) → AreTotalsOf most contexts.now seen.past → finish.now ≡ seen.finish
         → text.items ≡ contexts_report image.now seen) }
 {
-    let report = report_of(alloc, image, &contexts.totals, finish)?;
+    let report = report_of(alloc, image, &contexts.totals, *finish)?;
     let mut text = write_report(alloc, &report)?;
     push_contexts(&mut text, &contexts.tree)?;
     Ok(text)
@@ -60,7 +60,7 @@ fn deliver_contexts<F: Files>(
     let Some(contexts) = contexts else {
         return Ok(Verdict::ResultTooLarge);
     };
-    let text = contexts_report(alloc, image, &contexts, finish)?;
+    let text = contexts_report(alloc, image, &contexts, &finish)?;
     files.store(command.report, text.as_slice())?;
     Ok(Verdict::Ran(finish))
 }
