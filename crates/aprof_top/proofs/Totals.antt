@@ -10,8 +10,7 @@ use Rattle.trace_model.specs.declared.event_kinds.Event.{Event}
 use Rattle.trace_model.specs.declared.slow_profile.Done.{Done}
 use Rattle.trace_model.specs.Profile.{done}
 use Rattle.trace_model.specs.WellFormed.{IsLight, weight}
-use Rattle.run_profile.proofs.Profiles.{few_done}
-use Rattle.cost_points.proofs.Small.{IsSmall, small_done}
+use Rattle.cost_points.proofs.Small.{IsSmall, few_done, small_done}
 use Rattle.cost_points.specs.declared.point.Point.{Point}
 use Rattle.cost_points.specs.Keys.{insert_rising, rising, IsRising, grouped}
 use Rattle.cost_points.specs.Points.{point_of, routine_of, points}

@@ -1,9 +1,14 @@
-use Rattle.std.proofs.Common.{◌∙◌, subst}
+use Rattle.std.proofs.Common.{◌∙◌, refl, subst}
 use Rattle.std.proofs.lemmas.Result.{err_from_is_err_and}
 use Rattle.command_line.specs.Read.{contexts_in}
 use Rattle.aprof_top.specs.Jobs.{HaveContexts}
 use Rattle.aprof_top.proofs.Recorded.{contexts_unstored}
 use Rattle.aprof_top.proofs.contexts_job.deliver_contexts.Goals as goal
+
+pub returns-in_err-text : goal.returns-in_err-text
+returns-in_err-text g c = λ most seen finish have err.
+    let p = err_from_is_err_and c.from_residual.result c.from_residual.ensures.1 in
+    rw (p.1, p.2) (record { stored = (0, refl); err = refl })
 
 pub returns-in_err-store : goal.returns-in_err-store
 returns-in_err-store g c = λ most seen finish have err.
