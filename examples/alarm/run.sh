@@ -1,0 +1,9 @@
+#!/usr/bin/env bash
+# Profiles the guest, and compares its output with output.txt, the report with report.txt, and what `show` makes of it.
+set -eu
+cd "$(dirname "$0")"
+mkdir -p out
+../../aprof run -o out/report.txt alarm > out/output.txt
+diff output.txt out/output.txt
+diff report.txt out/report.txt
+../../show out/report.txt | diff show.txt -
