@@ -8,6 +8,3 @@ mod shape;
 
 pub use cache::Cache;
 pub use shape::{LEAST_LINE, LINE, SETS, Shape, WAYS};
-
-#[cfg(test)]
-mod tests;

@@ -11,6 +11,3 @@ mod routines;
 pub use profile::{CacheProfile, Shaped};
 pub use report::{CacheReport, ReportedMisses, write_cache_report};
 pub use routines::RoutineMisses;
-
-#[cfg(test)]
-mod tests;

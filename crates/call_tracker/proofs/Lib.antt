@@ -1,3 +1,2 @@
 pub mod KeptCalls
 pub mod Followed
-mod WorkedEvents

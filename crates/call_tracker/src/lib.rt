@@ -10,6 +10,3 @@ mod open_calls;
 pub use call_stacks::CallStacks;
 pub use jumps::{JumpKind, kind};
 pub use open_calls::{OpenCall, OpenCalls};
-
-#[cfg(test)]
-mod tests;

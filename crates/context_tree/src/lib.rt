@@ -11,6 +11,3 @@ mod tree;
 pub use errors::TreeError;
 pub use numbers::ContextNumbers;
 pub use tree::Tree;
-
-#[cfg(test)]
-mod tests;

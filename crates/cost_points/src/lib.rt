@@ -11,6 +11,3 @@ mod table;
 pub use point::{Point, Split};
 pub use routine::insert_point;
 pub use table::Table;
-
-#[cfg(test)]
-mod tests;

@@ -23,6 +23,3 @@ pub use ready::ReadyList;
 pub use rights::Rights;
 pub use text_words::{cut, decimal_number, first_number, push_decimal, wide_decimal_number};
 pub use threads::Tid;
-
-#[cfg(test)]
-mod tests;

@@ -15,6 +15,3 @@ mod symbols;
 pub use builder::{Builder, Code, Label};
 pub use error::AsmError;
 pub use executable::{Symbol, write_exec};
-
-#[cfg(test)]
-mod tests;

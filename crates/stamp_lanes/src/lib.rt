@@ -11,6 +11,3 @@ mod renewal;
 
 pub use bulk::Bulk;
 pub use lanes::Lanes;
-
-#[cfg(test)]
-mod tests;

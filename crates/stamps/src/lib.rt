@@ -7,6 +7,3 @@ mod width;
 
 pub use stamp::Stamp;
 pub use width::{StampBits, depth_limit};
-
-#[cfg(test)]
-mod tests;

@@ -15,6 +15,3 @@ pub use errors::TraceError;
 pub use laws::{a_text_is_of_one_trace, beginnings_are_read, bytes_read_in_one_way};
 pub use reader::{TraceEnd, TraceReader};
 pub use writer::TraceWriter;
-
-#[cfg(test)]
-mod tests;

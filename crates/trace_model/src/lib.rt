@@ -22,6 +22,3 @@ pub use laws::{
 };
 pub use observer::{Observed, Observer, feed};
 pub use slow_profile::{Done, slow_done};
-
-#[cfg(test)]
-mod tests;

@@ -5,6 +5,3 @@
 mod order;
 
 pub use order::Order;
-
-#[cfg(test)]
-mod tests;

@@ -4,6 +4,3 @@
 mod replaying;
 
 pub use replaying::{Replayed, replay};
-
-#[cfg(test)]
-mod tests;

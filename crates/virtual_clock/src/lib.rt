@@ -9,6 +9,3 @@ mod deadlines;
 
 pub use deadline::Deadline;
 pub use deadlines::Deadlines;
-
-#[cfg(test)]
-mod tests;

@@ -1,0 +1,160 @@
+ghost use Rattle.std.specs.Prelude.{◌≡◌, List, reverse, IfOk};
+ghost use Rattle.trace_model.specs.declared.event_kinds.Event.{Event};
+ghost use Rattle.trace_order.specs.Order.{IsOrderOf};
+ghost use Rattle.context_tree.specs.Trees.{StandsFor};
+
+use context_tree::{ContextNumbers, Tree};
+use cost_points::{Point, Split};
+use guest_words::{Addr, Tid, Word};
+use std::alloc::Global;
+use std::process::Abort;
+use std::test::Fail;
+use trace_model::{Event, slow_done};
+use trace_order::Order;
+
+fn number_of(
+    rt: &impl Abort,
+    numbers: &mut ContextNumbers,
+    above: u32,
+    entry: Addr,
+) -> Result<u32, Fail> {
+    assert!(rt; above as usize <= numbers.len());
+    Ok(numbers.number_of(above, entry)?)
+}
+
+// A routine that is called in two ways has two contexts, numbered as they begin.
+#[test]
+fn two_ways_to_a_routine(rt: HostRuntime) -> Result<(), Fail> {
+    let mut numbers = ContextNumbers::new(rt.alloc());
+    assert_eq!(rt; number_of(&rt, &mut numbers, 0, 0x10054)?, 1);
+    assert_eq!(rt; number_of(&rt, &mut numbers, 1, 0x10070)?, 2);
+    assert_eq!(rt; number_of(&rt, &mut numbers, 1, 0x10068)?, 3);
+    assert_eq!(rt; number_of(&rt, &mut numbers, 3, 0x10070)?, 4);
+    assert_eq!(rt; number_of(&rt, &mut numbers, 1, 0x10070)?, 2);
+    assert_eq!(rt; numbers.len(), 4);
+    Ok(())
+}
+
+const TID: Tid = Tid::FIRST;
+
+fn step() -> Event {
+    Event::Step { tid: TID }
+}
+
+fn start(entry: Addr) -> Event {
+    Event::Start { tid: TID, entry }
+}
+
+fn end() -> Event {
+    Event::End { tid: TID }
+}
+
+fn ret(target: Addr) -> Event {
+    Event::Ret { tid: TID, target }
+}
+
+fn read(at: Addr) -> Event {
+    Event::Read {
+        tid: TID,
+        first: Word::of(at),
+        count: 1,
+    }
+}
+
+fn call(entry: Addr, back: Addr) -> Event {
+    Event::Call {
+        tid: TID,
+        entry,
+        back,
+    }
+}
+
+// Takes the event where it may come next, with what it ends by the program that looks back.
+fn apply(
+    alloc: Global,
+    tree: &mut Tree,
+    order: &mut Order,
+    events: &mut Vec<Event>,
+    e: Event,
+) -> Result<(), Fail>
+    requires { (past : List Event) × (IsOrderOf order.old past × (StandsFor tree.old past × (reverse events.old.items ≡ past))) }
+    ensures { IfOk result (λ _. (past : List Event) × (IsOrderOf order.new past × (StandsFor tree.new past × (reverse events.new.items ≡ past)))) }
+{
+    if order.may_follow(&e) {
+        let before = slow_done(alloc, events)?;
+        events.push(e)?;
+        let after = slow_done(alloc, events)?;
+        tree.apply(e, &after[before.len()..])?;
+        order.add(e)?;
+    }
+    Ok(())
+}
+
+// The tree of a routine f and its caller that both call g, which reads a word.
+fn two_ways(alloc: Global) -> Result<Tree, Fail>
+    ensures { IfOk result (λ tree. (past : List Event) × StandsFor tree past) }
+{
+    let mut tree = Tree::new(alloc)?;
+    let mut order = Order::new(alloc)?;
+    let mut events = Vec::new(alloc);
+    for e in [
+        start(0x10054),
+        step(),
+        step(),
+        call(0x10070, 0x1005c),
+        step(),
+        read(0x10400),
+        step(),
+        ret(0x1005c),
+        step(),
+        call(0x10068, 0x10060),
+        step(),
+        call(0x10070, 0x1006c),
+        step(),
+        read(0x10400),
+        step(),
+        ret(0x1006c),
+        step(),
+        ret(0x10060),
+        step(),
+        step(),
+        end(),
+    ] {
+        apply(alloc, &mut tree, &mut order, &mut events, e)?;
+    }
+    Ok(tree)
+}
+
+// One activation that reads one word, so many instructions.
+fn point(cost: u64) -> Point {
+    Point {
+        size: 1,
+        calls: 1,
+        least: cost,
+        most: cost,
+        sum: u128::from(cost),
+        split: Some(Split {
+            plain: 1,
+            thread: 0,
+            kernel: 0,
+            bare: 1,
+        }),
+    }
+}
+
+// A routine that is called in two ways is told at two places, after the context that calls it.
+#[test]
+fn contexts_in_the_order_of_the_text(rt: HostRuntime) -> Result<(), Fail> {
+    let tree = two_ways(rt.alloc())?;
+    assert_eq!(rt; tree.contexts(), 4);
+    for (i, depth, entry, cost) in [
+        (0usize, 0u32, 0x10054u32, 11u64),
+        (1, 1, 0x10070, 2),
+        (2, 1, 0x10068, 4),
+        (3, 2, 0x10070, 2),
+    ] {
+        assert!(rt; i < tree.contexts());
+        assert_eq!(rt; tree.context(i), (depth, entry, [point(cost)].as_slice()));
+    }
+    Ok(())
+}

@@ -1,0 +1,159 @@
+ghost use Rattle.std.specs.Prelude.{◌≡◌};
+ghost use Rattle.trace_model.specs.Profile.{HasParts};
+
+use cost_points::{Point, Split, Table};
+use guest_words::{Addr, Tid};
+use std::process::Abort;
+use std::test::Fail;
+use trace_model::Done;
+
+const NOTHING: Split = Split {
+    plain: 0,
+    thread: 0,
+    kernel: 0,
+    bare: 0,
+};
+
+// An activation of plain reads alone.
+fn ended(entry: Addr, size: u64, cost: u64) -> Done
+    ensures size { result.size ≡ size }
+    ensures parts { HasParts result }
+{
+    Done {
+        tid: Tid::FIRST,
+        entry,
+        size,
+        cost,
+        plain: size,
+        thread: 0,
+        kernel: 0,
+        bare: size,
+    }
+}
+
+fn add(rt: &impl Abort, table: &mut Table, ended: Done) -> Result<(), Fail>
+    requires { HasParts ended }
+{
+    assert!(rt; table.members() < 9_223_372_036_854_775_808);
+    table.add(ended)?;
+    Ok(())
+}
+
+// A routine that calls itself to a depth of 83, each call eight instructions dearer than the one inside it, and its caller.
+#[test]
+fn the_calls_of_a_deep_recursion_are_one_point(rt: HostRuntime) -> Result<(), Fail> {
+    let mut table = Table::new(rt.alloc())?;
+    for depth in 0..83 {
+        add(&rt, &mut table, ended(0x10068, 0, 7 + 8 * depth))?;
+    }
+    add(&rt, &mut table, ended(0x10054, 0, 668))?;
+    assert_eq!(rt; table.members(), 84);
+    assert_eq!(rt; table.routines(), 2);
+    let whole = Point {
+        size: 0,
+        calls: 1,
+        least: 668,
+        most: 668,
+        sum: 668,
+        split: Some(NOTHING),
+    };
+    assert_eq!(rt; table.routine(0), (0x10054, [whole].as_slice()));
+    let deep = Point {
+        size: 0,
+        calls: 83,
+        least: 7,
+        most: 663,
+        sum: 27805,
+        split: Some(NOTHING),
+    };
+    assert_eq!(rt; table.routine(1), (0x10068, [deep].as_slice()));
+    Ok(())
+}
+
+// Of three activations of size 2 one reads two words first, one a word first and one that another thread wrote last, and one
+// two words that the kernel filled last, of which it had accessed one before.
+#[test]
+fn points_are_by_size(rt: HostRuntime) -> Result<(), Fail> {
+    let mut table = Table::new(rt.alloc())?;
+    let threaded = Done {
+        plain: 1,
+        thread: 1,
+        kernel: 0,
+        bare: 1,
+        ..ended(0x10068, 2, 3)
+    };
+    let filled = Done {
+        plain: 0,
+        thread: 0,
+        kernel: 2,
+        bare: 1,
+        ..ended(0x10068, 2, 9)
+    };
+    add(&rt, &mut table, ended(0x10068, 2, 7))?;
+    add(&rt, &mut table, ended(0x10068, 0, 5))?;
+    add(&rt, &mut table, threaded)?;
+    add(&rt, &mut table, filled)?;
+    assert_eq!(rt; table.routines(), 1);
+    let small = Point {
+        size: 0,
+        calls: 1,
+        least: 5,
+        most: 5,
+        sum: 5,
+        split: Some(NOTHING),
+    };
+    let large = Point {
+        size: 2,
+        calls: 3,
+        least: 3,
+        most: 9,
+        sum: 19,
+        split: Some(Split {
+            plain: 3,
+            thread: 1,
+            kernel: 2,
+            bare: 4,
+        }),
+    };
+    assert_eq!(rt; table.routine(0), (0x10068, [small, large].as_slice()));
+    Ok(())
+}
+
+// A point of two activations of size 2, of which one read two words that the kernel had filled, joins that of one which reads
+// two words first.
+#[test]
+fn a_point_joins_another(rt: HostRuntime) -> Result<(), Fail> {
+    let mut table = Table::new(rt.alloc())?;
+    add(&rt, &mut table, ended(0x10068, 2, 7))?;
+    let more = Point {
+        size: 2,
+        calls: 2,
+        least: 3,
+        most: 9,
+        sum: 12,
+        split: Some(Split {
+            plain: 1,
+            thread: 1,
+            kernel: 2,
+            bare: 2,
+        }),
+    };
+    assert_eq!(rt; table.members(), 1);
+    table.add_point(0x10068, &more)?;
+    assert_eq!(rt; table.routines(), 1);
+    let whole = Point {
+        size: 2,
+        calls: 3,
+        least: 3,
+        most: 9,
+        sum: 19,
+        split: Some(Split {
+            plain: 3,
+            thread: 1,
+            kernel: 2,
+            bare: 4,
+        }),
+    };
+    assert_eq!(rt; table.routine(0), (0x10068, [whole].as_slice()));
+    Ok(())
+}
