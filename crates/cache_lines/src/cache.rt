@@ -57,8 +57,10 @@ impl Cache {
     /// An access of the line of this number: whether it misses.
     pub fn access(&mut self, line: u32) -> bool
         ensures shape { self.new.shape ≡ self.old.shape }
-        ensures misses { (accesses : List ℕ) → StandsFor self.old accesses → result ≡ misses self.old.shape accesses line }
-        ensures after { (accesses : List ℕ) → StandsFor self.old accesses → StandsFor self.new (line ∷ accesses) }
+        ensures misses { (accesses : List ℕ) → StandsFor self.old accesses
+            → result ≡ misses self.old.shape accesses line }
+        ensures after { (accesses : List ℕ) → StandsFor self.old accesses
+            → StandsFor self.new (line ∷ accesses) }
     {
         let shape = self.shape;
         let set = (line % shape.sets) as usize;

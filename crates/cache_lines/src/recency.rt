@@ -30,7 +30,8 @@ pub(crate) fn touch(places: &mut [u32], used: &mut u8, line: u32) -> bool
     requires few { length places.old ≤ 64 }
     requires inside { used.old ≤ length places.old }
     ensures missed { result ≡ not (was_accessed line (take used.old places.old)) }
-    ensures after { take used.new places.new ≡ touched (length places.old) line (take used.old places.old) }
+    ensures after { take used.new places.new
+        ≡ touched (length places.old) line (take used.old places.old) }
     ensures inside { used.new ≤ length places.old }
     ensures len { length places.new ≡ length places.old }
 {

@@ -21,7 +21,11 @@ impl RoutineMisses {
     /// With so many accesses more, of which so many missed.
     fn with(self, accesses: u32, misses: u32) -> RoutineMisses
         requires { HasRoom self }
-        ensures { result ≡ record { entry = self.entry; accesses = self.accesses + accesses; misses = self.misses + misses } }
+        ensures { result ≡ record {
+          entry = self.entry;
+          accesses = self.accesses + accesses;
+          misses = self.misses + misses;
+        } }
     {
         RoutineMisses {
             entry: self.entry,
@@ -54,7 +58,8 @@ pub(crate) fn add(
     requires spare { vec_len routines.old < vec_capacity routines.old }
     requires rising { IsRising (map (λ r. r.entry) routines.old.items) }
     requires room { All HasRoom routines.old.items }
-    ensures { (all more : List LineAccess) → routines.old.items ≡ by_routine all → AreOf entry accesses misses more
+    ensures { (all more : List LineAccess) → routines.old.items ≡ by_routine all
+        → AreOf entry accesses misses more
         → routines.new.items ≡ by_routine (all ++ more) }
 {
     match search(routines, last, entry) {

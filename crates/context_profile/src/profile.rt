@@ -43,7 +43,8 @@ pub struct ContextTotals {
 // Takes an event into the tree, unless there is none any more. A tree that has no number for a context is dropped.
 fn grow(tree: &mut Option<Tree>, e: Event, ends: &[Done]) -> Result<(), AllocError>
     requires { MayGrow tree.old e ends.now }
-    ensures grown { (past : List Event) → HasTree tree.old past → ends.now ≡ ended e past → OnOk result (HasTree tree.new (e ∷ past)) }
+    ensures grown { (past : List Event) → HasTree tree.old past → ends.now ≡ ended e past
+        → OnOk result (HasTree tree.new (e ∷ past)) }
     ensures refused { OnErr result (tree.new ≡ tree.old) }
 {
     let Some(kept) = tree else {
@@ -78,7 +79,8 @@ impl<S: Lanes> ContextProfile<S> {
     #[inline(always)]
     fn settle(&mut self) -> Result<(), AllocError>
         requires { AreOfLight S.MAX self.old }
-        ensures stands { (past : List Event) → AreContextsOf S.MAX self.old past → AreContextsOf S.MAX self.new past }
+        ensures stands { (past : List Event) → AreContextsOf S.MAX self.old past
+            → AreContextsOf S.MAX self.new past }
         ensures settled { OnOk result (self.new.next ≡ None) }
     {
         if let Some(e) = self.next {

@@ -42,7 +42,8 @@ fn push_context(text: &mut Vec<u8>, tree: &Tree, n: u32) -> Result<(), AllocErro
 /// Appends the lines of all contexts.
 fn push_each(text: &mut Vec<u8>, tree: &Tree) -> Result<(), AllocError>
     requires { IsOfSome tree.now }
-    ensures { (past : List Event) (ordered : List (List ℕ)) → StandsFor tree.now past → IsInOrder (contexts past) ordered
+    ensures { (past : List Event) (ordered : List (List ℕ)) → StandsFor tree.now past
+        → IsInOrder (contexts past) ordered
         → OnOk result (text.new.items ≡ text.old.items ++ flat_map (context_text past) ordered) }
 {
     let mut next = tree.next_in_order(0);
@@ -58,8 +59,10 @@ fn push_each(text: &mut Vec<u8>, tree: &Tree) -> Result<(), AllocError>
 /// Appends the text of all contexts, in the order of the text.
 pub fn push_contexts(text: &mut Vec<u8>, tree: &Tree) -> Result<(), AllocError>
     requires { IsOfSome tree.now }
-    ensures few { (past : List Event) → StandsFor tree.now past → OnOk result (length (contexts past) ≤ CONTEXTS) }
-    ensures text { (past : List Event) (ordered : List (List ℕ)) → StandsFor tree.now past → IsInOrder (contexts past) ordered
+    ensures few { (past : List Event) → StandsFor tree.now past
+        → OnOk result (length (contexts past) ≤ CONTEXTS) }
+    ensures text { (past : List Event) (ordered : List (List ℕ)) → StandsFor tree.now past
+        → IsInOrder (contexts past) ordered
         → OnOk result (text.new.items ≡ text.old.items ++ contexts_text past ordered) }
 {
     text.extend_from_slice(b"contexts 1\n")?;

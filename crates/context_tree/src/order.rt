@@ -37,7 +37,8 @@ pub(crate) fn add_link(links: &mut Vec<Links>, above: u32)
     requires spare { vec_len links.old < vec_capacity links.old }
     requires few { length links.old.items ≤ CONTEXTS }
     requires linked { AreLinked links.old.items above }
-    ensures { (places : List (ℕ × ℕ)) (entry : ℕ) → IsLinked places links.old.items → above ≤ length places
+    ensures { (places : List (ℕ × ℕ)) (entry : ℕ) → IsLinked places links.old.items
+        → above ≤ length places
         → IsLinked (places ++ (above, entry) ∷ []) links.new.items }
 {
     let number = links.len() as u32;
@@ -54,7 +55,8 @@ pub(crate) fn add_link(links: &mut Vec<Links>, above: u32)
 pub(crate) fn after_under(links: &[Links], numbers: &ContextNumbers, from: u32) -> Option<u32>
     requires linked { IsLinked numbers.now links.now }
     requires within { from ≤ length numbers.now }
-    ensures { (contexts : List (List ℕ)) → StandsFor numbers.now contexts → IsLeftBy contexts (numbered contexts from) result }
+    ensures { (contexts : List (List ℕ)) → StandsFor numbers.now contexts
+        → IsLeftBy contexts (numbered contexts from) result }
 {
     let mut n = from;
     while n != 0 {

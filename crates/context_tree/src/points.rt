@@ -98,7 +98,8 @@ pub(crate) fn add_up(
     requires spare { HasSpare points.old.items numbers.now from (length ended.now) }
     requires each { All ArePoints (lists points.old.items) }
     ensures above { result ≡ up numbers.now from (length ended.now) }
-    ensures points { (contexts : List (List ℕ)) (members : List (List ℕ × Done)) → StandsFor numbers.now contexts
+    ensures points { (contexts : List (List ℕ)) (members : List (List ℕ × Done))
+        → StandsFor numbers.now contexts
         → lists points.old.items ≡ map (points_of members) contexts
         → lists points.new.items ≡ map (points_of (members ++ tagged numbers.now contexts from ended.now)) contexts }
 {

@@ -15,7 +15,8 @@ pub(crate) fn add_points(table: &mut Table, entry: Addr, points: &[Point]) -> Re
     requires told { All (λ p. is_some p.split ≡ true) points.now }
     requires each { All IsPoint points.now }
     requires few { table.old.members + sum_by (λ p. p.calls) points.now < 2 ^ 63 }
-    ensures { (added more : List Done) → table.old ≡ contents_of added → All (λ d. d.entry ≡ entry) more → points.now ≡ points_from more
+    ensures { (added more : List Done) → table.old ≡ contents_of added
+        → All (λ d. d.entry ≡ entry) more → points.now ≡ points_from more
         → OnOk result (table.new ≡ contents_of (added ++ more)) }
 {
     for point in points {

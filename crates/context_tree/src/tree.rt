@@ -108,9 +108,12 @@ impl Tree {
     /// Takes one more event, and the activations that it ends, the innermost first. A refusal changes nothing.
     pub fn apply(&mut self, e: Event, ends: &[Done]) -> Result<(), TreeError>
         requires { MayApply self.old e ends.now }
-        ensures stands { (past : List Event) → StandsFor self.old past → ends.now ≡ ended e past → OnOk result (StandsFor self.new (e ∷ past)) }
-        ensures too_many { (past : List Event) → StandsFor self.old past → result ≡ Err TreeError.TooMany → HasTooMany e past }
-        ensures only_memory { (past : List Event) → StandsFor self.old past → HasTooMany e past → result ≡ Err TreeError.TooMany }
+        ensures stands { (past : List Event) → StandsFor self.old past → ends.now ≡ ended e past
+            → OnOk result (StandsFor self.new (e ∷ past)) }
+        ensures too_many { (past : List Event) → StandsFor self.old past
+            → result ≡ Err TreeError.TooMany → HasTooMany e past }
+        ensures only_memory { (past : List Event) → StandsFor self.old past → HasTooMany e past
+            → result ≡ Err TreeError.TooMany }
         ensures refused { OnErr result (self.new ≡ self.old) }
     {
         match e {
@@ -126,8 +129,10 @@ impl Tree {
     pub fn contexts(&self) -> usize
         ensures value { result ≡ length self.now.places }
         ensures few { result ≤ CONTEXTS }
-        ensures stands { (past : List Event) → StandsFor self.now past → result ≡ length (contexts past) }
-        ensures ordered { (past : List Event) → StandsFor self.now past → (ordered : List (List ℕ)) × IsInOrder (contexts past) ordered }
+        ensures stands { (past : List Event) → StandsFor self.now past
+            → result ≡ length (contexts past) }
+        ensures ordered { (past : List Event) → StandsFor self.now past
+            → (ordered : List (List ℕ)) × IsInOrder (contexts past) ordered }
     {
         self.numbers.len()
     }
@@ -137,7 +142,8 @@ impl Tree {
     pub fn next_in_order(&self, n: u32) -> Option<u32>
         requires stands { IsOfSome self.now }
         requires within { n ≤ length self.now.places }
-        ensures { (past : List Event) → StandsFor self.now past → IsFollowedBy (contexts past) (numbered (contexts past) n) result }
+        ensures { (past : List Event) → StandsFor self.now past
+            → IsFollowedBy (contexts past) (numbered (contexts past) n) result }
     {
         match self.links[n as usize].first_child {
             Some(child) => Some(child),
@@ -150,7 +156,8 @@ impl Tree {
     pub fn context(&self, i: usize) -> (u32, Addr, &[Point])
         requires stands { IsOfSome self.now }
         requires within { i < length self.now.places }
-        ensures { (past : List Event) (ordered : List (List ℕ)) → StandsFor self.now past → IsInOrder (contexts past) ordered
+        ensures { (past : List Event) (ordered : List (List ℕ)) → StandsFor self.now past
+            → IsInOrder (contexts past) ordered
             → IsShown past (slice_index_or ordered i []) result.0 result.1 result.2.now }
     {
         self.at(self.number_at(i))
@@ -162,7 +169,8 @@ impl Tree {
         requires within { i < length self.now.places }
         ensures some { 1 ≤ result }
         ensures within { result ≤ length self.now.places }
-        ensures listed { (past : List Event) (ordered : List (List ℕ)) → StandsFor self.now past → IsInOrder (contexts past) ordered
+        ensures listed { (past : List Event) (ordered : List (List ℕ)) → StandsFor self.now past
+            → IsInOrder (contexts past) ordered
             → numbered (contexts past) result ≡ slice_index_or ordered i [] }
     {
         let mut n = self.next_in_order(0).unwrap();
@@ -178,7 +186,8 @@ impl Tree {
         requires stands { IsOfSome self.now }
         requires some { 1 ≤ n }
         requires within { n ≤ length self.now.places }
-        ensures { (past : List Event) → StandsFor self.now past → IsShown past (numbered (contexts past) n) result.0 result.1 result.2.now }
+        ensures { (past : List Event) → StandsFor self.now past
+            → IsShown past (numbered (contexts past) n) result.0 result.1 result.2.now }
     {
         let (_, entry) = self.numbers.place(n);
         let depth = self.links[n as usize].depth - 1;
@@ -188,7 +197,8 @@ impl Tree {
     /// The points of all contexts together, by routine: those of all activations that ended.
     pub fn totals(&self, alloc: Global) -> Result<Table, AllocError>
         requires { IsOfLight self.now }
-        ensures { (past : List Event) → StandsFor self.now past → IfOk result (λ table. table ≡ contents_of (done past)) }
+        ensures { (past : List Event) → StandsFor self.now past
+            → IfOk result (λ table. table ≡ contents_of (done past)) }
     {
         let mut table = Table::new(alloc)?;
         for i in 0..self.numbers.len() {
@@ -213,9 +223,12 @@ impl Tree {
         requires above { All (λ n. n < tid) (numbers self.old.threads) }
         requires long { length self.old.points ≡ length self.old.places }
         requires linked { IsLinked self.old.places self.old.links }
-        ensures stands { (past : List Event) → StandsFor self.old past → OnOk result (StandsFor self.new (Start tid entry ∷ past)) }
-        ensures too_many { (past : List Event) → StandsFor self.old past → result ≡ Err TreeError.TooMany → HasTooMany (Start tid entry) past }
-        ensures only_memory { (past : List Event) → StandsFor self.old past → HasTooMany (Start tid entry) past → result ≡ Err TreeError.TooMany }
+        ensures stands { (past : List Event) → StandsFor self.old past
+            → OnOk result (StandsFor self.new (Start tid entry ∷ past)) }
+        ensures too_many { (past : List Event) → StandsFor self.old past
+            → result ≡ Err TreeError.TooMany → HasTooMany (Start tid entry) past }
+        ensures only_memory { (past : List Event) → StandsFor self.old past
+            → HasTooMany (Start tid entry) past → result ≡ Err TreeError.TooMany }
         ensures refused { OnErr result (self.new ≡ self.old) }
     {
         if self.numbers.is_beyond(0, entry) {
@@ -240,9 +253,12 @@ impl Tree {
         requires within { current_of self.old tid ≤ length self.old.places }
         requires long { length self.old.points ≡ length self.old.places }
         requires linked { IsLinked self.old.places self.old.links }
-        ensures stands { (past : List Event) (back : ℕ) → StandsFor self.old past → OnOk result (StandsFor self.new (Call tid entry back ∷ past)) }
-        ensures too_many { (past : List Event) (back : ℕ) → StandsFor self.old past → result ≡ Err TreeError.TooMany → HasTooMany (Call tid entry back) past }
-        ensures only_memory { (past : List Event) (back : ℕ) → StandsFor self.old past → HasTooMany (Call tid entry back) past → result ≡ Err TreeError.TooMany }
+        ensures stands { (past : List Event) (back : ℕ) → StandsFor self.old past
+            → OnOk result (StandsFor self.new (Call tid entry back ∷ past)) }
+        ensures too_many { (past : List Event) (back : ℕ) → StandsFor self.old past
+            → result ≡ Err TreeError.TooMany → HasTooMany (Call tid entry back) past }
+        ensures only_memory { (past : List Event) (back : ℕ) → StandsFor self.old past
+            → HasTooMany (Call tid entry back) past → result ≡ Err TreeError.TooMany }
         ensures refused { OnErr result (self.new ≡ self.old) }
     {
         let above = self.current(tid);
@@ -265,7 +281,8 @@ impl Tree {
         requires way { IsWay self.old.places (current_of self.old tid) (length ends.now) }
         requires long { length self.old.points ≡ length self.old.places }
         requires each { All ArePoints self.old.points }
-        ensures stands { (past : List Event) (target : ℕ) → StandsFor self.old past → ends.now ≡ ended (Ret tid target) past
+        ensures stands { (past : List Event) (target : ℕ) → StandsFor self.old past
+            → ends.now ≡ ended (Ret tid target) past
             → OnOk result (StandsFor self.new (Ret tid target ∷ past)) }
         ensures refused { OnErr result (self.new ≡ self.old) }
     {
@@ -282,7 +299,8 @@ impl Tree {
         requires way { IsWay self.old.places (current_of self.old tid) (length ends.now) }
         requires long { length self.old.points ≡ length self.old.places }
         requires each { All ArePoints self.old.points }
-        ensures stands { (past : List Event) → StandsFor self.old past → ends.now ≡ ended (End tid) past
+        ensures stands { (past : List Event) → StandsFor self.old past
+            → ends.now ≡ ended (End tid) past
             → OnOk result (StandsFor self.new (End tid ∷ past)) }
         ensures refused { OnErr result (self.new ≡ self.old) }
     {

@@ -89,7 +89,8 @@ fn emit_start(program: &mut Builder, main: Label, worker: Label) -> Result<(), A
 fn emit_calls(program: &mut Builder, labels: &[Label]) -> Result<(), AllocError>
     requires room { length program.old.lines + 2 * length labels.now ≤ 4000000 }
     requires labels { All (λ label. label < length program.old.bindings) labels.now }
-    ensures lines { OnOk result (program.new.lines ≡ program.old.lines ++ flat_map call_lines labels.now) }
+    ensures lines { OnOk result (program.new.lines
+        ≡ program.old.lines ++ flat_map call_lines labels.now) }
     ensures bindings { OnOk result (program.new.bindings ≡ program.old.bindings) }
 {
     for label in labels {
@@ -147,9 +148,12 @@ fn emit_routines(program: &mut Builder, labels: &[Label]) -> Result<(), AllocErr
     requires unbound { (k : ℕ) → binding_of program.old.bindings (2 + k) ≡ None }
     ensures lines { OnOk result (program.new.lines
         ≡ program.old.lines ++ flat_map routine_lines (range_with_len 0 (length labels.now))) }
-    ensures bound { OnOk result (AreRoutines (length labels.now) (length labels.now) program.new.bindings) }
-    ensures main { OnOk result (binding_of program.new.bindings 0 ≡ binding_of program.old.bindings 0) }
-    ensures worker { OnOk result (binding_of program.new.bindings 1 ≡ binding_of program.old.bindings 1) }
+    ensures bound { OnOk result (AreRoutines (length labels.now)
+        (length labels.now) program.new.bindings) }
+    ensures main { OnOk result (binding_of program.new.bindings 0
+        ≡ binding_of program.old.bindings 0) }
+    ensures worker { OnOk result (binding_of program.new.bindings 1
+        ≡ binding_of program.old.bindings 1) }
 {
     for (routine, label) in labels.iter().enumerate() {
         bind(program, *label);

@@ -18,7 +18,8 @@ pub fn demo_image(alloc: Global, routines: u32) -> Result<Vec<u8>, AllocError>
     requires { (1 ≤ routines) × (routines ≤ DEMO_ROUTINES) }
     ensures file { IfOk result (λ file. IsDemoFile routines file.items) }
     ensures accepted { IfOk result (λ file. first_refusal file.items ≡ None) }
-    ensures fits { IfOk result (λ file. page_count (image_of file.items).segments ≤ PAGES - STACK_PAGES) }
+    ensures fits { IfOk result (λ file. page_count (image_of file.items).segments
+        ≤ PAGES - STACK_PAGES) }
 {
     let code = code(alloc, routines)?;
     let symbols = symbols(alloc, routines)?;

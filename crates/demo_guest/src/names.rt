@@ -16,7 +16,8 @@ const ENTRY: u32 = 0x1_0054;
 fn named(alloc: Global, name: &[u8], word: u32) -> Result<Symbol, AllocError>
     requires name { is_name name.now ≡ true }
     requires word { word ≤ 4000000 }
-    ensures symbol { IfOk result (λ symbol. symbol ≡ record { name = name.now; at = address word }) }
+    ensures symbol { IfOk result (λ symbol. symbol
+        ≡ record { name = name.now; at = address word }) }
 {
     let at = ENTRY + 4 * word;
     match Name::new(alloc, name) {
@@ -40,7 +41,8 @@ fn routine_name(alloc: Global, routine: u32) -> Result<Vec<u8>, AllocError>
 fn routine_symbol(alloc: Global, routine: u32, word: u32) -> Result<Symbol, AllocError>
     requires routine { routine < DEMO_ROUTINES }
     requires word { word ≤ 4000000 }
-    ensures { IfOk result (λ symbol. symbol ≡ record { name = 114 ∷ decimal (routine + 1); at = address word }) }
+    ensures { IfOk result (λ symbol. symbol
+        ≡ record { name = 114 ∷ decimal (routine + 1); at = address word }) }
 {
     let name = routine_name(alloc, routine)?;
     named(alloc, &name, word)

@@ -28,7 +28,8 @@ pub(crate) fn emit(program: &mut Builder, instruction: Instr) -> Result<(), Allo
 pub(crate) fn emit_all(program: &mut Builder, instructions: &[Instr]) -> Result<(), AllocError>
     requires room { length program.old.lines + length instructions.now ≤ 4000000 }
     requires encodable { All IsEncodable instructions.now }
-    ensures lines { OnOk result (program.new.lines ≡ program.old.lines ++ map plain instructions.now) }
+    ensures lines { OnOk result (program.new.lines
+        ≡ program.old.lines ++ map plain instructions.now) }
     ensures bindings { OnOk result (program.new.bindings ≡ program.old.bindings) }
 {
     for instruction in instructions {

@@ -11,7 +11,8 @@ use crate::headers::FileHeader;
 fn check_format(file: &[u8], header: &FileHeader) -> Result<(), ElfError>
     requires long { 52 ≤ length file.now }
     requires header { header.now ≡ file_header file.now }
-    ensures { result ≡ unless_refused (first_of ((fails_magic file.now, error.Magic) ∷ (fails_class file.now, error.Class)
+    ensures { result ≡ unless_refused (first_of
+        ((fails_magic file.now, error.Magic) ∷ (fails_class file.now, error.Class)
         ∷ (fails_byte_order file.now, error.ByteOrder) ∷ (fails_version file.now, error.Version) ∷ [])) }
 {
     if !(file[0] == 0x7f && file[1] == b'E' && file[2] == b'L' && file[3] == b'F') {

@@ -63,7 +63,8 @@ pub(crate) fn count_pages(ordered: &[ProgramHeader]) -> u32
 
 /// Whether an address is one of a segment's bytes that may be run, by the headers alone.
 fn is_code_in(headers: &[ProgramHeader], at: Addr) -> bool
-    ensures { result ≡ list_any (λ h. nat_le h.p_vaddr at && nat_lt at (h.p_vaddr + h.p_memsz) && (h.p_flags % 2 == 1)) headers.now }
+    ensures { result ≡ list_any (λ h. nat_le h.p_vaddr at && nat_lt at (h.p_vaddr + h.p_memsz)
+        && (h.p_flags % 2 == 1)) headers.now }
 {
     headers.iter().any(|h| {
         h.p_vaddr <= at && (at as u64) < h.p_vaddr as u64 + h.p_memsz as u64 && h.p_flags % 2 == 1
@@ -72,7 +73,8 @@ fn is_code_in(headers: &[ProgramHeader], at: Addr) -> bool
 
 /// Whether a guest can begin at an address: a multiple of 4, and one of a segment's bytes that may be run.
 pub(crate) fn is_entry(headers: &[ProgramHeader], at: Addr) -> bool
-    ensures { (file : List ℕ) → result ≡ ((at % 4 == 0) && is_code (map (segment_of file) headers.now) at) }
+    ensures { (file : List ℕ) → result
+        ≡ ((at % 4 == 0) && is_code (map (segment_of file) headers.now) at) }
 {
     at % 4 == 0 && is_code_in(headers, at)
 }

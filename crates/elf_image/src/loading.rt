@@ -24,7 +24,8 @@ pub(crate) fn load(
     requires header { header.now ≡ file_header file.now }
     requires headers { headers.now ≡ occupied_headers file.now }
     requires loadable { All (IsLoadable (length file.now)) headers.now }
-    ensures refused { IfErr result (λ e. e ≢ error.Memory → first_of (layout_tests file.now) ≡ Some e) }
+    ensures refused { IfErr result (λ e. e ≢ error.Memory
+        → first_of (layout_tests file.now) ≡ Some e) }
     ensures passed { IfOk result (λ _. first_of (layout_tests file.now) ≡ None) }
     ensures segments { IfOk result (λ loaded. loaded.0.items ≡ segments_of file.now) }
     ensures pages { IfOk result (λ loaded. loaded.1 ≡ page_count (segments_of file.now)) }

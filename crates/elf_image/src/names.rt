@@ -43,7 +43,8 @@ fn merge_symbol(
 ) -> Result<(), AllocError>
     requires symbol { IsNamed strings.now symbol }
     requires named { All (IsNamed strings.now) first.old.items }
-    ensures first { (seen : List Symbol) → AreFirst seen (map (placed strings.now) first.old.items) → All (λ s. s.value ≤ symbol.value) seen
+    ensures first { (seen : List Symbol) → AreFirst seen (map (placed strings.now) first.old.items)
+        → All (λ s. s.value ≤ symbol.value) seen
         → OnOk result (AreFirst (seen ++ placed strings.now symbol ∷ []) (map (placed strings.now) first.new.items)) }
     ensures named { OnOk result (All (IsNamed strings.now) first.new.items) }
 {
@@ -65,7 +66,8 @@ fn merge_some(
 ) -> Result<(), AllocError>
     requires symbol { IfSome symbol (IsNamed strings.now) }
     requires named { All (IsNamed strings.now) first.old.items }
-    ensures first { (seen : List Symbol) → AreFirst seen (map (placed strings.now) first.old.items) → IfSome symbol (λ s. All (λ t. t.value ≤ s.value) seen)
+    ensures first { (seen : List Symbol) → AreFirst seen (map (placed strings.now) first.old.items)
+        → IfSome symbol (λ s. All (λ t. t.value ≤ s.value) seen)
         → OnOk result (AreFirst (seen ++ cons_option (option_map (placed strings.now) symbol) []) (map (placed strings.now) first.new.items)) }
     ensures named { OnOk result (All (IsNamed strings.now) first.new.items) }
 {
@@ -78,7 +80,8 @@ fn merge_some(
 /// All entries of a symbol table.
 fn entries(alloc: Global, file: &[u8], table: &SectionHeader) -> Result<Vec<Entry>, AllocError>
     requires { table.now.sh_offset + table.now.sh_size ≤ length file.now }
-    ensures { IfOk result (λ v. v.items ≡ map (entry_at file.now table.now) (range_with_len 0 (table.now.sh_size / 16))) }
+    ensures { IfOk result (λ v. v.items
+        ≡ map (entry_at file.now table.now) (range_with_len 0 (table.now.sh_size / 16))) }
 {
     let first = table.sh_offset as usize;
     let count = table.sh_size / SYMBOL_SIZE as u32;
@@ -94,7 +97,8 @@ fn entries(alloc: Global, file: &[u8], table: &SectionHeader) -> Result<Vec<Entr
 fn order_by_value(entries: &mut Vec<Entry>) -> Result<(), AllocError>
     ensures moved { OnOk result (IsPermutation entries.old.items entries.new.items) }
     ensures rising { OnOk result (IsNonDecreasingBy (λ e. e.value) entries.new.items) }
-    ensures same { OnOk result ((at : ℕ) → filter (λ e. e.value == at) entries.new.items ≡ filter (λ e. e.value == at) entries.old.items) }
+    ensures same { OnOk result ((at : ℕ) → filter (λ e. e.value == at) entries.new.items
+        ≡ filter (λ e. e.value == at) entries.old.items) }
 {
     Ok(entries.sort_by_key(|e| e.value)?)
 }
@@ -110,7 +114,9 @@ fn first_of_entries(
     requires table { table.now.sh_offset + table.now.sh_size ≤ length file.now }
     requires entries { All (IsEntry file.now table.now) ordered.now }
     requires rising { IsNonDecreasingBy (λ e. e.value) ordered.now }
-    ensures first { IfOk result (λ first. AreFirst (symbols_of_entries file.now strings.now table.now ordered.now) (map (placed strings.now) first.items)) }
+    ensures first { IfOk result (λ first. AreFirst
+        (symbols_of_entries file.now strings.now table.now ordered.now)
+        (map (placed strings.now) first.items)) }
     ensures named { IfOk result (λ first. All (IsNamed strings.now) first.items) }
 {
     let offset = table.sh_offset as usize;
@@ -131,8 +137,10 @@ fn first_in(
     strings: &[u8],
 ) -> Result<Vec<SymbolPlace>, AllocError>
     requires table { table.now.sh_offset + table.now.sh_size ≤ length file.now }
-    requires strings { strings.now ≡ section_bytes file.now (section_header file.now table.now.sh_link) }
-    ensures first { IfOk result (λ first. AreFirst (symbols_in file.now table.now) (map (placed strings.now) first.items)) }
+    requires strings { strings.now ≡ section_bytes file.now
+        (section_header file.now table.now.sh_link) }
+    ensures first { IfOk result (λ first. AreFirst (symbols_in file.now table.now)
+        (map (placed strings.now) first.items)) }
     ensures named { IfOk result (λ first. All (IsNamed strings.now) first.items) }
 {
     let mut ordered = entries(alloc, file, table)?;

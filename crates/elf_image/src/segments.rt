@@ -80,7 +80,8 @@ fn is_cut_off(headers: &[ProgramHeader], file_size: usize) -> bool
 
 /// Whether a segment lies too low or too high.
 fn is_misplaced(headers: &[ProgramHeader]) -> bool
-    ensures { result ≡ list_any (λ h. nat_lt h.p_vaddr 0x1000 || nat_lt 0x40000000 (h.p_vaddr + h.p_memsz)) headers.now }
+    ensures { result ≡ list_any (λ h. nat_lt h.p_vaddr 0x1000
+        || nat_lt 0x40000000 (h.p_vaddr + h.p_memsz)) headers.now }
 {
     headers.iter().any(|h| h.p_vaddr < LOWEST_ADDRESS
         || h.p_vaddr as u64 + h.p_memsz as u64 > END_OF_SEGMENTS)
@@ -94,7 +95,8 @@ fn load_headers(
 ) -> Result<Vec<ProgramHeader>, ElfError>
     requires header { header.now ≡ file_header file.now }
     requires table { header.now.e_phoff + 32 * header.now.e_phnum ≤ length file.now }
-    ensures refused { IfErr result (λ e. e ≢ error.Memory → first_of (interpreter_test file.now) ≡ Some e) }
+    ensures refused { IfErr result (λ e. e ≢ error.Memory
+        → first_of (interpreter_test file.now) ≡ Some e) }
     ensures passed { IfOk result (λ _. first_of (interpreter_test file.now) ≡ None) }
     ensures loads { IfOk result (λ headers. headers.items ≡ load_headers file.now) }
 {
@@ -129,7 +131,8 @@ pub(crate) fn check_segments(
 ) -> Result<Vec<ProgramHeader>, ElfError>
     requires header { header.now ≡ file_header file.now }
     requires table { header.now.e_phoff + 32 * header.now.e_phnum ≤ length file.now }
-    ensures refused { IfErr result (λ e. e ≢ error.Memory → first_of (segment_tests file.now) ≡ Some e) }
+    ensures refused { IfErr result (λ e. e ≢ error.Memory
+        → first_of (segment_tests file.now) ≡ Some e) }
     ensures passed { IfOk result (λ _. first_of (segment_tests file.now) ≡ None) }
     ensures occupied { IfOk result (λ headers. headers.items ≡ occupied_headers file.now) }
 {

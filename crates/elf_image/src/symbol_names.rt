@@ -73,7 +73,8 @@ impl SymbolNames {
     /// The name of the symbol of this value, where the values rise.
     pub(crate) fn name_of(&self, alloc: Global, value: Addr) -> Result<Option<Name>, AllocError>
         requires { AllPairs (λ s t. s.value < t.value) self.now }
-        ensures { IfOk result (λ name. name ≡ name_beside (map (λ s. (s.value, s.name)) self.now) value) }
+        ensures { IfOk result (λ name. name
+            ≡ name_beside (map (λ s. (s.value, s.name)) self.now) value) }
     {
         let Some(index) = search(&self.places, value) else {
             return Ok(None);

@@ -95,7 +95,8 @@ pub(crate) fn symbol_at(
     at: usize,
 ) -> Result<Option<SymbolPlace>, AllocError>
     requires { at + 16 ≤ length file.now }
-    ensures symbol { IfOk result (λ place. option_map (placed strings.now) place ≡ symbol_at file.now strings.now at) }
+    ensures symbol { IfOk result (λ place. option_map (placed strings.now) place
+        ≡ symbol_at file.now strings.now at) }
     ensures named { IfOk result (λ place. IfSome place (IsNamed strings.now)) }
 {
     let info = file[at + 12];

@@ -34,7 +34,8 @@ pub(crate) fn take_out(
     requires room_spare { THREADS ≤ vec_capacity spare.old }
     requires room_taken { THREADS ≤ vec_capacity taken.old }
     ensures taken { taken.new.items ≡ woken waiting.old.items at most bits }
-    ensures waiting { waiting.new.items ≡ without waiting.old.items (woken waiting.old.items at most bits) }
+    ensures waiting { waiting.new.items ≡ without waiting.old.items
+        (woken waiting.old.items at most bits) }
     ensures all { vec_len waiting.new + vec_len taken.new ≡ vec_len waiting.old }
     ensures none_spare { spare.new.items ≡ [] }
     ensures room { THREADS ≤ vec_capacity waiting.new }

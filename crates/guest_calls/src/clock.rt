@@ -91,7 +91,8 @@ impl State {
         caller: &Caller,
     ) -> Answer
         requires room { 1 ≤ events.old.room }
-        ensures does { Does (specs.clock_gettime (asked caller.now self.now memory.old held.old)) result self.now memory.new held.new events.old events.new }
+        ensures does { Does (specs.clock_gettime
+            (asked caller.now self.now memory.old held.old)) result self.now memory.new held.new events.old events.new }
         ensures room { events.old.room ≤ events.new.room + 1 }
     {
         if !is_clock(caller.argument(0)) {
@@ -137,7 +138,8 @@ impl State {
     fn sleep_until(&mut self, tid: Tid, end: u64) -> Answer
         requires can_run { can_run self.old tid ≡ true }
         ensures answer { result ≡ (if nat_le end self.old.time then Back 0 else Block) }
-        ensures after { self.new ≡ (if nat_le end self.old.time then self.old else with_deadline tid end 0 self.old) }
+        ensures after { self.new ≡ (if nat_le end self.old.time then self.old
+            else with_deadline tid end 0 self.old) }
     {
         if end <= self.time {
             return Answer::Back { value: 0 };
@@ -155,7 +157,9 @@ impl State {
     ) -> Answer
         requires can_run { can_run self.old caller.now.tid ≡ true }
         requires room { 1 ≤ events.old.room }
-        ensures does { (held : Reservations) → Does (specs.clock_nanosleep (asked caller.now self.old memory.now held)) result self.new memory.now held events.old events.new }
+        ensures does { (held : Reservations) → Does
+            (specs.clock_nanosleep
+            (asked caller.now self.old memory.now held)) result self.new memory.now held events.old events.new }
         ensures room { events.old.room ≤ events.new.room + 1 }
     {
         if !is_clock(caller.argument(0)) {

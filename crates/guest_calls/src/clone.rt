@@ -96,7 +96,8 @@ fn fill_word_if(
 )
     requires reach { asked ≡ true → can_write (memory_of memory.old) at 4 ≡ true }
     requires room { 1 ≤ events.old.room }
-    ensures filled { guest_of memory.new held.new events.new ≡ filled_where asked at value (guest_of memory.old held.old events.old) }
+    ensures filled { guest_of memory.new held.new events.new
+        ≡ filled_where asked at value (guest_of memory.old held.old events.old) }
     ensures room { events.old.room ≤ events.new.room + 1 }
 {
     if asked {
@@ -136,7 +137,8 @@ impl State {
         caller: &Caller,
     ) -> Answer
         requires room { 2 ≤ events.old.room }
-        ensures does { Does (specs.clone (asked caller.now self.old memory.old held.old)) result self.new memory.new held.new events.old events.new }
+        ensures does { Does (specs.clone
+            (asked caller.now self.old memory.old held.old)) result self.new memory.new held.new events.old events.new }
         ensures room { events.old.room ≤ events.new.room + 2 }
     {
         let (flags, parent, child) = (caller.argument(0), caller.argument(2), caller.argument(4));

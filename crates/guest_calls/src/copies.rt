@@ -25,7 +25,8 @@ pub(crate) fn fill(
     requires few { length bytes.now < 2 ^ 32 }
     requires room { 1 ≤ events.old.room }
     ensures memory { memory_of memory.new ≡ with_bytes (memory_of memory.old) at bytes.now }
-    ensures held { reserved_by held.new ≡ after_write (reserved_by held.old) None (at / 4) (words_touched at (length bytes.now)) }
+    ensures held { reserved_by held.new ≡ after_write (reserved_by held.old) None (at / 4)
+        (words_touched at (length bytes.now)) }
     ensures events { events.new.list ≡ events.old.list ++ fill_event at (length bytes.now) }
     ensures room { events.old.room ≤ events.new.room + 1 }
 {
@@ -47,8 +48,10 @@ pub(crate) fn fill_word(
 )
     requires reach { can_write (memory_of memory.old) at 4 ≡ true }
     requires room { 1 ≤ events.old.room }
-    ensures memory { memory_of memory.new ≡ with_bytes (memory_of memory.old) at (to_le_bytes w32 value) }
-    ensures held { reserved_by held.new ≡ after_write (reserved_by held.old) None (at / 4) (words_touched at 4) }
+    ensures memory { memory_of memory.new ≡ with_bytes (memory_of memory.old) at
+        (to_le_bytes w32 value) }
+    ensures held { reserved_by held.new ≡ after_write (reserved_by held.old) None (at / 4)
+        (words_touched at 4) }
     ensures events { events.new.list ≡ events.old.list ++ fill_event at 4 }
     ensures room { events.old.room ≤ events.new.room + 1 }
 {

@@ -92,7 +92,8 @@ impl State {
         caller: &Caller,
     ) -> Answer
         requires room { 1 ≤ events.old.room }
-        ensures does { Does (specs.read (asked caller.now self.old memory.old held.old)) result self.new memory.new held.new events.old events.new }
+        ensures does { Does (specs.read
+            (asked caller.now self.old memory.old held.old)) result self.new memory.new held.new events.old events.new }
         ensures room { events.old.room ≤ events.new.room + 1 }
     {
         let (fd, at) = (caller.argument(0), caller.argument(1));
@@ -128,10 +129,13 @@ impl State {
     /// The new position in a file; None where it is out of range.
     fn target(&self, file: Descriptor, offset: i64, whence: u32) -> Option<u64>
         requires within { IsSoundDescriptor file }
-        ensures some { IfSome result (λ position. position ≡ unsigned_abs (pos (origin self.now file whence) +ℤ offset)) }
-        ensures in_range { IfSome result (λ _. is_out_of_range (pos (origin self.now file whence) +ℤ offset) ≡ false) }
+        ensures some { IfSome result (λ position. position
+            ≡ unsigned_abs (pos (origin self.now file whence) +ℤ offset)) }
+        ensures in_range { IfSome result (λ _. is_out_of_range
+            (pos (origin self.now file whence) +ℤ offset) ≡ false) }
         ensures within { IfSome result (λ position. position < 2 ^ 63) }
-        ensures none { IfNone result (is_out_of_range (pos (origin self.now file whence) +ℤ offset) ≡ true) }
+        ensures none { IfNone result (is_out_of_range (pos (origin self.now file whence) +ℤ offset)
+            ≡ true) }
     {
         checked_seek(self.origin(file, whence), offset)
     }
@@ -145,7 +149,8 @@ impl State {
         caller: &Caller,
     ) -> Answer
         requires room { 1 ≤ events.old.room }
-        ensures does { Does (specs.llseek (asked caller.now self.old memory.old held.old)) result self.new memory.new held.new events.old events.new }
+        ensures does { Does (specs.llseek
+            (asked caller.now self.old memory.old held.old)) result self.new memory.new held.new events.old events.new }
         ensures room { events.old.room ≤ events.new.room + 1 }
     {
         let (fd, result_at, whence) = (caller.argument(0), caller.argument(3), caller.argument(4));

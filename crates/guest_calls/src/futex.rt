@@ -49,7 +49,8 @@ fn has_limit(operation: Operation, caller: &Caller) -> bool
 
 /// Whether it is a wait whose limit can't be read.
 fn is_limit_denied(memory: &GuestMemory, caller: &Caller, operation: Operation) -> bool
-    ensures { result ≡ ((is_wait operation && not (slice_index caller.now.cpu.regs 13 == 0)) && not (can_read (memory_of memory.now) (slice_index caller.now.cpu.regs 13) 16)) }
+    ensures { result ≡ ((is_wait operation && not (slice_index caller.now.cpu.regs 13 == 0))
+        && not (can_read (memory_of memory.now) (slice_index caller.now.cpu.regs 13) 16)) }
 {
     has_limit(operation, caller) && !memory.can_read(caller.argument(3), TIME_SIZE as u64)
 }
@@ -57,8 +58,10 @@ fn is_limit_denied(memory: &GuestMemory, caller: &Caller, operation: Operation) 
 /// Whether it is a wait whose limit, which can be read, is a bad time.
 #[tactic(auto, using(crate::proofs::Passed::asked_reach))]
 fn is_limit_bad(memory: &GuestMemory, caller: &Caller, operation: Operation) -> bool
-    requires { ((is_wait operation && not (slice_index caller.now.cpu.regs 13 == 0)) && not (can_read (memory_of memory.now) (slice_index caller.now.cpu.regs 13) 16)) ≡ false }
-    ensures { result ≡ ((is_wait operation && not (slice_index caller.now.cpu.regs 13 == 0)) && is_none (time_at (memory_of memory.now) (slice_index caller.now.cpu.regs 13))) }
+    requires { ((is_wait operation && not (slice_index caller.now.cpu.regs 13 == 0))
+        && not (can_read (memory_of memory.now) (slice_index caller.now.cpu.regs 13) 16)) ≡ false }
+    ensures { result ≡ ((is_wait operation && not (slice_index caller.now.cpu.regs 13 == 0))
+        && is_none (time_at (memory_of memory.now) (slice_index caller.now.cpu.regs 13))) }
 {
     has_limit(operation, caller) && time_at(memory, caller.argument(3)).is_none()
 }
@@ -66,10 +69,14 @@ fn is_limit_bad(memory: &GuestMemory, caller: &Caller, operation: Operation) -> 
 /// The answer of the first test that holds.
 #[tactic(auto, using(crate::proofs::Waits::limit_in_reach))]
 fn refusal(memory: &GuestMemory, caller: &Caller, operation: Operation) -> Option<u32>
-    ensures value { (state : KernelState) (held : Reservations) → result ≡ first_answer (futex_tests operation (asked caller.now state memory.now held)) }
-    ensures reach { IfNone result (reads_word operation ≡ true → can_read (memory_of memory.now) (slice_index caller.now.cpu.regs 10) 4 ≡ true) }
-    ensures bits { IfNone result (has_bitset operation ≡ true → slice_index caller.now.cpu.regs 15 ≢ 0) }
-    ensures limit { IfNone result (is_wait operation ≡ true → slice_index caller.now.cpu.regs 13 ≢ 0 → can_read (memory_of memory.now) (slice_index caller.now.cpu.regs 13) 16 ≡ true) }
+    ensures value { (state : KernelState) (held : Reservations)
+        → result ≡ first_answer (futex_tests operation (asked caller.now state memory.now held)) }
+    ensures reach { IfNone result (reads_word operation ≡ true
+        → can_read (memory_of memory.now) (slice_index caller.now.cpu.regs 10) 4 ≡ true) }
+    ensures bits { IfNone result (has_bitset operation ≡ true
+        → slice_index caller.now.cpu.regs 15 ≢ 0) }
+    ensures limit { IfNone result (is_wait operation ≡ true → slice_index caller.now.cpu.regs 13 ≢ 0
+        → can_read (memory_of memory.now) (slice_index caller.now.cpu.regs 13) 16 ≡ true) }
 {
     let at = caller.argument(0);
     if caller.argument(1) & FUTEX_CLOCK_REALTIME != 0 && !operation.is_wait() {
@@ -100,8 +107,10 @@ fn refusal(memory: &GuestMemory, caller: &Caller, operation: Operation) -> Optio
 fn compare(memory: &GuestMemory, events: &mut Events, caller: &Caller, value: u32) -> bool
     requires reach { can_read (memory_of memory.now) (slice_index caller.now.cpu.regs 10) 4 ≡ true }
     requires room { 1 ≤ events.old.room }
-    ensures same { result ≡ (number_at (memory_of memory.now) (slice_index caller.now.cpu.regs 10) 4 == value) }
-    ensures events { events.new.list ≡ events.old.list ++ read_event caller.now.tid (slice_index caller.now.cpu.regs 10) 4 }
+    ensures same { result ≡ (number_at (memory_of memory.now)
+        (slice_index caller.now.cpu.regs 10) 4 == value) }
+    ensures events { events.new.list ≡ events.old.list
+        ++ read_event caller.now.tid (slice_index caller.now.cpu.regs 10) 4 }
     ensures room { events.old.room ≤ events.new.room + 1 }
 {
     let at = caller.argument(0);
@@ -111,9 +120,12 @@ fn compare(memory: &GuestMemory, events: &mut Events, caller: &Caller, value: u3
 
 /// The limit of a wait is read, where it has one, and the read is an event.
 fn note_limit(memory: &GuestMemory, events: &mut Events, caller: &Caller, end: Option<u64>)
-    requires reach { is_some end ≡ true → can_read (memory_of memory.now) (slice_index caller.now.cpu.regs 13) 16 ≡ true }
+    requires reach { is_some end ≡ true → can_read (memory_of memory.now)
+        (slice_index caller.now.cpu.regs 13) 16 ≡ true }
     requires room { 1 ≤ events.old.room }
-    ensures events { events.new.list ≡ events.old.list ++ (if is_some end then read_event caller.now.tid (slice_index caller.now.cpu.regs 13) 16 else []) }
+    ensures events { events.new.list ≡ events.old.list
+        ++ (if is_some end then read_event caller.now.tid (slice_index caller.now.cpu.regs 13) 16
+        else []) }
     ensures room { events.old.room ≤ events.new.room + 1 }
 {
     if end.is_some() {
@@ -135,9 +147,12 @@ impl State {
 
     /// When a wait is over, where it has a limit.
     fn wait_end(&self, memory: &GuestMemory, caller: &Caller, operation: Operation) -> Option<u64>
-        requires reach { slice_index caller.now.cpu.regs 13 ≢ 0 → can_read (memory_of memory.now) (slice_index caller.now.cpu.regs 13) 16 ≡ true }
-        ensures value { (held : Reservations) → result ≡ wait_end operation (asked caller.now self.now memory.now held) }
-        ensures reach { is_some result ≡ true → can_read (memory_of memory.now) (slice_index caller.now.cpu.regs 13) 16 ≡ true }
+        requires reach { slice_index caller.now.cpu.regs 13 ≢ 0
+            → can_read (memory_of memory.now) (slice_index caller.now.cpu.regs 13) 16 ≡ true }
+        ensures value { (held : Reservations) → result
+            ≡ wait_end operation (asked caller.now self.now memory.now held) }
+        ensures reach { is_some result ≡ true → can_read (memory_of memory.now)
+            (slice_index caller.now.cpu.regs 13) 16 ≡ true }
     {
         let limit = caller.argument(3);
         if limit == 0 {
@@ -173,7 +188,8 @@ impl State {
         requires can_run { can_run self.old tid ≡ true }
         requires bits { bits ≢ 0 }
         ensures answer { result ≡ (if is_over end self.old.time then Back etimedout else Block) }
-        ensures after { self.new ≡ (if is_over end self.old.time then self.old else with_end tid end (with_waiter at tid bits self.old)) }
+        ensures after { self.new ≡ (if is_over end self.old.time then self.old
+            else with_end tid end (with_waiter at tid bits self.old)) }
     {
         if self.is_over(end) {
             return Answer::Back { value: ETIMEDOUT };
@@ -230,11 +246,15 @@ impl State {
         bits: u32,
     ) -> Answer
         requires can_run { can_run self.old caller.now.tid ≡ true }
-        requires reach { can_read (memory_of memory.now) (slice_index caller.now.cpu.regs 10) 4 ≡ true }
-        requires limit { slice_index caller.now.cpu.regs 13 ≢ 0 → can_read (memory_of memory.now) (slice_index caller.now.cpu.regs 13) 16 ≡ true }
+        requires reach { can_read (memory_of memory.now) (slice_index caller.now.cpu.regs 10) 4
+            ≡ true }
+        requires limit { slice_index caller.now.cpu.regs 13 ≢ 0
+            → can_read (memory_of memory.now) (slice_index caller.now.cpu.regs 13) 16 ≡ true }
         requires bits { bits ≢ 0 }
         requires room { 2 ≤ events.old.room }
-        ensures does { (held : Reservations) → let c = asked caller.now self.old memory.now held in Does (waited c bits (wait_end operation c)) result self.new memory.now held events.old events.new }
+        ensures does { (held : Reservations)
+            → let c = asked caller.now self.old memory.now held in Does
+            (waited c bits (wait_end operation c)) result self.new memory.now held events.old events.new }
         ensures room { events.old.room ≤ events.new.room + 2 }
     {
         let end = self.wait_end(memory, caller, operation);
@@ -247,7 +267,10 @@ impl State {
 
     /// FUTEX_WAKE and FUTEX_WAKE_BITSET
     fn futex_wake(&mut self, caller: &Caller, bits: u32) -> Answer
-        ensures { (memory : GuestMemory) (held : Reservations) (events : EventList) → let c = asked caller.now self.old memory held in Does (returns c (count_woken c bits) ▷ wakes (futex_at c) (futex_value c) bits) result self.new memory held events events }
+        ensures { (memory : GuestMemory) (held : Reservations) (events : EventList)
+            → let c = asked caller.now self.old memory held in Does
+            (returns c (count_woken c bits) ▷ wakes (futex_at c)
+            (futex_value c) bits) result self.new memory held events events }
     {
         let count = self.wake(caller.argument(0), caller.argument(2), bits);
         Answer::Back { value: count }
@@ -255,7 +278,9 @@ impl State {
 
     /// FUTEX_REQUEUE
     fn futex_requeue(&mut self, caller: &Caller) -> Answer
-        ensures { (memory : GuestMemory) (held : Reservations) (events : EventList) → let c = asked caller.now self.old memory held in Does (performed Requeue c) result self.new memory held events events }
+        ensures { (memory : GuestMemory) (held : Reservations) (events : EventList)
+            → let c = asked caller.now self.old memory held in Does
+            (performed Requeue c) result self.new memory held events events }
     {
         let (at, most, shift, to) = (
             caller.argument(0),
@@ -274,9 +299,12 @@ impl State {
         events: &mut Events,
         caller: &Caller,
     ) -> Answer
-        requires reach { can_read (memory_of memory.now) (slice_index caller.now.cpu.regs 10) 4 ≡ true }
+        requires reach { can_read (memory_of memory.now) (slice_index caller.now.cpu.regs 10) 4
+            ≡ true }
         requires room { 1 ≤ events.old.room }
-        ensures does { (held : Reservations) → let c = asked caller.now self.old memory.now held in Does (performed CmpRequeue c) result self.new memory.now held events.old events.new }
+        ensures does { (held : Reservations)
+            → let c = asked caller.now self.old memory.now held in Does
+            (performed CmpRequeue c) result self.new memory.now held events.old events.new }
         ensures room { events.old.room ≤ events.new.room + 1 }
     {
         if !compare(memory, events, caller, caller.argument(5)) {
@@ -303,7 +331,8 @@ impl State {
     ) -> Answer
         requires can_run { can_run self.old caller.now.tid ≡ true }
         requires room { 2 ≤ events.old.room }
-        ensures does { (held : Reservations) → Does (specs.futex (asked caller.now self.old memory.now held)) result self.new memory.now held events.old events.new }
+        ensures does { (held : Reservations) → Does
+            (specs.futex (asked caller.now self.old memory.now held)) result self.new memory.now held events.old events.new }
         ensures room { events.old.room ≤ events.new.room + 2 }
     {
         let Some(operation) = Operation::numbered(caller.argument(1) & NUMBER_BITS) else {

@@ -77,7 +77,8 @@ impl Inputs {
 
     /// The bytes of the file at an index; none where there is no file.
     pub(crate) fn bytes_at(&self, index: usize) -> &[u8]
-        ensures { result.now ≡ (slice_index_or self.now index (record { name = []; bytes = [] })).bytes }
+        ensures { result.now ≡ (slice_index_or self.now index
+            (record { name = []; bytes = [] })).bytes }
     {
         match self.items.get(index) {
             Some(input) => &input.bytes,

@@ -48,7 +48,8 @@ impl Kernel {
         first_break: Addr,
     ) -> Result<Kernel, AllocError>
         ensures state { IfOk result (λ kernel. IsState kernel.state) }
-        ensures started { IfOk result (λ kernel. kernel ≡ record { state = started inputs stdin.items first_break; out = None }) }
+        ensures started { IfOk result (λ kernel. kernel
+            ≡ record { state = started inputs stdin.items first_break; out = None }) }
     {
         let state = State::new(alloc, inputs, stdin, first_break)?;
         state.holds();
@@ -69,7 +70,8 @@ impl Kernel {
     ) -> Result<Answer, AllocError>
         requires can_run { can_run self.old.state tid ≡ true }
         requires break_free { IsBreakFree (memory_of memory.old) self.old.state.program_break }
-        ensures call { IfOk result (λ answer. Gives (call (asked (record { tid = tid; cpu = cpu.now }) self.old.state memory.old held.old)) answer self.new memory.new held.new events.old events.new) }
+        ensures call { IfOk result (λ answer. Gives
+            (call (asked (record { tid = tid; cpu = cpu.now }) self.old.state memory.old held.old)) answer self.new memory.new held.new events.old events.new) }
         ensures refused { OnErr result (IsAsBefore self.old self.new memory.old memory.new held.old held.new events.old events.new) }
         ensures break_free { IsBreakFree (memory_of memory.new) self.new.state.program_break }
         ensures room { events.old.room ≤ events.new.room + CALL_EVENTS }
@@ -100,7 +102,9 @@ impl Kernel {
     ) -> Result<Answer, AllocError>
         requires can_run { can_run self.old.state tid ≡ true }
         requires break_free { IsBreakFree (memory_of memory.old) self.old.state.program_break }
-        ensures call { IfOk result (λ answer. Gives (call (asked (record { tid = tid; cpu = cpu.now }) (later self.old.state) memory.old held.old)) answer self.new memory.new held.new events.old events.new) }
+        ensures call { IfOk result (λ answer. Gives
+            (call (asked (record { tid = tid; cpu = cpu.now })
+            (later self.old.state) memory.old held.old)) answer self.new memory.new held.new events.old events.new) }
         ensures refused { OnErr result (IsAsBefore self.old self.new memory.old memory.new held.old held.new events.old events.new) }
         ensures break_free { IsBreakFree (memory_of memory.new) self.new.state.program_break }
         ensures state { IsState self.new.state }

@@ -64,7 +64,8 @@ fn map(memory: &mut GuestMemory, page: u32, count: u32, rights: Rights) -> Resul
     requires range { page + count ≤ 1048576 }
     requires free { AreFree (memory_of memory.old) page count }
     requires room { mapped_pages (memory_of memory.old) + count ≤ PAGES }
-    ensures ok { OnOk result (memory_of memory.new ≡ with_pages (memory_of memory.old) page count (Some rights)) }
+    ensures ok { OnOk result (memory_of memory.new
+        ≡ with_pages (memory_of memory.old) page count (Some rights)) }
     ensures err { OnErr result (memory_of memory.new ≡ memory_of memory.old) }
 {
     match memory.map(page, count, rights) {
@@ -75,7 +76,9 @@ fn map(memory: &mut GuestMemory, page: u32, count: u32, rights: Rights) -> Resul
 
 /// munmap(2)
 pub(crate) fn munmap(memory: &mut GuestMemory, caller: &Caller) -> Answer
-    ensures { (state : KernelState) (held : Reservations) (events : EventList) → Does (specs.munmap (asked caller.now state memory.old held)) result state memory.new held events events }
+    ensures { (state : KernelState) (held : Reservations) (events : EventList)
+        → Does (specs.munmap
+        (asked caller.now state memory.old held)) result state memory.new held events events }
 {
     let (at, count) = (caller.argument(0), pages(caller.argument(1)));
     if at % PAGE_SIZE != 0 {
@@ -102,7 +105,9 @@ fn are_mapped(memory: &GuestMemory, page: u32, count: u32) -> bool
 
 /// mprotect(2)
 pub(crate) fn mprotect(memory: &mut GuestMemory, caller: &Caller) -> Answer
-    ensures { (state : KernelState) (held : Reservations) (events : EventList) → Does (specs.mprotect (asked caller.now state memory.old held)) result state memory.new held events events }
+    ensures { (state : KernelState) (held : Reservations) (events : EventList)
+        → Does (specs.mprotect
+        (asked caller.now state memory.old held)) result state memory.new held events events }
 {
     let (at, bytes) = (caller.argument(0), caller.argument(1));
     if at % PAGE_SIZE != 0 {
@@ -143,9 +148,12 @@ fn is_private(flags: u32) -> bool
 
 /// mmap2(2)
 pub(crate) fn mmap2(memory: &mut GuestMemory, caller: &Caller) -> Result<Answer, AllocError>
-    ensures does { (state : KernelState) (held : Reservations) (events : EventList) → IfOk result (λ answer. Does (specs.mmap2 (asked caller.now state memory.old held)) answer state memory.new held events events) }
+    ensures does { (state : KernelState) (held : Reservations) (events : EventList)
+        → IfOk result (λ answer. Does
+        (specs.mmap2 (asked caller.now state memory.old held)) answer state memory.new held events events) }
     ensures refused { OnErr result (memory_of memory.new ≡ memory_of memory.old) }
-    ensures high { (page : ℕ) → page < 0x40000 → (memory_of memory.new).rights page ≡ (memory_of memory.old).rights page }
+    ensures high { (page : ℕ) → page < 0x40000
+        → (memory_of memory.new).rights page ≡ (memory_of memory.old).rights page }
 {
     let (bytes, flags) = (caller.argument(1), caller.argument(3));
     if !is_private(flags) {
@@ -181,7 +189,9 @@ impl State {
         caller: &Caller,
     ) -> Result<Answer, AllocError>
         requires break_free { IsBreakFree (memory_of memory.old) self.old.program_break }
-        ensures does { (held : Reservations) (events : EventList) → IfOk result (λ answer. Does (specs.brk (asked caller.now self.old memory.old held)) answer self.new memory.new held events events) }
+        ensures does { (held : Reservations) (events : EventList)
+            → IfOk result (λ answer. Does
+            (specs.brk (asked caller.now self.old memory.old held)) answer self.new memory.new held events events) }
         ensures memory_refused { OnErr result (memory_of memory.new ≡ memory_of memory.old) }
         ensures state_refused { OnErr result (self.new ≡ self.old) }
         ensures break_free { IsBreakFree (memory_of memory.new) self.new.program_break }

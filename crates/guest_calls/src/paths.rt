@@ -50,7 +50,8 @@ fn ends_path(memory: &GuestMemory, at: u64) -> bool
 fn path_end(memory: &GuestMemory, path: Addr) -> Option<u64>
     ensures value { result ≡ path_end (memory_of memory.now) path }
     ensures range { IfSome result (λ stop. (path ≤ stop) × (stop < path + 4096)) }
-    ensures reach { IfSome result (λ stop. can_read (memory_of memory.now) path (stop - path) ≡ true) }
+    ensures reach { IfSome result (λ stop. can_read (memory_of memory.now) path (stop - path)
+        ≡ true) }
 {
     let first = u64::from(path);
     for at in first..first + PATH_LIMIT as u64 {
@@ -66,7 +67,8 @@ impl State {
     fn input_named(&self, memory: &GuestMemory, path: Addr, size: usize) -> Option<usize>
         requires few { size ≤ 4096 }
         requires reach { can_read (memory_of memory.now) path size ≡ true }
-        ensures { result ≡ position (is_named (bytes_at (memory_of memory.now) path size)) self.now.inputs }
+        ensures { result ≡ position (is_named
+            (bytes_at (memory_of memory.now) path size)) self.now.inputs }
     {
         let mut buffer = [0u8; PATH_LIMIT];
         copy_to(memory, path, &mut buffer, size);
@@ -89,7 +91,8 @@ impl State {
         caller: &Caller,
     ) -> Answer
         requires room { 1 ≤ events.old.room }
-        ensures does { (held : Reservations) → Does (specs.openat (asked caller.now self.old memory.now held)) result self.new memory.now held events.old events.new }
+        ensures does { (held : Reservations) → Does
+            (specs.openat (asked caller.now self.old memory.now held)) result self.new memory.now held events.old events.new }
         ensures room { events.old.room ≤ events.new.room + 1 }
     {
         let path = caller.argument(1);

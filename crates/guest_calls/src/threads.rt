@@ -60,7 +60,8 @@ impl State {
     ) -> Answer
         requires can_run { can_run self.old caller.now.tid ≡ true }
         requires room { 1 ≤ events.old.room }
-        ensures does { Does (specs.exit (asked caller.now self.old memory.old held.old)) result self.new memory.new held.new events.old events.new }
+        ensures does { Does (specs.exit
+            (asked caller.now self.old memory.old held.old)) result self.new memory.new held.new events.old events.new }
         ensures room { events.old.room ≤ events.new.room + 1 }
     {
         let tid = caller.tid;
@@ -88,7 +89,8 @@ impl State {
     )
         requires can_run { can_run self.old caller.now.tid ≡ true }
         requires room { 1 ≤ events.old.room }
-        ensures told { Does (specs.told_end (asked caller.now self.old memory.old held.old)) (Back 0) self.new memory.new held.new events.old events.new }
+        ensures told { Does (specs.told_end (asked caller.now self.old memory.old held.old))
+            (Back 0) self.new memory.new held.new events.old events.new }
         ensures can_run { can_run self.new caller.now.tid ≡ true }
         ensures room { events.old.room ≤ events.new.room + 1 }
     {
@@ -143,7 +145,9 @@ impl State {
 
     /// exit_group(2)
     pub(crate) fn exit_group(&mut self, held: &mut Reservations, caller: &Caller) -> Answer
-        ensures { (memory : GuestMemory) (events : EventList) → Does (specs.exit_group (asked caller.now self.old memory held.old)) result self.new memory held.new events events }
+        ensures { (memory : GuestMemory) (events : EventList)
+            → Does (specs.exit_group
+            (asked caller.now self.old memory held.old)) result self.new memory held.new events events }
     {
         self.threads.clear();
         self.waiting.clear();
@@ -192,7 +196,9 @@ pub(crate) fn rt_sigprocmask(
     caller: &Caller,
 ) -> Answer
     requires room { 1 ≤ events.old.room }
-    ensures does { (state : KernelState) → Does (specs.rt_sigprocmask (asked caller.now state memory.old held.old)) result state memory.new held.new events.old events.new }
+    ensures does { (state : KernelState) → Does
+        (specs.rt_sigprocmask
+        (asked caller.now state memory.old held.old)) result state memory.new held.new events.old events.new }
     ensures room { events.old.room ≤ events.new.room + 1 }
 {
     let old = caller.argument(2);

@@ -158,8 +158,10 @@ pub(crate) fn read_table(
     ensures few { IfOk result (λ parts. vec_len parts ≤ 1024) }
     ensures reach { IfOk result (λ _. can_read (memory_of memory.now) at (8 * count) ≡ true) }
     ensures short { IfOk result (λ parts. total parts.items < 2 ^ 31) }
-    ensures passed { IfOk result (λ _. first_answer (table_tests (memory_of memory.now) at count) ≡ None) }
-    ensures refused { IfErr result (IsRefusal (first_answer (table_tests (memory_of memory.now) at count))) }
+    ensures passed { IfOk result (λ _. first_answer (table_tests (memory_of memory.now) at count)
+        ≡ None) }
+    ensures refused { IfErr result (IsRefusal (first_answer
+        (table_tests (memory_of memory.now) at count))) }
 {
     if count > PART_LIMIT {
         return Err(TableError::Refused { errno: EINVAL });
@@ -185,7 +187,8 @@ fn fill_parts(
     requires reach { all_in_reach (can_write (memory_of memory.old)) parts.now ≡ true }
     requires all { total parts.now ≤ length bytes.now }
     requires room { length parts.now ≤ events.old.room }
-    ensures filled { guest_of memory.new held.new events.new ≡ filled_parts parts.now bytes.now (guest_of memory.old held.old events.old) }
+    ensures filled { guest_of memory.new held.new events.new
+        ≡ filled_parts parts.now bytes.now (guest_of memory.old held.old events.old) }
     ensures room { events.old.room ≤ events.new.room + length parts.now }
 {
     let mut rest = bytes;
@@ -233,7 +236,8 @@ impl State {
         caller: &Caller,
     ) -> Result<Answer, AllocError>
         requires room { CALL_EVENTS ≤ events.old.room }
-        ensures does { IfOk result (λ answer. Does (specs.readv (asked caller.now self.old memory.old held.old)) answer self.new memory.new held.new events.old events.new) }
+        ensures does { IfOk result (λ answer. Does
+            (specs.readv (asked caller.now self.old memory.old held.old)) answer self.new memory.new held.new events.old events.new) }
         ensures refused { OnErr result (IsUntouched self.old self.new memory.old memory.new held.old held.new events.old events.new) }
         ensures room { events.old.room ≤ events.new.room + CALL_EVENTS }
     {

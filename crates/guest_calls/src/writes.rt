@@ -34,7 +34,8 @@ impl Kernel {
         caller: &Caller,
     ) -> Answer
         requires room { 1 ≤ events.old.room }
-        ensures does { (held : Reservations) → Gives (write (asked caller.now self.old.state memory.now held)) result self.new memory.now held events.old events.new }
+        ensures does { (held : Reservations) → Gives
+            (write (asked caller.now self.old.state memory.now held)) result self.new memory.now held events.old events.new }
         ensures room { events.old.room ≤ events.new.room + 1 }
     {
         self.outgoing.clear();
@@ -59,8 +60,11 @@ impl Kernel {
         caller: &Caller,
     ) -> Result<Answer, AllocError>
         requires room { CALL_EVENTS ≤ events.old.room }
-        ensures does { (held : Reservations) → IfOk result (λ answer. Gives (writev (asked caller.now self.old.state memory.now held)) answer self.new memory.now held events.old events.new) }
-        ensures refused { (held : Reservations) → OnErr result (IsAsBefore self.old self.new memory.now memory.now held held events.old events.new) }
+        ensures does { (held : Reservations) → IfOk result
+            (λ answer. Gives
+            (writev (asked caller.now self.old.state memory.now held)) answer self.new memory.now held events.old events.new) }
+        ensures refused { (held : Reservations) → OnErr result
+            (IsAsBefore self.old self.new memory.now memory.now held held events.old events.new) }
         ensures room { events.old.room ≤ events.new.room + CALL_EVENTS }
     {
         let (at, count) = (caller.argument(1), caller.argument(2));

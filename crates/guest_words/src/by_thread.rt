@@ -160,7 +160,8 @@ impl<T: Drop> ByThread<T> {
     pub fn remove(&mut self, tid: Tid)
         ensures list { self.new.list ≡ without_thread self.old.list tid }
         ensures room { self.old.room ≤ self.new.room }
-        ensures freed { length self.old.list + self.old.room ≤ length self.new.list + self.new.room }
+        ensures freed { length self.old.list + self.old.room
+            ≤ length self.new.list + self.new.room }
     {
         self.entries.retain(|entry| entry.0 != tid);
     }

@@ -79,7 +79,8 @@ impl MemoryFiles {
 
     /// Notes that the call failed at this path.
     fn note_failure(&mut self, path: &str) -> Result<(), AllocError>
-        ensures ok { OnOk result (files_state self.new ≡ with_failure path.now (files_state self.old)) }
+        ensures ok { OnOk result (files_state self.new
+            ≡ with_failure path.now (files_state self.old)) }
         ensures err { OnErr result (files_state self.new ≡ files_state self.old) }
         ensures counts { NoCountFalls (files_state self.old) (files_state self.new) }
         ensures next { next_call self.new ≡ next_call self.old }
@@ -134,9 +135,11 @@ impl Files for MemoryFiles {
 
     fn store(&mut self, path: &str, bytes: &[u8]) -> Result<(), StoreError>
         ensures counts { NoCountFalls (files_state self.old) (files_state self.new) }
-        ensures ends { StoreEnds path.now bytes.now (files_state self.old) (files_state self.new) result }
+        ensures ends { StoreEnds path.now bytes.now (files_state self.old)
+            (files_state self.new) result }
 
-        ensures state { files_state self.new ≡ after_store path.now bytes.now result (files_state self.old) }
+        ensures state { files_state self.new ≡ after_store path.now bytes.now result
+            (files_state self.old) }
 
         // It fails exactly where the call is made to fail.
         ensures fails { IsErrOf result StoreError.Failed → IsToFail self.old }

@@ -21,7 +21,8 @@ impl MemorySink {
 
     /// A sink that has got nothing, and that fails at no put.
     pub fn new(alloc: Global) -> Result<MemorySink, AllocError>
-        ensures state { IfOk result (λ sink. sink_state sink ≡ record { bytes = Some []; faults = 0 }) }
+        ensures state { IfOk result (λ sink. sink_state sink
+            ≡ record { bytes = Some []; faults = 0 }) }
         ensures next { IfOk result (λ sink. next_put sink ≡ 0) }
         ensures failing { IfOk result (λ sink. failing_puts sink ≡ []) }
     {
@@ -66,7 +67,8 @@ impl Sink for MemorySink {
 
         // It fails exactly where the put is made to fail.
         ensures fails { IsErrOf result PutError.Failed → PutIsToFail self.old }
-        ensures is_to_fail { PutIsToFail self.old → IsErrOf result PutError.Failed ⊎ IsErrOf result PutError.Memory }
+        ensures is_to_fail { PutIsToFail self.old
+            → IsErrOf result PutError.Failed ⊎ IsErrOf result PutError.Memory }
         ensures next { next_put self.new ≡ counted (next_put self.old) }
         ensures failing { failing_puts self.new ≡ failing_puts self.old }
     {

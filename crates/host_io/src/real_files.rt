@@ -25,7 +25,8 @@ impl<'a, R> RealFiles<'a, R> {
 
     /// No call has failed.
     pub fn new(rt: &'a R) -> RealFiles<'a, R>
-        ensures { real_state result ≡ record { contents = None; failed_paths = None; faults = 0; oversized = 0 } }
+        ensures { real_state result
+            ≡ record { contents = None; failed_paths = None; faults = 0; oversized = 0 } }
     {
         RealFiles {
             system: rt,
@@ -93,8 +94,10 @@ where
     R: Drop,
     requires stops { take_limit reader ≡ min (most + 1) (2 ^ 64 - 1) }
     ensures limit { IfOk result (λ bytes. vec_len bytes ≤ most) }
-    ensures whole { IfOk result (λ bytes. IfSome (R.remaining (take_inner reader)) (λ known. bytes.items ≡ known)) }
-    ensures longer { result ≡ Err LoadError.TooLarge → IfSome (R.remaining (take_inner reader)) (λ known. most < length known) }
+    ensures whole { IfOk result (λ bytes. IfSome (R.remaining (take_inner reader))
+        (λ known. bytes.items ≡ known)) }
+    ensures longer { result ≡ Err LoadError.TooLarge
+        → IfSome (R.remaining (take_inner reader)) (λ known. most < length known) }
 {
     let mut bytes = Vec::new(alloc);
     let read = reader.read_to_end(&mut bytes);
@@ -111,8 +114,10 @@ where
     R: Drop,
     ensures limit { IfOk result (λ bytes. vec_len bytes ≤ most) }
     ensures unopened { IfErr opened (λ e. IsRefusedFor e LoadError.Memory LoadError.Failed result) }
-    ensures whole { IfOk opened (λ file. IfOk result (λ bytes. IfSome (R.remaining file) (λ known. bytes.items ≡ known))) }
-    ensures longer { IfOk opened (λ file. result ≡ Err LoadError.TooLarge → IfSome (R.remaining file) (λ known. most < length known)) }
+    ensures whole { IfOk opened (λ file. IfOk result
+        (λ bytes. IfSome (R.remaining file) (λ known. bytes.items ≡ known))) }
+    ensures longer { IfOk opened (λ file. result ≡ Err LoadError.TooLarge
+        → IfSome (R.remaining file) (λ known. most < length known)) }
 {
     match opened {
         Ok(file) => read_whole(alloc, limited(file, most), most),
@@ -126,7 +131,8 @@ pub(crate) fn store_opened<W: Write>(opened: io::Result<W>, bytes: &[u8]) -> Res
 where
     W: Drop,
     ensures unopened { IfErr opened (λ e. IsRefusedFor e StoreError.Memory StoreError.Failed result) }
-    ensures written { IfOk opened (λ file. IfOk result (λ left. Appends (W.contents file) (W.contents left) bytes.now)) }
+    ensures written { IfOk opened (λ file. IfOk result
+        (λ left. Appends (W.contents file) (W.contents left) bytes.now)) }
     ensures failed { IfOk opened (λ file. IfErr result (λ e. e ≡ StoreError.Failed)) }
 {
     let mut file = match opened {
@@ -161,8 +167,10 @@ impl<R: rt::Files> Files for RealFiles<'_, R> {
 
     fn store(&mut self, path: &str, bytes: &[u8]) -> Result<(), StoreError>
         ensures counts { NoCountFalls (real_state self.old) (real_state self.new) }
-        ensures ends { StoreEnds path.now bytes.now (real_state self.old) (real_state self.new) result }
-        ensures state { real_state self.new ≡ after_store path.now bytes.now result (real_state self.old) }
+        ensures ends { StoreEnds path.now bytes.now (real_state self.old)
+            (real_state self.new) result }
+        ensures state { real_state self.new ≡ after_store path.now bytes.now result
+            (real_state self.old) }
     {
         match store_opened(fs::create(self.system, path), bytes) {
             Ok(_) => Ok(()),

@@ -51,7 +51,8 @@ impl<W: Write> Sink for StreamSink<W> {
         ensures failed { IfErr result (λ e. e ≡ PutError.Failed) }
 
         // A writer that knows its bytes has got the piece.
-        ensures written { OnOk result (Appends (W.contents (writer_of self.old)) (W.contents (writer_of self.new)) piece.now) }
+        ensures written { OnOk result (Appends (W.contents (writer_of self.old))
+            (W.contents (writer_of self.new)) piece.now) }
     {
         match write_out(&mut self.inner, piece) {
             Ok(()) => Ok(()),

@@ -76,7 +76,8 @@ fn kind_number(kind: FaultKind) -> u64
 
 /// Appends a fault's kind, thread and address.
 fn push_fault(text: &mut Vec<u8>, kind: FaultKind, tid: Tid, at: Addr) -> Result<(), AllocError>
-    ensures { OnOk result (text.new.items ≡ text.old.items ++ (codes "end fault " ++ fault_words kind tid at)) }
+    ensures { OnOk result (text.new.items
+        ≡ text.old.items ++ (codes "end fault " ++ fault_words kind tid at)) }
 {
     push_labelled(text, b"end fault ", kind_number(kind))?;
     push_labelled(text, b" ", u64::from(tid.number()))?;

@@ -77,8 +77,11 @@ fn apply(
     events: &mut Vec<Event>,
     e: Event,
 ) -> Result<(), Fail>
-    requires { (past : List Event) × (IsOrderOf order.old past × (StandsFor tree.old past × (reverse events.old.items ≡ past))) }
-    ensures { IfOk result (λ _. (past : List Event) × (IsOrderOf order.new past × (StandsFor tree.new past × (reverse events.new.items ≡ past)))) }
+    requires { (past : List Event) × (IsOrderOf order.old past
+        × (StandsFor tree.old past × (reverse events.old.items ≡ past))) }
+    ensures { IfOk result (λ _. (past : List Event)
+        × (IsOrderOf order.new past
+        × (StandsFor tree.new past × (reverse events.new.items ≡ past)))) }
 {
     if order.may_follow(&e) {
         let before = slow_done(alloc, events)?;

@@ -54,8 +54,10 @@ fn observe<K: Shaped>(
     order: &mut Order,
     e: Event,
 ) -> Result<(), AllocError>
-    requires { (past : List Event) × (IsOrderOf order.old past × StandsFor K.shape profile.old past) }
-    ensures { IfOk result (λ _. (past : List Event) × (IsOrderOf order.new past × StandsFor K.shape profile.new past)) }
+    requires { (past : List Event) × (IsOrderOf order.old past
+        × StandsFor K.shape profile.old past) }
+    ensures { IfOk result (λ _. (past : List Event)
+        × (IsOrderOf order.new past × StandsFor K.shape profile.new past)) }
 {
     if order.may_follow(&e) {
         profile.observe(e)?;

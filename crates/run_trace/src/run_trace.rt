@@ -49,7 +49,8 @@ impl RunTrace {
 
     // Whether stamps can't tell apart what is open with the event.
     fn is_too_deep(&self, e: &Event) -> bool
-        ensures { (past : List Event) → IsTraceOf self.now past → is_within (greatest B32) (e.now ∷ past) ≡ not result }
+        ensures { (past : List Event) → IsTraceOf self.now past
+            → is_within (greatest B32) (e.now ∷ past) ≡ not result }
     {
         entry_begun(e).is_some() && self.stacks.pending() >= OPEN_CALLS
     }
@@ -78,7 +79,8 @@ impl RunTrace {
         requires { IsTraceOfFormed self }
         ensures text { IfOk result (λ found. (past : List Event) → IsTraceOf self past
             → MatchOption found (IsTooLong past) (λ text. IsTextOf text.writer past × (text.entries.keys ≡ entries_begun past))) }
-        ensures within { IfOk result (λ found. IfSome found (λ text. length text.writer ≤ TRACE_BYTES)) }
+        ensures within { IfOk result (λ found. IfSome found
+            (λ text. length text.writer ≤ TRACE_BYTES)) }
     {
         let mut trace = self;
         trace.settle()?;

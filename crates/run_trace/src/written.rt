@@ -58,7 +58,8 @@ impl Written {
     // Writes the record of the newest event, where that is still to come.
     fn write_next(&mut self) -> Result<(), AllocError>
         requires { MayWrite self.old }
-        ensures stands { (past : List Event) → IsWrittenOf self.old past → IsWrittenOf self.new past }
+        ensures stands { (past : List Event) → IsWrittenOf self.old past
+            → IsWrittenOf self.new past }
         ensures written { OnOk result (self.new.next ≡ None) }
     {
         if let Some(e) = self.next {
@@ -70,7 +71,8 @@ impl Written {
 
     // Puts the entry that is still to come among the others.
     fn add_entry(&mut self) -> Result<(), AllocError>
-        ensures stands { (past : List Event) → IsWrittenOf self.old past → IsWrittenOf self.new past }
+        ensures stands { (past : List Event) → IsWrittenOf self.old past
+            → IsWrittenOf self.new past }
         ensures next { self.new.next ≡ self.old.next }
         ensures added { OnOk result (self.new.entry ≡ None) }
     {
@@ -84,7 +86,8 @@ impl Written {
     /// Writes what is still to come.
     pub(crate) fn settle(&mut self) -> Result<(), AllocError>
         requires { MayWrite self.old }
-        ensures stands { (past : List Event) → IsWrittenOf self.old past → IsWrittenOf self.new past }
+        ensures stands { (past : List Event) → IsWrittenOf self.old past
+            → IsWrittenOf self.new past }
         ensures written { OnOk result (self.new.next ≡ None) }
         ensures added { OnOk result (self.new.entry ≡ None) }
     {
@@ -103,7 +106,8 @@ impl Written {
     pub(crate) fn add(&mut self, e: Event)
         requires written { self.old.next ≡ None }
         requires added { self.old.entry ≡ None }
-        ensures { (past : List Event) → IsWrittenOf self.old past → IsWrittenOf self.new (e ∷ past) }
+        ensures { (past : List Event) → IsWrittenOf self.old past
+            → IsWrittenOf self.new (e ∷ past) }
     {
         self.next = Some(e);
         self.entry = entry_begun(&e);
@@ -115,7 +119,8 @@ impl Written {
         requires added { self.entry ≡ None }
         ensures same { result.writer ≡ self.text }
         ensures text { (past : List Event) → IsWrittenOf self past → IsTextOf result.writer past }
-        ensures entries { (past : List Event) → IsWrittenOf self past → result.entries.keys ≡ entries_begun past }
+        ensures entries { (past : List Event) → IsWrittenOf self past
+            → result.entries.keys ≡ entries_begun past }
     {
         self.text
     }

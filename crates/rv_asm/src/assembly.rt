@@ -82,7 +82,8 @@ pub(crate) fn words_of(
         AreAssembled (record { lines = lines.now; bindings = bindings.now }) words.items) }
     ensures reach { OnOk result (
         AreInReach (record { lines = lines.now; bindings = bindings.now }) (length lines.now)) }
-    ensures refused { IfErr result (IsOutOfReach (record { lines = lines.now; bindings = bindings.now })) }
+    ensures refused { IfErr result (IsOutOfReach
+        (record { lines = lines.now; bindings = bindings.now })) }
 {
     let mut words = Vec::new(alloc);
     for (at, line) in lines.iter().enumerate() {

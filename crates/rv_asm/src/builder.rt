@@ -90,7 +90,8 @@ impl Builder {
     /// Appends an instruction.
     pub fn emit(&mut self, i: Instr) -> Result<(), AsmError>
         requires { length self.old.lines < 4000000 }
-        ensures line { OnOk result (self.new ≡ with_line self.old (record { instruction = i; to = None })) }
+        ensures line { OnOk result (self.new ≡ with_line self.old
+            (record { instruction = i; to = None })) }
         ensures encodable { OnOk result (IsEncodable i) }
         ensures unchanged { OnErr result (self.new ≡ self.old) }
         ensures refused { IfErr result (λ e. e ≢ AsmError.Memory
@@ -124,7 +125,8 @@ impl Builder {
     pub fn jump(&mut self, i: Instr, to: Label) -> Result<(), AsmError>
         requires room { length self.old.lines < 4000000 }
         requires label { to < length self.old.bindings }
-        ensures line { OnOk result (self.new ≡ with_line self.old (record { instruction = i; to = Some to })) }
+        ensures line { OnOk result (self.new ≡ with_line self.old
+            (record { instruction = i; to = Some to })) }
         ensures jump { OnOk result (is_jump i ≡ true) }
         ensures unchanged { OnErr result (self.new ≡ self.old) }
         ensures refused { IfErr result (λ e. e ≢ AsmError.Memory
@@ -147,7 +149,8 @@ impl Builder {
         ensures bound { OnOk result (self.new ≡ with_binding self.old l) }
         ensures once { OnOk result (binding_of self.old.bindings l ≡ None) }
         ensures unchanged { OnErr result (self.new ≡ self.old) }
-        ensures refused { IfErr result (λ e. (e ≡ AsmError.Twice l) × IsSome (binding_of self.old.bindings l)) }
+        ensures refused { IfErr result (λ e. (e ≡ AsmError.Twice l)
+            × IsSome (binding_of self.old.bindings l)) }
     {
         let label = l.0;
         if binding_of(&self.bindings, label).is_some() {

@@ -59,7 +59,8 @@ fn push_file_header(file: &mut Vec<u8>, e_shoff: u32, e_shnum: u16) -> Result<()
 
 /// Appends the header of the segment, which holds the first bytes of the file.
 fn push_program_header(file: &mut Vec<u8>, size: u32) -> Result<(), AllocError>
-    ensures { OnOk result (file.new.items ≡ file.old.items ++ bytes_of (program_fields (program_header size))) }
+    ensures { OnOk result (file.new.items
+        ≡ file.old.items ++ bytes_of (program_fields (program_header size))) }
 {
     let header = ProgramHeader {
         p_type: 1,
@@ -83,7 +84,8 @@ fn push_image(
     e_shnum: u16,
 ) -> Result<(), AllocError>
     requires { 84 + 4 * length words.now < 2 ^ 32 }
-    ensures { OnOk result (file.new.items ≡ file.old.items ++ image_bytes words.now e_shoff e_shnum) }
+    ensures { OnOk result (file.new.items
+        ≡ file.old.items ++ image_bytes words.now e_shoff e_shnum) }
 {
     push_file_header(file, e_shoff, e_shnum)?;
     push_program_header(file, HEADERS + 4 * words.len() as u32)?;

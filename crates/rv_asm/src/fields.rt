@@ -38,7 +38,8 @@ pub(crate) fn push_fields(file: &mut Vec<u8>, fields: &[Field]) -> Result<(), Al
 
 /// Appends words.
 pub(crate) fn push_words(file: &mut Vec<u8>, words: &[u32]) -> Result<(), AllocError>
-    ensures { OnOk result (file.new.items ≡ file.old.items ++ flat_map (to_le_bytes w32) words.now) }
+    ensures { OnOk result (file.new.items
+        ≡ file.old.items ++ flat_map (to_le_bytes w32) words.now) }
 {
     for word in words {
         file.extend_from_slice(&word.to_le_bytes())?;

@@ -64,7 +64,8 @@ pub(crate) struct ProgramHeader {
 impl ProgramHeader {
     /// Appends the header's fields.
     pub(crate) fn push(&self, file: &mut Vec<u8>) -> Result<(), AllocError>
-        ensures { OnOk result (file.new.items ≡ file.old.items ++ bytes_of (program_fields self.now)) }
+        ensures { OnOk result (file.new.items
+            ≡ file.old.items ++ bytes_of (program_fields self.now)) }
     {
         let fields = [
             Word(self.p_type),
@@ -98,7 +99,8 @@ pub(crate) struct SectionHeader {
 impl SectionHeader {
     /// Appends the header's fields.
     pub(crate) fn push(&self, file: &mut Vec<u8>) -> Result<(), AllocError>
-        ensures { OnOk result (file.new.items ≡ file.old.items ++ bytes_of (section_fields self.now)) }
+        ensures { OnOk result (file.new.items
+            ≡ file.old.items ++ bytes_of (section_fields self.now)) }
     {
         let fields = [
             Word(self.sh_name),
@@ -130,7 +132,8 @@ pub(crate) struct SymbolEntry {
 impl SymbolEntry {
     /// Appends the entry's fields.
     pub(crate) fn push(&self, file: &mut Vec<u8>) -> Result<(), AllocError>
-        ensures { OnOk result (file.new.items ≡ file.old.items ++ bytes_of (symbol_fields self.now)) }
+        ensures { OnOk result (file.new.items
+            ≡ file.old.items ++ bytes_of (symbol_fields self.now)) }
     {
         let fields = [
             Word(self.st_name),

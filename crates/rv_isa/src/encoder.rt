@@ -244,7 +244,8 @@ fn store_funct3(kind: StoreKind) -> u32
 fn register_functs(op: RegOp) -> (u32, u32)
     ensures small_funct7 { result.0 < 2 ^ 7 }
     ensures small_funct3 { result.1 < 2 ^ 3 }
-    ensures row { (word : ℕ) → opcode word ≡ 0x33 → funct7 word ≡ result.0 → funct3 word ≡ result.1 →
+    ensures row { (word : ℕ) → opcode word ≡ 0x33 → funct7 word ≡ result.0
+        → funct3 word ≡ result.1 →
         decoded word ≡ Some (r_type (Instr.Register op) word) }
 {
     match op {
@@ -359,7 +360,8 @@ fn atomic_word(funct5: u32, order: u32, rs2: Reg, rs1: Reg, rd: Reg) -> u32
 /// The word of an atomic operation, where its order and its value register are in their ranges.
 fn atomic(op: AtomicOp, rd: Reg, base: Reg, value: Reg, order: u8) -> Option<u32>
     ensures range { IsSome result ↔ (order < 4) × IsValueOf op value }
-    ensures word { IfSome result (λ word. decoded word ≡ Some (Instr.Atomic op rd base value order)) }
+    ensures word { IfSome result (λ word. decoded word
+        ≡ Some (Instr.Atomic op rd base value order)) }
 {
     if order > 3 || !is_value_of(op, value) {
         return None;

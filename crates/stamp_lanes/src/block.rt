@@ -26,7 +26,8 @@ pub trait Block: Copy {
     fn store(self, into: &mut [Self::Lane], at: usize)
         requires room { at + 16 ≤ length into.old }
         requires sixteen { length (lanes self) ≡ 16 }
-        ensures { map Self.Lane.number_of into.new ≡ put_chunk at (map Self.Lane.number_of into.old) (lanes self) };
+        ensures { map Self.Lane.number_of into.new
+            ≡ put_chunk at (map Self.Lane.number_of into.old) (lanes self) };
 
     /// One stamp in every lane.
     fn splat(stamp: Self::Lane) -> Self
@@ -34,15 +35,18 @@ pub trait Block: Copy {
 
     /// The sum of each two lanes, which wraps.
     fn sum(self, other: Self) -> Self
-        ensures { lanes result ≡ zip2 (λ x y. (x + y) % (Self.Lane.MAX + 1)) (lanes self) (lanes other) };
+        ensures { lanes result ≡ zip2 (λ x y. (x + y) % (Self.Lane.MAX + 1)) (lanes self)
+            (lanes other) };
 
     /// The lanes of x where those of self are below those of other, and else those of y.
     fn where_below(self, other: Self, x: Self, y: Self) -> Self
-        ensures { lanes result ≡ sel_l (zip2 (λ p q. nat_lt p q) (lanes self) (lanes other)) (lanes x) (lanes y) };
+        ensures { lanes result ≡ sel_l (zip2 (λ p q. nat_lt p q) (lanes self) (lanes other))
+            (lanes x) (lanes y) };
 
     /// The lanes of x where those of self and other are equal, and else those of y.
     fn where_equal(self, other: Self, x: Self, y: Self) -> Self
-        ensures { lanes result ≡ sel_l (zip2 (λ p q. p == q) (lanes self) (lanes other)) (lanes x) (lanes y) };
+        ensures { lanes result ≡ sel_l (zip2 (λ p q. p == q) (lanes self) (lanes other)) (lanes x)
+            (lanes y) };
 
     /// How many lanes of self are below those of other.
     fn count_below(self, other: Self) -> u32

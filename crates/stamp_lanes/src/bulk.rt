@@ -46,7 +46,8 @@ fn both(a: Bulk, b: Bulk) -> Bulk
 
 // The counts of one place.
 fn read_place<S: Stamp>(own: S, write: S, mark: u8, start: S) -> Bulk
-    ensures { IsBulk (S.number_of start) (record { own = S.number_of own; write = S.number_of write; mark = mark } ∷ []) result }
+    ensures { IsBulk (S.number_of start)
+        (record { own = S.number_of own; write = S.number_of write; mark = mark } ∷ []) result }
 {
     let touch = own.number();
     let is_foreign = touch < write.number();

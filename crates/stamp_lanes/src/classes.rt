@@ -24,7 +24,8 @@ fn class_number<S: Stamp>(stamp: S, starts: &[S], below: u32) -> u32
 fn block_classes<B: Block>(block: B, starts: &[B::Lane], below: u32) -> B
     requires sixteen { length (B.lanes block) ≡ 16 }
     requires room { below + length starts.now ≤ B.Lane.MAX }
-    ensures { B.lanes result ≡ map (class_of (map B.Lane.number_of starts.now) below) (B.lanes block) }
+    ensures { B.lanes result ≡ map (class_of (map B.Lane.number_of starts.now) below)
+        (B.lanes block) }
 {
     let mut classes = B::splat(B::Lane::from_number(below));
     for start in starts {

@@ -7,8 +7,10 @@ use stamps::Stamp;
 
 // The least and the greatest of these stamps and two more.
 fn scalar_extremes<S: Stamp>(stamps: &[S], least: S, greatest: S) -> (S, S)
-    ensures least { S.number_of result.0 ≡ fold min (S.number_of least) (map S.number_of stamps.now) }
-    ensures greatest { S.number_of result.1 ≡ fold max (S.number_of greatest) (map S.number_of stamps.now) }
+    ensures least { S.number_of result.0 ≡ fold min (S.number_of least)
+        (map S.number_of stamps.now) }
+    ensures greatest { S.number_of result.1 ≡ fold max (S.number_of greatest)
+        (map S.number_of stamps.now) }
 {
     let mut low = least;
     let mut high = greatest;
@@ -28,8 +30,10 @@ fn block_extremes<B: Block>(stamps: &[B::Lane]) -> (B, B, usize)
     requires { 16 ≤ length stamps.now }
     ensures end { result.2 ≤ length stamps.now }
     ensures sixteen { (length (B.lanes result.0) ≡ 16) × (length (B.lanes result.1) ≡ 16) }
-    ensures least { (a : ℕ) → fold min a (B.lanes result.0) ≡ fold min a (take result.2 (map B.Lane.number_of stamps.now)) }
-    ensures greatest { (a : ℕ) → fold max a (B.lanes result.1) ≡ fold max a (take result.2 (map B.Lane.number_of stamps.now)) }
+    ensures least { (a : ℕ) → fold min a (B.lanes result.0)
+        ≡ fold min a (take result.2 (map B.Lane.number_of stamps.now)) }
+    ensures greatest { (a : ℕ) → fold max a (B.lanes result.1)
+        ≡ fold max a (take result.2 (map B.Lane.number_of stamps.now)) }
 {
     let first = B::load(stamps, 0);
     let mut low = first;
@@ -46,7 +50,8 @@ fn block_extremes<B: Block>(stamps: &[B::Lane]) -> (B, B, usize)
 
 /// The least and the greatest stamp.
 pub fn least_greatest<B: Block>(stamps: &[B::Lane]) -> Option<(B::Lane, B::Lane)>
-    ensures { option_map (λ p. (B.Lane.number_of p.0, B.Lane.number_of p.1)) result ≡ extremes (map B.Lane.number_of stamps.now) }
+    ensures { option_map (λ p. (B.Lane.number_of p.0, B.Lane.number_of p.1)) result
+        ≡ extremes (map B.Lane.number_of stamps.now) }
 {
     let first = *stamps.first()?;
     if stamps.len() < 16 {

@@ -10,7 +10,8 @@ use std::simd::prelude::*;
 pub trait Lanes: Stamp {
     /// The least and the greatest stamp, and `None` for the empty slice.
     fn least_greatest(stamps: &[Self]) -> Option<(Self, Self)>
-        ensures { option_map (λ p. (Self.number_of p.0, Self.number_of p.1)) result ≡ extremes (map Self.number_of stamps.now) };
+        ensures { option_map (λ p. (Self.number_of p.0, Self.number_of p.1)) result
+            ≡ extremes (map Self.number_of stamps.now) };
 
     /// Writes the class of each stamp: `below`, and one for each start that is at most it.
     fn classes_into(stamps: &[Self], starts: &[Self], below: u32, into: &mut [Self])
@@ -42,12 +43,14 @@ pub trait Lanes: Stamp {
     /// A read of many places. `write` has the latest writes, and `marks` a 0 where a thread wrote and another byte where the
     /// kernel did. The own stamps become `now` where none of them is old, and else all stay.
     fn bulk_read(own: &mut [Self], write: &[Self], marks: &[u8], start: Self, now: Self) -> Bulk
-        requires lengths { (length own.old ≡ length write.now) × (length own.old ≡ length marks.now) }
+        requires lengths { (length own.old ≡ length write.now)
+            × (length own.old ≡ length marks.now) }
         requires few { length own.old ≤ 2 ^ 30 }
         ensures counts { IsBulk (Self.number_of start)
             (places (map Self.number_of own.old) (map Self.number_of write.now) marks.now)
             result }
-        ensures filled { own.new ≡ cond (result.old == 0) (replicate (length own.old) now) own.old };
+        ensures filled { own.new ≡ cond (result.old == 0)
+            (replicate (length own.old) now) own.old };
 }
 
 impl Lanes for u8 {

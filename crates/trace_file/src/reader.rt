@@ -78,8 +78,10 @@ impl TraceReader {
     fn add_event(&mut self, e: Event, events: &mut Events) -> Result<(), TraceError>
         requires begun { (past : List Event) × IsOpen self.old past }
         requires fits { Fits (OfEvent e) }
-        ensures ok { (past : List Event) → IsOpen self.old past → OnOk result (IsAdded self.old self.new past (OfEvent e)) }
-        ensures err { (past : List Event) → IsOpen self.old past → IfErr result (λ x. IsNotAdded self.old past (OfEvent e) x) }
+        ensures ok { (past : List Event) → IsOpen self.old past
+            → OnOk result (IsAdded self.old self.new past (OfEvent e)) }
+        ensures err { (past : List Event) → IsOpen self.old past
+            → IfErr result (λ x. IsNotAdded self.old past (OfEvent e) x) }
         ensures appended { OnOk result (events.new.list ≡ events.old.list ++ e ∷ []) }
         ensures kept { OnErr result (events.new.list ≡ events.old.list) }
     {
@@ -96,8 +98,10 @@ impl TraceReader {
     fn add_name(&mut self, entry: Addr, name: Name) -> Result<(), TraceError>
         requires begun { (past : List Event) × IsOpen self.old past }
         requires fits { Fits (OfName entry name) }
-        ensures ok { (past : List Event) → IsOpen self.old past → OnOk result (IsAdded self.old self.new past (OfName entry name)) }
-        ensures err { (past : List Event) → IsOpen self.old past → IfErr result (λ x. IsNotAdded self.old past (OfName entry name) x) }
+        ensures ok { (past : List Event) → IsOpen self.old past
+            → OnOk result (IsAdded self.old self.new past (OfName entry name)) }
+        ensures err { (past : List Event) → IsOpen self.old past
+            → IfErr result (λ x. IsNotAdded self.old past (OfName entry name) x) }
     {
         if !is_above(&self.names, entry) {
             return Err(TraceError::Order { at: self.at });
@@ -109,7 +113,8 @@ impl TraceReader {
     // Adds the end.
     fn add_finish(&mut self, f: Finish)
         requires fits { Fits (OfFinish f) }
-        ensures { (past : List Event) → IsOpen self.old past → IsAdded self.old self.new past (OfFinish f) }
+        ensures { (past : List Event) → IsOpen self.old past
+            → IsAdded self.old self.new past (OfFinish f) }
     {
         self.finish = Some(f);
     }
@@ -118,8 +123,10 @@ impl TraceReader {
     fn add_record(&mut self, next: Record, events: &mut Events) -> Result<(), TraceError>
         requires begun { (past : List Event) × IsOpen self.old past }
         requires fits { Fits next }
-        ensures ok { (past : List Event) → IsOpen self.old past → OnOk result (IsAdded self.old self.new past next) }
-        ensures err { (past : List Event) → IsOpen self.old past → IfErr result (λ x. IsNotAdded self.old past next x) }
+        ensures ok { (past : List Event) → IsOpen self.old past
+            → OnOk result (IsAdded self.old self.new past next) }
+        ensures err { (past : List Event) → IsOpen self.old past
+            → IfErr result (λ x. IsNotAdded self.old past next x) }
         ensures appended { OnOk result (events.new.list ≡ events.old.list ++ said next) }
         ensures kept { OnErr result (events.new.list ≡ events.old.list) }
     {
@@ -138,8 +145,10 @@ impl TraceReader {
         requires begun { (past : List Event) × IsOpen self.old past }
         requires fits { Fits next }
         requires place { self.old.at + length self.old.held < 2 ^ 64 }
-        ensures ok { (past : List Event) → IsOpen self.old past → OnOk result (IsTaken self.old self.new past next) }
-        ensures err { (past : List Event) → IsOpen self.old past → IfErr result (λ x. IsNotAdded self.old past next x) }
+        ensures ok { (past : List Event) → IsOpen self.old past
+            → OnOk result (IsTaken self.old self.new past next) }
+        ensures err { (past : List Event) → IsOpen self.old past
+            → IfErr result (λ x. IsNotAdded self.old past next x) }
         ensures appended { OnOk result (events.new.list ≡ events.old.list ++ said next) }
         ensures kept { OnErr result (events.new.list ≡ events.old.list) }
     {
@@ -154,7 +163,8 @@ impl TraceReader {
     fn read_byte(&mut self, byte: u8, events: &mut Events) -> Result<(), TraceError>
         requires reading { MayReadByte IsAtRecord self.old }
         requires unfinished { self.old.finish ≡ None }
-        ensures { IsFed IsAtRecord IsAtRecord self.old self.new (byte ∷ []) events.old.list events.new.list result }
+        ensures { IsFed IsAtRecord IsAtRecord self.old self.new
+            (byte ∷ []) events.old.list events.new.list result }
     {
         push_byte(&mut self.held, byte)?;
         match read_record(self.alloc, &self.held) {
@@ -169,8 +179,10 @@ impl TraceReader {
     fn read_line_byte(&mut self, byte: u8) -> Result<(), TraceError>
         requires line { self.old.line < length magic }
         requires place { self.old.at + 1 < 2 ^ 64 }
-        ensures ok { OnOk result ((get_or magic self.old.line 0 ≡ byte) × (self.new ≡ record self.old { line = self.old.line + 1; at = self.old.at + 1 })) }
-        ensures err { IfErr result (λ e. (e ≡ TraceError.Magic) × (get_or magic self.old.line 0 ≢ byte)) }
+        ensures ok { OnOk result ((get_or magic self.old.line 0 ≡ byte)
+            × (self.new ≡ record self.old { line = self.old.line + 1; at = self.old.at + 1 })) }
+        ensures err { IfErr result (λ e. (e ≡ TraceError.Magic)
+            × (get_or magic self.old.line 0 ≢ byte)) }
     {
         if MAGIC[self.line] != byte {
             return Err(TraceError::Magic);
@@ -183,7 +195,8 @@ impl TraceReader {
     // Reads a byte more, where nothing fails so far.
     fn next_byte(&mut self, byte: u8, events: &mut Events) -> Result<(), TraceError>
         requires reading { MayReadByte IsReading self.old }
-        ensures { IsFed IsReading IsReading self.old self.new (byte ∷ []) events.old.list events.new.list result }
+        ensures { IsFed IsReading IsReading self.old self.new
+            (byte ∷ []) events.old.list events.new.list result }
     {
         if self.line < MAGIC.len() {
             return self.read_line_byte(byte);
@@ -228,7 +241,8 @@ impl TraceReader {
         requires { MayFeed self.old piece.now }
         ensures fed { HasFed self.old self.new piece.now events.old.list events.new.list }
         ensures answer { self.new.refusal ≡ result_err result }
-        ensures stays { (e : TraceError) → self.old.refusal ≡ Some e → (self.new ≡ self.old) × (events.new.list ≡ events.old.list) }
+        ensures stays { (e : TraceError) → self.old.refusal ≡ Some e
+            → (self.new ≡ self.old) × (events.new.list ≡ events.old.list) }
     {
         if let Some(e) = self.refusal {
             return Err(e);
@@ -241,8 +255,10 @@ impl TraceReader {
 
     /// The names and the end, where the bytes that were read are the text of a trace.
     pub fn finish(self) -> Result<TraceEnd, TraceError>
-        ensures ok { (bytes : List ℕ) (past : List Event) → HasRead self bytes past → IfOk result (λ t. IsTrace bytes past t.names.items t.finish) }
-        ensures err { (bytes : List ℕ) (past : List Event) → HasRead self bytes past → IfErr result (λ e. IsRefused bytes past e) }
+        ensures ok { (bytes : List ℕ) (past : List Event) → HasRead self bytes past
+            → IfOk result (λ t. IsTrace bytes past t.names.items t.finish) }
+        ensures err { (bytes : List ℕ) (past : List Event) → HasRead self bytes past
+            → IfErr result (λ e. IsRefused bytes past e) }
         ensures stays { (e : TraceError) → self.refusal ≡ Some e → result ≡ Err e }
     {
         let TraceReader {

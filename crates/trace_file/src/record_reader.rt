@@ -154,7 +154,8 @@ fn least_number(bytes: &[u8], range: Range) -> u64
 fn read_number(bytes: &[u8], range: Range) -> Result<u32, Stop>
     requires least { range.least ≤ 1 }
     requires some { range.least ≤ range.most }
-    ensures found { IfOk result (λ n. IsIn range n × (bytes.now ≡ number_bytes n ++ drop 4 bytes.now)) }
+    ensures found { IfOk result (λ n. IsIn range n
+        × (bytes.now ≡ number_bytes n ++ drop 4 bytes.now)) }
     ensures long { IfOk result (λ n. 4 ≤ length bytes.now) }
     ensures stops { IfErr result (λ stop. Stops (AreNumbers (range ∷ [])) bytes.now stop) }
 {
@@ -248,7 +249,8 @@ fn word(number: u32) -> Word
 /// The event of a form with these numbers.
 fn made_event(form: Form, a: u32, b: u32, c: u32) -> Option<Event>
     requires { AreInRanges (take (length (ranges form)) (a ∷ b ∷ c ∷ [])) (ranges form) }
-    ensures found { IfSome result (λ e. IsMade form (take (length (ranges form)) (a ∷ b ∷ c ∷ [])) (OfEvent e)) }
+    ensures found { IfSome result (λ e. IsMade form (take (length (ranges form)) (a ∷ b ∷ c ∷ []))
+        (OfEvent e)) }
     ensures none { IfNone result (is_event form ≡ false) }
 {
     match form {
@@ -290,7 +292,8 @@ fn made_finish(form: Form, a: u32, b: u32, c: u32) -> Option<Finish>
     requires plain { form ≢ Form.Named }
     requires later { is_event form ≡ false }
     requires fits { AreInRanges (take (length (ranges form)) (a ∷ b ∷ c ∷ [])) (ranges form) }
-    ensures found { IfSome result (λ f. IsMade form (take (length (ranges form)) (a ∷ b ∷ c ∷ [])) (OfFinish f)) }
+    ensures found { IfSome result (λ f. IsMade form (take (length (ranges form)) (a ∷ b ∷ c ∷ []))
+        (OfFinish f)) }
     ensures none { IfNone result ((form ≡ Form.Schedule) × (a ≡ 0) × (b ≡ 0)) }
 {
     match form {
@@ -317,7 +320,8 @@ fn made_finish(form: Form, a: u32, b: u32, c: u32) -> Option<Finish>
 fn made(form: Form, a: u32, b: u32, c: u32) -> Option<Record>
     requires plain { form ≢ Form.Named }
     requires fits { AreInRanges (take (length (ranges form)) (a ∷ b ∷ c ∷ [])) (ranges form) }
-    ensures found { IfSome result (λ r. IsMade form (take (length (ranges form)) (a ∷ b ∷ c ∷ [])) r) }
+    ensures found { IfSome result (λ r. IsMade form
+        (take (length (ranges form)) (a ∷ b ∷ c ∷ [])) r) }
     ensures none { IfNone result ((form ≡ Form.Schedule) × (a ≡ 0) × (b ≡ 0)) }
 {
     match made_event(form, a, b, c) {
@@ -340,7 +344,8 @@ fn are_visible(bytes: &[u8]) -> bool
 fn read_name(alloc: Global, bytes: &[u8], len: usize) -> Result<Name, Stop>
     requires least { 1 ≤ len }
     requires most { len ≤ NAME_BYTES }
-    ensures found { IfOk result (λ name. (is_name name ≡ true) × (length name ≡ len) × (bytes.now ≡ name ++ drop len bytes.now)) }
+    ensures found { IfOk result (λ name. (is_name name ≡ true) × (length name ≡ len)
+        × (bytes.now ≡ name ++ drop len bytes.now)) }
     ensures stops { IfErr result (λ stop. Stops (IsNameOf len) bytes.now stop) }
 {
     if bytes.len() < len {
@@ -358,7 +363,8 @@ fn read_name(alloc: Global, bytes: &[u8], len: usize) -> Result<Name, Stop>
 
 /// The record of a form whose numbers and bytes stand first.
 fn read_body(alloc: Global, wanted: Form, bytes: &[u8]) -> Result<Record, Stop>
-    ensures found { IfOk result (λ r. Fits r × (form r ≡ wanted) × ((rest : List ℕ) × (bytes.now ≡ body r ++ rest))) }
+    ensures found { IfOk result (λ r. Fits r × (form r ≡ wanted)
+        × ((rest : List ℕ) × (bytes.now ≡ body r ++ rest))) }
     ensures stops { IfErr result (λ stop. Stops (IsBody wanted) bytes.now stop) }
 {
     let (numbers, rest) = read_numbers(bytes, ranges(wanted))?;
@@ -374,7 +380,8 @@ fn read_body(alloc: Global, wanted: Form, bytes: &[u8]) -> Result<Record, Stop>
 
 /// The record that stands first.
 pub fn read_record(alloc: Global, bytes: &[u8]) -> Result<Record, Stop>
-    ensures found { IfOk result (λ r. Fits r × ((rest : List ℕ) × (bytes.now ≡ record_bytes r ++ rest))) }
+    ensures found { IfOk result (λ r. Fits r
+        × ((rest : List ℕ) × (bytes.now ≡ record_bytes r ++ rest))) }
     ensures stops { IfErr result (λ stop. Stops IsRecord bytes.now stop) }
 {
     let (form, body) = read_head(bytes)?;

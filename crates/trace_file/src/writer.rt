@@ -43,7 +43,8 @@ fn push_number(text: &mut Vec<u8>, number: u32) -> Result<(), AllocError>
 /// Appends numbers.
 #[tactic(auto, using(crate::proofs::Texts::keeps, crate::proofs::Texts::keeps_same, crate::proofs::Texts::keeps_further))]
 fn push_numbers(text: &mut Vec<u8>, numbers: &[u32]) -> Result<(), AllocError>
-    ensures ok { OnOk result (text.new.items ≡ text.old.items ++ flat_map number_bytes numbers.now) }
+    ensures ok { OnOk result (text.new.items
+        ≡ text.old.items ++ flat_map number_bytes numbers.now) }
     ensures kept { KeepsOn text.old.items text.new.items }
 {
     for number in numbers {
@@ -60,7 +61,8 @@ fn push_parts(
     numbers: &[u32],
     bytes: &[u8],
 ) -> Result<(), AllocError>
-    ensures ok { OnOk result (text.new.items ≡ text.old.items ++ joined head.now numbers.now bytes.now) }
+    ensures ok { OnOk result (text.new.items
+        ≡ text.old.items ++ joined head.now numbers.now bytes.now) }
     ensures kept { KeepsOn text.old.items text.new.items }
 {
     text.extend_from_slice(head)?;
@@ -76,7 +78,8 @@ fn push_record(
     numbers: &[u32],
     bytes: &[u8],
 ) -> Result<(), AllocError>
-    ensures ok { OnOk result (text.new.items ≡ text.old.items ++ joined head.now numbers.now bytes.now) }
+    ensures ok { OnOk result (text.new.items
+        ≡ text.old.items ++ joined head.now numbers.now bytes.now) }
     ensures err { OnErr result (text.new.items ≡ text.old.items) }
 {
     let before = text.len();
@@ -113,7 +116,8 @@ fn push_event(text: &mut Vec<u8>, e: Event) -> Result<(), AllocError>
 
 /// Appends the record of a name.
 fn push_name(text: &mut Vec<u8>, entry: Addr, name: &Name) -> Result<(), AllocError>
-    ensures ok { OnOk result (text.new.items ≡ text.old.items ++ record_bytes (OfName entry name.now)) }
+    ensures ok { OnOk result (text.new.items
+        ≡ text.old.items ++ record_bytes (OfName entry name.now)) }
     ensures fits { Fits (OfName entry name.now) }
 {
     let bytes = name.bytes();
@@ -122,7 +126,8 @@ fn push_name(text: &mut Vec<u8>, entry: Addr, name: &Name) -> Result<(), AllocEr
 
 /// Appends the records of names.
 fn push_names(text: &mut Vec<u8>, names: &[(Addr, Name)]) -> Result<(), AllocError>
-    ensures ok { OnOk result (text.new.items ≡ text.old.items ++ flat_map record_bytes (name_records names.now)) }
+    ensures ok { OnOk result (text.new.items
+        ≡ text.old.items ++ flat_map record_bytes (name_records names.now)) }
     ensures fits { OnOk result (AllByRecursion Fits (name_records names.now)) }
 {
     for (entry, name) in names {
@@ -182,7 +187,8 @@ impl TraceWriter {
     /// Writes the next event. A refusal changes nothing.
     pub fn push(&mut self, e: Event) -> Result<(), AllocError>
         requires { MayTake IsTextOf self.old e }
-        ensures added { (past : List Event) → IsTextOf self.old past → OnOk result (IsTextOf self.new (e ∷ past)) }
+        ensures added { (past : List Event) → IsTextOf self.old past
+            → OnOk result (IsTextOf self.new (e ∷ past)) }
         ensures refused { OnErr result (self.new ≡ self.old) }
     {
         push_event(&mut self.text, e)
@@ -199,8 +205,10 @@ impl TraceWriter {
     pub fn finish(self, names: &[(Addr, Name)], f: &Finish) -> Result<Vec<u8>, AllocError>
         requires rising { IsRising names.now }
         requires counted { (line : ℕ) → f.now ≡ ends.Schedule line → 1 ≤ line }
-        ensures text { (past : List Event) → IsTextOf self past → IfOk result (λ text. text.items ≡ trace_text past names.now f.now) }
-        ensures trace { (past : List Event) → IsTextOf self past → IsWellFormed past → IfOk result (λ text. IsTrace text.items past names.now f.now) }
+        ensures text { (past : List Event) → IsTextOf self past
+            → IfOk result (λ text. text.items ≡ trace_text past names.now f.now) }
+        ensures trace { (past : List Event) → IsTextOf self past → IsWellFormed past
+            → IfOk result (λ text. IsTrace text.items past names.now f.now) }
     {
         let mut text = self.text;
         push_names(&mut text, names)?;

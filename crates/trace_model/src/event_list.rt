@@ -69,7 +69,8 @@ impl Events {
     pub fn truncate(&mut self, n: usize)
         ensures list { self.new.list ≡ take n self.old.list }
         ensures room { self.old.room ≤ self.new.room }
-        ensures freed { length self.old.list + self.old.room ≤ length self.new.list + self.new.room }
+        ensures freed { length self.old.list + self.old.room
+            ≤ length self.new.list + self.new.room }
     {
         self.items.truncate(n);
     }

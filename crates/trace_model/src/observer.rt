@@ -36,7 +36,8 @@ pub trait Observer {
 /// Hands events to an observer, up to the first that it refuses.
 pub fn feed<W: Observer>(events: &[Event], observer: &mut W) -> Result<Observed, AllocError>
     requires { MayTakeAll W.stands (W.fits observer.old) observer.old events.now }
-    ensures observed { IfOk result (ObservesAll W.stands (W.fits observer.old) events.now observer.old observer.new) }
+    ensures observed { IfOk result (ObservesAll W.stands
+        (W.fits observer.old) events.now observer.old observer.new) }
     ensures same { W.fits observer.new ≡ W.fits observer.old }
 {
     for e in events {

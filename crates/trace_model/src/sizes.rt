@@ -30,7 +30,8 @@ impl SizeParts {
         requires plain { self.plain < 2 ^ 63 }
         requires thread { self.thread < 2 ^ 63 }
         requires kernel { self.kernel < 2 ^ 63 }
-        ensures { result ≡ parts_by (λ cause. part_by cause self + one_if (counts_touch cause counted)) }
+        ensures { result ≡ parts_by (λ cause. part_by cause self
+            + one_if (counts_touch cause counted)) }
     {
         match counted {
             None => self,
@@ -80,7 +81,8 @@ fn last_touch(events: &[Event], tid: Tid, word: u64) -> Touch
 /// How the word was touched last in the whole past, where a read of it by the thread counts. It does not where the last
 /// touch inside the activation is the thread's own.
 fn counted_touch(inside: &[Event], past: &[Event], tid: Tid, word: u64) -> Option<Touch>
-    ensures { (cause : Cause) → counts_touch cause result ≡ counts_by cause (reverse inside.now) (reverse past.now) tid word }
+    ensures { (cause : Cause) → counts_touch cause result
+        ≡ counts_by cause (reverse inside.now) (reverse past.now) tid word }
 {
     match last_touch(inside, tid, word) {
         Touch::ByItself => None,
@@ -137,7 +139,8 @@ fn is_accessed(inside: &[Event], tid: Tid, word: u64) -> bool
 
 /// How many of the `count` words from `first` on the thread has not accessed.
 fn count_unaccessed(inside: &[Event], tid: Tid, first: Word, count: u32) -> u64
-    ensures { result ≡ count_by (λ l. not (accessed (reverse inside.now) tid l)) (range_with_len first count) }
+    ensures { result ≡ count_by (λ l. not (accessed (reverse inside.now) tid l))
+        (range_with_len first count) }
 {
     let first = u64::from(first.number());
     let mut unaccessed = 0;

@@ -35,7 +35,8 @@ impl Model for Order {
 /// The place of the thread, if it is one of these.
 fn find(threads: &[Tid], tid: Tid) -> Option<usize>
     requires { AllPairs (λ t u. t < u) threads.now }
-    ensures { MatchOption result (is_among threads.now tid ≡ false) (λ place. (place < length threads.now) × (slice_index threads.now place ≡ tid)) }
+    ensures { MatchOption result (is_among threads.now tid ≡ false)
+        (λ place. (place < length threads.now) × (slice_index threads.now place ≡ tid)) }
 {
     threads.binary_search(&tid).ok()
 }
@@ -44,8 +45,10 @@ fn find(threads: &[Tid], tid: Tid) -> Option<usize>
 fn remove(threads: &mut Vec<Tid>, tid: Tid)
     requires { AllPairs (λ t u. t < u) threads.old.items }
     ensures rising { AllPairs (λ t u. t < u) threads.new.items }
-    ensures fewer { (most : ℕ) → All (λ t. t ≤ most) threads.old.items → All (λ t. t ≤ most) threads.new.items }
-    ensures others { (t : ℕ) → is_among threads.new.items t ≡ (not (nat_eq t tid) && is_among threads.old.items t) }
+    ensures fewer { (most : ℕ) → All (λ t. t ≤ most) threads.old.items
+        → All (λ t. t ≤ most) threads.new.items }
+    ensures others { (t : ℕ) → is_among threads.new.items t
+        ≡ (not (nat_eq t tid) && is_among threads.old.items t) }
 {
     if let Some(place) = find(threads, tid) {
         threads.remove(place);
@@ -92,14 +95,16 @@ impl Order {
 
     // Whether the thread lives, and the last instruction is its own.
     fn runs(&self, tid: Tid) -> bool
-        ensures { IsTrue result ↔ ((is_among self.now.live tid ≡ true) × (self.now.last ≡ Some tid)) }
+        ensures { IsTrue result ↔ ((is_among self.now.live tid ≡ true)
+            × (self.now.last ≡ Some tid)) }
     {
         self.last == Some(tid) && self.lives(tid)
     }
 
     // Whether the event may come next, whatever its weight.
     fn comes_next(&self, e: &Event) -> bool
-        ensures { (past : List Event) → IsOrderOf self.now past → IsTrue result ↔ MayFollow e.now past }
+        ensures { (past : List Event) → IsOrderOf self.now past
+            → IsTrue result ↔ MayFollow e.now past }
     {
         match *e {
             Event::Step { tid } | Event::End { tid } => self.lives(tid),
@@ -114,7 +119,8 @@ impl Order {
 
     /// Whether the event may come next: with it the past is still one that a run can have.
     pub fn may_follow(&self, e: &Event) -> bool
-        ensures { (past : List Event) → IsOrderOf self.now past → IsTrue result ↔ IsWellFormed (e.now ∷ past) }
+        ensures { (past : List Event) → IsOrderOf self.now past
+            → IsTrue result ↔ IsWellFormed (e.now ∷ past) }
     {
         self.comes_next(e) && self.weight + weight_of(e) < TRACE_WEIGHT
     }
@@ -132,7 +138,12 @@ impl Order {
     fn start(&mut self, tid: Tid) -> Result<(), AllocError>
         requires light { self.old.weight + 1 < TRACE_WEIGHT }
         requires above { self.old.greatest < tid }
-        ensures ok { OnOk result (self.new ≡ record { live = self.old.live ++ tid ∷ []; last = self.old.last; greatest = tid; weight = self.old.weight + 1 }) }
+        ensures ok { OnOk result (self.new ≡ record {
+          live = self.old.live ++ tid ∷ [];
+          last = self.old.last;
+          greatest = tid;
+          weight = self.old.weight + 1;
+        }) }
         ensures err { OnErr result (self.new ≡ self.old) }
     {
         self.live.push(tid)?;
@@ -144,8 +155,13 @@ impl Order {
     // A thread ends.
     fn end(&mut self, tid: Tid)
         requires { self.old.weight + 1 < TRACE_WEIGHT }
-        ensures live { (t : ℕ) → is_among self.new.live t ≡ (not (nat_eq t tid) && is_among self.old.live t) }
-        ensures rest { self.new ≡ record self.old { live = self.new.live; weight = self.old.weight + 1 } }
+        ensures live { (t : ℕ) → is_among self.new.live t
+            ≡ (not (nat_eq t tid) && is_among self.old.live t) }
+        ensures rest { self.new ≡ record self.old {
+          live = self.new.live;
+          weight = self.old.weight
+              + 1;
+        } }
     {
         remove(&mut self.live, tid);
         self.weight += 1;
@@ -162,7 +178,8 @@ impl Order {
     /// Takes the next event. Only a start may want memory; where there is none, all is as before.
     pub fn add(&mut self, e: Event) -> Result<(), AllocError>
         requires { MayTake IsOrderOf self.old e }
-        ensures added { (past : List Event) → IsOrderOf self.old past → OnOk result (IsOrderOf self.new (e ∷ past)) }
+        ensures added { (past : List Event) → IsOrderOf self.old past
+            → OnOk result (IsOrderOf self.new (e ∷ past)) }
         ensures refused { OnErr result (self.new ≡ self.old) }
         ensures no_memory { is_start e ≡ false → IsOk result }
     {

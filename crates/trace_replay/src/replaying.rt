@@ -61,8 +61,10 @@ impl<S: Lanes> TraceProfile<S> {
 
     // Reads a piece more, and profiles its events as long as they are taken.
     fn feed(&mut self, piece: &[u8]) -> Result<(), TraceError>
-        requires { (bytes : List ℕ) × HasReplayed S.MAX self.old bytes × (length bytes + length piece.now < 2 ^ 64) }
-        ensures ok { (bytes : List ℕ) → HasReplayed S.MAX self.old bytes → OnOk result (HasReplayed S.MAX self.new (bytes ++ piece.now)) }
+        requires { (bytes : List ℕ) × HasReplayed S.MAX self.old bytes
+            × (length bytes + length piece.now < 2 ^ 64) }
+        ensures ok { (bytes : List ℕ) → HasReplayed S.MAX self.old bytes
+            → OnOk result (HasReplayed S.MAX self.new (bytes ++ piece.now)) }
         ensures err { (bytes more : List ℕ) → HasReplayed S.MAX self.old bytes
             → IfErr result (λ e. (past : List Event) × IsRefused (bytes ++ (piece.now ++ more)) past e) }
     {

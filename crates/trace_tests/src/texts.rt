@@ -36,7 +36,8 @@ fn end() -> Event {
 // Writes the event, where it may come next.
 fn write(writer: &mut TraceWriter, order: &mut Order, e: Event) -> Result<(), AllocError>
     requires { (past : List Event) × (IsOrderOf order.old past × IsTextOf writer.old past) }
-    ensures { IfOk result (λ _. (past : List Event) × (IsOrderOf order.new past × IsTextOf writer.new past)) }
+    ensures { IfOk result (λ _. (past : List Event)
+        × (IsOrderOf order.new past × IsTextOf writer.new past)) }
 {
     if order.may_follow(&e) {
         writer.push(e)?;

@@ -16,6 +16,7 @@ pub fn written_files_are_accepted()
 
 /// An address has no name where none of the symbols stands at it, and else the least of their names.
 pub fn written_names_are_read()
-    ensures names { (words : List ℕ) → (symbols : List Symbol) → IsWritten words symbols → All IsRoutine symbols → (at : ℕ)
+    ensures names { (words : List ℕ) → (symbols : List Symbol) → IsWritten words symbols
+        → All IsRoutine symbols → (at : ℕ)
         → MatchOption (name_at (executable words symbols) at) (names_at symbols at ≡ []) (IsLeast (names_at symbols at)) }
 {}
