@@ -1,6 +1,7 @@
 -- Calls that carry parts.
 use Rattle.std.proofs.Common.{◌≡◌, ℕ, ◌*◌, Bool, true, false, cond, List, [], ◌∷◌, ◌++◌, length, Option, Some, None, refl, ap, sym, subst, ◌∙◌}
 use Rattle.std.specs.Prelude.{not}
+use Rattle.std.proofs.lemmas.List.{append-nil}
 use Rattle.guest_memory.specs.declared.memory.GuestMemory.{GuestMemory}
 use Rattle.guest_memory.specs.declared.reservations.Reservations.{Reservations}
 use Rattle.guest_memory.specs.Guest.{memory_of}
@@ -14,10 +15,10 @@ use Rattle.guest_calls.specs.declared.descriptor.Descriptor.{Descriptor}
 use Rattle.guest_calls.specs.declared.vectors.IoVec.{IoVec}
 use Rattle.guest_calls.specs.Errors.{ebadf, efault}
 use Rattle.guest_calls.specs.Files.{is_source, advanced}
-use Rattle.guest_calls.specs.Kernel.{KernelState}
+use Rattle.guest_calls.specs.Kernel.{KernelState, descriptor}
 use Rattle.guest_calls.specs.Outcome.{asked, guest_of, Does}
 use Rattle.guest_calls.specs.Results.{Call, CallResult, Guest, arg, answered_or, first_answer, returns, unless, ◌⇒◌, ◌or◌, ◌▷◌, changes, reads, read_event}
-use Rattle.guest_calls.specs.Vectors.{all_in_reach, fills_parts, filled_parts, table_tests}
+use Rattle.guest_calls.specs.Vectors.{all_in_reach, fills_parts, filled_parts, readv, readv_effect, readv_parts, readv_tests, table_tests}
 use Rattle.guest_calls.proofs.PartLists.{behind, filled_behind}
 
 through_cond : (b : Bool) (e : ℕ) (o p : Option ℕ) → cond b (Some e) o ≡ None → (o ≡ None → o ≡ None) → (b ≡ false) × (o ≡ None)
@@ -78,3 +79,27 @@ readv_does caller state new memory memory' held held' before middle after file b
       held_is = ap (λ (g : Guest). g.held) is;
       events = ap (λ (g : Guest). g.events) is;
     })
+
+-- the first of some tests that holds is the first of more
+first_answer_some : (xs ys : List (Bool × ℕ)) (e : ℕ) → first_answer xs ≡ Some e → first_answer (xs ++ ys) ≡ Some e
+first_answer_some [] ys e some = absurd (cc)
+first_answer_some (x ∷ xs) ys e some = by x.0 (first_answer_some xs ys e) some
+  where
+    by : (b : Bool) → (first_answer xs ≡ Some e → first_answer (xs ++ ys) ≡ Some e) → cond b (Some x.1) (first_answer xs) ≡ Some e →
+        cond b (Some x.1) (first_answer (xs ++ ys)) ≡ Some e
+    by true later some = some
+    by false later some = later some
+
+-- where the table of parts is refused, nothing changes
+pub readv_refused : (caller : Caller) (state : KernelState) (memory : GuestMemory) (held : Reservations) (events : EventList) (errno : ℕ) →
+    let made = asked caller state memory held in
+    is_source (descriptor made.kernel (arg made 0)) ≡ true → first_answer (table_tests made.memory (arg made 1) (arg made 2)) ≡ Some errno →
+    Does (readv made) (Back errno) state memory held events events
+readv_refused caller state memory held events errno source refused =
+    let made : Call = asked caller state memory held in
+    let last : List (Bool × ℕ) = (not (all_in_reach (can_write made.memory) (readv_parts made)), efault) ∷ [] in
+    let tests : first_answer (readv_tests made) ≡ Some errno =
+    ap (λ (b : Bool). cond (not b) (Some ebadf) (first_answer (table_tests made.memory (arg made 1) (arg made 2) ++ last))) source
+    ∙ first_answer_some (table_tests made.memory (arg made 1) (arg made 2)) last errno refused in
+    subst (λ (o : Option ℕ). Does (answered_or o made (λ _. readv_effect made)) (Back errno) state memory held events events) (sym tests)
+    (record { answered = refl; state_is = refl; memory_is = refl; held_is = refl; events = sym (append-nil events.list) })

@@ -3,6 +3,7 @@ pub mod CallerLemmas
 pub mod Counts
 pub mod Directories
 pub mod HeldWords
+pub mod KeptCode
 pub mod PageChanges
 pub mod Pigeons
 pub mod ReadBytes

@@ -1,3 +1,4 @@
+pub mod Code
 pub mod Guest
 pub mod Holders
 pub mod Memory

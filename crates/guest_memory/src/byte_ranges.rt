@@ -93,8 +93,10 @@ impl Directory {
     pub fn store_within(&mut self, at: u64, bytes: &[u8]) -> Result<(), MemError>
         requires some { 0 < length bytes.now }
         requires within { at % 4096 + length bytes.now ≤ 4096 }
-        ensures result { result ≡ unless_refused (first_refusal (memory_in self.old) permission.Write at (length bytes.now)) tt }
-        ensures ok { OnOk result (memory_in self.new ≡ with_bytes (memory_in self.old) at bytes.now) }
+        ensures result { result ≡ unless_refused (first_refusal
+            (memory_in self.old) permission.Write at (length bytes.now)) tt }
+        ensures ok { OnOk result (memory_in self.new
+            ≡ with_bytes (memory_in self.old) at bytes.now) }
         ensures err { OnErr result (memory_in self.new ≡ memory_in self.old) }
     {
         match self.byte_refusal(Permission::Write, at) {

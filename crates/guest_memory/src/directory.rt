@@ -49,7 +49,8 @@ impl Directory {
         ensures bytes { result.1.now ≡ (page_of self.now number).1 }
         ensures range { 0 < length (page_of self.now number).1 → number < 2 ^ 20 }
         ensures size { length (page_of self.now number).1 ≤ 4096 }
-        ensures full { 0 < length (page_of self.now number).1 → length (page_of self.now number).1 ≡ 4096 }
+        ensures full { 0 < length (page_of self.now number).1
+            → length (page_of self.now number).1 ≡ 4096 }
     {
         match self.tables.get((number >> 10) as usize) {
             None => (NO_RIGHTS, &[]),
@@ -101,7 +102,8 @@ impl Directory {
     pub fn put(&mut self, number: u32, rights: Rights, bytes: Vec<u8>)
         requires placed { IsPlaced self.old number }
         requires zeros { (bytes.items ≡ []) ⊎ (bytes.items ≡ zeros) }
-        ensures memory { memory_in self.new ≡ with_pages (memory_in self.old) number 1 (rights_of (rights, bytes.items)) }
+        ensures memory { memory_in self.new ≡ with_pages (memory_in self.old) number 1
+            (rights_of (rights, bytes.items)) }
         ensures others { (n : ℕ) → IsPlaced self.old n → IsPlaced self.new n }
     {
         let table = &mut self.tables[(number >> 10) as usize];
@@ -149,7 +151,8 @@ fn empty_rows<T: Drop>(alloc: Global) -> Result<Vec<Vec<T>>, AllocError>
 
 // A table of absent pages.
 fn absent_pages(alloc: Global) -> Result<Vec<Page>, AllocError>
-    ensures { IfOk result (λ v. map {B = Rights × List ℕ} (λ p. (p.rights, p.bytes.items)) v.items ≡ replicate 1024 (no_rights, [])) }
+    ensures { IfOk result (λ v. map {B = Rights × List ℕ} (λ p. (p.rights, p.bytes.items)) v.items
+        ≡ replicate 1024 (no_rights, [])) }
 {
     let mut pages = Vec::with_capacity(alloc, TABLE_ENTRIES)?;
     'fill: while pages.len() < TABLE_ENTRIES {

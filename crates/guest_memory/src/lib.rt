@@ -6,6 +6,7 @@
 #![tactic(auto)]
 
 mod byte_ranges;
+mod code_cache;
 mod directory;
 mod memory;
 mod page_ranges;

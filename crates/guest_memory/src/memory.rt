@@ -6,15 +6,18 @@ ghost use Rattle.std.specs.Int.{to_le_bytes, w32};
 ghost use Rattle.std.specs.Option.{is_none};
 ghost use Rattle.guest_memory.specs.Memory.{IsFreeRange, AreFree, AreMapped, ArePagesMapped, MapEnds, no_memory, with_pages, with_rights, byte_count, bytes_at, first_refusal, loaded, mapped_pages, unless_refused, with_bytes};
 ghost use Rattle.guest_memory.specs.State.{memory_in};
+ghost use Rattle.guest_memory.specs.Code.{HoldsCode, IsInstructionAt};
 ghost use Rattle.guest_memory.specs.declared.refusal.Permission.TheVariants as permission;
 ghost use Rattle.guest_words.specs.declared.limits.TheConstants.{PAGES};
 
 use crate::Size;
+use crate::code_cache::CodeCache;
 use crate::directory::{Directory, PAGE_SIZE};
 use crate::page_ranges::zero_pages;
 use crate::refusal::{MemError, Permission};
 use guest_words::limits::PAGES;
 use guest_words::{Addr, Rights};
+use rv_isa::Instr;
 use std::alloc::{AllocError, Global};
 
 // The pages in which a free range is searched.
@@ -29,8 +32,10 @@ pub struct GuestMemory {
     alloc: Global,
     directory: Directory,
     mapped: u32,
+    code: CodeCache,
     ghost counted: { mapped ≡ mapped_pages (memory_in directory) },
     ghost few: { mapped ≤ PAGES },
+    ghost coherent: { HoldsCode code (memory_in directory) },
 }
 
 impl GuestMemory {
@@ -44,6 +49,7 @@ impl GuestMemory {
             alloc,
             directory: Directory::new(alloc)?,
             mapped: 0,
+            code: CodeCache::new(alloc)?,
         })
     }
 
@@ -60,6 +66,7 @@ impl GuestMemory {
         self.directory.reserve(self.alloc, page, count)?;
         self.directory.put_all(page, rights, fresh);
         self.mapped += count;
+        self.code.forget_all();
         Ok(())
     }
 
@@ -70,6 +77,7 @@ impl GuestMemory {
     {
         let taken = self.directory.take_all(self.alloc, page, count);
         self.mapped -= taken;
+        self.code.forget_all();
     }
 
     /// Sets the rights of mapped pages.
@@ -79,6 +87,7 @@ impl GuestMemory {
         ensures { memory_of self.new ≡ with_rights (memory_of self.old) page count rights }
     {
         self.directory.set_all_rights(page, count, rights);
+        self.code.forget_all();
     }
 
     /// Whether no page of the range is mapped.
@@ -110,7 +119,8 @@ impl GuestMemory {
     /// The lowest free range of so many pages, from the address 0x40000000 up to 0x7F000000.
     pub fn find_free(&self, count: u32) -> Option<u32>
         ensures found { IfSome result (λ page. IsFreeRange (memory_of self.now) count page) }
-        ensures lowest { IfSome result (λ page. (q : ℕ) → q < page → ¬ IsFreeRange (memory_of self.now) count q) }
+        ensures lowest { IfSome result (λ page. (q : ℕ) → q < page
+            → ¬ IsFreeRange (memory_of self.now) count q) }
         ensures none { IfNone result ((q : ℕ) → ¬ IsFreeRange (memory_of self.now) count q) }
     {
         if count > END_OF_SEARCH - FIRST_OF_SEARCH {
@@ -162,6 +172,26 @@ impl GuestMemory {
             .loaded(Permission::Execute, u64::from(at), Size::Four)
     }
 
+    /// The instruction at an address, where it is known: its word can be fetched there.
+    #[inline(always)]
+    pub fn known_instruction(&self, at: Addr) -> Option<Instr>
+        ensures { IfSome result (IsInstructionAt (memory_of self.now) at) }
+    {
+        self.code.find(at)
+    }
+
+    /// Lets the instruction at an address be known, where there is one whose word can be fetched.
+    #[cold]
+    #[inline(never)]
+    pub fn learn_instruction(&mut self, at: Addr)
+        requires { at % 4 ≡ 0 }
+        ensures { memory_of self.new ≡ memory_of self.old }
+    {
+        if let Ok(word) = self.fetch(at) {
+            self.code.keep(at, word);
+        }
+    }
+
     /// Whether each of so many bytes can be read.
     pub fn can_read(&self, at: Addr, bytes: u64) -> bool
         ensures { result ≡ is_none (first_refusal (memory_of self.now) permission.Read at bytes) }
@@ -183,29 +213,39 @@ impl GuestMemory {
     /// Writes the lowest bytes of a value, the lowest first, where each of them can be written.
     #[inline(always)]
     pub fn store(&mut self, at: Addr, size: Size, value: u32) -> Result<(), MemError>
-        ensures result { result ≡ unless_refused (first_refusal (memory_of self.old) permission.Write at (byte_count size)) tt }
-        ensures ok { OnOk result (memory_of self.new ≡ with_bytes (memory_of self.old) at (take (byte_count size) (to_le_bytes w32 value))) }
+        ensures result { result ≡ unless_refused (first_refusal
+            (memory_of self.old) permission.Write at (byte_count size)) tt }
+        ensures ok { OnOk result (memory_of self.new
+            ≡ with_bytes (memory_of self.old) at (take (byte_count size) (to_le_bytes w32 value))) }
         ensures err { OnErr result (memory_of self.new ≡ memory_of self.old) }
     {
         let bytes = value.to_le_bytes();
         // the code of each size apart
         match size {
-            Size::One => self.store_bytes(at, &bytes[..1]),
-            Size::Two => self.store_bytes(at, &bytes[..2]),
-            Size::Four => self.store_bytes(at, &bytes[..4]),
+            Size::One => self.store_bytes(at, &bytes[..1], Size::One),
+            Size::Two => self.store_bytes(at, &bytes[..2], Size::Two),
+            Size::Four => self.store_bytes(at, &bytes[..4], Size::Four),
         }
     }
 
     // Writes at least one byte, where each of the bytes can be written.
     #[inline(always)]
-    fn store_bytes(&mut self, at: Addr, bytes: &[u8]) -> Result<(), MemError>
-        requires { 0 < length bytes.now }
-        ensures result { result ≡ unless_refused (first_refusal (memory_of self.old) permission.Write at (length bytes.now)) tt }
-        ensures ok { OnOk result (memory_of self.new ≡ with_bytes (memory_of self.old) at bytes.now) }
+    fn store_bytes(&mut self, at: Addr, bytes: &[u8], size: Size) -> Result<(), MemError>
+        requires { length bytes.now ≡ byte_count size }
+        ensures result { result ≡ unless_refused (first_refusal
+            (memory_of self.old) permission.Write at (length bytes.now)) tt }
+        ensures ok { OnOk result (memory_of self.new
+            ≡ with_bytes (memory_of self.old) at bytes.now) }
         ensures err { OnErr result (memory_of self.new ≡ memory_of self.old) }
     {
         if at as usize % PAGE_SIZE + bytes.len() <= PAGE_SIZE {
-            self.directory.store_within(u64::from(at), bytes)
+            match self.directory.store_within(u64::from(at), bytes) {
+                Ok(()) => {
+                    self.code.forget(at, size);
+                    Ok(())
+                }
+                Err(refusal) => Err(refusal),
+            }
         } else {
             self.copy_in(at, bytes)
         }
@@ -213,8 +253,10 @@ impl GuestMemory {
 
     /// Writes bytes, where each of them can be written.
     pub fn copy_in(&mut self, at: Addr, bytes: &[u8]) -> Result<(), MemError>
-        ensures result { result ≡ unless_refused (first_refusal (memory_of self.old) permission.Write at (length bytes.now)) tt }
-        ensures ok { OnOk result (memory_of self.new ≡ with_bytes (memory_of self.old) at bytes.now) }
+        ensures result { result ≡ unless_refused (first_refusal
+            (memory_of self.old) permission.Write at (length bytes.now)) tt }
+        ensures ok { OnOk result (memory_of self.new
+            ≡ with_bytes (memory_of self.old) at bytes.now) }
         ensures err { OnErr result (memory_of self.new ≡ memory_of self.old) }
     {
         let first = u64::from(at);
@@ -226,6 +268,7 @@ impl GuestMemory {
             Some(refusal) => Err(refusal),
             None => {
                 self.directory.write_all(first, bytes);
+                self.code.forget_all();
                 Ok(())
             }
         }
@@ -233,7 +276,8 @@ impl GuestMemory {
 
     /// Reads bytes, where each of them can be read.
     pub fn copy_out(&self, at: Addr, into: &mut [u8]) -> Result<(), MemError>
-        ensures result { result ≡ unless_refused (first_refusal (memory_of self.now) permission.Read at (length into.old)) tt }
+        ensures result { result ≡ unless_refused (first_refusal
+            (memory_of self.now) permission.Read at (length into.old)) tt }
         ensures ok { OnOk result (into.new ≡ bytes_at (memory_of self.now) at (length into.old)) }
         ensures err { OnErr result (into.new ≡ into.old) }
     {
@@ -254,5 +298,6 @@ impl GuestMemory {
         ensures { memory_of self.new ≡ with_bytes (memory_of self.old) at bytes.now }
     {
         self.directory.write_all(u64::from(at), bytes);
+        self.code.forget_all();
     }
 }

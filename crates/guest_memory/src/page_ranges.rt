@@ -28,8 +28,10 @@ impl Directory {
         requires placed { ArePlaced self.old first (vec_len fresh) }
         requires zeros { All (λ p. p.items ≡ zeros) fresh.items }
         requires free { AreFree (memory_in self.old) first (vec_len fresh) }
-        ensures memory { memory_in self.new ≡ with_pages (memory_in self.old) first (vec_len fresh) (Some rights) }
-        ensures count { mapped_pages (memory_in self.new) ≡ mapped_pages (memory_in self.old) + vec_len fresh }
+        ensures memory { memory_in self.new ≡ with_pages (memory_in self.old) first (vec_len fresh)
+            (Some rights) }
+        ensures count { mapped_pages (memory_in self.new)
+            ≡ mapped_pages (memory_in self.old) + vec_len fresh }
     {
         'pages: while let Some(bytes) = fresh.pop() {
             self.put(first + fresh.len() as u32, rights, bytes);
@@ -59,7 +61,8 @@ impl Directory {
     pub fn take_all(&mut self, alloc: Global, first: u32, count: u32) -> u32
         requires { first + count ≤ 2 ^ 20 }
         ensures memory { memory_in self.new ≡ with_pages (memory_in self.old) first count None }
-        ensures count { mapped_pages (memory_in self.new) + result ≡ mapped_pages (memory_in self.old) }
+        ensures count { mapped_pages (memory_in self.new) + result
+            ≡ mapped_pages (memory_in self.old) }
     {
         let mut taken = 0;
         for k in 0..count {

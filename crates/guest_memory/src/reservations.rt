@@ -69,7 +69,9 @@ impl Reservations {
     // Drops the reservations that are invalidated.
     #[inline(always)]
     fn invalidate(&mut self, invalidation: Invalidation)
-        ensures { take self.new.count self.new.holders ≡ filter (λ h. not (is_invalidated invalidation h)) (take self.old.count self.old.holders) }
+        ensures { take self.new.count self.new.holders
+            ≡ filter (λ h. not (is_invalidated invalidation h))
+            (take self.old.count self.old.holders) }
     {
         if self.count > 0 {
             self.count = retain_valid(&mut self.holders[..self.count], &invalidation);
@@ -120,7 +122,8 @@ fn is_held(holders: &[(Tid, Word)], tid: Tid, word: Word) -> bool
 // Moves the holders that keep their reservation to the front, in their order, and says how many they are.
 #[inline(never)]
 fn retain_valid(holders: &mut [(Tid, Word)], invalidation: &Invalidation) -> usize
-    ensures kept { take result holders.new ≡ filter (λ h. not (is_invalidated invalidation.now h)) holders.old }
+    ensures kept { take result holders.new ≡ filter
+        (λ h. not (is_invalidated invalidation.now h)) holders.old }
     ensures few { result ≤ length holders.old }
 {
     let mut kept = 0;

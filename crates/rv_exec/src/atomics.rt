@@ -33,7 +33,9 @@ pub fn atomic(
     operands: Operands,
 ) -> Outcome
     requires { HoldAtMost (without_thread (reserved_by held.old) tid) (THREADS - 1) }
-    ensures { (result, exec_state_of cpu.new memory.new held.new) ≡ atomic tid op operands.rd operands.at operands.n (exec_state_of cpu.old memory.old held.old) }
+    ensures { (result, exec_state_of cpu.new memory.new held.new)
+        ≡ atomic tid op operands.rd operands.at operands.n
+        (exec_state_of cpu.old memory.old held.old) }
 {
     let Operands { rd, at, n } = operands;
     if at % 4 != 0 {
@@ -58,7 +60,8 @@ fn load_reserved(
     at: Addr,
 ) -> Outcome
     requires { HoldAtMost (without_thread (reserved_by held.old) tid) (THREADS - 1) }
-    ensures { (result, exec_state_of cpu.new memory.now held.new) ≡ load_reserved tid rd at (exec_state_of cpu.old memory.now held.old) }
+    ensures { (result, exec_state_of cpu.new memory.now held.new)
+        ≡ load_reserved tid rd at (exec_state_of cpu.old memory.now held.old) }
 {
     let Some(old) = read(memory, at, Size::Four) else {
         return Outcome::Fault {
@@ -85,7 +88,9 @@ fn store_conditional(
     operands: Operands,
 ) -> Outcome
     requires { operands.at % 4 ≡ 0 }
-    ensures { (result, exec_state_of cpu.new memory.new held.new) ≡ store_conditional tid operands.rd operands.at operands.n (exec_state_of cpu.old memory.old held.old) }
+    ensures { (result, exec_state_of cpu.new memory.new held.new)
+        ≡ store_conditional tid operands.rd operands.at operands.n
+        (exec_state_of cpu.old memory.old held.old) }
 {
     let Operands { rd, at, n } = operands;
     if !memory.can_write(at, 4) {
@@ -115,7 +120,9 @@ fn modify(
     op: AtomicOp,
     operands: Operands,
 ) -> Outcome
-    ensures { (result, exec_state_of cpu.new memory.new held.new) ≡ modified tid op operands.rd operands.at operands.n (exec_state_of cpu.old memory.old held.old) }
+    ensures { (result, exec_state_of cpu.new memory.new held.new)
+        ≡ modified tid op operands.rd operands.at operands.n
+        (exec_state_of cpu.old memory.old held.old) }
 {
     let Operands { rd, at, n } = operands;
     let refused = Outcome::Fault {

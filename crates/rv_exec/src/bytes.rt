@@ -22,7 +22,8 @@ pub fn words(at: Addr, size: Size) -> (Word, u32)
 /// The number that the bytes give, the lowest byte first. None where one of them can't be read.
 #[inline(always)]
 pub fn read(memory: &GuestMemory, at: Addr, size: Size) -> Option<u32>
-    ensures value { result ≡ (if can_read (memory_of memory.now) at (byte_count size) then Some (number_at (memory_of memory.now) at (byte_count size)) else None) }
+    ensures value { result ≡ (if can_read (memory_of memory.now) at (byte_count size)
+        then Some (number_at (memory_of memory.now) at (byte_count size)) else None) }
     ensures end { IfSome result (λ _. at + byte_count size ≤ 2 ^ 32) }
 {
     memory.load(at, size).ok()
@@ -39,9 +40,13 @@ pub fn write(
     size: Size,
     n: u32,
 ) -> Option<(Word, u32)>
-    ensures words { result ≡ (if can_write (memory_of memory.old) at (byte_count size) then Some (at / 4, word_count at (byte_count size)) else None) }
-    ensures memory { IfSome result (λ _. memory_of memory.new ≡ with_bytes (memory_of memory.old) at (low_bytes size n)) }
-    ensures held { IfSome result (λ _. reserved_by held.new ≡ after_write (reserved_by held.old) (Some tid) (at / 4) (word_count at (byte_count size))) }
+    ensures words { result ≡ (if can_write (memory_of memory.old) at (byte_count size)
+        then Some (at / 4, word_count at (byte_count size)) else None) }
+    ensures memory { IfSome result (λ _. memory_of memory.new
+        ≡ with_bytes (memory_of memory.old) at (low_bytes size n)) }
+    ensures held { IfSome result (λ _. reserved_by held.new
+        ≡ after_write (reserved_by held.old) (Some tid) (at / 4)
+        (word_count at (byte_count size))) }
     ensures memory_kept { IfNone result (memory_of memory.new ≡ memory_of memory.old) }
     ensures held_kept { IfNone result (reserved_by held.new ≡ reserved_by held.old) }
 {

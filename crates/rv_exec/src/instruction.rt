@@ -24,7 +24,8 @@ pub fn execute(
     i: Instr,
 ) -> Outcome
     requires { HoldAtMost (without_thread (reserved_by held.old) tid) (THREADS - 1) }
-    ensures effect { (result, exec_state_of cpu.new memory.new held.new) ≡ effect tid i (exec_state_of cpu.old memory.old held.old) }
+    ensures effect { (result, exec_state_of cpu.new memory.new held.new)
+        ≡ effect tid i (exec_state_of cpu.old memory.old held.old) }
 {
     match i {
         Instr::Load {
@@ -92,7 +93,9 @@ pub fn execute(
 /// A branch, which goes to a target where the test holds.
 #[inline(always)]
 fn branch(cpu: &mut Cpu, test: Test, left: Reg, right: Reg, offset: i32) -> Outcome
-    ensures { (result, cpu.new) ≡ branched (is_taken test (value cpu.old left) (value cpu.old right)) (add_offset cpu.old.pc offset) cpu.old }
+    ensures { (result, cpu.new) ≡ branched
+        (is_taken test (value cpu.old left) (value cpu.old right))
+        (add_offset cpu.old.pc offset) cpu.old }
 {
     if is_taken(test, cpu.value(left), cpu.value(right)) {
         cpu.jump(add_offset(cpu.pc, offset))

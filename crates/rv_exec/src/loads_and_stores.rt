@@ -104,7 +104,8 @@ pub fn store(
     at: Addr,
     n: u32,
 ) -> Outcome
-    ensures { (result, exec_state_of cpu.new memory.new held.new) ≡ stores tid kind at n (exec_state_of cpu.old memory.old held.old) }
+    ensures { (result, exec_state_of cpu.new memory.new held.new)
+        ≡ stores tid kind at n (exec_state_of cpu.old memory.old held.old) }
 {
     let Some((first, count)) = write(memory, held, tid, at, store_size(kind), n) else {
         return Outcome::Fault {

@@ -7,7 +7,7 @@ use Rattle.guest_calls.specs.Kernel.{descriptor}
 use Rattle.guest_calls.specs.Outcome.{asked, guest_of, Does}
 use Rattle.guest_calls.specs.Results.{Call, CallResult, arg}
 use Rattle.guest_calls.specs.Vectors.{carried, filled_parts, parts, readv, total}
-use Rattle.guest_calls.proofs.Carrying.{readv_does, readv_of}
+use Rattle.guest_calls.proofs.Carrying.{readv_does, readv_of, readv_refused}
 use Rattle.guest_calls.proofs.state.State.readv.Goals as goal
 
 pub returns-clause-does : goal.returns-clause-does
@@ -29,3 +29,7 @@ returns-clause-does c =
     subst (λ (r : CallResult). Does r (Back (length bytes)) c.advance.new.self c.fill_parts.new.memory c.fill_parts.new.held c.args.events.now c.fill_parts.new.events) is
     (readv_does c.args.caller.now c.args.self.now c.advance.new.self c.args.memory.now c.fill_parts.new.memory c.args.held.now c.fill_parts.new.held c.args.events.now c.note_read.new.events c.fill_parts.new.events file bytes into
     (search rules) (search rules) (search rules) (search rules) filled (search rules))
+
+pub returns-in-Err-Refused-clause-does : goal.returns-in-Err-Refused-clause-does
+returns-in-Err-Refused-clause-does c =
+    readv_refused c.args.caller.now c.args.self.now c.args.memory.now c.args.held.now c.args.events.now _ (search rules) (search rules)
