@@ -1,5 +1,5 @@
 -- What a call of the kernel leaves of a machine.
-use Rattle.std.proofs.Common.{All, subst, ◌≤◌, ◌≡◌, ℕ, ◌+◌, ◌<◌, List, [], ◌∷◌, ◌++◌, length, map, Bool, true, false, not, ap, ap₂, append_assoc, sym, refl, ◌∙◌, arith, None, cond}
+use Rattle.std.proofs.Common.{All, subst, ◌≤◌, ◌≡◌, ℕ, ◌+◌, ◌%◌, ◌^◌, ◌<◌, List, [], ◌∷◌, ◌++◌, length, map, Bool, true, false, not, ap, ap₂, append_assoc, sym, refl, ◌∙◌, arith, None, cond}
 use Rattle.std.specs.Prelude.{◌==◌, filter}
 use Rattle.std.proofs.lemmas.List.{length-map, length-append, map-append}
 use Rattle.guest_words.specs.declared.limits.TheConstants.{THREADS}
@@ -26,10 +26,10 @@ use Rattle.guest_machine.specs.declared.stepped.Stepped.{Stepped}
 use Rattle.guest_machine.specs.Kept.{Parts, Steps, machine_of}
 use Rattle.guest_calls.proofs.Times.{later_is_state}
 use Rattle.guest_machine.specs.Machine.{Hart, MachineState, later, registers_of, with_registers, without_hart}
-use Rattle.guest_machine.specs.Sound.{AreAligned, IsSound}
+use Rattle.guest_machine.specs.Sound.{IsSound, OfEachPc}
 use Rattle.guest_machine.specs.Step.{after_call, call_of, harts_after, life_events, resumed, stepped_by}
-use Rattle.guest_machine.proofs.Calls.{BeginsAligned, call_lawful, tids_after}
-use Rattle.guest_machine.proofs.Registers.{aligned-append, aligned-with_registers, aligned-without, pc_aligned, tids-with_registers}
+use Rattle.guest_machine.proofs.Calls.{BeginsBehind, call_lawful, tids_after}
+use Rattle.guest_machine.proofs.Registers.{each-append, each-with_registers, each-without, pc_of_each, tids-with_registers}
 use Rattle.rv_exec.proofs.CallerLemmas.{next_aligned}
 
 -- the threads that are left
@@ -51,14 +51,20 @@ after_tids (Born child registers) harts tid r =
     map-append (λ h. h.0) (with_registers harts tid (resumed r child)) ((child, registers) ∷ [])
     ∙ ap (λ ns. ns ++ child ∷ []) (tids-with_registers harts tid (resumed r child))
 
-after_aligned : (answer : Answer) (harts : List Hart) (tid : ℕ) → AreAligned harts → BeginsAligned answer → AreAligned (harts_after answer harts tid (registers_of harts tid))
-after_aligned (Back value) harts tid all begins = aligned-with_registers harts tid _ all (next_aligned _ (pc_aligned harts tid all))
-after_aligned Yield harts tid all begins = aligned-with_registers harts tid _ all (next_aligned _ (pc_aligned harts tid all))
-after_aligned Block harts tid all begins = aligned-with_registers harts tid _ all (next_aligned _ (pc_aligned harts tid all))
-after_aligned ThreadEnd harts tid all begins = aligned-without harts tid all
-after_aligned (ProcessEnd status) harts tid all begins = tt
-after_aligned (Born child registers) harts tid all begins =
-    aligned-append _ _ (aligned-with_registers harts tid _ all (next_aligned _ (pc_aligned harts tid all))) begins
+-- a fact of each pc holds afterwards, where it holds of 0 and behind each pc of which it holds
+module _ (Holds : ℕ → Type 0) (none : Holds 0) (behind : (pc : ℕ) → Holds pc → Holds ((pc + 4) % 2 ^ 32)) where
+  resumed_each : (harts : List Hart) (tid value : ℕ) → OfEachPc Holds harts → OfEachPc Holds (with_registers harts tid (resumed (registers_of harts tid) value))
+  resumed_each harts tid value all = each-with_registers Holds harts tid _ all (behind _ (pc_of_each Holds none harts tid all))
+
+  pub after_each : (answer : Answer) (harts : List Hart) (tid : ℕ) → OfEachPc Holds harts → BeginsBehind (registers_of harts tid).pc answer →
+      OfEachPc Holds (harts_after answer harts tid (registers_of harts tid))
+  after_each (Back value) harts tid all begins = resumed_each harts tid value all
+  after_each Yield harts tid all begins = resumed_each harts tid 0 all
+  after_each Block harts tid all begins = resumed_each harts tid 0 all
+  after_each ThreadEnd harts tid all begins = each-without Holds harts tid all
+  after_each (ProcessEnd status) harts tid all begins = tt
+  after_each (Born child registers) harts tid all begins =
+      each-append Holds _ (child, registers) (resumed_each harts tid child all) (subst Holds (sym begins) (behind _ (pc_of_each Holds none harts tid all)))
 
 -- a machine is sound one step later
 pub sound-later : (m : MachineState) → IsSound m → IsSound (later m)
@@ -77,7 +83,7 @@ sound-called m tid sound state free =
     let lawful = call_lawful (call_of m tid) in
     record {
       same_threads = after_tids r.answer m.harts tid (registers_of m.harts tid) ∙ ap (tids_after r.answer tid) sound.same_threads ∙ sym lawful.threads;
-      aligned = after_aligned r.answer m.harts tid sound.aligned (lawful.begins (pc_aligned m.harts tid sound.aligned));
+      aligned = after_each (λ pc. pc % 4 ≡ 0) refl next_aligned r.answer m.harts tid sound.aligned lawful.begins;
       state = state;
       holders = lawful.holders sound.holders;
       break_free = free;

@@ -1,6 +1,6 @@
--- What every call of the kernel keeps: which threads live afterwards, that those with a reservation do, and that a new
--- thread begins at a multiple of 4.
-use Rattle.std.proofs.Common.{◌≡◌, ℕ, ◌%◌, List, [], ◌∷◌, ◌++◌, map, take, drop, Bool, true, false, not, ◌||◌, ap, ap₂, sym, refl, ◌∙◌, arith, Option, Some, None, cond}
+-- What every call of the kernel keeps: which threads live afterwards, that those with a reservation do, where a new thread
+-- begins, and that the status of an exit is a byte's number.
+use Rattle.std.proofs.Common.{◌≡◌, ℕ, ◌+◌, ◌%◌, ◌^◌, ◌<◌, List, [], ◌∷◌, ◌++◌, map, take, drop, Bool, true, false, not, ◌||◌, ap, ap₂, sym, refl, ◌∙◌, arith, Option, Some, None, cond}
 use Rattle.std.specs.Prelude.{◌==◌, if◌then◌else◌, filter, is_some, nat_le}
 use Rattle.std.specs.List.{list_any}
 use Rattle.std.proofs.lemmas.List.{map-append}
@@ -39,15 +39,21 @@ tids_after (ProcessEnd status) tid ts = []
 tids_after (Born child registers) tid ts = ts ++ child ∷ []
 tids_after answer tid ts = ts
 
--- a new thread begins at a multiple of 4
-abbrev pub BeginsAligned : Answer → Type 0
-BeginsAligned (Born child registers) = registers.pc % 4 ≡ 0
-BeginsAligned answer = Unit {0}
+-- a new thread begins behind the instruction at this pc
+abbrev pub BeginsBehind : ℕ → Answer → Type 0
+BeginsBehind pc (Born child registers) = registers.pc ≡ (pc + 4) % 2 ^ 32
+BeginsBehind pc answer = Unit {0}
+
+-- all threads end with the number of a byte
+abbrev pub EndsWithByte : Answer → Type 0
+EndsWithByte (ProcessEnd status) = status < 2 ^ 8
+EndsWithByte answer = Unit {0}
 
 pub record IsLawful (c : Call) (r : CallResult) : Type 0 where
   pub threads : map (λ t. t.tid) r.kernel.threads ≡ tids_after r.answer c.tid (map (λ t. t.tid) c.kernel.threads)
   pub holders : HoldersLive c.held c.kernel → HoldersLive r.guest.held r.kernel
-  pub begins : c.registers.pc % 4 ≡ 0 → BeginsAligned r.answer
+  pub begins : BeginsBehind c.registers.pc r.answer
+  pub byte : EndsWithByte r.answer
 
 -- the thread goes on, or waits
 abbrev Stays : Answer → Type 0
@@ -77,19 +83,20 @@ stays_tids ThreadEnd tid ts stays = absurd stays
 stays_tids (ProcessEnd s) tid ts stays = absurd stays
 stays_tids (Born child registers) tid ts stays = absurd stays
 
-stays_begins : (answer : Answer) → Stays answer → BeginsAligned answer
-stays_begins (Back value) stays = tt
-stays_begins Yield stays = tt
-stays_begins Block stays = tt
-stays_begins ThreadEnd stays = tt
-stays_begins (ProcessEnd s) stays = tt
-stays_begins (Born child registers) stays = absurd stays
+stays_begins : (pc : ℕ) (answer : Answer) → Stays answer → BeginsBehind pc answer × EndsWithByte answer
+stays_begins pc (Back value) stays = (tt, tt)
+stays_begins pc Yield stays = (tt, tt)
+stays_begins pc Block stays = (tt, tt)
+stays_begins pc ThreadEnd stays = (tt, tt)
+stays_begins pc (ProcessEnd s) stays = absurd stays
+stays_begins pc (Born child registers) stays = absurd stays
 
 quiet_lawful : (c : Call) (r : CallResult) → IsQuiet c r → IsLawful c r
 quiet_lawful c r quiet = record {
   threads = quiet.threads ∙ sym (stays_tids r.answer c.tid (map (λ t. t.tid) c.kernel.threads) quiet.stays);
   holders = λ live q some. lives_by r.kernel c.kernel q quiet.threads ∙ live q (quiet.held q some);
-  begins = λ even. stays_begins r.answer quiet.stays;
+  begins = (stays_begins c.registers.pc r.answer quiet.stays).0;
+  byte = (stays_begins c.registers.pc r.answer quiet.stays).1;
 }
 
 -- ---- the words of a call
@@ -268,14 +275,16 @@ lawful_leaves c r false last quiet =
       holders = λ live q some.
           let both = gone_by q c.tid (r.guest.held q) (q == c.tid) refl some in
           lives_other r.kernel.threads c.tid q (lives_by r.kernel c.kernel q quiet.threads ∙ live q (quiet.held q both.1)) both.0;
-      begins = λ even. tt;
+      begins = tt;
+      byte = omega arith;
     }
 lawful_leaves c r true last quiet = record {
   threads = filter_tids r.kernel.threads c.tid ∙ ap (filter (λ n. not (n == c.tid))) quiet.threads;
   holders = λ live q some.
       let both = gone_by q c.tid (r.guest.held q) (q == c.tid) refl some in
       lives_other r.kernel.threads c.tid q (lives_by r.kernel c.kernel q quiet.threads ∙ live q (quiet.held q both.1)) both.0;
-  begins = λ even. tt;
+  begins = tt;
+  byte = tt;
 }
 
 quiet_wakes : (c : Call) (r : CallResult) (at most bits : ℕ) → IsQuiet c r → IsQuiet c (wakes at most bits r)
@@ -289,7 +298,7 @@ lawful_exit : (c : Call) → IsLawful c (exit c)
 lawful_exit c = lawful_leaves c (told_end c) (has_others c.kernel c.tid) refl (quiet_told c (is_cleared c))
 
 lawful_exit_group : (c : Call) → IsLawful c (exit_group c)
-lawful_exit_group c = record { threads = refl; holders = λ live q some. absurd (cc); begins = λ even. tt }
+lawful_exit_group c = record { threads = refl; holders = λ live q some. absurd (cc); begins = tt; byte = omega arith }
 
 -- ---- births
 lives_more : (threads : List Thread) (t : Thread) (q : ℕ) → list_any (is_thread q) threads ≡ true → list_any (is_thread q) (threads ++ t ∷ []) ≡ true
@@ -305,7 +314,8 @@ lawful_born c r tid clear_tid flags stack tls quiet = record {
   threads = map-append (λ t. t.tid) r.kernel.threads (record { tid = tid; clear_tid = clear_tid } ∷ []) ∙ ap (λ ns. ns ++ tid ∷ []) quiet.threads;
   holders = λ live q some.
       lives_more r.kernel.threads _ q (lives_by r.kernel c.kernel q quiet.threads ∙ live q (quiet.held q (some_of_rest (q == tid) (r.guest.held q) some)));
-  begins = λ even. omega arith;
+  begins = refl;
+  byte = tt;
 }
 
 lawful_clone : (c : Call) → IsLawful c (clone c)

@@ -13,3 +13,4 @@ pub mod StepParts
 pub mod Limits
 pub mod ClockWakings
 pub mod AllWoken
+pub mod Ranges

@@ -8,7 +8,7 @@ use Rattle.guest_words.specs.ByThread.{value_of}
 use Rattle.guest_words.proofs.ThreadTables.{numbers-with, value_of-with, with_own}
 use Rattle.rv_exec.specs.Registers.{Registers}
 use Rattle.guest_machine.specs.Machine.{Hart, no_registers, registers_of, with_registers, without_hart}
-use Rattle.guest_machine.specs.Sound.{AreAligned}
+use Rattle.guest_machine.specs.Sound.{AreAligned, OfEachPc}
 
 -- the threads stay
 pub tids-with_registers : (harts : List Hart) (tid : ℕ) (r : Registers) → map (λ g. g.0) (with_registers harts tid r) ≡ map (λ g. g.0) harts
@@ -42,32 +42,44 @@ value-with_registers harts tid r lives =
 pub same_harts : (harts : List Hart) (tid : ℕ) → is_some (value_of harts tid) ≡ true → with_registers harts tid (registers_of harts tid) ≡ harts
 same_harts harts tid lives = with_own harts tid (registers_of harts tid) (has_registers harts tid lives)
 
--- a pc that is a multiple of 4 leaves all of them so
-aligned_by : (h : Hart) (harts : List Hart) (tid : ℕ) (r : Registers) (b : Bool) → (h.0 == tid) ≡ b → AreAligned (h ∷ harts) → r.pc % 4 ≡ 0 → AreAligned (with_registers harts tid r) → AreAligned (with_registers (h ∷ harts) tid r)
-aligned_by h harts tid r true is all even rest = rw is (even, all.1)
-aligned_by h harts tid r false is all even rest = rw is (all.0, rest)
+-- ---- a fact of each pc
+module _ (Holds : ℕ → Type 0) where
+  -- registers of whose pc it holds leave it so
+  put_by : (h : Hart) (harts : List Hart) (tid : ℕ) (r : Registers) (b : Bool) → (h.0 == tid) ≡ b → OfEachPc Holds (h ∷ harts) → Holds r.pc →
+      OfEachPc Holds (with_registers harts tid r) → OfEachPc Holds (with_registers (h ∷ harts) tid r)
+  put_by h harts tid r true is all new rest = rw is (new, all.1)
+  put_by h harts tid r false is all new rest = rw is (all.0, rest)
 
-pub aligned-with_registers : (harts : List Hart) (tid : ℕ) (r : Registers) → AreAligned harts → r.pc % 4 ≡ 0 → AreAligned (with_registers harts tid r)
-aligned-with_registers [] tid r all even = tt
-aligned-with_registers (h ∷ harts) tid r all even = aligned_by h harts tid r (h.0 == tid) refl all even (aligned-with_registers harts tid r all.1 even)
+  pub each-with_registers : (harts : List Hart) (tid : ℕ) (r : Registers) → OfEachPc Holds harts → Holds r.pc → OfEachPc Holds (with_registers harts tid r)
+  each-with_registers [] tid r all new = tt
+  each-with_registers (h ∷ harts) tid r all new = put_by h harts tid r (h.0 == tid) refl all new (each-with_registers harts tid r all.1 new)
 
-pc_by : (h : Hart) (harts : List Hart) (tid : ℕ) (b : Bool) → (h.0 == tid) ≡ b → AreAligned (h ∷ harts) → (registers_of harts tid).pc % 4 ≡ 0 → (registers_of (h ∷ harts) tid).pc % 4 ≡ 0
-pc_by h harts tid true is all rest = rw is all.0
-pc_by h harts tid false is all rest = rw is rest
+  pc_by : (h : Hart) (harts : List Hart) (tid : ℕ) (b : Bool) → (h.0 == tid) ≡ b → OfEachPc Holds (h ∷ harts) → Holds (registers_of harts tid).pc →
+      Holds (registers_of (h ∷ harts) tid).pc
+  pc_by h harts tid true is all rest = rw is all.0
+  pc_by h harts tid false is all rest = rw is rest
+
+  -- it holds of a thread's pc, and of that of a thread that does not live where it holds of 0
+  pub pc_of_each : Holds 0 → (harts : List Hart) (tid : ℕ) → OfEachPc Holds harts → Holds (registers_of harts tid).pc
+  pc_of_each none [] tid all = none
+  pc_of_each none (h ∷ harts) tid all = pc_by h harts tid (h.0 == tid) refl all (pc_of_each none harts tid all.1)
+
+  -- so it does with a thread more, and with a thread less
+  pub each-append : (harts : List Hart) (h : Hart) → OfEachPc Holds harts → Holds h.1.pc → OfEachPc Holds (harts ++ h ∷ [])
+  each-append [] h all new = (new, tt)
+  each-append (g ∷ harts) h all new = (all.0, each-append harts h all.1 new)
+
+  kept_by : (h : Hart) (harts : List Hart) (tid : ℕ) (b : Bool) → not (h.0 == tid) ≡ b → OfEachPc Holds (h ∷ harts) → OfEachPc Holds (without_hart harts tid) →
+      OfEachPc Holds (without_hart (h ∷ harts) tid)
+  kept_by h harts tid true is all rest = rw is (all.0, rest)
+  kept_by h harts tid false is all rest = rw is rest
+
+  pub each-without : (harts : List Hart) (tid : ℕ) → OfEachPc Holds harts → OfEachPc Holds (without_hart harts tid)
+  each-without [] tid all = tt
+  each-without (h ∷ harts) tid all = kept_by h harts tid (not (h.0 == tid)) refl all (each-without harts tid all.1)
 
 pub pc_aligned : (harts : List Hart) (tid : ℕ) → AreAligned harts → (registers_of harts tid).pc % 4 ≡ 0
-pc_aligned [] tid all = refl
-pc_aligned (h ∷ harts) tid all = pc_by h harts tid (h.0 == tid) refl all (pc_aligned harts tid all.1)
+pc_aligned harts tid all = pc_of_each (λ pc. pc % 4 ≡ 0) refl harts tid all
 
--- so do those of a thread more, and of a thread less
-pub aligned-append : (harts : List Hart) (h : Hart) → AreAligned harts → h.1.pc % 4 ≡ 0 → AreAligned (harts ++ h ∷ [])
-aligned-append [] h all even = (even, tt)
-aligned-append (g ∷ harts) h all even = (all.0, aligned-append harts h all.1 even)
-
-kept_by : (h : Hart) (harts : List Hart) (tid : ℕ) (b : Bool) → not (h.0 == tid) ≡ b → AreAligned (h ∷ harts) → AreAligned (without_hart harts tid) → AreAligned (without_hart (h ∷ harts) tid)
-kept_by h harts tid true is all rest = rw is (all.0, rest)
-kept_by h harts tid false is all rest = rw is rest
-
-pub aligned-without : (harts : List Hart) (tid : ℕ) → AreAligned harts → AreAligned (without_hart harts tid)
-aligned-without [] tid all = tt
-aligned-without (h ∷ harts) tid all = kept_by h harts tid (not (h.0 == tid)) refl all (aligned-without harts tid all.1)
+pub aligned-with_registers : (harts : List Hart) (tid : ℕ) (r : Registers) → AreAligned harts → r.pc % 4 ≡ 0 → AreAligned (with_registers harts tid r)
+aligned-with_registers harts tid r all even = each-with_registers (λ pc. pc % 4 ≡ 0) harts tid r all even

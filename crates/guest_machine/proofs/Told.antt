@@ -17,9 +17,14 @@ use Rattle.call_tracker.specs.declared.jumps.JumpKind.{JumpKind}
 use Rattle.call_tracker.specs.declared.jumps.JumpKind.TheVariants as jumps
 use Rattle.guest_machine.specs.Machine.{MachineState}
 use Rattle.guest_machine.specs.declared.stepped.Stepped.{Stepped}
-use Rattle.guest_machine.specs.Kept.{Parts, Steps}
-use Rattle.guest_machine.specs.Step.{StepResult, access_events, jump_events, pc_of, went}
-use Rattle.guest_machine.specs.Told.{IsAlone}
+use Rattle.guest_machine.specs.Kept.{Parts, Steps, machine_of}
+use Rattle.guest_machine.specs.Step.{StepResult, access_events, faulted, jump_events, pc_of, went}
+use Rattle.guest_machine.specs.Told.{IsAlone, IsQuiet, stepped_of, told}
+use Rattle.guest_machine.proofs.Executed.{Steps-faulted}
+use Rattle.guest_machine.specs.declared.stepped.Stepped.TheVariants.{Faulted}
+use Rattle.guest_machine.specs.declared.stepped.Advanced.{Advanced}
+use Rattle.guest_machine.specs.declared.stepped.Advanced.TheVariants.{Other}
+use Rattle.trace_model.specs.EventList.{EventList}
 
 -- an outcome whose access, if there is one, is no call and no return
 abbrev IsAloneIn : Outcome → JumpKind → Type 0
@@ -69,3 +74,15 @@ told-went m tid i accessed c before events target pc are targets pcs =
 -- where nothing is told, the events are those that were added
 pub Steps-told : (r : StepResult) (outcome : Stepped) (p : Parts) (before after : List Event) → Steps r outcome p before after → Steps r outcome p before (after ++ [])
 Steps-told r outcome p before after steps = subst (λ (es : List Event). Steps r outcome p before es) (sym (append-nil after)) steps
+
+-- the step of an instruction that can't run is told
+pub Steps-fault : (p p1 p2 : Parts) (tid : ℕ) (kind : FaultKind) (at : ℕ) (a : Advanced) (r : StepResult) (old : List Event) → a ≡ Other (Faulted kind at) →
+    machine_of p1 ≡ machine_of p → p2 ≡ record p1 { called = false } → r ≡ faulted (machine_of p) tid kind → at ≡ pc_of (machine_of p) tid →
+    Steps r (stepped_of a) p2 old (old ++ told tid a)
+unfolding machine_of
+Steps-fault p p1 p2 tid kind at a r old is same changed faults place =
+    subst (λ (b : Advanced). Steps r (stepped_of b) p2 old (old ++ told tid b)) (sym is)
+    (Steps-told r (Faulted kind at) p2 old old (Steps-faulted p p2 tid kind at r old faults place (ap machine_of changed ∙ same) (ap (λ (q : Parts). q.called) changed)))
+
+pub quiet-fault : (a : Advanced) (outcome : Stepped) (p : Parts) (before after : EventList) → a ≡ Other outcome → IsQuiet a p before after
+quiet-fault a outcome p before after is = subst (λ (b : Advanced). IsQuiet b p before after) (sym is) tt

@@ -1,8 +1,8 @@
 -- What holds of every step.
-use Rattle.std.specs.Prelude.{◌≡◌, ℕ, ◌+◌, ◌≤◌, true, List, [], ◌∷◌, ◌++◌, length, map, reverse, filter, nat_lt, nat_le, ◌&&◌, ◌==◌, Option, Some, None}
+use Rattle.std.specs.Prelude.{◌≡◌, ℕ, ◌+◌, ◌≤◌, ◌<◌, ◌^◌, true, List, [], ◌∷◌, ◌++◌, length, map, reverse, filter, nat_lt, nat_le, ◌&&◌, ◌==◌, Option, Some, None}
 use Rattle.guest_words.specs.declared.limits.TheConstants.{LAST_TID, THREADS}
 use Rattle.trace_model.specs.declared.event_kinds.Event.{Event}
-use Rattle.trace_model.specs.declared.event_kinds.Event.TheVariants.{Step}
+use Rattle.trace_model.specs.declared.event_kinds.Event.TheVariants.{Step, Call, Ret, Start}
 use Rattle.trace_model.specs.Parts.{IsShort}
 use Rattle.trace_model.specs.Profile.{steps}
 use Rattle.trace_model.specs.WellFormed.{MayFollow, greatest_start, is_live, weight}
@@ -12,11 +12,13 @@ use Rattle.guest_calls.specs.Waking.{IsAwake, moved_on}
 use Rattle.virtual_clock.specs.Once.{IsOnce}
 use Rattle.virtual_clock.specs.declared.deadline.Deadline.{Deadline}
 use Rattle.rv_exec.specs.Registers.{Registers}
-use Rattle.std.specs.List.{find}
+use Rattle.std.specs.List.{AllByRecursion, find}
 use Rattle.std.specs.Option.{option_map}
-use Rattle.guest_machine.specs.Machine.{MachineState, can_run, registers_of}
-use Rattle.guest_machine.specs.Step.{step}
-use Rattle.guest_machine.specs.Sound.{IsSound}
+use Rattle.guest_machine.specs.declared.stepped.Stepped.{Stepped}
+use Rattle.guest_machine.specs.declared.stepped.Stepped.TheVariants.{Faulted, Finished}
+use Rattle.guest_machine.specs.Machine.{Hart, MachineState, can_run, registers_of}
+use Rattle.guest_machine.specs.Step.{StepResult, step}
+use Rattle.guest_machine.specs.Sound.{IsSound, OfEachPc}
 use Rattle.guest_machine.specs.Waking.{with_answer, woken}
 
 -- these events, in order, may follow the past, one after another
@@ -105,3 +107,39 @@ pub record KeepsThreads (m new : MachineState) : Type 0 where
 
 abbrev pub EveryWakingKeepsThreads : Type 0
 EveryWakingKeepsThreads = (m : MachineState) → KeepsThreads m (woken m)
+
+-- ---- the numbers of a step
+-- an address is a number of 32 bits
+abbrev pub IsAddress : ℕ → Type 0
+IsAddress at = at < 2 ^ 32
+
+-- where a call goes and comes back to, where a return goes and where a thread starts are addresses
+abbrev pub TellsAddresses : Event → Type 0
+TellsAddresses (Call tid entry back) = IsAddress entry × IsAddress back
+TellsAddresses (Ret tid target) = IsAddress target
+TellsAddresses (Start tid entry) = IsAddress entry
+TellsAddresses e = Unit {0}
+
+-- so is the place of a fault, and the status of an exit is a byte's number
+abbrev pub IsToldInRange : Stepped → Type 0
+IsToldInRange (Faulted kind at) = IsAddress at
+IsToldInRange (Finished status) = status < 2 ^ 8
+IsToldInRange outcome = Unit {0}
+
+-- the pc of each thread is an address
+abbrev pub HaveAddresses : List Hart → Type 0
+HaveAddresses harts = OfEachPc IsAddress harts
+
+-- The pc of each thread is an address, and what the step tells are such numbers.
+pub record IsInRange (r : StepResult) : Type 0 where
+  pub harts : HaveAddresses r.machine.harts
+  pub events : AllByRecursion TellsAddresses r.events
+  pub outcome : IsToldInRange r.outcome
+
+-- So it is of each step of a machine whose threads have addresses in their pc.
+abbrev pub EveryStepIsInRange : Type 0
+EveryStepIsInRange = (m : MachineState) (tid : ℕ) → HaveAddresses m.harts → IsInRange (step m tid)
+
+-- They have after each waking.
+abbrev pub EveryWakingIsInRange : Type 0
+EveryWakingIsInRange = (m : MachineState) → HaveAddresses m.harts → HaveAddresses (woken m).harts

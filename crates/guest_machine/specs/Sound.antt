@@ -10,10 +10,14 @@ use Rattle.guest_machine.specs.Machine.{Hart, MachineState}
 abbrev pub HoldersLive : Reserved → KernelState → Type 0
 HoldersLive held kernel = (tid : ℕ) → is_some (held tid) ≡ true → lives kernel tid ≡ true
 
+-- this holds of the pc of each thread
+abbrev pub OfEachPc : (ℕ → Type 0) → List Hart → Type 0
+OfEachPc Holds [] = Unit {0}
+OfEachPc Holds (h ∷ harts) = Holds h.1.pc × OfEachPc Holds harts
+
 -- the pc of each thread is a multiple of 4
 abbrev pub AreAligned : List Hart → Type 0
-AreAligned [] = Unit {0}
-AreAligned (h ∷ harts) = (h.1.pc % 4 ≡ 0) × AreAligned harts
+AreAligned harts = OfEachPc (λ pc. pc % 4 ≡ 0) harts
 
 pub record IsSound (m : MachineState) : Type 0 where
   -- the kernel's threads are those that have registers

@@ -35,3 +35,8 @@ IsQuiet instruction new before after = (out_of new ≡ None) × (after ≡ befor
 abbrev pub IsAlone : Access → JumpKind → Type 0
 IsAlone access.Nothing jump = Unit {0}
 IsAlone accessed jump = jump ≡ jumps.Nothing
+
+-- It is an instruction that went.
+abbrev pub IsInstruction : Advanced → Type 0
+IsInstruction (Other outcome) = ⊥
+IsInstruction instruction = Unit {0}

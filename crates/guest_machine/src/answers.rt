@@ -24,10 +24,13 @@ pub(crate) fn apply_answer(
     requires lives { is_some (value_of harts.old.list tid) ≡ true }
     requires room { THREADS ≤ events.old.room }
     requires few { length harts.old.list ≤ THREADS }
-    requires born { (child : ℕ) (cpu : Registers) → answer ≡ Answer.Born child cpu → length harts.old.list < THREADS }
-    requires above { (child : ℕ) (cpu : Registers) → answer ≡ Answer.Born child cpu → All (λ n. n < child) (numbers harts.old.list) }
+    requires born { (child : ℕ) (cpu : Registers) → answer ≡ Answer.Born child cpu
+        → length harts.old.list < THREADS }
+    requires above { (child : ℕ) (cpu : Registers) → answer ≡ Answer.Born child cpu
+        → All (λ n. n < child) (numbers harts.old.list) }
     requires spare { THREADS ≤ length harts.old.list + harts.old.room }
-    ensures harts { harts.new.list ≡ harts_after answer harts.old.list tid (registers_of harts.old.list tid) }
+    ensures harts { harts.new.list ≡ harts_after answer harts.old.list tid
+        (registers_of harts.old.list tid) }
     ensures events { events.new.list ≡ events.old.list ++ life_events answer harts.old.list tid }
     ensures outcome { result ≡ stepped_by answer }
     ensures spare { THREADS ≤ length harts.new.list + harts.new.room }

@@ -1,5 +1,5 @@
 //! One step of a thread.
-ghost use Rattle.std.specs.Prelude.{◌≡◌, ◌≢◌, ◌≤◌, ◌+◌, ◌%◌, ◌++◌, ◌∷◌, ℕ, List, None, true, false, Ok, OnOk, OnErr, IfOk, IsOk, is_some, length};
+ghost use Rattle.std.specs.Prelude.{◌≡◌, ◌≢◌, ◌≤◌, ◌+◌, ◌%◌, ◌++◌, ◌∷◌, [], ℕ, List, None, true, false, Ok, OnOk, OnErr, IfOk, IfErr, IfSome, IfNone, IsOk, is_some, length};
 ghost use Rattle.guest_words.specs.ByThread.{value_of};
 ghost use Rattle.guest_memory.specs.Guest.{memory_of};
 ghost use Rattle.guest_calls.specs.Table.{call};
@@ -7,8 +7,8 @@ ghost use Rattle.guest_machine.specs.Kept.{IsAsBefore, Parts, Steps, machine_of,
 ghost use Rattle.guest_machine.specs.Machine.{can_run, later};
 ghost use Rattle.guest_machine.specs.Parts.{parts_of};
 ghost use Rattle.guest_machine.specs.Sound.{IsSound};
-ghost use Rattle.guest_machine.specs.Told.{IsAlone, IsQuiet, stepped_of, told};
-ghost use Rattle.guest_machine.specs.Step.{access_events, after_call, call_of, executed, instruction_at, jump_events, next_instruction, pc_of, step};
+ghost use Rattle.guest_machine.specs.Told.{IsAlone, IsInstruction, IsQuiet, stepped_of, told};
+ghost use Rattle.guest_machine.specs.Step.{access_events, after_call, call_of, executed, faulted, instruction_at, jump_events, next_instruction, pc_of, step};
 ghost use Rattle.guest_machine.specs.declared.stepped.Stepped.TheVariants.{Went};
 ghost use Rattle.trace_model.specs.declared.event_kinds.Event.TheVariants.{Step};
 ghost use Rattle.trace_model.specs.EventList.{EventList};
@@ -16,7 +16,6 @@ ghost use Rattle.call_tracker.specs.Links.{kind_of};
 ghost use Rattle.trace_model.specs.declared.event_kinds.Event.{Event};
 
 use crate::answers::apply_answer;
-use crate::decoder::Decoder;
 use crate::hart::{cpu_of, execute_for};
 use crate::step_events::{add_jump, add_step};
 use crate::{Advanced, Stepped};
@@ -26,7 +25,7 @@ use guest_memory::{GuestMemory, Reservations};
 use guest_words::limits::{CALL_EVENTS, THREADS};
 use guest_words::{Addr, ByThread, FaultKind, Tid};
 use rv_exec::{Access, Cpu, Outcome};
-use rv_isa::Instr;
+use rv_isa::{Instr, decode};
 use std::alloc::AllocError;
 use trace_model::{Event, Events};
 
@@ -66,9 +65,13 @@ fn make_room(events: &mut Events) -> Result<(), AllocError>
 #[inline(always)]
 fn told(instruction: &Instr, access: Access, target: Addr, back: Addr) -> Advanced
     requires alone { IsAlone access (kind_of instruction.now) }
-    ensures events { (tid : ℕ) → told tid result ≡ Step tid ∷ (access_events tid access ++ jump_events (kind_of instruction.now) tid target back) }
+    ensures events { (tid : ℕ) → told tid result
+        ≡ Step tid ∷ (access_events tid access
+        ++ jump_events (kind_of instruction.now) tid target back) }
     ensures stepped { stepped_of result ≡ Went }
-    ensures quiet { (new : Parts) (events : EventList) → out_of new ≡ None → IsQuiet result new events events }
+    ensures instruction { IsInstruction result }
+    ensures quiet { (new : Parts) (events : EventList) → out_of new ≡ None
+        → IsQuiet result new events events }
 {
     match access {
         Access::Nothing => match kind(*instruction) {
@@ -86,30 +89,39 @@ impl Guest {
     ghost use Rattle.rv_isa.specs.declared.instruction.Instr.TheVariants.{Ecall};
 
     // The instruction at an address, or why it can't run.
-    #[inline(always)]
-    fn instruction_at(&self, decoder: &mut Decoder, at: Addr) -> Result<Instr, FaultKind>
+    fn instruction_at(&self, at: Addr) -> Result<Instr, FaultKind>
         requires { at % 4 ≡ 0 }
         ensures { result ≡ instruction_at (memory_of self.now.memory) at }
     {
         match self.memory.fetch(at) {
-            Ok(word) => decoder.decode(at, word).ok_or(FaultKind::Illegal),
+            Ok(word) => decode(word).ok_or(FaultKind::Illegal),
             Err(_) => Err(FaultKind::Fetch),
         }
     }
 
-    // Carries out an instruction, which is no call of the kernel.
+    // Carries out an instruction, which is no call of the kernel, or says how it faults.
     #[inline(always)]
-    fn carry_out(&mut self, tid: Tid, pc: Addr, instruction: &Instr) -> Advanced
+    fn carry_out(&mut self, tid: Tid, pc: Addr, instruction: &Instr) -> Result<Advanced, FaultKind>
         requires pc { pc ≡ pc_of (machine_of (parts_of self.old)) tid }
         requires sound { IsSound (machine_of (parts_of self.old)) }
         requires lives { is_some (value_of self.old.harts.list tid) ≡ true }
         requires can_run { can_run (machine_of (parts_of self.old)) tid ≡ true }
         requires no_call { instruction.now ≢ Ecall }
-        ensures step { (before : List Event) → Steps (executed (machine_of (parts_of self.old)) tid (Ok instruction.now)) (stepped_of result) (parts_of self.new) before (before ++ told tid result) }
+        ensures step { IfOk result (λ advanced. (before : List Event)
+            → Steps (executed (machine_of (parts_of self.old)) tid (Ok instruction.now))
+            (stepped_of advanced) (parts_of self.new) before (before ++ told tid advanced)) }
+        ensures fault { IfErr result (λ kind. executed (machine_of (parts_of self.old)) tid
+            (Ok instruction.now) ≡ faulted (machine_of (parts_of self.old)) tid kind) }
+        ensures kept { OnErr result (machine_of (parts_of self.new)
+            ≡ machine_of (parts_of self.old)) }
         ensures sound { IsSound (machine_of (parts_of self.new)) }
-        ensures spare { length self.new.harts.list + self.new.harts.room ≡ length self.old.harts.list + self.old.harts.room }
+        ensures spare { length self.new.harts.list + self.new.harts.room
+            ≡ length self.old.harts.list + self.old.harts.room }
         ensures entry { self.new.entry ≡ self.old.entry }
-        ensures quiet { (events : EventList) → IsQuiet result (parts_of self.new) events events }
+        ensures quiet { IfOk result (λ advanced. (events : EventList)
+            → IsQuiet advanced (parts_of self.new) events events) }
+        ensures out { IfOk result (λ advanced. out_of (parts_of self.new) ≡ None) }
+        ensures instruction { IfOk result IsInstruction }
     {
         let (outcome, target) = execute_for(
             &mut self.harts,
@@ -118,16 +130,45 @@ impl Guest {
             tid,
             *instruction,
         );
-        self.called = false;
         match outcome {
             Outcome::Went { access } => {
+                self.called = false;
                 self.kernel.advance();
-                told(instruction, access, target, pc.wrapping_add(4))
+                Ok(told(instruction, access, target, pc.wrapping_add(4)))
             }
-            Outcome::Fault { kind } => Advanced::Other {
-                stepped: Stepped::Faulted { kind, at: pc },
-            },
+            Outcome::Fault { kind } => Err(kind),
             Outcome::KernelCall => unreachable!(),
+        }
+    }
+
+    /// Runs one step of a thread that can run, where its instruction is known, is no ECALL and does not fault; else nothing
+    /// changes. The events are those that are told.
+    #[inline(always)]
+    pub(crate) fn advance_known(&mut self, tid: Tid) -> Option<Advanced>
+        requires sound { IsSound (machine_of (parts_of self.old)) }
+        requires can_run { can_run (machine_of (parts_of self.old)) tid ≡ true }
+        ensures step { IfSome result (λ advanced. Steps (step (machine_of (parts_of self.old)) tid)
+            (stepped_of advanced) (parts_of self.new) [] (told tid advanced)) }
+        ensures kept { IfNone result (machine_of (parts_of self.new)
+            ≡ machine_of (parts_of self.old)) }
+        ensures sound { IsSound (machine_of (parts_of self.new)) }
+        ensures spare { length self.new.harts.list + self.new.harts.room
+            ≡ length self.old.harts.list + self.old.harts.room }
+        ensures entry { self.new.entry ≡ self.old.entry }
+        ensures quiet { IfSome result (λ advanced. out_of (parts_of self.new) ≡ None) }
+        ensures instruction { IfSome result IsInstruction }
+    {
+        let pc = cpu_of(&self.harts, tid).pc;
+        match self.memory.known_instruction(pc) {
+            None => {
+                self.memory.learn_instruction(pc);
+                None
+            }
+            Some(Instr::Ecall) => None,
+            Some(instruction) => match self.carry_out(tid, pc, &instruction) {
+                Ok(advanced) => Some(advanced),
+                Err(_) => None,
+            },
         }
     }
 
@@ -139,8 +180,12 @@ impl Guest {
         requires lives { is_some (value_of self.old.harts.list tid) ≡ true }
         requires can_run { can_run (machine_of (parts_of self.old)) tid ≡ true }
         requires spare { THREADS ≤ length self.old.harts.list + self.old.harts.room }
-        ensures step { IfOk result (λ stepped. Steps (after_call (later (machine_of (parts_of self.old))) tid (call (call_of (later (machine_of (parts_of self.old))) tid))) stepped (parts_of self.new) events.old.list events.new.list) }
-        ensures refused { OnErr result (IsAsBefore (parts_of self.old) (parts_of self.new) events.old.list events.new.list) }
+        ensures step { IfOk result (λ stepped. Steps
+            (after_call (later (machine_of (parts_of self.old))) tid
+            (call (call_of (later (machine_of (parts_of self.old))) tid))) stepped
+            (parts_of self.new) events.old.list events.new.list) }
+        ensures refused { OnErr result (IsAsBefore (parts_of self.old)
+            (parts_of self.new) events.old.list events.new.list) }
         ensures sound { IsSound (machine_of (parts_of self.new)) }
         ensures spare { THREADS ≤ length self.new.harts.list + self.new.harts.room }
         ensures entry { self.new.entry ≡ self.old.entry }
@@ -166,60 +211,68 @@ impl Guest {
 
     /// Runs one step of a thread that can run. The events are those that are told and those that are added. An instruction
     /// other than ECALL takes no memory.
-    #[inline(always)]
-    pub(crate) fn advance(
-        &mut self,
-        decoder: &mut Decoder,
-        tid: Tid,
-        events: &mut Events,
-    ) -> Result<Advanced, AllocError>
+    pub(crate) fn advance(&mut self, tid: Tid, events: &mut Events) -> Result<Advanced, AllocError>
         requires sound { IsSound (machine_of (parts_of self.old)) }
         requires can_run { can_run (machine_of (parts_of self.old)) tid ≡ true }
         requires spare { THREADS ≤ length self.old.harts.list + self.old.harts.room }
-        ensures step { IfOk result (λ advanced. Steps (step (machine_of (parts_of self.old)) tid) (stepped_of advanced) (parts_of self.new) events.old.list (events.new.list ++ told tid advanced)) }
-        ensures refused { OnErr result (IsAsBefore (parts_of self.old) (parts_of self.new) events.old.list events.new.list) }
-        ensures no_memory { next_instruction (machine_of (parts_of self.old)) tid ≢ Ok Ecall → IsOk result }
+        ensures step { IfOk result (λ advanced. Steps (step (machine_of (parts_of self.old)) tid)
+            (stepped_of advanced) (parts_of self.new) events.old.list
+            (events.new.list ++ told tid advanced)) }
+        ensures refused { OnErr result (IsAsBefore (parts_of self.old)
+            (parts_of self.new) events.old.list events.new.list) }
+        ensures no_memory { next_instruction (machine_of (parts_of self.old)) tid ≢ Ok Ecall
+            → IsOk result }
         ensures sound { IsSound (machine_of (parts_of self.new)) }
         ensures spare { THREADS ≤ length self.new.harts.list + self.new.harts.room }
         ensures entry { self.new.entry ≡ self.old.entry }
-        ensures quiet { IfOk result (λ advanced. IsQuiet advanced (parts_of self.new) events.old events.new) }
+        ensures quiet { IfOk result (λ advanced. IsQuiet advanced
+            (parts_of self.new) events.old events.new) }
     {
         let pc = cpu_of(&self.harts, tid).pc;
-        match self.instruction_at(decoder, pc) {
-            Err(kind) => {
-                self.called = false;
-                Ok(Advanced::Other {
-                    stepped: Stepped::Faulted { kind, at: pc },
-                })
-            }
+        match self.instruction_at(pc) {
+            Err(kind) => Ok(self.fault(kind, pc)),
             Ok(Instr::Ecall) => {
                 let stepped = self.call_kernel(tid, events)?;
                 Ok(Advanced::Other { stepped })
             }
-            Ok(instruction) => Ok(self.carry_out(tid, pc, &instruction)),
+            Ok(instruction) => match self.carry_out(tid, pc, &instruction) {
+                Ok(advanced) => Ok(advanced),
+                Err(kind) => Ok(self.fault(kind, pc)),
+            },
+        }
+    }
+
+    // The step of an instruction that can't run.
+    fn fault(&mut self, kind: FaultKind, pc: Addr) -> Advanced
+        ensures result { result ≡ Advanced.Other (Stepped.Faulted kind pc) }
+        ensures parts { parts_of self.new ≡ record (parts_of self.old) { called = false } }
+        ensures room { self.new.harts.room ≡ self.old.harts.room }
+    {
+        self.called = false;
+        Advanced::Other {
+            stepped: Stepped::Faulted { kind, at: pc },
         }
     }
 
     /// Runs one step of a thread that can run, and adds its events. An instruction other than ECALL takes no memory where
     /// there is room for four events.
-    pub(crate) fn step(
-        &mut self,
-        decoder: &mut Decoder,
-        tid: Tid,
-        events: &mut Events,
-    ) -> Result<Stepped, AllocError>
+    pub(crate) fn step(&mut self, tid: Tid, events: &mut Events) -> Result<Stepped, AllocError>
         requires sound { IsSound (machine_of (parts_of self.old)) }
         requires can_run { can_run (machine_of (parts_of self.old)) tid ≡ true }
         requires spare { THREADS ≤ length self.old.harts.list + self.old.harts.room }
-        ensures step { IfOk result (λ stepped. Steps (step (machine_of (parts_of self.old)) tid) stepped (parts_of self.new) events.old.list events.new.list) }
-        ensures refused { OnErr result (IsAsBefore (parts_of self.old) (parts_of self.new) events.old.list events.new.list) }
-        ensures no_memory { 4 ≤ events.old.room → next_instruction (machine_of (parts_of self.old)) tid ≢ Ok Ecall → IsOk result }
+        ensures step { IfOk result (λ stepped. Steps
+            (step (machine_of (parts_of self.old)) tid) stepped
+            (parts_of self.new) events.old.list events.new.list) }
+        ensures refused { OnErr result (IsAsBefore (parts_of self.old)
+            (parts_of self.new) events.old.list events.new.list) }
+        ensures no_memory { 4 ≤ events.old.room → next_instruction
+            (machine_of (parts_of self.old)) tid ≢ Ok Ecall → IsOk result }
         ensures sound { IsSound (machine_of (parts_of self.new)) }
         ensures spare { THREADS ≤ length self.new.harts.list + self.new.harts.room }
         ensures entry { self.new.entry ≡ self.old.entry }
     {
         make_room(events)?;
-        match self.advance(decoder, tid, events)? {
+        match self.advance(tid, events)? {
             Advanced::Ran => {
                 events.push(Event::Step { tid });
                 Ok(Stepped::Went)

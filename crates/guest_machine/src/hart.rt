@@ -38,7 +38,8 @@ pub(crate) fn execute_for(
     ensures effect { (result.0, record { registers = registers_of harts.new.list tid; memory = memory_of memory.new; held = reserved_by held.new })
         ≡ effect tid i (record { registers = registers_of harts.old.list tid; memory = memory_of memory.old; held = reserved_by held.old }) }
     ensures pc { result.1 ≡ (registers_of harts.new.list tid).pc }
-    ensures harts { harts.new.list ≡ with_registers harts.old.list tid (registers_of harts.new.list tid) }
+    ensures harts { harts.new.list ≡ with_registers harts.old.list tid
+        (registers_of harts.new.list tid) }
     ensures lives { is_some (value_of harts.new.list tid) ≡ true }
     ensures room { harts.new.room ≡ harts.old.room }
 {
@@ -50,7 +51,8 @@ pub(crate) fn execute_for(
 /// A live thread goes on behind its call, with this answer in a0.
 pub(crate) fn resume(harts: &mut ByThread<Cpu>, tid: Tid, value: u32)
     requires { is_some (value_of harts.old.list tid) ≡ true }
-    ensures list { harts.new.list ≡ with_registers harts.old.list tid (resumed (registers_of harts.old.list tid) value) }
+    ensures list { harts.new.list ≡ with_registers harts.old.list tid
+        (resumed (registers_of harts.old.list tid) value) }
     ensures room { harts.new.room ≡ harts.old.room }
 {
     let cpu = harts.get_mut(tid).unwrap();
@@ -61,7 +63,8 @@ pub(crate) fn resume(harts: &mut ByThread<Cpu>, tid: Tid, value: u32)
 /// A live thread has this in a0, and its pc stays.
 pub(crate) fn answer(harts: &mut ByThread<Cpu>, tid: Tid, value: u32)
     requires { is_some (value_of harts.old.list tid) ≡ true }
-    ensures list { harts.new.list ≡ with_registers harts.old.list tid (with_answer (registers_of harts.old.list tid) value) }
+    ensures list { harts.new.list ≡ with_registers harts.old.list tid
+        (with_answer (registers_of harts.old.list tid) value) }
     ensures room { harts.new.room ≡ harts.old.room }
 {
     let cpu = harts.get_mut(tid).unwrap();

@@ -37,7 +37,9 @@ fn add_segment(table: &mut Vec<Option<Rights>>, segment: &Segment)
     requires placed { IsPlaced segment.now }
     requires whole { length table.old.items ≡ 0x40000 }
     ensures whole { length table.new.items ≡ 0x40000 }
-    ensures rights { (page : ℕ) → page < 0x40000 → slice_index_or table.new.items page None ≡ with_segment page (slice_index_or table.old.items page None) segment.now }
+    ensures rights { (page : ℕ) → page < 0x40000
+        → slice_index_or table.new.items page None
+        ≡ with_segment page (slice_index_or table.old.items page None) segment.now }
 {
     let first = segment.place / 4096;
     let end = (segment.place + (segment.size - 1)) / 4096 + 1;
@@ -49,7 +51,8 @@ fn add_segment(table: &mut Vec<Option<Rights>>, segment: &Segment)
 // So many pages without rights.
 fn without_rights(alloc: Global, count: usize) -> Result<Vec<Option<Rights>>, AllocError>
     ensures whole { IfOk result (λ table. length table.items ≡ count) }
-    ensures each { IfOk result (λ table. (page : ℕ) → page < count → slice_index_or table.items page None ≡ None) }
+    ensures each { IfOk result (λ table. (page : ℕ) → page < count
+        → slice_index_or table.items page None ≡ None) }
 {
     vec![in alloc; None; count]
 }

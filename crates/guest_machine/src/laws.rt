@@ -1,5 +1,5 @@
 //! Laws of a step: each is the contract of a function that does nothing.
-ghost use Rattle.guest_machine.specs.Laws.{EveryStepContinues, EveryStepIsLight, EveryStepIsOnePart, EveryStepStaysWithinLimits, EveryWakingEnds, EveryWakingAnswers, EveryWakingKeepsThreads, EveryWakingTakesTheDue};
+ghost use Rattle.guest_machine.specs.Laws.{EveryStepContinues, EveryStepIsInRange, EveryStepIsLight, EveryStepIsOnePart, EveryStepStaysWithinLimits, EveryWakingEnds, EveryWakingIsInRange, EveryWakingAnswers, EveryWakingKeepsThreads, EveryWakingTakesTheDue};
 
 /// A step of a thread that can run, after any past after which exactly the machine's threads live: its events may follow
 /// that past, and after both exactly the threads of the new machine live. The events' weight and the number of threads after
@@ -24,4 +24,12 @@ pub fn every_waking_ends()
     ensures due { EveryWakingTakesTheDue }
     ensures answers { EveryWakingAnswers }
     ensures keeps { EveryWakingKeepsThreads }
+{}
+
+/// A step of a machine whose threads have addresses in their pc, numbers below 2^32: so they have after it and after a waking.
+/// What its events tell of calls, returns and starts are addresses, and so is the place of a fault; the status of an exit is
+/// below 256.
+pub fn every_step_is_in_range()
+    ensures step { EveryStepIsInRange }
+    ensures waking { EveryWakingIsInRange }
 {}

@@ -7,7 +7,6 @@
 #![tactic(auto)]
 
 mod answers;
-mod decoder;
 mod guest;
 mod hart;
 mod image_pages;
@@ -20,7 +19,9 @@ mod step_events;
 mod stepped;
 mod waking;
 
-pub use laws::{every_step_is_short, every_step_is_traced, every_waking_ends};
+pub use laws::{
+    every_step_is_in_range, every_step_is_short, every_step_is_traced, every_waking_ends,
+};
 pub use machine::Machine;
 pub use setup::SetupError;
 pub use stepped::{Advanced, Stepped};

@@ -1,7 +1,6 @@
 //! The machine, and one step of a thread.
 ghost use Rattle.std.specs.Prelude.{◌≡◌, ◌≢◌, ◌≤◌, true, Ok, OnErr, IfOk, IsOk};
 
-use crate::decoder::Decoder;
 use crate::guest::Guest;
 use crate::setup::first_guest;
 use crate::stack::strings_length;
@@ -18,7 +17,6 @@ use trace_model::Events;
 #[derive(Drop)]
 pub struct Machine {
     guest: Guest,
-    decoder: Decoder,
 }
 
 impl Model for Machine {
@@ -47,10 +45,11 @@ impl Machine {
     ghost use Rattle.rv_isa.specs.declared.instruction.Instr.TheVariants.{Ecall};
     ghost use Rattle.guest_machine.specs.Kept.{machine_of, out_of, IsAsBefore, Steps};
     ghost use Rattle.guest_machine.specs.Machine.{can_run, ready};
-    ghost use Rattle.guest_machine.specs.Told.{IsQuiet, stepped_of, told};
+    ghost use Rattle.guest_machine.specs.Told.{IsInstruction, IsQuiet, stepped_of, told};
     ghost use Rattle.std.specs.Prelude.{◌++◌};
     ghost use Rattle.guest_machine.specs.Step.{next_instruction, step};
     ghost use Rattle.guest_machine.specs.Waking.{woken};
+    ghost use Rattle.std.specs.Prelude.{[]};
 
     /// A machine that begins: the image's segments, the argument strings, the first of which is the program's name, the
     /// input files, and what is on standard input.
@@ -61,9 +60,12 @@ impl Machine {
         inputs: Inputs,
         stdin: Vec<u8>,
     ) -> Result<Machine, SetupError>
-        ensures refused { IfSome (setup_refusal image.now (map string_bytes arguments.now)) (λ refusal. result ≡ Err refusal) }
-        ensures no_memory { IfNone (setup_refusal image.now (map string_bytes arguments.now)) (IfErr result (λ e. e ≡ Memory)) }
-        ensures start { IfOk result (λ machine. machine_of machine ≡ start image.now (map string_bytes arguments.now) inputs stdin.items) }
+        ensures refused { IfSome (setup_refusal image.now (map string_bytes arguments.now))
+            (λ refusal. result ≡ Err refusal) }
+        ensures no_memory { IfNone (setup_refusal image.now (map string_bytes arguments.now))
+            (IfErr result (λ e. e ≡ Memory)) }
+        ensures start { IfOk result (λ machine. machine_of machine
+            ≡ start image.now (map string_bytes arguments.now) inputs stdin.items) }
         ensures out { IfOk result (λ machine. out_of machine ≡ None) }
         ensures entry { IfOk result (λ machine. machine.entry ≡ image.now.entry) }
     {
@@ -72,8 +74,7 @@ impl Machine {
             return Err(SetupError::Pages);
         }
         let guest = first_guest(alloc, image, arguments, inputs, stdin, text_bytes)?;
-        let decoder = Decoder::new(alloc)?;
-        Ok(Machine { guest, decoder })
+        Ok(Machine { guest })
     }
 
     /// The channel, 1 or 2, and the bytes that the last step wrote, where it was a write of at least one byte.
@@ -89,30 +90,47 @@ impl Machine {
         }
     }
 
+    /// Runs one step of a thread that can run, where its instruction can run and is no ECALL; else nothing changes. The events
+    /// are told by what the instruction did. It takes no memory.
+    #[inline(always)]
+    pub fn advance_known(&mut self, tid: Tid) -> Option<Advanced>
+        requires { can_run (machine_of self.old) tid ≡ true }
+        ensures step { IfSome result (λ advanced. Steps (step (machine_of self.old) tid)
+            (stepped_of advanced) self.new [] (told tid advanced)) }
+        ensures kept { IfNone result (machine_of self.new ≡ machine_of self.old) }
+        ensures entry { self.new.entry ≡ self.old.entry }
+        ensures quiet { IfSome result (λ advanced. out_of self.new ≡ None) }
+        ensures instruction { IfSome result IsInstruction }
+    {
+        self.guest.advance_known(tid)
+    }
+
     /// Runs one step of a thread that can run. The events of an instruction that went are told by what it did, and those of
     /// any other step are added. An instruction other than ECALL takes no memory.
-    #[inline(always)]
     pub fn advance(&mut self, tid: Tid, events: &mut Events) -> Result<Advanced, AllocError>
         requires { can_run (machine_of self.old) tid ≡ true }
-        ensures step { IfOk result (λ advanced. Steps (step (machine_of self.old) tid) (stepped_of advanced) self.new events.old.list (events.new.list ++ told tid advanced)) }
+        ensures step { IfOk result (λ advanced. Steps (step (machine_of self.old) tid)
+            (stepped_of advanced) self.new events.old.list (events.new.list ++ told tid advanced)) }
         ensures refused { OnErr result (IsAsBefore self.old self.new events.old.list events.new.list) }
         ensures no_memory { next_instruction (machine_of self.old) tid ≢ Ok Ecall → IsOk result }
         ensures entry { self.new.entry ≡ self.old.entry }
         ensures quiet { IfOk result (λ advanced. IsQuiet advanced self.new events.old events.new) }
     {
-        self.guest.advance(&mut self.decoder, tid, events)
+        self.guest.advance(tid, events)
     }
 
     /// Runs one step of a thread that can run, and adds its events. An instruction other than ECALL takes no memory where
     /// there is room for four events.
     pub fn step(&mut self, tid: Tid, events: &mut Events) -> Result<Stepped, AllocError>
         requires { can_run (machine_of self.old) tid ≡ true }
-        ensures step { IfOk result (λ stepped. Steps (step (machine_of self.old) tid) stepped self.new events.old.list events.new.list) }
+        ensures step { IfOk result (λ stepped. Steps
+            (step (machine_of self.old) tid) stepped self.new events.old.list events.new.list) }
         ensures refused { OnErr result (IsAsBefore self.old self.new events.old.list events.new.list) }
-        ensures no_memory { 4 ≤ events.old.room → next_instruction (machine_of self.old) tid ≢ Ok Ecall → IsOk result }
+        ensures no_memory { 4 ≤ events.old.room → next_instruction
+            (machine_of self.old) tid ≢ Ok Ecall → IsOk result }
         ensures entry { self.new.entry ≡ self.old.entry }
     {
-        self.guest.step(&mut self.decoder, tid, events)
+        self.guest.step(tid, events)
     }
 
     /// Wakes all threads that are due by the clock, each with its deadline's answer in a0. Where then no thread can run and a

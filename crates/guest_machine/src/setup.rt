@@ -75,7 +75,8 @@ pub(crate) fn first_guest(
     requires texts { text_bytes ≡ length (strings (map string_bytes arguments.now)) }
     requires limit { text_bytes ≤ 65536 }
     requires few { page_count image.now.segments + STACK_PAGES ≤ PAGES }
-    ensures start { IfOk result (λ guest. machine_of (parts_of guest) ≡ start image.now (map string_bytes arguments.now) inputs stdin.items) }
+    ensures start { IfOk result (λ guest. machine_of (parts_of guest)
+        ≡ start image.now (map string_bytes arguments.now) inputs stdin.items) }
     ensures sound { IfOk result (λ guest. IsSound (machine_of (parts_of guest))) }
     ensures spare { IfOk result (λ guest. THREADS ≤ length guest.harts.list + guest.harts.room) }
     ensures entry { IfOk result (λ guest. guest.entry ≡ image.now.entry) }

@@ -46,7 +46,8 @@ pub(crate) fn strings_length(arguments: &[String]) -> Option<u32>
 
 /// The argument strings, each with its zero byte, and the bytes that stand for random ones.
 pub(crate) fn argument_bytes(alloc: Global, arguments: &[String]) -> Result<Vec<u8>, AllocError>
-    ensures { IfOk result (λ bytes. bytes.items ≡ strings (map string_bytes arguments.now) ++ random_bytes) }
+    ensures { IfOk result (λ bytes. bytes.items
+        ≡ strings (map string_bytes arguments.now) ++ random_bytes) }
 {
     let mut bytes = Vec::new(alloc);
     for argument in arguments {
@@ -66,7 +67,8 @@ fn push_word(words: &mut Vec<u8>, word: u32) -> Result<(), AllocError>
 
 // Adds words.
 fn push_words(words: &mut Vec<u8>, more: &[u32]) -> Result<(), AllocError>
-    ensures { OnOk result (words.new.items ≡ words.old.items ++ flat_map (λ n. to_le_bytes w32 n) more.now) }
+    ensures { OnOk result (words.new.items
+        ≡ words.old.items ++ flat_map (λ n. to_le_bytes w32 n) more.now) }
 {
     for word in more {
         push_word(words, *word)?;
@@ -77,7 +79,9 @@ fn push_words(words: &mut Vec<u8>, more: &[u32]) -> Result<(), AllocError>
 // Adds the addresses of the argument strings, of which the first stands here.
 fn push_addresses(words: &mut Vec<u8>, first: Addr, arguments: &[String]) -> Result<(), AllocError>
     requires { first + length (strings (map string_bytes arguments.now)) < 2 ^ 32 }
-    ensures { OnOk result (words.new.items ≡ words.old.items ++ flat_map (λ n. to_le_bytes w32 n) (string_addresses first (map string_bytes arguments.now))) }
+    ensures { OnOk result (words.new.items
+        ≡ words.old.items ++ flat_map
+        (λ n. to_le_bytes w32 n) (string_addresses first (map string_bytes arguments.now))) }
 {
     let mut at = first;
     let mut rest = arguments;
@@ -100,7 +104,9 @@ pub(crate) fn word_bytes(
     requires address { first ≡ strings_address (map string_bytes arguments.now) }
     requires limit { length (strings (map string_bytes arguments.now)) ≤ 65536 }
     requires count { length arguments.now ≤ 65536 }
-    ensures { IfOk result (λ bytes. bytes.items ≡ flat_map (λ n. to_le_bytes w32 n) (stack_words image.now (map string_bytes arguments.now))) }
+    ensures { IfOk result (λ bytes. bytes.items
+        ≡ flat_map (λ n. to_le_bytes w32 n)
+        (stack_words image.now (map string_bytes arguments.now))) }
 {
     let mut words = Vec::new(alloc);
     push_word(&mut words, arguments.len() as u32)?;

@@ -20,7 +20,8 @@ const STACK_PAGE: u32 = 0x7F800;
 fn map_stack(memory: &mut GuestMemory) -> Result<(), AllocError>
     requires free { AreFree (memory_of memory.old) stack_page STACK_PAGES }
     requires few { mapped_pages (memory_of memory.old) + STACK_PAGES ≤ PAGES }
-    ensures { OnOk result (memory_of memory.new ≡ with_pages (memory_of memory.old) stack_page STACK_PAGES (Some stack_rights)) }
+    ensures { OnOk result (memory_of memory.new
+        ≡ with_pages (memory_of memory.old) stack_page STACK_PAGES (Some stack_rights)) }
 {
     let rights = Rights {
         read: true,
@@ -46,7 +47,8 @@ pub(crate) fn start_memory(
     requires pointer { pointer ≡ stack_pointer (map string_bytes arguments.now) }
     requires limit { length (strings (map string_bytes arguments.now)) ≤ 65536 }
     requires few { page_count image.now.segments + STACK_PAGES ≤ PAGES }
-    ensures { IfOk result (λ memory. memory_of memory ≡ start_memory image.now (map string_bytes arguments.now)) }
+    ensures { IfOk result (λ memory. memory_of memory
+        ≡ start_memory image.now (map string_bytes arguments.now)) }
 {
     let words = word_bytes(alloc, image, arguments, first)?;
     let strings = argument_bytes(alloc, arguments)?;

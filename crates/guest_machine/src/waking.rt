@@ -16,7 +16,8 @@ impl Guest {
         requires sound { IsSound (machine_of (parts_of self.old)) }
         requires spare { THREADS ≤ length self.old.harts.list + self.old.harts.room }
         ensures some { result ≡ is_some (next_due self.old.kernel.state) }
-        ensures woken { machine_of (parts_of self.new) ≡ one_woken (machine_of (parts_of self.old)) }
+        ensures woken { machine_of (parts_of self.new)
+            ≡ one_woken (machine_of (parts_of self.old)) }
         ensures out { out_of (parts_of self.new) ≡ out_of (parts_of self.old) }
         ensures sound { IsSound (machine_of (parts_of self.new)) }
         ensures spare { THREADS ≤ length self.new.harts.list + self.new.harts.room }

@@ -12,10 +12,11 @@ use Rattle.guest_machine.specs.Machine.{MachineState}
 use Rattle.guest_machine.specs.Start as machine
 use Rattle.guest_run.specs.declared.run.Ended.{Ended}
 use Rattle.guest_run.specs.declared.run.Runner.{Runner}
+use Rattle.guest_run.specs.declared.run.Turned.{Turned}
 use Rattle.guest_run.specs.declared.run_error.RunError.{RunError}
 use Rattle.guest_run.specs.declared.run_error.RunError.TheVariants.{CannotPut, Memory}
 use Rattle.guest_run.specs.CurrentTurn.{position, recorded, with_present}
-use Rattle.guest_run.specs.Going.{Advances, GoesOn, IsGoing, IsNewRunner, IsOver, IsPastOf, MayAdvance, observed}
+use Rattle.guest_run.specs.Going.{Advances, GoesOn, IsGoing, IsNewRunner, IsOver, IsPastOf, MayAdvance, Remains, TurnEnds, observed}
 use Rattle.guest_run.specs.Machine.{guest}
 use Rattle.guest_run.specs.Output.{Sinks, with_output}
 use Rattle.guest_run.specs.Profiled.{Profiled, first_past}
@@ -25,14 +26,6 @@ use Rattle.guest_run.proofs.Advances.{over_spent}
 use Rattle.guest_run.proofs.Guarded.{start_sound}
 use Rattle.guest_run.proofs.Output.{output-none}
 use Rattle.guest_run.proofs.ShortParts.{first_short}
-
--- So many moves were made, and the run goes on.
-pub record Remains {W : Type 0} (Stands : W → List Event → Type 0) (fits : List Event → Bool) (first : List Event) (begin : Position MachineState)
-    (before : Sinks) (count : ℕ) (r : Runner) (observer : W) (now : Sinks) : Type 0 where
-  pub moves : List Move
-  pub going : IsGoing Stands fits first begin moves r observer
-  pub output : now ≡ with_output moves before
-  pub count_is : length moves ≡ count
 
 -- nothing was put before the first move
 pub not_begun : (p : Profiled) (before : Sinks) → IsGivenUp p.moves before before
@@ -111,6 +104,19 @@ module _ {W : Type 0} (Stands : W → List Event → Type 0) (fits : List Event 
       subst (λ n. StopsAtPut channel (observed fits first begin n).moves before after) (budget-by budget low) (fails (budget - (count + 1)))
   ends_failed budget low new watched after Memory fails =
       subst (λ n. IsGivenUp (observed fits first begin n).moves before after) (budget-by budget low) (fails (budget - (count + 1)))
+
+-- the same test of an observer
+pub remains_same : {W : Type 0} (Stands : W → List Event → Type 0) (fits same : List Event → Bool) → same ≡ fits → (first : List Event) (begin : Position MachineState)
+    (before : Sinks) (count : ℕ) (r : Runner) (observer : W) (now : Sinks) → Remains Stands fits first begin before count r observer now →
+    Remains Stands same first begin before count r observer now
+remains_same Stands fits same is first begin before count r observer now remains =
+    subst (λ (test : List Event → Bool). Remains Stands test first begin before count r observer now) (sym is) remains
+
+pub turn_same : {W : Type 0} (Stands : W → List Event → Type 0) (fits same : List Event → Bool) → same ≡ fits → (first : List Event) (begin : Position MachineState)
+    (before : Sinks) (budget : ℕ) (r : Runner) (observer : W) (after : Sinks) (result : Result Turned RunError) →
+    TurnEnds Stands same first begin before budget r observer after result → TurnEnds Stands fits first begin before budget r observer after result
+turn_same Stands fits same is first begin before budget r observer after result ends =
+    subst (λ (test : List Event → Bool). TurnEnds Stands test first begin before budget r observer after result) is ends
 
 -- ---- the begin
 no-turn : (tid made : ℕ) (moves : List Move) → made ≡ 0 → with_present tid made (current moves) (recording moves) ≡ recording moves

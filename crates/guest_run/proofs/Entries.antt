@@ -44,7 +44,7 @@ among low (t ∷ threads) last tid rises any = by (t.tid == tid) refl any (among
 abbrev IsNumbered : Move → Type 0
 IsNumbered move = (1 ≤ move.tid) × (move.tid ≤ 4194303)
 
-numbered : (m : MachineState) (tid : ℕ) (past : List Event) → IsSoundAfter m past → can_run m tid ≡ true → (1 ≤ tid) × (tid ≤ 4194303)
+pub numbered : (m : MachineState) (tid : ℕ) (past : List Event) → IsSoundAfter m past → can_run m tid ≡ true → (1 ≤ tid) × (tid ≤ 4194303)
 numbered m tid past sound can =
     let own = among 0 m.kernel.threads m.kernel.last_tid tid sound.0.rising (can_run-lives m tid can) in
     (omega (arith, own.0), omega (arith, own.1, sound.1.last))

@@ -22,7 +22,7 @@ follows-append [] ys past front back = back
 follows-append (e ∷ xs) ys past front back = (front.0, follows-append xs ys (e ∷ past) front.1 (subst (EachFollows ys) (past_after-cons past e xs) back))
 
 -- the events of moves may follow the past
-run_follows : Steps IsSoundAfter (λ past moves. EachFollows (events_of moves) past)
+pub run_follows : Steps IsSoundAfter (λ past moves. EachFollows (events_of moves) past)
 run_follows = record {
   keeps = sound_next;
   wakes = sound_woken;
@@ -41,7 +41,7 @@ pub all_after : (events past : List Event) → AllFollow past → EachFollows ev
 all_after [] past before after = before
 all_after (e ∷ events) past before after = subst AllFollow (sym (past_after-cons past e events)) (all_after events (e ∷ past) (after.0, before) after.1)
 
-all_cut : (past : List Event) (fits : List Event → Bool) → AllFollow past → AllFollow (cut fits past)
+pub all_cut : (past : List Event) (fits : List Event → Bool) → AllFollow past → AllFollow (cut fits past)
 all_cut [] fits all = tt
 all_cut (e ∷ past) fits all = by (fits (e ∷ past)) (all_cut past fits all.1)
   where

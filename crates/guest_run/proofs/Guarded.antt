@@ -37,7 +37,7 @@ use Rattle.guest_run.proofs.Able.{step_able}
 use Rattle.guest_run.proofs.Chosen.{turn-can}
 
 -- the thread that moves next can run, in the machine or once all that are due are woken
-abbrev IsChosenAble : MachineState → Chosen MachineState → Type 0
+abbrev pub IsChosenAble : MachineState → Chosen MachineState → Type 0
 IsChosenAble m (Moves opens to) = ((to.state ≡ m) ⊎ (to.state ≡ woken m)) × (can_run to.state to.turns.last ≡ true)
 IsChosenAble m (Stops finish) = Unit {0}
 
@@ -45,7 +45,7 @@ IsChosenAble m (Stops finish) = Unit {0}
 abbrev pub IsAble : Position MachineState → Type 0
 IsAble at = 0 < at.left → can_run at.state at.turns.last ≡ true
 
-chosen_able : (at : Position MachineState) → IsAble at → IsChosenAble at.state (chosen guest at)
+pub chosen_able : (at : Position MachineState) → IsAble at → IsChosenAble at.state (chosen guest at)
 unfolding chosen
 chosen_able at able = by at.left able
   where

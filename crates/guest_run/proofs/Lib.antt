@@ -15,3 +15,5 @@ pub mod Output
 pub mod Observed
 pub mod Advances
 pub mod Ends
+pub mod Lines
+pub mod Ranges

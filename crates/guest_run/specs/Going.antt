@@ -12,6 +12,8 @@ use Rattle.guest_machine.specs.Kept.{Parts, machine_of}
 use Rattle.guest_machine.specs.Laws.{IsWithinLimits, StandsFor}
 use Rattle.guest_machine.specs.Machine.{MachineState}
 use Rattle.guest_run.specs.declared.run.Runner.{Runner}
+use Rattle.guest_run.specs.declared.run.Turned.{Turned}
+use Rattle.guest_run.specs.declared.run.Turned.TheVariants as turned
 use Rattle.guest_run.specs.declared.run_error.RunError.{RunError}
 use Rattle.guest_run.specs.declared.run_error.RunError.TheVariants.{CannotPut, Memory}
 use Rattle.guest_run.specs.CurrentTurn.{IsUnderWay, position, recorded}
@@ -19,7 +21,7 @@ use Rattle.guest_run.specs.Machine.{guest}
 use Rattle.guest_run.specs.Output.{Sinks, with_output}
 use Rattle.guest_run.specs.Profiled.{Profiled, profiled}
 use Rattle.guest_run.specs.Run.{Move, Position, WrittenRun, events_of, recording, run_from}
-use Rattle.guest_run.specs.RunEnds.{IsGivenUp, StopsAtPut}
+use Rattle.guest_run.specs.RunEnds.{IsGivenUp, RunEnds, StopsAtPut}
 
 -- a run after these moves
 abbrev pub with_moves : List Move → WrittenRun → WrittenRun
@@ -74,6 +76,21 @@ pub record MayAdvance {W : Type 0} (Stands : W → List Event → Type 0) (fits 
 abbrev pub observed : (List Event → Bool) → List Event → Position MachineState → ℕ → Profiled
 observed fits first start n = profiled fits first (run_from guest n start)
 
+-- So many moves were made, and the run goes on.
+pub record Remains {W : Type 0} (Stands : W → List Event → Type 0) (fits : List Event → Bool) (first : List Event) (start : Position MachineState)
+    (before : Sinks) (count : ℕ) (r : Runner) (observer : W) (now : Sinks) : Type 0 where
+  pub moves : List Move
+  pub going : IsGoing Stands fits first start moves r observer
+  pub output : now ≡ with_output moves before
+  pub count_is : length moves ≡ count
+
+-- It is so of some run.
+pub record RemainsSome {W : Type 0} (Stands : W → List Event → Type 0) (fits : List Event → Bool) (count : ℕ) (r : Runner) (observer : W) (now : Sinks) : Type 0 where
+  pub first : List Event
+  pub start : Position MachineState
+  pub before : Sinks
+  pub remains : Remains Stands fits first start before count r observer now
+
 -- One more move was made, and the run goes on.
 pub record GoesOn {W : Type 0} (Stands : W → List Event → Type 0) (fits : List Event → Bool) (first : List Event)
     (start : Position MachineState) (moves : List Move) (before : Sinks) (r : Runner) (observer : W) (after : Sinks) : Type 0 where
@@ -98,3 +115,18 @@ Advances Stands fits first start moves before r observer after (Err (CannotPut c
     (n : ℕ) → StopsAtPut channel (observed fits first start (length moves + suc n)).moves before after
 Advances Stands fits first start moves before r observer after (Err Memory) =
     (n : ℕ) → IsGivenUp (observed fits first start (length moves + suc n)).moves before after
+
+-- How a run goes on with moves of a turn: it remains after so many moves in all, or its budget shows how it ended or why it was
+-- given up.
+abbrev pub TurnEnds : {W : Type 0} → (W → List Event → Type 0) → (List Event → Bool) → List Event → Position MachineState → Sinks → ℕ →
+    Runner → W → Sinks → Result Turned RunError → Type 0
+TurnEnds Stands fits first start before budget r observer after (Ok (turned.GoesOn count)) = Remains Stands fits first start before count r observer after
+TurnEnds Stands fits first start before budget r observer after (Ok (turned.Ends finish)) =
+    IsOver Stands (observed fits first start budget) before r observer after finish
+TurnEnds Stands fits first start before budget r observer after (Err e) =
+    RunEnds Stands (observed fits first start budget) before observer after (Err e)
+
+-- so many moves were made, more than before and no more than the budget, where the run goes on
+abbrev pub IsCounted : ℕ → ℕ → Result Turned RunError → Type 0
+IsCounted made budget (Ok (turned.GoesOn count)) = (made ≤ count) × (count ≤ budget)
+IsCounted made budget other = Unit {0}

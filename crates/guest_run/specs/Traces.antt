@@ -1,19 +1,25 @@
 -- What holds of the trace of every run of the guest from its start.
-use Rattle.std.specs.Prelude.{ℕ, Bool, ◌≤◌, List, All}
+use Rattle.std.specs.Prelude.{ℕ, Bool, ◌+◌, ◌<◌, ◌≤◌, ◌^◌, List, All}
 use Rattle.std.specs.List.{AllByRecursion}
-use Rattle.guest_words.specs.declared.limits.TheConstants.{RUN_STEPS}
+use Rattle.guest_words.specs.declared.endings.Finish.{Finish}
+use Rattle.guest_words.specs.declared.endings.Finish.TheVariants.{Exit, Fault, Schedule}
+use Rattle.guest_words.specs.declared.limits.TheConstants.{LAST_TID, RUN_STEPS}
 use Rattle.trace_model.specs.declared.event_kinds.Event.{Event}
+use Rattle.trace_model.specs.declared.event_kinds.Event.TheVariants.{Step, Read, Write, Fill, Call, Ret, Start, End}
 use Rattle.trace_model.specs.Cut.{past_after}
 use Rattle.trace_model.specs.Parts.{IsShort, parts}
-use Rattle.trace_model.specs.WellFormed.{IsLight, IsWellFormed}
+use Rattle.trace_model.specs.WellFormed.{AreWords, IsLight, IsWellFormed}
 use Rattle.thread_sched.specs.ScheduleText.{IsEntry}
+use Rattle.thread_sched.specs.declared.entry.Entry.{Entry}
 use Rattle.thread_sched.specs.TurnRule.{SchedulerState}
 use Rattle.elf_image.specs.Image.{Executable}
 use Rattle.guest_calls.specs.Inputs.{Input}
+use Rattle.guest_machine.specs.Laws.{IsAddress}
 use Rattle.guest_machine.specs.Start.{start}
+use Rattle.guest_run.specs.Laws.{scheduler}
 use Rattle.guest_run.specs.Machine.{guest}
 use Rattle.guest_run.specs.Run.{WrittenRun, events_of, recording, run}
-use Rattle.guest_run.specs.Profiled.{first_past, profiled}
+use Rattle.guest_run.specs.Profiled.{Profiled, first_past, profiled}
 
 -- the whole trace of a run, cut before each step, has short parts alone, and so has what is observed of it
 pub record AreShort (fits : List Event → Bool) (past : List Event) (whole : WrittenRun) : Type 0 where
@@ -57,3 +63,39 @@ EveryRunRecordsEntries =
     (image : Executable) (arguments : List (List ℕ)) (inputs : List Input) (stdin : List ℕ)
     (fits : List Event → Bool) (turns : SchedulerState) (budget : ℕ) → budget ≤ RUN_STEPS
     → AreEntries fits (first_past image.entry) (run guest turns budget (start image arguments inputs stdin))
+
+-- ---- numbers
+-- a thread's number
+abbrev pub IsThread : ℕ → Type 0
+IsThread tid = (1 ≤ tid) × (tid ≤ LAST_TID)
+
+-- The numbers that an event tells are those of threads, of words of memory and of addresses.
+abbrev pub IsInRange : Event → Type 0
+IsInRange (Step tid) = IsThread tid
+IsInRange (Read tid first count) = IsThread tid × AreWords first count
+IsInRange (Write tid first count) = IsThread tid × AreWords first count
+IsInRange (Fill first count) = AreWords first count
+IsInRange (Call tid entry back) = IsThread tid × IsAddress entry × IsAddress back
+IsInRange (Ret tid target) = IsThread tid × IsAddress target
+IsInRange (Start tid entry) = IsThread tid × IsAddress entry
+IsInRange (End tid) = IsThread tid
+
+-- An exit tells the number of a byte, a fault a thread and an address, and a schedule a line that is counted from 1, among at
+-- most as many as this.
+abbrev pub IsEndInRange : ℕ → Finish → Type 0
+IsEndInRange lines (Exit status) = status < 2 ^ 8
+IsEndInRange lines (Fault kind tid at) = IsThread tid × IsAddress at
+IsEndInRange lines (Schedule line) = (1 ≤ line) × (line ≤ lines)
+IsEndInRange lines finish = Unit {0}
+
+-- So are those of all events that are observed of a run, and of its end.
+pub record TellsInRange (lines : ℕ) (run : Profiled) : Type 0 where
+  pub events : AllByRecursion IsInRange run.past
+  pub finish : IsEndInRange lines run.finish
+
+-- So it is of what is observed of every run of an image whose entry is an address, under a schedule from its first line on.
+abbrev pub EveryRunTellsInRange : Type 0
+EveryRunTellsInRange =
+    (image : Executable) (arguments : List (List ℕ)) (inputs : List Input) (stdin : List ℕ)
+    (fits : List Event → Bool) (quantum : ℕ) (schedule : List Entry) (budget : ℕ) → IsAddress image.entry
+    → TellsInRange (1 + budget) (profiled fits (first_past image.entry) (run guest (scheduler quantum schedule) budget (start image arguments inputs stdin)))

@@ -1,7 +1,7 @@
 //! Laws of a run: each is the contract of a function that does nothing.
 ghost use Rattle.guest_run.specs.Laws.{CountsSteps, EndsDeepExactly, ProfilesPart, RecordsProfiledTurns, RecordsTurns, ReplaysProfiled, ReplaysRun, SpendsBudget, StaysWithin, StepsWithin};
 ghost use Rattle.guest_run.specs.Machine.{guest};
-ghost use Rattle.guest_run.specs.Traces.{EveryRunIsLight, EveryRunIsOfShortParts, EveryRunIsWellFormed, EveryRunRecordsEntries};
+ghost use Rattle.guest_run.specs.Traces.{EveryRunIsLight, EveryRunIsOfShortParts, EveryRunIsWellFormed, EveryRunRecordsEntries, EveryRunTellsInRange};
 
 /// A run of the guest under the schedule that is its own recording is the same in all its moves and its end, and so is what is
 /// observed of it, whatever fits the observer, unless it ended at an entry of its schedule.
@@ -38,4 +38,10 @@ pub fn traces_are_well_formed()
 /// thread's number and a number of moves that its text can say. So is the recording of what is observed of the run.
 pub fn recordings_are_schedules()
     ensures entries { EveryRunRecordsEntries }
+{}
+
+/// The numbers that a run of the guest from its start tells, in its events and by its end, are those of threads, words of memory
+/// and addresses, of a byte, and of lines of its schedule.
+pub fn runs_tell_in_range()
+    ensures { EveryRunTellsInRange }
 {}

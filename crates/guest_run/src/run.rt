@@ -6,7 +6,7 @@ ghost use Rattle.guest_machine.specs.Kept.{machine_of};
 ghost use Rattle.guest_machine.specs.Machine.{MachineState};
 ghost use Rattle.guest_run.specs.declared.run_error.RunError.TheVariants.{Memory};
 ghost use Rattle.guest_run.specs.CurrentTurn.{recorded};
-ghost use Rattle.guest_run.specs.Going.{Advances, IsGoing, IsNewRunner, MayAdvance};
+ghost use Rattle.guest_run.specs.Going.{Advances, IsCounted, IsGoing, IsNewRunner, MayAdvance, Remains, RemainsSome, TurnEnds};
 ghost use Rattle.guest_run.specs.Machine.{guest};
 ghost use Rattle.guest_run.specs.Output.{Sinks, sinks, with_output};
 ghost use Rattle.guest_run.specs.Profiled.{first_past, profiled};
@@ -29,6 +29,13 @@ use trace_model::{Event, Observed, Observer};
 pub struct Ended {
     pub finish: Finish,
     pub recording: Recording,
+}
+
+// A run after moves of a turn: it goes on after so many moves, or is at its end.
+#[derive(Clone, Copy)]
+enum Turned {
+    GoesOn { count: u64 },
+    Ends { finish: Finish },
 }
 
 /// A run that goes on.
@@ -77,7 +84,8 @@ impl Runner {
         err: &mut E,
     ) -> Result<Option<Finish>, RunError>
         requires { MayAdvance W.stands (W.fits observer.old) self.old observer.old }
-        ensures advances { (first : List Event) (start : Position MachineState) (moves : List Move) (before : Sinks)
+        ensures advances { (first : List Event) (start : Position MachineState) (moves : List Move)
+            (before : Sinks)
             → IsGoing W.stands (W.fits observer.old) first start moves self.old observer.old
             → length moves < RUN_STEPS → sinks (O.state out.old) (E.state err.old) ≡ with_output moves before
             → Advances W.stands (W.fits observer.old) first start moves before self.new observer.new (sinks (O.state out.new) (E.state err.new)) result }
@@ -103,10 +111,87 @@ impl Runner {
         }
     }
 
+    // Makes one move, as any other, in a place of its own.
+    #[inline(never)]
+    fn advance_apart<W: Observer, O: Sink, E: Sink>(
+        &mut self,
+        observer: &mut W,
+        out: &mut O,
+        err: &mut E,
+    ) -> Result<Option<Finish>, RunError>
+        requires { MayAdvance W.stands (W.fits observer.old) self.old observer.old }
+        ensures advances { (first : List Event) (start : Position MachineState) (moves : List Move)
+            (before : Sinks)
+            → IsGoing W.stands (W.fits observer.old) first start moves self.old observer.old
+            → length moves < RUN_STEPS → sinks (O.state out.old) (E.state err.old) ≡ with_output moves before
+            → Advances W.stands (W.fits observer.old) first start moves before self.new observer.new (sinks (O.state out.new) (E.state err.new)) result }
+        ensures same { W.fits observer.new ≡ W.fits observer.old }
+        ensures made { IfOk result (λ end. self.new.recorder.made ≤ self.old.recorder.made + 1) }
+    {
+        self.advance(observer, out, err)
+    }
+
+    // Makes moves of the present turn, from so many on, while it has some left and the budget lasts.
+    fn run_turn<W: Observer, O: Sink, E: Sink>(
+        &mut self,
+        made: u64,
+        budget: u64,
+        observer: &mut W,
+        out: &mut O,
+        err: &mut E,
+    ) -> Result<Turned, RunError>
+        requires remains { RemainsSome W.stands (W.fits observer.old) made self.old observer.old
+            (sinks (O.state out.old) (E.state err.old)) }
+        requires budget { made ≤ budget }
+        requires limit { budget ≤ RUN_STEPS }
+        ensures ends { (first : List Event) (start : Position MachineState) (before : Sinks)
+            → Remains W.stands (W.fits observer.old) first start before made self.old observer.old (sinks (O.state out.old) (E.state err.old))
+            → TurnEnds W.stands (W.fits observer.old) first start before budget self.new observer.new (sinks (O.state out.new) (E.state err.new)) result }
+        ensures count { IsCounted made budget result }
+        ensures same { W.fits observer.new ≡ W.fits observer.old }
+        ensures made { IfOk result (λ end. self.new.recorder.made ≤ RUN_STEPS) }
+    {
+        let mut count = made;
+        'moves: while self.turn.left > 0 && count < budget {
+            if let Some(finish) = self.advance(observer, out, err)? {
+                return Ok(Turned::Ends { finish });
+            }
+            count += 1;
+        }
+        Ok(Turned::GoesOn { count })
+    }
+
+    /// Makes moves, from so many on: the next one, and those that follow it in its turn while the budget lasts.
+    fn take_turn<W: Observer, O: Sink, E: Sink>(
+        &mut self,
+        made: u64,
+        budget: u64,
+        observer: &mut W,
+        out: &mut O,
+        err: &mut E,
+    ) -> Result<Turned, RunError>
+        requires remains { RemainsSome W.stands (W.fits observer.old) made self.old observer.old
+            (sinks (O.state out.old) (E.state err.old)) }
+        requires budget { made < budget }
+        requires limit { budget ≤ RUN_STEPS }
+        ensures ends { (first : List Event) (start : Position MachineState) (before : Sinks)
+            → Remains W.stands (W.fits observer.old) first start before made self.old observer.old (sinks (O.state out.old) (E.state err.old))
+            → TurnEnds W.stands (W.fits observer.old) first start before budget self.new observer.new (sinks (O.state out.new) (E.state err.new)) result }
+        ensures count { IsCounted (made + 1) budget result }
+        ensures same { W.fits observer.new ≡ W.fits observer.old }
+        ensures made { IfOk result (λ end. self.new.recorder.made ≤ RUN_STEPS) }
+    {
+        if let Some(finish) = self.advance_apart(observer, out, err)? {
+            return Ok(Turned::Ends { finish });
+        }
+        self.run_turn(made + 1, budget, observer, out, err)
+    }
+
     /// What is known of the run, which ends so.
     fn finish(self, finish: Finish) -> Result<Ended, RunError>
         requires { self.recorder.made ≤ RUN_STEPS }
-        ensures ended { IfOk result (λ ended. (ended.recording ≡ recorded self.recorder []) × (ended.finish ≡ finish)) }
+        ensures ended { IfOk result (λ ended. (ended.recording ≡ recorded self.recorder [])
+            × (ended.finish ≡ finish)) }
         ensures refused { IfErr result (λ e. e ≡ Memory) }
     {
         Ok(Ended {
@@ -132,15 +217,18 @@ pub fn run_guest<W: Observer, O: Sink, E: Sink>(
     requires budget { budget ≤ RUN_STEPS }
     requires empty { W.stands observer.old [] }
     requires first { W.fits observer.old (first_past machine.entry) ≡ true }
-    ensures ends { RunEnds W.stands (profiled (W.fits observer.old) (first_past machine.entry) (run guest turns budget (machine_of machine)))
+    ensures ends { RunEnds W.stands (profiled (W.fits observer.old) (first_past machine.entry)
+        (run guest turns budget (machine_of machine)))
         (sinks (O.state out.old) (E.state err.old)) observer.new (sinks (O.state out.new) (E.state err.new)) result }
     ensures same { W.fits observer.new ≡ W.fits observer.old }
 {
     observe_start(observer, machine.entry())?;
     let mut runner = Runner::new(alloc, machine, turns)?;
-    for count in 0..budget {
-        if let Some(finish) = runner.advance(observer, out, err)? {
-            return runner.finish(finish);
+    let mut count = 0;
+    'run: while count < budget {
+        match runner.take_turn(count, budget, observer, out, err)? {
+            Turned::GoesOn { count: made } => count = made,
+            Turned::Ends { finish } => return runner.finish(finish),
         }
     }
     runner.finish(Finish::Budget)

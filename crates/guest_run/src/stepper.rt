@@ -51,7 +51,8 @@ fn put_outgoing<O: Sink, E: Sink>(
     out: &mut O,
     err: &mut E,
 ) -> Result<(), RunError>
-    ensures { PutsSent (out_of machine.now) (sinks (O.state out.old) (E.state err.old)) (sinks (O.state out.new) (E.state err.new)) result }
+    ensures { PutsSent (out_of machine.now) (sinks (O.state out.old) (E.state err.old))
+        (sinks (O.state out.new) (E.state err.new)) result }
 {
     match machine.outgoing() {
         Some((1, bytes)) => put(bytes, Channel::Out, out),
@@ -81,8 +82,46 @@ impl Stepper {
         err: &mut E,
     ) -> Result<TurnStatus, RunError>
         requires can_run { can_run (machine_of self.old.machine) tid ≡ true }
-        requires next { MayTakeAll W.stands (W.fits observer.old) observer.old (guest.step (machine_of self.old.machine) tid).events }
-        ensures ends { StepEnds W.stands (W.fits observer.old) (guest.step (machine_of self.old.machine) tid)
+        requires next { MayTakeAll W.stands (W.fits observer.old) observer.old
+            (guest.step (machine_of self.old.machine) tid).events }
+        ensures ends { StepEnds W.stands (W.fits observer.old)
+            (guest.step (machine_of self.old.machine) tid)
+            observer.old (sinks (O.state out.old) (E.state err.old)) self.new observer.new (sinks (O.state out.new) (E.state err.new)) result }
+        ensures same { W.fits observer.new ≡ W.fits observer.old }
+    {
+        match self.machine.advance_known(tid) {
+            Some(Advanced::Ran) => {
+                let observed = observe_step(tid, observer)?;
+                Ok(status_of(observed, TurnStatus::GoesOn))
+            }
+            Some(Advanced::Accessed { access }) => {
+                let observed = observe_access(tid, access, observer)?;
+                Ok(status_of(observed, TurnStatus::GoesOn))
+            }
+            Some(Advanced::Jumped { jump, target, back }) => {
+                let observed = observe_jump(tid, jump, target, back, observer)?;
+                Ok(status_of(observed, TurnStatus::GoesOn))
+            }
+            Some(Advanced::Other { .. }) => unreachable!(),
+            None => self.step_apart(tid, observer, out, err),
+        }
+    }
+
+    // Runs one step, whatever it is.
+    #[cold]
+    #[inline(never)]
+    fn step_apart<W: Observer, O: Sink, E: Sink>(
+        &mut self,
+        tid: Tid,
+        observer: &mut W,
+        out: &mut O,
+        err: &mut E,
+    ) -> Result<TurnStatus, RunError>
+        requires can_run { can_run (machine_of self.old.machine) tid ≡ true }
+        requires next { MayTakeAll W.stands (W.fits observer.old) observer.old
+            (guest.step (machine_of self.old.machine) tid).events }
+        ensures ends { StepEnds W.stands (W.fits observer.old)
+            (guest.step (machine_of self.old.machine) tid)
             observer.old (sinks (O.state out.old) (E.state err.old)) self.new observer.new (sinks (O.state out.new) (E.state err.new)) result }
         ensures same { W.fits observer.new ≡ W.fits observer.old }
     {
@@ -116,7 +155,8 @@ impl Stepper {
         err: &mut E,
     ) -> Result<TurnStatus, RunError>
         requires { MayTakeAll W.stands (W.fits observer.old) observer.old self.old.events.list }
-        ensures ends { (r : StepResult) → Steps r stepped self.old.machine [] self.old.events.list → StepEnds W.stands (W.fits observer.old) (progress_of tid r)
+        ensures ends { (r : StepResult) → Steps r stepped self.old.machine [] self.old.events.list
+            → StepEnds W.stands (W.fits observer.old) (progress_of tid r)
             observer.old (sinks (O.state out.old) (E.state err.old)) self.new observer.new (sinks (O.state out.new) (E.state err.new)) result }
         ensures same { W.fits observer.new ≡ W.fits observer.old }
     {
@@ -147,7 +187,8 @@ fn observe_two<W: Observer>(
     observer: &mut W,
 ) -> Result<Observed, AllocError>
     requires { MayTakeAll W.stands (W.fits observer.old) observer.old (first ∷ second ∷ []) }
-    ensures observed { IfOk result (ObservesAll W.stands (W.fits observer.old) (first ∷ second ∷ []) observer.old observer.new) }
+    ensures observed { IfOk result (ObservesAll W.stands (W.fits observer.old)
+        (first ∷ second ∷ []) observer.old observer.new) }
     ensures same { W.fits observer.new ≡ W.fits observer.old }
 {
     match observer.observe(first)? {
@@ -164,8 +205,10 @@ fn observe_three<W: Observer>(
     third: Event,
     observer: &mut W,
 ) -> Result<Observed, AllocError>
-    requires { MayTakeAll W.stands (W.fits observer.old) observer.old (first ∷ second ∷ third ∷ []) }
-    ensures observed { IfOk result (ObservesAll W.stands (W.fits observer.old) (first ∷ second ∷ third ∷ []) observer.old observer.new) }
+    requires { MayTakeAll W.stands (W.fits observer.old) observer.old
+        (first ∷ second ∷ third ∷ []) }
+    ensures observed { IfOk result (ObservesAll W.stands (W.fits observer.old)
+        (first ∷ second ∷ third ∷ []) observer.old observer.new) }
     ensures same { W.fits observer.new ≡ W.fits observer.old }
 {
     match observer.observe(first)? {
@@ -178,7 +221,8 @@ fn observe_three<W: Observer>(
 #[inline(always)]
 fn observe_step<W: Observer>(tid: Tid, observer: &mut W) -> Result<Observed, AllocError>
     requires { MayTakeAll W.stands (W.fits observer.old) observer.old (Step tid ∷ []) }
-    ensures observed { IfOk result (ObservesAll W.stands (W.fits observer.old) (Step tid ∷ []) observer.old observer.new) }
+    ensures observed { IfOk result (ObservesAll W.stands (W.fits observer.old)
+        (Step tid ∷ []) observer.old observer.new) }
     ensures same { W.fits observer.new ≡ W.fits observer.old }
 {
     observer.observe(Event::Step { tid })
@@ -191,8 +235,10 @@ fn observe_access<W: Observer>(
     access: Access,
     observer: &mut W,
 ) -> Result<Observed, AllocError>
-    requires { MayTakeAll W.stands (W.fits observer.old) observer.old (Step tid ∷ access_events tid access) }
-    ensures observed { IfOk result (ObservesAll W.stands (W.fits observer.old) (Step tid ∷ access_events tid access) observer.old observer.new) }
+    requires { MayTakeAll W.stands (W.fits observer.old) observer.old
+        (Step tid ∷ access_events tid access) }
+    ensures observed { IfOk result (ObservesAll W.stands (W.fits observer.old)
+        (Step tid ∷ access_events tid access) observer.old observer.new) }
     ensures same { W.fits observer.new ≡ W.fits observer.old }
 {
     let step = Event::Step { tid };
@@ -222,8 +268,10 @@ fn observe_jump<W: Observer>(
     back: Addr,
     observer: &mut W,
 ) -> Result<Observed, AllocError>
-    requires { MayTakeAll W.stands (W.fits observer.old) observer.old (Step tid ∷ jump_events jump tid target back) }
-    ensures observed { IfOk result (ObservesAll W.stands (W.fits observer.old) (Step tid ∷ jump_events jump tid target back) observer.old observer.new) }
+    requires { MayTakeAll W.stands (W.fits observer.old) observer.old
+        (Step tid ∷ jump_events jump tid target back) }
+    ensures observed { IfOk result (ObservesAll W.stands (W.fits observer.old)
+        (Step tid ∷ jump_events jump tid target back) observer.old observer.new) }
     ensures same { W.fits observer.new ≡ W.fits observer.old }
 {
     let step = Event::Step { tid };

@@ -46,8 +46,10 @@ impl CurrentTurn {
     #[inline(never)]
     fn begin_turn(&mut self, machine: &mut Machine) -> Choice
         requires { self.old.left ≡ 0 }
-        ensures chosen { chosen guest (position (machine_of machine.old) self.old) ≡ chosen_of (machine_of machine.new) self.new result }
-        ensures way { (opens : _) → result ≡ Choice.Moves opens → (opens ≡ true) × IsUnderWay (machine_of machine.new) self.new }
+        ensures chosen { chosen guest (position (machine_of machine.old) self.old)
+            ≡ chosen_of (machine_of machine.new) self.new result }
+        ensures way { (opens : _) → result ≡ Choice.Moves opens
+            → (opens ≡ true) × IsUnderWay (machine_of machine.new) self.new }
         ensures kept { KeepsThreads (machine_of machine.old) (machine_of machine.new) }
     {
         machine.wake_due();
@@ -73,8 +75,10 @@ impl CurrentTurn {
     #[inline(always)]
     pub(crate) fn choose(&mut self, machine: &mut Machine) -> Choice
         requires { 0 < self.old.left → IsUnderWay (machine_of machine.old) self.old }
-        ensures chosen { chosen guest (position (machine_of machine.old) self.old) ≡ chosen_of (machine_of machine.new) self.new result }
-        ensures way { (opens : _) → result ≡ Choice.Moves opens → IsUnderWay (machine_of machine.new) self.new }
+        ensures chosen { chosen guest (position (machine_of machine.old) self.old)
+            ≡ chosen_of (machine_of machine.new) self.new result }
+        ensures way { (opens : _) → result ≡ Choice.Moves opens
+            → IsUnderWay (machine_of machine.new) self.new }
         ensures kept { KeepsThreads (machine_of machine.old) (machine_of machine.new) }
         ensures going { result ≡ Choice.Moves false → 0 < self.old.left }
     {
@@ -110,8 +114,10 @@ impl Recorder {
     pub(crate) fn add(&mut self, opens: bool, tid: Tid) -> Result<(), AllocError>
         requires going { opens ≡ false → 0 < self.old.made }
         requires room { self.old.made < RUN_STEPS }
-        ensures recorded { IfOk result (λ u. (move : Move) (rest : List Move) → move.opens ≡ opens → move.tid ≡ tid → recorded self.old (move ∷ rest) ≡ recorded self.new rest) }
-        ensures made { IfOk result (λ u. (0 < self.new.made) × (self.new.made ≤ self.old.made + 1)) }
+        ensures recorded { IfOk result (λ u. (move : Move) (rest : List Move) → move.opens ≡ opens
+            → move.tid ≡ tid → recorded self.old (move ∷ rest) ≡ recorded self.new rest) }
+        ensures made { IfOk result (λ u. (0 < self.new.made)
+            × (self.new.made ≤ self.old.made + 1)) }
     {
         if !opens {
             self.made += 1;

@@ -1,7 +1,6 @@
-use Rattle.std.proofs.Common.{rules, ◌≡◌, ◌∙◌, ◌%◌, ◌++◌, [], false, ap, sym, subst, refl, Ok, Err}
+use Rattle.std.proofs.Common.{rules, ◌≡◌, ◌∙◌, ◌%◌, ◌++◌, [], ap, sym, subst, refl, Ok, Err}
 use Rattle.rv_isa.specs.declared.instruction.Instr.TheVariants.{Ecall}
-use Rattle.guest_machine.proofs.Executed.{Steps-faulted}
-use Rattle.guest_machine.proofs.Told.{Steps-told}
+use Rattle.guest_machine.proofs.Told.{Steps-fault, Steps-told, quiet-fault}
 use Rattle.rv_exec.specs.Registers.{Registers}
 use Rattle.guest_machine.specs.Kept.{Steps, machine_of}
 use Rattle.guest_machine.specs.Parts.{parts_of}
@@ -38,10 +37,14 @@ instruction_at-requires c =
 pub returns-in-Err-clause-step : goal.returns-in-Err-clause-step
 unfolding machine_of step
 returns-in-Err-clause-step c =
-    let m = machine_of (parts_of c.args.self.now) in
+    let p = parts_of c.args.self.now in
+    let m = machine_of p in
     let here : c.behind-self.inside.pc ≡ pc_of m c.args.tid = ap (λ (r : Registers). r.pc) (c.behind-self.view_is ∙ c.cpu_of.ensures) in
     let next : next_instruction m c.args.tid ≡ Err c.in-Err.kind = ap (instruction_at m.memory) (sym here) ∙ sym c.instruction_at.ensures ∙ c.in-Err.is in
-    Steps-told _ _ _ _ _ (Steps-faulted (parts_of c.args.self.now) (parts_of (record { harts = c.args.self.now.harts; kernel = c.args.self.now.kernel; memory = c.args.self.now.memory; held = c.args.self.now.held; entry = c.args.self.now.entry; called = false })) c.args.tid c.in-Err.kind _ _ _ (ap (executed m c.args.tid) next) here refl refl)
+    Steps-fault p p (parts_of c.fault.new.self) c.args.tid c.in-Err.kind _ c.fault.result _ _ c.fault.ensures.result refl c.fault.ensures.parts (ap (executed m c.args.tid) next) here
+
+pub returns-in-Err-clause-quiet : goal.returns-in-Err-clause-quiet
+returns-in-Err-clause-quiet c = quiet-fault _ _ _ _ _ c.fault.ensures.result
 
 pub returns-in_ok-stepped-in-Ok-Ecall-clause-step : goal.returns-in_ok-stepped-in-Ok-Ecall-clause-step
 unfolding machine_of step
@@ -52,15 +55,12 @@ returns-in_ok-stepped-in-Ok-Ecall-clause-step c =
     subst (λ (r : StepResult). Steps r c.in_ok-stepped-in-Ok-Ecall.stepped (parts_of c.call_kernel.new.self) c.args.events.now.list (c.call_kernel.new.events.list ++ [])) (sym (ap (executed m c.args.tid) next))
     (Steps-told _ _ _ _ _ c.in_ok-stepped-in-Ok-Ecall.ensures.step)
 
-pub returns-in-Ok-clause-step : goal.returns-in-Ok-clause-step
+pub returns-in-Ok-carry_out-clause-step : goal.returns-in-Ok-carry_out-clause-step
 unfolding machine_of step
-returns-in-Ok-clause-step c =
+returns-in-Ok-carry_out-clause-step c =
     let m = machine_of (parts_of c.args.self.now) in
     let here : c.behind-self.inside.pc ≡ pc_of m c.args.tid = ap (λ (r : Registers). r.pc) (c.behind-self.view_is ∙ c.cpu_of.ensures) in
     let next : next_instruction m c.args.tid ≡ Ok c.in-Ok.instruction = ap (instruction_at m.memory) (sym here) ∙ sym c.instruction_at.ensures ∙ c.in-Ok.is in
     let events = c.args.events.now.list in
-    subst (λ (r : StepResult). Steps r (stepped_of c.carry_out.result) (parts_of c.carry_out.new.self) events (events ++ told c.args.tid c.carry_out.result)) (sym (ap (executed m c.args.tid) next))
-    (c.carry_out.ensures.step events)
-
-pub returns-in-Ok-clause-quiet : goal.returns-in-Ok-clause-quiet
-returns-in-Ok-clause-quiet c = c.carry_out.ensures.quiet c.args.events.now
+    subst (λ (r : StepResult). Steps r (stepped_of c.in-Ok-carry_out.advanced) (parts_of c.carry_out.new.self) events (events ++ told c.args.tid c.in-Ok-carry_out.advanced)) (sym (ap (executed m c.args.tid) next))
+    (c.in-Ok-carry_out.ensures.step events)

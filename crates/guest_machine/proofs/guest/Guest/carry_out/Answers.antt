@@ -11,8 +11,8 @@ use Rattle.guest_calls.specs.Kernel.{KernelState, Kept}
 use Rattle.guest_machine.specs.Machine.{later, registers_of}
 use Rattle.guest_machine.specs.Parts.{parts_of}
 use Rattle.guest_machine.specs.Sound.{IsSound}
-use Rattle.guest_machine.proofs.Executed.{Steps-faulted, Steps-went, executed-fault, executed-no_call, fault-state, sound-state, unchanged}
-use Rattle.guest_machine.proofs.Told.{Steps-told, is_alone, told-went}
+use Rattle.guest_machine.proofs.Executed.{Steps-went, executed-fault, executed-no_call, fault-state, sound-state, unchanged}
+use Rattle.guest_machine.proofs.Told.{is_alone, told-went}
 use Rattle.guest_machine.proofs.Holders.{HoldAtMost-others}
 use Rattle.guest_machine.proofs.guest.Guest.carry_out.Goals as goal
 
@@ -54,12 +54,18 @@ returns-in-Went-clause-sound c =
     let machine = ap₂ (λ harts (kernel : KernelState). record m { harts = harts; kernel = kernel; memory = after.memory; held = after.held }) c.execute_for-outcome.ensures.harts (ap (λ (k : Kept). k.state) c.advance.ensures) in
     subst IsSound (sym machine) sound
 
-pub returns-in-Fault-clause-step : goal.returns-in-Fault-clause-step
+pub returns-in-Fault-clause-fault : goal.returns-in-Fault-clause-fault
 unfolding machine_of
-returns-in-Fault-clause-step c = λ before.
+returns-in-Fault-clause-fault c =
+    let after : ExecState = record { registers = registers_of c.execute_for-outcome.new.harts.list c.args.tid; memory = memory_of c.execute_for-outcome.new.memory; held = reserved_by c.execute_for-outcome.new.held } in
+    executed-fault (machine_of (parts_of c.args.self.now)) c.args.tid c.args.instruction.now c.in-Fault.kind after (ap (λ o. (o, after)) (sym c.in-Fault.is) ∙ c.execute_for-outcome.ensures.effect)
+
+pub returns-in-Fault-clause-kept : goal.returns-in-Fault-clause-kept
+unfolding machine_of
+returns-in-Fault-clause-kept c =
     let after : ExecState = record { registers = registers_of c.execute_for-outcome.new.harts.list c.args.tid; memory = memory_of c.execute_for-outcome.new.memory; held = reserved_by c.execute_for-outcome.new.held } in
     let m = machine_of (parts_of c.args.self.now) in
-    Steps-told _ _ _ before before (Steps-faulted (parts_of c.args.self.now) _ c.args.tid c.in-Fault.kind _ _ before (executed-fault m c.args.tid c.args.instruction.now c.in-Fault.kind after (ap (λ o. (o, after)) (sym c.in-Fault.is) ∙ c.execute_for-outcome.ensures.effect)) c.requires.pc (unchanged m c.args.tid after c.execute_for-outcome.new.harts.list c.requires.lives c.execute_for-outcome.ensures.harts (fault-state m c.args.tid c.args.instruction.now c.in-Fault.kind after (ap (λ o. (o, after)) (sym c.in-Fault.is) ∙ c.execute_for-outcome.ensures.effect))) refl)
+    unchanged m c.args.tid after c.execute_for-outcome.new.harts.list c.requires.lives c.execute_for-outcome.ensures.harts (fault-state m c.args.tid c.args.instruction.now c.in-Fault.kind after (ap (λ o. (o, after)) (sym c.in-Fault.is) ∙ c.execute_for-outcome.ensures.effect))
 
 pub returns-in-Fault-clause-sound : goal.returns-in-Fault-clause-sound
 unfolding machine_of
