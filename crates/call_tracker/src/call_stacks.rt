@@ -57,7 +57,8 @@ impl CallStacks {
     /// The innermost open call of the thread.
     pub fn top(&self, tid: Tid) -> Option<OpenCall>
         ensures value { result ≡ slice_get (calls_of self.now tid) 0 }
-        ensures stands { (past : List Event) → StandsFor self.now past → result ≡ option_map call_of (slice_get (open_calls past tid) 0) }
+        ensures stands { (past : List Event) → StandsFor self.now past
+            → result ≡ option_map call_of (slice_get (open_calls past tid) 0) }
     {
         self.threads.get(tid)?.top()
     }
@@ -65,8 +66,10 @@ impl CallStacks {
     /// Takes one more event, and says how many calls it ended. Only an event that begins a call takes memory.
     pub fn apply(&mut self, e: Event) -> Result<usize, AllocError>
         requires { MayTake StandsFor self.old e }
-        ensures stands { (past : List Event) → StandsFor self.old past → OnOk result (StandsFor self.new (e ∷ past)) }
-        ensures ended { (past : List Event) → StandsFor self.old past → IfOk result (λ n. n ≡ count_ended e past (thread_of e)) }
+        ensures stands { (past : List Event) → StandsFor self.old past
+            → OnOk result (StandsFor self.new (e ∷ past)) }
+        ensures ended { (past : List Event) → StandsFor self.old past
+            → IfOk result (λ n. n ≡ count_ended e past (thread_of e)) }
         ensures refused { OnErr result (self.new ≡ self.old) }
         ensures no_memory { count_begun e ≡ 0 → IsOk result }
     {
@@ -89,7 +92,8 @@ impl CallStacks {
     fn start(&mut self, tid: Tid, entry: Addr) -> Result<(), AllocError>
         requires above { All (λ n. n < tid) (numbers self.old.threads) }
         requires few { self.old.pending + 1 < 2 ^ 64 }
-        ensures threads { OnOk result (self.new.threads ≡ self.old.threads ++ (tid, record { entry = entry; back = None } ∷ []) ∷ []) }
+        ensures threads { OnOk result (self.new.threads
+            ≡ self.old.threads ++ (tid, record { entry = entry; back = None } ∷ []) ∷ []) }
         ensures pending { OnOk result (self.new.pending ≡ self.old.pending + 1) }
         ensures refused { OnErr result (self.new ≡ self.old) }
     {
@@ -104,7 +108,9 @@ impl CallStacks {
     fn call(&mut self, tid: Tid, entry: Addr, back: Addr) -> Result<(), AllocError>
         requires lives { is_some (value_of self.old.threads tid) ≡ true }
         requires few { self.old.pending + 1 < 2 ^ 64 }
-        ensures threads { OnOk result (self.new.threads ≡ with_value self.old.threads tid (record { entry = entry; back = Some back } ∷ calls_of self.old tid)) }
+        ensures threads { OnOk result (self.new.threads
+            ≡ with_value self.old.threads tid
+            (record { entry = entry; back = Some back } ∷ calls_of self.old tid)) }
         ensures pending { OnOk result (self.new.pending ≡ self.old.pending + 1) }
         ensures refused { OnErr result (self.new ≡ self.old) }
     {
@@ -119,7 +125,8 @@ impl CallStacks {
         requires lives { is_some (value_of self.old.threads tid) ≡ true }
         requires few { length (calls_of self.old tid) ≤ self.old.pending }
         ensures count { result ≡ count_returned target (backs (calls_of self.old tid)) }
-        ensures threads { self.new.threads ≡ with_value self.old.threads tid (drop result (calls_of self.old tid)) }
+        ensures threads { self.new.threads ≡ with_value self.old.threads tid
+            (drop result (calls_of self.old tid)) }
         ensures pending { self.new.pending ≡ self.old.pending - result }
     {
         let calls = self.threads.get_mut(tid).unwrap();

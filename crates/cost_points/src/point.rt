@@ -56,6 +56,20 @@ impl Split {
     }
 }
 
+impl Split {
+    // The parts with those of one more activation.
+    #[inline(always)]
+    fn add_one(&mut self, ended: &Done)
+        requires { HasSplitRoom self.old }
+        ensures { self.new ≡ split_sum self.old (split_of (ended.now ∷ [])) }
+    {
+        self.plain += u128::from(ended.plain);
+        self.thread += u128::from(ended.thread);
+        self.kernel += u128::from(ended.kernel);
+        self.bare += u128::from(ended.bare);
+    }
+}
+
 impl Point {
     /// The point of one activation.
     pub fn of_one(ended: Done) -> Point
@@ -97,6 +111,21 @@ impl Point {
             most: self.most.max(other.most),
             sum: self.sum + other.sum,
             split: self.split_with(other),
+        }
+    }
+
+    /// Takes in one more activation of its size, in its place.
+    #[inline(always)]
+    pub(crate) fn add_one(&mut self, ended: &Done)
+        requires { HasRoom self.old }
+        ensures { self.new ≡ merged self.old (point_of ended.now.size (ended.now ∷ [])) }
+    {
+        self.calls += 1;
+        self.least = self.least.min(ended.cost);
+        self.most = self.most.max(ended.cost);
+        self.sum += u128::from(ended.cost);
+        if let Some(split) = &mut self.split {
+            split.add_one(ended);
         }
     }
 }

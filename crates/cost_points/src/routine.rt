@@ -4,18 +4,22 @@ ghost use Rattle.std.specs.List.{All};
 ghost use Rattle.std.specs.Vec.{vec_capacity};
 ghost use Rattle.cost_points.specs.Keys.{IsRising, put};
 ghost use Rattle.cost_points.specs.Merging.{merged, point_added};
-ghost use Rattle.cost_points.specs.Search.{FindsKey, HasRoom};
+ghost use Rattle.cost_points.specs.Search.{FindsKey, HasRoom, IsInsertionPoint};
+ghost use Rattle.cost_points.specs.Points.{point_of};
 
 use crate::Point;
 use guest_words::Addr;
 use std::alloc::{AllocError, Global};
 use std::marker::Model;
+use trace_model::Done;
 
 /// A routine's entry and its points, sizes rising.
 #[derive(Drop)]
 pub struct RoutinePoints {
     pub entry: Addr,
     pub points: Vec<Point>,
+    // The place of the point that was found last.
+    last: usize,
 }
 
 impl Model for RoutinePoints {
@@ -34,6 +38,19 @@ fn search(points: &[Point], size: u64) -> Result<usize, usize>
     points.binary_search_by_key(&size, |point| point.size)
 }
 
+/// The same, with a look at the place where a point was found last.
+#[inline(always)]
+fn find(points: &[Point], last: usize, size: u64) -> Result<usize, usize>
+    requires { IsRising (map (λ p. p.size) points.now) }
+    ensures { FindsKey (map (λ p. p.size) points.now) size result }
+{
+    if last < points.len() && points[last].size == size {
+        Ok(last)
+    } else {
+        search(points, size)
+    }
+}
+
 /// One more point among points whose sizes rise: the one of its size takes it in, and where there is none it is a new one.
 /// There is room for one more, so it takes no memory.
 pub fn insert_point(points: &mut Vec<Point>, point: Point)
@@ -41,7 +58,8 @@ pub fn insert_point(points: &mut Vec<Point>, point: Point)
     requires rising { IsRising (map (λ p. p.size) points.old.items) }
     requires room { All HasRoom points.old.items }
     requires fits { HasRoom point }
-    ensures { points.new.items ≡ put (λ q. q.size) point.size (λ q. merged q point) point points.old.items }
+    ensures { points.new.items ≡ put (λ q. q.size) point.size
+        (λ q. merged q point) point points.old.items }
 {
     match search(points, point.size) {
         Ok(at) => points[at] = points[at].merged(point),
@@ -58,7 +76,11 @@ impl RoutinePoints {
     {
         let mut points = Vec::new(alloc);
         points.push(point)?;
-        Ok(RoutinePoints { entry, points })
+        Ok(RoutinePoints {
+            entry,
+            points,
+            last: 0,
+        })
     }
 
     /// One more point of the routine.
@@ -71,6 +93,40 @@ impl RoutinePoints {
     {
         self.points.reserve(1)?;
         insert_point(&mut self.points, point);
+        Ok(())
+    }
+
+    /// One more activation of the routine.
+    #[inline(always)]
+    pub fn add_one(&mut self, ended: &Done) -> Result<(), AllocError>
+        requires rising { IsRising (map (λ p. p.size) self.old.points) }
+        requires room { All HasRoom self.old.points }
+        ensures ok { OnOk result (self.new ≡ point_added
+            (point_of ended.now.size (ended.now ∷ [])) self.old) }
+        ensures err { OnErr result (self.new ≡ self.old) }
+    {
+        match find(&self.points, self.last, ended.size) {
+            Ok(at) => {
+                self.last = at;
+                let point = &mut self.points[at];
+                point.add_one(ended);
+                Ok(())
+            }
+            Err(at) => self.insert(at, ended),
+        }
+    }
+
+    // The first activation of its size: a new point at its place.
+    #[cold]
+    #[inline(never)]
+    fn insert(&mut self, at: usize, ended: &Done) -> Result<(), AllocError>
+        requires { IsInsertionPoint (map (λ p. p.size) self.old.points) ended.now.size at }
+        ensures ok { OnOk result (self.new ≡ point_added
+            (point_of ended.now.size (ended.now ∷ [])) self.old) }
+        ensures err { OnErr result (self.new ≡ self.old) }
+    {
+        self.points.insert(at, Point::of_one(*ended))?;
+        self.last = at;
         Ok(())
     }
 }

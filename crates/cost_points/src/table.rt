@@ -5,7 +5,8 @@ ghost use Rattle.trace_model.specs.declared.slow_profile.Done.{Done};
 ghost use Rattle.trace_model.specs.Profile.{HasParts};
 ghost use Rattle.cost_points.specs.Keys.{IsRising};
 ghost use Rattle.cost_points.specs.Merging.{ArePointOf, with_point};
-ghost use Rattle.cost_points.specs.Search.{FindsKey, HasRoom};
+ghost use Rattle.cost_points.specs.Search.{FindsKey, HasRoom, IsInsertionPoint};
+ghost use Rattle.cost_points.specs.Points.{point_of};
 ghost use Rattle.cost_points.specs.Contents.{contents_of};
 ghost use Rattle.cost_points.specs.Valid.{IsPoint, IsProfile};
 
@@ -23,6 +24,8 @@ pub struct Table {
     alloc: Global,
     members: u64,
     routines: Vec<RoutinePoints>,
+    // The place of the routine that was found last.
+    last: usize,
 }
 
 impl Model for Table {
@@ -41,6 +44,66 @@ fn search(routines: &[RoutinePoints], entry: Addr) -> Result<usize, usize>
     ensures { FindsKey (map (λ r. r.entry) routines.now) entry result }
 {
     routines.binary_search_by_key(&entry, |routine| routine.entry)
+}
+
+/// The same, with a look at the place where a routine was found last.
+#[inline(always)]
+fn find(routines: &[RoutinePoints], last: usize, entry: Addr) -> Result<usize, usize>
+    requires { IsRising (map (λ r. r.entry) routines.now) }
+    ensures { FindsKey (map (λ r. r.entry) routines.now) entry result }
+{
+    if last < routines.len() {
+        let routine = &routines[last];
+        if routine.entry == entry {
+            return Ok(last);
+        }
+    }
+    search(routines, entry)
+}
+
+/// One more activation among the routines, the last of which was found at a place.
+#[inline(always)]
+fn add_one(
+    alloc: Global,
+    routines: &mut Vec<RoutinePoints>,
+    last: &mut usize,
+    ended: &Done,
+) -> Result<(), AllocError>
+    requires profile { IsProfile routines.old.items }
+    requires room { All (λ r. All HasRoom r.points) routines.old.items }
+    ensures ok { OnOk result (routines.new.items
+        ≡ with_point ended.now.entry
+        (point_of ended.now.size (ended.now ∷ [])) routines.old.items) }
+    ensures err { OnErr result (routines.new.items ≡ routines.old.items) }
+{
+    match find(routines, *last, ended.entry) {
+        Ok(at) => {
+            *last = at;
+            let routine = &mut routines[at];
+            routine.add_one(ended)
+        }
+        Err(at) => add_routine(alloc, routines, at, ended),
+    }
+}
+
+/// The first activation of its routine: a new one at its place.
+#[cold]
+#[inline(never)]
+fn add_routine(
+    alloc: Global,
+    routines: &mut Vec<RoutinePoints>,
+    at: usize,
+    ended: &Done,
+) -> Result<(), AllocError>
+    requires { IsInsertionPoint (map (λ r. r.entry) routines.old.items) ended.now.entry at }
+    ensures ok { OnOk result (routines.new.items
+        ≡ with_point ended.now.entry
+        (point_of ended.now.size (ended.now ∷ [])) routines.old.items) }
+    ensures err { OnErr result (routines.new.items ≡ routines.old.items) }
+{
+    let first = RoutinePoints::of_one(alloc, ended.entry, Point::of_one(*ended))?;
+    routines.insert(at, first)?;
+    Ok(())
 }
 
 /// One more point among the routines.
@@ -77,6 +140,7 @@ impl Table {
             alloc,
             members: 0,
             routines: Vec::new(alloc),
+            last: 0,
         })
     }
 
@@ -89,9 +153,21 @@ impl Table {
         ensures members { OnOk result (self.new.members ≡ self.old.members + 1) }
         ensures err { OnErr result (self.new ≡ self.old) }
     {
-        let entry = ended.entry;
-        let point = Point::of_one(ended);
-        add_to(self.alloc, &mut self.routines, entry, point)?;
+        self.add_ended(&ended)
+    }
+
+    /// The same, of an activation that is kept elsewhere.
+    #[inline(always)]
+    pub fn add_ended(&mut self, ended: &Done) -> Result<(), AllocError>
+        requires few { self.old.members < 2 ^ 63 }
+        requires parts { HasParts ended.now }
+        ensures ok { (added : List Done) → self.old ≡ contents_of added
+            → OnOk result (self.new ≡ contents_of (added ++ ended.now ∷ [])) }
+        ensures members { OnOk result (self.new.members ≡ self.old.members + 1) }
+        ensures err { OnErr result (self.new ≡ self.old) }
+    {
+        let (_size, _cost) = (ended.size, ended.cost); // so that they are known to be of 64 bits
+        add_one(self.alloc, &mut self.routines, &mut self.last, ended)?;
         self.members += 1;
         Ok(())
     }
@@ -103,7 +179,8 @@ impl Table {
         requires few { self.old.members + p.now.calls < 2 ^ 63 }
         ensures ok { OnOk result (self.new.routines ≡ with_point entry p.now self.old.routines) }
         ensures members { OnOk result (self.new.members ≡ self.old.members + p.now.calls) }
-        ensures added { (added more : List Done) → self.old ≡ contents_of added → ArePointOf entry p.now more
+        ensures added { (added more : List Done) → self.old ≡ contents_of added
+            → ArePointOf entry p.now more
             → OnOk result (self.new ≡ contents_of (added ++ more)) }
         ensures err { OnErr result (self.new ≡ self.old) }
     {
@@ -131,7 +208,8 @@ impl Table {
     /// The entry and the points of a routine, the routines by rising entry and the points by rising size.
     pub fn routine(&self, i: usize) -> (Addr, &[Point])
         requires { i < length self.now.routines }
-        ensures { slice_get self.now.routines i ≡ Some (record { entry = result.0; points = result.1.now }) }
+        ensures { slice_get self.now.routines i
+            ≡ Some (record { entry = result.0; points = result.1.now }) }
     {
         let routine = &self.routines[i];
         (routine.entry, &routine.points)

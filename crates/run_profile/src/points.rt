@@ -19,13 +19,14 @@ pub(crate) fn add_ended(
     requires few { points.old.members + length ended.now < 2 ^ 63 }
     requires parts { All HasParts ended.now }
     requires inside { added.old ≤ length ended.now }
-    ensures points { (earlier : List Done) → points.old ≡ contents_of (earlier ++ take added.old ended.now)
+    ensures points { (earlier : List Done) → points.old
+        ≡ contents_of (earlier ++ take added.old ended.now)
         → points.new ≡ contents_of (earlier ++ take added.new ended.now) }
     ensures inside { added.new ≤ length ended.now }
     ensures all { OnOk result (added.new ≡ length ended.now) }
 {
     while *added < ended.len() {
-        points.add(ended[*added])?;
+        points.add_ended(&ended[*added])?;
         *added += 1;
     }
     Ok(())

@@ -63,7 +63,8 @@ impl<S: Lanes> Profile<S> {
     #[inline(always)]
     fn settle(&mut self) -> Result<(), AllocError>
         requires { IsOfLight S.MAX self.old }
-        ensures stands { (past : List Event) → IsProfileOf S.MAX self.old past → IsProfileOf S.MAX self.new past }
+        ensures stands { (past : List Event) → IsProfileOf S.MAX self.old past
+            → IsProfileOf S.MAX self.new past }
         ensures settled { OnOk result (self.new.ended ≡ []) }
     {
         if self.ended.is_empty() {
@@ -76,7 +77,8 @@ impl<S: Lanes> Profile<S> {
     #[inline(never)]
     fn settle_ended(&mut self) -> Result<(), AllocError>
         requires { IsOfLight S.MAX self.old }
-        ensures stands { (past : List Event) → IsProfileOf S.MAX self.old past → IsProfileOf S.MAX self.new past }
+        ensures stands { (past : List Event) → IsProfileOf S.MAX self.old past
+            → IsProfileOf S.MAX self.new past }
         ensures settled { OnOk result (self.new.ended ≡ []) }
     {
         add_ended(&mut self.points, &self.ended, &mut self.added)?;
@@ -88,7 +90,8 @@ impl<S: Lanes> Profile<S> {
     /// What the run comes to.
     pub fn into_totals(self) -> Result<Totals, AllocError>
         requires { IsOfLight S.MAX self }
-        ensures { IfOk result (λ totals. (past : List Event) → IsProfileOf S.MAX self past → AreTotalsOf S.MAX totals past) }
+        ensures { IfOk result (λ totals. (past : List Event) → IsProfileOf S.MAX self past
+            → AreTotalsOf S.MAX totals past) }
     {
         let mut profile = self;
         profile.settle()?;

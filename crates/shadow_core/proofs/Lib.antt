@@ -29,6 +29,7 @@ pub mod Marked
 pub mod Accessed
 pub mod Applied
 pub mod ReadEvents
+pub mod Repeated
 pub mod Begun
 pub mod Started
 pub mod Popped

@@ -2,6 +2,7 @@
 use Rattle.std.proofs.Common.{◌≡◌, Ok, Err, ℕ, ◌+◌, ◌*◌, ◌<◌, ◌≤◌, ◌^◌, Bool, MutBor, true, false, cond, List, [], ◌∷◌, length, Some, None, refl, sym, ap, subst, ◌∙◌, arith}
 use Rattle.std.specs.Prelude.{◌==◌, ◌&&◌, not, nat_lt, is_some, reverse, OnErr, OnOk, Option, Result}
 use Rattle.std.specs.Option.{IsSome, option_copied_mut}
+use Rattle.std.proofs.lemmas.Bool.Decides.{nat_tests}
 use Rattle.guest_words.proofs.ThreadTables.{numbers-with}
 use Rattle.guest_words.specs.ByThread.{IsRising, numbers, value_of, with_value}
 use Rattle.trace_model.specs.declared.event_kinds.Event.{Event}
@@ -156,6 +157,33 @@ stepped most t b s c after new may whole here is step more =
     let a = alive_for_step most t s may whole in
     ap (λ (k : Calls). table_of_state (record (with_clock new s) { calls = with_value s.calls t k; last = Some t; weight = s.weight + 1 })) more
     ∙ step_made most t s a.was c new (has_found s t a.was a.calls c a.has here) (subst (λ (b : Bool). IsAdvanced most b (clock_of s) new) is step)
+
+-- no tick changes nothing
+not_advanced : (most : ℕ) (clock : Clock) → clock.counter ≤ most → IsAdvanced most false clock clock
+not_advanced most clock within = record {
+  table = λ s. refl;
+  same = refl;
+  each = λ t was here. (was, here, record { spare = refl; frames = refl; covered = λ w. refl });
+  marks = refl;
+  covered = λ w. refl;
+  within = within;
+}
+
+no_switch : (t : ℕ) → is_switch (Some t) t ≡ false
+no_switch t = grind (arith, nat_tests)
+
+-- a step of the thread that made the last one
+pub stepped_on : (most t : ℕ) (s now : State) (c after : Calls) (heavier : ℕ) → s ≡ now → MayTake (StandsFor most) now (Step t) → IsWhole s → value_of s.calls t ≡ Some c →
+    now.last ≡ Some t → after ≡ record c { counts = record c.counts { steps = c.counts.steps + 1 } } → heavier ≡ s.weight + 1 →
+    table_of_state (record s { calls = with_value s.calls t after; weight = heavier }) ≡ table_after (bounded_tick most) (Step t) (table_of_state now)
+stepped_on most t s now c after heavier is may whole here runs more weighed =
+    let mine : MayTake (StandsFor most) s (Step t) = subst (λ (k : State). MayTake (StandsFor most) k (Step t)) (sym is) may in
+    let last : s.last ≡ Some t = ap (λ (k : State). k.last) is ∙ runs in
+    let still : false ≡ is_switch s.last t = sym (ap (λ l. is_switch l t) last ∙ no_switch t) in
+    ap (λ l. table_of_state (record s { calls = with_value s.calls t after; last = l; weight = heavier })) last
+    ∙ ap (λ n. table_of_state (record s { calls = with_value s.calls t after; last = Some t; weight = n })) weighed
+    ∙ stepped most t false s c after (clock_of s) mine whole here still (not_advanced most (clock_of s) (may_advance most (Step t) s mine).within) more
+    ∙ ap (λ (k : State). table_after (bounded_tick most) (Step t) (table_of_state k)) is
 
 -- a tick may come, by the fields that the code has
 pub advance_here : (most : ℕ) (e : Event) (s now : State) → s ≡ now → MayTake (StandsFor most) now e → MayAdvance most e s

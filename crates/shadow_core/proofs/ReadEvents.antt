@@ -51,10 +51,10 @@ pub record MayRead (s : State) (t first count : ℕ) : Type 0 where
   pub kernel : calls.counts.kernel + count < 2 ^ 64
 
 -- the frames and the pages of a thread that is there
-frames_had : (s : State) (t : ℕ) (was : Stamped) (c : Calls) → Has s t was c → frames_of s.live.threads t ≡ was.frames
+pub frames_had : (s : State) (t : ℕ) (was : Stamped) (c : Calls) → Has s t was c → frames_of s.live.threads t ≡ was.frames
 frames_had s t was c has = ap (λ (o : Option Stamped). option_map_or (λ (x : Stamped). x.frames) o []) has.stamps
 
-pages_had : (s : State) (t : ℕ) (was : Stamped) (c : Calls) → Has s t was c → pages_of s.live.threads t ≡ was.pages
+pub pages_had : (s : State) (t : ℕ) (was : Stamped) (c : Calls) → Has s t was c → pages_of s.live.threads t ≡ was.pages
 pages_had s t was c has = ap (λ (o : Option Stamped). option_map_or (λ (x : Stamped). x.pages) o []) has.stamps
 
 none_is_zero : (limit : ℕ) (ss : List ℕ) → IsFalling limit ss → All (λ r. 0 < r) ss

@@ -157,7 +157,7 @@ module _ (old mid new : Live) (t top : ℕ) (p : Place) (place : Option ℕ) (by
       subst (λ (ps : List Page). IsChanged old new t (frames_of new.threads t) ps) pages (changed_own old new t (added top by (frames_of mid.threads t)) (pages_of mid.threads t) lives both)
 
 -- ---- stamps
-in_one : (w v : ℕ) → in_range w 1 v ≡ (v == w)
+pub in_one : (w v : ℕ) → in_range w 1 v ≡ (v == w)
 in_one w v = grind (arith, nat_tests)
 
 -- the thread's pages are lent and written

@@ -77,7 +77,8 @@ impl BegunCall {
 
 /// How many of the calls, the outermost first, a return to the target ends.
 fn count_returned(target: Addr, calls: &[BegunCall]) -> usize
-    ensures count { result ≡ count_returned target (map (λ (c : OpenCall). c.back) (reverse calls.now)) }
+    ensures count { result ≡ count_returned target
+        (map (λ (c : OpenCall). c.back) (reverse calls.now)) }
     ensures within { result ≤ length calls.now }
 {
     calls
@@ -106,7 +107,8 @@ impl Model for ThreadCalls {
 impl ThreadCalls {
     /// The first call of a thread, which has counted nothing.
     pub(crate) fn first(alloc: Global, entry: Addr) -> Result<ThreadCalls, AllocError>
-        ensures { IfOk result (λ c. c ≡ record { list = record { entry = entry; back = None; earlier = no_counts } ∷ []; counts = no_counts }) }
+        ensures { IfOk result (λ c. c
+            ≡ record { list = record { entry = entry; back = None; earlier = no_counts } ∷ []; counts = no_counts }) }
     {
         let counts = Tally {
             steps: 0,
@@ -124,7 +126,8 @@ impl ThreadCalls {
 
     /// One more call inside all the others. A refused one changes nothing.
     pub(crate) fn push(&mut self, entry: Addr, back: Addr) -> Result<(), AllocError>
-        ensures ok { OnOk result (self.new ≡ record self.old { list = record { entry = entry; back = Some back; earlier = self.old.counts } ∷ self.old.list }) }
+        ensures ok { OnOk result (self.new
+            ≡ record self.old { list = record { entry = entry; back = Some back; earlier = self.old.counts } ∷ self.old.list }) }
         ensures err { OnErr result (self.new ≡ self.old) }
     {
         self.calls.push(BegunCall {
@@ -151,7 +154,8 @@ impl ThreadCalls {
 
     /// How many calls a return to the target ends.
     pub(crate) fn ending(&self, target: Addr) -> usize
-        ensures count { result ≡ count_returned target (map (λ (c : OpenCall). c.back) self.now.list) }
+        ensures count { result ≡ count_returned target
+            (map (λ (c : OpenCall). c.back) self.now.list) }
         ensures within { result ≤ length self.now.list }
     {
         count_returned(target, &self.calls)

@@ -67,8 +67,10 @@ pub(crate) fn cover_own<S: Lanes>(
 ) -> Result<(), AllocError>
     requires end { first + count ≤ 2 ^ 30 }
     requires lives { is_some (value_of threads.old.threads tid) ≡ true }
-    ensures changed { IsChanged threads.old threads.new tid (frames_of threads.old.threads tid) (pages_of threads.new.threads tid) }
-    ensures stamps { (w : ℕ) → stamp_at (pages_of threads.new.threads tid) w ≡ stamp_at (pages_of threads.old.threads tid) w }
+    ensures changed { IsChanged threads.old threads.new tid (frames_of threads.old.threads tid)
+        (pages_of threads.new.threads tid) }
+    ensures stamps { (w : ℕ) → stamp_at (pages_of threads.new.threads tid) w
+        ≡ stamp_at (pages_of threads.old.threads tid) w }
     ensures ok { OnOk result (AreCovered (pages_of threads.new.threads tid) first count) }
     ensures covered { AreCovered (pages_of threads.old.threads tid) first count → IsOk result }
 {
@@ -89,8 +91,10 @@ fn cover_all_own<S: Lanes>(
 ) -> Result<(), AllocError>
     requires end { first + count ≤ 2 ^ 30 }
     requires lives { is_some (value_of threads.old.threads tid) ≡ true }
-    ensures changed { IsChanged threads.old threads.new tid (frames_of threads.old.threads tid) (pages_of threads.new.threads tid) }
-    ensures stamps { (w : ℕ) → stamp_at (pages_of threads.new.threads tid) w ≡ stamp_at (pages_of threads.old.threads tid) w }
+    ensures changed { IsChanged threads.old threads.new tid (frames_of threads.old.threads tid)
+        (pages_of threads.new.threads tid) }
+    ensures stamps { (w : ℕ) → stamp_at (pages_of threads.new.threads tid) w
+        ≡ stamp_at (pages_of threads.old.threads tid) w }
     ensures ok { OnOk result (AreCovered (pages_of threads.new.threads tid) first count) }
     ensures covered { AreCovered (pages_of threads.old.threads tid) first count → IsOk result }
 {
@@ -100,7 +104,8 @@ fn cover_all_own<S: Lanes>(
 /// One more thread, whose number is above all others, with room for its first frame. A refused one changes no thread.
 pub(crate) fn add_with_room<S: Lanes>(threads: &mut Threads<S>, tid: Tid) -> Result<(), AllocError>
     requires above { All (λ n. n < tid) (numbers threads.old.threads) }
-    ensures ok { OnOk result (threads.new.threads ≡ threads.old.threads ++ (tid, stamped threads.new.threads tid [] []) ∷ []) }
+    ensures ok { OnOk result (threads.new.threads
+        ≡ threads.old.threads ++ (tid, stamped threads.new.threads tid [] []) ∷ []) }
     ensures room { OnOk result ((1 ≤ spare_of threads.new.threads tid) × (1 ≤ threads.new.marks)) }
     ensures err { OnErr result (threads.new.threads ≡ threads.old.threads) }
 {

@@ -23,8 +23,10 @@ fn nat_of(n: i64) -> u64
 }
 
 /// What is recorded of a call of the thread that ends, with the sums of its frame, by what the thread has counted.
+#[inline(always)]
 pub(crate) fn done_with(tid: Tid, counts: Tally, sums: Sums, call: BegunCall) -> Done
-    requires { nat_of sums.plain + (counts.thread - call.earlier.thread) + (counts.kernel - call.earlier.kernel) < 2 ^ 64 }
+    requires { nat_of sums.plain + (counts.thread - call.earlier.thread)
+        + (counts.kernel - call.earlier.kernel) < 2 ^ 64 }
     ensures { result ≡ record_of tid counts sums call }
 {
     let plain = nat_of(sums.plain);
@@ -42,6 +44,7 @@ pub(crate) fn done_with(tid: Tid, counts: Tally, sums: Sums, call: BegunCall) ->
 }
 
 /// Ends the innermost call of the thread, and records it. There is room for the record.
+#[inline(always)]
 fn end_call<S: Lanes>(
     threads: &mut Threads<S>,
     tid: Tid,
@@ -77,7 +80,35 @@ pub(crate) fn end_calls<S: Lanes>(
     requires lives { is_some (value_of threads.old.threads tid) ≡ true }
     requires frames { ended ≤ length (frames_of threads.old.threads tid) }
     requires calls { ended ≤ length calls.old.list }
-    requires sums { (n : ℕ) → AreWithin (2 ^ 62 - 1) (frames_after_pops n (reverse (frames_of threads.old.threads tid))) }
+    requires sums { (n : ℕ) → AreWithin (2 ^ 62 - 1)
+        (frames_after_pops n (reverse (frames_of threads.old.threads tid))) }
+    requires thread { calls.old.counts.thread < 2 ^ 62 }
+    requires kernel { calls.old.counts.kernel < 2 ^ 62 }
+    requires room { vec_len done.old + ended ≤ vec_capacity done.old }
+    ensures { IsEnded tid ended threads.old threads.new calls.old calls.new done.old.items done.new.items }
+{
+    if ended == 1 {
+        end_call(threads, tid, calls, done);
+    } else {
+        end_many(threads, tid, calls, ended, done);
+    }
+}
+
+// The same, one after the other.
+#[cold]
+#[inline(never)]
+fn end_many<S: Lanes>(
+    threads: &mut Threads<S>,
+    tid: Tid,
+    calls: &mut ThreadCalls,
+    ended: usize,
+    done: &mut Vec<Done>,
+)
+    requires lives { is_some (value_of threads.old.threads tid) ≡ true }
+    requires frames { ended ≤ length (frames_of threads.old.threads tid) }
+    requires calls { ended ≤ length calls.old.list }
+    requires sums { (n : ℕ) → AreWithin (2 ^ 62 - 1)
+        (frames_after_pops n (reverse (frames_of threads.old.threads tid))) }
     requires thread { calls.old.counts.thread < 2 ^ 62 }
     requires kernel { calls.old.counts.kernel < 2 ^ 62 }
     requires room { vec_len done.old + ended ≤ vec_capacity done.old }

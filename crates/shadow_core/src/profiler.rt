@@ -1,5 +1,5 @@
 //! The online profiler.
-ghost use Rattle.std.specs.Prelude.{◌≡◌, ◌≤◌, ◌+◌, ◌*◌, ◌++◌, [], List, map, nat_lt, true, false, vec_len, Err, IfErr, IfOk, IsOk, OnErr, OnOk, length};
+ghost use Rattle.std.specs.Prelude.{◌≡◌, ◌≤◌, ◌+◌, ◌*◌, ◌++◌, [], List, Some, map, nat_lt, true, false, vec_len, Err, IfErr, IfOk, IsOk, OnErr, OnOk, length};
 ghost use Rattle.trace_model.specs.declared.event_kinds.Event.{Event};
 ghost use Rattle.trace_model.specs.declared.event_kinds.Event.TheVariants.{Call, End, Fill, Read, Ret, Start, Step, Write};
 ghost use Rattle.std.specs.Vec.{vec_capacity};
@@ -23,7 +23,7 @@ use crate::advance::advance;
 use crate::calls::ThreadCalls;
 use crate::cover::{add_with_room, cover, cover_own};
 use crate::endings::end_calls;
-use crate::reads::read;
+use crate::reads::{is_fresh, read};
 use crate::rows::ZeroRows;
 use crate::writes::{fill, write};
 use guest_words::{Addr, ByThread, Tid, Word};
@@ -105,7 +105,8 @@ impl<S: Lanes> Profiler<S> {
     /// How many activations are open.
     pub fn pending(&self) -> u64
         ensures value { result ≡ length (all_starts self.now.live.threads) }
-        ensures stands { (past : List Event) → StandsFor S.MAX self.now past → result ≡ pending past }
+        ensures stands { (past : List Event) → StandsFor S.MAX self.now past
+            → result ≡ pending past }
     {
         self.threads.frame_count() as u64
     }
@@ -113,15 +114,45 @@ impl<S: Lanes> Profiler<S> {
     /// How often the stamps were renumbered.
     pub fn renumbered(&self) -> u64
         ensures value { result ≡ self.now.renumbered }
-        ensures stands { (past : List Event) → StandsFor S.MAX self.now past → result ≡ renumberings S.MAX past }
+        ensures stands { (past : List Event) → StandsFor S.MAX self.now past
+            → result ≡ renumberings S.MAX past }
     {
         self.renumbered
     }
+
     // A step of a thread that lives.
     #[inline(always)]
     fn step(&mut self, tid: Tid)
         requires { MayTake (StandsFor S.MAX) self.old (Step tid) }
-        ensures { table_of_state self.new ≡ table_after (bounded_tick S.MAX) (Step tid) (table_of_state self.old) }
+        ensures { table_of_state self.new ≡ table_after (bounded_tick S.MAX) (Step tid)
+            (table_of_state self.old) }
+    {
+        if is_running(self.last, tid) {
+            self.step_on(tid);
+        } else {
+            self.step_first(tid);
+        }
+    }
+
+    // A step of the thread that made the last one.
+    #[inline(always)]
+    fn step_on(&mut self, tid: Tid)
+        requires may { MayTake (StandsFor S.MAX) self.old (Step tid) }
+        requires runs { self.old.last ≡ Some tid }
+        ensures { table_of_state self.new ≡ table_after (bounded_tick S.MAX) (Step tid)
+            (table_of_state self.old) }
+    {
+        self.calls.get_mut(tid).unwrap().add_step();
+        self.weight += 1;
+    }
+
+    // The first step of a thread after that of another, or of all.
+    #[cold]
+    #[inline(never)]
+    fn step_first(&mut self, tid: Tid)
+        requires { MayTake (StandsFor S.MAX) self.old (Step tid) }
+        ensures { table_of_state self.new ≡ table_after (bounded_tick S.MAX) (Step tid)
+            (table_of_state self.old) }
     {
         advance(
             is_switch(self.last, tid),
@@ -140,7 +171,8 @@ impl<S: Lanes> Profiler<S> {
     #[inline(never)]
     fn fill(&mut self, first: Word, count: u32) -> Result<(), AllocError>
         requires { MayTake (StandsFor S.MAX) self.old (Fill first count) }
-        ensures table { OnOk result (table_of_state self.new ≡ table_after (bounded_tick S.MAX) (Fill first count) (table_of_state self.old)) }
+        ensures table { OnOk result (table_of_state self.new
+            ≡ table_after (bounded_tick S.MAX) (Fill first count) (table_of_state self.old)) }
         ensures refused { OnErr result (table_of_state self.new ≡ table_of_state self.old) }
         ensures no_memory { AreCovered self.old.writes first count → IsOk result }
     {
@@ -162,9 +194,11 @@ impl<S: Lanes> Profiler<S> {
     #[inline(always)]
     fn write(&mut self, tid: Tid, first: Word, count: u32) -> Result<(), AllocError>
         requires { MayTake (StandsFor S.MAX) self.old (Write tid first count) }
-        ensures table { OnOk result (table_of_state self.new ≡ table_after (bounded_tick S.MAX) (Write tid first count) (table_of_state self.old)) }
+        ensures table { OnOk result (table_of_state self.new
+            ≡ table_after (bounded_tick S.MAX) (Write tid first count) (table_of_state self.old)) }
         ensures refused { OnErr result (table_of_state self.new ≡ table_of_state self.old) }
-        ensures no_memory { AreCovered (pages_of self.old.live.threads tid) first count → AreCovered self.old.writes first count → IsOk result }
+        ensures no_memory { AreCovered (pages_of self.old.live.threads tid) first count
+            → AreCovered self.old.writes first count → IsOk result }
     {
         cover_own(&mut self.threads, tid, first, count)?;
         cover(&mut self.writes, &mut self.marks, first, count)?;
@@ -187,7 +221,8 @@ impl<S: Lanes> Profiler<S> {
     #[inline(never)]
     fn start(&mut self, tid: Tid, entry: Addr) -> Result<(), AllocError>
         requires { MayTake (StandsFor S.MAX) self.old (Start tid entry) }
-        ensures table { OnOk result (table_of_state self.new ≡ table_after (bounded_tick S.MAX) (Start tid entry) (table_of_state self.old)) }
+        ensures table { OnOk result (table_of_state self.new
+            ≡ table_after (bounded_tick S.MAX) (Start tid entry) (table_of_state self.old)) }
         ensures refused { OnErr result (table_of_state self.new ≡ table_of_state self.old) }
     {
         let calls = ThreadCalls::first(self.alloc, entry)?;
@@ -212,7 +247,8 @@ impl<S: Lanes> Profiler<S> {
     #[inline(never)]
     fn call(&mut self, tid: Tid, entry: Addr, back: Addr) -> Result<(), AllocError>
         requires { MayTake (StandsFor S.MAX) self.old (Call tid entry back) }
-        ensures table { OnOk result (table_of_state self.new ≡ table_after (bounded_tick S.MAX) (Call tid entry back) (table_of_state self.old)) }
+        ensures table { OnOk result (table_of_state self.new
+            ≡ table_after (bounded_tick S.MAX) (Call tid entry back) (table_of_state self.old)) }
         ensures refused { OnErr result (table_of_state self.new ≡ table_of_state self.old) }
     {
         self.threads.reserve(tid)?;
@@ -234,11 +270,15 @@ impl<S: Lanes> Profiler<S> {
     #[inline(never)]
     fn return_to(&mut self, tid: Tid, target: Addr, done: &mut Vec<Done>) -> Result<(), AllocError>
         requires { MayTake (StandsFor S.MAX) self.old (Ret tid target) }
-        ensures table { OnOk result (table_of_state self.new ≡ table_after (bounded_tick S.MAX) (Ret tid target) (table_of_state self.old)) }
-        ensures done { OnOk result (done.new.items ≡ done.old.items ++ finished (Ret tid target) (table_of_state self.old)) }
+        ensures table { OnOk result (table_of_state self.new
+            ≡ table_after (bounded_tick S.MAX) (Ret tid target) (table_of_state self.old)) }
+        ensures done { OnOk result (done.new.items
+            ≡ done.old.items ++ finished (Ret tid target) (table_of_state self.old)) }
         ensures refused { OnErr result (table_of_state self.new ≡ table_of_state self.old) }
         ensures kept { OnErr result (done.new.items ≡ done.old.items) }
-        ensures no_memory { vec_len done.old + count_returned target (map (λ (c : OpenCall). c.back) (calls_of self.old.calls tid).list) ≤ vec_capacity done.old → IsOk result }
+        ensures no_memory { vec_len done.old + count_returned target
+            (map (λ (c : OpenCall). c.back) (calls_of self.old.calls tid).list)
+            ≤ vec_capacity done.old → IsOk result }
     {
         let ended = self.calls.get(tid).unwrap().ending(target);
         done.reserve(ended)?;
@@ -253,8 +293,10 @@ impl<S: Lanes> Profiler<S> {
     #[inline(never)]
     fn end(&mut self, tid: Tid, done: &mut Vec<Done>) -> Result<(), AllocError>
         requires { MayTake (StandsFor S.MAX) self.old (End tid) }
-        ensures table { OnOk result (table_of_state self.new ≡ table_after (bounded_tick S.MAX) (End tid) (table_of_state self.old)) }
-        ensures done { OnOk result (done.new.items ≡ done.old.items ++ finished (End tid) (table_of_state self.old)) }
+        ensures table { OnOk result (table_of_state self.new
+            ≡ table_after (bounded_tick S.MAX) (End tid) (table_of_state self.old)) }
+        ensures done { OnOk result (done.new.items
+            ≡ done.old.items ++ finished (End tid) (table_of_state self.old)) }
         ensures refused { OnErr result (table_of_state self.new ≡ table_of_state self.old) }
         ensures kept { OnErr result (done.new.items ≡ done.old.items) }
     {
@@ -272,9 +314,28 @@ impl<S: Lanes> Profiler<S> {
     #[inline(always)]
     fn read(&mut self, tid: Tid, first: Word, count: u32) -> Result<(), AllocError>
         requires { MayTake (StandsFor S.MAX) self.old (Read tid first count) }
-        ensures table { OnOk result (table_of_state self.new ≡ table_after (bounded_tick S.MAX) (Read tid first count) (table_of_state self.old)) }
+        ensures table { OnOk result (table_of_state self.new
+            ≡ table_after (bounded_tick S.MAX) (Read tid first count) (table_of_state self.old)) }
         ensures refused { OnErr result (table_of_state self.new ≡ table_of_state self.old) }
-        ensures no_memory { AreCovered (pages_of self.old.live.threads tid) first count → IsOk result }
+        ensures no_memory { AreCovered (pages_of self.old.live.threads tid) first count
+            → IsOk result }
+    {
+        if count == 1 && is_fresh(&self.threads, tid, first, self.counter) {
+            self.weight += 2;
+            return Ok(());
+        }
+        self.read_anew(tid, first, count)
+    }
+
+    // The same, where a stamp may change.
+    #[inline(never)]
+    fn read_anew(&mut self, tid: Tid, first: Word, count: u32) -> Result<(), AllocError>
+        requires { MayTake (StandsFor S.MAX) self.old (Read tid first count) }
+        ensures table { OnOk result (table_of_state self.new
+            ≡ table_after (bounded_tick S.MAX) (Read tid first count) (table_of_state self.old)) }
+        ensures refused { OnErr result (table_of_state self.new ≡ table_of_state self.old) }
+        ensures no_memory { AreCovered (pages_of self.old.live.threads tid) first count
+            → IsOk result }
     {
         cover_own(&mut self.threads, tid, first, count)?;
         let now = S::from_number(self.counter);
@@ -306,7 +367,8 @@ impl<S: Lanes> Profiler<S> {
     #[inline(always)]
     fn is_too_deep(&self, e: &Event) -> bool
         requires { MayTake (StandsFor S.MAX) self.now e.now }
-        ensures { (past : List Event) → StandsFor S.MAX self.now past → result ≡ is_too_deep S.MAX e.now past }
+        ensures { (past : List Event) → StandsFor S.MAX self.now past
+            → result ≡ is_too_deep S.MAX e.now past }
     {
         begins(e) && self.is_full()
     }
@@ -315,11 +377,14 @@ impl<S: Lanes> Profiler<S> {
     #[inline(always)]
     fn take(&mut self, e: Event, done: &mut Vec<Done>) -> Result<(), AllocError>
         requires { MayTake (StandsFor S.MAX) self.old e }
-        ensures table { OnOk result (table_of_state self.new ≡ table_after (bounded_tick S.MAX) e (table_of_state self.old)) }
-        ensures records { OnOk result (done.new.items ≡ done.old.items ++ finished e (table_of_state self.old)) }
+        ensures table { OnOk result (table_of_state self.new
+            ≡ table_after (bounded_tick S.MAX) e (table_of_state self.old)) }
+        ensures records { OnOk result (done.new.items
+            ≡ done.old.items ++ finished e (table_of_state self.old)) }
         ensures refused { OnErr result (table_of_state self.new ≡ table_of_state self.old) }
         ensures kept { OnErr result (done.new.items ≡ done.old.items) }
-        ensures no_memory { NeedsNoMemory e (table_of_state self.old) (vec_len done.old) (vec_capacity done.old) → IsOk result }
+        ensures no_memory { NeedsNoMemory e (table_of_state self.old) (vec_len done.old)
+            (vec_capacity done.old) → IsOk result }
     {
         match e {
             Event::Step { tid } => {
@@ -342,14 +407,20 @@ impl<S: Lanes> Profiler<S> {
     #[inline(always)]
     pub fn apply(&mut self, e: Event, done: &mut Vec<Done>) -> Result<(), ApplyError>
         requires { MayTake (StandsFor S.MAX) self.old e }
-        ensures table { OnOk result (table_of_state self.new ≡ table_after (bounded_tick S.MAX) e (table_of_state self.old)) }
-        ensures records { OnOk result (done.new.items ≡ done.old.items ++ finished e (table_of_state self.old)) }
-        ensures stands { (past : List Event) → StandsFor S.MAX self.old past → OnOk result (IsTaken S.MAX e past self.new done.old.items done.new.items) }
-        ensures deep { (past : List Event) → StandsFor S.MAX self.old past → is_too_deep S.MAX e past ≡ true → result ≡ Err (TooDeep (pending past)) }
-        ensures not_deep { (past : List Event) → StandsFor S.MAX self.old past → is_too_deep S.MAX e past ≡ false → IfErr result (λ error. error ≡ Memory) }
+        ensures table { OnOk result (table_of_state self.new
+            ≡ table_after (bounded_tick S.MAX) e (table_of_state self.old)) }
+        ensures records { OnOk result (done.new.items
+            ≡ done.old.items ++ finished e (table_of_state self.old)) }
+        ensures stands { (past : List Event) → StandsFor S.MAX self.old past
+            → OnOk result (IsTaken S.MAX e past self.new done.old.items done.new.items) }
+        ensures deep { (past : List Event) → StandsFor S.MAX self.old past
+            → is_too_deep S.MAX e past ≡ true → result ≡ Err (TooDeep (pending past)) }
+        ensures not_deep { (past : List Event) → StandsFor S.MAX self.old past
+            → is_too_deep S.MAX e past ≡ false → IfErr result (λ error. error ≡ Memory) }
         ensures refused { OnErr result (table_of_state self.new ≡ table_of_state self.old) }
         ensures kept { OnErr result (done.new.items ≡ done.old.items) }
-        ensures no_memory { NeedsNoMemory e (table_of_state self.old) (vec_len done.old) (vec_capacity done.old) → IsOk result }
+        ensures no_memory { NeedsNoMemory e (table_of_state self.old) (vec_len done.old)
+            (vec_capacity done.old) → IsOk result }
     {
         if self.is_too_deep(&e) {
             return Err(ApplyError::TooDeep {
@@ -379,6 +450,17 @@ fn is_switch(last: Option<Tid>, tid: Tid) -> bool
 {
     match last {
         Some(last) => last != tid,
+        None => false,
+    }
+}
+
+/// Whether the last step was by the thread.
+#[inline(always)]
+fn is_running(last: Option<Tid>, tid: Tid) -> bool
+    ensures { result ≡ true → last ≡ Some tid }
+{
+    match last {
+        Some(last) => last == tid,
         None => false,
     }
 }

@@ -2,7 +2,7 @@
 ghost use Rattle.std.specs.Prelude.{◌≡◌, ◌≤◌, ◌<◌, ◌+◌, ◌%◌, ◌^◌, ◌∷◌, [], ℕ, All, Some, count_by, is_some, length, pos, reverse, true};
 ghost use Rattle.std.specs.List.{range_with_len};
 ghost use Rattle.guest_words.specs.ByThread.{value_of};
-ghost use Rattle.shadow_pages.specs.Pages.{AreCovered, covers, stamp_at};
+ghost use Rattle.shadow_pages.specs.Pages.{AreCovered, HasPlace, covers, stamp_at};
 ghost use Rattle.shadow_stack.specs.Frames.{starts_of};
 ghost use Rattle.stamp_lanes.specs.Plain.{is_by_kernel, is_by_thread};
 ghost use Rattle.stamp_renumber.specs.Threads.{frames_of, pages_of};
@@ -49,7 +49,8 @@ fn take<S: Lanes>(threads: &mut Threads<S>, tid: Tid, place: Option<usize>, by: 
     requires small { AreSmall by }
     requires within { (i : ℕ) → place ≡ Some i → i < length (frames_of threads.old.threads tid) }
     requires sums { AreWithin (2 ^ 62 + 2 ^ 31) (frames_of threads.old.threads tid) }
-    ensures { IsChanged threads.old threads.new tid (taken by place (frames_of threads.old.threads tid)) (pages_of threads.old.threads tid) }
+    ensures { IsChanged threads.old threads.new tid
+        (taken by place (frames_of threads.old.threads tid)) (pages_of threads.old.threads tid) }
 {
     match place {
         Some(i) => threads.add_sum(tid, i, below_zero(by)),
@@ -63,8 +64,11 @@ fn read_frames<S: Lanes>(threads: &mut Threads<S>, tid: Tid, own: S, write: S)
     requires lives { is_some (value_of threads.old.threads tid) ≡ true }
     requires some { 1 ≤ length (frames_of threads.old.threads tid) }
     requires sums { AreWithin (2 ^ 62 + 2 ^ 31) (frames_of threads.old.threads tid) }
-    ensures frames { reverse (frames_of threads.new.threads tid) ≡ frames_after_read (record { own = S.number_of own; write = S.number_of write; mark = 0 }) (reverse (frames_of threads.old.threads tid)) }
-    ensures changed { IsChanged threads.old threads.new tid (frames_of threads.new.threads tid) (pages_of threads.old.threads tid) }
+    ensures frames { reverse (frames_of threads.new.threads tid)
+        ≡ frames_after_read (record { own = S.number_of own; write = S.number_of write; mark = 0 })
+        (reverse (frames_of threads.old.threads tid)) }
+    ensures changed { IsChanged threads.old threads.new tid (frames_of threads.new.threads tid)
+        (pages_of threads.old.threads tid) }
 {
     let top = threads.frames(tid).depth() - 1;
     let start = threads.frames(tid).start_at(top);
@@ -76,18 +80,27 @@ fn read_frames<S: Lanes>(threads: &mut Threads<S>, tid: Tid, own: S, write: S)
     }
 }
 
-// A read of one word, by the stamps of its access and of the latest write.
+// A read of one word, by the stamps of its access and of the latest write, and by the place of the page of its access.
 #[inline(always)]
-fn read_stamped<S: Lanes>(threads: &mut Threads<S>, tid: Tid, w: Word, own: S, write: S, now: S)
+fn read_stamped<S: Lanes>(
+    threads: &mut Threads<S>,
+    tid: Tid,
+    place: usize,
+    w: Word,
+    own: S,
+    write: S,
+    now: S,
+)
     requires lives { is_some (value_of threads.old.threads tid) ≡ true }
     requires some { 1 ≤ length (frames_of threads.old.threads tid) }
-    requires covered { covers (pages_of threads.old.threads tid) w ≡ true }
+    requires place { HasPlace (pages_of threads.old.threads tid) w place }
     requires sums { AreWithin (2 ^ 62 + 2 ^ 31) (frames_of threads.old.threads tid) }
     requires own { S.number_of own ≡ stamp_at (pages_of threads.old.threads tid) w }
-    ensures { (writes marks : ℕ → ℕ) → S.number_of write ≡ writes w → IsRead threads.old threads.new tid writes marks w 1 (S.number_of now) }
+    ensures { (writes marks : ℕ → ℕ) → S.number_of write ≡ writes w
+        → IsRead threads.old threads.new tid writes marks w 1 (S.number_of now) }
 {
     read_frames(threads, tid, own, write);
-    threads.shadow_mut(tid).set(w, now);
+    threads.shadow_mut(tid).set_at(place, w, now);
 }
 
 // A read of one word.
@@ -97,10 +110,12 @@ fn read_word<S: Lanes>(threads: &mut Threads<S>, tid: Tid, w: Word, writes: &Sha
     requires some { 1 ≤ length (frames_of threads.old.threads tid) }
     requires covered { covers (pages_of threads.old.threads tid) w ≡ true }
     requires sums { AreWithin (2 ^ 62 + 2 ^ 31) (frames_of threads.old.threads tid) }
-    ensures { (marks : ℕ → ℕ) → IsRead threads.old threads.new tid (stamp_at writes.now.pages) marks w 1 (S.number_of now) }
+    ensures { (marks : ℕ → ℕ) → IsRead threads.old threads.new tid
+        (stamp_at writes.now.pages) marks w 1 (S.number_of now) }
 {
-    let own = threads.shadow(tid).get(w);
-    read_stamped(threads, tid, w, own, writes.get(w), now);
+    let place = threads.shadow(tid).place(w);
+    let own = threads.shadow(tid).get_at(place, w);
+    read_stamped(threads, tid, place, w, own, writes.get(w), now);
 }
 
 // The word so many places on.
@@ -125,7 +140,8 @@ fn read_words<S: Lanes>(
     requires some { 1 ≤ length (frames_of threads.old.threads tid) }
     requires covered { AreCovered (pages_of threads.old.threads tid) first count }
     requires sums { AreWithin (2 ^ 62 + 2 ^ 30) (frames_of threads.old.threads tid) }
-    ensures { (marks : ℕ → ℕ) → IsRead threads.old threads.new tid (stamp_at writes.now.pages) marks first count (S.number_of now) }
+    ensures { (marks : ℕ → ℕ) → IsRead threads.old threads.new tid
+        (stamp_at writes.now.pages) marks first count (S.number_of now) }
 {
     for i in 0..count {
         read_word(threads, tid, word_at(first, i), writes, now);
@@ -168,9 +184,14 @@ fn read_part<S: Lanes>(
     requires starts { All (λ s. 0 < s) (starts_of (frames_of threads.old.threads tid)) }
     requires covered { AreCovered (pages_of threads.old.threads tid) first count }
     requires sums { AreWithin (2 ^ 62 + 2 ^ 30) (frames_of threads.old.threads tid) }
-    ensures read { IsRead threads.old threads.new tid (stamp_at writes.now.pages) (stamp_at marks.now.pages) first count (S.number_of now) }
-    ensures thread { result.thread ≡ count_by is_by_thread (places_at (stamp_at (pages_of threads.old.threads tid)) (stamp_at writes.now.pages) (stamp_at marks.now.pages) (range_with_len first count)) }
-    ensures kernel { result.kernel ≡ count_by is_by_kernel (places_at (stamp_at (pages_of threads.old.threads tid)) (stamp_at writes.now.pages) (stamp_at marks.now.pages) (range_with_len first count)) }
+    ensures read { IsRead threads.old threads.new tid (stamp_at writes.now.pages)
+        (stamp_at marks.now.pages) first count (S.number_of now) }
+    ensures thread { result.thread ≡ count_by is_by_thread
+        (places_at (stamp_at (pages_of threads.old.threads tid)) (stamp_at writes.now.pages)
+        (stamp_at marks.now.pages) (range_with_len first count)) }
+    ensures kernel { result.kernel ≡ count_by is_by_kernel
+        (places_at (stamp_at (pages_of threads.old.threads tid)) (stamp_at writes.now.pages)
+        (stamp_at marks.now.pages) (range_with_len first count)) }
 {
     let write = row_of(writes, first, count, zeros.stamps());
     let mark = row_of(marks, first, count, zeros.marks());
@@ -191,8 +212,10 @@ fn read_part<S: Lanes>(
 // What a read of a word counts, by the stamps of its access and of the latest write.
 #[inline(always)]
 fn foreign_word<S: Stamp>(own: S, write: S, marks: &Shadow<u8>, w: Word) -> Foreign
-    ensures thread { result.thread ≡ count_by is_by_thread (record { own = S.number_of own; write = S.number_of write; mark = stamp_at marks.now.pages w } ∷ []) }
-    ensures kernel { result.kernel ≡ count_by is_by_kernel (record { own = S.number_of own; write = S.number_of write; mark = stamp_at marks.now.pages w } ∷ []) }
+    ensures thread { result.thread ≡ count_by is_by_thread
+        (record { own = S.number_of own; write = S.number_of write; mark = stamp_at marks.now.pages w } ∷ []) }
+    ensures kernel { result.kernel ≡ count_by is_by_kernel
+        (record { own = S.number_of own; write = S.number_of write; mark = stamp_at marks.now.pages w } ∷ []) }
 {
     if own.number() >= write.number() {
         return Foreign {
@@ -227,15 +250,30 @@ fn read_one<S: Lanes>(
     requires some { 1 ≤ length (frames_of threads.old.threads tid) }
     requires covered { covers (pages_of threads.old.threads tid) w ≡ true }
     requires sums { AreWithin (2 ^ 62 + 2 ^ 31) (frames_of threads.old.threads tid) }
-    ensures read { IsRead threads.old threads.new tid (stamp_at writes.now.pages) (stamp_at marks.now.pages) w 1 (S.number_of now) }
-    ensures thread { result.thread ≡ count_by is_by_thread (places_at (stamp_at (pages_of threads.old.threads tid)) (stamp_at writes.now.pages) (stamp_at marks.now.pages) (range_with_len w 1)) }
-    ensures kernel { result.kernel ≡ count_by is_by_kernel (places_at (stamp_at (pages_of threads.old.threads tid)) (stamp_at writes.now.pages) (stamp_at marks.now.pages) (range_with_len w 1)) }
+    ensures read { IsRead threads.old threads.new tid (stamp_at writes.now.pages)
+        (stamp_at marks.now.pages) w 1 (S.number_of now) }
+    ensures thread { result.thread ≡ count_by is_by_thread
+        (places_at (stamp_at (pages_of threads.old.threads tid)) (stamp_at writes.now.pages)
+        (stamp_at marks.now.pages) (range_with_len w 1)) }
+    ensures kernel { result.kernel ≡ count_by is_by_kernel
+        (places_at (stamp_at (pages_of threads.old.threads tid)) (stamp_at writes.now.pages)
+        (stamp_at marks.now.pages) (range_with_len w 1)) }
 {
-    let own = threads.shadow(tid).get(w);
+    let place = threads.shadow(tid).place(w);
+    let own = threads.shadow(tid).get_at(place, w);
     let write = writes.get(w);
     let found = foreign_word(own, write, marks, w);
-    read_stamped(threads, tid, w, own, write, now);
+    read_stamped(threads, tid, place, w, own, write, now);
     found
+}
+
+/// Whether the thread has accessed the word since the counter last moved. Then a read of it changes no stamp and no sum.
+#[inline(always)]
+pub(crate) fn is_fresh<S: Lanes>(threads: &Threads<S>, tid: Tid, w: Word, counter: u32) -> bool
+    requires lives { is_some (value_of threads.now.threads tid) ≡ true }
+    ensures { result ≡ true → stamp_at (pages_of threads.now.threads tid) w ≡ counter }
+{
+    threads.shadow(tid).get(w).number() == counter
 }
 
 // How many of the words that are left lie in the page of the next one.
@@ -267,9 +305,14 @@ pub(crate) fn read<S: Lanes>(
     requires starts { All (λ s. 0 < s) (starts_of (frames_of threads.old.threads tid)) }
     requires covered { AreCovered (pages_of threads.old.threads tid) first count }
     requires sums { AreWithin (2 ^ 62) (frames_of threads.old.threads tid) }
-    ensures read { IsRead threads.old threads.new tid (stamp_at writes.now.pages) (stamp_at marks.now.pages) first count (S.number_of now) }
-    ensures thread { result.thread ≡ count_by is_by_thread (places_at (stamp_at (pages_of threads.old.threads tid)) (stamp_at writes.now.pages) (stamp_at marks.now.pages) (range_with_len first count)) }
-    ensures kernel { result.kernel ≡ count_by is_by_kernel (places_at (stamp_at (pages_of threads.old.threads tid)) (stamp_at writes.now.pages) (stamp_at marks.now.pages) (range_with_len first count)) }
+    ensures read { IsRead threads.old threads.new tid (stamp_at writes.now.pages)
+        (stamp_at marks.now.pages) first count (S.number_of now) }
+    ensures thread { result.thread ≡ count_by is_by_thread
+        (places_at (stamp_at (pages_of threads.old.threads tid)) (stamp_at writes.now.pages)
+        (stamp_at marks.now.pages) (range_with_len first count)) }
+    ensures kernel { result.kernel ≡ count_by is_by_kernel
+        (places_at (stamp_at (pages_of threads.old.threads tid)) (stamp_at writes.now.pages)
+        (stamp_at marks.now.pages) (range_with_len first count)) }
 {
     if count == 1 {
         return read_one(threads, tid, first, writes, marks, now);
@@ -296,9 +339,14 @@ fn read_parts<S: Lanes>(
     requires starts { All (λ s. 0 < s) (starts_of (frames_of threads.old.threads tid)) }
     requires covered { AreCovered (pages_of threads.old.threads tid) first count }
     requires sums { AreWithin (2 ^ 62) (frames_of threads.old.threads tid) }
-    ensures read { IsRead threads.old threads.new tid (stamp_at writes.now.pages) (stamp_at marks.now.pages) first count (S.number_of now) }
-    ensures thread { result.thread ≡ count_by is_by_thread (places_at (stamp_at (pages_of threads.old.threads tid)) (stamp_at writes.now.pages) (stamp_at marks.now.pages) (range_with_len first count)) }
-    ensures kernel { result.kernel ≡ count_by is_by_kernel (places_at (stamp_at (pages_of threads.old.threads tid)) (stamp_at writes.now.pages) (stamp_at marks.now.pages) (range_with_len first count)) }
+    ensures read { IsRead threads.old threads.new tid (stamp_at writes.now.pages)
+        (stamp_at marks.now.pages) first count (S.number_of now) }
+    ensures thread { result.thread ≡ count_by is_by_thread
+        (places_at (stamp_at (pages_of threads.old.threads tid)) (stamp_at writes.now.pages)
+        (stamp_at marks.now.pages) (range_with_len first count)) }
+    ensures kernel { result.kernel ≡ count_by is_by_kernel
+        (places_at (stamp_at (pages_of threads.old.threads tid)) (stamp_at writes.now.pages)
+        (stamp_at marks.now.pages) (range_with_len first count)) }
 {
     let mut found = Foreign {
         thread: 0,

@@ -74,7 +74,8 @@ pub(crate) fn row_of<'a, S: Stamp>(
 ) -> &'a [S]
     requires within { first % 1024 + count ≤ 1024 }
     requires none { map S.number_of none.now ≡ zeros }
-    ensures row { map S.number_of result.now ≡ map (stamp_at pages.now.pages) (range_with_len first count) }
+    ensures row { map S.number_of result.now
+        ≡ map (stamp_at pages.now.pages) (range_with_len first count) }
     ensures count { length result.now ≡ count }
 {
     if pages.covers(first) {
@@ -89,8 +90,12 @@ fn read_row<S: Lanes>(row: &mut [S], at: usize, write: &[S], marks: &[u8], start
     requires within { at + length write.now ≤ length row.old }
     requires size { length row.old ≤ 1024 }
     requires lengths { length write.now ≡ length marks.now }
-    ensures counts { IsBulk (S.number_of start) (places (chunk at (length write.now) (map S.number_of row.old)) (map S.number_of write.now) marks.now) result }
-    ensures stamps { (k : ℕ) → slice_index (map S.number_of row.new) k ≡ (if (result.old == 0) && (nat_le at k && nat_lt k (at + length write.now)) then S.number_of now else slice_index (map S.number_of row.old) k) }
+    ensures counts { IsBulk (S.number_of start)
+        (places (chunk at (length write.now) (map S.number_of row.old))
+        (map S.number_of write.now) marks.now) result }
+    ensures stamps { (k : ℕ) → slice_index (map S.number_of row.new) k
+        ≡ (if (result.old == 0) && (nat_le at k && nat_lt k (at + length write.now))
+        then S.number_of now else slice_index (map S.number_of row.old) k) }
     ensures count { length row.new ≡ length row.old }
 {
     let end = at + write.len();
@@ -110,8 +115,12 @@ pub(crate) fn read_page<S: Lanes>(
     requires covered { covers pages.old.pages first ≡ true }
     requires within { first % 1024 + length write.now ≤ 1024 }
     requires lengths { length write.now ≡ length marks.now }
-    ensures counts { IsBulk (S.number_of start) (places (map (stamp_at pages.old.pages) (range_with_len first (length write.now))) (map S.number_of write.now) marks.now) result }
-    ensures stamps { (w : ℕ) → stamp_at pages.new.pages w ≡ (if (result.old == 0) && in_range first (length write.now) w then S.number_of now else stamp_at pages.old.pages w) }
+    ensures counts { IsBulk (S.number_of start)
+        (places (map (stamp_at pages.old.pages) (range_with_len first (length write.now)))
+        (map S.number_of write.now) marks.now) result }
+    ensures stamps { (w : ℕ) → stamp_at pages.new.pages w
+        ≡ (if (result.old == 0) && in_range first (length write.now) w then S.number_of now
+        else stamp_at pages.old.pages w) }
     ensures covered { (w : ℕ) → covers pages.new.pages w ≡ covers pages.old.pages w }
 {
     let row = pages.page_of_mut(first);

@@ -1,7 +1,7 @@
 //! What writes of words change in the stamps.
 ghost use Rattle.std.specs.Prelude.{◌≡◌, ◌≤◌, ◌+◌, ◌^◌, is_some, true};
 ghost use Rattle.guest_words.specs.ByThread.{value_of};
-ghost use Rattle.shadow_pages.specs.Pages.{AreCovered};
+ghost use Rattle.shadow_pages.specs.Pages.{AreCovered, HasPlace, covers};
 ghost use Rattle.stamp_renumber.specs.Threads.{frames_of, pages_of};
 ghost use Rattle.shadow_core.specs.Reading.{IsChanged};
 ghost use Rattle.shadow_core.specs.Writing.{IsFilled};
@@ -26,6 +26,15 @@ fn stamp_words<S: Stamp>(pages: &mut Shadow<S>, first: Word, count: u32, now: S)
     }
 }
 
+// Gives a word a stamp, by the place of its page.
+#[inline(always)]
+fn stamp_word<S: Stamp>(pages: &mut Shadow<S>, place: usize, w: Word, now: S)
+    requires { HasPlace pages.old.pages w place }
+    ensures { IsFilled (S.number_of now) w 1 pages.old.pages pages.new.pages }
+{
+    pages.set_at(place, w, now);
+}
+
 /// A write of words by the kernel: each gets the stamp as that of its latest write, and a mark. It takes no memory.
 pub(crate) fn fill<S: Lanes>(
     writes: &mut Shadow<S>,
@@ -42,6 +51,35 @@ pub(crate) fn fill<S: Lanes>(
 {
     stamp_words(writes, first, count, now);
     stamp_words(marks, first, count, 1);
+}
+
+// A write of one word. Each page is looked up once.
+#[inline(always)]
+fn write_one<S: Lanes>(
+    threads: &mut Threads<S>,
+    tid: Tid,
+    writes: &mut Shadow<S>,
+    marks: &mut Shadow<u8>,
+    w: Word,
+    now: S,
+)
+    requires lives { is_some (value_of threads.old.threads tid) ≡ true }
+    requires covered { covers (pages_of threads.old.threads tid) w ≡ true }
+    requires written { covers writes.old.pages w ≡ true }
+    requires marked { covers marks.old.pages w ≡ true }
+    ensures changed { IsChanged threads.old threads.new tid (frames_of threads.old.threads tid)
+        (pages_of threads.new.threads tid) }
+    ensures access { IsFilled (S.number_of now) w 1 (pages_of threads.old.threads tid)
+        (pages_of threads.new.threads tid) }
+    ensures writes { IsFilled (S.number_of now) w 1 writes.old.pages writes.new.pages }
+    ensures marks { IsFilled 0 w 1 marks.old.pages marks.new.pages }
+{
+    let own_place = threads.shadow(tid).place(w);
+    let write_place = writes.place(w);
+    let mark_place = marks.place(w);
+    stamp_word(threads.shadow_mut(tid), own_place, w, now);
+    stamp_word(writes, write_place, w, now);
+    stamp_word(marks, mark_place, w, 0);
 }
 
 /// A write of words by the thread: each gets the stamp, as that of the thread's access and as that of its latest write, and
@@ -61,8 +99,41 @@ pub(crate) fn write<S: Lanes>(
     requires covered { AreCovered (pages_of threads.old.threads tid) first count }
     requires written { AreCovered writes.old.pages first count }
     requires marked { AreCovered marks.old.pages first count }
-    ensures changed { IsChanged threads.old threads.new tid (frames_of threads.old.threads tid) (pages_of threads.new.threads tid) }
-    ensures access { IsFilled (S.number_of now) first count (pages_of threads.old.threads tid) (pages_of threads.new.threads tid) }
+    ensures changed { IsChanged threads.old threads.new tid (frames_of threads.old.threads tid)
+        (pages_of threads.new.threads tid) }
+    ensures access { IsFilled (S.number_of now) first count (pages_of threads.old.threads tid)
+        (pages_of threads.new.threads tid) }
+    ensures writes { IsFilled (S.number_of now) first count writes.old.pages writes.new.pages }
+    ensures marks { IsFilled 0 first count marks.old.pages marks.new.pages }
+{
+    if count == 1 {
+        write_one(threads, tid, writes, marks, first, now);
+    } else {
+        write_all(threads, tid, writes, marks, first, count, now);
+    }
+}
+
+// The same, page by page.
+#[cold]
+#[inline(never)]
+fn write_all<S: Lanes>(
+    threads: &mut Threads<S>,
+    tid: Tid,
+    writes: &mut Shadow<S>,
+    marks: &mut Shadow<u8>,
+    first: Word,
+    count: u32,
+    now: S,
+)
+    requires end { first + count ≤ 2 ^ 30 }
+    requires lives { is_some (value_of threads.old.threads tid) ≡ true }
+    requires covered { AreCovered (pages_of threads.old.threads tid) first count }
+    requires written { AreCovered writes.old.pages first count }
+    requires marked { AreCovered marks.old.pages first count }
+    ensures changed { IsChanged threads.old threads.new tid (frames_of threads.old.threads tid)
+        (pages_of threads.new.threads tid) }
+    ensures access { IsFilled (S.number_of now) first count (pages_of threads.old.threads tid)
+        (pages_of threads.new.threads tid) }
     ensures writes { IsFilled (S.number_of now) first count writes.old.pages writes.new.pages }
     ensures marks { IsFilled 0 first count marks.old.pages marks.new.pages }
 {

@@ -34,6 +34,12 @@ stamp_at pages w = stamp_in (page_of pages (w / 1024)) (w % 1024)
 abbrev pub page_at : List Page → ℕ → Page
 page_at pages i = get_or pages i (record { number = 0; stamps = [] })
 
+-- The page at the place has the word, and no other has it.
+pub record HasPlace (pages : List Page) (w place : ℕ) : Type 0 where
+  pub within : place < length pages
+  pub page : (page_at pages place).number ≡ w / 1024
+  pub only : (i : ℕ) → i < length pages → (page_at pages i).number ≡ w / 1024 → i ≡ place
+
 -- no two pages have one number
 abbrev pub AreDistinct : List Page → Type 0
 AreDistinct pages = (i j : ℕ) → i < j → j < length pages → (page_at pages i).number ≢ (page_at pages j).number

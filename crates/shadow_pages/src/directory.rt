@@ -38,9 +38,10 @@ impl Directory {
     /// The place of a page.
     #[inline(always)]
     pub fn place(&self, number: u32) -> Option<usize>
+        requires { number < 2 ^ 20 }
         ensures { result ≡ entry self.now number }
     {
-        let table = self.tables.get((number >> 10) as usize)?;
+        let table = &self.tables[(number >> 10) as usize];
         table
             .get(number as usize % TABLE_ENTRIES)
             .copied()
@@ -53,7 +54,8 @@ impl Directory {
         ensures entries { (n : ℕ) → entry self.new n ≡ entry self.old n }
         ensures placed { OnOk result (HasTable self.new number) }
         ensures others { (n : ℕ) → HasTable self.old n → HasTable self.new n }
-        ensures only { (n : ℕ) → n / 2 ^ 10 ≢ number / 2 ^ 10 → table_of self.new n ≡ table_of self.old n }
+        ensures only { (n : ℕ) → n / 2 ^ 10 ≢ number / 2 ^ 10
+            → table_of self.new n ≡ table_of self.old n }
     {
         let index = (number >> 10) as usize;
         if self.tables[index].is_empty() {

@@ -2,7 +2,7 @@
 ghost use Rattle.std.specs.Prelude.{◌≡◌, ◌≢◌, ◌<◌, ◌≤◌, ◌+◌, ◌*◌, ◌/◌, ◌%◌, ◌^◌, ◌++◌, ◌∷◌, ◌↔◌, ◌&&◌, ◌==◌, if◌then◌else◌, [], ℕ, Some, All, IfOk, IsOk, IsTrue, OnErr, OnOk, length, map, nat_le, nat_lt, slice_index, slice_set, true};
 ghost use Rattle.std.specs.Borrow.{sem};
 ghost use Rattle.shadow_pages.specs.Directory.{HasTable};
-ghost use Rattle.shadow_pages.specs.Pages.{AreCovered, AreDistinct, AreFresh, HasWord, HaveAll, IsFull, IsIndexed, IsLow, IsReserved, changed, covers, in_range, page_at, page_of, stamp_at, zeros};
+ghost use Rattle.shadow_pages.specs.Pages.{AreCovered, AreDistinct, AreFresh, HasPlace, HasWord, HaveAll, IsFull, IsIndexed, IsLow, IsReserved, changed, covers, in_range, page_at, page_of, stamp_at, zeros};
 
 use crate::directory::Directory;
 use guest_words::Word;
@@ -75,6 +75,7 @@ impl<S: Stamp> Shadow<S> {
     }
 
     /// The stamps of the page at the place, for writing.
+    #[inline(always)]
     pub fn page_mut(&mut self, i: usize) -> &mut [S]
         requires { i < length self.old.pages }
         ensures* writes_back { sem 𝓛 (LendsPage S.row S.Stamp self.entry i result) }
@@ -87,9 +88,11 @@ impl<S: Stamp> Shadow<S> {
     }
 
     /// Whether a page has the word. No two pages have one word.
+    #[inline(always)]
     pub fn covers(&self, w: Word) -> bool
         ensures value { result ≡ covers self.now.pages w }
-        ensures page { IsTrue result ↔ ((i : ℕ) × (i < length self.now.pages) × ((page_at self.now.pages i).number ≡ w / 1024)) }
+        ensures page { IsTrue result ↔ ((i : ℕ) × (i < length self.now.pages)
+            × ((page_at self.now.pages i).number ≡ w / 1024)) }
         ensures one { AreDistinct self.now.pages }
     {
         self.directory.place(w.number() >> 10).is_some()
@@ -106,14 +109,36 @@ impl<S: Stamp> Shadow<S> {
         }
     }
 
-    // The place of the page that has the word.
-    fn place(&self, w: Word) -> usize
+    /// The place of the page that has the covered word.
+    #[inline(always)]
+    pub fn place(&self, w: Word) -> usize
         requires { covers self.now.pages w ≡ true }
-        ensures within { result < length self.now.pages }
-        ensures page { (page_at self.now.pages result).number ≡ w / 1024 }
-        ensures only { (i : ℕ) → i < length self.now.pages → (page_at self.now.pages i).number ≡ w / 1024 → i ≡ result }
+        ensures { HasPlace self.now.pages w result }
     {
         self.directory.place(w.number() >> 10).unwrap()
+    }
+
+    /// The stamp of the word, by the place of its page.
+    #[inline(always)]
+    pub fn get_at(&self, place: usize, w: Word) -> S
+        requires { HasPlace self.now.pages w place }
+        ensures { S.number_of result ≡ stamp_at self.now.pages w }
+    {
+        self.pages[place].stamps[w.number() as usize % PAGE_WORDS]
+    }
+
+    /// Sets the stamp of the word, by the place of its page.
+    #[inline(always)]
+    pub fn set_at(&mut self, place: usize, w: Word, s: S)
+        requires { HasPlace self.old.pages w place }
+        ensures pages { self.new.pages ≡ changed self.old.pages (w / 1024)
+            (λ old. slice_set old (w % 1024) (S.number_of s)) }
+        ensures this { stamp_at self.new.pages w ≡ S.number_of s }
+        ensures others { (v : ℕ) → v ≢ w → stamp_at self.new.pages v ≡ stamp_at self.old.pages v }
+        ensures covered { (v : ℕ) → covers self.new.pages v ≡ covers self.old.pages v }
+    {
+        let stamps = self.page_mut(place);
+        stamps[w.number() as usize % PAGE_WORDS] = s;
     }
 
     /// The stamps of the page that has the covered word, for writing: the word's own stands at its number modulo 1024. For a
@@ -121,7 +146,8 @@ impl<S: Stamp> Shadow<S> {
     pub fn page_of_mut(&mut self, w: Word) -> &mut [S]
         requires { covers self.old.pages w ≡ true }
         ensures* writes_back { sem 𝓛 (LendsPageOf S.row S.Stamp self.entry (w / 1024) result) }
-        ensures value { page_of self.old.pages (w / 1024) ≡ Some (record { number = w / 1024; stamps = map S.number_of result.now }) }
+        ensures value { page_of self.old.pages (w / 1024)
+            ≡ Some (record { number = w / 1024; stamps = map S.number_of result.now }) }
         ensures count { length result.now ≡ 1024 }
     {
         let place = self.place(w);
@@ -131,14 +157,14 @@ impl<S: Stamp> Shadow<S> {
     /// Sets the stamp of a covered word.
     pub fn set(&mut self, w: Word, s: S)
         requires { covers self.old.pages w ≡ true }
-        ensures pages { self.new.pages ≡ changed self.old.pages (w / 1024) (λ old. slice_set old (w % 1024) (S.number_of s)) }
+        ensures pages { self.new.pages ≡ changed self.old.pages (w / 1024)
+            (λ old. slice_set old (w % 1024) (S.number_of s)) }
         ensures this { stamp_at self.new.pages w ≡ S.number_of s }
         ensures others { (v : ℕ) → v ≢ w → stamp_at self.new.pages v ≡ stamp_at self.old.pages v }
         ensures covered { (v : ℕ) → covers self.new.pages v ≡ covers self.old.pages v }
     {
         let place = self.place(w);
-        let stamps = self.page_mut(place);
-        stamps[w.number() as usize % PAGE_WORDS] = s;
+        self.set_at(place, w, s);
     }
 
     // Sets the stamps of the words of a range that lie in one page.
@@ -146,7 +172,9 @@ impl<S: Stamp> Shadow<S> {
         requires end { first + count ≤ 2 ^ 30 }
         requires meets { HasWord first count number }
         requires covered { AreCovered self.old.pages first count }
-        ensures stamps { (w : ℕ) → stamp_at self.new.pages w ≡ (if (w / 1024 == number) && in_range first count w then S.number_of s else stamp_at self.old.pages w) }
+        ensures stamps { (w : ℕ) → stamp_at self.new.pages w
+            ≡ (if (w / 1024 == number)
+            && in_range first count w then S.number_of s else stamp_at self.old.pages w) }
         ensures covered { (w : ℕ) → covers self.new.pages w ≡ covers self.old.pages w }
         ensures pages { length self.new.pages ≡ length self.old.pages }
     {
@@ -161,7 +189,8 @@ impl<S: Stamp> Shadow<S> {
     pub fn fill(&mut self, first: Word, count: u32, s: S)
         requires end { first + count ≤ 2 ^ 30 }
         requires covered { AreCovered self.old.pages first count }
-        ensures stamps { (w : ℕ) → stamp_at self.new.pages w ≡ (if in_range first count w then S.number_of s else stamp_at self.old.pages w) }
+        ensures stamps { (w : ℕ) → stamp_at self.new.pages w
+            ≡ (if in_range first count w then S.number_of s else stamp_at self.old.pages w) }
         ensures covered { (w : ℕ) → covers self.new.pages w ≡ covers self.old.pages w }
         ensures pages { length self.new.pages ≡ length self.old.pages }
     {
@@ -176,7 +205,8 @@ impl<S: Stamp> Shadow<S> {
         requires covered { covers self.now.pages first ≡ true }
         requires within { first % 1024 + count ≤ 1024 }
         ensures count { length result.now ≡ count }
-        ensures stamps { (k : ℕ) → k < count → slice_index (map S.number_of result.now) k ≡ stamp_at self.now.pages (first + k) }
+        ensures stamps { (k : ℕ) → k < count → slice_index (map S.number_of result.now) k
+            ≡ stamp_at self.now.pages (first + k) }
     {
         let start = first.number() as usize % PAGE_WORDS;
         &self.pages[self.place(first)].stamps[start..start + count as usize]
@@ -186,7 +216,8 @@ impl<S: Stamp> Shadow<S> {
     fn fresh_pages(&self, low: u32, end: u32) -> Result<Vec<Page<S>>, AllocError>
         requires order { low ≤ end }
         requires end { end ≤ 2 ^ 20 }
-        ensures ok { IfOk result (λ v. AreFresh self.now.pages (map (λ p. record { number = p.number; stamps = map S.number_of p.stamps.items }) v.items) low end) }
+        ensures ok { IfOk result (λ v. AreFresh self.now.pages
+            (map (λ p. record { number = p.number; stamps = map S.number_of p.stamps.items }) v.items) low end) }
         ensures covered { HaveAll self.now.pages low end → IsOk result }
     {
         let mut fresh = Vec::new(self.alloc);
@@ -204,7 +235,8 @@ impl<S: Stamp> Shadow<S> {
         requires { first + count ≤ 2 ^ 30 }
         ensures ok { OnOk result (IsReserved self.old.pages self.new.pages first count) }
         ensures err { OnErr result (self.new.pages ≡ self.old.pages) }
-        ensures covered { AreCovered self.old.pages first count → IsOk result × (self.new.pages ≡ self.old.pages) }
+        ensures covered { AreCovered self.old.pages first count
+            → IsOk result × (self.new.pages ≡ self.old.pages) }
         ensures stamps { (w : ℕ) → stamp_at self.new.pages w ≡ stamp_at self.old.pages w }
         ensures kept { (w : ℕ) → covers self.old.pages w ≡ true → covers self.new.pages w ≡ true }
     {
@@ -226,7 +258,8 @@ fn page_range(first: Word, count: u32) -> (u32, u32)
     requires { first + count ≤ 2 ^ 30 }
     ensures order { result.0 ≤ result.1 }
     ensures end { result.1 ≤ 2 ^ 20 }
-    ensures holds { (w : ℕ) → first ≤ w → w < first + count → (result.0 ≤ w / 1024) × (w / 1024 < result.1) }
+    ensures holds { (w : ℕ) → first ≤ w → w < first + count
+        → (result.0 ≤ w / 1024) × (w / 1024 < result.1) }
     ensures meets { (n : ℕ) → result.0 ≤ n → n < result.1 → HasWord first count n }
 {
     let low = first.number() >> 10;
@@ -241,7 +274,9 @@ fn page_range(first: Word, count: u32) -> (u32, u32)
 fn fill_row<S: Stamp>(row: &mut [S], from: usize, to: usize, s: S)
     requires order { from ≤ to }
     requires within { to ≤ length row.old }
-    ensures stamps { (k : ℕ) → slice_index (map S.number_of row.new) k ≡ (if nat_le from k && nat_lt k to then S.number_of s else slice_index (map S.number_of row.old) k) }
+    ensures stamps { (k : ℕ) → slice_index (map S.number_of row.new) k
+        ≡ (if nat_le from k && nat_lt k to then S.number_of s
+        else slice_index (map S.number_of row.old) k) }
     ensures count { length row.new ≡ length row.old }
 {
     for at in from..to {
@@ -263,10 +298,14 @@ fn zero_stamps<S: Stamp>(alloc: Global) -> Result<Vec<S>, AllocError>
 /// Says in the directory the places of the pages from a place on.
 fn enter<S: Stamp>(directory: &mut Directory, pages: &[Page<S>], from: usize)
     requires within { from ≤ length pages.now }
-    requires indexed { IsIndexed directory.old (map (λ p. record { number = p.number; stamps = map S.number_of p.stamps.items }) pages.now) from }
-    requires distinct { AreDistinct (map (λ p. record { number = p.number; stamps = map S.number_of p.stamps.items }) pages.now) }
+    requires indexed { IsIndexed directory.old (map
+        (λ p. record { number = p.number; stamps = map S.number_of p.stamps.items }) pages.now) from }
+    requires distinct { AreDistinct (map
+        (λ p. record { number = p.number; stamps = map S.number_of p.stamps.items }) pages.now) }
     requires tables { All (λ p. HasTable directory.old p.number) pages.now }
-    ensures { IsIndexed directory.new (map (λ p. record { number = p.number; stamps = map S.number_of p.stamps.items }) pages.now) (length pages.now) }
+    ensures { IsIndexed directory.new (map
+        (λ p. record { number = p.number; stamps = map S.number_of p.stamps.items }) pages.now)
+        (length pages.now) }
 {
     for place in from..pages.len() {
         directory.put(pages[place].number, place);

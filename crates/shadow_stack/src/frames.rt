@@ -75,7 +75,8 @@ impl<S: Stamp> Frames<S> {
     /// One more frame inside all the others, with no sums. It is not refused where there is room.
     pub fn push(&mut self, start: S) -> Result<(), AllocError>
         requires { All (λ s. s < S.number_of start) (starts_of self.old.list) }
-        ensures ok { OnOk result (self.new.list ≡ self.old.list ++ new_frame (S.number_of start) ∷ []) }
+        ensures ok { OnOk result (self.new.list
+            ≡ self.old.list ++ new_frame (S.number_of start) ∷ []) }
         ensures err { OnErr result (self.new.list ≡ self.old.list) }
         ensures room { 1 ≤ self.old.spare → IsOk result }
         ensures lowered { self.old.spare ≤ self.new.spare + 1 }
@@ -134,7 +135,9 @@ impl<S: Stamp> Frames<S> {
 /// Gives each frame its new start.
 fn restart<S: Stamp>(frames: &mut [Frame<S>], starts: &[S])
     requires { length starts.now ≡ length frames.old }
-    ensures list { map (λ x. record { start = S.number_of x.start; sums = x.sums }) frames.new ≡ restarted (map S.number_of starts.now) (map (λ x. record { start = S.number_of x.start; sums = x.sums }) frames.old) }
+    ensures list { map (λ x. record { start = S.number_of x.start; sums = x.sums }) frames.new
+        ≡ restarted (map S.number_of starts.now)
+        (map (λ x. record { start = S.number_of x.start; sums = x.sums }) frames.old) }
     ensures length { length frames.new ≡ length frames.old }
 {
     for i in 0..frames.len() {
@@ -147,8 +150,10 @@ fn restart<S: Stamp>(frames: &mut [Frame<S>], starts: &[S])
 fn first_above<S: Stamp, L: Ledger>(frames: &[Frame<S>], n: u32, steps: &mut Steps<L>) -> usize
     requires { IsRising (map (λ x. S.number_of x.start) frames.now) }
     ensures within { result ≤ length frames.now }
-    ensures below { (i : ℕ) → i < result → slice_index (map (λ x. S.number_of x.start) frames.now) i ≤ n }
-    ensures above { (i : ℕ) → result ≤ i → i < length frames.now → n < slice_index (map (λ x. S.number_of x.start) frames.now) i }
+    ensures below { (i : ℕ) → i < result → slice_index (map (λ x. S.number_of x.start) frames.now) i
+        ≤ n }
+    ensures above { (i : ℕ) → result ≤ i → i < length frames.now
+        → n < slice_index (map (λ x. S.number_of x.start) frames.now) i }
     ensures cost { 2 ^ (steps.new - steps.old) ≤ 2 * length frames.now + 1 }
 {
     let mut low = 0;

@@ -13,7 +13,8 @@ use stamps::Stamp;
 /// Adds the starts of the frames to those that are there. There is room for them.
 pub(crate) fn collect_starts<S: Stamp>(frames: &Frames<S>, starts: &mut Vec<S>)
     requires room { vec_len starts.old + length frames.now.list ≤ vec_capacity starts.old }
-    ensures items { map S.number_of starts.new.items ≡ map S.number_of starts.old.items ++ starts_of frames.now.list }
+    ensures items { map S.number_of starts.new.items
+        ≡ map S.number_of starts.old.items ++ starts_of frames.now.list }
     ensures capacity { vec_capacity starts.old ≤ vec_capacity starts.new }
 {
     for i in 0..frames.depth() {
@@ -27,7 +28,8 @@ fn renewed_starts<S: Stamp>(frames: &Frames<S>, starts: &[S], renewed: &mut Vec<
     requires fit { 3 * length starts.now + 2 ≤ S.MAX }
     requires empty { vec_len renewed.old ≡ 0 }
     requires room { length frames.now.list ≤ vec_capacity renewed.old }
-    ensures items { map S.number_of renewed.new.items ≡ map (new_start (map S.number_of starts.now)) (starts_of frames.now.list) }
+    ensures items { map S.number_of renewed.new.items
+        ≡ map (new_start (map S.number_of starts.now)) (starts_of frames.now.list) }
     ensures rising { IsRising (starts_of frames.now.list) }
     ensures capacity { vec_capacity renewed.old ≤ vec_capacity renewed.new }
 {

@@ -20,7 +20,9 @@ fn renew_access_page<S: Lanes>(
     requires sorted { IsNonDecreasingBy S.number_of starts.now }
     requires room { 3 * length starts.now + 2 ≤ S.MAX }
     requires within { i < length shadow.old.pages }
-    ensures { shadow.new.pages ≡ slice_set shadow.old.pages i (renewed_accesses (map S.number_of starts.now) writes.now.pages (page_at shadow.old.pages i)) }
+    ensures { shadow.new.pages ≡ slice_set shadow.old.pages i
+        (renewed_accesses (map S.number_of starts.now) writes.now.pages
+        (page_at shadow.old.pages i)) }
 {
     let (first, own) = shadow.page(i);
     if writes.covers(first) {
@@ -41,7 +43,8 @@ fn renew_write_page<S: Lanes>(
     requires sorted { IsNonDecreasingBy S.number_of starts.now }
     requires room { 3 * length starts.now + 2 ≤ S.MAX }
     requires within { i < length writes.old.pages }
-    ensures { writes.new.pages ≡ slice_set writes.old.pages i (renewed_writes (map S.number_of starts.now) (page_at writes.old.pages i)) }
+    ensures { writes.new.pages ≡ slice_set writes.old.pages i
+        (renewed_writes (map S.number_of starts.now) (page_at writes.old.pages i)) }
 {
     let (_, own) = writes.page(i);
     rows.renew_writes(own, starts);
@@ -57,7 +60,9 @@ pub(crate) fn renew_accesses<S: Lanes>(
 )
     requires sorted { IsNonDecreasingBy S.number_of starts.now }
     requires room { 3 * length starts.now + 2 ≤ S.MAX }
-    ensures stamps { (w : ℕ) → stamp_at shadow.new.pages w ≡ new_access (map S.number_of starts.now) (stamp_at shadow.old.pages w) (stamp_at writes.now.pages w) }
+    ensures stamps { (w : ℕ) → stamp_at shadow.new.pages w
+        ≡ new_access (map S.number_of starts.now) (stamp_at shadow.old.pages w)
+        (stamp_at writes.now.pages w) }
     ensures covered { (w : ℕ) → covers shadow.new.pages w ≡ covers shadow.old.pages w }
 {
     for i in 0..shadow.pages() {
@@ -69,7 +74,8 @@ pub(crate) fn renew_accesses<S: Lanes>(
 pub(crate) fn renew_writes<S: Lanes>(writes: &mut Shadow<S>, starts: &[S], rows: &mut WorkRows<S>)
     requires sorted { IsNonDecreasingBy S.number_of starts.now }
     requires room { 3 * length starts.now + 2 ≤ S.MAX }
-    ensures stamps { (w : ℕ) → stamp_at writes.new.pages w ≡ new_write (map S.number_of starts.now) (stamp_at writes.old.pages w) }
+    ensures stamps { (w : ℕ) → stamp_at writes.new.pages w
+        ≡ new_write (map S.number_of starts.now) (stamp_at writes.old.pages w) }
     ensures covered { (w : ℕ) → covers writes.new.pages w ≡ covers writes.old.pages w }
 {
     for i in 0..writes.pages() {

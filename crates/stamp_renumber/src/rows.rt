@@ -64,7 +64,9 @@ fn renew_row<S: Lanes>(
         × (length write_classes.old ≡ length into.old) }
     ensures own_classes { length own_classes.new ≡ length own_classes.old }
     ensures write_classes { length write_classes.new ≡ length write_classes.old }
-    ensures value { map S.number_of into.new ≡ new_accesses (map S.number_of starts.now) (map S.number_of own.now) (map S.number_of write.now) }
+    ensures value { map S.number_of into.new
+        ≡ new_accesses (map S.number_of starts.now) (map S.number_of own.now)
+        (map S.number_of write.now) }
 {
     classes_into(own, starts, own_classes);
     classes_into(write, starts, write_classes);
@@ -77,7 +79,8 @@ fn rewrite_row<S: Lanes>(own: &[S], starts: &[S], classes: &mut [S], into: &mut 
     requires room { 3 * length starts.now + 2 ≤ S.MAX }
     requires lengths { (length own.now ≡ length into.old) × (length classes.old ≡ length into.old) }
     ensures classes { length classes.new ≡ length classes.old }
-    ensures value { map S.number_of into.new ≡ map (new_write (map S.number_of starts.now)) (map S.number_of own.now) }
+    ensures value { map S.number_of into.new
+        ≡ map (new_write (map S.number_of starts.now)) (map S.number_of own.now) }
 {
     classes_into(own, starts, classes);
     S::renew_into(own, classes, own, classes, into);
@@ -107,7 +110,8 @@ impl<S: Lanes> WorkRows<S> {
         requires sorted { IsNonDecreasingBy S.number_of starts.now }
         requires room { 3 * length starts.now + 2 ≤ S.MAX }
         requires lengths { (length own.now ≡ 1024) × (length write.now ≡ 1024) }
-        ensures { self.new ≡ new_accesses (map S.number_of starts.now) (map S.number_of own.now) (map S.number_of write.now) }
+        ensures { self.new ≡ new_accesses (map S.number_of starts.now) (map S.number_of own.now)
+            (map S.number_of write.now) }
     {
         renew_row(
             own,
@@ -124,7 +128,8 @@ impl<S: Lanes> WorkRows<S> {
         requires sorted { IsNonDecreasingBy S.number_of starts.now }
         requires room { 3 * length starts.now + 2 ≤ S.MAX }
         requires lengths { length own.now ≡ 1024 }
-        ensures { self.new ≡ new_accesses (map S.number_of starts.now) (map S.number_of own.now) zeros }
+        ensures { self.new ≡ new_accesses (map S.number_of starts.now)
+            (map S.number_of own.now) zeros }
     {
         renew_row(
             own,
@@ -141,7 +146,8 @@ impl<S: Lanes> WorkRows<S> {
         requires sorted { IsNonDecreasingBy S.number_of starts.now }
         requires room { 3 * length starts.now + 2 ≤ S.MAX }
         requires lengths { length own.now ≡ 1024 }
-        ensures { self.new ≡ map (new_write (map S.number_of starts.now)) (map S.number_of own.now) }
+        ensures { self.new ≡ map (new_write (map S.number_of starts.now))
+            (map S.number_of own.now) }
     {
         rewrite_row(own, starts, &mut self.own_classes, &mut self.renewed);
     }

@@ -11,8 +11,10 @@ pub(crate) fn class_of<S: Stamp>(starts: &[S], stamp: S) -> usize
     requires sorted { IsNonDecreasingBy S.number_of starts.now }
     ensures value { result ≡ class (map S.number_of starts.now) (S.number_of stamp) }
     ensures within { result ≤ length starts.now }
-    ensures below { (i : ℕ) → i < result → slice_index (map S.number_of starts.now) i ≤ S.number_of stamp }
-    ensures above { (i : ℕ) → result ≤ i → i < length starts.now → S.number_of stamp < slice_index (map S.number_of starts.now) i }
+    ensures below { (i : ℕ) → i < result → slice_index (map S.number_of starts.now) i
+        ≤ S.number_of stamp }
+    ensures above { (i : ℕ) → result ≤ i → i < length starts.now
+        → S.number_of stamp < slice_index (map S.number_of starts.now) i }
 {
     let n = stamp.number();
     starts.partition_point(|start| start.number() <= n)
@@ -23,7 +25,8 @@ pub(crate) fn classes_into<S: Lanes>(stamps: &[S], starts: &[S], into: &mut [S])
     requires sorted { IsNonDecreasingBy S.number_of starts.now }
     requires room { length starts.now ≤ S.MAX }
     requires lengths { length stamps.now ≡ length into.old }
-    ensures { map S.number_of into.new ≡ map (class (map S.number_of starts.now)) (map S.number_of stamps.now) }
+    ensures { map S.number_of into.new
+        ≡ map (class (map S.number_of starts.now)) (map S.number_of stamps.now) }
 {
     let _most = S::MAX;
     if let Some(ends) = S::least_greatest(stamps) {

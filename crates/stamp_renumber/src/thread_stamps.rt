@@ -80,7 +80,8 @@ impl<S: Stamp> ThreadStamps<S> {
     /// One more frame.
     pub(crate) fn push(&mut self, start: S) -> Result<(), AllocError>
         requires { All (λ s. s < S.number_of start) (starts_of self.old.frames) }
-        ensures ok { OnOk result (self.new.frames ≡ self.old.frames ++ new_frame (S.number_of start) ∷ []) }
+        ensures ok { OnOk result (self.new.frames
+            ≡ self.old.frames ++ new_frame (S.number_of start) ∷ []) }
         ensures err { OnErr result (self.new.frames ≡ self.old.frames) }
         ensures pages { self.new.pages ≡ self.old.pages }
         ensures room { 1 ≤ self.old.spare → IsOk result }
@@ -124,7 +125,8 @@ impl<S: Lanes> ThreadStamps<S> {
         requires fit { 3 * length starts.now + 2 ≤ S.MAX }
         requires among { All (Contains (map S.number_of starts.now)) (starts_of self.old.frames) }
         requires room { length self.old.frames ≤ vec_capacity renewed.old }
-        ensures thread { IsThreadRenumbered (map S.number_of starts.now) writes.now.pages self.old self.new }
+        ensures thread { IsThreadRenumbered
+            (map S.number_of starts.now) writes.now.pages self.old self.new }
         ensures capacity { vec_capacity renewed.old ≤ vec_capacity renewed.new }
     {
         renew_frames(&mut self.frames, starts, renewed);

@@ -71,7 +71,8 @@ impl<S: Lanes> Threads<S> {
     /// One more thread, whose number is above all others.
     pub fn add(&mut self, tid: Tid) -> Result<(), AllocError>
         requires above { All (λ n. n < tid) (numbers self.old.threads) }
-        ensures ok { OnOk result (self.new.threads ≡ self.old.threads ++ (tid, stamped self.new.threads tid [] []) ∷ []) }
+        ensures ok { OnOk result (self.new.threads
+            ≡ self.old.threads ++ (tid, stamped self.new.threads tid [] []) ∷ []) }
         ensures err { OnErr result (self.new ≡ self.old) }
         ensures marks { self.new.marks ≡ self.old.marks }
     {
@@ -122,7 +123,9 @@ impl<S: Lanes> Threads<S> {
     pub fn reserve(&mut self, tid: Tid) -> Result<(), AllocError>
         requires lives { is_some (value_of self.old.threads tid) ≡ true }
         ensures room { OnOk result ((1 ≤ spare_of self.new.threads tid) × (1 ≤ self.new.marks)) }
-        ensures threads { self.new.threads ≡ with_value self.old.threads tid (stamped self.new.threads tid (frames_of self.old.threads tid) (pages_of self.old.threads tid)) }
+        ensures threads { self.new.threads ≡ with_value self.old.threads tid
+            (stamped self.new.threads tid (frames_of self.old.threads tid)
+            (pages_of self.old.threads tid)) }
         ensures kept { spare_of self.old.threads tid ≤ spare_of self.new.threads tid }
         ensures marks { self.old.marks ≤ self.new.marks }
     {
@@ -134,9 +137,17 @@ impl<S: Lanes> Threads<S> {
     #[inline(always)]
     pub fn push(&mut self, tid: Tid, start: S) -> Result<(), AllocError>
         requires lives { is_some (value_of self.old.threads tid) ≡ true }
-        requires above { All (λ s. s < S.number_of start) (starts_of (frames_of self.old.threads tid)) }
-        ensures ok { OnOk result (self.new.threads ≡ with_value self.old.threads tid (stamped self.new.threads tid (frames_of self.old.threads tid ++ new_frame (S.number_of start) ∷ []) (pages_of self.old.threads tid))) }
-        ensures err { OnErr result (self.new.threads ≡ with_value self.old.threads tid (stamped self.new.threads tid (frames_of self.old.threads tid) (pages_of self.old.threads tid))) }
+        requires above { All (λ s. s < S.number_of start)
+            (starts_of (frames_of self.old.threads tid)) }
+        ensures ok { OnOk result (self.new.threads
+            ≡ with_value self.old.threads tid
+            (stamped self.new.threads tid
+            (frames_of self.old.threads tid ++ new_frame (S.number_of start) ∷ [])
+            (pages_of self.old.threads tid))) }
+        ensures err { OnErr result (self.new.threads
+            ≡ with_value self.old.threads tid
+            (stamped self.new.threads tid (frames_of self.old.threads tid)
+            (pages_of self.old.threads tid))) }
         ensures room { 1 ≤ spare_of self.old.threads tid → 1 ≤ self.old.marks → IsOk result }
         ensures lowered { spare_of self.old.threads tid ≤ spare_of self.new.threads tid + 1 }
         ensures marks { self.old.marks ≤ self.new.marks + 1 }
@@ -152,8 +163,11 @@ impl<S: Lanes> Threads<S> {
     pub fn add_sum(&mut self, tid: Tid, i: usize, by: Sums)
         requires lives { is_some (value_of self.old.threads tid) ≡ true }
         requires within { i < length (frames_of self.old.threads tid) }
-        requires fits { IfSome (slice_get (frames_of self.old.threads tid) i) (λ f. FitsSums (plus f.sums by)) }
-        ensures threads { self.new.threads ≡ with_value self.old.threads tid (stamped self.new.threads tid (added i by (frames_of self.old.threads tid)) (pages_of self.old.threads tid)) }
+        requires fits { IfSome (slice_get (frames_of self.old.threads tid) i)
+            (λ f. FitsSums (plus f.sums by)) }
+        ensures threads { self.new.threads ≡ with_value self.old.threads tid
+            (stamped self.new.threads tid (added i by (frames_of self.old.threads tid))
+            (pages_of self.old.threads tid)) }
         ensures kept { spare_of self.old.threads tid ≤ spare_of self.new.threads tid }
         ensures marks { self.new.marks ≡ self.old.marks }
     {
@@ -161,11 +175,15 @@ impl<S: Lanes> Threads<S> {
     }
 
     /// Takes the thread's innermost frame, and adds its sums to the frame below.
+    #[inline(always)]
     pub fn pop(&mut self, tid: Tid) -> Option<Sums>
         requires lives { is_some (value_of self.old.threads tid) ≡ true }
         requires fits { FitsPop (frames_of self.old.threads tid) }
-        ensures popped { IsPopped (frames_of self.old.threads tid) result (frames_of self.new.threads tid) }
-        ensures threads { self.new.threads ≡ with_value self.old.threads tid (stamped self.new.threads tid (frames_of self.new.threads tid) (pages_of self.old.threads tid)) }
+        ensures popped { IsPopped (frames_of self.old.threads tid) result
+            (frames_of self.new.threads tid) }
+        ensures threads { self.new.threads ≡ with_value self.old.threads tid
+            (stamped self.new.threads tid (frames_of self.new.threads tid)
+            (pages_of self.old.threads tid)) }
         ensures kept { spare_of self.old.threads tid ≤ spare_of self.new.threads tid }
         ensures marks { self.old.marks ≤ self.new.marks }
     {
@@ -176,6 +194,7 @@ impl<S: Lanes> Threads<S> {
     }
 
     /// The thread's frames.
+    #[inline(always)]
     pub fn frames(&self, tid: Tid) -> &Frames<S>
         requires { is_some (value_of self.now.threads tid) ≡ true }
         ensures { result.now ≡ record { list = frames_of self.now.threads tid; spare = spare_of self.now.threads tid } }
@@ -184,6 +203,7 @@ impl<S: Lanes> Threads<S> {
     }
 
     /// The stamps of the thread's accesses.
+    #[inline(always)]
     pub fn shadow(&self, tid: Tid) -> &Shadow<S>
         requires { is_some (value_of self.now.threads tid) ≡ true }
         ensures { result.now ≡ record { pages = pages_of self.now.threads tid } }
@@ -192,6 +212,7 @@ impl<S: Lanes> Threads<S> {
     }
 
     /// The stamps of the thread's accesses, for writing.
+    #[inline(always)]
     pub fn shadow_mut(&mut self, tid: Tid) -> &mut Shadow<S>
         requires { is_some (value_of self.old.threads tid) ≡ true }
         ensures* writes_back { sem 𝓛 (LendsStamps S.row S.Stamp self.entry tid result) }

@@ -22,7 +22,8 @@ pub fn tick<S: Lanes>(threads: &mut Threads<S>, writes: &mut Shadow<S>, counter:
     requires room { 3 * length (all_starts threads.old.threads) + 3 ≤ S.MAX }
     ensures answer { result ≡ ticked S.MAX counter (length (all_starts threads.old.threads)) }
     ensures below { counter < S.MAX → (threads.new ≡ threads.old) × (writes.new ≡ writes.old) }
-    ensures renewed { counter ≡ S.MAX → IsRenumbered threads.old threads.new writes.old.pages writes.new.pages }
+    ensures renewed { counter ≡ S.MAX
+        → IsRenumbered threads.old threads.new writes.old.pages writes.new.pages }
 {
     if counter < S::MAX {
         return Ticked {

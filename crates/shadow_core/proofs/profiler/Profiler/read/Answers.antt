@@ -1,88 +1,14 @@
-use Rattle.std.proofs.Common.{◌≡◌, ◌≤◌, ◌∙◌, ap, sym, arith}
-use Rattle.std.specs.Option.{option_copied_mut}
+use Rattle.std.proofs.Common.{arith}
 use Rattle.trace_model.specs.declared.event_kinds.Event.TheVariants.{Read}
-use Rattle.shadow_pages.specs.Pages.{stamp_at}
-use Rattle.stamp_lanes.specs.Plain.{is_by_kernel, is_by_thread}
-use Rattle.stamp_renumber.specs.Threads.{pages_of}
-use Rattle.shadow_core.specs.State.{table_of_state}
-use Rattle.shadow_core.proofs.Accessed.{own_room, whole_changed}
-use Rattle.shadow_core.proofs.PartReads.{count_few}
-use Rattle.shadow_core.proofs.Profiled.{advance_here, alive_here, found, lives_here, on_err}
-use Rattle.shadow_core.proofs.ReadEvents.{found_fits, may_read_there, read_whole, whole_read}
+use Rattle.shadow_core.proofs.Profiled.{alive_here, lives_here}
+use Rattle.shadow_core.proofs.Repeated.{read_again}
 use Rattle.shadow_core.proofs.profiler.Profiler.read.Goals as goal
 
-pub cover_own-requires-clause-lives : goal.cover_own-requires-clause-lives
-cover_own-requires-clause-lives g c =
+pub is_fresh-requires : goal.is_fresh-requires
+is_fresh-requires g c =
     let a = alive_here g.S.Stamp.MAX (Read c.args.tid c.args.first c.args.count) c.args.tid _ _ c.self.view_is c.requires c.self.invariant c.requires.formed.0.0.0 in
-    lives_here _ c.args.tid a
+    record { lives = lives_here _ c.args.tid a }
 
-pub invariant_of-self : goal.invariant_of-self
-invariant_of-self g c =
-    let whole = whole_changed _ c.args.tid c.cover_own.new.threads _ _ c.self.invariant c.in_err-cover_own.ensures.changed in
-    record { same = whole.same; marked = whole.marked }
-
-pub returns-in_err-cover_own-clause-refused : goal.returns-in_err-cover_own-clause-refused
-returns-in_err-cover_own-clause-refused g c =
-    let a = alive_here g.S.Stamp.MAX (Read c.args.tid c.args.first c.args.count) c.args.tid _ _ c.self.view_is c.requires c.self.invariant c.requires.formed.0.0.0 in
-    on_err c.from_residual.result
-    (own_room _ c.args.tid a.was a.calls c.cover_own.new.threads a.has c.in_err-cover_own.ensures.changed c.in_err-cover_own.ensures.stamps
-    ∙ ap table_of_state c.self.view_is)
-
-pub from_number-now-requires : goal.from_number-now-requires
-from_number-now-requires g c = (advance_here g.S.Stamp.MAX (Read c.args.tid c.args.first c.args.count) _ _ c.self.view_is c.requires).within
-
-pub read-found-requires-clause-lives : goal.read-found-requires-clause-lives
-read-found-requires-clause-lives g c =
-    (may_read_there g.S.Stamp.MAX c.args.tid c.args.first c.args.count _ _ c.cover_own.new.threads c.self.view_is c.requires c.self.invariant c.in_ok-cover_own.ensures.changed c.in_ok-cover_own.ensures.stamps).lives
-
-pub read-found-requires-clause-depth : goal.read-found-requires-clause-depth
-read-found-requires-clause-depth g c =
-    (may_read_there g.S.Stamp.MAX c.args.tid c.args.first c.args.count _ _ c.cover_own.new.threads c.self.view_is c.requires c.self.invariant c.in_ok-cover_own.ensures.changed c.in_ok-cover_own.ensures.stamps).depth
-
-pub read-found-requires-clause-starts : goal.read-found-requires-clause-starts
-read-found-requires-clause-starts g c =
-    (may_read_there g.S.Stamp.MAX c.args.tid c.args.first c.args.count _ _ c.cover_own.new.threads c.self.view_is c.requires c.self.invariant c.in_ok-cover_own.ensures.changed c.in_ok-cover_own.ensures.stamps).starts
-
-pub read-found-requires-clause-sums : goal.read-found-requires-clause-sums
-read-found-requires-clause-sums g c =
-    (may_read_there g.S.Stamp.MAX c.args.tid c.args.first c.args.count _ _ c.cover_own.new.threads c.self.view_is c.requires c.self.invariant c.in_ok-cover_own.ensures.changed c.in_ok-cover_own.ensures.stamps).sums
-
-pub unwrap-calls-requires : goal.unwrap-calls-requires
-unwrap-calls-requires g c =
-    let a = alive_here g.S.Stamp.MAX (Read c.args.tid c.args.first c.args.count) c.args.tid _ _ c.self.view_is c.requires c.self.invariant c.requires.formed.0.0.0 in
-    found c.get_mut.result c.self.inside.calls.list c.args.tid c.get_mut.ensures.found a.calls a.has.calls
-
-pub add_found-requires-clause-thread : goal.add_found-requires-clause-thread
-add_found-requires-clause-thread g c =
-    let own = stamp_at (pages_of c.cover_own.new.threads.threads c.args.tid) in
-    let write = stamp_at c.self.inside.writes.pages in
-    let marks = stamp_at c.self.inside.marks.pages in
-    let few : c.read-found.result.thread ≤ c.args.count = omega (arith, c.read-found.ensures.thread, count_few is_by_thread own write marks c.args.first c.args.count) in
-    let few' : c.read-found.result.kernel ≤ c.args.count = omega (arith, c.read-found.ensures.kernel, count_few is_by_kernel own write marks c.args.first c.args.count) in
-    (found_fits g.S.Stamp.MAX c.args.tid c.args.first c.args.count _ _ c.cover_own.new.threads c.self.view_is c.requires c.self.invariant c.in_ok-cover_own.ensures.changed c.in_ok-cover_own.ensures.stamps
-    c.read-found.result.thread c.read-found.result.kernel c.unwrap-calls.result.now (sym c.get_mut.ensures.found ∙ ap option_copied_mut c.unwrap-calls.ensures) few few').0
-
-pub add_found-requires-clause-kernel : goal.add_found-requires-clause-kernel
-add_found-requires-clause-kernel g c =
-    let own = stamp_at (pages_of c.cover_own.new.threads.threads c.args.tid) in
-    let write = stamp_at c.self.inside.writes.pages in
-    let marks = stamp_at c.self.inside.marks.pages in
-    let few : c.read-found.result.thread ≤ c.args.count = omega (arith, c.read-found.ensures.thread, count_few is_by_thread own write marks c.args.first c.args.count) in
-    let few' : c.read-found.result.kernel ≤ c.args.count = omega (arith, c.read-found.ensures.kernel, count_few is_by_kernel own write marks c.args.first c.args.count) in
-    (found_fits g.S.Stamp.MAX c.args.tid c.args.first c.args.count _ _ c.cover_own.new.threads c.self.view_is c.requires c.self.invariant c.in_ok-cover_own.ensures.changed c.in_ok-cover_own.ensures.stamps
-    c.read-found.result.thread c.read-found.result.kernel c.unwrap-calls.result.now (sym c.get_mut.ensures.found ∙ ap option_copied_mut c.unwrap-calls.ensures) few few').1
-
-pub invariant_of-self-2 : goal.invariant_of-self-2
-invariant_of-self-2 g c =
-    let whole = whole_read g.S.Stamp.MAX c.args.tid c.args.first c.args.count _ _ c.cover_own.new.threads c.self.view_is c.requires c.self.invariant c.in_ok-cover_own.ensures.changed c.in_ok-cover_own.ensures.stamps
-    c.read-found.new.threads c.read-found.result.thread c.read-found.result.kernel _ c.read-found.ensures.read c.add_found.new.self 0 in
-    record { same = whole.same; marked = whole.marked }
-
-pub returns-clause-table : goal.returns-clause-table
-returns-clause-table g c =
-    let number : g.S.Stamp.number_of c.from_number-now.result ≡ c.self.inside.counter =
-    ap g.S.Stamp.number_of c.from_number-now.ensures
-    ∙ g.met.S.Stamp.number_back c.self.inside.counter (advance_here g.S.Stamp.MAX (Read c.args.tid c.args.first c.args.count) _ _ c.self.view_is c.requires).within in
-    read_whole g.S.Stamp.MAX c.args.tid c.args.first c.args.count _ _ c.cover_own.new.threads c.self.view_is c.requires c.self.invariant c.in_ok-cover_own.ensures.changed c.in_ok-cover_own.ensures.stamps
-    c.read-found.new.threads c.read-found.result.thread c.read-found.result.kernel _ c.read-found.ensures.read c.unwrap-calls.result.now c.add_found.new.self _
-    (sym c.get_mut.ensures.found ∙ ap option_copied_mut c.unwrap-calls.ensures) number c.read-found.ensures.thread c.read-found.ensures.kernel c.add_found.ensures (omega (arith, c.from.ensures))
+pub returns-then-is_fresh-clause-table : goal.returns-then-is_fresh-clause-table
+returns-then-is_fresh-clause-table g c =
+    read_again g.S.Stamp.MAX c.args.tid c.args.first c.args.count _ _ _ c.self.view_is c.requires c.self.invariant (omega (arith, c.if-count-eq1.true)) (c.is_fresh.ensures c.if-is_fresh.true) (omega arith)

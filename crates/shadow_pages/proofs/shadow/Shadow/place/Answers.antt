@@ -11,18 +11,13 @@ unwrap-requires g c =
     let is = c.place.ensures ∙ ap (λ n. entry c.self.inside.directory (n / 1024)) c.number.ensures.same ∙ said.1 in
     rw is refl
 
-pub returns-clause-within : goal.returns-clause-within
-returns-clause-within g c =
+pub returns : goal.returns
+returns g c =
     let kept = subst (λ ps. AreKept c.self.inside.directory ps) (ap (λ (s : Pages). s.pages) c.self.view_is) c.self.invariant in
-    (kept.indexed.held (c.args.w / 1024) c.unwrap.result (ap (λ n. entry c.self.inside.directory (n / 1024)) (sym c.number.ensures.same) ∙ sym c.place.ensures ∙ c.unwrap.ensures)).0
-
-pub returns-clause-page : goal.returns-clause-page
-returns-clause-page g c =
-    let kept = subst (λ ps. AreKept c.self.inside.directory ps) (ap (λ (s : Pages). s.pages) c.self.view_is) c.self.invariant in
-    (kept.indexed.held (c.args.w / 1024) c.unwrap.result (ap (λ n. entry c.self.inside.directory (n / 1024)) (sym c.number.ensures.same) ∙ sym c.place.ensures ∙ c.unwrap.ensures)).1
-
-pub returns-clause-only : goal.returns-clause-only
-returns-clause-only g c =
-    let kept = subst (λ ps. AreKept c.self.inside.directory ps) (ap (λ (s : Pages). s.pages) c.self.view_is) c.self.invariant in
-    let held = kept.indexed.held (c.args.w / 1024) c.unwrap.result (ap (λ n. entry c.self.inside.directory (n / 1024)) (sym c.number.ensures.same) ∙ sym c.place.ensures ∙ c.unwrap.ensures) in
-    λ i lt is. same_place c.self.inside.directory c.args.self.now.pages kept.indexed i c.unwrap.result lt held.0 (is ∙ sym held.1)
+    let said = ap (λ n. entry c.self.inside.directory (n / 1024)) (sym c.number.ensures.same) ∙ sym c.place.ensures ∙ c.unwrap.ensures in
+    let held = kept.indexed.held (c.args.w / 1024) c.unwrap.result said in
+    record {
+      within = held.0;
+      page = held.1;
+      only = λ i lt is. same_place c.self.inside.directory c.args.self.now.pages kept.indexed i c.unwrap.result lt held.0 (is ∙ sym held.1);
+    }

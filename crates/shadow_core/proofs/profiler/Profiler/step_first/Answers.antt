@@ -7,7 +7,7 @@ use Rattle.shadow_core.specs.Renewal.{bounded_tick}
 use Rattle.shadow_core.specs.Ticks.{table_after}
 use Rattle.shadow_core.specs.Profiling.{StandsFor}
 use Rattle.shadow_core.proofs.Profiled.{may_advance, alive_for_step, found, step_fits, stepped, whole_after}
-use Rattle.shadow_core.proofs.profiler.Profiler.step.Goals as goal
+use Rattle.shadow_core.proofs.profiler.Profiler.step_first.Goals as goal
 
 pub advance-requires-clause-within : goal.advance-requires-clause-within
 advance-requires-clause-within g c =

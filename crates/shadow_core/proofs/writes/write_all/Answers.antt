@@ -5,7 +5,7 @@ use Rattle.stamp_renumber.specs.Threads.{frames_of}
 use Rattle.shadow_core.specs.Table.{stamped}
 use Rattle.shadow_core.specs.Reading.{IsChanged}
 use Rattle.shadow_core.proofs.Reading.{lent_changed, pages_changed}
-use Rattle.shadow_core.proofs.writes.write.Goals as goal
+use Rattle.shadow_core.proofs.writes.write_all.Goals as goal
 
 pub returns-clause-changed : goal.returns-clause-changed
 returns-clause-changed g c =

@@ -1,0 +1,31 @@
+use Rattle.std.proofs.Common.{◌≡◌, ◌+◌, ◌<◌, ◌^◌, [], ◌∷◌, true, is_some, ap, refl, sym, ◌∙◌, subst, rules}
+use Rattle.std.specs.List.{All}
+use Rattle.cost_points.specs.Contents.{IsCounted, TableContents}
+use Rattle.cost_points.specs.Merging.{with_point}
+use Rattle.cost_points.specs.Points.{Routine, point_of}
+use Rattle.cost_points.specs.Valid.{IsPoint, IsProfile}
+use Rattle.cost_points.proofs.Merged.{IsProfile-with, are_one, contents-more, counted-with, one_is_point}
+use Rattle.cost_points.proofs.table.Table.add_ended.Goals as goal
+
+pub invariant_of-self-2 : goal.invariant_of-self-2
+invariant_of-self-2 c =
+    let p = point_of c.args.ended.now.size (c.args.ended.now ∷ []) in
+    let m = c.self.inside.members in
+    let ok = c.in_ok-add_one.ensures.ok in
+    let small : c.args.ended.now.size < 2 ^ 64 = search rules in
+    let cheap : c.args.ended.now.cost < 2 ^ 64 = search rules in
+    let told : is_some p.split ≡ true = refl in
+    let of_p : IsPoint p = one_is_point c.args.ended.now c.requires.parts in
+    record {
+      profile = subst IsProfile (sym ok) (IsProfile-with p told of_p c.args.ended.now.entry c.self.inside.routines.items c.self.invariant.profile);
+      counted = subst (All (λ (r : Routine). All (IsCounted (c.self.inside.members + 1)) r.points)) (sym ok)
+          (counted-with p m (m + 1) refl small cheap
+          c.args.ended.now.entry c.self.inside.routines.items c.self.invariant.counted);
+    }
+
+pub returns-clause-ok : goal.returns-clause-ok
+returns-clause-ok c = λ added is.
+    let p = point_of c.args.ended.now.size (c.args.ended.now ∷ []) in
+    contents-more c.args.ended.now.entry p c.args.self.now _ added (c.args.ended.now ∷ []) (are_one c.args.ended.now p refl) is
+    (c.in_ok-add_one.ensures.ok ∙ ap (λ (t : TableContents). with_point c.args.ended.now.entry p t.routines) c.self.view_is)
+    (ap (λ (t : TableContents). t.members + 1) c.self.view_is)
