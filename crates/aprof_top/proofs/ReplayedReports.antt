@@ -14,7 +14,10 @@ use Rattle.elf_image.specs.Tests.{first_refusal}
 use Rattle.guest_machine.specs.declared.setup.SetupError.{SetupError}
 use Rattle.guest_machine.specs.Setup.{setup_refusal}
 use Rattle.guest_run.specs.Profiled.{Profiled, profiled}
+use Rattle.guest_machine.specs.Laws.{IsAddress}
 use Rattle.guest_run.specs.Run.{recording}
+use Rattle.guest_run.specs.Traces.{TellsInRange}
+use Rattle.guest_run.proofs.Ranges.{every_run_in_range}
 use Rattle.profile_report.specs.ReportText.{report_text}
 use Rattle.shadow_core.specs.Counting.{renumberings}
 use Rattle.stamps.specs.declared.width.StampBits.{StampBits}
@@ -42,6 +45,7 @@ use Rattle.aprof_top.proofs.OneOutcome.{TracesAreKnown, reads_once, replay_once}
 use Rattle.aprof_top.proofs.Runs.{formed_observed}
 use Rattle.aprof_top.proofs.Recorded.{begun_rise}
 use Rattle.aprof_top.proofs.TraceEntries.{names_are}
+use Rattle.aprof_top.proofs.TraceRanges.{entry_low, records_fit}
 
 -- ---- a cut that is cut again
 less_within : (small big : ℕ) → small ≤ big → (past : List Event) → is_within small past ≡ true → is_within big past ≡ true
@@ -184,8 +188,13 @@ formed_wide : (options : GuestOptions) (loaded : Loaded) (turns : List Entry) �
 unfolding first_state
 formed_wide options loaded turns few = formed_observed (is_within (greatest B32)) options turns (image_of loaded.image) (with_inputs [] (inputs options) loaded.inputs) loaded.stdin few
 
+wide_in_range : (options : GuestOptions) (loaded : Loaded) (turns : List Entry) → IsAddress (image_of loaded.image).entry → TellsInRange (1 + options.budget) (run_of B32 options loaded turns)
+unfolding first_state observed_from
+wide_in_range options loaded turns entry =
+    every_run_in_range (image_of loaded.image) (arguments options) (with_inputs [] (inputs options) loaded.inputs) loaded.stdin (is_within (greatest B32)) options.quantum turns options.budget entry
+
 pub traces_replay : TracesAreKnown → TracesReplay
-traces_replay known options files path bytes traced ran replayed few is_traced stored fits is_ran is_replayed =
+traces_replay known options files path bytes traced ran replayed few is_traced stored is_ran is_replayed =
     let job = trace_job (traced_at options path) in
     let came = came_to job files traced (λ none. absurd (cc (sym stored ∙ none))) (stage options.guest files) refl is_traced in
     let loaded = loaded_of options.guest files in
@@ -198,7 +207,7 @@ traces_replay known options files path bytes traced ran replayed few is_traced s
       told = record {
         formed = formed_wide options.guest loaded came.turns few;
         rising = begun_rise image (entries_begun wide.past) wide.past refl;
-        fits = fits came.turns came.read;
+        fits = records_fit loaded.image (1 + options.guest.budget) wide (omega (arith, few)) (wide_in_range options.guest loaded came.turns (entry_low loaded.image came.accepted));
       };
       text = text.0;
     } in

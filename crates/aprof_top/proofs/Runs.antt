@@ -1,5 +1,5 @@
 -- What the run of a command's files comes to.
-use Rattle.std.proofs.Common.{◌≡◌, IfSome, Ok, arith, ℕ, Bool, List, [], length, Option, Some, None, Result, Err, ◌≤◌, refl, sym, ap, ap₂, ◌∙◌, subst, inl, inr}
+use Rattle.std.proofs.Common.{◌≡◌, IfSome, Ok, arith, ℕ, Bool, List, [], length, Option, Some, None, Result, Err, ◌≤◌, ◌+◌, refl, sym, ap, ap₂, ◌∙◌, subst, inl, inr}
 use Rattle.std.specs.List.{AllByRecursion}
 use Rattle.std.proofs.Math.Seq.{take-length}
 use Rattle.guest_words.specs.declared.limits.TheConstants.{RUN_STEPS}
@@ -36,7 +36,7 @@ use Rattle.aprof_top.specs.Outside.{AreFiles, Outside, outside}
 use Rattle.aprof_top.specs.Run.{first_state, observed_from}
 use Rattle.aprof_top.specs.Schedules.Reading.{BadLine, Turns}
 use Rattle.aprof_top.specs.Verdicts.{IsOfRun}
-use Rattle.aprof_top.proofs.Lines.{IsCounted, observed_counted}
+use Rattle.guest_run.proofs.Lines.{IsCounted, observed_counted}
 use Rattle.aprof_top.proofs.Handed.{fails_on_err, fails_on_out, puts_all, stops_short}
 use Rattle.aprof_top.proofs.Sinks.{appended-nothing, same_files, takes_all}
 
@@ -206,7 +206,7 @@ formed_observed fits options turns image files stdin few =
 
 -- and a line that it ends at is counted from 1
 pub counted_observed : (fits : List Event → Bool) (options : GuestOptions) (turns : List Entry) (image : Executable) (files : List Input) (stdin : List ℕ) →
-    IsCounted (observed_from fits options turns image.entry (start image (arguments options) files stdin)).finish
+    IsCounted (1 + options.budget) (observed_from fits options turns image.entry (start image (arguments options) files stdin)).finish
 unfolding observed_from
 counted_observed fits options turns image files stdin =
     observed_counted fits (first_past image.entry) options.quantum turns options.budget (start image (arguments options) files stdin)

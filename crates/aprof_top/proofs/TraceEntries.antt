@@ -33,7 +33,7 @@ module _ (P : ℕ → Type 0) where
       by (inr (inl same)) rest = subst (All P) (sym (insert_same x y ys same)) all
       by (inr (inr above)) rest = subst (All P) (sym (insert_above x y ys above)) (All-cons P y (insert_rising x ys) (All-head P y ys all) rest)
 
-  all_rising : (xs : List ℕ) → All P xs → All P (rising xs)
+  pub all_rising : (xs : List ℕ) → All P xs → All P (rising xs)
   all_rising [] all = All-nil P
   all_rising (x ∷ xs) all = all_inserted x (rising xs) (All-head P x xs all) (all_rising xs (All-tail P x xs all))
 

@@ -2,8 +2,6 @@
 use Rattle.std.specs.Prelude.{◌≡◌, ◌≤◌, ℕ, suc, List, [], ◌∷◌, ◌++◌, length, take, slice_get, Option, Some}
 use Rattle.command_line.specs.Options.{Asked, GuestOptions, ReplayOptions, RunOptions, TraceOptions}
 use Rattle.command_line.specs.Options.Asked.{Run, Trace, Replay}
-use Rattle.elf_image.specs.Image.{Executable}
-use Rattle.elf_image.specs.Reading.{image_of}
 use Rattle.guest_run.specs.Laws.{IsNoMismatch, TurnsHaveMoves}
 use Rattle.guest_run.specs.Profiled.{Profiled}
 use Rattle.guest_run.specs.Run.{recording}
@@ -12,18 +10,11 @@ use Rattle.guest_words.specs.declared.endings.Finish.{Finish}
 use Rattle.aprof_top.specs.declared.ending.Verdict.TheVariants.{Ran, Replayed}
 use Rattle.aprof_top.specs.Limits.{file_limit}
 use Rattle.stamps.specs.declared.width.StampBits.{StampBits}
-use Rattle.stamps.specs.declared.width.StampBits.TheVariants.{B32}
-use Rattle.std.specs.List.{AllByRecursion}
-use Rattle.trace_file.specs.Records.{Fits}
-use Rattle.trace_file.specs.TraceText.{whole_records}
 use Rattle.thread_sched.specs.declared.entry.Entry.{Entry}
 use Rattle.trace_model.specs.Profile.{steps}
-use Rattle.aprof_top.specs.Loads.{Loaded, loaded_of, shared_count}
+use Rattle.aprof_top.specs.Loads.{Loaded, shared_count}
 use Rattle.aprof_top.specs.Outcome.{IsOutcome, Outcome}
 use Rattle.aprof_top.specs.Run.{run_of}
-use Rattle.aprof_top.specs.Schedules.{Reads}
-use Rattle.aprof_top.specs.Schedules.Reading.{Turns}
-use Rattle.aprof_top.specs.Traces.{names_begun}
 
 -- what is asked and the bytes of the files decide the outcome: one verdict, with the same output and the same files to store
 abbrev pub OneOutcome : Type 0
@@ -67,10 +58,6 @@ traced_at options path = record { guest = options.guest; trace = path }
 abbrev pub replayed_from : RunOptions → List ℕ → ReplayOptions
 replayed_from options path = record { trace = path; report = options.report; bits = options.bits; stats = options.stats }
 
--- the numbers of the run's trace are in the ranges of their records, as those that the program writes are
-abbrev pub FitsRecords : Executable → Profiled → Type 0
-FitsRecords image run = AllByRecursion Fits (whole_records run.past (names_begun image run.past) run.finish)
-
 -- The trace was replayed, and what that stores is the report that the run stores last; both count the same renumberings.
 pub record SharesReport (run replay : Outcome) : Type 0 where
   pub replayed : replay.verdict ≡ Replayed
@@ -84,8 +71,6 @@ abbrev pub TracesReplay : Type 0
 TracesReplay =
     (options : RunOptions) (files : List (List ℕ)) (path bytes : List ℕ) (traced run replayed : Outcome) → options.guest.budget ≤ RUN_STEPS
     → IsOutcome (Some (Trace (traced_at options path))) files traced → traced.stores ≡ (path, bytes) ∷ []
-    → (let loaded = loaded_of options.guest files in
-    (turns : List Entry) → Reads loaded.schedule (Turns turns) → FitsRecords (image_of loaded.image) (run_of B32 options.guest loaded turns))
     → IsOutcome (Some (Run options)) files run → IsOutcome (Some (Replay (replayed_from options path))) (bytes ∷ []) replayed
     → SharesReport run replayed
 

@@ -1,6 +1,6 @@
 -- The report of a run, by its past, the list of its events with the newest first: how it ended, its instructions, the
--- activations that are still open, and the points of those that ended, by routines with their names of these. It tells the parts of
--- the sizes, as a report of version 2 does.
+-- activations that are still open, and the points of those that ended, by routines with their names among these. It tells the
+-- parts of the sizes, as a report of version 2 does.
 use Rattle.std.specs.Prelude.{ℕ, List, map}
 use Rattle.guest_words.specs.declared.endings.Finish.{Finish}
 use Rattle.elf_image.specs.Image.{name_beside}

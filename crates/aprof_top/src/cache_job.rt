@@ -26,7 +26,8 @@ fn deliver_misses<F: Files>(
     report: &CacheReport,
     files: &mut F,
 ) -> Result<Verdict, Ending>
-    ensures { (image : Executable) (seen : Profiled) → report.now ≡ misses_of command.now.shape image seen.finish seen.past
+    ensures { (image : Executable) (seen : Profiled)
+        → report.now ≡ misses_of command.now.shape image seen.finish seen.past
         → (err : SinkState) → RunIsStored (cache_outcome (cache_in command.now) image seen)
         (desk (F.state files.old) err) (desk (F.state files.new) err) result }
 {

@@ -33,8 +33,10 @@ fn contexts_report(
     finish: &Finish,
 ) -> Result<Vec<u8>, AllocError>
     requires { (most : ℕ) × ((past : List Event) × AreTotalsOf most contexts.now past) }
-    ensures few { IfOk result (λ text. (most : ℕ) (past : List Event) → AreTotalsOf most contexts.now past → can_be_numbered past ≡ true) }
-    ensures text { IfOk result (λ text. (most : ℕ) (seen : Profiled) → AreTotalsOf most contexts.now seen.past → finish.now ≡ seen.finish
+    ensures few { IfOk result (λ text. (most : ℕ) (past : List Event)
+        → AreTotalsOf most contexts.now past → can_be_numbered past ≡ true) }
+    ensures text { IfOk result (λ text. (most : ℕ) (seen : Profiled)
+        → AreTotalsOf most contexts.now seen.past → finish.now ≡ seen.finish
         → text.items ≡ contexts_report image.now seen) }
 {
     let report = report_of(alloc, image, &contexts.totals, *finish)?;
@@ -52,7 +54,8 @@ fn deliver_contexts<F: Files>(
     files: &mut F,
 ) -> Result<Verdict, Ending>
     requires { (most : ℕ) × ((past : List Event) × HaveContexts most run.contexts past) }
-    ensures { (most : ℕ) (seen : Profiled) → run.finish ≡ seen.finish → HaveContexts most run.contexts seen.past
+    ensures { (most : ℕ) (seen : Profiled) → run.finish ≡ seen.finish
+        → HaveContexts most run.contexts seen.past
         → (err : SinkState) → RunIsStored (contexts_outcome (contexts_in command.now) image.now seen)
         (desk (F.state files.old) err) (desk (F.state files.new) err) result }
 {

@@ -239,7 +239,8 @@ fn status(ending: &Ending) -> u8
 
 // The last text of an ending, of a command that loads this.
 fn text_of(alloc: Global, wanted: Wanted<'_, '_>, ending: &Ending) -> Result<Text, AllocError>
-    ensures text { IfOk result (λ text. bytes_of text ≡ end_text (end_of (wanted_in wanted.entry) ending.now)) }
+    ensures text { IfOk result (λ text. bytes_of text
+        ≡ end_text (end_of (wanted_in wanted.entry) ending.now)) }
     ensures made { OnErr result (IsMade (end_of (wanted_in wanted.entry) ending.now)) }
 {
     match ending {
@@ -272,7 +273,8 @@ pub(crate) fn tell<E: Sink>(
     ending: &Ending,
     err: &mut E,
 ) -> u8
-    ensures { LastText (end_of (wanted_in wanted.entry) ending.now) result (E.state err.old) (E.state err.new) }
+    ensures { LastText (end_of (wanted_in wanted.entry) ending.now) result (E.state err.old)
+        (E.state err.new) }
 {
     match text_of(alloc, wanted, ending) {
         Ok(text) => match put_text(text.as_slice(), err) {

@@ -25,8 +25,7 @@ pub fn two_runs_agree()
 }
 
 /// The report of a stored trace is that of its run: what `replay` makes of the trace that `trace` stores is what `run` stores with
-/// the same other words and files, for stamps of any width, and `--stats` counts the same. The numbers of the trace have to be in
-/// the ranges of its records, as they are in what the program writes.
+/// the same other words and files, for stamps of any width, and `--stats` counts the same.
 pub fn traces_replay()
     ensures { TracesReplay }
 {

@@ -28,12 +28,3 @@ mod traced_run;
 
 pub use laws::{a_command_has_one_outcome, runs_are_bounded, traces_replay, two_runs_agree};
 pub use top::aprof;
-
-#[cfg(test)]
-mod failures;
-#[cfg(test)]
-mod tests;
-#[cfg(test)]
-mod worked;
-#[cfg(test)]
-mod worked_code;

@@ -31,8 +31,10 @@ fn next_file(alloc: Global, files: &mut VecDeque<Vec<u8>>) -> Vec<u8>
 
 // The next file, where the command has a path for it.
 fn file_at(alloc: Global, path: Option<&str>, files: &mut VecDeque<Vec<u8>>) -> Vec<u8>
-    ensures file { result.items ≡ file_at (option_map (λ p. p.now) path.entry) (contents_of files.old.items) }
-    ensures rest { files.new.items ≡ drop (length (option_to_list (option_map (λ p. p.now) path.entry))) files.old.items }
+    ensures file { result.items ≡ file_at (option_map (λ p. p.now) path.entry)
+        (contents_of files.old.items) }
+    ensures rest { files.new.items ≡ drop (length
+        (option_to_list (option_map (λ p. p.now) path.entry))) files.old.items }
 {
     match path {
         Some(_) => next_file(alloc, files),
@@ -47,7 +49,9 @@ fn take_inputs(
     files: &mut VecDeque<Vec<u8>>,
 ) -> Result<Inputs, AllocError>
     requires { length names.now ≤ length files.old.items }
-    ensures inputs { IfOk result (λ inputs. inputs ≡ with_inputs [] (map (λ name. name.now) names.now) (take (length names.now) (contents_of files.old.items))) }
+    ensures inputs { IfOk result (λ inputs. inputs
+        ≡ with_inputs [] (map (λ name. name.now) names.now)
+        (take (length names.now) (contents_of files.old.items))) }
     ensures rest { OnOk result (files.new.items ≡ drop (length names.now) files.old.items) }
 {
     let mut inputs = Inputs::new(alloc)?;
@@ -68,7 +72,8 @@ impl Loaded {
     ) -> Result<Loaded, AllocError>
         requires names { map (λ name. name.now) names.now ≡ inputs (guest_in guest.now) }
         requires all { length files.items ≡ length (loaded_paths (guest_in guest.now)) }
-        ensures { IfOk result (λ loaded. Keeps (guest_in guest.now) (loaded_of (guest_in guest.now) (contents_of files.items)) loaded) }
+        ensures { IfOk result (λ loaded. Keeps (guest_in guest.now)
+            (loaded_of (guest_in guest.now) (contents_of files.items)) loaded) }
     {
         let image = next_file(alloc, &mut files);
         let inputs = take_inputs(alloc, names, &mut files)?;

@@ -16,7 +16,8 @@ use std::collections::VecDeque;
 
 // One more path, where there is one.
 fn push_path<'a>(paths: &mut Vec<&'a str>, path: Option<&'a str>) -> Result<(), AllocError>
-    ensures { OnOk result (map (λ p. p.now) paths.new.items ≡ map (λ p. p.now) paths.old.items ++ option_to_list (option_map (λ p. p.now) path.entry)) }
+    ensures { OnOk result (map (λ p. p.now) paths.new.items
+        ≡ map (λ p. p.now) paths.old.items ++ option_to_list (option_map (λ p. p.now) path.entry)) }
 {
     if let Some(path) = path {
         paths.push(path)?;
@@ -31,7 +32,8 @@ pub(crate) fn loaded_paths<'a>(
     names: &[&'a str],
 ) -> Result<Vec<&'a str>, AllocError>
     requires { map (λ path. path.now) names.now ≡ inputs (guest_in guest.now) }
-    ensures { IfOk result (λ paths. map (λ path. path.now) paths.items ≡ loaded_paths (guest_in guest.now)) }
+    ensures { IfOk result (λ paths. map (λ path. path.now) paths.items
+        ≡ loaded_paths (guest_in guest.now)) }
 {
     let mut paths = Vec::new(alloc);
     paths.push(guest.image)?;
@@ -74,9 +76,12 @@ pub(crate) fn load_files<F: Files>(
 ) -> Result<VecDeque<Vec<u8>>, Ending>
     requires names { map (λ path. path.now) names.now ≡ inputs (guest_in guest.now) }
     requires paths { map (λ path. path.now) paths.now ≡ loaded_paths (guest_in guest.now) }
-    ensures loaded { IfOk result (λ loaded. AreLoaded (shared_count (guest_in guest.now)) (loaded_paths (guest_in guest.now)) (contents_of loaded.items) (F.state files.old) (F.state files.new)) }
+    ensures loaded { IfOk result (λ loaded. AreLoaded (shared_count (guest_in guest.now))
+        (loaded_paths (guest_in guest.now)) (contents_of loaded.items) (F.state files.old)
+        (F.state files.new)) }
     ensures all { IfOk result (λ loaded. length loaded.items ≡ length paths.now) }
-    ensures ends { IfErr result (λ e. LoadsEnd (guest_in guest.now) (F.state files.old) (F.state files.new) e) }
+    ensures ends { IfErr result (λ e. LoadsEnd (guest_in guest.now) (F.state files.old)
+        (F.state files.new) e) }
 {
     let shared = shared_count(guest, names);
     let mut loaded = VecDeque::new(alloc);

@@ -28,7 +28,8 @@ fn named_misses<K: Shaped>(
     image: &Image,
     profile: &CacheProfile<K>,
 ) -> Result<Vec<ReportedMisses>, AllocError>
-    ensures { IfOk result (λ routines. routines.items ≡ map (named_misses image.now) profile.now.routines) }
+    ensures { IfOk result (λ routines. routines.items
+        ≡ map (named_misses image.now) profile.now.routines) }
 {
     let mut routines = Vec::new(alloc);
     for i in 0..profile.routines() {
@@ -46,7 +47,8 @@ fn report_of<K: Shaped>(
     profile: &CacheProfile<K>,
     finish: Finish,
 ) -> Result<CacheReport, AllocError>
-    ensures { IfOk result (λ report. (past : List Event) → StandsFor K.shape profile.now past → report ≡ misses_of K.shape image.now finish past) }
+    ensures { IfOk result (λ report. (past : List Event) → StandsFor K.shape profile.now past
+        → report ≡ misses_of K.shape image.now finish past) }
 {
     let routines = named_misses(alloc, image, profile)?;
     Ok(CacheReport {
@@ -68,7 +70,8 @@ fn misses_by<K: Shaped, O: Sink, E: Sink>(
 ) -> Result<CacheReport, Ending>
     requires range { AreInRange (guest_in options.now) }
     requires shape { shape ≡ K.shape }
-    ensures { ImageIsMissed K.shape image.now (setup_refusal image.now (arguments (guest_in options.now)))
+    ensures { ImageIsMissed K.shape image.now
+        (setup_refusal image.now (arguments (guest_in options.now)))
         (observed_from (λ _. true) (guest_in options.now) files.schedule image.now.entry
         (start image.now (arguments (guest_in options.now)) files.inputs files.stdin.items))
         (sinks (O.state out.old) (E.state err.old)) (sinks (O.state out.new) (E.state err.new)) result }
@@ -90,7 +93,8 @@ pub(crate) fn count_misses<O: Sink, E: Sink>(
     err: &mut E,
 ) -> Result<CacheReport, Ending>
     requires { AreInRange (guest_in options.now) }
-    ensures { ImageIsMissed shape image.now (setup_refusal image.now (arguments (guest_in options.now)))
+    ensures { ImageIsMissed shape image.now
+        (setup_refusal image.now (arguments (guest_in options.now)))
         (observed_from (λ _. true) (guest_in options.now) files.schedule image.now.entry
         (start image.now (arguments (guest_in options.now)) files.inputs files.stdin.items))
         (sinks (O.state out.old) (E.state err.old)) (sinks (O.state out.new) (E.state err.new)) result }

@@ -61,7 +61,8 @@ pub(crate) fn profile_image<O: Sink, E: Sink>(
     err: &mut E,
 ) -> Result<ProfiledRun, Ending>
     requires { AreInRange (guest_in options.now) }
-    ensures { ImageIsProfiled (greatest bits) (setup_refusal image.now (arguments (guest_in options.now)))
+    ensures { ImageIsProfiled (greatest bits)
+        (setup_refusal image.now (arguments (guest_in options.now)))
         (observed_from (is_within (greatest bits)) (guest_in options.now) files.schedule image.now.entry
         (start image.now (arguments (guest_in options.now)) files.inputs files.stdin.items))
         (sinks (O.state out.old) (E.state err.old)) (sinks (O.state out.new) (E.state err.new)) result }

@@ -65,7 +65,8 @@ fn replay_stores<'a>(
     replayed: Replayed,
 ) -> Result<Vec<Store<'a>>, AllocError>
     requires { (bytes : List ℕ) × IsReplayOf (greatest bits) bytes replayed }
-    ensures { IfOk result (λ stores. (bytes : List ℕ) (is : IsReplayOf (greatest bits) bytes replayed) →
+    ensures { IfOk result (λ stores. (bytes : List ℕ)
+        (is : IsReplayOf (greatest bits) bytes replayed) →
         map store_of stores.items ≡ (path.entry.now, replay_text bits replayed.names.items replayed.finish is.past) ∷ []) }
 {
     let finish = told_finish(replayed.whole, replayed.finish);

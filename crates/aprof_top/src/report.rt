@@ -36,7 +36,8 @@ fn named_routines<N: RoutineNames>(
     names: &N,
     table: &Table,
 ) -> Result<Vec<Routine>, AllocError>
-    ensures { IfOk result (λ routines. routines.items ≡ map (named (N.names names.now)) table.now.routines) }
+    ensures { IfOk result (λ routines. routines.items
+        ≡ map (named (N.names names.now)) table.now.routines) }
 {
     let mut routines = Vec::new(alloc);
     for i in 0..table.routines() {
@@ -59,7 +60,8 @@ pub(crate) fn report_of<N: RoutineNames>(
     totals: &Totals,
     finish: Finish,
 ) -> Result<Report, AllocError>
-    ensures { IfOk result (λ report. (most : ℕ) (past : List Event) → AreTotalsOf most totals.now past → report ≡ report_of (N.names names.now) finish past) }
+    ensures { IfOk result (λ report. (most : ℕ) (past : List Event)
+        → AreTotalsOf most totals.now past → report ≡ report_of (N.names names.now) finish past) }
 {
     let routines = named_routines(alloc, names, &totals.points)?;
     Ok(Report {

@@ -30,7 +30,8 @@ fn recording_stores<'a>(
     path: Option<&'a str>,
     recording: &Recording,
 ) -> Result<Vec<Store<'a>>, AllocError>
-    ensures { IfOk result (λ stores. map store_of stores.items ≡ recording_stores (option_map (λ p. p.now) path.entry) recording.now) }
+    ensures { IfOk result (λ stores. map store_of stores.items
+        ≡ recording_stores (option_map (λ p. p.now) path.entry) recording.now) }
 {
     let mut stores = Vec::new(alloc);
     if let Some(path) = path {
@@ -47,7 +48,8 @@ fn run_stores<'a>(
     image: &Image,
     run: &ProfiledRun,
 ) -> Result<Vec<Store<'a>>, AllocError>
-    ensures { IfOk result (λ stores. (most : ℕ) (past : List Event) → AreTotalsOf most run.now.totals past
+    ensures { IfOk result (λ stores. (most : ℕ) (past : List Event)
+        → AreTotalsOf most run.now.totals past
         → map store_of stores.items ≡ run_stores (options_in command.now) image.now run.now.ended.finish past run.now.ended.recording) }
 {
     let mut stores = recording_stores(alloc, command.recording, &run.ended.recording)?;

@@ -32,7 +32,8 @@ pub(crate) enum Source {
 /// Which file the one at this place of the loads is, so many of them being input files.
 pub(crate) fn source_at(guest: &GuestOptions<'_>, count: usize, index: usize) -> Source
     requires { count ≡ length (inputs (guest_in guest.now)) }
-    ensures { (path : List ℕ) → slice_get (loaded_paths (guest_in guest.now)) index ≡ Some path → path ≡ path_of (guest_in guest.now) result }
+    ensures { (path : List ℕ) → slice_get (loaded_paths (guest_in guest.now)) index ≡ Some path
+        → path ≡ path_of (guest_in guest.now) result }
 {
     if index == 0 {
         return Source::Image;

@@ -23,7 +23,8 @@ impl Sums {
         requires activations { self.activations + sum_by (λ p. p.calls) points.now < 2 ^ 128 }
         requires sizes { self.sizes + sum_by (λ p. p.size * p.calls) points.now < 2 ^ 128 }
         requires costs { self.costs + sum_by (λ p. p.sum) points.now < 2 ^ 128 }
-        ensures activations { result.activations ≡ self.activations + sum_by (λ p. p.calls) points.now }
+        ensures activations { result.activations ≡ self.activations
+            + sum_by (λ p. p.calls) points.now }
         ensures sizes { result.sizes ≡ self.sizes + sum_by (λ p. p.size * p.calls) points.now }
         ensures costs { result.costs ≡ self.costs + sum_by (λ p. p.sum) points.now }
     {

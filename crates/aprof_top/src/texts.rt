@@ -47,7 +47,8 @@ pub(crate) fn unread_text(
     wanted: Wanted<'_, '_>,
     source: Source,
 ) -> Result<Text, AllocError>
-    ensures { IfOk result (λ text. bytes_of text ≡ cannot_read_text (wanted_path (wanted_in wanted.entry) source)) }
+    ensures { IfOk result (λ text. bytes_of text
+        ≡ cannot_read_text (wanted_path (wanted_in wanted.entry) source)) }
 {
     cannot_read_text(alloc, wanted_path(alloc, wanted, source)?)
 }

@@ -47,8 +47,10 @@ pub(crate) fn cache_of_matches<'a>(
     alloc: Global,
     matches: &ArgMatches<'a>,
 ) -> Result<CacheCommand<'a>, CommandError>
-    ensures asked { IfOk result (λ command. cache_of_rows (rows_of (found_of matches.now)) ≡ Some (cache_in command)) }
-    ensures refused { IfErr result (λ e. e ≡ Refused → cache_of_rows (rows_of (found_of matches.now)) ≡ None) }
+    ensures asked { IfOk result (λ command. cache_of_rows (rows_of (found_of matches.now))
+        ≡ Some (cache_in command)) }
+    ensures refused { IfErr result (λ e. e ≡ Refused
+        → cache_of_rows (rows_of (found_of matches.now)) ≡ None) }
     ensures ranges { IfOk result (λ command. AreInRange (guest_in command.guest)) }
 {
     Ok(CacheCommand {

@@ -90,8 +90,10 @@ fn command_of<'a>(
     name: &str,
     matches: &ArgMatches<'a>,
 ) -> Result<Command<'a>, CommandError>
-    ensures asked { IfOk result (λ command. asked_of_rows name.now (rows_of (found_of matches.now)) ≡ Some (asked_in command)) }
-    ensures refused { IfErr result (λ e. e ≡ Refused → asked_of_rows name.now (rows_of (found_of matches.now)) ≡ None) }
+    ensures asked { IfOk result (λ command. asked_of_rows name.now (rows_of (found_of matches.now))
+        ≡ Some (asked_in command)) }
+    ensures refused { IfErr result (λ e. e ≡ Refused
+        → asked_of_rows name.now (rows_of (found_of matches.now)) ≡ None) }
     ensures ranges { IfOk result (λ command. IsInRange command) }
 {
     if name == "run" {
@@ -119,11 +121,14 @@ fn command_of<'a>(
 
 /// Reads the words of the command line, the program's name first.
 pub fn read_command<'a>(alloc: Global, words: &'a [String]) -> Result<Command<'a>, CommandError>
-    ensures asked { IfOk result (λ command. AsksFor (map string_bytes words.entry.now) (Some (asked_in command))) }
-    ensures refused { IfErr result (λ e. e ≡ Refused → AsksFor (map string_bytes words.entry.now) None) }
+    ensures asked { IfOk result (λ command. AsksFor (map string_bytes words.entry.now)
+        (Some (asked_in command))) }
+    ensures refused { IfErr result (λ e. e ≡ Refused
+        → AsksFor (map string_bytes words.entry.now) None) }
 
     // That a word has a zero byte is seen before any memory is wanted.
-    ensures zero { IfErr result (λ e. e ≡ Memory → list_any has_zero (map string_bytes words.entry.now) ≡ false) }
+    ensures zero { IfErr result (λ e. e ≡ Memory
+        → list_any has_zero (map string_bytes words.entry.now) ≡ false) }
     ensures ranges { IfOk result (λ command. IsInRange command) }
 {
     if some_has_zero(words) {

@@ -29,8 +29,10 @@ pub(crate) fn contexts_of_matches<'a>(
     alloc: Global,
     matches: &ArgMatches<'a>,
 ) -> Result<ContextsCommand<'a>, CommandError>
-    ensures asked { IfOk result (λ command. contexts_of_rows (rows_of (found_of matches.now)) ≡ Some (contexts_in command)) }
-    ensures refused { IfErr result (λ e. e ≡ Refused → contexts_of_rows (rows_of (found_of matches.now)) ≡ None) }
+    ensures asked { IfOk result (λ command. contexts_of_rows (rows_of (found_of matches.now))
+        ≡ Some (contexts_in command)) }
+    ensures refused { IfErr result (λ e. e ≡ Refused
+        → contexts_of_rows (rows_of (found_of matches.now)) ≡ None) }
     ensures ranges { IfOk result (λ command. AreInRange (guest_in command.guest)) }
 {
     let bits = bits_of(text_of(matches, "stamps"));

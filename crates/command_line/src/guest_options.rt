@@ -42,8 +42,10 @@ pub(crate) fn guest_of_matches<'a>(
     alloc: Global,
     matches: &ArgMatches<'a>,
 ) -> Result<GuestOptions<'a>, CommandError>
-    ensures asked { IfOk result (λ guest. guest_of_rows (rows_of (found_of matches.now)) ≡ Some (guest_in guest)) }
-    ensures refused { IfErr result (λ e. e ≡ Refused → guest_of_rows (rows_of (found_of matches.now)) ≡ None) }
+    ensures asked { IfOk result (λ guest. guest_of_rows (rows_of (found_of matches.now))
+        ≡ Some (guest_in guest)) }
+    ensures refused { IfErr result (λ e. e ≡ Refused
+        → guest_of_rows (rows_of (found_of matches.now)) ≡ None) }
     ensures ranges { IfOk result (λ guest. AreInRange (guest_in guest)) }
 {
     let quantum_text = text_of(matches, "quantum");
@@ -62,7 +64,8 @@ pub(crate) fn guest_of_matches<'a>(
 
 // What follows the `=` that a word begins with.
 fn plain_argument(word: &str) -> Option<&str>
-    ensures { MatchOption result (is_plain_argument word.now ≡ false) (λ text. (is_plain_argument word.now ≡ true) × (text.now ≡ argument_of word.now)) }
+    ensures { MatchOption result (is_plain_argument word.now ≡ false)
+        (λ text. (is_plain_argument word.now ≡ true) × (text.now ≡ argument_of word.now)) }
 {
     word.strip_prefix('=')
 }
@@ -79,7 +82,8 @@ fn argument(alloc: Global, word: &str) -> Result<String, AllocError>
 
 // Whether the word names an input that was not found before.
 fn is_new_input(found: &[&str], word: &str) -> bool
-    ensures { result ≡ (not (is_plain_argument word.now) && not (list_any (λ name. bytes_eq name.now word.now) found.now)) }
+    ensures { result ≡ (not (is_plain_argument word.now)
+        && not (list_any (λ name. bytes_eq name.now word.now) found.now)) }
 {
     plain_argument(word).is_none() && !found.contains(&word)
 }

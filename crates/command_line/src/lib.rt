@@ -29,6 +29,3 @@ pub use laws::{
 pub use replay_command::ReplayCommand;
 pub use run_command::RunCommand;
 pub use trace_command::TraceCommand;
-
-#[cfg(test)]
-mod tests;

@@ -14,8 +14,10 @@ pub(crate) fn matches_of_words<'a>(
     alloc: Global,
     words: &'a [String],
 ) -> Result<ArgMatches<'a>, Error>
-    ensures rows { IfOk result (λ m. subcommand_rows_of m ≡ subcommand_of the_app (map string_bytes words.entry.now)) }
-    ensures passes { IfErr result (λ e. takes the_app (map string_bytes words.entry.now) ≡ true → kind_of e ≡ OutOfMemory) }
+    ensures rows { IfOk result (λ m. subcommand_rows_of m
+        ≡ subcommand_of the_app (map string_bytes words.entry.now)) }
+    ensures passes { IfErr result (λ e. takes the_app (map string_bytes words.entry.now) ≡ true
+        → kind_of e ≡ OutOfMemory) }
 {
     whole_command(alloc)?.try_get_matches_from(words)
 }
@@ -24,7 +26,8 @@ pub(crate) fn matches_of_words<'a>(
 pub(crate) fn subcommand_of<'m, 'a>(
     matches: &'m ArgMatches<'a>,
 ) -> Option<(&'a str, &'m ArgMatches<'a>)>
-    ensures { option_map (λ p. (p.0.now, rows_of (found_of p.1.now))) result ≡ subcommand_rows_of matches.now }
+    ensures { option_map (λ p. (p.0.now, rows_of (found_of p.1.now))) result
+        ≡ subcommand_rows_of matches.now }
 {
     matches.subcommand()
 }
@@ -49,7 +52,8 @@ pub(crate) fn texts_of<'a>(
     matches: &ArgMatches<'a>,
     id: &str,
 ) -> Result<Vec<&'a str>, AllocError>
-    ensures { IfOk result (λ texts. map (λ t. t.now) texts.items ≡ unwrap_or (all_of id.now (rows_of (found_of matches.now))) []) }
+    ensures { IfOk result (λ texts. map (λ t. t.now) texts.items
+        ≡ unwrap_or (all_of id.now (rows_of (found_of matches.now))) []) }
 {
     match matches.get_raw(id) {
         Some(texts) => Vec::from_slice(alloc, texts),

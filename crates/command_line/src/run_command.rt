@@ -33,8 +33,10 @@ pub(crate) fn run_of_matches<'a>(
     alloc: Global,
     matches: &ArgMatches<'a>,
 ) -> Result<RunCommand<'a>, CommandError>
-    ensures asked { IfOk result (λ command. options_of_rows (rows_of (found_of matches.now)) ≡ Some (options_in command)) }
-    ensures refused { IfErr result (λ e. e ≡ Refused → options_of_rows (rows_of (found_of matches.now)) ≡ None) }
+    ensures asked { IfOk result (λ command. options_of_rows (rows_of (found_of matches.now))
+        ≡ Some (options_in command)) }
+    ensures refused { IfErr result (λ e. e ≡ Refused
+        → options_of_rows (rows_of (found_of matches.now)) ≡ None) }
     ensures ranges { IfOk result (λ command. AreInRange (guest_in command.guest)) }
 {
     let bits = bits_of(text_of(matches, "stamps"));

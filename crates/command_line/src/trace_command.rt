@@ -25,8 +25,10 @@ pub(crate) fn trace_of_matches<'a>(
     alloc: Global,
     matches: &ArgMatches<'a>,
 ) -> Result<TraceCommand<'a>, CommandError>
-    ensures asked { IfOk result (λ command. trace_of_rows (rows_of (found_of matches.now)) ≡ Some (trace_in command)) }
-    ensures refused { IfErr result (λ e. e ≡ Refused → trace_of_rows (rows_of (found_of matches.now)) ≡ None) }
+    ensures asked { IfOk result (λ command. trace_of_rows (rows_of (found_of matches.now))
+        ≡ Some (trace_in command)) }
+    ensures refused { IfErr result (λ e. e ≡ Refused
+        → trace_of_rows (rows_of (found_of matches.now)) ≡ None) }
     ensures ranges { IfOk result (λ command. AreInRange (guest_in command.guest)) }
 {
     Ok(TraceCommand {

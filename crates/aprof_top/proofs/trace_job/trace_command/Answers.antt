@@ -1,4 +1,4 @@
-use Rattle.std.proofs.Common.{subst, sym}
+use Rattle.std.proofs.Common.{◌+◌, subst, sym}
 use Rattle.std.proofs.lemmas.Result.{err_from_is_err_and}
 use Rattle.command_line.specs.Options.Asked.{Trace}
 use Rattle.command_line.specs.Read.{trace_in}
@@ -9,7 +9,7 @@ use Rattle.trace_model.specs.Depth.{is_within}
 use Rattle.aprof_top.specs.Outcome.{trace_job, trace_outcome}
 use Rattle.aprof_top.proofs.Commands.{AskedEnds-unprepared, is_trace_job}
 use Rattle.aprof_top.proofs.GuestCommands.{AskedEnds-given_up, AskedEnds-stored, seen_of, trace_leaves}
-use Rattle.aprof_top.proofs.Lines.{IsCounted, counted_line}
+use Rattle.guest_run.proofs.Lines.{IsCounted, counted_line}
 use Rattle.aprof_top.proofs.Runs.{counted_observed}
 use Rattle.aprof_top.proofs.trace_job.trace_command.Goals as goal
 
@@ -44,7 +44,7 @@ pub deliver_trace-requires-clause-line : goal.deliver_trace-requires-clause-line
 deliver_trace-requires-clause-line g c =
     let options = trace_in c.args.command.now in
     let prepared = c.in_ok-prepared.prepared in
-    counted_line _ (subst IsCounted (sym c.in_ok-run.ensures.1.finish)
+    counted_line (1 + options.guest.budget) _ (subst (IsCounted (1 + options.guest.budget)) (sym c.in_ok-run.ensures.1.finish)
     (counted_observed (is_within (greatest B32)) options.guest prepared.files.schedule prepared.image prepared.files.inputs prepared.files.stdin.items))
 
 pub deliver_trace-requires-clause-text : goal.deliver_trace-requires-clause-text

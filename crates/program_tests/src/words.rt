@@ -1,4 +1,5 @@
-use crate::{Command, CommandError, RunCommand, read_command};
+//! The words of command lines.
+use command_line::{Command, CommandError, RunCommand, read_command};
 use stamps::StampBits;
 use std::alloc::{AllocError, Global};
 use std::test::Fail;

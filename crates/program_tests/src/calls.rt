@@ -1,8 +1,8 @@
 //! The top call over files and sinks in memory.
-use crate::aprof;
 use crate::failures::{FAILED_PUTS, FAILED_REPLAYS, FAILURES, Failing, NOWHERE, TRACE};
 use crate::worked::{Guest, Left, NOTHING, PLAIN, THREADED, THREADED_LEFT};
 use crate::worked_code::{BOTH_OUTPUTS, FILE_HEADER, OUTPUTS_IN_TURNS, SEGMENT};
+use aprof_top::aprof;
 use host_io::{MemoryFiles, MemorySink};
 use std::alloc::{AllocError, Global};
 use std::process::Abort;
