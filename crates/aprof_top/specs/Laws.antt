@@ -14,7 +14,7 @@ use Rattle.thread_sched.specs.declared.entry.Entry.{Entry}
 use Rattle.trace_model.specs.Profile.{steps}
 use Rattle.aprof_top.specs.Loads.{Loaded, shared_count}
 use Rattle.aprof_top.specs.Outcome.{IsOutcome, Outcome}
-use Rattle.aprof_top.specs.Run.{run_of}
+use Rattle.aprof_top.specs.Run.{run_of, whole_run_of}
 
 -- what is asked and the bytes of the files decide the outcome: one verdict, with the same output and the same files to store
 abbrev pub OneOutcome : Type 0
@@ -79,7 +79,9 @@ pub record IsBounded (run : Profiled) (budget : ℕ) : Type 0 where
   pub steps : steps run.past ≤ budget
   pub turns : TurnsHaveMoves (recording run.moves) (length run.moves) budget
 
--- So it is of the run of each command.
-abbrev pub RunsAreBounded : Type 0
-RunsAreBounded =
-    (bits : StampBits) (options : GuestOptions) (loaded : Loaded) (turns : List Entry) → IsBounded (run_of bits options loaded turns) options.budget
+-- So it is of the run of each command, whatever the loaded files and the turns: of one whose stamps tell its open calls apart,
+-- and of the whole run that `cache` counts over.
+pub record RunsAreBounded : Type 0 where
+  pub stamps : (bits : StampBits) (options : GuestOptions) (loaded : Loaded) (turns : List Entry)
+      → IsBounded (run_of bits options loaded turns) options.budget
+  pub whole : (options : GuestOptions) (loaded : Loaded) (turns : List Entry) → IsBounded (whole_run_of options loaded turns) options.budget

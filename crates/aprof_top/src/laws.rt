@@ -34,7 +34,8 @@ pub fn traces_replay()
 }
 
 /// The run of a command is bounded by its budget, whatever the executable, its files and its schedule: in its steps, and in the
-/// moves of each turn, of which there is one at least.
+/// moves of each turn, of which there is one at least. So is the whole run, which goes on where stamps no longer tell its open
+/// calls apart, as `cache` counts its misses.
 pub fn runs_are_bounded()
     ensures { RunsAreBounded }
 {
