@@ -1,7 +1,7 @@
 -- Laws on the outcomes of commands.
 use Rattle.std.specs.Prelude.{◌≡◌, ◌≤◌, ℕ, suc, List, [], ◌∷◌, ◌++◌, length, take, slice_get, Option, Some}
-use Rattle.command_line.specs.Options.{Asked, GuestOptions, ReplayOptions, RunOptions, TraceOptions}
-use Rattle.command_line.specs.Options.Asked.{Run, Trace, Replay}
+use Rattle.command_line.specs.Options.{Asked, ContextsOptions, GuestOptions, ReplayOptions, RunOptions, TraceOptions}
+use Rattle.command_line.specs.Options.Asked.{Run, Trace, Contexts, Replay}
 use Rattle.guest_run.specs.Laws.{IsNoMismatch, TurnsHaveMoves}
 use Rattle.guest_run.specs.Profiled.{Profiled}
 use Rattle.guest_run.specs.Run.{recording}
@@ -73,6 +73,29 @@ TracesReplay =
     → IsOutcome (Some (Trace (traced_at options path))) files traced → traced.stores ≡ (path, bytes) ∷ []
     → IsOutcome (Some (Run options)) files run → IsOutcome (Some (Replay (replayed_from options path))) (bytes ∷ []) replayed
     → SharesReport run replayed
+
+-- ---- the report with the calling contexts
+-- the same command, where the calling contexts are told behind the report
+abbrev pub with_contexts : RunOptions → ContextsOptions
+with_contexts options = record { guest = options.guest; report = options.report; bits = options.bits }
+
+-- The bytes begin with the report that the run stores last, and both commands have the same verdict and the guest's output.
+pub record BeginsWithReport (path bytes : List ℕ) (contexts run : Outcome) : Type 0 where
+  pub earlier : List (List ℕ × List ℕ)
+  pub report : List ℕ
+  pub stored : run.stores ≡ earlier ++ (path, report) ∷ []
+  pub more : List ℕ
+  pub begins : bytes ≡ report ++ more
+  pub verdict : contexts.verdict ≡ run.verdict
+  pub out : contexts.out ≡ run.out
+  pub err : contexts.err ≡ run.err
+
+-- What `contexts` stores begins, byte for byte, with the report that `run` stores with the same options and files.
+abbrev pub ContextsBeginWithTheReport : Type 0
+ContextsBeginWithTheReport =
+    (options : RunOptions) (files : List (List ℕ)) (bytes : List ℕ) (contexts run : Outcome)
+    → IsOutcome (Some (Contexts (with_contexts options))) files contexts → contexts.stores ≡ (options.report, bytes) ∷ []
+    → IsOutcome (Some (Run options)) files run → BeginsWithReport options.report bytes contexts run
 
 -- A profiled run has at most as many steps as its budget, and each turn that it records has a move and at most as many.
 pub record IsBounded (run : Profiled) (budget : ℕ) : Type 0 where
