@@ -79,7 +79,8 @@ TracesReplay =
 abbrev pub with_contexts : RunOptions → ContextsOptions
 with_contexts options = record { guest = options.guest; report = options.report; bits = options.bits }
 
--- The bytes begin with the report that the run stores last, and both commands have the same verdict and the guest's output.
+-- The bytes begin with the report that the run stores last. Both commands have the same verdict, and the same output of the guest
+-- on each channel; the line of `--stats` is no part of that.
 pub record BeginsWithReport (path bytes : List ℕ) (contexts run : Outcome) : Type 0 where
   pub earlier : List (List ℕ × List ℕ)
   pub report : List ℕ
@@ -102,8 +103,8 @@ pub record IsBounded (run : Profiled) (budget : ℕ) : Type 0 where
   pub steps : steps run.past ≤ budget
   pub turns : TurnsHaveMoves (recording run.moves) (length run.moves) budget
 
--- So it is of the run of each command, whatever the loaded files and the turns: of one whose stamps tell its open calls apart,
--- and of the whole run that `cache` counts over.
+-- So it is of the run of each command, whatever its files and turns: as far as stamps of the width tell its open calls apart, and
+-- of the whole run, over which `cache` counts.
 pub record RunsAreBounded : Type 0 where
   pub stamps : (bits : StampBits) (options : GuestOptions) (loaded : Loaded) (turns : List Entry)
       → IsBounded (run_of bits options loaded turns) options.budget
