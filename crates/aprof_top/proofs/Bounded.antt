@@ -9,7 +9,7 @@ use Rattle.stamps.specs.Widths.{greatest}
 use Rattle.thread_sched.specs.declared.entry.Entry.{Entry}
 use Rattle.trace_model.specs.declared.event_kinds.Event.{Event}
 use Rattle.trace_model.specs.Depth.{is_within}
-use Rattle.std.specs.Prelude.{Bool}
+use Rattle.std.specs.Prelude.{Bool, true}
 use Rattle.aprof_top.specs.Laws.{IsBounded, RunsAreBounded}
 use Rattle.aprof_top.specs.Run.{first_state, observed_from}
 
@@ -25,5 +25,9 @@ bounded_from fits options turns entry state few moves = record {
 }
 
 pub runs_are_bounded : StepsWithin → RecordsProfiledTurns → RunsAreBounded
-runs_are_bounded few moves = λ bits options loaded turns.
-    bounded_from (is_within (greatest bits)) options turns (image_of loaded.image).entry (first_state options loaded) few moves
+runs_are_bounded few moves = record {
+  stamps = λ bits options loaded turns.
+      bounded_from (is_within (greatest bits)) options turns (image_of loaded.image).entry (first_state options loaded) few moves;
+  whole = λ options loaded turns.
+      bounded_from (λ past. true) options turns (image_of loaded.image).entry (first_state options loaded) few moves;
+}

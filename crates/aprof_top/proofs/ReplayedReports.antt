@@ -1,18 +1,14 @@
 -- The report of a stored trace is the report of its run.
-use Rattle.std.proofs.Common.{◌≡◌, ℕ, ◌+◌, ◌*◌, ◌≤◌, Bool, true, false, cond, List, [], ◌∷◌, ◌++◌, length, Option, Some, None, refl, sym, ap, ap₂, ◌∙◌, subst, inl, arith}
+use Rattle.std.proofs.Common.{◌≡◌, ℕ, ◌+◌, ◌*◌, ◌≤◌, Bool, true, false, cond, List, [], ◌∷◌, ◌++◌, length, refl, sym, ap, ap₂, ◌∙◌, subst, inl, arith}
 use Rattle.std.specs.Prelude.{nat_le, nat_lt, if◌then◌else◌}
 use Rattle.std.proofs.lemmas.Bool.{and_from, and_parts, false≢true}
 use Rattle.std.proofs.lemmas.Bool.Decides.{nat_tests}
 use Rattle.guest_words.specs.declared.endings.Finish.{Finish}
 use Rattle.guest_words.specs.declared.endings.Finish.TheVariants.{Deep}
 use Rattle.guest_words.specs.declared.limits.TheConstants.{RUN_STEPS}
-use Rattle.command_line.specs.Options.{GuestOptions, RunOptions, arguments, inputs}
-use Rattle.elf_image.specs.declared.error.ElfError.{ElfError}
+use Rattle.command_line.specs.Options.{GuestOptions, arguments, inputs}
 use Rattle.elf_image.specs.Image.{Executable}
 use Rattle.elf_image.specs.Reading.{image_of}
-use Rattle.elf_image.specs.Tests.{first_refusal}
-use Rattle.guest_machine.specs.declared.setup.SetupError.{SetupError}
-use Rattle.guest_machine.specs.Setup.{setup_refusal}
 use Rattle.guest_run.specs.Profiled.{Profiled, profiled}
 use Rattle.guest_machine.specs.Laws.{IsAddress}
 use Rattle.guest_run.specs.Run.{recording}
@@ -30,19 +26,16 @@ use Rattle.trace_model.specs.Cut.{cut}
 use Rattle.trace_model.specs.Depth.{is_within, pending}
 use Rattle.trace_model.specs.WellFormed.{IsWellFormed}
 use Rattle.run_trace.specs.Entries.{entries_begun}
-use Rattle.aprof_top.specs.declared.ending.Verdict.TheVariants.{BadImage, BadSchedule, TooLarge}
 use Rattle.aprof_top.specs.Laws.{TracesReplay, replayed_from, traced_at}
 use Rattle.aprof_top.specs.Limits.{trace_limit}
 use Rattle.aprof_top.specs.Loads.{Loaded, loaded_of, with_inputs}
-use Rattle.aprof_top.specs.Outcome.{ByImage, ByLength, Follows, IsRun, Job, Outcome, Stage, begun_outcome, recording_stores, refusal, replay_outcome, replay_text, run_job, run_outcome, scheduled_outcome, stage, stats_of, told_apart, told_finish, trace_job}
-use Rattle.aprof_top.specs.Outcome.Stage.{Complete, Loading, PastLimit}
+use Rattle.aprof_top.specs.Outcome.{ByLength, Outcome, recording_stores, replay_outcome, replay_text, stage, stats_of, told_apart, told_finish, trace_job}
 use Rattle.aprof_top.specs.Report.{report_of}
 use Rattle.aprof_top.specs.Run.{first_state, observed_from, run_of}
-use Rattle.aprof_top.specs.Schedules.{Reading, Reads}
-use Rattle.aprof_top.specs.Schedules.Reading.{BadLine, Turns}
 use Rattle.aprof_top.specs.Traces.{is_storable, names_begun, trace_of}
-use Rattle.aprof_top.proofs.OneOutcome.{TracesAreKnown, reads_once, replay_once}
+use Rattle.aprof_top.proofs.OneOutcome.{TracesAreKnown, replay_once}
 use Rattle.aprof_top.proofs.Runs.{formed_observed}
+use Rattle.aprof_top.proofs.StoredRuns.{came_to, run_is, stored_text}
 use Rattle.aprof_top.proofs.Recorded.{begun_rise}
 use Rattle.aprof_top.proofs.TraceEntries.{names_are}
 use Rattle.aprof_top.proofs.TraceRanges.{entry_low, records_fit}
@@ -123,64 +116,7 @@ module _ (bits : StampBits) (options : GuestOptions) (loaded : Loaded) (turns : 
   text_again : (image : Executable) → replay_text bits (names_begun image wide.past) wide.finish wide.past ≡ report_text (report_of image.names narrow.finish narrow.past)
   text_again image = ap report_text (report_again image)
 
--- ---- what a job came to that stored something
-record CameTo (job : Job) (files : List (List ℕ)) (outcome : Outcome) : Type 0 where
-  complete : stage job.guest files ≡ Complete
-  accepted : first_refusal (loaded_of job.guest files).image ≡ None
-  turns : List Entry
-  read : Reads (loaded_of job.guest files).schedule (Turns turns)
-  begins : setup_refusal (image_of (loaded_of job.guest files).image) (arguments job.guest) ≡ None
-  answered : outcome ≡ job.leaves (loaded_of job.guest files) turns
-
-module _ (job : Job) (files : List (List ℕ)) (outcome : Outcome) (some : outcome.stores ≡ [] → ⊥) where
-  abbrev loaded : Loaded
-  loaded = loaded_of job.guest files
-
-  none_stored : {A : Type 0} → (o : Outcome) → outcome ≡ o → o.stores ≡ [] → A
-  none_stored o is none = absurd (some (ap (λ (o : Outcome). o.stores) is ∙ none))
-
-  module _ (complete : stage job.guest files ≡ Complete) (accepted : first_refusal loaded.image ≡ None) where
-    by_setup : (turns : List Entry) → Reads loaded.schedule (Turns turns) → (o : Option SetupError) → setup_refusal (image_of loaded.image) (arguments job.guest) ≡ o → outcome ≡ begun_outcome job loaded turns o → CameTo job files outcome
-    by_setup turns read None begins is = record { complete = complete; accepted = accepted; turns = turns; read = read; begins = begins; answered = is }
-    by_setup turns read (Some why) begins is = none_stored (refusal TooLarge) is refl
-
-    by_reading : (reading : Reading) → Reads loaded.schedule reading → outcome ≡ scheduled_outcome job loaded reading → CameTo job files outcome
-    by_reading (Turns turns) read is = by_setup turns read (setup_refusal (image_of loaded.image) (arguments job.guest)) refl is
-    by_reading (BadLine line) read is = none_stored (refusal (BadSchedule line)) is refl
-
-  by_image : stage job.guest files ≡ Complete → (o : Option ElfError) → first_refusal loaded.image ≡ o → ByImage job loaded outcome o → CameTo job files outcome
-  by_image complete None accepted is = by_reading complete accepted is.reading is.read is.answered
-  by_image complete (Some e) refused is = none_stored (refusal (BadImage e)) is refl
-
-  came_to : (s : Stage) → stage job.guest files ≡ s → Follows job files outcome s → CameTo job files outcome
-  came_to PastLimit is follows = none_stored (refusal TooLarge) follows refl
-  came_to Loading is follows = absurd follows
-  came_to Complete is follows = by_image is (first_refusal loaded.image) refl follows
-
--- the run itself, of the same guest and files
-module _ (options : RunOptions) (path : List ℕ) (files : List (List ℕ)) (traced ran : Outcome) (came : CameTo (trace_job (traced_at options path)) files traced) where
-  abbrev with_files : Loaded
-  with_files = loaded_of options.guest files
-
-  run_is : Follows (run_job options) files ran (stage options.guest files)
-      → ran ≡ run_outcome options (image_of with_files.image) (run_of options.bits options.guest with_files came.turns)
-  run_is follows =
-      let is_run : IsRun (run_job options) with_files ran = subst (λ s. Follows (run_job options) files ran s) came.complete follows in
-      let scheduled = subst (λ o. ByImage (run_job options) with_files ran o) came.accepted is_run in
-      scheduled.answered
-      ∙ ap (scheduled_outcome (run_job options) with_files) (reads_once with_files.schedule scheduled.reading (Turns came.turns) scheduled.read came.read)
-      ∙ ap (begun_outcome (run_job options) with_files came.turns) came.begins
-
--- what was stored is the trace
-abbrev either_store : Bool → List ℕ → List ℕ → List (List ℕ × List ℕ)
-either_store b path text = if b then (path, text) ∷ [] else []
-
-stored_trace : (b : Bool) (path bytes text : List ℕ) → either_store b path text ≡ (path, bytes) ∷ [] → (bytes ≡ text) × (b ≡ true)
-stored_trace true path bytes text same =
-    let first : (path, text) ≡ (path, bytes) = cc same in
-    (sym (ap (λ (store : List ℕ × List ℕ). store.1) first), refl)
-stored_trace false path bytes text same = absurd (cc same)
-
+-- ---- the trace that was stored
 short_enough : (text : List ℕ) → is_storable text ≡ true → nat_lt trace_limit (length text) ≡ false
 short_enough text is = grind (arith, nat_tests, is)
 
@@ -201,7 +137,7 @@ traces_replay known options files path bytes traced ran replayed few is_traced s
     let image = image_of loaded.image in
     let wide : Profiled = run_of B32 options.guest loaded came.turns in
     let narrow : Profiled = run_of options.bits options.guest loaded came.turns in
-    let text = stored_trace (is_storable (trace_of image wide)) path bytes (trace_of image wide) (ap (λ (o : Outcome). o.stores) (sym came.answered) ∙ stored) in
+    let text = stored_text (is_storable (trace_of image wide)) path bytes (trace_of image wide) (ap (λ (o : Outcome). o.stores) (sym came.answered) ∙ stored) in
     let asked = replayed_from options path in
     let is_trace : IsTrace bytes wide.past (names_begun image wide.past) wide.finish = record {
       told = record {
@@ -215,7 +151,7 @@ traces_replay known options files path bytes traced ran replayed few is_traced s
     let of_trace : ByLength asked bytes whole false = inl (record { past = wide.past; names = names_begun image wide.past; finish = wide.finish; trace = is_trace; answered = refl }) in
     let short : nat_lt trace_limit (length bytes) ≡ false = ap (λ (t : List ℕ). nat_lt trace_limit (length t)) text.0 ∙ short_enough (trace_of image wide) text.1 in
     let replayed_is : replayed ≡ whole = replay_once known asked (bytes ∷ []) replayed whole is_replayed (subst (ByLength asked bytes whole) (sym short) of_trace) in
-    let ran_is = run_is options path files traced ran came is_ran in
+    let ran_is = run_is options job.leaves files traced came ran is_ran in
     let earlier = recording_stores options.recording (recording narrow.moves) in
     record {
       earlier = earlier;

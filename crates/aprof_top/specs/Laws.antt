@@ -1,7 +1,7 @@
 -- Laws on the outcomes of commands.
 use Rattle.std.specs.Prelude.{◌≡◌, ◌≤◌, ℕ, suc, List, [], ◌∷◌, ◌++◌, length, take, slice_get, Option, Some}
-use Rattle.command_line.specs.Options.{Asked, GuestOptions, ReplayOptions, RunOptions, TraceOptions}
-use Rattle.command_line.specs.Options.Asked.{Run, Trace, Replay}
+use Rattle.command_line.specs.Options.{Asked, ContextsOptions, GuestOptions, ReplayOptions, RunOptions, TraceOptions}
+use Rattle.command_line.specs.Options.Asked.{Run, Trace, Contexts, Replay}
 use Rattle.guest_run.specs.Laws.{IsNoMismatch, TurnsHaveMoves}
 use Rattle.guest_run.specs.Profiled.{Profiled}
 use Rattle.guest_run.specs.Run.{recording}
@@ -14,7 +14,7 @@ use Rattle.thread_sched.specs.declared.entry.Entry.{Entry}
 use Rattle.trace_model.specs.Profile.{steps}
 use Rattle.aprof_top.specs.Loads.{Loaded, shared_count}
 use Rattle.aprof_top.specs.Outcome.{IsOutcome, Outcome}
-use Rattle.aprof_top.specs.Run.{run_of}
+use Rattle.aprof_top.specs.Run.{run_of, whole_run_of}
 
 -- what is asked and the bytes of the files decide the outcome: one verdict, with the same output and the same files to store
 abbrev pub OneOutcome : Type 0
@@ -74,12 +74,38 @@ TracesReplay =
     → IsOutcome (Some (Run options)) files run → IsOutcome (Some (Replay (replayed_from options path))) (bytes ∷ []) replayed
     → SharesReport run replayed
 
+-- ---- the report with the calling contexts
+-- the same command, where the calling contexts are told behind the report
+abbrev pub with_contexts : RunOptions → ContextsOptions
+with_contexts options = record { guest = options.guest; report = options.report; bits = options.bits }
+
+-- The bytes begin with the report that the run stores last. Both commands have the same verdict, and the same output of the guest
+-- on each channel; the line of `--stats` is no part of that.
+pub record BeginsWithReport (path bytes : List ℕ) (contexts run : Outcome) : Type 0 where
+  pub earlier : List (List ℕ × List ℕ)
+  pub report : List ℕ
+  pub stored : run.stores ≡ earlier ++ (path, report) ∷ []
+  pub more : List ℕ
+  pub begins : bytes ≡ report ++ more
+  pub verdict : contexts.verdict ≡ run.verdict
+  pub out : contexts.out ≡ run.out
+  pub err : contexts.err ≡ run.err
+
+-- What `contexts` stores begins, byte for byte, with the report that `run` stores with the same options and files.
+abbrev pub ContextsBeginWithTheReport : Type 0
+ContextsBeginWithTheReport =
+    (options : RunOptions) (files : List (List ℕ)) (bytes : List ℕ) (contexts run : Outcome)
+    → IsOutcome (Some (Contexts (with_contexts options))) files contexts → contexts.stores ≡ (options.report, bytes) ∷ []
+    → IsOutcome (Some (Run options)) files run → BeginsWithReport options.report bytes contexts run
+
 -- A profiled run has at most as many steps as its budget, and each turn that it records has a move and at most as many.
 pub record IsBounded (run : Profiled) (budget : ℕ) : Type 0 where
   pub steps : steps run.past ≤ budget
   pub turns : TurnsHaveMoves (recording run.moves) (length run.moves) budget
 
--- So it is of the run of each command.
-abbrev pub RunsAreBounded : Type 0
-RunsAreBounded =
-    (bits : StampBits) (options : GuestOptions) (loaded : Loaded) (turns : List Entry) → IsBounded (run_of bits options loaded turns) options.budget
+-- So it is of the run of each command, whatever its files and turns: as far as stamps of the width tell its open calls apart, and
+-- of the whole run, over which `cache` counts.
+pub record RunsAreBounded : Type 0 where
+  pub stamps : (bits : StampBits) (options : GuestOptions) (loaded : Loaded) (turns : List Entry)
+      → IsBounded (run_of bits options loaded turns) options.budget
+  pub whole : (options : GuestOptions) (loaded : Loaded) (turns : List Entry) → IsBounded (whole_run_of options loaded turns) options.budget

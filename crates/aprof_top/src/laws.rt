@@ -1,5 +1,5 @@
 //! Laws on the written product, each the contract of a function that does nothing but call other laws.
-ghost use Rattle.aprof_top.specs.Laws.{OneOutcome, RunsAreBounded, TracesReplay, TwoRunsAgree};
+ghost use Rattle.aprof_top.specs.Laws.{ContextsBeginWithTheReport, OneOutcome, RunsAreBounded, TracesReplay, TwoRunsAgree};
 
 use demo_guest::a_demo_has_one_file;
 use guest_run::{recordings_are_schedules, runs_replay, runs_stay_within};
@@ -33,8 +33,15 @@ pub fn traces_replay()
     bytes_read_in_one_way();
 }
 
+/// What `contexts` stores begins, byte for byte, with the report that `run` stores with the same options and files, and both
+/// have the same verdict and the same output of the guest.
+pub fn contexts_begin_with_the_report()
+    ensures { ContextsBeginWithTheReport }
+{}
+
 /// The run of a command is bounded by its budget, whatever the executable, its files and its schedule: in its steps, and in the
-/// moves of each turn, of which there is one at least.
+/// moves of each turn, of which there is one at least. So is the whole run, which goes on where stamps no longer tell its open
+/// calls apart, as `cache` counts its misses.
 pub fn runs_are_bounded()
     ensures { RunsAreBounded }
 {

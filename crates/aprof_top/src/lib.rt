@@ -26,5 +26,8 @@ mod trace_job;
 mod trace_names;
 mod traced_run;
 
-pub use laws::{a_command_has_one_outcome, runs_are_bounded, traces_replay, two_runs_agree};
+pub use laws::{
+    a_command_has_one_outcome, contexts_begin_with_the_report, runs_are_bounded, traces_replay,
+    two_runs_agree,
+};
 pub use top::aprof;

@@ -5,6 +5,7 @@ pub mod Filled
 pub mod Numerals
 pub mod PlainArguments
 pub mod PlainDemo
+pub mod PlainNumbers
 pub mod PlainOptions
 pub mod PlainWords
 pub mod Refusals

@@ -97,7 +97,7 @@ plain_demo program number plain =
     (ap (built_takes (built the_app) nothing_held) (after_program program (after_name number))
     ∙ built_takes_demo number (plain_is_no_flag number plain))
 
-demo_subcommand : (program number : Text) → IsNoFlag number
+pub demo_subcommand : (program number : Text) → IsNoFlag number
     → subcommand_of the_app (demo_words program number) ≡ Some (codes "demo", demo_row number)
 demo_subcommand program number h =
     let rows = ap (λ (w : Walk). finished demo_rules w.held) (number_word number h) ∙ demo_rows number in

@@ -93,7 +93,7 @@ no_flag replaying path (w ∷ ws) true = refl
 no_flag replaying path (w ∷ ws) false = refl
 
 -- the argument is an option with a value
-abbrev IsOption : Text → Type 0
+abbrev pub IsOption : Text → Type 0
 IsOption id = (bytes_eq (codes "image") id ≡ false) × (bytes_eq (codes "trace") id ≡ false) × (bytes_eq (codes "word") id ≡ false) × (bytes_eq (codes "stats") id ≡ false)
 
 -- the path has another argument
@@ -111,7 +111,7 @@ none_after k id path (w ∷ ws) true h = rw (path_apart k id h, h.2) refl
 none_after k id path (w ∷ ws) false h = rw (path_apart k id h, h.2, h.3) refl
 
 -- it is read of plain words
-option_read : (k : Subcommand) (id : Text) (choices : List Choice) (path : Text) (words : List Text) → IsOption id
+pub option_read : (k : Subcommand) (id : Text) (choices : List Choice) (path : Text) (words : List Text) → IsOption id
     → first_of id (plain_rows (path_id k) choices path words) ≡ given id choices
 option_read k id choices path words h =
     let given_stats = is_chosen (codes "stats") choices in
@@ -122,7 +122,7 @@ none_behind : (id image : Text) (words : List Text) → IsOption id → first_of
 none_behind id image [] h = rw h.0 refl
 none_behind id image (w ∷ ws) h = rw (h.0, h.2) refl
 
-bare_option_read : (id : Text) (choices : List Choice) (image : Text) (words : List Text) → IsOption id
+pub bare_option_read : (id : Text) (choices : List Choice) (image : Text) (words : List Text) → IsOption id
     → first_of id (made_rows (codes "image") choices image words) ≡ given id choices
 bare_option_read id choices image words h = first_given id choices (tail_rows (codes "image") image words) h.3 (none_behind id image words h)
 

@@ -1,5 +1,5 @@
 -- Plain words of the commands, and what is read of them.
-use Rattle.std.specs.Prelude.{◌≡◌, ◌<◌, ◌^◌, ◌==◌, ℕ, Bool, true, false, not, length, if◌then◌else◌, List, [], ◌∷◌, ◌++◌, Option, Some, None, codes}
+use Rattle.std.specs.Prelude.{◌≡◌, ◌<◌, ◌^◌, ◌==◌, ◌⊎◌, ℕ, Bool, true, false, not, length, if◌then◌else◌, List, [], ◌∷◌, ◌++◌, Option, Some, None, codes}
 use Rattle.std.specs.List.{list_all, list_any}
 use Rattle.std.specs.Option.{option_map_or}
 use Rattle.std.specs.Str.{bytes_eq}
@@ -290,3 +290,36 @@ PlainDemoIsTaken = (program number : Text) → is_plain_word number ≡ true →
 abbrev pub PlainDemoIsRead : Type 0
 PlainDemoIsRead = (program text : Text) (number : ℕ) → is_plain_word text ≡ true → list_any has_zero (demo_words program text) ≡ false
     → demo_of text ≡ Some number → asked_of (demo_words program text) ≡ Some (Asked.Demo number)
+
+-- ---- numbers out of their form or range
+
+-- the steps of a turn or of the whole run are out of their form or range
+abbrev pub GiveBadSteps : List Choice → Type 0
+GiveBadSteps choices = (quantum_of (given (codes "quantum") choices) ≡ None) ⊎ (budget_of (given (codes "budget") choices) ≡ None)
+
+-- stamps have no such width
+abbrev pub GiveBadWidth : List Choice → Type 0
+GiveBadWidth choices = bits_of (given (codes "stamps") choices) ≡ None
+
+-- a number of `run` or `contexts` is out of its form or range
+abbrev pub GiveBadNumber : List Choice → Type 0
+GiveBadNumber choices = GiveBadSteps choices ⊎ GiveBadWidth choices
+
+-- the numbers of a cache are not all given, in their form and range, or no cache has the shape
+abbrev pub GiveNoShape : List Choice → Type 0
+GiveNoShape choices = shape_said (given (codes "sets") choices) (given (codes "ways") choices) (given (codes "line") choices) ≡ None
+
+-- plain words of a command, with options of its own, ask for nothing where these fail so
+abbrev pub AreRefused : (Text → List Choice → Text → List Text → List Text) → (Choice → Bool) → (List Choice → Type 0) → Type 0
+AreRefused command_words is_of_command Fail = (program : Text) (choices : List Choice) (image : Text) (words : List Text)
+    → ArePlain choices image words → list_all is_of_command choices ≡ true → Fail choices → asked_of (command_words program choices image words) ≡ None
+
+-- Plain words ask for nothing where a number is out of its form or range, or where the numbers of a cache make no shape.
+pub record PlainNumbersAreRefused : Type 0 where
+  pub run : AreRefused run_words is_of_run GiveBadNumber
+  pub trace : AreRefused trace_words is_of_trace GiveBadSteps
+  pub cache : AreRefused cache_words is_of_cache (λ choices. GiveBadSteps choices ⊎ GiveNoShape choices)
+  pub contexts : AreRefused contexts_words is_of_contexts GiveBadNumber
+  pub replay : (program : Text) (choices : List Choice) (trace : Text) → ArePlain choices trace []
+      → list_all is_of_replay choices ≡ true → GiveBadWidth choices → asked_of (replay_words program choices trace) ≡ None
+  pub demo : (program number : Text) → is_plain_word number ≡ true → demo_of number ≡ None → asked_of (demo_words program number) ≡ None

@@ -1,5 +1,5 @@
 //! Laws of the words, each the contract of a function with no body.
-ghost use Rattle.command_line.specs.Plain.{PlainCacheIsRead, PlainCacheIsTaken, PlainContextsIsRead, PlainContextsIsTaken, PlainDemoIsRead, PlainDemoIsTaken, PlainOptionsAreRead, PlainReplayIsRead, PlainReplayIsTaken, PlainTraceIsRead, PlainTraceIsTaken, PlainWordsAreTaken};
+ghost use Rattle.command_line.specs.Plain.{PlainCacheIsRead, PlainCacheIsTaken, PlainContextsIsRead, PlainContextsIsTaken, PlainDemoIsRead, PlainDemoIsTaken, PlainNumbersAreRefused, PlainOptionsAreRead, PlainReplayIsRead, PlainReplayIsTaken, PlainTraceIsRead, PlainTraceIsTaken, PlainWordsAreTaken};
 ghost use Rattle.command_line.specs.Taken.{TakenWordsFailByNumbers};
 
 /// Plain words are taken: any program name, each option at most once and `-o` among them, in any order, then the image and
@@ -64,6 +64,11 @@ pub fn plain_demo_is_taken()
 /// What they ask for: the demo of the number that the word says, where that is in its form and range.
 pub fn plain_demo_is_read()
     ensures { PlainDemoIsRead }
+{}
+
+/// Plain words ask for nothing where a number is out of its form or range, or where the numbers of a cache make no shape.
+pub fn plain_numbers_are_refused()
+    ensures { PlainNumbersAreRefused }
 {}
 
 /// Words that `clap` takes are refused only for a zero byte or a number out of its form or range.

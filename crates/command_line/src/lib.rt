@@ -22,9 +22,9 @@ pub use contexts_command::ContextsCommand;
 pub use guest_options::GuestOptions;
 pub use laws::{
     plain_caches_are_read, plain_caches_are_taken, plain_contexts_are_read,
-    plain_contexts_are_taken, plain_demo_is_read, plain_demo_is_taken, plain_options_are_read,
-    plain_replays_are_read, plain_replays_are_taken, plain_traces_are_read, plain_traces_are_taken,
-    plain_words_are_taken, taken_words_fail_by_numbers,
+    plain_contexts_are_taken, plain_demo_is_read, plain_demo_is_taken, plain_numbers_are_refused,
+    plain_options_are_read, plain_replays_are_read, plain_replays_are_taken, plain_traces_are_read,
+    plain_traces_are_taken, plain_words_are_taken, taken_words_fail_by_numbers,
 };
 pub use replay_command::ReplayCommand;
 pub use run_command::RunCommand;

@@ -1,0 +1,76 @@
+-- What a command came to that stored something, and the run of the same guest and files.
+use Rattle.std.proofs.Common.{◌≡◌, ℕ, Bool, true, false, List, [], ◌∷◌, Option, Some, None, refl, sym, ap, ◌∙◌, subst}
+use Rattle.std.specs.Prelude.{if◌then◌else◌}
+use Rattle.command_line.specs.Options.{RunOptions, arguments}
+use Rattle.elf_image.specs.declared.error.ElfError.{ElfError}
+use Rattle.elf_image.specs.Reading.{image_of}
+use Rattle.elf_image.specs.Tests.{first_refusal}
+use Rattle.guest_machine.specs.declared.setup.SetupError.{SetupError}
+use Rattle.guest_machine.specs.Setup.{setup_refusal}
+use Rattle.thread_sched.specs.declared.entry.Entry.{Entry}
+use Rattle.aprof_top.specs.declared.ending.Verdict.TheVariants.{BadImage, BadSchedule, TooLarge}
+use Rattle.aprof_top.specs.Loads.{Loaded, loaded_of}
+use Rattle.aprof_top.specs.Outcome.{ByImage, Follows, IsRun, Job, Outcome, Stage, begun_outcome, refusal, run_job, run_outcome, scheduled_outcome, stage}
+use Rattle.aprof_top.specs.Outcome.Stage.{Complete, Loading, PastLimit}
+use Rattle.aprof_top.specs.Run.{run_of}
+use Rattle.aprof_top.specs.Schedules.{Reading, Reads}
+use Rattle.aprof_top.specs.Schedules.Reading.{BadLine, Turns}
+use Rattle.aprof_top.proofs.OneOutcome.{reads_once}
+
+-- A job that stored something ran its guest, under turns that were read.
+pub record CameTo (job : Job) (files : List (List ℕ)) (outcome : Outcome) : Type 0 where
+  pub complete : stage job.guest files ≡ Complete
+  pub accepted : first_refusal (loaded_of job.guest files).image ≡ None
+  pub turns : List Entry
+  pub read : Reads (loaded_of job.guest files).schedule (Turns turns)
+  pub begins : setup_refusal (image_of (loaded_of job.guest files).image) (arguments job.guest) ≡ None
+  pub answered : outcome ≡ job.leaves (loaded_of job.guest files) turns
+
+module _ (job : Job) (files : List (List ℕ)) (outcome : Outcome) (some : outcome.stores ≡ [] → ⊥) where
+  abbrev loaded : Loaded
+  loaded = loaded_of job.guest files
+
+  none_stored : {A : Type 0} → (o : Outcome) → outcome ≡ o → o.stores ≡ [] → A
+  none_stored o is none = absurd (some (ap (λ (o : Outcome). o.stores) is ∙ none))
+
+  module _ (complete : stage job.guest files ≡ Complete) (accepted : first_refusal loaded.image ≡ None) where
+    by_setup : (turns : List Entry) → Reads loaded.schedule (Turns turns) → (o : Option SetupError) → setup_refusal (image_of loaded.image) (arguments job.guest) ≡ o → outcome ≡ begun_outcome job loaded turns o → CameTo job files outcome
+    by_setup turns read None begins is = record { complete = complete; accepted = accepted; turns = turns; read = read; begins = begins; answered = is }
+    by_setup turns read (Some why) begins is = none_stored (refusal TooLarge) is refl
+
+    by_reading : (reading : Reading) → Reads loaded.schedule reading → outcome ≡ scheduled_outcome job loaded reading → CameTo job files outcome
+    by_reading (Turns turns) read is = by_setup turns read (setup_refusal (image_of loaded.image) (arguments job.guest)) refl is
+    by_reading (BadLine line) read is = none_stored (refusal (BadSchedule line)) is refl
+
+  by_image : stage job.guest files ≡ Complete → (o : Option ElfError) → first_refusal loaded.image ≡ o → ByImage job loaded outcome o → CameTo job files outcome
+  by_image complete None accepted is = by_reading complete accepted is.reading is.read is.answered
+  by_image complete (Some e) refused is = none_stored (refusal (BadImage e)) is refl
+
+  pub came_to : (s : Stage) → stage job.guest files ≡ s → Follows job files outcome s → CameTo job files outcome
+  came_to PastLimit is follows = none_stored (refusal TooLarge) follows refl
+  came_to Loading is follows = absurd follows
+  came_to Complete is follows = by_image is (first_refusal loaded.image) refl follows
+
+-- the run itself, of the same guest and files
+module _ (options : RunOptions) (leaves : Loaded → List Entry → Outcome) (files : List (List ℕ)) (outcome : Outcome) (came : CameTo (record { guest = options.guest; leaves = leaves }) files outcome) (ran : Outcome) where
+  abbrev with_files : Loaded
+  with_files = loaded_of options.guest files
+
+  pub run_is : Follows (run_job options) files ran (stage options.guest files)
+      → ran ≡ run_outcome options (image_of with_files.image) (run_of options.bits options.guest with_files came.turns)
+  run_is follows =
+      let is_run : IsRun (run_job options) with_files ran = subst (λ s. Follows (run_job options) files ran s) came.complete follows in
+      let scheduled = subst (λ o. ByImage (run_job options) with_files ran o) came.accepted is_run in
+      scheduled.answered
+      ∙ ap (scheduled_outcome (run_job options) with_files) (reads_once with_files.schedule scheduled.reading (Turns came.turns) scheduled.read came.read)
+      ∙ ap (begun_outcome (run_job options) with_files came.turns) came.begins
+
+-- what was stored is this text
+abbrev pub either_store : Bool → List ℕ → List ℕ → List (List ℕ × List ℕ)
+either_store b path text = if b then (path, text) ∷ [] else []
+
+pub stored_text : (b : Bool) (path bytes text : List ℕ) → either_store b path text ≡ (path, bytes) ∷ [] → (bytes ≡ text) × (b ≡ true)
+stored_text true path bytes text same =
+    let first : (path, text) ≡ (path, bytes) = cc same in
+    (sym (ap (λ (store : List ℕ × List ℕ). store.1) first), refl)
+stored_text false path bytes text same = absurd (cc same)
