@@ -13,7 +13,7 @@ ghost use Rattle.guest_run.specs.Profiled.{first_past, profiled};
 ghost use Rattle.guest_run.specs.Run.{Move, Position, run, start};
 ghost use Rattle.guest_run.specs.RunEnds.{IsAtStart, RunEnds};
 
-use crate::stepper::Stepper;
+use crate::stepper::{Pace, Stepper};
 use crate::turns::{Choice, CurrentTurn, Recorder};
 use crate::{RunError, TurnStatus};
 use guest_machine::Machine;
@@ -79,6 +79,7 @@ impl Runner {
     #[inline(always)]
     fn advance<W: Observer, O: Sink, E: Sink>(
         &mut self,
+        pace: Pace,
         observer: &mut W,
         out: &mut O,
         err: &mut E,
@@ -98,7 +99,7 @@ impl Runner {
         };
         let tid = self.turn.tid;
         self.recorder.add(opens, tid)?;
-        match self.stepper.step(tid, observer, out, err)? {
+        match self.stepper.step(pace, tid, observer, out, err)? {
             TurnStatus::Ends { finish } => Ok(Some(finish)),
             TurnStatus::TurnOver => {
                 self.turn.left = 0;
@@ -128,7 +129,7 @@ impl Runner {
         ensures same { W.fits observer.new ≡ W.fits observer.old }
         ensures made { IfOk result (λ end. self.new.recorder.made ≤ self.old.recorder.made + 1) }
     {
-        self.advance(observer, out, err)
+        self.advance(Pace::First, observer, out, err)
     }
 
     // Makes moves of the present turn, from so many on, while it has some left and the budget lasts.
@@ -153,7 +154,7 @@ impl Runner {
     {
         let mut count = made;
         'moves: while self.turn.left > 0 && count < budget {
-            if let Some(finish) = self.advance(observer, out, err)? {
+            if let Some(finish) = self.advance(Pace::Later, observer, out, err)? {
                 return Ok(Turned::Ends { finish });
             }
             count += 1;

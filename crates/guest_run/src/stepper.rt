@@ -21,6 +21,13 @@ use rv_exec::Access;
 use std::alloc::{AllocError, Global};
 use trace_model::{Event, Events, Observed, Observer, feed};
 
+/// Which move of its turn a step is. Code that is made for the later ones stands in the run's loop.
+#[derive(Clone, Copy)]
+pub(crate) enum Pace {
+    First,
+    Later,
+}
+
 /// A machine, with room for the events of a step.
 #[derive(Drop)]
 pub(crate) struct Stepper {
@@ -72,9 +79,34 @@ impl Stepper {
         })
     }
 
-    /// Runs one step of a thread that can run: first its bytes are put, then its events are handed out.
+    /// Runs one step of a thread that can run: first its bytes are put, then its events are handed out. The two paces differ in
+    /// nothing but their cost.
     #[inline(always)]
     pub(crate) fn step<W: Observer, O: Sink, E: Sink>(
+        &mut self,
+        pace: Pace,
+        tid: Tid,
+        observer: &mut W,
+        out: &mut O,
+        err: &mut E,
+    ) -> Result<TurnStatus, RunError>
+        requires can_run { can_run (machine_of self.old.machine) tid ≡ true }
+        requires next { MayTakeAll W.stands (W.fits observer.old) observer.old
+            (guest.step (machine_of self.old.machine) tid).events }
+        ensures ends { StepEnds W.stands (W.fits observer.old)
+            (guest.step (machine_of self.old.machine) tid)
+            observer.old (sinks (O.state out.old) (E.state err.old)) self.new observer.new (sinks (O.state out.new) (E.state err.new)) result }
+        ensures same { W.fits observer.new ≡ W.fits observer.old }
+    {
+        match pace {
+            Pace::First => self.step_apart(tid, observer, out, err),
+            Pace::Later => self.step_on(tid, observer, out, err),
+        }
+    }
+
+    // Runs one step, whose instruction is likely to be known.
+    #[inline(always)]
+    fn step_on<W: Observer, O: Sink, E: Sink>(
         &mut self,
         tid: Tid,
         observer: &mut W,

@@ -4,7 +4,7 @@ use Rattle.guest_machine.specs.Machine.{MachineState, can_run}
 use Rattle.guest_run.specs.Machine.{guest}
 use Rattle.guest_run.specs.Output.{sinks}
 use Rattle.guest_run.specs.Steps.{StepEnds}
-use Rattle.guest_run.proofs.stepper.Stepper.step.Goals as goal
+use Rattle.guest_run.proofs.stepper.Stepper.step_on.Goals as goal
 
 pub step_apart-requires : goal.step_apart-requires
 step_apart-requires g c = record {
