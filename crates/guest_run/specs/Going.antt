@@ -116,6 +116,14 @@ Advances Stands fits first start moves before r observer after (Err (CannotPut c
 Advances Stands fits first start moves before r observer after (Err Memory) =
     (n : ℕ) → IsGivenUp (observed fits first start (length moves + suc n)).moves before after
 
+-- Whatever moves a run made that goes on, it advances by one more.
+abbrev pub MakesAMove : {W : Type 0} → (W → List Event → Type 0) → (List Event → Bool) → Runner → W → Sinks →
+    Runner → W → Sinks → Result (Option Finish) RunError → Type 0
+MakesAMove Stands fits old observed now new observer after result =
+    (first : List Event) (start : Position MachineState) (moves : List Move) (before : Sinks)
+    → IsGoing Stands fits first start moves old observed → length moves < RUN_STEPS → now ≡ with_output moves before
+    → Advances Stands fits first start moves before new observer after result
+
 -- How a run goes on with moves of a turn: it remains after so many moves in all, or its budget shows how it ended or why it was
 -- given up.
 abbrev pub TurnEnds : {W : Type 0} → (W → List Event → Type 0) → (List Event → Bool) → List Event → Position MachineState → Sinks → ℕ →
@@ -125,6 +133,14 @@ TurnEnds Stands fits first start before budget r observer after (Ok (turned.Ends
     IsOver Stands (observed fits first start budget) before r observer after finish
 TurnEnds Stands fits first start before budget r observer after (Err e) =
     RunEnds Stands (observed fits first start budget) before observer after (Err e)
+
+-- Whatever run remains after so many moves, it goes on so with moves of a turn.
+abbrev pub MakesMoves : {W : Type 0} → (W → List Event → Type 0) → (List Event → Bool) → ℕ → ℕ → Runner → W → Sinks →
+    Runner → W → Sinks → Result Turned RunError → Type 0
+MakesMoves Stands fits made budget old observed now new observer after result =
+    (first : List Event) (start : Position MachineState) (before : Sinks)
+    → Remains Stands fits first start before made old observed now
+    → TurnEnds Stands fits first start before budget new observer after result
 
 -- so many moves were made, more than before and no more than the budget, where the run goes on
 abbrev pub IsCounted : ℕ → ℕ → Result Turned RunError → Type 0

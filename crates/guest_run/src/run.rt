@@ -6,11 +6,11 @@ ghost use Rattle.guest_machine.specs.Kept.{machine_of};
 ghost use Rattle.guest_machine.specs.Machine.{MachineState};
 ghost use Rattle.guest_run.specs.declared.run_error.RunError.TheVariants.{Memory};
 ghost use Rattle.guest_run.specs.CurrentTurn.{recorded};
-ghost use Rattle.guest_run.specs.Going.{Advances, IsCounted, IsGoing, IsNewRunner, MayAdvance, Remains, RemainsSome, TurnEnds};
+ghost use Rattle.guest_run.specs.Going.{IsCounted, IsNewRunner, MakesAMove, MakesMoves, MayAdvance, RemainsSome};
 ghost use Rattle.guest_run.specs.Machine.{guest};
-ghost use Rattle.guest_run.specs.Output.{Sinks, sinks, with_output};
+ghost use Rattle.guest_run.specs.Output.{sinks};
 ghost use Rattle.guest_run.specs.Profiled.{first_past, profiled};
-ghost use Rattle.guest_run.specs.Run.{Move, Position, run, start};
+ghost use Rattle.guest_run.specs.Run.{run};
 ghost use Rattle.guest_run.specs.RunEnds.{IsAtStart, RunEnds};
 
 use crate::stepper::{Pace, Stepper};
@@ -85,11 +85,9 @@ impl Runner {
         err: &mut E,
     ) -> Result<Option<Finish>, RunError>
         requires { MayAdvance W.stands (W.fits observer.old) self.old observer.old }
-        ensures advances { (first : List Event) (start : Position MachineState) (moves : List Move)
-            (before : Sinks)
-            → IsGoing W.stands (W.fits observer.old) first start moves self.old observer.old
-            → length moves < RUN_STEPS → sinks (O.state out.old) (E.state err.old) ≡ with_output moves before
-            → Advances W.stands (W.fits observer.old) first start moves before self.new observer.new (sinks (O.state out.new) (E.state err.new)) result }
+        ensures advances { MakesAMove W.stands (W.fits observer.old)
+            self.old observer.old (sinks (O.state out.old) (E.state err.old))
+            self.new observer.new (sinks (O.state out.new) (E.state err.new)) result }
         ensures same { W.fits observer.new ≡ W.fits observer.old }
         ensures made { IfOk result (λ end. self.new.recorder.made ≤ self.old.recorder.made + 1) }
     {
@@ -121,11 +119,9 @@ impl Runner {
         err: &mut E,
     ) -> Result<Option<Finish>, RunError>
         requires { MayAdvance W.stands (W.fits observer.old) self.old observer.old }
-        ensures advances { (first : List Event) (start : Position MachineState) (moves : List Move)
-            (before : Sinks)
-            → IsGoing W.stands (W.fits observer.old) first start moves self.old observer.old
-            → length moves < RUN_STEPS → sinks (O.state out.old) (E.state err.old) ≡ with_output moves before
-            → Advances W.stands (W.fits observer.old) first start moves before self.new observer.new (sinks (O.state out.new) (E.state err.new)) result }
+        ensures advances { MakesAMove W.stands (W.fits observer.old)
+            self.old observer.old (sinks (O.state out.old) (E.state err.old))
+            self.new observer.new (sinks (O.state out.new) (E.state err.new)) result }
         ensures same { W.fits observer.new ≡ W.fits observer.old }
         ensures made { IfOk result (λ end. self.new.recorder.made ≤ self.old.recorder.made + 1) }
     {
@@ -145,9 +141,9 @@ impl Runner {
             (sinks (O.state out.old) (E.state err.old)) }
         requires budget { made ≤ budget }
         requires limit { budget ≤ RUN_STEPS }
-        ensures ends { (first : List Event) (start : Position MachineState) (before : Sinks)
-            → Remains W.stands (W.fits observer.old) first start before made self.old observer.old (sinks (O.state out.old) (E.state err.old))
-            → TurnEnds W.stands (W.fits observer.old) first start before budget self.new observer.new (sinks (O.state out.new) (E.state err.new)) result }
+        ensures ends { MakesMoves W.stands (W.fits observer.old) made budget
+            self.old observer.old (sinks (O.state out.old) (E.state err.old))
+            self.new observer.new (sinks (O.state out.new) (E.state err.new)) result }
         ensures count { IsCounted made budget result }
         ensures same { W.fits observer.new ≡ W.fits observer.old }
         ensures made { IfOk result (λ end. self.new.recorder.made ≤ RUN_STEPS) }
@@ -175,9 +171,9 @@ impl Runner {
             (sinks (O.state out.old) (E.state err.old)) }
         requires budget { made < budget }
         requires limit { budget ≤ RUN_STEPS }
-        ensures ends { (first : List Event) (start : Position MachineState) (before : Sinks)
-            → Remains W.stands (W.fits observer.old) first start before made self.old observer.old (sinks (O.state out.old) (E.state err.old))
-            → TurnEnds W.stands (W.fits observer.old) first start before budget self.new observer.new (sinks (O.state out.new) (E.state err.new)) result }
+        ensures ends { MakesMoves W.stands (W.fits observer.old) made budget
+            self.old observer.old (sinks (O.state out.old) (E.state err.old))
+            self.new observer.new (sinks (O.state out.new) (E.state err.new)) result }
         ensures count { IsCounted (made + 1) budget result }
         ensures same { W.fits observer.new ≡ W.fits observer.old }
         ensures made { IfOk result (λ end. self.new.recorder.made ≤ RUN_STEPS) }

@@ -95,7 +95,8 @@ impl Stepper {
             (guest.step (machine_of self.old.machine) tid).events }
         ensures ends { StepEnds W.stands (W.fits observer.old)
             (guest.step (machine_of self.old.machine) tid)
-            observer.old (sinks (O.state out.old) (E.state err.old)) self.new observer.new (sinks (O.state out.new) (E.state err.new)) result }
+            observer.old (sinks (O.state out.old) (E.state err.old))
+            self.new observer.new (sinks (O.state out.new) (E.state err.new)) result }
         ensures same { W.fits observer.new ≡ W.fits observer.old }
     {
         match pace {
@@ -118,7 +119,8 @@ impl Stepper {
             (guest.step (machine_of self.old.machine) tid).events }
         ensures ends { StepEnds W.stands (W.fits observer.old)
             (guest.step (machine_of self.old.machine) tid)
-            observer.old (sinks (O.state out.old) (E.state err.old)) self.new observer.new (sinks (O.state out.new) (E.state err.new)) result }
+            observer.old (sinks (O.state out.old) (E.state err.old))
+            self.new observer.new (sinks (O.state out.new) (E.state err.new)) result }
         ensures same { W.fits observer.new ≡ W.fits observer.old }
     {
         match self.machine.advance_known(tid) {
@@ -154,7 +156,8 @@ impl Stepper {
             (guest.step (machine_of self.old.machine) tid).events }
         ensures ends { StepEnds W.stands (W.fits observer.old)
             (guest.step (machine_of self.old.machine) tid)
-            observer.old (sinks (O.state out.old) (E.state err.old)) self.new observer.new (sinks (O.state out.new) (E.state err.new)) result }
+            observer.old (sinks (O.state out.old) (E.state err.old))
+            self.new observer.new (sinks (O.state out.new) (E.state err.new)) result }
         ensures same { W.fits observer.new ≡ W.fits observer.old }
     {
         self.events.clear();
@@ -189,7 +192,8 @@ impl Stepper {
         requires { MayTakeAll W.stands (W.fits observer.old) observer.old self.old.events.list }
         ensures ends { (r : StepResult) → Steps r stepped self.old.machine [] self.old.events.list
             → StepEnds W.stands (W.fits observer.old) (progress_of tid r)
-            observer.old (sinks (O.state out.old) (E.state err.old)) self.new observer.new (sinks (O.state out.new) (E.state err.new)) result }
+            observer.old (sinks (O.state out.old) (E.state err.old))
+            self.new observer.new (sinks (O.state out.new) (E.state err.new)) result }
         ensures same { W.fits observer.new ≡ W.fits observer.old }
     {
         put_outgoing(&self.machine, out, err)?;
