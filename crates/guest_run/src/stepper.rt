@@ -9,7 +9,7 @@ ghost use Rattle.guest_machine.specs.Step.{StepResult, access_events, jump_event
 ghost use Rattle.guest_run.specs.declared.turn_status.TurnStatus.TheVariants.{Ends};
 ghost use Rattle.guest_run.specs.Machine.{guest, progress_of};
 ghost use Rattle.guest_run.specs.Output.{sinks};
-ghost use Rattle.guest_run.specs.Steps.{PutEndsOn, PutsSent, StepEnds};
+ghost use Rattle.guest_run.specs.Steps.{KnownStepEnds, PutEndsOn, PutsSent, StepEnds};
 
 use crate::turn_status::turn_status_of;
 use crate::{Channel, RunError, TurnStatus};
@@ -20,13 +20,6 @@ use host_io::{PutError, Sink};
 use rv_exec::Access;
 use std::alloc::{AllocError, Global};
 use trace_model::{Event, Events, Observed, Observer, feed};
-
-/// Which move of its turn a step is. Code that is made for the later ones stands in the run's loop.
-#[derive(Clone, Copy)]
-pub(crate) enum Pace {
-    First,
-    Later,
-}
 
 /// A machine, with room for the events of a step.
 #[derive(Drop)]
@@ -79,72 +72,37 @@ impl Stepper {
         })
     }
 
-    /// Runs one step of a thread that can run: first its bytes are put, then its events are handed out. The two paces differ in
-    /// nothing but their cost.
+    /// Runs one step of a thread that can run, where its instruction is known, is no ECALL and does not fault: its events are
+    /// handed out, and no byte goes out. Else no step is made.
     #[inline(always)]
-    pub(crate) fn step<W: Observer, O: Sink, E: Sink>(
-        &mut self,
-        pace: Pace,
-        tid: Tid,
-        observer: &mut W,
-        out: &mut O,
-        err: &mut E,
-    ) -> Result<TurnStatus, RunError>
-        requires can_run { can_run (machine_of self.old.machine) tid ≡ true }
-        requires next { MayTakeAll W.stands (W.fits observer.old) observer.old
-            (guest.step (machine_of self.old.machine) tid).events }
-        ensures ends { StepEnds W.stands (W.fits observer.old)
-            (guest.step (machine_of self.old.machine) tid)
-            observer.old (sinks (O.state out.old) (E.state err.old))
-            self.new observer.new (sinks (O.state out.new) (E.state err.new)) result }
-        ensures same { W.fits observer.new ≡ W.fits observer.old }
-    {
-        match pace {
-            Pace::First => self.step_apart(tid, observer, out, err),
-            Pace::Later => self.step_on(tid, observer, out, err),
-        }
-    }
-
-    // Runs one step, whose instruction is likely to be known.
-    #[inline(always)]
-    fn step_on<W: Observer, O: Sink, E: Sink>(
+    pub(crate) fn step_known<W: Observer>(
         &mut self,
         tid: Tid,
         observer: &mut W,
-        out: &mut O,
-        err: &mut E,
-    ) -> Result<TurnStatus, RunError>
+    ) -> Result<Option<Observed>, AllocError>
         requires can_run { can_run (machine_of self.old.machine) tid ≡ true }
         requires next { MayTakeAll W.stands (W.fits observer.old) observer.old
             (guest.step (machine_of self.old.machine) tid).events }
-        ensures ends { StepEnds W.stands (W.fits observer.old)
-            (guest.step (machine_of self.old.machine) tid)
-            observer.old (sinks (O.state out.old) (E.state err.old))
-            self.new observer.new (sinks (O.state out.new) (E.state err.new)) result }
+        ensures ends { KnownStepEnds W.stands (W.fits observer.old) (machine_of self.old.machine)
+            (guest.step (machine_of self.old.machine) tid) observer.old self.new observer.new result }
         ensures same { W.fits observer.new ≡ W.fits observer.old }
     {
         match self.machine.advance_known(tid) {
-            Some(Advanced::Ran) => {
-                let observed = observe_step(tid, observer)?;
-                Ok(status_of(observed, TurnStatus::GoesOn))
-            }
+            Some(Advanced::Ran) => Ok(Some(observe_step(tid, observer)?)),
             Some(Advanced::Accessed { access }) => {
-                let observed = observe_access(tid, access, observer)?;
-                Ok(status_of(observed, TurnStatus::GoesOn))
+                Ok(Some(observe_access(tid, access, observer)?))
             }
             Some(Advanced::Jumped { jump, target, back }) => {
-                let observed = observe_jump(tid, jump, target, back, observer)?;
-                Ok(status_of(observed, TurnStatus::GoesOn))
+                Ok(Some(observe_jump(tid, jump, target, back, observer)?))
             }
             Some(Advanced::Other { .. }) => unreachable!(),
-            None => self.step_apart(tid, observer, out, err),
+            None => Ok(None),
         }
     }
 
-    // Runs one step, whatever it is.
-    #[cold]
-    #[inline(never)]
-    fn step_apart<W: Observer, O: Sink, E: Sink>(
+    /// Runs one step of a thread that can run: first its bytes are put, then its events are handed out.
+    #[inline(always)]
+    pub(crate) fn step<W: Observer, O: Sink, E: Sink>(
         &mut self,
         tid: Tid,
         observer: &mut W,

@@ -191,7 +191,7 @@ impl<S: Lanes> Profiler<S> {
     }
 
     // A write by the thread that runs.
-    #[inline(always)]
+    #[inline(never)]
     fn write(&mut self, tid: Tid, first: Word, count: u32) -> Result<(), AllocError>
         requires { MayTake (StandsFor S.MAX) self.old (Write tid first count) }
         ensures table { OnOk result (table_of_state self.new
@@ -329,7 +329,7 @@ impl<S: Lanes> Profiler<S> {
     }
 
     // A read by the thread that runs.
-    #[inline(always)]
+    #[inline(never)]
     fn read(&mut self, tid: Tid, first: Word, count: u32) -> Result<(), AllocError>
         requires { MayTake (StandsFor S.MAX) self.old (Read tid first count) }
         ensures table { OnOk result (table_of_state self.new

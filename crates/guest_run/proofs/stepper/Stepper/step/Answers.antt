@@ -4,7 +4,7 @@ use Rattle.guest_machine.specs.Kept.{Steps, machine_of}
 use Rattle.guest_machine.specs.Step.{step}
 use Rattle.guest_machine.specs.Told.{stepped_of, told}
 use Rattle.guest_machine.specs.declared.stepped.Advanced.{Advanced}
-use Rattle.guest_run.proofs.stepper.Stepper.step_apart.Goals as goal
+use Rattle.guest_run.proofs.stepper.Stepper.step.Goals as goal
 
 pub returns-in-Other-clause-ends : goal.returns-in-Other-clause-ends
 returns-in-Other-clause-ends g c =
