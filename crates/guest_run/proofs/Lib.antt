@@ -15,5 +15,6 @@ pub mod Output
 pub mod Observed
 pub mod Advances
 pub mod Ends
+pub mod Known
 pub mod Lines
 pub mod Ranges

@@ -1,12 +1,16 @@
 -- A run that goes on, as the program makes it.
 use Rattle.std.specs.Prelude.{◌≡◌, ℕ, suc, ◌+◌, ◌<◌, ◌≤◌, Bool, true, List, [], ◌∷◌, ◌++◌, length, Option, Some, None, Result, Ok, Err, All}
+use Rattle.std.specs.declared.alloc.AllocError.{AllocError}
 use Rattle.guest_words.specs.declared.limits.TheConstants.{RUN_STEPS}
 use Rattle.guest_words.specs.declared.endings.Finish.{Finish}
+use Rattle.guest_words.specs.declared.endings.Finish.TheVariants.{Deep}
 use Rattle.trace_model.specs.declared.event_kinds.Event.{Event}
 use Rattle.trace_model.specs.Cut.{past_after}
 use Rattle.trace_model.specs.Parts.{IsShort, parts}
 use Rattle.trace_model.specs.Profile.{steps}
 use Rattle.trace_model.specs.WellFormed.{IsWellFormed}
+use Rattle.trace_model.specs.declared.observer.Observed.{Observed}
+use Rattle.trace_model.specs.declared.observer.Observed.TheVariants.{Refused, Taken}
 use Rattle.thread_sched.specs.TurnRule.{SchedulerState}
 use Rattle.guest_machine.specs.Kept.{Parts, machine_of}
 use Rattle.guest_machine.specs.Laws.{IsWithinLimits, StandsFor}
@@ -116,6 +120,29 @@ Advances Stands fits first start moves before r observer after (Err (CannotPut c
 Advances Stands fits first start moves before r observer after (Err Memory) =
     (n : ℕ) → IsGivenUp (observed fits first start (length moves + suc n)).moves before after
 
+-- Whatever moves a run made that goes on, it advances by one more.
+abbrev pub MakesAMove : {W : Type 0} → (W → List Event → Type 0) → (List Event → Bool) → Runner → W → Sinks →
+    Runner → W → Sinks → Result (Option Finish) RunError → Type 0
+MakesAMove Stands fits old observed now new observer after result =
+    (first : List Event) (start : Position MachineState) (moves : List Move) (before : Sinks)
+    → IsGoing Stands fits first start moves old observed → length moves < RUN_STEPS → now ≡ with_output moves before
+    → Advances Stands fits first start moves before new observer after result
+
+-- The same run stands there: of the machine only what no definition sees is another.
+pub record IsSameRun (old new : Runner) : Type 0 where
+  pub machine : machine_of new.stepper.machine ≡ machine_of old.stepper.machine
+  pub turn : new.turn ≡ old.turn
+  pub recorder : new.recorder ≡ old.recorder
+
+-- Where the instruction of the next move is known, the run advances by the move, and no byte goes out. Else it stays.
+abbrev pub MakesAKnownMove : {W : Type 0} → (W → List Event → Type 0) → (List Event → Bool) → Runner → W → Runner → W →
+    Result (Option Observed) AllocError → Type 0
+MakesAKnownMove Stands fits old observed new observer (Ok (Some Taken)) = (now : Sinks) → MakesAMove Stands fits old observed now new observer now (Ok None)
+MakesAKnownMove Stands fits old observed new observer (Ok (Some Refused)) =
+    (now : Sinks) → MakesAMove Stands fits old observed now new observer now (Ok (Some Deep))
+MakesAKnownMove Stands fits old observed new observer (Ok None) = IsSameRun old new × (observer ≡ observed)
+MakesAKnownMove Stands fits old observed new observer (Err e) = (now : Sinks) → MakesAMove Stands fits old observed now new observer now (Err Memory)
+
 -- How a run goes on with moves of a turn: it remains after so many moves in all, or its budget shows how it ended or why it was
 -- given up.
 abbrev pub TurnEnds : {W : Type 0} → (W → List Event → Type 0) → (List Event → Bool) → List Event → Position MachineState → Sinks → ℕ →
@@ -125,6 +152,14 @@ TurnEnds Stands fits first start before budget r observer after (Ok (turned.Ends
     IsOver Stands (observed fits first start budget) before r observer after finish
 TurnEnds Stands fits first start before budget r observer after (Err e) =
     RunEnds Stands (observed fits first start budget) before observer after (Err e)
+
+-- Whatever run remains after so many moves, it goes on so with moves of a turn.
+abbrev pub MakesMoves : {W : Type 0} → (W → List Event → Type 0) → (List Event → Bool) → ℕ → ℕ → Runner → W → Sinks →
+    Runner → W → Sinks → Result Turned RunError → Type 0
+MakesMoves Stands fits made budget old observed now new observer after result =
+    (first : List Event) (start : Position MachineState) (before : Sinks)
+    → Remains Stands fits first start before made old observed now
+    → TurnEnds Stands fits first start before budget new observer after result
 
 -- so many moves were made, more than before and no more than the budget, where the run goes on
 abbrev pub IsCounted : ℕ → ℕ → Result Turned RunError → Type 0

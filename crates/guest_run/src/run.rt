@@ -6,11 +6,11 @@ ghost use Rattle.guest_machine.specs.Kept.{machine_of};
 ghost use Rattle.guest_machine.specs.Machine.{MachineState};
 ghost use Rattle.guest_run.specs.declared.run_error.RunError.TheVariants.{Memory};
 ghost use Rattle.guest_run.specs.CurrentTurn.{recorded};
-ghost use Rattle.guest_run.specs.Going.{Advances, IsCounted, IsGoing, IsNewRunner, MayAdvance, Remains, RemainsSome, TurnEnds};
+ghost use Rattle.guest_run.specs.Going.{IsCounted, IsNewRunner, MakesAKnownMove, MakesAMove, MakesMoves, MayAdvance, RemainsSome};
 ghost use Rattle.guest_run.specs.Machine.{guest};
-ghost use Rattle.guest_run.specs.Output.{Sinks, sinks, with_output};
+ghost use Rattle.guest_run.specs.Output.{sinks};
 ghost use Rattle.guest_run.specs.Profiled.{first_past, profiled};
-ghost use Rattle.guest_run.specs.Run.{Move, Position, run, start};
+ghost use Rattle.guest_run.specs.Run.{run};
 ghost use Rattle.guest_run.specs.RunEnds.{IsAtStart, RunEnds};
 
 use crate::stepper::Stepper;
@@ -75,8 +75,9 @@ impl Runner {
         })
     }
 
-    /// Makes one move, or says how the run ends, by this move or before one.
-    #[inline(always)]
+    /// Makes one move, or says how the run ends, by this move or before one. It stands apart from the loop over moves whose
+    /// instruction is known.
+    #[inline(never)]
     fn advance<W: Observer, O: Sink, E: Sink>(
         &mut self,
         observer: &mut W,
@@ -84,11 +85,9 @@ impl Runner {
         err: &mut E,
     ) -> Result<Option<Finish>, RunError>
         requires { MayAdvance W.stands (W.fits observer.old) self.old observer.old }
-        ensures advances { (first : List Event) (start : Position MachineState) (moves : List Move)
-            (before : Sinks)
-            → IsGoing W.stands (W.fits observer.old) first start moves self.old observer.old
-            → length moves < RUN_STEPS → sinks (O.state out.old) (E.state err.old) ≡ with_output moves before
-            → Advances W.stands (W.fits observer.old) first start moves before self.new observer.new (sinks (O.state out.new) (E.state err.new)) result }
+        ensures advances { MakesAMove W.stands (W.fits observer.old)
+            self.old observer.old (sinks (O.state out.old) (E.state err.old))
+            self.new observer.new (sinks (O.state out.new) (E.state err.new)) result }
         ensures same { W.fits observer.new ≡ W.fits observer.old }
         ensures made { IfOk result (λ end. self.new.recorder.made ≤ self.old.recorder.made + 1) }
     {
@@ -111,24 +110,28 @@ impl Runner {
         }
     }
 
-    // Makes one move, as any other, in a place of its own.
-    #[inline(never)]
-    fn advance_apart<W: Observer, O: Sink, E: Sink>(
+    // Makes one more move of the present turn, where its instruction is known; else the run stays where it is.
+    #[inline(always)]
+    fn advance_known<W: Observer>(
         &mut self,
         observer: &mut W,
-        out: &mut O,
-        err: &mut E,
-    ) -> Result<Option<Finish>, RunError>
-        requires { MayAdvance W.stands (W.fits observer.old) self.old observer.old }
-        ensures advances { (first : List Event) (start : Position MachineState) (moves : List Move)
-            (before : Sinks)
-            → IsGoing W.stands (W.fits observer.old) first start moves self.old observer.old
-            → length moves < RUN_STEPS → sinks (O.state out.old) (E.state err.old) ≡ with_output moves before
-            → Advances W.stands (W.fits observer.old) first start moves before self.new observer.new (sinks (O.state out.new) (E.state err.new)) result }
+    ) -> Result<Option<Observed>, AllocError>
+        requires may { MayAdvance W.stands (W.fits observer.old) self.old observer.old }
+        requires left { 0 < self.old.turn.left }
+        ensures advances { MakesAKnownMove W.stands (W.fits observer.old) self.old observer.old
+            self.new observer.new result }
         ensures same { W.fits observer.new ≡ W.fits observer.old }
         ensures made { IfOk result (λ end. self.new.recorder.made ≤ self.old.recorder.made + 1) }
     {
-        self.advance(observer, out, err)
+        let tid = self.turn.tid;
+        match self.stepper.step_known(tid, observer)? {
+            Some(observed) => {
+                self.recorder.add_to_turn();
+                self.turn.left -= 1;
+                Ok(Some(observed))
+            }
+            None => Ok(None),
+        }
     }
 
     // Makes moves of the present turn, from so many on, while it has some left and the budget lasts.
@@ -144,17 +147,27 @@ impl Runner {
             (sinks (O.state out.old) (E.state err.old)) }
         requires budget { made ≤ budget }
         requires limit { budget ≤ RUN_STEPS }
-        ensures ends { (first : List Event) (start : Position MachineState) (before : Sinks)
-            → Remains W.stands (W.fits observer.old) first start before made self.old observer.old (sinks (O.state out.old) (E.state err.old))
-            → TurnEnds W.stands (W.fits observer.old) first start before budget self.new observer.new (sinks (O.state out.new) (E.state err.new)) result }
+        ensures ends { MakesMoves W.stands (W.fits observer.old) made budget
+            self.old observer.old (sinks (O.state out.old) (E.state err.old))
+            self.new observer.new (sinks (O.state out.new) (E.state err.new)) result }
         ensures count { IsCounted made budget result }
         ensures same { W.fits observer.new ≡ W.fits observer.old }
         ensures made { IfOk result (λ end. self.new.recorder.made ≤ RUN_STEPS) }
     {
         let mut count = made;
         'moves: while self.turn.left > 0 && count < budget {
-            if let Some(finish) = self.advance(observer, out, err)? {
-                return Ok(Turned::Ends { finish });
+            match self.advance_known(observer)? {
+                Some(Observed::Taken) => {}
+                Some(Observed::Refused) => {
+                    return Ok(Turned::Ends {
+                        finish: Finish::Deep,
+                    });
+                }
+                None => {
+                    if let Some(finish) = self.advance(observer, out, err)? {
+                        return Ok(Turned::Ends { finish });
+                    }
+                }
             }
             count += 1;
         }
@@ -174,14 +187,14 @@ impl Runner {
             (sinks (O.state out.old) (E.state err.old)) }
         requires budget { made < budget }
         requires limit { budget ≤ RUN_STEPS }
-        ensures ends { (first : List Event) (start : Position MachineState) (before : Sinks)
-            → Remains W.stands (W.fits observer.old) first start before made self.old observer.old (sinks (O.state out.old) (E.state err.old))
-            → TurnEnds W.stands (W.fits observer.old) first start before budget self.new observer.new (sinks (O.state out.new) (E.state err.new)) result }
+        ensures ends { MakesMoves W.stands (W.fits observer.old) made budget
+            self.old observer.old (sinks (O.state out.old) (E.state err.old))
+            self.new observer.new (sinks (O.state out.new) (E.state err.new)) result }
         ensures count { IsCounted (made + 1) budget result }
         ensures same { W.fits observer.new ≡ W.fits observer.old }
         ensures made { IfOk result (λ end. self.new.recorder.made ≤ RUN_STEPS) }
     {
-        if let Some(finish) = self.advance_apart(observer, out, err)? {
+        if let Some(finish) = self.advance(observer, out, err)? {
             return Ok(Turned::Ends { finish });
         }
         self.run_turn(made + 1, budget, observer, out, err)

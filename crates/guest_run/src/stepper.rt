@@ -9,7 +9,7 @@ ghost use Rattle.guest_machine.specs.Step.{StepResult, access_events, jump_event
 ghost use Rattle.guest_run.specs.declared.turn_status.TurnStatus.TheVariants.{Ends};
 ghost use Rattle.guest_run.specs.Machine.{guest, progress_of};
 ghost use Rattle.guest_run.specs.Output.{sinks};
-ghost use Rattle.guest_run.specs.Steps.{PutEndsOn, PutsSent, StepEnds};
+ghost use Rattle.guest_run.specs.Steps.{KnownStepEnds, PutEndsOn, PutsSent, StepEnds};
 
 use crate::turn_status::turn_status_of;
 use crate::{Channel, RunError, TurnStatus};
@@ -72,6 +72,34 @@ impl Stepper {
         })
     }
 
+    /// Runs one step of a thread that can run, where its instruction is known, is no ECALL and does not fault: its events are
+    /// handed out, and no byte goes out. Else no step is made.
+    #[inline(always)]
+    pub(crate) fn step_known<W: Observer>(
+        &mut self,
+        tid: Tid,
+        observer: &mut W,
+    ) -> Result<Option<Observed>, AllocError>
+        requires can_run { can_run (machine_of self.old.machine) tid ≡ true }
+        requires next { MayTakeAll W.stands (W.fits observer.old) observer.old
+            (guest.step (machine_of self.old.machine) tid).events }
+        ensures ends { KnownStepEnds W.stands (W.fits observer.old) (machine_of self.old.machine)
+            (guest.step (machine_of self.old.machine) tid) observer.old self.new observer.new result }
+        ensures same { W.fits observer.new ≡ W.fits observer.old }
+    {
+        match self.machine.advance_known(tid) {
+            Some(Advanced::Ran) => Ok(Some(observe_step(tid, observer)?)),
+            Some(Advanced::Accessed { access }) => {
+                Ok(Some(observe_access(tid, access, observer)?))
+            }
+            Some(Advanced::Jumped { jump, target, back }) => {
+                Ok(Some(observe_jump(tid, jump, target, back, observer)?))
+            }
+            Some(Advanced::Other { .. }) => unreachable!(),
+            None => Ok(None),
+        }
+    }
+
     /// Runs one step of a thread that can run: first its bytes are put, then its events are handed out.
     #[inline(always)]
     pub(crate) fn step<W: Observer, O: Sink, E: Sink>(
@@ -86,43 +114,8 @@ impl Stepper {
             (guest.step (machine_of self.old.machine) tid).events }
         ensures ends { StepEnds W.stands (W.fits observer.old)
             (guest.step (machine_of self.old.machine) tid)
-            observer.old (sinks (O.state out.old) (E.state err.old)) self.new observer.new (sinks (O.state out.new) (E.state err.new)) result }
-        ensures same { W.fits observer.new ≡ W.fits observer.old }
-    {
-        match self.machine.advance_known(tid) {
-            Some(Advanced::Ran) => {
-                let observed = observe_step(tid, observer)?;
-                Ok(status_of(observed, TurnStatus::GoesOn))
-            }
-            Some(Advanced::Accessed { access }) => {
-                let observed = observe_access(tid, access, observer)?;
-                Ok(status_of(observed, TurnStatus::GoesOn))
-            }
-            Some(Advanced::Jumped { jump, target, back }) => {
-                let observed = observe_jump(tid, jump, target, back, observer)?;
-                Ok(status_of(observed, TurnStatus::GoesOn))
-            }
-            Some(Advanced::Other { .. }) => unreachable!(),
-            None => self.step_apart(tid, observer, out, err),
-        }
-    }
-
-    // Runs one step, whatever it is.
-    #[cold]
-    #[inline(never)]
-    fn step_apart<W: Observer, O: Sink, E: Sink>(
-        &mut self,
-        tid: Tid,
-        observer: &mut W,
-        out: &mut O,
-        err: &mut E,
-    ) -> Result<TurnStatus, RunError>
-        requires can_run { can_run (machine_of self.old.machine) tid ≡ true }
-        requires next { MayTakeAll W.stands (W.fits observer.old) observer.old
-            (guest.step (machine_of self.old.machine) tid).events }
-        ensures ends { StepEnds W.stands (W.fits observer.old)
-            (guest.step (machine_of self.old.machine) tid)
-            observer.old (sinks (O.state out.old) (E.state err.old)) self.new observer.new (sinks (O.state out.new) (E.state err.new)) result }
+            observer.old (sinks (O.state out.old) (E.state err.old))
+            self.new observer.new (sinks (O.state out.new) (E.state err.new)) result }
         ensures same { W.fits observer.new ≡ W.fits observer.old }
     {
         self.events.clear();
@@ -157,7 +150,8 @@ impl Stepper {
         requires { MayTakeAll W.stands (W.fits observer.old) observer.old self.old.events.list }
         ensures ends { (r : StepResult) → Steps r stepped self.old.machine [] self.old.events.list
             → StepEnds W.stands (W.fits observer.old) (progress_of tid r)
-            observer.old (sinks (O.state out.old) (E.state err.old)) self.new observer.new (sinks (O.state out.new) (E.state err.new)) result }
+            observer.old (sinks (O.state out.old) (E.state err.old))
+            self.new observer.new (sinks (O.state out.new) (E.state err.new)) result }
         ensures same { W.fits observer.new ≡ W.fits observer.old }
     {
         put_outgoing(&self.machine, out, err)?;

@@ -109,6 +109,18 @@ impl Recorder {
         })
     }
 
+    /// Takes one more move of the present turn.
+    #[inline(always)]
+    pub(crate) fn add_to_turn(&mut self)
+        requires going { 0 < self.old.made }
+        requires room { self.old.made < RUN_STEPS }
+        ensures recorded { (move : Move) (rest : List Move) → move.opens ≡ false
+            → recorded self.old (move ∷ rest) ≡ recorded self.new rest }
+        ensures made { self.new.made ≡ self.old.made + 1 }
+    {
+        self.made += 1;
+    }
+
     /// Takes one more move.
     #[inline(always)]
     pub(crate) fn add(&mut self, opens: bool, tid: Tid) -> Result<(), AllocError>
@@ -120,7 +132,7 @@ impl Recorder {
             × (self.new.made ≤ self.old.made + 1)) }
     {
         if !opens {
-            self.made += 1;
+            self.add_to_turn();
             return Ok(());
         }
         if self.made > 0 {

@@ -1,4 +1,5 @@
--- A read of a word that the thread has accessed since the counter last moved: it changes nothing but the weight.
+-- A read of a word that the thread has accessed since the counter last moved, and a write of one that it wrote last since then:
+-- each changes nothing but the weight.
 use Rattle.std.proofs.Common.{◌≡◌, ℕ, ◌+◌, ◌≤◌, Bool, true, false, cond, leb, List, [], ◌∷◌, refl, sym, ap, subst, ◌∙◌, arith}
 use Rattle.std.specs.Prelude.{◌==◌, ◌&&◌, not, count_by, reverse}
 use Rattle.std.specs.List.{range_with_len}
@@ -6,7 +7,7 @@ use Rattle.std.proofs.lemmas.Bool.Decides.{nat_tests}
 use Rattle.std.proofs.lemmas.Int.{ints}
 use Rattle.guest_words.specs.ByThread.{with_value}
 use Rattle.guest_words.proofs.ThreadTables.{with_own}
-use Rattle.trace_model.specs.declared.event_kinds.Event.TheVariants.{Read}
+use Rattle.trace_model.specs.declared.event_kinds.Event.TheVariants.{Read, Write}
 use Rattle.trace_model.specs.Observing.{MayTake}
 use Rattle.stamp_lanes.specs.Plain.{Place, is_by_kernel, is_by_thread, is_foreign}
 use Rattle.shadow_stack.specs.Frames.{Frame, plus, starts_of}
@@ -14,13 +15,15 @@ use Rattle.shadow_pages.specs.Pages.{in_range, stamp_at}
 use Rattle.stamp_renumber.specs.Threads.{frames_of, pages_of}
 use Rattle.shadow_core.specs.Frames.{added_to_top, frames_after_read, gain, negated, taken_at}
 use Rattle.shadow_core.specs.Profiling.{IsWhole, StandsFor}
-use Rattle.shadow_core.specs.Reading.{IsRead, places_at}
+use Rattle.shadow_core.specs.Reading.{IsChanged, IsRead, places_at}
 use Rattle.shadow_core.specs.Renewal.{bounded_tick}
 use Rattle.shadow_core.specs.Stands.{IsFalling}
 use Rattle.shadow_core.specs.State.{Calls, State, table_of_state}
 use Rattle.shadow_core.specs.Table.{Thread}
 use Rattle.shadow_core.specs.Ticks.{table_after}
+use Rattle.shadow_core.proofs.Accessed.{written}
 use Rattle.shadow_core.proofs.Frames.{same_sums}
+use Rattle.shadow_core.proofs.Profiled.{IsAlive, alive_here, lives_here}
 use Rattle.shadow_core.proofs.ReadEvents.{MayRead, frames_had, may_read, read_made, with_found}
 use Rattle.shadow_core.proofs.Reading.{in_one, not_changed}
 use Rattle.shadow_core.proofs.StateTold.{thread_is_told}
@@ -112,3 +115,19 @@ read_again most t w count s now heavier is may whole one own weighed =
       stamps = same_stamps (stamp_at (pages_of s.live.threads t)) w s.counter own;
       covered = λ v. refl;
     }
+
+pub write_again : (most t w count : ℕ) (s now : State) (heavier : ℕ) → s ≡ now → MayTake (StandsFor most) now (Write t w count) → IsWhole s → count ≡ 1 →
+    stamp_at (pages_of s.live.threads t) w ≡ s.counter → stamp_at s.writes w ≡ s.counter → stamp_at s.marks w ≡ 0 → heavier ≡ s.weight + 1 →
+    table_of_state (record s { weight = heavier }) ≡ table_after (bounded_tick most) (Write t w count) (table_of_state now)
+write_again most t w count s now heavier is may whole one own wrote unmarked weighed =
+    ap (λ n. table_of_state (record s { weight = n })) weighed
+    ∙ written most t w 1 s a.was a.calls s.live s.live s.writes s.marks s.writes s.marks a.has unchanged (λ l. refl) (λ l. refl) (λ l. refl) unchanged
+    (same_stamps (stamp_at (pages_of s.live.threads t)) w s.counter own) (same_stamps (stamp_at s.writes) w s.counter wrote) (same_stamps (stamp_at s.marks) w 0 unmarked)
+    ∙ ap (λ n. table_after (bounded_tick most) (Write t w n) (table_of_state s)) (sym one)
+    ∙ ap (λ (k : State). table_after (bounded_tick most) (Write t w count) (table_of_state k)) is
+  where
+    a : IsAlive s t
+    a = alive_here most (Write t w count) t s now is may whole may.formed.0.0.0
+
+    unchanged : IsChanged s.live s.live t (frames_of s.live.threads t) (pages_of s.live.threads t)
+    unchanged = not_changed s.live t (lives_here s t a)

@@ -25,7 +25,7 @@ use crate::cover::{add_with_room, cover, cover_own};
 use crate::endings::end_calls;
 use crate::reads::{is_fresh, read};
 use crate::rows::ZeroRows;
-use crate::writes::{fill, write};
+use crate::writes::{fill, is_written, write};
 use guest_words::{Addr, ByThread, Tid, Word};
 use shadow_pages::Shadow;
 use stamp_lanes::Lanes;
@@ -191,8 +191,26 @@ impl<S: Lanes> Profiler<S> {
     }
 
     // A write by the thread that runs.
-    #[inline(always)]
+    #[inline(never)]
     fn write(&mut self, tid: Tid, first: Word, count: u32) -> Result<(), AllocError>
+        requires { MayTake (StandsFor S.MAX) self.old (Write tid first count) }
+        ensures table { OnOk result (table_of_state self.new
+            ≡ table_after (bounded_tick S.MAX) (Write tid first count) (table_of_state self.old)) }
+        ensures refused { OnErr result (table_of_state self.new ≡ table_of_state self.old) }
+        ensures no_memory { AreCovered (pages_of self.old.live.threads tid) first count
+            → AreCovered self.old.writes first count → IsOk result }
+    {
+        if count == 1 && is_written(&self.threads, tid, &self.writes, &self.marks, first, self.counter)
+        {
+            self.weight += 1;
+            return Ok(());
+        }
+        self.write_anew(tid, first, count)
+    }
+
+    // The same, where a stamp may change.
+    #[inline(never)]
+    fn write_anew(&mut self, tid: Tid, first: Word, count: u32) -> Result<(), AllocError>
         requires { MayTake (StandsFor S.MAX) self.old (Write tid first count) }
         ensures table { OnOk result (table_of_state self.new
             ≡ table_after (bounded_tick S.MAX) (Write tid first count) (table_of_state self.old)) }
@@ -311,7 +329,7 @@ impl<S: Lanes> Profiler<S> {
     }
 
     // A read by the thread that runs.
-    #[inline(always)]
+    #[inline(never)]
     fn read(&mut self, tid: Tid, first: Word, count: u32) -> Result<(), AllocError>
         requires { MayTake (StandsFor S.MAX) self.old (Read tid first count) }
         ensures table { OnOk result (table_of_state self.new

@@ -1,11 +1,12 @@
 //! What writes of words change in the stamps.
 ghost use Rattle.std.specs.Prelude.{◌≡◌, ◌≤◌, ◌+◌, ◌^◌, is_some, true};
 ghost use Rattle.guest_words.specs.ByThread.{value_of};
-ghost use Rattle.shadow_pages.specs.Pages.{AreCovered, HasPlace, covers};
+ghost use Rattle.shadow_pages.specs.Pages.{AreCovered, HasPlace, covers, stamp_at};
 ghost use Rattle.stamp_renumber.specs.Threads.{frames_of, pages_of};
 ghost use Rattle.shadow_core.specs.Reading.{IsChanged};
 ghost use Rattle.shadow_core.specs.Writing.{IsFilled};
 
+use crate::reads::is_fresh;
 use guest_words::{Tid, Word};
 use shadow_pages::Shadow;
 use stamp_lanes::Lanes;
@@ -80,6 +81,26 @@ fn write_one<S: Lanes>(
     stamp_word(threads.shadow_mut(tid), own_place, w, now);
     stamp_word(writes, write_place, w, now);
     stamp_word(marks, mark_place, w, 0);
+}
+
+/// Whether the thread wrote the word last, since the counter last moved. Then a write of it changes no stamp and no mark.
+#[inline(always)]
+pub(crate) fn is_written<S: Lanes>(
+    threads: &Threads<S>,
+    tid: Tid,
+    writes: &Shadow<S>,
+    marks: &Shadow<u8>,
+    w: Word,
+    counter: u32,
+) -> bool
+    requires lives { is_some (value_of threads.now.threads tid) ≡ true }
+    ensures access { result ≡ true → stamp_at (pages_of threads.now.threads tid) w ≡ counter }
+    ensures write { result ≡ true → stamp_at writes.now.pages w ≡ counter }
+    ensures mark { result ≡ true → stamp_at marks.now.pages w ≡ 0 }
+{
+    is_fresh(threads, tid, w, counter)
+        && writes.get(w).number() == counter
+        && marks.get(w) == 0
 }
 
 /// A write of words by the thread: each gets the stamp, as that of the thread's access and as that of its latest write, and

@@ -11,45 +11,45 @@ returns-in_err-finish-clause-ends g c = λ first start before begun.
     let p = err_from_is_err_and c.from_residual.result c.from_residual.ensures.1 in
     let remains = begun in
     let now = sinks (g.O.Sink.state c.args.out.now) (g.E.Sink.state c.args.err.now) in
-    let after = sinks (g.O.Sink.state c.advance_apart.new.out) (g.E.Sink.state c.advance_apart.new.err) in
+    let after = sinks (g.O.Sink.state c.advance.new.out) (g.E.Sink.state c.advance.new.err) in
     let fits = g.W.Observer.fits c.args.observer.now in
     rw (p.1, p.2) (ends_failed g.W.Observer.stands fits first start before c.args.made c.args.self.now c.args.observer.now now remains
-    c.args.budget c.requires.budget c.advance_apart.new.self c.advance_apart.new.observer after c.in_err-finish.field-0.0
+    c.args.budget c.requires.budget c.advance.new.self c.advance.new.observer after c.in_err-finish.field-0.0
     (advances_by g.W.Observer.stands fits first start before c.args.made c.args.self.now c.args.observer.now now remains
     (g.W.Observer.fits c.args.observer.now) refl (omega (arith, c.requires.budget, c.requires.limit))
-    c.advance_apart.new.self c.advance_apart.new.observer after (Err c.in_err-finish.field-0.0) c.in_err-finish.ensures.advances))
+    c.advance.new.self c.advance.new.observer after (Err c.in_err-finish.field-0.0) c.in_err-finish.ensures.advances))
 
 pub returns-in-Some-clause-ends : goal.returns-in-Some-clause-ends
 returns-in-Some-clause-ends g c = λ first start before begun.
     let remains = begun in
     let now = sinks (g.O.Sink.state c.args.out.now) (g.E.Sink.state c.args.err.now) in
-    let after = sinks (g.O.Sink.state c.advance_apart.new.out) (g.E.Sink.state c.advance_apart.new.err) in
+    let after = sinks (g.O.Sink.state c.advance.new.out) (g.E.Sink.state c.advance.new.err) in
     let fits = g.W.Observer.fits c.args.observer.now in
     let advances = advances_by g.W.Observer.stands fits first start before c.args.made c.args.self.now c.args.observer.now now remains
     (g.W.Observer.fits c.args.observer.now) refl (omega (arith, c.requires.budget, c.requires.limit))
-    c.advance_apart.new.self c.advance_apart.new.observer after (Ok c.in_ok-finish.field-0) c.in_ok-finish.ensures.advances in
-    let over = subst (λ (end : Option Finish). Advances g.W.Observer.stands fits first start remains.moves before c.advance_apart.new.self c.advance_apart.new.observer after (Ok end)) c.in-Some.is advances in
+    c.advance.new.self c.advance.new.observer after (Ok c.in_ok-finish.field-0) c.in_ok-finish.ensures.advances in
+    let over = subst (λ (end : Option Finish). Advances g.W.Observer.stands fits first start remains.moves before c.advance.new.self c.advance.new.observer after (Ok end)) c.in-Some.is advances in
     over_by g.W.Observer.stands fits first start before c.args.made c.args.self.now c.args.observer.now now remains
-    c.args.budget c.requires.budget c.advance_apart.new.self c.advance_apart.new.observer after c.in-Some.finish over
+    c.args.budget c.requires.budget c.advance.new.self c.advance.new.observer after c.in-Some.finish over
 
 pub run_turn-requires : goal.run_turn-requires
 run_turn-requires g c =
     let some = c.requires.remains in
     let now = sinks (g.O.Sink.state c.args.out.now) (g.E.Sink.state c.args.err.now) in
-    let after = sinks (g.O.Sink.state c.advance_apart.new.out) (g.E.Sink.state c.advance_apart.new.err) in
+    let after = sinks (g.O.Sink.state c.advance.new.out) (g.E.Sink.state c.advance.new.err) in
     let fits = g.W.Observer.fits c.args.observer.now in
     let next = next_by g.W.Observer.stands fits some.first some.start some.before c.args.made c.args.self.now c.args.observer.now now some.remains
-    c.advance_apart.new.self c.advance_apart.new.observer after c.in_ok-finish.field-0 c.in_default.is
+    c.advance.new.self c.advance.new.observer after c.in_ok-finish.field-0 c.in_default.is
     (advances_by g.W.Observer.stands fits some.first some.start some.before c.args.made c.args.self.now c.args.observer.now now some.remains
     fits refl (omega (arith, c.requires.budget, c.requires.limit))
-    c.advance_apart.new.self c.advance_apart.new.observer after (Ok c.in_ok-finish.field-0) c.in_ok-finish.ensures.advances) in
+    c.advance.new.self c.advance.new.observer after (Ok c.in_ok-finish.field-0) c.in_ok-finish.ensures.advances) in
     record {
       remains = record {
         first = some.first;
         start = some.start;
         before = some.before;
-        remains = remains_same g.W.Observer.stands fits (g.W.Observer.fits c.advance_apart.new.observer) c.in_ok-finish.ensures.same some.first some.start some.before
-            (c.args.made + 1) c.advance_apart.new.self c.advance_apart.new.observer after next;
+        remains = remains_same g.W.Observer.stands fits (g.W.Observer.fits c.advance.new.observer) c.in_ok-finish.ensures.same some.first some.start some.before
+            (c.args.made + 1) c.advance.new.self c.advance.new.observer after next;
       };
       budget = omega (arith, c.requires.budget);
       limit = c.requires.limit;
@@ -58,15 +58,15 @@ run_turn-requires g c =
 pub returns-clause-ends : goal.returns-clause-ends
 returns-clause-ends g c = λ first start before begun.
     let now = sinks (g.O.Sink.state c.args.out.now) (g.E.Sink.state c.args.err.now) in
-    let after = sinks (g.O.Sink.state c.advance_apart.new.out) (g.E.Sink.state c.advance_apart.new.err) in
+    let after = sinks (g.O.Sink.state c.advance.new.out) (g.E.Sink.state c.advance.new.err) in
     let fits = g.W.Observer.fits c.args.observer.now in
     let next = next_by g.W.Observer.stands fits first start before c.args.made c.args.self.now c.args.observer.now now begun
-    c.advance_apart.new.self c.advance_apart.new.observer after c.in_ok-finish.field-0 c.in_default.is
+    c.advance.new.self c.advance.new.observer after c.in_ok-finish.field-0 c.in_default.is
     (advances_by g.W.Observer.stands fits first start before c.args.made c.args.self.now c.args.observer.now now begun
     fits refl (omega (arith, c.requires.budget, c.requires.limit))
-    c.advance_apart.new.self c.advance_apart.new.observer after (Ok c.in_ok-finish.field-0) c.in_ok-finish.ensures.advances) in
-    turn_same g.W.Observer.stands fits (g.W.Observer.fits c.advance_apart.new.observer) c.in_ok-finish.ensures.same first start before c.args.budget
+    c.advance.new.self c.advance.new.observer after (Ok c.in_ok-finish.field-0) c.in_ok-finish.ensures.advances) in
+    turn_same g.W.Observer.stands fits (g.W.Observer.fits c.advance.new.observer) c.in_ok-finish.ensures.same first start before c.args.budget
     c.run_turn.new.self c.run_turn.new.observer (sinks (g.O.Sink.state c.run_turn.new.out) (g.E.Sink.state c.run_turn.new.err)) c.run_turn.result
     (c.run_turn.ensures.ends first start before
-    (remains_same g.W.Observer.stands fits (g.W.Observer.fits c.advance_apart.new.observer) c.in_ok-finish.ensures.same first start before
-    (c.args.made + 1) c.advance_apart.new.self c.advance_apart.new.observer after next))
+    (remains_same g.W.Observer.stands fits (g.W.Observer.fits c.advance.new.observer) c.in_ok-finish.ensures.same first start before
+    (c.args.made + 1) c.advance.new.self c.advance.new.observer after next))

@@ -1,20 +1,17 @@
-use Rattle.std.proofs.Common.{◌≡◌, true, subst, sym}
-use Rattle.trace_model.specs.Observing.{MayTakeAll}
-use Rattle.guest_machine.specs.Machine.{MachineState, can_run}
-use Rattle.guest_run.specs.Machine.{guest}
-use Rattle.guest_run.specs.Output.{sinks}
-use Rattle.guest_run.specs.Steps.{StepEnds}
+use Rattle.std.proofs.Common.{List, ◌++◌, append-nil, subst}
+use Rattle.trace_model.specs.declared.event_kinds.Event.{Event}
+use Rattle.guest_machine.specs.Kept.{Steps, machine_of}
+use Rattle.guest_machine.specs.Step.{step}
+use Rattle.guest_machine.specs.Told.{stepped_of, told}
+use Rattle.guest_machine.specs.declared.stepped.Advanced.{Advanced}
 use Rattle.guest_run.proofs.stepper.Stepper.step.Goals as goal
 
-pub step_apart-requires : goal.step_apart-requires
-step_apart-requires g c = record {
-  can_run = subst (λ (m : MachineState). can_run m c.args.tid ≡ true) (sym c.in-None.ensures.kept) c.requires.can_run;
-  next = subst (λ (m : MachineState). MayTakeAll g.W.Observer.stands (g.W.Observer.fits c.args.observer.now) c.args.observer.now (guest.step m c.args.tid).events) (sym c.in-None.ensures.kept) c.requires.next;
-}
-
-pub returns-in-None-clause-ends : goal.returns-in-None-clause-ends
-returns-in-None-clause-ends g c =
-    subst (λ (m : MachineState). StepEnds g.W.Observer.stands (g.W.Observer.fits c.args.observer.now) (guest.step m c.args.tid) c.args.observer.now
-    (sinks (g.O.Sink.state c.args.out.now) (g.E.Sink.state c.args.err.now)) c.step_apart.new.self c.step_apart.new.observer
-    (sinks (g.O.Sink.state c.step_apart.new.out) (g.E.Sink.state c.step_apart.new.err)) c.step_apart.result)
-    c.in-None.ensures.kept c.step_apart.ensures.ends
+pub returns-in-Other-clause-ends : goal.returns-in-Other-clause-ends
+returns-in-Other-clause-ends g c =
+    let r = step (machine_of c.args.self.now.machine) c.args.tid in
+    let machine = c.advance.new.self in
+    let events = c.advance.new.events.list in
+    let cleared = c.clear.new.self.list in
+    let steps = subst (λ (a : Advanced). Steps r (stepped_of a) machine cleared (events ++ told c.args.tid a)) c.in-Other.is c.in_ok-advance.ensures.step in
+    let added = subst (λ (es : List Event). Steps r c.in-Other.stepped machine cleared es) (append-nil events) steps in
+    c.finish_step.ensures.ends r (subst (λ (es : List Event). Steps r c.in-Other.stepped machine es events) c.clear.ensures.list added)
