@@ -1,5 +1,5 @@
 -- How a command that runs a guest ends, once its guest is prepared.
-use Rattle.std.proofs.Common.{◌≡◌, ◌∙◌, ℕ, Bool, true, List, None, Result, refl, sym, ap₂}
+use Rattle.std.proofs.Common.{◌≡◌, ◌∙◌, Bool, true, List, None, Result, refl, sym, ap₂}
 use Rattle.command_line.specs.Options.{Asked, CacheOptions, ContextsOptions, GuestOptions, RunOptions, TraceOptions, arguments}
 use Rattle.elf_image.specs.Image.{Executable}
 use Rattle.elf_image.specs.Reading.{image_of}

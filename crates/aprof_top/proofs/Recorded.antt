@@ -1,6 +1,6 @@
 -- What the commands beside `run` make of a run, and what becomes of it.
 use Rattle.std.proofs.Common.{◌≡◌, ◌∙◌, ◌<◌, ◌≤◌, ℕ, Bool, true, false, List, [], ◌∷◌, ◌++◌, Option, Some, None, refl, ap, sym, subst, length, length-append, arith}
-use Rattle.std.specs.Prelude.{nat_le, if◌then◌else◌, Err}
+use Rattle.std.specs.Prelude.{if◌then◌else◌, Err}
 use Rattle.std.proofs.lemmas.Bool.Decides.{nat_tests}
 use Rattle.std.specs.List.{All, flat_map}
 use Rattle.std.specs.Option.{option_map, option_to_list}
@@ -20,7 +20,6 @@ use Rattle.trace_file.specs.Records.{record_bytes}
 use Rattle.trace_file.specs.declared.records.Record.{Record}
 use Rattle.trace_file.specs.TraceText.{IsRising, Names, event_records, finish_records, magic, name_records, text_of, trace_text}
 use Rattle.trace_model.specs.declared.event_kinds.Event.{Event}
-use Rattle.guest_run.specs.Run.{bytes_on}
 use Rattle.host_io.specs.Files.{FilesState, StoreEnds}
 use Rattle.host_io.specs.Sink.{SinkState}
 use Rattle.host_io.specs.declared.files.StoreError.{StoreError}

@@ -1,7 +1,7 @@
 -- The records of a run's trace fit: its numbers are in their ranges, and its names are those of routines.
-use Rattle.std.proofs.Common.{◌≡◌, ◌∙◌, ℕ, ◌+◌, ◌*◌, ◌-◌, ◌/◌, ◌%◌, ◌^◌, ◌<◌, ◌≤◌, Bool, true, false, cond, ◌&&◌, ◌||◌, not, List, [], ◌∷◌, ◌++◌, length, map, reverse, fold, Option, Some, None, refl, sym, ap, subst, arith}
+use Rattle.std.proofs.Common.{◌≡◌, ◌∙◌, ℕ, ◌+◌, ◌^◌, ◌<◌, ◌≤◌, Bool, true, false, cond, ◌&&◌, ◌||◌, not, List, [], ◌∷◌, ◌++◌, length, map, reverse, fold, Option, Some, None, refl, sym, ap, subst, arith}
 use Rattle.std.specs.Prelude.{◌==◌, nat_le, nat_lt, if◌then◌else◌}
-use Rattle.std.specs.List.{All, AllByRecursion, filter, filter_map, find, flat_map, list_all, range_with_len}
+use Rattle.std.specs.List.{All, AllByRecursion, filter, filter_map, list_all, range_with_len}
 use Rattle.std.specs.Option.{option_map, option_map_or, option_to_list}
 use Rattle.std.proofs.lemmas.Bool.{and_parts}
 use Rattle.std.proofs.lemmas.Bool.Decides.{nat_tests}
@@ -16,7 +16,7 @@ use Rattle.guest_words.specs.declared.limits.TheConstants.{NAME_BYTES}
 use Rattle.elf_image.specs.declared.error.ElfError.{ElfError}
 use Rattle.elf_image.specs.Image.{Executable, IsPlaced, Segment, holds, is_code, name_beside, name_of}
 use Rattle.elf_image.specs.Headers.{section_header}
-use Rattle.elf_image.specs.Reading.{addresses, image_of, name_at, names_of}
+use Rattle.elf_image.specs.Reading.{addresses, image_of, names_of}
 use Rattle.elf_image.specs.Symbols.{Symbol, first_symbol, goes_before, is_readable, name_in, section_bytes, symbol_at, symbol_of, symbol_table, symbols, symbols_in}
 use Rattle.elf_image.specs.Tests.{first_of, first_refusal, header_tests, layout_tests, segment_tests}
 use Rattle.elf_image.proofs.NameTexts.{name_there}
@@ -24,14 +24,13 @@ use Rattle.elf_image.proofs.Sound.{sound_from}
 use Rattle.guest_machine.specs.Laws.{IsAddress}
 use Rattle.guest_run.specs.Profiled.{Profiled}
 use Rattle.guest_run.specs.Traces.{IsEndInRange, IsInRange, TellsInRange}
-use Rattle.run_trace.specs.Entries.{entries_begun, entry_begun}
+use Rattle.run_trace.specs.Entries.{entries_begun}
 use Rattle.trace_file.specs.Records.{Fits, kind_number}
-use Rattle.trace_file.specs.TraceText.{Names, event_records, name_records, whole_records}
-use Rattle.trace_file.specs.declared.records.Record.{Record}
+use Rattle.trace_file.specs.TraceText.{event_records, name_records, whole_records}
 use Rattle.trace_file.specs.declared.records.Record.TheVariants.{OfEvent, OfName, OfFinish}
 use Rattle.trace_model.specs.declared.event_kinds.Event.{Event}
 use Rattle.trace_model.specs.declared.event_kinds.Event.TheVariants.{Step, Read, Write, Fill, Call, Ret, Start, End}
-use Rattle.aprof_top.specs.Traces.{named_entries, named_entry, names_begun}
+use Rattle.aprof_top.specs.Traces.{named_entries, names_begun}
 use Rattle.aprof_top.proofs.TraceEntries.{all_rising, begins}
 
 -- ---- the executable

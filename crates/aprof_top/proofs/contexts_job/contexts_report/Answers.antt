@@ -1,4 +1,4 @@
-use Rattle.std.proofs.Common.{◌≡◌, ◌∙◌, ◌++◌, List, ℕ, ap}
+use Rattle.std.proofs.Common.{◌∙◌, ◌++◌, List, ℕ, ap}
 use Rattle.context_report.specs.ContextText.{contexts_text}
 use Rattle.context_tree.specs.Contexts.{contexts}
 use Rattle.context_tree.specs.Order.{in_order}
