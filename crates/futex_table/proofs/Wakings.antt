@@ -1,11 +1,11 @@
 -- Waiters who are woken one after another.
-use Rattle.std.proofs.Common.{◌≡◌, ℕ, zero, suc, Bool, true, false, not, ◌&&◌, ◌||◌, cond, nat_eq, List, [], ◌∷◌, length, take, filter, Option, Some, None, refl, sym, ap, ap₂, ◌∙◌, arith}
+use Rattle.std.proofs.Common.{◌≡◌, ℕ, zero, suc, Bool, true, false, not, ◌||◌, cond, nat_eq, List, [], ◌∷◌, take, filter, Some, None, refl, sym, ap, ap₂, ◌∙◌, arith}
 use Rattle.std.specs.List.{find}
 use Rattle.std.proofs.lemmas.Bool.Decides.{nat_tests}
 use Rattle.futex_table.specs.declared.waiter.Waiter.{Waiter}
 use Rattle.futex_table.specs.Once.{waits, IsOnce}
-use Rattle.futex_table.specs.Waiting.{waits_at, waiters_at, first_at, without, woken, after_wake, after_forget}
-use Rattle.futex_table.proofs.Partitions.{or-left, or-right, nat_eq-sym, nat_eq-refl, IsOnce-filter}
+use Rattle.futex_table.specs.Waiting.{waits_at, first_at, without, woken, after_wake, after_forget}
+use Rattle.futex_table.proofs.Partitions.{or-left, or-right, nat_eq-sym, nat_eq-refl}
 
 or-true : (b : Bool) → (b || true) ≡ true
 or-true true = refl

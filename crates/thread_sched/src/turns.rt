@@ -1,7 +1,7 @@
 //! The turn rule.
-ghost use Rattle.std.specs.Prelude.{◌≡◌, ◌==◌, ◌≤◌, ℕ, length, if◌then◌else◌, nat_lt, Some};
+ghost use Rattle.std.specs.Prelude.{◌≡◌, ◌==◌, ◌≤◌, length, if◌then◌else◌, Some};
 ghost use Rattle.std.specs.List.{list_any};
-ghost use Rattle.thread_sched.specs.TurnRule.{able, above, behind, least, lesser, next_thread, scheduled, turn_of};
+ghost use Rattle.thread_sched.specs.TurnRule.{able, above, behind, least, lesser, scheduled, turn_of};
 
 use crate::{Entry, Schedule};
 use guest_words::limits::QUANTUM_STEPS;
