@@ -1,7 +1,7 @@
 //! The tests of the file header.
 ghost use Rattle.std.specs.Prelude.{◌≡◌, ◌<◌, ◌≤◌, ◌+◌, ◌*◌, ◌∷◌, [], length, IfOk, IfErr, OnOk};
 ghost use Rattle.elf_image.specs.Headers.{file_header};
-ghost use Rattle.elf_image.specs.Tests.{fails_byte_order, fails_class, fails_file_kind, fails_flags, fails_header_size, fails_header_table, fails_machine, fails_magic, fails_short, fails_version, first_of, header_tests, unless_refused};
+ghost use Rattle.elf_image.specs.Tests.{fails_byte_order, fails_class, fails_file_kind, fails_flags, fails_header_size, fails_header_table, fails_machine, fails_magic, fails_version, first_of, header_tests, unless_refused};
 ghost use Rattle.elf_image.specs.declared.error.ElfError.TheVariants as error;
 
 use crate::ElfError;

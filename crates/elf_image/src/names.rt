@@ -1,5 +1,5 @@
 //! Which symbol names an address.
-ghost use Rattle.std.specs.Prelude.{◌≡◌, ◌<◌, ◌≤◌, ◌+◌, ◌*◌, ◌/◌, ◌==◌, ◌++◌, ◌∷◌, [], ℕ, List, All, filter, length, map, option_map, IfOk, IfSome, OnOk};
+ghost use Rattle.std.specs.Prelude.{◌≡◌, ◌≤◌, ◌+◌, ◌/◌, ◌==◌, ◌++◌, ◌∷◌, [], ℕ, List, All, filter, length, map, option_map, IfOk, IfSome, OnOk};
 ghost use Rattle.std.specs.List.{cons_option, range_with_len};
 ghost use Rattle.std.specs.List.Sorted.{IsNonDecreasingBy, IsPermutation};
 ghost use Rattle.elf_image.specs.FirstSymbols.{AreFirst, IsEntry, entry_at, symbols_of_entries};

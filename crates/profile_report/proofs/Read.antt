@@ -15,7 +15,6 @@ use Rattle.profile_report.specs.Grammar.{FitsLine, line_text, closed, has_points
 use Rattle.profile_report.specs.LineForms.{ended, point_line, routine_line}
 use Rattle.profile_report.specs.Reading.{led, lines_text}
 use Rattle.profile_report.specs.Reported.{Reported, ReportedRoutine}
-use Rattle.profile_report.specs.declared.report.ReportVersion.{ReportVersion}
 use Rattle.profile_report.specs.ReportText.{report_text, routine_text}
 use Rattle.profile_report.specs.Valid.{IsValid, IsValidRoutine}
 use Rattle.profile_report.proofs.Behind.{Behind, chosen}

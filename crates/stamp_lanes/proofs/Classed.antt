@@ -2,7 +2,7 @@
 use Rattle.std.proofs.Common.{◌≡◌, ℕ, ◌+◌, ◌%◌, ◌<◌, ◌≤◌, List, [], ◌∷◌, ◌++◌, length, map, cond, replicate, nat_lt, nat_le, count_by, arith, refl, ap, sym, ◌∙◌, add_assoc}
 use Rattle.std.proofs.lemmas.List.Sums.{count_by-le-length, fold-append}
 use Rattle.std.proofs.lemmas.Bool.Decides.{nat_tests}
-use Rattle.std.proofs.lemmas.Simd.{splat_is_map, zip2_of_maps}
+use Rattle.std.proofs.lemmas.Simd.{zip2_of_maps}
 use Rattle.std.proofs.Math.Nat.{mod-eq_of_lt}
 use Rattle.std.specs.Simd.Lanes.{sel_l, zip2}
 use Rattle.stamp_lanes.specs.Plain.{class_of}

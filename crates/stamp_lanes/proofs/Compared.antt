@@ -1,5 +1,5 @@
 -- What a comparison of two vectors chooses and counts.
-use Rattle.std.proofs.Common.{◌≡◌, ℕ, ◌≤◌, ◌-◌, ◌^◌, ◌%◌, ◌∙◌, Bool, cond, List, [], ◌∷◌, length, map, count_by, ap, sym, refl, arith, zero, suc}
+use Rattle.std.proofs.Common.{◌≡◌, ℕ, ◌≤◌, ◌-◌, ◌^◌, ◌%◌, ◌∙◌, Bool, cond, List, [], ◌∷◌, length, map, count_by, ap, sym, refl, arith}
 use Rattle.std.proofs.lemmas.Simd.{mask_l-mod, ones-mask_l, tops_compared}
 use Rattle.std.specs.Int.RustNames.{count_ones}
 use Rattle.std.specs.Simd.Lanes.{sel_l, zip2}

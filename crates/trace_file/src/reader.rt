@@ -1,10 +1,8 @@
 //! Reading a trace, in any pieces.
-ghost use Rattle.std.specs.Prelude.{◌≡◌, ◌≢◌, ◌≤◌, ◌<◌, ◌^◌, ◌+◌, ◌++◌, ◌∷◌, [], ℕ, List, None, Some, length, Err, get_or, IfErr, IfOk, IsTrue, MatchResult, OnErr, OnOk, ◌↔◌};
+ghost use Rattle.std.specs.Prelude.{◌≡◌, ◌≢◌, ◌<◌, ◌^◌, ◌+◌, ◌++◌, ◌∷◌, [], ℕ, List, None, Some, length, Err, get_or, IfErr, IfOk, IsTrue, OnErr, OnOk, ◌↔◌};
 ghost use Rattle.std.specs.Result.{result_err};
 ghost use Rattle.trace_file.specs.declared.errors.TraceError.{TraceError};
 ghost use Rattle.trace_model.specs.declared.event_kinds.Event.{Event};
-ghost use Rattle.trace_model.specs.Cut.{past_after};
-ghost use Rattle.trace_order.specs.Order.{IsOrderOf};
 ghost use Rattle.trace_file.specs.declared.records.Record.TheVariants.{OfEvent, OfName, OfFinish};
 ghost use Rattle.trace_file.specs.Records.{Fits};
 ghost use Rattle.trace_file.specs.Reading.{HasFed, HasRead, IsAtRecord, IsReading, IsRefused, MayFeed};
