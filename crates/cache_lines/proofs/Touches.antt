@@ -5,11 +5,11 @@ use Rattle.std.specs.List.{position, position_or_len}
 use Rattle.std.proofs.lemmas.List.{take-take, take_all, take_at, length-take-le}
 use Rattle.std.proofs.lemmas.List.Edits.{length-remove}
 use Rattle.std.proofs.lemmas.List.Quantifiers.{position-Some}
-use Rattle.std.proofs.lemmas.Bool.{cases_lt}
+use Rattle.std.proofs.lemmas.Bool.{cases_lt, or_parts}
 use Rattle.std.proofs.lemmas.Bool.Decides.{nat_tests}
 use Rattle.cache_lines.specs.Misses.{was_accessed}
 use Rattle.cache_lines.specs.Sets.{without, touched}
-use Rattle.cache_lines.proofs.Recent.{without_same, without_other, or-left, or-right}
+use Rattle.cache_lines.proofs.Recent.{without_same, without_other}
 
 lt-suc : (a b : ℕ) → nat_lt (1 + a) (suc b) ≡ nat_lt a b
 lt-suc a b = grind (arith, nat_tests)
@@ -50,7 +50,7 @@ without-at n (y ∷ ys) (suc i) lt here before =
 without-none : (n : ℕ) (ys : List ℕ) → was_accessed n ys ≡ false → without n ys ≡ ys
 without-none n [] e = refl
 without-none n (y ∷ ys) e =
-    without_other n y ys (or-left (nat_eq y n) (was_accessed n ys) e) ∙ ap (λ rest. y ∷ rest) (without-none n ys (or-right (nat_eq y n) (was_accessed n ys) e))
+    without_other n y ys (or_parts (nat_eq y n) (was_accessed n ys) e).0 ∙ ap (λ rest. y ∷ rest) (without-none n ys (or_parts (nat_eq y n) (was_accessed n ys) e).1)
 
 take-nil : (v : ℕ) → take {A = ℕ} v [] ≡ []
 take-nil zero = refl

@@ -2,10 +2,11 @@
 use Rattle.std.proofs.Common.{◌≡◌, ℕ, zero, suc, Bool, true, false, not, ◌||◌, cond, nat_eq, List, [], ◌∷◌, take, filter, Some, None, refl, sym, ap, ap₂, ◌∙◌, arith}
 use Rattle.std.specs.List.{find}
 use Rattle.std.proofs.lemmas.Bool.Decides.{nat_tests}
+use Rattle.std.proofs.lemmas.Bool.{or_parts}
 use Rattle.futex_table.specs.declared.waiter.Waiter.{Waiter}
 use Rattle.futex_table.specs.Once.{waits, IsOnce}
 use Rattle.futex_table.specs.Waiting.{waits_at, first_at, without, woken, after_wake, after_forget}
-use Rattle.futex_table.proofs.Partitions.{or-left, or-right, nat_eq-sym, nat_eq-refl}
+use Rattle.futex_table.proofs.Partitions.{nat_eq-sym, nat_eq-refl}
 
 or-true : (b : Bool) → (b || true) ≡ true
 or-true true = refl
@@ -26,8 +27,8 @@ apart t q ws out inside = by_test (nat_eq t q) refl
 pub forget-none : (ws : List Waiter) (t : ℕ) → waits ws t ≡ false → after_forget ws t ≡ ws
 forget-none [] t out = refl
 forget-none (w ∷ ws) t out =
-    let here = or-left (nat_eq w.tid t) (waits ws t) out in
-    let there = forget-none ws t (or-right (nat_eq w.tid t) (waits ws t) out) in
+    let here = (or_parts (nat_eq w.tid t) (waits ws t) out).0 in
+    let there = forget-none ws t (or_parts (nat_eq w.tid t) (waits ws t) out).1 in
     ap (λ (b : Bool). cond (not b) (w ∷ after_forget ws t) (after_forget ws t)) here ∙ ap (λ (xs : List Waiter). w ∷ xs) there
 
 -- the first that waits is one of the list
