@@ -10,7 +10,7 @@ use Rattle.std.proofs.lemmas.Bool.Decides.{nat_tests}
 use Rattle.std.proofs.lemmas.List.{get_or_default}
 use Rattle.std.proofs.lemmas.List.Edits.{length-remove, get_or-remove_below, get_or-remove_above}
 use Rattle.std.proofs.lemmas.List.Elements.{All-from_get_or, All-get_or, All-tail}
-use Rattle.std.proofs.lemmas.List.Folds.{list_any-append, list_any_none, list_any_at}
+use Rattle.std.proofs.lemmas.List.Folds.{list_any_none, list_any_at}
 use Rattle.std.proofs.lemmas.List.Quantifiers.{all_pairs_push, all_pairs_remove}
 use Rattle.std.proofs.lemmas.List.Sorted.{searched, IsPermutation-remove, IsPermutation-sym, list_any-IsPermutation, All-permutation}
 use Rattle.trace_order.specs.Order.{is_among}
@@ -63,15 +63,6 @@ is_found xs t (Some i) is = sym (among_at xs t i is.0 is.1)
 is_found xs t None is = sym is
 
 -- ---- one more
-pub among-push : (xs : List ℕ) (t u : ℕ) → is_among (xs ++ t ∷ []) u ≡ (nat_eq u t || is_among xs u)
-among-push xs t u = list_any-append (nat_eq u) xs (t ∷ []) ∙ by (is_among xs u) (nat_eq u t)
-  where
-    by : (a b : Bool) → (a || (b || false)) ≡ (b || a)
-    by true true = refl
-    by true false = refl
-    by false true = refl
-    by false false = refl
-
 pub rising-push : (xs : List ℕ) (t greatest : ℕ) → IsRising xs → All (λ u. u ≤ greatest) xs → greatest < t → IsRising (xs ++ t ∷ [])
 rising-push xs t greatest rising started above =
     all_pairs_push (λ t u. t < u) xs t rising
