@@ -121,9 +121,6 @@ fed_byte s mid new b es es' result none fed same = record {
 }
 
 -- ---- pieces
-pub fed_nothing : (s : ReaderState) (es : List Event) → HasFed s s [] es es
-fed_nothing s es = record { more = []; appended = sym (append-nil es); read = λ bytes past is. subst (λ y. HasRead s y past) (sym (append-nil bytes)) is }
-
 pub fed_more : (s mid new : ReaderState) (xs ys : List ℕ) (es es' es'' : List Event) → HasFed s mid xs es es' → HasFed mid new ys es' es'' → HasFed s new (xs ++ ys) es es''
 fed_more s mid new xs ys es es' es'' first second = record {
   more = first.more ++ second.more;
