@@ -1,6 +1,5 @@
 //! The calls on files in parts: readv(2) and writev(2).
 ghost use Rattle.std.specs.Prelude.{◌≡◌, ◌≤◌, ◌<◌, ◌+◌, ◌*◌, ◌^◌, ◌++◌, take, length, vec_len, true, None, IfOk, IfErr, OnErr};
-ghost use Rattle.guest_memory.specs.declared.reservations.Reservations.{Reservations};
 ghost use Rattle.guest_memory.specs.Guest.{memory_of};
 ghost use Rattle.guest_memory.specs.Memory.{number_at};
 ghost use Rattle.rv_exec.specs.Accesses.{can_read, can_write};
