@@ -90,8 +90,9 @@ impl Kernel {
     }
 
     /// Carries out the call that the thread's registers hold: the number in a7, the arguments in a0 to a5. The thread can run,
-    /// so it does not wait and has no deadline. The call is a step, so that the time goes on first. The copies from and to the guest are added to the events, in order, at most `CALL_EVENTS`
-    /// of them; that a thread is born or ends is not. All memory is taken before anything changes.
+    /// so it does not wait and has no deadline. The call is a step, so that the time goes on first. The copies from and to the
+    /// guest are added to the events, in order, at most `CALL_EVENTS` of them; that a thread is born or ends is not. All memory
+    /// is taken before anything changes.
     pub fn call(
         &mut self,
         memory: &mut GuestMemory,
