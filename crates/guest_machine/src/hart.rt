@@ -1,5 +1,5 @@
 //! The registers of the live threads.
-ghost use Rattle.std.specs.Prelude.{◌≡◌, ◌==◌, ◌-◌, true, is_some};
+ghost use Rattle.std.specs.Prelude.{◌≡◌, ◌-◌, true, is_some};
 ghost use Rattle.guest_memory.specs.Guest.{memory_of};
 ghost use Rattle.guest_memory.specs.ReservedBy.{reserved_by};
 ghost use Rattle.guest_memory.specs.Reserved.{HoldAtMost, without_thread};
