@@ -93,7 +93,8 @@ impl State {
     ) -> Answer
         requires room { 1 ≤ events.old.room }
         ensures does { Does (specs.read
-            (asked caller.now self.old memory.old held.old)) result self.new memory.new held.new events.old events.new }
+            (asked caller.now self.old memory.old held.old)) result
+            self.new memory.new held.new events.old events.new }
         ensures room { events.old.room ≤ events.new.room + 1 }
     {
         let (fd, at) = (caller.argument(0), caller.argument(1));
@@ -150,7 +151,8 @@ impl State {
     ) -> Answer
         requires room { 1 ≤ events.old.room }
         ensures does { Does (specs.llseek
-            (asked caller.now self.old memory.old held.old)) result self.new memory.new held.new events.old events.new }
+            (asked caller.now self.old memory.old held.old)) result
+            self.new memory.new held.new events.old events.new }
         ensures room { events.old.room ≤ events.new.room + 1 }
     {
         let (fd, result_at, whence) = (caller.argument(0), caller.argument(3), caller.argument(4));

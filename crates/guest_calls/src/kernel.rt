@@ -71,8 +71,11 @@ impl Kernel {
         requires can_run { can_run self.old.state tid ≡ true }
         requires break_free { IsBreakFree (memory_of memory.old) self.old.state.program_break }
         ensures call { IfOk result (λ answer. Gives
-            (call (asked (record { tid = tid; cpu = cpu.now }) self.old.state memory.old held.old)) answer self.new memory.new held.new events.old events.new) }
-        ensures refused { OnErr result (IsAsBefore self.old self.new memory.old memory.new held.old held.new events.old events.new) }
+            (call (asked (record { tid = tid; cpu = cpu.now })
+            self.old.state memory.old held.old)) answer
+            self.new memory.new held.new events.old events.new) }
+        ensures refused { OnErr result (IsAsBefore self.old self.new
+            memory.old memory.new held.old held.new events.old events.new) }
         ensures break_free { IsBreakFree (memory_of memory.new) self.new.state.program_break }
         ensures room { events.old.room ≤ events.new.room + CALL_EVENTS }
     {
@@ -105,8 +108,10 @@ impl Kernel {
         requires break_free { IsBreakFree (memory_of memory.old) self.old.state.program_break }
         ensures call { IfOk result (λ answer. Gives
             (call (asked (record { tid = tid; cpu = cpu.now })
-            (later self.old.state) memory.old held.old)) answer self.new memory.new held.new events.old events.new) }
-        ensures refused { OnErr result (IsAsBefore self.old self.new memory.old memory.new held.old held.new events.old events.new) }
+            (later self.old.state) memory.old held.old)) answer
+            self.new memory.new held.new events.old events.new) }
+        ensures refused { OnErr result (IsAsBefore self.old self.new
+            memory.old memory.new held.old held.new events.old events.new) }
         ensures break_free { IsBreakFree (memory_of memory.new) self.new.state.program_break }
         ensures state { IsState self.new.state }
         ensures room { events.old.room ≤ events.new.room + CALL_EVENTS }

@@ -34,7 +34,8 @@ impl Model for Outgoing {
 
     ghost view = { λ o. output o.channel (take o.count o.buffer.items) };
 
-    ghost invariant = { λ o. (length o.buffer.items ≡ WRITE_LIMIT) × (o.count ≤ WRITE_LIMIT) × (1 ≤ o.channel) × (o.channel ≤ 2) };
+    ghost invariant = { λ o. (length o.buffer.items ≡ WRITE_LIMIT) × (o.count ≤ WRITE_LIMIT)
+        × (1 ≤ o.channel) × (o.channel ≤ 2) };
 }
 
 impl Outgoing {

@@ -236,8 +236,10 @@ impl State {
     ) -> Result<Answer, AllocError>
         requires room { CALL_EVENTS ≤ events.old.room }
         ensures does { IfOk result (λ answer. Does
-            (specs.readv (asked caller.now self.old memory.old held.old)) answer self.new memory.new held.new events.old events.new) }
-        ensures refused { OnErr result (IsUntouched self.old self.new memory.old memory.new held.old held.new events.old events.new) }
+            (specs.readv (asked caller.now self.old memory.old held.old)) answer
+            self.new memory.new held.new events.old events.new) }
+        ensures refused { OnErr result (IsUntouched self.old self.new
+            memory.old memory.new held.old held.new events.old events.new) }
         ensures room { events.old.room ≤ events.new.room + CALL_EVENTS }
     {
         let (fd, at, count) = (caller.argument(0), caller.argument(1), caller.argument(2));
