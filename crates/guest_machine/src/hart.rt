@@ -35,8 +35,18 @@ pub(crate) fn execute_for(
 ) -> (Outcome, Addr)
     requires lives { is_some (value_of harts.old.list tid) ≡ true }
     requires held { HoldAtMost (without_thread (reserved_by held.old) tid) (THREADS - 1) }
-    ensures effect { (result.0, record { registers = registers_of harts.new.list tid; memory = memory_of memory.new; held = reserved_by held.new })
-        ≡ effect tid i (record { registers = registers_of harts.old.list tid; memory = memory_of memory.old; held = reserved_by held.old }) }
+    ensures effect { (
+      result.0,
+      record {
+        registers = registers_of harts.new.list tid;
+        memory = memory_of memory.new;
+        held = reserved_by held.new;
+      },
+    ) ≡ effect tid i (record {
+      registers = registers_of harts.old.list tid;
+      memory = memory_of memory.old;
+      held = reserved_by held.old;
+    }) }
     ensures pc { result.1 ≡ (registers_of harts.new.list tid).pc }
     ensures harts { harts.new.list ≡ with_registers harts.old.list tid
         (registers_of harts.new.list tid) }
