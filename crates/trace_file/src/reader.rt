@@ -44,7 +44,15 @@ impl Model for TraceReader {
 
     ghost Value = { ReaderState };
 
-    ghost view = { λ r. record { line = r.line; held = r.held.items; at = r.at; order = r.order; names = r.names.items; finish = r.finish; refusal = r.refusal } };
+    ghost view = { λ r. record {
+      line = r.line;
+      held = r.held.items;
+      at = r.at;
+      order = r.order;
+      names = r.names.items;
+      finish = r.finish;
+      refusal = r.refusal;
+    } };
 }
 
 /// Whether an entry is above those of all names, which rise.
@@ -72,7 +80,6 @@ fn push_byte(held: &mut Vec<u8>, byte: u8) -> Result<(), AllocError>
 }
 
 impl TraceReader {
-    // Adds an event.
     fn add_event(&mut self, e: Event, events: &mut Events) -> Result<(), TraceError>
         requires begun { (past : List Event) × IsOpen self.old past }
         requires fits { Fits (OfEvent e) }
@@ -92,7 +99,6 @@ impl TraceReader {
         Ok(())
     }
 
-    // Adds a name.
     fn add_name(&mut self, entry: Addr, name: Name) -> Result<(), TraceError>
         requires begun { (past : List Event) × IsOpen self.old past }
         requires fits { Fits (OfName entry name) }
@@ -108,7 +114,6 @@ impl TraceReader {
         Ok(())
     }
 
-    // Adds the end.
     fn add_finish(&mut self, f: Finish)
         requires fits { Fits (OfFinish f) }
         ensures { (past : List Event) → IsOpen self.old past
@@ -117,7 +122,6 @@ impl TraceReader {
         self.finish = Some(f);
     }
 
-    // Adds a record.
     fn add_record(&mut self, next: Record, events: &mut Events) -> Result<(), TraceError>
         requires begun { (past : List Event) × IsOpen self.old past }
         requires fits { Fits next }
