@@ -13,7 +13,8 @@ fn check_format(file: &[u8], header: &FileHeader) -> Result<(), ElfError>
     requires header { header.now ≡ file_header file.now }
     ensures { result ≡ unless_refused (first_of
         ((fails_magic file.now, error.Magic) ∷ (fails_class file.now, error.Class)
-        ∷ (fails_byte_order file.now, error.ByteOrder) ∷ (fails_version file.now, error.Version) ∷ [])) }
+        ∷ (fails_byte_order file.now, error.ByteOrder)
+        ∷ (fails_version file.now, error.Version) ∷ [])) }
 {
     if !(file[0] == 0x7f && file[1] == b'E' && file[2] == b'L' && file[3] == b'F') {
         return Err(ElfError::Magic);

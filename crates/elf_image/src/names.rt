@@ -45,7 +45,8 @@ fn merge_symbol(
     requires named { All (IsNamed strings.now) first.old.items }
     ensures first { (seen : List Symbol) → AreFirst seen (map (placed strings.now) first.old.items)
         → All (λ s. s.value ≤ symbol.value) seen
-        → OnOk result (AreFirst (seen ++ placed strings.now symbol ∷ []) (map (placed strings.now) first.new.items)) }
+        → OnOk result (AreFirst (seen ++ placed strings.now symbol ∷ [])
+        (map (placed strings.now) first.new.items)) }
     ensures named { OnOk result (All (IsNamed strings.now) first.new.items) }
 {
     let len = first.len();
@@ -68,7 +69,9 @@ fn merge_some(
     requires named { All (IsNamed strings.now) first.old.items }
     ensures first { (seen : List Symbol) → AreFirst seen (map (placed strings.now) first.old.items)
         → IfSome symbol (λ s. All (λ t. t.value ≤ s.value) seen)
-        → OnOk result (AreFirst (seen ++ cons_option (option_map (placed strings.now) symbol) []) (map (placed strings.now) first.new.items)) }
+        → OnOk result (AreFirst
+        (seen ++ cons_option (option_map (placed strings.now) symbol) [])
+        (map (placed strings.now) first.new.items)) }
     ensures named { OnOk result (All (IsNamed strings.now) first.new.items) }
 {
     match symbol {

@@ -92,7 +92,12 @@ impl Model for Sched {
 
     ghost Value = { SchedulerState };
 
-    ghost view = { λ s. record { quantum = s.quantum; last = s.last; line = s.used + 1; entries = drop s.used s.entries.items } };
+    ghost view = { λ s. record {
+      quantum = s.quantum;
+      last = s.last;
+      line = s.used + 1;
+      entries = drop s.used s.entries.items;
+    } };
 
     ghost invariant = { λ s. s.used ≤ length s.entries.items };
 }
