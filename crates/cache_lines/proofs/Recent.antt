@@ -1,15 +1,13 @@
 -- The first so many of the different lines of a set tell whether an access misses, and an access keeps them so.
 use Rattle.std.proofs.Common.{◌≡◌, ℕ, zero, suc, ◌%◌, ◌≤◌, Bool, true, false, not, ◌||◌, cond, nat_eq, nat_le, List, [], ◌∷◌, length, take, filter, refl, sym, ap, ap₂, ◌∙◌, subst, arith}
 use Rattle.std.proofs.lemmas.List.{take-take}
-use Rattle.std.proofs.lemmas.Bool.{eqb-true, or_parts}
+use Rattle.std.proofs.lemmas.Bool.{eq-eqb, eqb-true, or_parts}
+use Rattle.std.proofs.Math.Bool.{or-true}
 use Rattle.std.proofs.lemmas.Bool.Decides.{nat_tests}
 use Rattle.cache_lines.specs.Shapes.{Form}
 use Rattle.cache_lines.specs.Kept.{recent}
 use Rattle.cache_lines.specs.Misses.{was_accessed, since, of_set, different, misses}
 use Rattle.cache_lines.specs.Sets.{without, touched}
-
-nat_eq-self : (n : ℕ) → nat_eq n n ≡ true
-nat_eq-self n = grind (arith, nat_tests)
 
 other : (m n : ℕ) → nat_eq m n ≡ false → not (nat_eq n m) ≡ true
 other m n e = grind (arith, nat_tests)
@@ -149,10 +147,6 @@ le-none w = grind (arith, nat_tests)
 -- a line is among the first so many where fewer others stand before it
 among-first : (w n : ℕ) (ys : List ℕ) → not (was_accessed n (take w ys)) ≡ (not (was_accessed n ys) || nat_le w (length (since n ys)))
 among-first zero n ys = let none : nat_le 0 (length (since n ys)) ≡ true = grind (arith, nat_tests) in sym (ap (λ b. not (was_accessed n ys) || b) none ∙ or-true (not (was_accessed n ys)))
-  where
-    or-true : (b : Bool) → (b || true) ≡ true
-    or-true true = refl
-    or-true false = refl
 among-first (suc w) n [] = refl
 among-first (suc w) n (y ∷ ys) = by_test (nat_eq y n) refl (among-first w n ys)
   where
@@ -170,7 +164,7 @@ misses_is shape n accesses =
     let sets = shape.sets in
     let ways = shape.ways in
     let whole = different (filter (λ m. nat_eq (m % sets) (n % sets)) accesses) in
-    let fits : nat_eq (n % sets) (n % sets) ≡ true = nat_eq-self (n % sets) in
+    let fits : nat_eq (n % sets) (n % sets) ≡ true = eq-eqb (n % sets) (n % sets) refl in
     let before : was_accessed n whole ≡ was_accessed n accesses = was-different n (of_set sets (n % sets) accesses) ∙ was-filter (λ m. nat_eq (m % sets) (n % sets)) n accesses fits in
     let between : since n whole ≡ different (of_set sets (n % sets) (since n accesses)) = sym (ap different (filter-since (λ m. nat_eq (m % sets) (n % sets)) n accesses fits) ∙ different-since n (of_set sets (n % sets) accesses)) in
     among-first ways n whole ∙ ap₂ (λ b ys. not b || nat_le ways (length ys)) before between
@@ -179,7 +173,7 @@ misses_is shape n accesses =
 pub recent_is : (sets ways n : ℕ) (accesses : List ℕ) → 1 ≤ ways → take ways (different (of_set sets (n % sets) (n ∷ accesses))) ≡ touched ways n (take ways (different (of_set sets (n % sets) accesses)))
 recent_is sets zero n accesses some = absurd (omega (arith, some))
 recent_is sets (suc w) n accesses some =
-    ap (λ xs. take (suc w) (different xs)) (filter_yes (λ m. nat_eq (m % sets) (n % sets)) n accesses (nat_eq-self (n % sets))) ∙ recent-access w n (of_set sets (n % sets) accesses)
+    ap (λ xs. take (suc w) (different xs)) (filter_yes (λ m. nat_eq (m % sets) (n % sets)) n accesses (eq-eqb (n % sets) (n % sets) refl)) ∙ recent-access w n (of_set sets (n % sets) accesses)
 
 -- any other set
 pub others_stay : (sets set n : ℕ) (accesses : List ℕ) → nat_eq (n % sets) set ≡ false → of_set sets set (n ∷ accesses) ≡ of_set sets set accesses

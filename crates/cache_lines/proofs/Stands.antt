@@ -6,6 +6,7 @@ use Rattle.std.specs.Int.{is_power_of_two}
 use Rattle.std.proofs.lemmas.List.{take-take, length-take-le, length-drop, length-replicate, get_or-set_same, get_or-set_other, length-set}
 use Rattle.std.proofs.Math.Nat.{mod-lt, mul-le-mul_left, mul-suc}
 use Rattle.std.proofs.lemmas.Bool.{and_parts, eqb-true}
+use Rattle.std.proofs.Math.Seq.{take-nil}
 use Rattle.std.proofs.lemmas.Bool.Decides.{nat_tests}
 use Rattle.cache_lines.specs.Shapes.{Form, shape_of, are_sets, are_ways, is_line}
 use Rattle.cache_lines.specs.declared.shape.TheConstants.{SETS, WAYS, LEAST_LINE, LINE}
@@ -26,10 +27,6 @@ new_stands shape used places is =
       all = length-lines_of shape.ways (replicate shape.sets 0) places ∙ length-replicate shape.sets 0;
       each = λ set lt. none-lines_of shape.ways shape.sets places set ∙ sym (take-nil shape.ways);
     })
-  where
-    take-nil : (n : ℕ) → take {A = ℕ} n [] ≡ []
-    take-nil zero = refl
-    take-nil (suc n) = refl
 
 -- What the program keeps, before an access of a line: the set of the line has its places and so many of them used.
 pub record IsReady (shape : Form) (used places : List ℕ) (line at k u : ℕ) : Type 0 where

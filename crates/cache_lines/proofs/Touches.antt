@@ -7,6 +7,7 @@ use Rattle.std.proofs.lemmas.List.Edits.{length-remove}
 use Rattle.std.proofs.lemmas.List.Quantifiers.{position-Some}
 use Rattle.std.proofs.lemmas.Bool.{cases_lt, or_parts}
 use Rattle.std.proofs.lemmas.Bool.Decides.{nat_tests}
+use Rattle.std.proofs.Math.Seq.{take-nil}
 use Rattle.cache_lines.specs.Misses.{was_accessed}
 use Rattle.cache_lines.specs.Sets.{without, touched}
 use Rattle.cache_lines.proofs.Recent.{without_same, without_other}
@@ -51,10 +52,6 @@ without-none : (n : ℕ) (ys : List ℕ) → was_accessed n ys ≡ false → wit
 without-none n [] e = refl
 without-none n (y ∷ ys) e =
     without_other n y ys (or_parts (nat_eq y n) (was_accessed n ys) e).0 ∙ ap (λ rest. y ∷ rest) (without-none n ys (or_parts (nat_eq y n) (was_accessed n ys) e).1)
-
-take-nil : (v : ℕ) → take {A = ℕ} v [] ≡ []
-take-nil zero = refl
-take-nil (suc v) = refl
 
 -- to take one out behind a cut
 take-removed : (v i : ℕ) (xs : List ℕ) → i ≤ v → take v (take i xs ++ drop (suc i) xs) ≡ take i (take (suc v) xs) ++ drop (suc i) (take (suc v) xs)

@@ -3,7 +3,8 @@ use Rattle.std.proofs.Common.{◌≡◌, ◌⊎◌, ℕ, zero, suc, ◌+◌, ◌
 use Rattle.std.proofs.lemmas.List.{append-nil, take_more, take-append-le, length-append}
 use Rattle.std.proofs.lemmas.List.Elements.{filter-append}
 use Rattle.std.proofs.lemmas.List.Folds.{list_any-append}
-use Rattle.std.proofs.lemmas.Bool.{or_parts}
+use Rattle.std.proofs.lemmas.Bool.{eq-eqb, or_parts}
+use Rattle.std.proofs.Math.Bool.{or-false, or-true}
 use Rattle.std.proofs.lemmas.Bool.Decides.{nat_tests}
 use Rattle.guest_words.specs.declared.limits.TheConstants.{THREADS}
 use Rattle.futex_table.specs.declared.waiter.Waiter.{Waiter}
@@ -32,9 +33,6 @@ other-at (x ∷ xs) t (suc i) d e inside = other-at xs t i d (or_parts (nat_eq x
 
 pub nat_eq-sym : (a b : ℕ) → nat_eq a b ≡ nat_eq b a
 nat_eq-sym a b = grind (arith, nat_tests)
-
-pub nat_eq-refl : (a : ℕ) → nat_eq a a ≡ true
-nat_eq-refl a = grind (arith, nat_tests)
 
 -- in a list where no thread waits twice, who stands at a place does not wait before it
 pub IsOnce-before : (xs : List Waiter) (i : ℕ) (d : Waiter) → IsOnce xs → i < length xs → waits (take i xs) (get_or xs i d).tid ≡ false
@@ -77,19 +75,11 @@ without-other (x ∷ xs) gone w new =
     let here : nat_eq w.tid x.tid ≡ false = nat_eq-sym w.tid x.tid ∙ (or_parts (nat_eq x.tid w.tid) (waits xs w.tid) new).0 in
     let same : waits (gone ++ w ∷ []) x.tid ≡ waits gone x.tid = list_any-append (λ v. nat_eq v.tid x.tid) gone (w ∷ []) ∙ ap (λ b. waits gone x.tid || (b || false)) here ∙ or-false (waits gone x.tid) in
     ap₂ (λ b rest. cond (not b) (x ∷ rest) rest) same (without-other xs gone w (or_parts (nat_eq x.tid w.tid) (waits xs w.tid) new).1)
-  where
-    or-false : (b : Bool) → (b || false) ≡ b
-    or-false true = refl
-    or-false false = refl
 
 -- the last of the list is taken out
 without-last : (gone : List Waiter) (w : Waiter) → without (w ∷ []) (gone ++ w ∷ []) ≡ []
 without-last gone w =
-    ap (λ b. cond (not b) (w ∷ []) []) (list_any-append (λ v. nat_eq v.tid w.tid) gone (w ∷ []) ∙ ap (λ b. waits gone w.tid || (b || false)) (nat_eq-refl w.tid) ∙ or-true (waits gone w.tid))
-  where
-    or-true : (b : Bool) → (b || true) ≡ true
-    or-true true = refl
-    or-true false = refl
+    ap (λ b. cond (not b) (w ∷ []) []) (list_any-append (λ v. nat_eq v.tid w.tid) gone (w ∷ []) ∙ ap (λ b. waits gone w.tid || (b || false)) (eq-eqb w.tid w.tid refl) ∙ or-true (waits gone w.tid))
 
 take-all : (n : ℕ) (ys : List Waiter) → length ys ≤ n → take n ys ≡ ys
 take-all zero [] le = refl
