@@ -1,6 +1,6 @@
 -- Lists of waiters, parted one by one.
 use Rattle.std.proofs.Common.{◌≡◌, ◌⊎◌, ℕ, zero, suc, ◌+◌, ◌<◌, ◌≤◌, Bool, true, false, not, ◌||◌, cond, nat_eq, List, [], ◌∷◌, ◌++◌, length, take, map, filter, get_or, refl, sym, ap, ap₂, ◌∙◌, subst, inl, inr, arith}
-use Rattle.std.proofs.lemmas.List.{append-nil, take_more, take-append-le, length-append}
+use Rattle.std.proofs.lemmas.List.{append-nil, take_all, take_more, take-append-le, length-append}
 use Rattle.std.proofs.lemmas.List.Elements.{filter-append}
 use Rattle.std.proofs.lemmas.List.Folds.{list_any-append}
 use Rattle.std.proofs.lemmas.Bool.{eq-eqb, or_parts}
@@ -81,12 +81,6 @@ without-last : (gone : List Waiter) (w : Waiter) → without (w ∷ []) (gone ++
 without-last gone w =
     ap (λ b. cond (not b) (w ∷ []) []) (list_any-append (λ v. nat_eq v.tid w.tid) gone (w ∷ []) ∙ ap (λ b. waits gone w.tid || (b || false)) (eq-eqb w.tid w.tid refl) ∙ or-true (waits gone w.tid))
 
-take-all : (n : ℕ) (ys : List Waiter) → length ys ≤ n → take n ys ≡ ys
-take-all zero [] le = refl
-take-all zero (y ∷ ys) le = absurd (omega arith)
-take-all (suc n) [] le = refl
-take-all (suc n) (y ∷ ys) le = ap (λ rest. y ∷ rest) (take-all n ys (omega arith))
-
 -- fewer than n were taken of a list that is no longer
 length-take-below : (n : ℕ) (ys : List Waiter) → length (take n ys) < n → length ys < n
 length-take-below zero ys less = absurd (omega arith)
@@ -104,9 +98,9 @@ pub part_taken : (xs : List Waiter) (w : Waiter) (at bits most : ℕ) → waits 
 part_taken xs w at bits most new passes few =
     let found = waiters_at xs at bits in
     let short : length found < most = length-take-below most found few in
-    let all : take most found ≡ found = take-all most found (omega arith) in
+    let all : take most found ≡ found = take_all most found (omega arith) in
     let more : waiters_at (xs ++ w ∷ []) at bits ≡ found ++ w ∷ [] = filter-append (waits_at at bits) xs (w ∷ []) ∙ ap (λ b. found ++ cond b (w ∷ []) []) passes in
-    let taken : woken (xs ++ w ∷ []) at most bits ≡ woken xs at most bits ++ w ∷ [] = ap (take most) more ∙ take-all most (found ++ w ∷ []) (omega (arith, length-append found (w ∷ []))) ∙ ap (λ front. front ++ w ∷ []) (sym all) in
+    let taken : woken (xs ++ w ∷ []) at most bits ≡ woken xs at most bits ++ w ∷ [] = ap (take most) more ∙ take_all most (found ++ w ∷ []) (omega (arith, length-append found (w ∷ []))) ∙ ap (λ front. front ++ w ∷ []) (sym all) in
     let gone = woken xs at most bits in
     (taken, ap (without (xs ++ w ∷ [])) taken ∙ filter-append (λ v. not (waits (gone ++ w ∷ []) v.tid)) xs (w ∷ []) ∙ ap₂ (λ a b. a ++ b) (without-other xs gone w new) (without-last gone w) ∙ append-nil (without xs gone))
 
