@@ -5,7 +5,7 @@ use Rattle.std.specs.List.{remove}
 use Rattle.std.specs.Ordering.{nat_cmp}
 use Rattle.std.specs.List.Sorted.{IsBinarySearchResult}
 use Rattle.std.specs.Result.{MatchResult, result_ok}
-use Rattle.std.proofs.lemmas.Bool.{cases_lt}
+use Rattle.std.proofs.lemmas.Bool.{cases_lt, eq-eqb}
 use Rattle.std.proofs.lemmas.Bool.Decides.{nat_tests}
 use Rattle.std.proofs.lemmas.List.{get_or_default}
 use Rattle.std.proofs.lemmas.List.Edits.{length-remove, get_or-remove_below, get_or-remove_above}
@@ -31,9 +31,6 @@ apart_low t u low = grind (arith, nat_tests, low)
 apart_high : (t u : ℕ) → t < u → nat_eq t u ≡ false
 apart_high t u low = grind (arith, nat_tests, low)
 
-same : (t : ℕ) → nat_eq t t ≡ true
-same t = grind (arith, nat_tests)
-
 none_among : (xs : List ℕ) (t i : ℕ) → ((k : ℕ) → k < i → get_or xs k 0 < t) → ((k : ℕ) → i ≤ k → k < length xs → t < get_or xs k 0) → is_among xs t ≡ false
 none_among xs t i below above = list_any_none (nat_eq t) xs (All-from_get_or (λ u. nat_eq t u ≡ false) xs 0 each)
   where
@@ -45,7 +42,7 @@ none_among xs t i below above = list_any_none (nat_eq t) xs (All-from_get_or (λ
         ]
 
 among_at : (xs : List ℕ) (t i : ℕ) → i < length xs → get_or xs i 0 ≡ t → is_among xs t ≡ true
-among_at xs t i low is = list_any_at (nat_eq t) xs i 0 low (ap (nat_eq t) is ∙ same t)
+among_at xs t i low is = list_any_at (nat_eq t) xs i 0 low (ap (nat_eq t) is ∙ eq-eqb t t refl)
 
 -- what a search finds
 pub found : (xs : List ℕ) (t : ℕ) (r : Result ℕ ℕ) → IsRising xs → IsBinarySearchResult (λ u. nat_cmp u t) xs r →
