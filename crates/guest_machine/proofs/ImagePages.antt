@@ -11,7 +11,7 @@ use Rattle.guest_memory.proofs.Counts.{count_of_change, one}
 use Rattle.guest_memory.proofs.PageChanges.{among_other}
 use Rattle.guest_memory.proofs.Accesses.{none_of}
 use Rattle.std.proofs.lemmas.List.Sums.{sum_by-cons}
-use Rattle.std.proofs.Math.Bool.{or-false, or-true}
+use Rattle.std.proofs.Math.Bool.{or-false, or-true, or_assoc}
 use Rattle.elf_image.specs.Image.{Executable, IsPlaced, Segment, is_touched, page_count, touches}
 use Rattle.guest_machine.specs.Setup.{AreRights, mapped_below, pages_of}
 use Rattle.guest_machine.specs.Start.{first_break, image_memory, joined, rights_or_none, segment_rights, stack_page, stack_rights, start_memory, with_segment}
@@ -29,10 +29,6 @@ is_some-with page r s = by_touch (touches s page) r
     by_touch true (Some p) = refl
     by_touch false None = refl
     by_touch false (Some p) = refl
-
-or_assoc : (a b c : Bool) → ((a || b) || c) ≡ (a || (b || c))
-or_assoc true b c = refl
-or_assoc false b c = refl
 
 some_folded : (page : ℕ) (segments : List Segment) (r : Option Rights) → is_some (fold (with_segment page) r segments) ≡ (is_some r || is_touched segments page)
 some_folded page [] r = sym (or-false (is_some r))
