@@ -1,17 +1,13 @@
 -- The first so many of the different lines of a set tell whether an access misses, and an access keeps them so.
 use Rattle.std.proofs.Common.{◌≡◌, ℕ, zero, suc, ◌%◌, ◌≤◌, Bool, true, false, not, ◌||◌, cond, nat_eq, nat_le, List, [], ◌∷◌, length, take, filter, refl, sym, ap, ap₂, ◌∙◌, subst, arith}
 use Rattle.std.proofs.lemmas.List.{take-take}
+use Rattle.std.proofs.lemmas.Bool.{eq-eqb, eqb-true, or_parts}
+use Rattle.std.proofs.Math.Bool.{or-true}
 use Rattle.std.proofs.lemmas.Bool.Decides.{nat_tests}
 use Rattle.cache_lines.specs.Shapes.{Form}
 use Rattle.cache_lines.specs.Kept.{recent}
 use Rattle.cache_lines.specs.Misses.{was_accessed, since, of_set, different, misses}
 use Rattle.cache_lines.specs.Sets.{without, touched}
-
-pub nat_eq-same : (m n : ℕ) → nat_eq m n ≡ true → m ≡ n
-nat_eq-same m n e = grind (arith, nat_tests)
-
-nat_eq-self : (n : ℕ) → nat_eq n n ≡ true
-nat_eq-self n = grind (arith, nat_tests)
 
 other : (m n : ℕ) → nat_eq m n ≡ false → not (nat_eq n m) ≡ true
 other m n e = grind (arith, nat_tests)
@@ -42,7 +38,7 @@ filter-since p n (m ∷ xs) fits = by_test (nat_eq m n) refl (p m) refl (filter-
   where
     by_test : (b : Bool) → nat_eq m n ≡ b → (c : Bool) → p m ≡ c → filter p (since n xs) ≡ since n (filter p xs) → filter p (since n (m ∷ xs)) ≡ since n (filter p (m ∷ xs))
     by_test true e c q rest =
-        let passes : p m ≡ true = subst (λ k. p k ≡ true) (sym (nat_eq-same m n e)) fits in
+        let passes : p m ≡ true = subst (λ k. p k ≡ true) (sym (eqb-true m n e)) fits in
         ap (filter p) (since_same n m xs e) ∙ sym (ap (since n) (filter_yes p m xs passes) ∙ since_same n m (filter p xs) e)
     by_test false e true q rest =
         ap (filter p) (since_other n m xs e) ∙ filter_yes p m (since n xs) q ∙ ap (λ ys. m ∷ ys) rest
@@ -72,7 +68,7 @@ was-filter p n (m ∷ xs) fits = by_test (nat_eq m n) refl (p m) refl (was-filte
   where
     by_test : (b : Bool) → nat_eq m n ≡ b → (c : Bool) → p m ≡ c → was_accessed n (filter p xs) ≡ was_accessed n xs → was_accessed n (filter p (m ∷ xs)) ≡ was_accessed n (m ∷ xs)
     by_test b e true q rest = ap (was_accessed n) (filter_yes p m xs q) ∙ ap (λ w. nat_eq m n || w) rest
-    by_test true e false q rest = absurd (no_two (p m) (subst (λ k. p k ≡ true) (sym (nat_eq-same m n e)) fits) q)
+    by_test true e false q rest = absurd (no_two (p m) (subst (λ k. p k ≡ true) (sym (eqb-true m n e)) fits) q)
     by_test false e false q rest = ap (was_accessed n) (filter_no p m xs q) ∙ rest ∙ sym (ap (λ b. b || was_accessed n xs) e)
 
 was-different : (n : ℕ) (xs : List ℕ) → was_accessed n (different xs) ≡ was_accessed n xs
@@ -88,19 +84,11 @@ abbrev AreDifferent : List ℕ → Type 0
 AreDifferent [] = Unit {0}
 AreDifferent (x ∷ xs) = (was_accessed x xs ≡ false) × AreDifferent xs
 
-pub or-left : (a b : Bool) → (a || b) ≡ false → a ≡ false
-or-left false b e = refl
-or-left true b e = absurd (cc)
-
-pub or-right : (a b : Bool) → (a || b) ≡ false → b ≡ false
-or-right false b e = e
-or-right true b e = absurd (cc)
-
 was_not-filter : (p : ℕ → Bool) (n : ℕ) (xs : List ℕ) → was_accessed n xs ≡ false → was_accessed n (filter p xs) ≡ false
 was_not-filter p n [] e = refl
 was_not-filter p n (x ∷ xs) e =
-    let here = or-left (nat_eq x n) (was_accessed n xs) e in
-    let there = was_not-filter p n xs (or-right (nat_eq x n) (was_accessed n xs) e) in
+    let here = (or_parts (nat_eq x n) (was_accessed n xs) e).0 in
+    let there = was_not-filter p n xs (or_parts (nat_eq x n) (was_accessed n xs) e).1 in
     elim (p x) as (λ b. was_accessed n (cond b (x ∷ filter p xs) (filter p xs)) ≡ false) [ true ↦ ap₂ (λ a b. a || b) here there | false ↦ there ]
 
 AreDifferent-filter : (p : ℕ → Bool) (xs : List ℕ) → AreDifferent xs → AreDifferent (filter p xs)
@@ -123,7 +111,7 @@ different-are (m ∷ xs) = (was_not-others m (different xs), AreDifferent-filter
 filter-none : (n : ℕ) (xs : List ℕ) → was_accessed n xs ≡ false → filter (λ x. not (nat_eq x n)) xs ≡ xs
 filter-none n [] e = refl
 filter-none n (x ∷ xs) e =
-    filter_yes (λ x. not (nat_eq x n)) x xs (ap not (or-left (nat_eq x n) (was_accessed n xs) e)) ∙ ap (λ ys. x ∷ ys) (filter-none n xs (or-right (nat_eq x n) (was_accessed n xs) e))
+    filter_yes (λ x. not (nat_eq x n)) x xs (ap not (or_parts (nat_eq x n) (was_accessed n xs) e).0) ∙ ap (λ ys. x ∷ ys) (filter-none n xs (or_parts (nat_eq x n) (was_accessed n xs) e).1)
 
 -- to take out all of a line is to take out the first of it
 filter-without : (n : ℕ) (xs : List ℕ) → AreDifferent xs → filter (λ x. not (nat_eq x n)) xs ≡ without n xs
@@ -132,7 +120,7 @@ filter-without n (x ∷ xs) h = by_test (nat_eq x n) refl (filter-without n xs h
   where
     by_test : (b : Bool) → nat_eq x n ≡ b → filter (λ x. not (nat_eq x n)) xs ≡ without n xs → filter (λ x. not (nat_eq x n)) (x ∷ xs) ≡ without n (x ∷ xs)
     by_test true e rest =
-        filter_no (λ x. not (nat_eq x n)) x xs (ap not e) ∙ filter-none n xs (subst (λ k. was_accessed k xs ≡ false) (nat_eq-same x n e) h.0) ∙ sym (without_same n x xs e)
+        filter_no (λ x. not (nat_eq x n)) x xs (ap not e) ∙ filter-none n xs (subst (λ k. was_accessed k xs ≡ false) (eqb-true x n e) h.0) ∙ sym (without_same n x xs e)
     by_test false e rest =
         filter_yes (λ x. not (nat_eq x n)) x xs (ap not e) ∙ ap (λ ys. x ∷ ys) rest ∙ sym (without_other n x xs e)
 
@@ -159,10 +147,6 @@ le-none w = grind (arith, nat_tests)
 -- a line is among the first so many where fewer others stand before it
 among-first : (w n : ℕ) (ys : List ℕ) → not (was_accessed n (take w ys)) ≡ (not (was_accessed n ys) || nat_le w (length (since n ys)))
 among-first zero n ys = let none : nat_le 0 (length (since n ys)) ≡ true = grind (arith, nat_tests) in sym (ap (λ b. not (was_accessed n ys) || b) none ∙ or-true (not (was_accessed n ys)))
-  where
-    or-true : (b : Bool) → (b || true) ≡ true
-    or-true true = refl
-    or-true false = refl
 among-first (suc w) n [] = refl
 among-first (suc w) n (y ∷ ys) = by_test (nat_eq y n) refl (among-first w n ys)
   where
@@ -180,7 +164,7 @@ misses_is shape n accesses =
     let sets = shape.sets in
     let ways = shape.ways in
     let whole = different (filter (λ m. nat_eq (m % sets) (n % sets)) accesses) in
-    let fits : nat_eq (n % sets) (n % sets) ≡ true = nat_eq-self (n % sets) in
+    let fits : nat_eq (n % sets) (n % sets) ≡ true = eq-eqb (n % sets) (n % sets) refl in
     let before : was_accessed n whole ≡ was_accessed n accesses = was-different n (of_set sets (n % sets) accesses) ∙ was-filter (λ m. nat_eq (m % sets) (n % sets)) n accesses fits in
     let between : since n whole ≡ different (of_set sets (n % sets) (since n accesses)) = sym (ap different (filter-since (λ m. nat_eq (m % sets) (n % sets)) n accesses fits) ∙ different-since n (of_set sets (n % sets) accesses)) in
     among-first ways n whole ∙ ap₂ (λ b ys. not b || nat_le ways (length ys)) before between
@@ -189,7 +173,7 @@ misses_is shape n accesses =
 pub recent_is : (sets ways n : ℕ) (accesses : List ℕ) → 1 ≤ ways → take ways (different (of_set sets (n % sets) (n ∷ accesses))) ≡ touched ways n (take ways (different (of_set sets (n % sets) accesses)))
 recent_is sets zero n accesses some = absurd (omega (arith, some))
 recent_is sets (suc w) n accesses some =
-    ap (λ xs. take (suc w) (different xs)) (filter_yes (λ m. nat_eq (m % sets) (n % sets)) n accesses (nat_eq-self (n % sets))) ∙ recent-access w n (of_set sets (n % sets) accesses)
+    ap (λ xs. take (suc w) (different xs)) (filter_yes (λ m. nat_eq (m % sets) (n % sets)) n accesses (eq-eqb (n % sets) (n % sets) refl)) ∙ recent-access w n (of_set sets (n % sets) accesses)
 
 -- any other set
 pub others_stay : (sets set n : ℕ) (accesses : List ℕ) → nat_eq (n % sets) set ≡ false → of_set sets set (n ∷ accesses) ≡ of_set sets set accesses

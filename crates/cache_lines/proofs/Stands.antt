@@ -5,6 +5,8 @@ use Rattle.std.specs.Option.{option_map_or}
 use Rattle.std.specs.Int.{is_power_of_two}
 use Rattle.std.proofs.lemmas.List.{take-take, length-take-le, length-drop, length-replicate, get_or-set_same, get_or-set_other, length-set}
 use Rattle.std.proofs.Math.Nat.{mod-lt, mul-le-mul_left, mul-suc}
+use Rattle.std.proofs.lemmas.Bool.{and_parts, eqb-true}
+use Rattle.std.proofs.Math.Seq.{take-nil}
 use Rattle.std.proofs.lemmas.Bool.Decides.{nat_tests}
 use Rattle.cache_lines.specs.Shapes.{Form, shape_of, are_sets, are_ways, is_line}
 use Rattle.cache_lines.specs.declared.shape.TheConstants.{SETS, WAYS, LEAST_LINE, LINE}
@@ -12,7 +14,7 @@ use Rattle.cache_lines.specs.Held.{Held}
 use Rattle.cache_lines.specs.Kept.{recent, StandsFor}
 use Rattle.cache_lines.specs.Misses.{was_accessed, misses, different}
 use Rattle.cache_lines.specs.Sets.{lines_of, touched}
-use Rattle.cache_lines.proofs.Recent.{nat_eq-same, misses_is, recent_is, others_stay}
+use Rattle.cache_lines.proofs.Recent.{misses_is, recent_is, others_stay}
 use Rattle.cache_lines.proofs.Rows.{length-lines_of, none-lines_of, at-lines_of, set-lines_of, written}
 
 abbrev pub held : Form → List ℕ → List ℕ → Held
@@ -25,10 +27,6 @@ new_stands shape used places is =
       all = length-lines_of shape.ways (replicate shape.sets 0) places ∙ length-replicate shape.sets 0;
       each = λ set lt. none-lines_of shape.ways shape.sets places set ∙ sym (take-nil shape.ways);
     })
-  where
-    take-nil : (n : ℕ) → take {A = ℕ} n [] ≡ []
-    take-nil zero = refl
-    take-nil (suc n) = refl
 
 -- What the program keeps, before an access of a line: the set of the line has its places and so many of them used.
 pub record IsReady (shape : Form) (used places : List ℕ) (line at k u : ℕ) : Type 0 where
@@ -40,14 +38,6 @@ pub record IsReady (shape : Form) (used places : List ℕ) (line at k u : ℕ) :
   pub few : All (λ n. n ≤ shape.ways) used
   pub u_is : u ≡ get_or used (line % shape.sets) u
   pub inside : at + k ≤ length places
-
-and-left : (a b : Bool) → (a && b) ≡ true → a ≡ true
-and-left true b e = refl
-and-left false b e = absurd (cc)
-
-and-right : (a b : Bool) → (a && b) ≡ true → b ≡ true
-and-right true b e = e
-and-right false b e = absurd (cc)
 
 some-power : (n : ℕ) → is_power_of_two n ≡ true → 1 ≤ n
 unfolding lib.Count.ones
@@ -61,10 +51,10 @@ at-least-one n e = grind (arith, nat_tests)
 some_of_each : (sets ways line : ℕ) (shape : Form) → shape_of sets ways line ≡ Some shape → (1 ≤ sets) × (1 ≤ ways)
 some_of_each sets ways line shape e =
     let passes : ((are_sets sets && are_ways ways) && is_line line) ≡ true = by_test ((are_sets sets && are_ways ways) && is_line line) (record { sets = sets; ways = ways; line = line }) e in
-    let both = and-left (are_sets sets && are_ways ways) (is_line line) passes in
-    let sets_are = and-left (are_sets sets) (are_ways ways) both in
-    let ways_are = and-right (are_sets sets) (are_ways ways) both in
-    (some-power sets (and-left (is_power_of_two sets) (nat_le sets SETS) sets_are), at-least-one ways (and-left (nat_le 1 ways) (nat_le ways WAYS) ways_are))
+    let both = (and_parts (are_sets sets && are_ways ways) (is_line line) passes).0 in
+    let sets_are = (and_parts (are_sets sets) (are_ways ways) both).0 in
+    let ways_are = (and_parts (are_sets sets) (are_ways ways) both).1 in
+    (some-power sets (and_parts (is_power_of_two sets) (nat_le sets SETS) sets_are).0, at-least-one ways (and_parts (nat_le 1 ways) (nat_le ways WAYS) ways_are).0)
   where
     by_test : (b : Bool) (f : Form) → cond b (Some f) None ≡ Some shape → b ≡ true
     by_test true f q = refl
@@ -76,8 +66,8 @@ wide_lines sets ways line shape e = by_test ((are_sets sets && are_ways ways) &&
   where
     by_test : (b : Bool) → ((are_sets sets && are_ways ways) && is_line line) ≡ b → cond b (Some (record { sets = sets; ways = ways; line = line })) None ≡ Some shape → LEAST_LINE ≤ shape.line
     by_test true passes q =
-        let line_is = and-right (are_sets sets && are_ways ways) (is_line line) passes in
-        let wide : nat_le LEAST_LINE line ≡ true = and-right (is_power_of_two line) (nat_le LEAST_LINE line) (and-left (is_power_of_two line && nat_le LEAST_LINE line) (nat_le line LINE) line_is) in
+        let line_is = (and_parts (are_sets sets && are_ways ways) (is_line line) passes).1 in
+        let wide : nat_le LEAST_LINE line ≡ true = (and_parts (is_power_of_two line) (nat_le LEAST_LINE line) (and_parts (is_power_of_two line && nat_le LEAST_LINE line) (nat_le line LINE) line_is).0).1 in
         let same : line ≡ shape.line = ap (λ (o : Option Form). option_map_or (λ (f : Form). f.line) o line) q in
         grind (arith, nat_tests, wide, same)
     by_test false passes q = absurd (cc)
@@ -153,7 +143,7 @@ module _ (shape : Form) (used places : List ℕ) (line at k u : ℕ) (ready : Is
       by_test : (other : ℕ) → other < shape.sets → (b : Bool) → nat_eq (line % shape.sets) other ≡ b → take u' row ≡ recent shape (line % shape.sets) (line ∷ accesses) → line % shape.sets < length (lines_of shape.ways used places)
           → get_or (slice_set (lines_of shape.ways used places) (line % shape.sets) (take u' row)) other [] ≡ recent shape other (line ∷ accesses)
       by_test other lt true e now here =
-          let same : line % shape.sets ≡ other = nat_eq-same (line % shape.sets) other e in
+          let same : line % shape.sets ≡ other = eqb-true (line % shape.sets) other e in
           ap (λ o. get_or (slice_set (lines_of shape.ways used places) (line % shape.sets) (take u' row)) o []) (sym same)
           ∙ get_or-set_same (lines_of shape.ways used places) (line % shape.sets) (take u' row) [] here
           ∙ now ∙ ap (λ o. recent shape o (line ∷ accesses)) same

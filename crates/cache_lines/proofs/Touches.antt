@@ -5,11 +5,12 @@ use Rattle.std.specs.List.{position, position_or_len}
 use Rattle.std.proofs.lemmas.List.{take-take, take_all, take_at, length-take-le}
 use Rattle.std.proofs.lemmas.List.Edits.{length-remove}
 use Rattle.std.proofs.lemmas.List.Quantifiers.{position-Some}
-use Rattle.std.proofs.lemmas.Bool.{cases_lt}
+use Rattle.std.proofs.lemmas.Bool.{cases_lt, or_parts}
 use Rattle.std.proofs.lemmas.Bool.Decides.{nat_tests}
+use Rattle.std.proofs.Math.Seq.{take-nil}
 use Rattle.cache_lines.specs.Misses.{was_accessed}
 use Rattle.cache_lines.specs.Sets.{without, touched}
-use Rattle.cache_lines.proofs.Recent.{without_same, without_other, or-left, or-right}
+use Rattle.cache_lines.proofs.Recent.{without_same, without_other}
 
 lt-suc : (a b : ℕ) → nat_lt (1 + a) (suc b) ≡ nat_lt a b
 lt-suc a b = grind (arith, nat_tests)
@@ -50,11 +51,7 @@ without-at n (y ∷ ys) (suc i) lt here before =
 without-none : (n : ℕ) (ys : List ℕ) → was_accessed n ys ≡ false → without n ys ≡ ys
 without-none n [] e = refl
 without-none n (y ∷ ys) e =
-    without_other n y ys (or-left (nat_eq y n) (was_accessed n ys) e) ∙ ap (λ rest. y ∷ rest) (without-none n ys (or-right (nat_eq y n) (was_accessed n ys) e))
-
-take-nil : (v : ℕ) → take {A = ℕ} v [] ≡ []
-take-nil zero = refl
-take-nil (suc v) = refl
+    without_other n y ys (or_parts (nat_eq y n) (was_accessed n ys) e).0 ∙ ap (λ rest. y ∷ rest) (without-none n ys (or_parts (nat_eq y n) (was_accessed n ys) e).1)
 
 -- to take one out behind a cut
 take-removed : (v i : ℕ) (xs : List ℕ) → i ≤ v → take v (take i xs ++ drop (suc i) xs) ≡ take i (take (suc v) xs) ++ drop (suc i) (take (suc v) xs)

@@ -26,7 +26,10 @@ impl Model for Cache {
 
     ghost Value = { Held };
 
-    ghost view = { λ c. record { shape = c.shape; sets = lines_of c.shape.ways c.used.items c.places.items } };
+    ghost view = { λ c. record {
+      shape = c.shape;
+      sets = lines_of c.shape.ways c.used.items c.places.items;
+    } };
 
     ghost invariant = { IsCache };
 }

@@ -32,7 +32,11 @@ impl Model for Shape {
 
     ghost view = { λ s. record { sets = s.sets; ways = s.ways; line = s.line } };
 
-    ghost invariant = { λ s. shape_of s.sets s.ways s.line ≡ Some (record { sets = s.sets; ways = s.ways; line = s.line }) };
+    ghost invariant = { λ s. shape_of s.sets s.ways s.line ≡ Some (record {
+      sets = s.sets;
+      ways = s.ways;
+      line = s.line;
+    }) };
 
     ghost inverse = { λ f. record { sets = f.sets; ways = f.ways; line = f.line } };
 }

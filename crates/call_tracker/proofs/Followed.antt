@@ -3,7 +3,7 @@ use Rattle.std.proofs.Common.{◌≡◌, ℕ, ◌<◌, ◌≤◌, ◌+◌, ◌-�
 use Rattle.std.specs.Prelude.{◌==◌, ◌||◌, ◌&&◌, nat_eq, nat_lt, is_some}
 use Rattle.std.specs.Option.{option_map_or}
 use Rattle.std.specs.List.{position_or_len}
-use Rattle.std.proofs.lemmas.Bool.{eq-eqb}
+use Rattle.std.proofs.lemmas.Bool.{eq-eqb, eqb-true}
 use Rattle.std.proofs.lemmas.Bool.Decides.{nat_tests}
 use Rattle.std.proofs.lemmas.List.{length-map, length-take-le, drop-map, drop_all, map-append}
 use Rattle.std.proofs.lemmas.List.Elements.{All-push, All-weaker, All-same}
@@ -57,11 +57,8 @@ pub running_kept : (stacks : Stacks) (past : List Event) (tid : ℕ) → IsRunni
 running_kept stacks past tid running stands = stands.threads_live tid ∙ running.0
 
 -- ---- numbers that are equal
-same_number : (n m : ℕ) → (n == m) ≡ true → n ≡ m
-same_number n m is = grind (arith, nat_tests)
-
 turned : (n m : ℕ) (b : Bool) → (n == m) ≡ b → nat_eq m n ≡ b
-turned n m true is = let same : n ≡ m = same_number n m is in let there : nat_eq m n ≡ true = grind (arith, nat_tests, same) in there
+turned n m true is = let same : n ≡ m = eqb-true n m is in let there : nat_eq m n ≡ true = grind (arith, nat_tests, same) in there
 turned n m false is = grind (arith, nat_tests, is)
 
 abbrev calls_or_none : Option (List OpenCall) → List OpenCall
@@ -90,7 +87,7 @@ module _ (old new : Stacks) (past : List Event) (tid entry : ℕ)
   no_calls : (t : ℕ) → (tid == t) ≡ true → calls_after past t ≡ []
   no_calls t is =
       sym (stands.calls_are t)
-      ∙ ap calls_or_none (ap (λ n. value_of old.threads n) (sym (same_number tid t is)) ∙ value_of-above old.threads tid above)
+      ∙ ap calls_or_none (ap (λ n. value_of old.threads n) (sym (eqb-true tid t is)) ∙ value_of-above old.threads tid above)
 
   calls_started : (t : ℕ) (b : Bool) → (tid == t) ≡ b →
       calls_or_none (cond b (Some first_calls) (value_of old.threads t)) ≡ map call_of (cond b (record { at = length past; entry = entry; back = None } ∷ []) [] ++ open_calls past t)
@@ -117,7 +114,7 @@ module _ (old new : Stacks) (past : List Event) (tid : ℕ) (calls : List OpenCa
       ∙ value_of-with old.threads tid calls (calls_of old tid) (some_kept (value_of old.threads tid) lives) t
 
   live_changed : (t : ℕ) (b : Bool) → (tid == t) ≡ b → is_some (cond b (Some calls) (value_of old.threads t)) ≡ is_live past t
-  live_changed t true is = sym lives ∙ ap (λ n. is_some (value_of old.threads n)) (same_number tid t is) ∙ stands.threads_live t
+  live_changed t true is = sym lives ∙ ap (λ n. is_some (value_of old.threads n)) (eqb-true tid t is) ∙ stands.threads_live t
   live_changed t false is = stands.threads_live t
 
   still_live : (t : ℕ) → is_some (value_of new.threads t) ≡ is_live past t
@@ -132,7 +129,7 @@ module _ (old new : Stacks) (past : List Event) (tid : ℕ) (calls : List OpenCa
   changed f own others t = ap calls_or_none (reads_changed t) ∙ by (tid == t) refl
     where
       by : (b : Bool) → (tid == t) ≡ b → calls_or_none (cond b (Some calls) (value_of old.threads t)) ≡ f t
-      by true is = sym own ∙ ap f (same_number tid t is)
+      by true is = sym own ∙ ap f (eqb-true tid t is)
       by false is = stands.calls_are t ∙ sym (others t is)
 
 -- a call

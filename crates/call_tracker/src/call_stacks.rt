@@ -31,7 +31,10 @@ impl Model for CallStacks {
 
     ghost Value = { Stacks };
 
-    ghost view = { λ s. record { threads = map (λ x. (x.0, reverse x.1.calls)) s.threads.list; pending = s.pending } };
+    ghost view = { λ s. record {
+      threads = map (λ x. (x.0, reverse x.1.calls)) s.threads.list;
+      pending = s.pending;
+    } };
 }
 
 impl CallStacks {

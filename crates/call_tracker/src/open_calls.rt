@@ -29,7 +29,10 @@ impl Model for OpenCalls {
 
     ghost Value = { CallStack };
 
-    ghost view = { λ c. record { calls = c.calls.items; spare = vec_capacity c.calls - vec_len c.calls } };
+    ghost view = { λ c. record {
+      calls = c.calls.items;
+      spare = vec_capacity c.calls - vec_len c.calls;
+    } };
 }
 
 /// How many of the calls, the outermost first, a return to the target ends.

@@ -4,7 +4,7 @@ use Rattle.std.specs.Prelude.{IfSome}
 use Rattle.std.specs.List.{All, fold}
 use Rattle.std.proofs.lemmas.List.{length-map, map-append}
 use Rattle.std.proofs.lemmas.List.Elements.{All-nil, All-cons, All-weaker}
-use Rattle.std.proofs.lemmas.List.Sums.{sum_by-append}
+use Rattle.std.proofs.lemmas.List.Sums.{fold-append, sum_by-append}
 use Rattle.std.proofs.lemmas.Nat.{mul-le}
 use Rattle.trace_model.specs.declared.slow_profile.Done.{Done}
 use Rattle.trace_model.specs.Profile.{HasParts}
@@ -21,10 +21,6 @@ use Rattle.cost_points.proofs.Bounds.{IsPoint-of}
 use Rattle.cost_points.proofs.Rising.{IsRising-insert}
 
 -- ---- the least and the greatest of two lists
-fold-append : (f : ℕ → ℕ → ℕ) (a : ℕ) (xs ys : List ℕ) → fold f a (xs ++ ys) ≡ fold f (fold f a xs) ys
-fold-append f a [] ys = refl
-fold-append f a (x ∷ xs) ys = fold-append f (f a x) xs ys
-
 min-fold : (a b : ℕ) (xs : List ℕ) → fold min (min a b) xs ≡ min a (fold min b xs)
 min-fold a b [] = refl
 min-fold a b (x ∷ xs) = ap (λ m. fold min m xs) (omega arith) ∙ min-fold a (min b x) xs

@@ -35,7 +35,10 @@ impl Model for Table {
 
     ghost view = { λ t. record { members = t.members; routines = t.routines.items } };
 
-    ghost invariant = { λ t. IsContents (record { members = t.members; routines = t.routines.items }) };
+    ghost invariant = { λ t. IsContents (record {
+      members = t.members;
+      routines = t.routines.items;
+    }) };
 }
 
 /// Where the routine of the entry is, or where it would go.

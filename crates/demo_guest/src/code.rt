@@ -183,7 +183,6 @@ fn routine_labels(
     Ok(labels)
 }
 
-/// The program of the demo.
 fn demo_program(alloc: Global, routines: u32) -> Result<Builder, AllocError>
     requires { routines ≤ DEMO_ROUTINES }
     ensures lines { IfOk result (λ program. program.lines ≡ lines routines) }

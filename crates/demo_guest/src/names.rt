@@ -27,7 +27,6 @@ fn named(alloc: Global, name: &[u8], word: u32) -> Result<Symbol, AllocError>
     }
 }
 
-/// The name of a routine.
 fn routine_name(alloc: Global, routine: u32) -> Result<Vec<u8>, AllocError>
     requires { routine < DEMO_ROUTINES }
     ensures { IfOk result (λ name. name.items ≡ 114 ∷ decimal (routine + 1)) }

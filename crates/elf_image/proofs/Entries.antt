@@ -1,11 +1,11 @@
 -- The symbols of a table's entries, in another order.
-use Rattle.std.proofs.Common.{◌≡◌, ℕ, suc, ◌+◌, ◌*◌, ◌/◌, ◌<◌, ◌≤◌, Bool, true, false, eqb, if◌then◌else◌, List, [], ◌∷◌, ◌++◌, length, get_or, map, take, filter, Option, Some, None, refl, sym, ap, ◌∙◌, inl, inr, arith}
+use Rattle.std.proofs.Common.{◌≡◌, ℕ, ◌+◌, ◌*◌, ◌/◌, ◌<◌, ◌≤◌, Bool, true, false, eqb, if◌then◌else◌, List, [], ◌∷◌, ◌++◌, length, get_or, map, take, filter, Option, Some, None, refl, sym, ap, ◌∙◌, inl, inr, arith}
 use Rattle.std.specs.List.{All, cons_option, filter_map, range_with_len}
 use Rattle.std.specs.List.Sorted.{IsNonDecreasingBy, IsPermutation}
 use Rattle.std.specs.Option.{IfSome, option_map, option_map_or}
 use Rattle.std.proofs.lemmas.Bool.{cases_eq, eq-eqb, ne_eqb}
 use Rattle.std.proofs.lemmas.List.{get_or-take, get_or_default, length-take-le, take_more}
-use Rattle.std.proofs.lemmas.List.Elements.{All-cons, All-nil, All-take, filter_map-append}
+use Rattle.std.proofs.lemmas.List.Elements.{All-cons, All-head, All-nil, All-tail, All-take, filter_map-append}
 use Rattle.std.proofs.lemmas.List.FromFn.{get_or-map-range_with_len, length-map-range_with_len}
 use Rattle.std.proofs.lemmas.List.Sorted.{All-permutation}
 use Rattle.elf_image.specs.declared.headers.SectionHeader.{SectionHeader}
@@ -21,21 +21,14 @@ use Rattle.elf_image.proofs.Values.{one_given}
 abbrev pub no_entry : Entry
 no_entry = record { value = 0; index = 0 }
 
--- what holds of a list holds of its first element, and of the others
-first_holds : {X : Type 0} (P : X → Type 0) (x : X) (xs : List X) → All P (x ∷ xs) → P x
-first_holds P x xs all = all 0 x (omega arith)
-
-others_hold : {X : Type 0} (P : X → Type 0) (x : X) (xs : List X) → All P (x ∷ xs) → All P xs
-others_hold P x xs all k d inside = all (suc k) d (omega (arith, inside))
-
 -- what holds of all that a function gives of a list holds of each value that it gives
 one_holds : {Y : Type 0} (P : Y → Type 0) (o : Option Y) (ys : List Y) → All P (cons_option o ys) → IfSome o P
 one_holds P None ys all = tt
-one_holds P (Some y) ys all = first_holds P y ys all
+one_holds P (Some y) ys all = All-head P y ys all
 
 rest_holds : {Y : Type 0} (P : Y → Type 0) (o : Option Y) (ys : List Y) → All P (cons_option o ys) → All P ys
 rest_holds P None ys all = all
-rest_holds P (Some y) ys all = others_hold P y ys all
+rest_holds P (Some y) ys all = All-tail P y ys all
 
 each_given : {X Y : Type 0} (P : Y → Type 0) (h : X → Option Y) (xs : List X) → All P (filter_map h xs) → All (λ x. IfSome (h x) P) xs
 each_given P h [] all = All-nil (λ x. IfSome (h x) P)
@@ -43,7 +36,7 @@ each_given P h (x ∷ xs) all = All-cons (λ y. IfSome (h y) P) x xs (one_holds 
 
 all_kept : {X Y : Type 0} (P : Y → Type 0) (h : X → Option Y) (xs : List X) → All (λ x. IfSome (h x) P) xs → All P (filter_map h xs)
 all_kept P h [] all = All-nil P
-all_kept P h (x ∷ xs) all = one_given P (h x) (filter_map h xs) (first_holds (λ y. IfSome (h y) P) x xs all) (all_kept P h xs (others_hold (λ y. IfSome (h y) P) x xs all))
+all_kept P h (x ∷ xs) all = one_given P (h x) (filter_map h xs) (All-head (λ y. IfSome (h y) P) x xs all) (all_kept P h xs (All-tail (λ y. IfSome (h y) P) x xs all))
 
 -- what a function gives of the values of another
 given_of_map : {X Y Z : Type 0} (h : Y → Option Z) (f : X → Y) (xs : List X) → filter_map h (map f xs) ≡ filter_map (λ x. h (f x)) xs
@@ -79,8 +72,8 @@ module _ (file strings : List ℕ) (table : SectionHeader) where
       → filter (λ s. eqb s.value at) (symbols_of_entries file strings table es) ≡ symbols_of_entries file strings table (filter (λ e. eqb e.value at) es)
   kept_at at [] are = refl
   kept_at at (e ∷ es) are =
-      let value = has_value e (first_holds (IsEntry file table) e es are) in
-      let rest = kept_at at es (others_hold (IsEntry file table) e es are) in
+      let value = has_value e (All-head (IsEntry file table) e es are) in
+      let rest = kept_at at es (All-tail (IsEntry file table) e es are) in
       elim (cases_eq e.value at) as (λ _. filter (λ s. eqb s.value at) (symbols_of_entries file strings table (e ∷ es)) ≡ symbols_of_entries file strings table (filter (λ e. eqb e.value at) (e ∷ es))) [
         | inl here ↦ rw (eq-eqb e.value at here) (kept_here (of_entry e) at (symbols_of_entries file strings table es) (rw here at value) ∙ ap (cons_option (of_entry e)) rest)
         | inr elsewhere ↦ rw (ne_eqb e.value at elsewhere) (kept_elsewhere (of_entry e) e.value at (symbols_of_entries file strings table es) (ne_eqb e.value at elsewhere) value ∙ rest)
@@ -89,8 +82,8 @@ module _ (file strings : List ℕ) (table : SectionHeader) where
   -- where no entry is above a value, no symbol is
   pub none_above : (top : ℕ) (es : List Entry) → All (IsEntry file table) es → All (λ e. e.value ≤ top) es → All (λ s. s.value ≤ top) (symbols_of_entries file strings table es)
   none_above top [] are low = All-nil (λ (s : Symbol). s.value ≤ top)
-  none_above top (e ∷ es) are low = by (of_entry e) (has_value e (first_holds (IsEntry file table) e es are)) (first_holds (λ (x : Entry). x.value ≤ top) e es low)
-      (none_above top es (others_hold (IsEntry file table) e es are) (others_hold (λ (x : Entry). x.value ≤ top) e es low))
+  none_above top (e ∷ es) are low = by (of_entry e) (has_value e (All-head (IsEntry file table) e es are)) (All-head (λ (x : Entry). x.value ≤ top) e es low)
+      (none_above top es (All-tail (IsEntry file table) e es are) (All-tail (λ (x : Entry). x.value ≤ top) e es low))
     where
       by : (o : Option Symbol) → IfSome o (λ s. s.value ≡ e.value) → e.value ≤ top → All (λ s. s.value ≤ top) (symbols_of_entries file strings table es)
           → All (λ s. s.value ≤ top) (cons_option o (symbols_of_entries file strings table es))

@@ -3,6 +3,7 @@ use Rattle.std.proofs.Common.{◌≡◌, ℕ, ◌+◌, ◌-◌, ◌/◌, ◌%◌
 use Rattle.std.specs.List.{count_by, find, range_with_len}
 use Rattle.std.specs.List.Sorted.{IsPermutation}
 use Rattle.std.proofs.lemmas.Bool.{and_from, and_right, le-ltb, lt-ltb}
+use Rattle.std.proofs.Math.Bool.{and_comm}
 use Rattle.std.proofs.lemmas.List.{length-map, map-append, take_more}
 use Rattle.std.proofs.lemmas.List.Recursion.{found_at, found_nowhere}
 use Rattle.std.proofs.lemmas.List.Sorted.{IsPermutation-map, list_any-IsPermutation}
@@ -60,12 +61,6 @@ no_header = record { p_type = 0; p_offset = 0; p_vaddr = 0; p_filesz = 0; p_mems
 
 share-even : (s t : Segment) → share_byte s t ≡ share_byte t s
 share-even s t = and_comm (ltb s.place (t.place + t.size)) (ltb t.place (s.place + s.size))
-  where
-    and_comm : (a b : Bool) → (a && b) ≡ (b && a)
-    and_comm true true = refl
-    and_comm true false = refl
-    and_comm false true = refl
-    and_comm false false = refl
 
 -- overlaps and pages are those of the same segments in another order
 pub overlap-permutation : (file : List ℕ) (hs gs : List ProgramHeader) → IsPermutation hs gs

@@ -1,7 +1,7 @@
 -- The name at an offset of a string table, by the place of the first zero byte within the longest name.
 use Rattle.std.proofs.Common.{◌≡◌, ℕ, ◌+◌, ◌-◌, ◌<◌, ◌≤◌, min, Bool, true, false, not, ◌&&◌, leb, List, length, get_or, take, drop, Option, Some, None, if◌then◌else◌, refl, sym, ap, subst, ◌∙◌, inl, inr, arith}
 use Rattle.std.specs.List.{before_first, list_all, list_any, position, position_or_len}
-use Rattle.std.proofs.lemmas.Bool.{and_left, and_right, cases_lt, le-ltb, lt-leb, lt-ltb}
+use Rattle.std.proofs.lemmas.Bool.{and_left, and_parts, and_right, cases_lt, le-ltb, lt-leb, lt-ltb}
 use Rattle.std.proofs.lemmas.List.{drop_all, get_or-take, get_or_default, length-drop, length-take, take-take}
 use Rattle.std.proofs.lemmas.List.Folds.{length-prefix_len, list_any_at, list_any_none}
 use Rattle.std.proofs.lemmas.List.Quantifiers.{position-Some}
@@ -96,10 +96,6 @@ named_if : (test : Bool) (name found : List ℕ) → (if test then Some name els
 named_if true name found is = (refl, cc is)
 named_if false name found is = absurd (cc is)
 
-both : (a b : Bool) → (a && b) ≡ true → b ≡ true
-both true b is = is
-both false b is = absurd (cc is)
-
 -- it is the first bytes behind the offset, as many as it has
 pub name_there : (strings : List ℕ) (offset : ℕ) (name : List ℕ) → name_in strings offset ≡ Some name →
     (take (length name) (drop offset strings) ≡ name) × (offset + length name ≤ length strings) × (is_name name ≡ true)
@@ -110,7 +106,7 @@ name_there strings offset name is =
     let parts = named_if (list_any is_zero rest && is_name whole) whole name is in
     let long : length whole ≡ position_or_len is_zero rest = length-prefix_len (λ b. not (is_zero b)) rest in
     let size : length name ≡ position_or_len is_zero rest = sym (ap length parts.1) ∙ long in
-    let named : is_name name ≡ true = subst (λ n. is_name n ≡ true) parts.1 (both (list_any is_zero rest) (is_name whole) parts.0) in
+    let named : is_name name ≡ true = subst (λ n. is_name n ≡ true) parts.1 (and_parts (list_any is_zero rest) (is_name whole) parts.0).1 in
     let short = length-take (position_or_len is_zero rest) rest in (
       ap (λ n. take n rest) size ∙ parts.1,
       elim (cases_lt offset (length strings)) as (λ _. offset + length name ≤ length strings) [

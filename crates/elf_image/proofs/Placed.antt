@@ -1,10 +1,10 @@
 -- The first symbols, by the places of their names.
-use Rattle.std.proofs.Common.{◌≡◌, ◌≢◌, ℕ, zero, suc, ◌+◌, ◌-◌, ◌/◌, ◌%◌, ◌<◌, ◌≤◌, true, false, eqb, List, [], ◌∷◌, ◌++◌, length, get_or, map, set, Option, Some, None, refl, sym, ap, subst, ◌∙◌, inl, inr, arith}
+use Rattle.std.proofs.Common.{◌≡◌, ◌≢◌, ℕ, ◌+◌, ◌-◌, ◌/◌, ◌%◌, ◌<◌, ◌≤◌, true, false, eqb, List, [], ◌∷◌, ◌++◌, length, get_or, map, set, Option, Some, None, refl, sym, ap, subst, ◌∙◌, inl, inr, arith}
 use Rattle.std.specs.Prelude.{slice_index}
 use Rattle.std.specs.List.{All, AllPairs, find, slice_get}
 use Rattle.std.specs.Option.{IfSome, option_map}
 use Rattle.std.proofs.lemmas.Bool.{cases_eq, eq-eqb, ne_eqb}
-use Rattle.std.proofs.lemmas.List.{get_or-map, length-map, map-append}
+use Rattle.std.proofs.lemmas.List.{get_or-map, length-map, map-append, map-set}
 use Rattle.std.proofs.lemmas.Option.{slice_get-get_or}
 use Rattle.elf_image.specs.declared.symbols.SymbolPlace.{SymbolPlace}
 use Rattle.elf_image.specs.FirstSymbols.{AreFirst}
@@ -18,11 +18,6 @@ use Rattle.elf_image.proofs.FirstSymbols.{first_kept, first_pushed, first_replac
 -- the place that stands for none
 abbrev pub no_place : SymbolPlace
 no_place = record { value = 0; rank = 0; start = 0; len = 0 }
-
-map_set : {X Y : Type 0} (f : X → Y) (xs : List X) (i : ℕ) (x : X) → map f (set xs i x) ≡ set (map f xs) i (f x)
-map_set f [] i x = refl
-map_set f (y ∷ xs) zero x = refl
-map_set f (y ∷ xs) (suc i) x = ap (λ rest. f y ∷ rest) (map_set f xs i x)
 
 module _ (strings : List ℕ) (items : List SymbolPlace) where
   abbrev symbols : List Symbol
@@ -55,7 +50,7 @@ module _ (strings : List ℕ) (items : List SymbolPlace) where
           AreFirst (seen ++ placed strings s ∷ []) (map (placed strings) (set items (length items - 1) s))
       placed_replaced sooner =
           subst (λ first. AreFirst (seen ++ placed strings s ∷ []) first)
-          (ap (λ n. set symbols (n - 1) (placed strings s)) size ∙ sym (map_set (placed strings) items (length items - 1) s))
+          (ap (λ n. set symbols (n - 1) (placed strings s)) size ∙ sym (map-set (placed strings) items (length items - 1) s))
           (first_replaced seen symbols (placed strings s) before below there tied_too (ap (goes_before (placed strings s)) (at_last some) ∙ sooner))
 
   -- the values of places rise as those of their symbols

@@ -1,7 +1,7 @@
 //! The tests of the file header.
 ghost use Rattle.std.specs.Prelude.{◌≡◌, ◌<◌, ◌≤◌, ◌+◌, ◌*◌, ◌∷◌, [], length, IfOk, IfErr, OnOk};
 ghost use Rattle.elf_image.specs.Headers.{file_header};
-ghost use Rattle.elf_image.specs.Tests.{fails_byte_order, fails_class, fails_file_kind, fails_flags, fails_header_size, fails_header_table, fails_machine, fails_magic, fails_short, fails_version, first_of, header_tests, unless_refused};
+ghost use Rattle.elf_image.specs.Tests.{fails_byte_order, fails_class, fails_file_kind, fails_flags, fails_header_size, fails_header_table, fails_machine, fails_magic, fails_version, first_of, header_tests, unless_refused};
 ghost use Rattle.elf_image.specs.declared.error.ElfError.TheVariants as error;
 
 use crate::ElfError;
@@ -13,7 +13,8 @@ fn check_format(file: &[u8], header: &FileHeader) -> Result<(), ElfError>
     requires header { header.now ≡ file_header file.now }
     ensures { result ≡ unless_refused (first_of
         ((fails_magic file.now, error.Magic) ∷ (fails_class file.now, error.Class)
-        ∷ (fails_byte_order file.now, error.ByteOrder) ∷ (fails_version file.now, error.Version) ∷ [])) }
+        ∷ (fails_byte_order file.now, error.ByteOrder)
+        ∷ (fails_version file.now, error.Version) ∷ [])) }
 {
     if !(file[0] == 0x7f && file[1] == b'E' && file[2] == b'L' && file[3] == b'F') {
         return Err(ElfError::Magic);

@@ -23,7 +23,12 @@ impl Model for Segment {
 
     ghost Value = { spec.Segment };
 
-    ghost view = { λ s. record { place = s.place; size = s.size; rights = s.rights; bytes = s.bytes.items } };
+    ghost view = { λ s. record {
+      place = s.place;
+      size = s.size;
+      rights = s.rights;
+      bytes = s.bytes.items;
+    } };
 }
 
 /// An executable that can be run.

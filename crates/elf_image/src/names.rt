@@ -1,5 +1,5 @@
 //! Which symbol names an address.
-ghost use Rattle.std.specs.Prelude.{◌≡◌, ◌<◌, ◌≤◌, ◌+◌, ◌*◌, ◌/◌, ◌==◌, ◌++◌, ◌∷◌, [], ℕ, List, All, filter, length, map, option_map, IfOk, IfSome, OnOk};
+ghost use Rattle.std.specs.Prelude.{◌≡◌, ◌≤◌, ◌+◌, ◌/◌, ◌==◌, ◌++◌, ◌∷◌, [], ℕ, List, All, filter, length, map, option_map, IfOk, IfSome, OnOk};
 ghost use Rattle.std.specs.List.{cons_option, range_with_len};
 ghost use Rattle.std.specs.List.Sorted.{IsNonDecreasingBy, IsPermutation};
 ghost use Rattle.elf_image.specs.FirstSymbols.{AreFirst, IsEntry, entry_at, symbols_of_entries};
@@ -45,7 +45,8 @@ fn merge_symbol(
     requires named { All (IsNamed strings.now) first.old.items }
     ensures first { (seen : List Symbol) → AreFirst seen (map (placed strings.now) first.old.items)
         → All (λ s. s.value ≤ symbol.value) seen
-        → OnOk result (AreFirst (seen ++ placed strings.now symbol ∷ []) (map (placed strings.now) first.new.items)) }
+        → OnOk result (AreFirst (seen ++ placed strings.now symbol ∷ [])
+        (map (placed strings.now) first.new.items)) }
     ensures named { OnOk result (All (IsNamed strings.now) first.new.items) }
 {
     let len = first.len();
@@ -68,7 +69,9 @@ fn merge_some(
     requires named { All (IsNamed strings.now) first.old.items }
     ensures first { (seen : List Symbol) → AreFirst seen (map (placed strings.now) first.old.items)
         → IfSome symbol (λ s. All (λ t. t.value ≤ s.value) seen)
-        → OnOk result (AreFirst (seen ++ cons_option (option_map (placed strings.now) symbol) []) (map (placed strings.now) first.new.items)) }
+        → OnOk result (AreFirst
+        (seen ++ cons_option (option_map (placed strings.now) symbol) [])
+        (map (placed strings.now) first.new.items)) }
     ensures named { OnOk result (All (IsNamed strings.now) first.new.items) }
 {
     match symbol {

@@ -42,7 +42,8 @@ pub(crate) fn name_of(strings: &[u8], symbol: SymbolPlace) -> &[u8]
 fn search(places: &[SymbolPlace], value: Addr) -> Option<usize>
     requires { AllPairs (λ s t. s.value < t.value) places.now }
     ensures { MatchOption result (find (λ s. s.value == value) places.now ≡ None)
-        (λ place. (place < length places.now) × (find (λ s. s.value == value) places.now ≡ slice_get places.now place)) }
+        (λ place. (place < length places.now)
+        × (find (λ s. s.value == value) places.now ≡ slice_get places.now place)) }
 {
     places
         .binary_search_by_key(&value, |place| place.value)

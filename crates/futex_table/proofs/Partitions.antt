@@ -1,48 +1,38 @@
 -- Lists of waiters, parted one by one.
 use Rattle.std.proofs.Common.{◌≡◌, ◌⊎◌, ℕ, zero, suc, ◌+◌, ◌<◌, ◌≤◌, Bool, true, false, not, ◌||◌, cond, nat_eq, List, [], ◌∷◌, ◌++◌, length, take, map, filter, get_or, refl, sym, ap, ap₂, ◌∙◌, subst, inl, inr, arith}
-use Rattle.std.proofs.lemmas.List.{append-nil, take_more, take-append-le, length-append}
+use Rattle.std.proofs.lemmas.List.{append-nil, take_all, take_more, take-append-le, length-append}
 use Rattle.std.proofs.lemmas.List.Elements.{filter-append}
 use Rattle.std.proofs.lemmas.List.Folds.{list_any-append}
+use Rattle.std.proofs.lemmas.Bool.{eq-eqb, or_parts}
+use Rattle.std.proofs.Math.Bool.{or-false, or-true}
 use Rattle.std.proofs.lemmas.Bool.Decides.{nat_tests}
 use Rattle.guest_words.specs.declared.limits.TheConstants.{THREADS}
 use Rattle.futex_table.specs.declared.waiter.Waiter.{Waiter}
 use Rattle.futex_table.specs.Once.{waits, IsOnce}
 use Rattle.futex_table.specs.Waiting.{waits_at, waiters_at, without, woken, moved_to}
 
--- a disjunction that fails, by its sides
-pub or-left : (a b : Bool) → (a || b) ≡ false → a ≡ false
-or-left false b e = refl
-or-left true b e = absurd (cc)
-
-pub or-right : (a b : Bool) → (a || b) ≡ false → b ≡ false
-or-right false b e = e
-or-right true b e = absurd (cc)
-
 -- who does not wait does not wait in a part of the list
 pub waits-filter : (p : Waiter → Bool) (xs : List Waiter) (t : ℕ) → waits xs t ≡ false → waits (filter p xs) t ≡ false
 waits-filter p [] t e = refl
 waits-filter p (x ∷ xs) t e =
-    let here = or-left (nat_eq x.tid t) (waits xs t) e in
-    let there = waits-filter p xs t (or-right (nat_eq x.tid t) (waits xs t) e) in
+    let here = (or_parts (nat_eq x.tid t) (waits xs t) e).0 in
+    let there = waits-filter p xs t (or_parts (nat_eq x.tid t) (waits xs t) e).1 in
     elim (p x) as (λ b. waits (cond b (x ∷ filter p xs) (filter p xs)) t ≡ false) [ true ↦ ap₂ (λ a b. a || b) here there | false ↦ there ]
 
 pub waits-take : (n : ℕ) (xs : List Waiter) (t : ℕ) → waits xs t ≡ false → waits (take n xs) t ≡ false
 waits-take zero xs t e = refl
 waits-take (suc n) [] t e = refl
 waits-take (suc n) (x ∷ xs) t e =
-    ap₂ (λ a b. a || b) (or-left (nat_eq x.tid t) (waits xs t) e) (waits-take n xs t (or-right (nat_eq x.tid t) (waits xs t) e))
+    ap₂ (λ a b. a || b) (or_parts (nat_eq x.tid t) (waits xs t) e).0 (waits-take n xs t (or_parts (nat_eq x.tid t) (waits xs t) e).1)
 
 -- nor is one of the list the one who does not wait
 other-at : (xs : List Waiter) (t i : ℕ) (d : Waiter) → waits xs t ≡ false → i < length xs → nat_eq (get_or xs i d).tid t ≡ false
 other-at [] t i d e inside = absurd (omega arith)
-other-at (x ∷ xs) t zero d e inside = or-left (nat_eq x.tid t) (waits xs t) e
-other-at (x ∷ xs) t (suc i) d e inside = other-at xs t i d (or-right (nat_eq x.tid t) (waits xs t) e) (omega arith)
+other-at (x ∷ xs) t zero d e inside = (or_parts (nat_eq x.tid t) (waits xs t) e).0
+other-at (x ∷ xs) t (suc i) d e inside = other-at xs t i d (or_parts (nat_eq x.tid t) (waits xs t) e).1 (omega arith)
 
 pub nat_eq-sym : (a b : ℕ) → nat_eq a b ≡ nat_eq b a
 nat_eq-sym a b = grind (arith, nat_tests)
-
-pub nat_eq-refl : (a : ℕ) → nat_eq a a ≡ true
-nat_eq-refl a = grind (arith, nat_tests)
 
 -- in a list where no thread waits twice, who stands at a place does not wait before it
 pub IsOnce-before : (xs : List Waiter) (i : ℕ) (d : Waiter) → IsOnce xs → i < length xs → waits (take i xs) (get_or xs i d).tid ≡ false
@@ -75,35 +65,21 @@ IsOnce-append (x ∷ xs) ys once others apart =
 pub IsOnce-push : (xs : List Waiter) (w : Waiter) → IsOnce xs → waits xs w.tid ≡ false → IsOnce (xs ++ w ∷ [])
 IsOnce-push [] w once new = (refl, tt)
 IsOnce-push (x ∷ xs) w once new =
-    let here : nat_eq w.tid x.tid ≡ false = nat_eq-sym w.tid x.tid ∙ or-left (nat_eq x.tid w.tid) (waits xs w.tid) new in
-    (list_any-append (λ v. nat_eq v.tid x.tid) xs (w ∷ []) ∙ ap₂ (λ a b. a || (b || false)) once.0 here, IsOnce-push xs w once.1 (or-right (nat_eq x.tid w.tid) (waits xs w.tid) new))
+    let here : nat_eq w.tid x.tid ≡ false = nat_eq-sym w.tid x.tid ∙ (or_parts (nat_eq x.tid w.tid) (waits xs w.tid) new).0 in
+    (list_any-append (λ v. nat_eq v.tid x.tid) xs (w ∷ []) ∙ ap₂ (λ a b. a || (b || false)) once.0 here, IsOnce-push xs w once.1 (or_parts (nat_eq x.tid w.tid) (waits xs w.tid) new).1)
 
 -- taking out one more that does not wait in the list changes nothing
 without-other : (xs gone : List Waiter) (w : Waiter) → waits xs w.tid ≡ false → without xs (gone ++ w ∷ []) ≡ without xs gone
 without-other [] gone w new = refl
 without-other (x ∷ xs) gone w new =
-    let here : nat_eq w.tid x.tid ≡ false = nat_eq-sym w.tid x.tid ∙ or-left (nat_eq x.tid w.tid) (waits xs w.tid) new in
+    let here : nat_eq w.tid x.tid ≡ false = nat_eq-sym w.tid x.tid ∙ (or_parts (nat_eq x.tid w.tid) (waits xs w.tid) new).0 in
     let same : waits (gone ++ w ∷ []) x.tid ≡ waits gone x.tid = list_any-append (λ v. nat_eq v.tid x.tid) gone (w ∷ []) ∙ ap (λ b. waits gone x.tid || (b || false)) here ∙ or-false (waits gone x.tid) in
-    ap₂ (λ b rest. cond (not b) (x ∷ rest) rest) same (without-other xs gone w (or-right (nat_eq x.tid w.tid) (waits xs w.tid) new))
-  where
-    or-false : (b : Bool) → (b || false) ≡ b
-    or-false true = refl
-    or-false false = refl
+    ap₂ (λ b rest. cond (not b) (x ∷ rest) rest) same (without-other xs gone w (or_parts (nat_eq x.tid w.tid) (waits xs w.tid) new).1)
 
 -- the last of the list is taken out
 without-last : (gone : List Waiter) (w : Waiter) → without (w ∷ []) (gone ++ w ∷ []) ≡ []
 without-last gone w =
-    ap (λ b. cond (not b) (w ∷ []) []) (list_any-append (λ v. nat_eq v.tid w.tid) gone (w ∷ []) ∙ ap (λ b. waits gone w.tid || (b || false)) (nat_eq-refl w.tid) ∙ or-true (waits gone w.tid))
-  where
-    or-true : (b : Bool) → (b || true) ≡ true
-    or-true true = refl
-    or-true false = refl
-
-take-all : (n : ℕ) (ys : List Waiter) → length ys ≤ n → take n ys ≡ ys
-take-all zero [] le = refl
-take-all zero (y ∷ ys) le = absurd (omega arith)
-take-all (suc n) [] le = refl
-take-all (suc n) (y ∷ ys) le = ap (λ rest. y ∷ rest) (take-all n ys (omega arith))
+    ap (λ b. cond (not b) (w ∷ []) []) (list_any-append (λ v. nat_eq v.tid w.tid) gone (w ∷ []) ∙ ap (λ b. waits gone w.tid || (b || false)) (eq-eqb w.tid w.tid refl) ∙ or-true (waits gone w.tid))
 
 -- fewer than n were taken of a list that is no longer
 length-take-below : (n : ℕ) (ys : List Waiter) → length (take n ys) < n → length ys < n
@@ -122,9 +98,9 @@ pub part_taken : (xs : List Waiter) (w : Waiter) (at bits most : ℕ) → waits 
 part_taken xs w at bits most new passes few =
     let found = waiters_at xs at bits in
     let short : length found < most = length-take-below most found few in
-    let all : take most found ≡ found = take-all most found (omega arith) in
+    let all : take most found ≡ found = take_all most found (omega arith) in
     let more : waiters_at (xs ++ w ∷ []) at bits ≡ found ++ w ∷ [] = filter-append (waits_at at bits) xs (w ∷ []) ∙ ap (λ b. found ++ cond b (w ∷ []) []) passes in
-    let taken : woken (xs ++ w ∷ []) at most bits ≡ woken xs at most bits ++ w ∷ [] = ap (take most) more ∙ take-all most (found ++ w ∷ []) (omega (arith, length-append found (w ∷ []))) ∙ ap (λ front. front ++ w ∷ []) (sym all) in
+    let taken : woken (xs ++ w ∷ []) at most bits ≡ woken xs at most bits ++ w ∷ [] = ap (take most) more ∙ take_all most (found ++ w ∷ []) (omega (arith, length-append found (w ∷ []))) ∙ ap (λ front. front ++ w ∷ []) (sym all) in
     let gone = woken xs at most bits in
     (taken, ap (without (xs ++ w ∷ [])) taken ∙ filter-append (λ v. not (waits (gone ++ w ∷ []) v.tid)) xs (w ∷ []) ∙ ap₂ (λ a b. a ++ b) (without-other xs gone w new) (without-last gone w) ∙ append-nil (without xs gone))
 

@@ -1,15 +1,13 @@
 -- Waiters who are woken one after another.
-use Rattle.std.proofs.Common.{◌≡◌, ℕ, zero, suc, Bool, true, false, not, ◌&&◌, ◌||◌, cond, nat_eq, List, [], ◌∷◌, length, take, filter, Option, Some, None, refl, sym, ap, ap₂, ◌∙◌, arith}
+use Rattle.std.proofs.Common.{◌≡◌, ℕ, zero, suc, Bool, true, false, not, ◌||◌, cond, nat_eq, List, [], ◌∷◌, take, filter, Some, None, refl, sym, ap, ap₂, ◌∙◌, arith}
 use Rattle.std.specs.List.{find}
 use Rattle.std.proofs.lemmas.Bool.Decides.{nat_tests}
+use Rattle.std.proofs.lemmas.Bool.{eq-eqb, or_parts}
+use Rattle.std.proofs.Math.Bool.{or-true}
 use Rattle.futex_table.specs.declared.waiter.Waiter.{Waiter}
 use Rattle.futex_table.specs.Once.{waits, IsOnce}
-use Rattle.futex_table.specs.Waiting.{waits_at, waiters_at, first_at, without, woken, after_wake, after_forget}
-use Rattle.futex_table.proofs.Partitions.{or-left, or-right, nat_eq-sym, nat_eq-refl, IsOnce-filter}
-
-or-true : (b : Bool) → (b || true) ≡ true
-or-true true = refl
-or-true false = refl
+use Rattle.futex_table.specs.Waiting.{waits_at, first_at, without, woken, after_wake, after_forget}
+use Rattle.futex_table.proofs.Partitions.{nat_eq-sym}
 
 some-same : {v w : Waiter} → Some v ≡ Some w → v ≡ w
 some-same e = cc
@@ -26,8 +24,8 @@ apart t q ws out inside = by_test (nat_eq t q) refl
 pub forget-none : (ws : List Waiter) (t : ℕ) → waits ws t ≡ false → after_forget ws t ≡ ws
 forget-none [] t out = refl
 forget-none (w ∷ ws) t out =
-    let here = or-left (nat_eq w.tid t) (waits ws t) out in
-    let there = forget-none ws t (or-right (nat_eq w.tid t) (waits ws t) out) in
+    let here = (or_parts (nat_eq w.tid t) (waits ws t) out).0 in
+    let there = forget-none ws t (or_parts (nat_eq w.tid t) (waits ws t) out).1 in
     ap (λ (b : Bool). cond (not b) (w ∷ after_forget ws t) (after_forget ws t)) here ∙ ap (λ (xs : List Waiter). w ∷ xs) there
 
 -- the first that waits is one of the list
@@ -36,7 +34,7 @@ found-waits p [] v is = absurd (cc)
 found-waits p (w ∷ ws) v is = by_test (p w) is (found-waits p ws v)
   where
     by_test : (b : Bool) → cond b (Some w) (find p ws) ≡ Some v → (find p ws ≡ Some v → waits ws v.tid ≡ true) → (nat_eq w.tid v.tid || waits ws v.tid) ≡ true
-    by_test true is rest = let same : w ≡ v = some-same is in ap (λ (x : Waiter). nat_eq x.tid v.tid || waits ws v.tid) same ∙ ap (λ (b : Bool). b || waits ws v.tid) (nat_eq-refl v.tid)
+    by_test true is rest = let same : w ≡ v = some-same is in ap (λ (x : Waiter). nat_eq x.tid v.tid || waits ws v.tid) same ∙ ap (λ (b : Bool). b || waits ws v.tid) (eq-eqb v.tid v.tid refl)
     by_test false is rest = ap (λ (b : Bool). nat_eq w.tid v.tid || b) (rest is) ∙ or-true (nat_eq w.tid v.tid)
 
 -- those who wait there are the first of them and those who wait there without it
@@ -47,7 +45,7 @@ first-rest p (w ∷ ws) v once is = by_test (p w) refl is (first-rest p ws v onc
     by_test : (b : Bool) → p w ≡ b → cond b (Some w) (find p ws) ≡ Some v → (find p ws ≡ Some v → filter p ws ≡ v ∷ filter p (after_forget ws v.tid)) → cond b (w ∷ filter p ws) (filter p ws) ≡ v ∷ filter p (after_forget (w ∷ ws) v.tid)
     by_test true test is rest =
         let same : w ≡ v = some-same is in
-        let gone : after_forget (w ∷ ws) w.tid ≡ ws = ap (λ (b : Bool). cond (not b) (w ∷ after_forget ws w.tid) (after_forget ws w.tid)) (nat_eq-refl w.tid) ∙ forget-none ws w.tid once.0 in
+        let gone : after_forget (w ∷ ws) w.tid ≡ ws = ap (λ (b : Bool). cond (not b) (w ∷ after_forget ws w.tid) (after_forget ws w.tid)) (eq-eqb w.tid w.tid refl) ∙ forget-none ws w.tid once.0 in
         ap (λ (xs : List Waiter). w ∷ filter p xs) (sym gone) ∙ ap (λ (x : Waiter). x ∷ filter p (after_forget (w ∷ ws) x.tid)) same
     by_test false test is rest =
         let other : nat_eq w.tid v.tid ≡ false = apart w.tid v.tid ws once.0 (found-waits p ws v is) in

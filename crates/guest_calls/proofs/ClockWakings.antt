@@ -4,6 +4,7 @@ use Rattle.std.specs.Prelude.{not, ◌||◌, ◌==◌, All, max, slice_index_or,
 use Rattle.std.specs.Option.{option_map}
 use Rattle.std.proofs.lemmas.Bool.{eq-eqb}
 use Rattle.std.proofs.lemmas.Bool.Decides.{nat_tests}
+use Rattle.std.proofs.Math.Bool.{or-true}
 use Rattle.virtual_clock.specs.declared.deadline.Deadline.{Deadline}
 use Rattle.virtual_clock.specs.Once.{has}
 use Rattle.virtual_clock.specs.Order.{IsEarliest, due_now, due_of, first_of}
@@ -52,10 +53,6 @@ due-first ds now d is = by (first_of ds) is
     by : (o : Option Deadline) → due_now o now ≡ Some d → o ≡ Some d
     by None is = absurd (cc)
     by (Some e) is = by_test (nat_le e.at now) e is
-
-pub or-true : (b : Bool) → (b || true) ≡ true
-or-true true = refl
-or-true false = refl
 
 -- who has one of the deadlines has a deadline
 pub has-at : (ds : List Deadline) (i : ℕ) (d : Deadline) → i < length ds → has ds (slice_index_or ds i d).tid ≡ true

@@ -49,17 +49,6 @@ pub record IsWaking (old k : KernelState) (at bits most done : ℕ) : Type 0 whe
   pub able : (tid : ℕ) → can_run old tid ≡ true → can_run k tid ≡ true
   pub inside : done ≤ most
 
-pub none_woken : (k : KernelState) (at bits most : ℕ) → IsWaking k k at bits most 0
-none_woken k at bits most =
-    let all : most - 0 ≡ most = omega arith in
-    let same : length (woken k.waiting at (most - 0) bits) ≡ length (woken k.waiting at most bits) = ap (λ (n : ℕ). length (woken k.waiting at n bits)) all in
-    record {
-      state = ap (λ (n : ℕ). woken_at at n bits k) all;
-      count = omega (arith, same);
-      able = λ tid can. can;
-      inside = omega arith;
-    }
-
 one_able : (k : KernelState) (v : Waiter) (tid : ℕ) → can_run k tid ≡ true → can_run (unblocked v.tid k) tid ≡ true
 one_able k v tid can = still_can_run k (λ w. not (w.tid == v.tid)) (λ d. not (d.tid == v.tid)) tid can
 

@@ -92,7 +92,8 @@ impl State {
     ) -> Answer
         requires room { 1 ≤ events.old.room }
         ensures does { Does (specs.clock_gettime
-            (asked caller.now self.now memory.old held.old)) result self.now memory.new held.new events.old events.new }
+            (asked caller.now self.now memory.old held.old)) result
+            self.now memory.new held.new events.old events.new }
         ensures room { events.old.room ≤ events.new.room + 1 }
     {
         if !is_clock(caller.argument(0)) {
@@ -159,7 +160,8 @@ impl State {
         requires room { 1 ≤ events.old.room }
         ensures does { (held : Reservations) → Does
             (specs.clock_nanosleep
-            (asked caller.now self.old memory.now held)) result self.new memory.now held events.old events.new }
+            (asked caller.now self.old memory.now held)) result
+            self.new memory.now held events.old events.new }
         ensures room { events.old.room ≤ events.new.room + 1 }
     {
         if !is_clock(caller.argument(0)) {

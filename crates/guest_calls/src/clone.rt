@@ -138,7 +138,8 @@ impl State {
     ) -> Answer
         requires room { 2 ≤ events.old.room }
         ensures does { Does (specs.clone
-            (asked caller.now self.old memory.old held.old)) result self.new memory.new held.new events.old events.new }
+            (asked caller.now self.old memory.old held.old)) result
+            self.new memory.new held.new events.old events.new }
         ensures room { events.old.room ≤ events.new.room + 2 }
     {
         let (flags, parent, child) = (caller.argument(0), caller.argument(2), caller.argument(4));

@@ -1,8 +1,8 @@
 //! The calls on one file: openat(2), close(2), _llseek(2) and read(2).
-ghost use Rattle.std.specs.Prelude.{◌≡◌, ◌<◌, ◌≤◌, ◌+◌, ◌*◌, ◌^◌, ◌-◌, ◌||◌, drop, take, pos, ◌+ℤ◌, unsigned_abs, length, true, false, IfSome, IfNone};
+ghost use Rattle.std.specs.Prelude.{◌≡◌, ◌<◌, ◌≤◌, ◌+◌, ◌*◌, ◌^◌, drop, take, pos, ◌+ℤ◌, unsigned_abs, length, true, false, IfSome, IfNone};
 ghost use Rattle.std.specs.List.{position};
 ghost use Rattle.std.specs.Int.{w64, cast_signed};
-ghost use Rattle.guest_calls.specs.Files.{is_closed, bytes_left, is_out_of_range, least_free, origin};
+ghost use Rattle.guest_calls.specs.Files.{is_closed, bytes_left, is_out_of_range, origin};
 ghost use Rattle.guest_calls.specs.Files as specs;
 ghost use Rattle.guest_calls.specs.Invariant.{IsSoundDescriptor, position_of};
 ghost use Rattle.guest_calls.specs.Kernel.{descriptor, with_descriptor};
@@ -93,7 +93,8 @@ impl State {
     ) -> Answer
         requires room { 1 ≤ events.old.room }
         ensures does { Does (specs.read
-            (asked caller.now self.old memory.old held.old)) result self.new memory.new held.new events.old events.new }
+            (asked caller.now self.old memory.old held.old)) result
+            self.new memory.new held.new events.old events.new }
         ensures room { events.old.room ≤ events.new.room + 1 }
     {
         let (fd, at) = (caller.argument(0), caller.argument(1));
@@ -150,7 +151,8 @@ impl State {
     ) -> Answer
         requires room { 1 ≤ events.old.room }
         ensures does { Does (specs.llseek
-            (asked caller.now self.old memory.old held.old)) result self.new memory.new held.new events.old events.new }
+            (asked caller.now self.old memory.old held.old)) result
+            self.new memory.new held.new events.old events.new }
         ensures room { events.old.room ≤ events.new.room + 1 }
     {
         let (fd, result_at, whence) = (caller.argument(0), caller.argument(3), caller.argument(4));

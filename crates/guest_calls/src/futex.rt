@@ -254,7 +254,8 @@ impl State {
         requires room { 2 ≤ events.old.room }
         ensures does { (held : Reservations)
             → let c = asked caller.now self.old memory.now held in Does
-            (waited c bits (wait_end operation c)) result self.new memory.now held events.old events.new }
+            (waited c bits (wait_end operation c)) result
+            self.new memory.now held events.old events.new }
         ensures room { events.old.room ≤ events.new.room + 2 }
     {
         let end = self.wait_end(memory, caller, operation);
@@ -332,7 +333,8 @@ impl State {
         requires can_run { can_run self.old caller.now.tid ≡ true }
         requires room { 2 ≤ events.old.room }
         ensures does { (held : Reservations) → Does
-            (specs.futex (asked caller.now self.old memory.now held)) result self.new memory.now held events.old events.new }
+            (specs.futex (asked caller.now self.old memory.now held)) result
+            self.new memory.now held events.old events.new }
         ensures room { events.old.room ≤ events.new.room + 2 }
     {
         let Some(operation) = Operation::numbered(caller.argument(1) & NUMBER_BITS) else {

@@ -71,8 +71,11 @@ impl Kernel {
         requires can_run { can_run self.old.state tid ≡ true }
         requires break_free { IsBreakFree (memory_of memory.old) self.old.state.program_break }
         ensures call { IfOk result (λ answer. Gives
-            (call (asked (record { tid = tid; cpu = cpu.now }) self.old.state memory.old held.old)) answer self.new memory.new held.new events.old events.new) }
-        ensures refused { OnErr result (IsAsBefore self.old self.new memory.old memory.new held.old held.new events.old events.new) }
+            (call (asked (record { tid = tid; cpu = cpu.now })
+            self.old.state memory.old held.old)) answer
+            self.new memory.new held.new events.old events.new) }
+        ensures refused { OnErr result (IsAsBefore self.old self.new
+            memory.old memory.new held.old held.new events.old events.new) }
         ensures break_free { IsBreakFree (memory_of memory.new) self.new.state.program_break }
         ensures room { events.old.room ≤ events.new.room + CALL_EVENTS }
     {
@@ -90,8 +93,9 @@ impl Kernel {
     }
 
     /// Carries out the call that the thread's registers hold: the number in a7, the arguments in a0 to a5. The thread can run,
-    /// so it does not wait and has no deadline. The call is a step, so that the time goes on first. The copies from and to the guest are added to the events, in order, at most `CALL_EVENTS`
-    /// of them; that a thread is born or ends is not. All memory is taken before anything changes.
+    /// so it does not wait and has no deadline. The call is a step, so that the time goes on first. The copies from and to the
+    /// guest are added to the events, in order, at most `CALL_EVENTS` of them; that a thread is born or ends is not. All memory
+    /// is taken before anything changes.
     pub fn call(
         &mut self,
         memory: &mut GuestMemory,
@@ -104,8 +108,10 @@ impl Kernel {
         requires break_free { IsBreakFree (memory_of memory.old) self.old.state.program_break }
         ensures call { IfOk result (λ answer. Gives
             (call (asked (record { tid = tid; cpu = cpu.now })
-            (later self.old.state) memory.old held.old)) answer self.new memory.new held.new events.old events.new) }
-        ensures refused { OnErr result (IsAsBefore self.old self.new memory.old memory.new held.old held.new events.old events.new) }
+            (later self.old.state) memory.old held.old)) answer
+            self.new memory.new held.new events.old events.new) }
+        ensures refused { OnErr result (IsAsBefore self.old self.new
+            memory.old memory.new held.old held.new events.old events.new) }
         ensures break_free { IsBreakFree (memory_of memory.new) self.new.state.program_break }
         ensures state { IsState self.new.state }
         ensures room { events.old.room ≤ events.new.room + CALL_EVENTS }

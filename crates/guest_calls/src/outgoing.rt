@@ -28,12 +28,14 @@ pub(crate) struct Outgoing {
 impl Model for Outgoing {
     ghost use Rattle.std.specs.Prelude.{◌≡◌, ◌≤◌, ℕ, List, Option, take, length};
     ghost use Rattle.guest_calls.specs.Kernel.{output};
+    ghost use Rattle.guest_calls.specs.declared.outgoing.TheConstants.{WRITE_LIMIT};
 
     ghost Value = { Option (ℕ × List ℕ) };
 
     ghost view = { λ o. output o.channel (take o.count o.buffer.items) };
 
-    ghost invariant = { λ o. (length o.buffer.items ≡ 65536) × (o.count ≤ 65536) × (1 ≤ o.channel) × (o.channel ≤ 2) };
+    ghost invariant = { λ o. (length o.buffer.items ≡ WRITE_LIMIT) × (o.count ≤ WRITE_LIMIT)
+        × (1 ≤ o.channel) × (o.channel ≤ 2) };
 }
 
 impl Outgoing {
@@ -70,7 +72,7 @@ impl Outgoing {
     /// Bytes of the guest's memory go out, each of which can be read.
     pub fn put(&mut self, channel: u32, memory: &GuestMemory, at: Addr, count: u32)
         requires channel { (1 ≤ channel) × (channel ≤ 2) }
-        requires few { count ≤ 65536 }
+        requires few { count ≤ WRITE_LIMIT }
         requires reach { can_read (memory_of memory.now) at count ≡ true }
         ensures { self.new ≡ output channel (bytes_at (memory_of memory.now) at count) }
     {
@@ -82,7 +84,7 @@ impl Outgoing {
     /// The bytes of the parts go out, each of which can be read.
     pub fn put_parts(&mut self, channel: u32, memory: &GuestMemory, parts: &[IoVec])
         requires channel { (1 ≤ channel) × (channel ≤ 2) }
-        requires few { total parts.now ≤ 65536 }
+        requires few { total parts.now ≤ WRITE_LIMIT }
         requires reach { all_in_reach (can_read (memory_of memory.now)) parts.now ≡ true }
         ensures { self.new ≡ output channel (bytes_of (memory_of memory.now) parts.now) }
     {

@@ -150,7 +150,8 @@ fn is_private(flags: u32) -> bool
 pub(crate) fn mmap2(memory: &mut GuestMemory, caller: &Caller) -> Result<Answer, AllocError>
     ensures does { (state : KernelState) (held : Reservations) (events : EventList)
         → IfOk result (λ answer. Does
-        (specs.mmap2 (asked caller.now state memory.old held)) answer state memory.new held events events) }
+        (specs.mmap2 (asked caller.now state memory.old held)) answer
+        state memory.new held events events) }
     ensures refused { OnErr result (memory_of memory.new ≡ memory_of memory.old) }
     ensures high { (page : ℕ) → page < 0x40000
         → (memory_of memory.new).rights page ≡ (memory_of memory.old).rights page }
@@ -191,7 +192,8 @@ impl State {
         requires break_free { IsBreakFree (memory_of memory.old) self.old.program_break }
         ensures does { (held : Reservations) (events : EventList)
             → IfOk result (λ answer. Does
-            (specs.brk (asked caller.now self.old memory.old held)) answer self.new memory.new held events events) }
+            (specs.brk (asked caller.now self.old memory.old held)) answer
+            self.new memory.new held events events) }
         ensures memory_refused { OnErr result (memory_of memory.new ≡ memory_of memory.old) }
         ensures state_refused { OnErr result (self.new ≡ self.old) }
         ensures break_free { IsBreakFree (memory_of memory.new) self.new.program_break }

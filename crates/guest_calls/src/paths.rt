@@ -92,7 +92,8 @@ impl State {
     ) -> Answer
         requires room { 1 ≤ events.old.room }
         ensures does { (held : Reservations) → Does
-            (specs.openat (asked caller.now self.old memory.now held)) result self.new memory.now held events.old events.new }
+            (specs.openat (asked caller.now self.old memory.now held)) result
+            self.new memory.now held events.old events.new }
         ensures room { events.old.room ≤ events.new.room + 1 }
     {
         let path = caller.argument(1);

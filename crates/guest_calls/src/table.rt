@@ -45,11 +45,13 @@ impl State {
         requires can_run { can_run self.old caller.now.tid ≡ true }
         requires break_free { IsBreakFree (memory_of memory.old) self.old.program_break }
         requires room { CALL_EVENTS ≤ events.old.room }
-        requires no_write { slice_index caller.now.cpu.regs 17 ≢ 64 }
-        requires no_writev { slice_index caller.now.cpu.regs 17 ≢ 66 }
+        requires no_write { slice_index caller.now.cpu.regs 17 ≢ WRITE }
+        requires no_writev { slice_index caller.now.cpu.regs 17 ≢ WRITEV }
         ensures does { IfOk result (λ answer. Does
-            (call (asked caller.now self.old memory.old held.old)) answer self.new memory.new held.new events.old events.new) }
-        ensures refused { OnErr result (IsUntouched self.old self.new memory.old memory.new held.old held.new events.old events.new) }
+            (call (asked caller.now self.old memory.old held.old)) answer
+            self.new memory.new held.new events.old events.new) }
+        ensures refused { OnErr result (IsUntouched self.old self.new
+            memory.old memory.new held.old held.new events.old events.new) }
         ensures room { events.old.room ≤ events.new.room + CALL_EVENTS }
     {
         match caller.number() {

@@ -61,7 +61,8 @@ impl State {
         requires can_run { can_run self.old caller.now.tid ≡ true }
         requires room { 1 ≤ events.old.room }
         ensures does { Does (specs.exit
-            (asked caller.now self.old memory.old held.old)) result self.new memory.new held.new events.old events.new }
+            (asked caller.now self.old memory.old held.old)) result
+            self.new memory.new held.new events.old events.new }
         ensures room { events.old.room ≤ events.new.room + 1 }
     {
         let tid = caller.tid;
@@ -147,7 +148,8 @@ impl State {
     pub(crate) fn exit_group(&mut self, held: &mut Reservations, caller: &Caller) -> Answer
         ensures { (memory : GuestMemory) (events : EventList)
             → Does (specs.exit_group
-            (asked caller.now self.old memory held.old)) result self.new memory held.new events events }
+            (asked caller.now self.old memory held.old)) result
+            self.new memory held.new events events }
     {
         self.threads.clear();
         self.waiting.clear();
@@ -198,7 +200,8 @@ pub(crate) fn rt_sigprocmask(
     requires room { 1 ≤ events.old.room }
     ensures does { (state : KernelState) → Does
         (specs.rt_sigprocmask
-        (asked caller.now state memory.old held.old)) result state memory.new held.new events.old events.new }
+        (asked caller.now state memory.old held.old)) result
+        state memory.new held.new events.old events.new }
     ensures room { events.old.room ≤ events.new.room + 1 }
 {
     let old = caller.argument(2);

@@ -1,6 +1,5 @@
 //! The calls on files in parts: readv(2) and writev(2).
 ghost use Rattle.std.specs.Prelude.{◌≡◌, ◌≤◌, ◌<◌, ◌+◌, ◌*◌, ◌^◌, ◌++◌, take, length, vec_len, true, None, IfOk, IfErr, OnErr};
-ghost use Rattle.guest_memory.specs.declared.reservations.Reservations.{Reservations};
 ghost use Rattle.guest_memory.specs.Guest.{memory_of};
 ghost use Rattle.guest_memory.specs.Memory.{number_at};
 ghost use Rattle.rv_exec.specs.Accesses.{can_read, can_write};
@@ -237,8 +236,10 @@ impl State {
     ) -> Result<Answer, AllocError>
         requires room { CALL_EVENTS ≤ events.old.room }
         ensures does { IfOk result (λ answer. Does
-            (specs.readv (asked caller.now self.old memory.old held.old)) answer self.new memory.new held.new events.old events.new) }
-        ensures refused { OnErr result (IsUntouched self.old self.new memory.old memory.new held.old held.new events.old events.new) }
+            (specs.readv (asked caller.now self.old memory.old held.old)) answer
+            self.new memory.new held.new events.old events.new) }
+        ensures refused { OnErr result (IsUntouched self.old self.new
+            memory.old memory.new held.old held.new events.old events.new) }
         ensures room { events.old.room ≤ events.new.room + CALL_EVENTS }
     {
         let (fd, at, count) = (caller.argument(0), caller.argument(1), caller.argument(2));

@@ -35,7 +35,8 @@ impl Kernel {
     ) -> Answer
         requires room { 1 ≤ events.old.room }
         ensures does { (held : Reservations) → Gives
-            (write (asked caller.now self.old.state memory.now held)) result self.new memory.now held events.old events.new }
+            (write (asked caller.now self.old.state memory.now held)) result
+            self.new memory.now held events.old events.new }
         ensures room { events.old.room ≤ events.new.room + 1 }
     {
         self.outgoing.clear();
@@ -62,7 +63,8 @@ impl Kernel {
         requires room { CALL_EVENTS ≤ events.old.room }
         ensures does { (held : Reservations) → IfOk result
             (λ answer. Gives
-            (writev (asked caller.now self.old.state memory.now held)) answer self.new memory.now held events.old events.new) }
+            (writev (asked caller.now self.old.state memory.now held)) answer
+            self.new memory.now held events.old events.new) }
         ensures refused { (held : Reservations) → OnErr result
             (IsAsBefore self.old self.new memory.now memory.now held held events.old events.new) }
         ensures room { events.old.room ≤ events.new.room + CALL_EVENTS }

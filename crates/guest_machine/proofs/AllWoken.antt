@@ -4,6 +4,7 @@ use Rattle.std.specs.Prelude.{not, ◌&&◌, ◌||◌, ◌==◌, is_some, All, s
 use Rattle.std.specs.Option.{option_map, unwrap_or}
 use Rattle.std.specs.List.{find, list_any}
 use Rattle.std.proofs.lemmas.Bool.{eq-eqb, eqb-true, or_parts}
+use Rattle.std.proofs.Math.Bool.{and-false, or-true}
 use Rattle.std.proofs.lemmas.Bool.Decides.{nat_tests}
 use Rattle.futex_table.specs.declared.waiter.Waiter.{Waiter}
 use Rattle.futex_table.specs.Once.{waits}
@@ -19,7 +20,7 @@ use Rattle.guest_calls.specs.Invariant.{IsState}
 use Rattle.guest_calls.specs.Kernel.{KernelState, is_blocked, is_thread, unblocked}
 use Rattle.guest_calls.specs.Waking.{moved_on, next_due, no_sooner, some_can_run, woken_by, woken_by_time}
 use Rattle.guest_calls.proofs.Blocked.{unblocked_state}
-use Rattle.guest_calls.proofs.ClockWakings.{awake, due-first, due_lives, has-at, moved_able, moved_deadlines, moved_none, none_due_of_none, one_less, or-true}
+use Rattle.guest_calls.proofs.ClockWakings.{awake, due-first, due_lives, has-at, moved_able, moved_deadlines, moved_none, none_due_of_none, one_less}
 use Rattle.guest_calls.proofs.Times.{at_time_is_state}
 use Rattle.guest_machine.specs.Laws.{EveryWakingAnswers, EveryWakingTakesTheDue, due_answer, with_due}
 use Rattle.guest_words.specs.ByThread.{value_of}
@@ -113,10 +114,6 @@ only_one e ds i d once inside is here =
     let same : e.tid ≡ d.tid = eqb-true e.tid d.tid here in
     let bad : true ≡ false = sym own ∙ ap (has ds) (sym same) ∙ once.0 in
     cc
-
-and-false : (b : Bool) → (b && false) ≡ false
-and-false true = refl
-and-false false = refl
 
 later_forget : (ds : List Deadline) (now : ℕ) (i : ℕ) (d : Deadline) → IsOnce ds → i < length ds → slice_index_or ds i d ≡ d → d.at ≤ now →
     filter (λ (e : Deadline). nat_lt now e.at) (after_forget ds d.tid) ≡ filter (λ (e : Deadline). nat_lt now e.at) ds

@@ -4,6 +4,7 @@ use Rattle.std.specs.Prelude.{◌==◌, ◌&&◌, ◌||◌, not, nat_eq, filter,
 use Rattle.std.specs.List.{list_any}
 use Rattle.std.proofs.lemmas.Bool.{cases_eq, eq-eqb}
 use Rattle.std.proofs.lemmas.Bool.Decides.{nat_tests}
+use Rattle.std.proofs.Math.Bool.{and-false, or-false, or-true}
 use Rattle.std.proofs.lemmas.List.{reverse-append}
 use Rattle.std.proofs.lemmas.List.Folds.{list_any-append}
 use Rattle.guest_words.specs.declared.endings.FaultKind.{FaultKind}
@@ -194,11 +195,7 @@ other_end n t tid h k = grind (arith, nat_tests, h, k)
 
 any_left : (tids : List ℕ) (tid t : ℕ) → (not (nat_eq t tid) && list_any (λ k. k == t) tids) ≡ list_any (λ k. k == t)
     (filter (λ n. not (n == tid)) tids)
-any_left [] tid t = by (nat_eq t tid)
-  where
-    by : (b : Bool) → (not b && false) ≡ false
-    by true = refl
-    by false = refl
+any_left [] tid t = and-false (not (nat_eq t tid))
 any_left (n ∷ tids) tid t =
     gone_by (n == tid) (n == t) (nat_eq t tid) (list_any (λ k. k == t) tids) (same_end n t tid) (other_end n t tid)
     ∙ ap (λ x. cond (not (n == tid)) ((n == t) || x) x) (any_left tids tid t)
@@ -238,20 +235,12 @@ born_live child t x = elim (cases_eq t child) [
   | inl same ↦
       let is : nat_eq t child ≡ true = grind (arith, nat_tests, same) in
       let back : (child == t) ≡ true = grind (arith, nat_tests, same) in
-      ap (λ (b : Bool). b || x) is ∙ sym (ap (λ (b : Bool). x || (b || false)) back ∙ last x)
+      ap (λ (b : Bool). b || x) is ∙ sym (ap (λ (b : Bool). x || (b || false)) back ∙ or-true x)
   | inr differs ↦
       let is : nat_eq t child ≡ false = grind (arith, nat_tests, differs) in
       let back : (child == t) ≡ false = grind (arith, nat_tests, differs) in
-      ap (λ (b : Bool). b || x) is ∙ sym (ap (λ (b : Bool). x || (b || false)) back ∙ none x)
+      ap (λ (b : Bool). b || x) is ∙ sym (ap (λ (b : Bool). x || (b || false)) back ∙ or-false x)
 ]
-  where
-    last : (b : Bool) → (b || true) ≡ true
-    last true = refl
-    last false = refl
-
-    none : (b : Bool) → (b || false) ≡ b
-    none true = refl
-    none false = refl
 
 -- the threads that start and end by a call
 life_follows : (answer : Answer) (harts : List Hart) (tid : ℕ) (past : List Event) (old new : KernelState) →

@@ -11,7 +11,7 @@ use Rattle.guest_memory.proofs.Counts.{count_of_change, one}
 use Rattle.guest_memory.proofs.PageChanges.{among_other}
 use Rattle.guest_memory.proofs.Accesses.{none_of}
 use Rattle.std.proofs.lemmas.List.Sums.{sum_by-cons}
-use Rattle.std.proofs.Math.Bool.{or-false}
+use Rattle.std.proofs.Math.Bool.{or-false, or-true, or_assoc}
 use Rattle.elf_image.specs.Image.{Executable, IsPlaced, Segment, is_touched, page_count, touches}
 use Rattle.guest_machine.specs.Setup.{AreRights, mapped_below, pages_of}
 use Rattle.guest_machine.specs.Start.{first_break, image_memory, joined, rights_or_none, segment_rights, stack_page, stack_rights, start_memory, with_segment}
@@ -30,10 +30,6 @@ is_some-with page r s = by_touch (touches s page) r
     by_touch false None = refl
     by_touch false (Some p) = refl
 
-or_assoc : (a b c : Bool) → ((a || b) || c) ≡ (a || (b || c))
-or_assoc true b c = refl
-or_assoc false b c = refl
-
 some_folded : (page : ℕ) (segments : List Segment) (r : Option Rights) → is_some (fold (with_segment page) r segments) ≡ (is_some r || is_touched segments page)
 some_folded page [] r = sym (or-false (is_some r))
 some_folded page (s ∷ segments) r =
@@ -48,11 +44,7 @@ rights-touched segments page = some_folded page segments None
 touched_at : (segments : List Segment) (i : ℕ) (d : Segment) (page : ℕ) → i < length segments → touches (get_or segments i d) page ≡ true → is_touched segments page ≡ true
 touched_at [] i d page within is = absurd (omega (arith, within))
 touched_at (s ∷ segments) zero d page within is = rw is refl
-touched_at (s ∷ segments) (suc i) d page within is = ap (λ b. touches s page || b) (touched_at segments i d page (omega (arith, within)) is) ∙ or_true (touches s page)
-  where
-    or_true : (b : Bool) → (b || true) ≡ true
-    or_true true = refl
-    or_true false = refl
+touched_at (s ∷ segments) (suc i) d page within is = ap (λ b. touches s page || b) (touched_at segments i d page (omega (arith, within)) is) ∙ or-true (touches s page)
 
 byte_touches : (s : Segment) (q : ℕ) → IsPlaced s → s.place ≤ q → q < s.place + length s.bytes → touches s (q / 4096) ≡ true
 byte_touches s q placed low high =

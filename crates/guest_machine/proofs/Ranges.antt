@@ -1,5 +1,5 @@
 -- The numbers that a step tells are in their ranges.
-use Rattle.std.proofs.Common.{◌≡◌, ℕ, zero, suc, ◌+◌, ◌*◌, ◌/◌, ◌%◌, ◌^◌, ◌<◌, ◌≤◌, ◌&&◌, Bool, true, false, List, [], ◌∷◌, ◌++◌, length, map, Option, Some, None, Ok, Err, refl, sym, subst, arith}
+use Rattle.std.proofs.Common.{ℕ, zero, suc, ◌+◌, ◌*◌, ◌/◌, ◌%◌, ◌^◌, ◌&&◌, Bool, true, false, List, [], ◌∷◌, ◌++◌, length, map, Option, Some, None, Ok, Err, sym, subst, arith}
 use Rattle.std.specs.Prelude.{Result, ℤ, pos, negsuc, nat_eq}
 use Rattle.std.specs.List.{AllByRecursion}
 use Rattle.guest_words.specs.declared.endings.FaultKind.{FaultKind}

@@ -4,14 +4,15 @@ use Rattle.guest_words.specs.declared.limits.TheConstants.{PAGES, STACK_PAGES}
 use Rattle.guest_words.specs.declared.rights.Rights.{Rights}
 use Rattle.guest_memory.specs.Memory.{Memory}
 use Rattle.elf_image.specs.Image.{Executable, Segment, page_count}
+use Rattle.guest_machine.specs.declared.image_pages.TheConstants.{IMAGE_PAGES}
 use Rattle.guest_machine.specs.declared.setup.SetupError.{SetupError}
 use Rattle.guest_machine.specs.declared.setup.SetupError.TheVariants.{ArgsTooLong, Pages}
 use Rattle.guest_machine.specs.Start.{segment_rights, strings, strings_limit}
 
--- a table has the rights of each page below 0x40000, by the segments
+-- a table has the rights of each page below `IMAGE_PAGES`, by the segments
 pub record AreRights (segments : List Segment) (table : List (Option Rights)) : Type 0 where
-  pub whole : length table ≡ 0x40000
-  pub each : (page : ℕ) → page < 0x40000 → slice_index_or table page None ≡ segment_rights segments page
+  pub whole : length table ≡ IMAGE_PAGES
+  pub each : (page : ℕ) → page < IMAGE_PAGES → slice_index_or table page None ≡ segment_rights segments page
 
 -- the first pages of a table are mapped, and hold zeros
 abbrev pub mapped_below : List (Option Rights) → ℕ → Memory

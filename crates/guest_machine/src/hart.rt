@@ -1,5 +1,5 @@
 //! The registers of the live threads.
-ghost use Rattle.std.specs.Prelude.{◌≡◌, ◌==◌, ◌-◌, true, is_some};
+ghost use Rattle.std.specs.Prelude.{◌≡◌, ◌-◌, true, is_some};
 ghost use Rattle.guest_memory.specs.Guest.{memory_of};
 ghost use Rattle.guest_memory.specs.ReservedBy.{reserved_by};
 ghost use Rattle.guest_memory.specs.Reserved.{HoldAtMost, without_thread};
@@ -35,8 +35,18 @@ pub(crate) fn execute_for(
 ) -> (Outcome, Addr)
     requires lives { is_some (value_of harts.old.list tid) ≡ true }
     requires held { HoldAtMost (without_thread (reserved_by held.old) tid) (THREADS - 1) }
-    ensures effect { (result.0, record { registers = registers_of harts.new.list tid; memory = memory_of memory.new; held = reserved_by held.new })
-        ≡ effect tid i (record { registers = registers_of harts.old.list tid; memory = memory_of memory.old; held = reserved_by held.old }) }
+    ensures effect { (
+      result.0,
+      record {
+        registers = registers_of harts.new.list tid;
+        memory = memory_of memory.new;
+        held = reserved_by held.new;
+      },
+    ) ≡ effect tid i (record {
+      registers = registers_of harts.old.list tid;
+      memory = memory_of memory.old;
+      held = reserved_by held.old;
+    }) }
     ensures pc { result.1 ≡ (registers_of harts.new.list tid).pc }
     ensures harts { harts.new.list ≡ with_registers harts.old.list tid
         (registers_of harts.new.list tid) }

@@ -1,10 +1,10 @@
 //! The pages of an image.
-ghost use Rattle.std.specs.Prelude.{◌≡◌, ◌≤◌, ◌<◌, ℕ, None, length, fold, IfOk, OnOk, slice_index_or};
+ghost use Rattle.std.specs.Prelude.{◌≡◌, ◌≤◌, ◌<◌, ℕ, None, length, IfOk, OnOk, slice_index_or};
 ghost use Rattle.std.specs.List.{All};
 ghost use Rattle.guest_memory.specs.Guest.{memory_of};
-ghost use Rattle.guest_memory.specs.Memory.{no_memory, with_bytes};
+ghost use Rattle.guest_memory.specs.Memory.{no_memory};
 ghost use Rattle.elf_image.specs.Image.{IsPlaced, page_count};
-ghost use Rattle.guest_machine.specs.Start.{greatest_end, joined, rights_or_none, image_memory, segment_rights, with_segment};
+ghost use Rattle.guest_machine.specs.Start.{greatest_end, joined, rights_or_none, image_memory, with_segment};
 ghost use Rattle.guest_machine.specs.Setup.{AreRights, mapped_below, pages_of};
 
 use elf_image::Segment;
@@ -14,7 +14,7 @@ use guest_words::limits::PAGES;
 use std::alloc::{AllocError, Global};
 
 /// Segments lie below this page.
-const IMAGE_PAGES: usize = 0x40000;
+pub const IMAGE_PAGES: usize = 0x40000;
 
 // What a page allows, with one segment more; what can be written can be read.
 fn joined(page: Option<Rights>, segment: Rights) -> Rights
@@ -35,9 +35,9 @@ fn joined(page: Option<Rights>, segment: Rights) -> Rights
 // Adds the rights of a segment to those of the pages that it touches.
 fn add_segment(table: &mut Vec<Option<Rights>>, segment: &Segment)
     requires placed { IsPlaced segment.now }
-    requires whole { length table.old.items ≡ 0x40000 }
-    ensures whole { length table.new.items ≡ 0x40000 }
-    ensures rights { (page : ℕ) → page < 0x40000
+    requires whole { length table.old.items ≡ IMAGE_PAGES }
+    ensures whole { length table.new.items ≡ IMAGE_PAGES }
+    ensures rights { (page : ℕ) → page < IMAGE_PAGES
         → slice_index_or table.new.items page None
         ≡ with_segment page (slice_index_or table.old.items page None) segment.now }
 {
@@ -78,7 +78,7 @@ fn map_pages(
     requires empty { memory_of memory.old ≡ no_memory }
     requires rights { AreRights segments.now table.now }
     requires few { page_count segments.now ≤ PAGES }
-    ensures { OnOk result (memory_of memory.new ≡ mapped_below table.now 0x40000) }
+    ensures { OnOk result (memory_of memory.new ≡ mapped_below table.now IMAGE_PAGES) }
 {
     for page in 0..table.len() {
         if let Some(rights) = table[page] {

@@ -30,7 +30,8 @@ impl Model for Machine {
 
     ghost view = { λ m. parts_of m.guest };
 
-    ghost invariant = { λ m. (THREADS ≤ length m.guest.harts.list + m.guest.harts.room) × IsSound (machine_of (parts_of m.guest)) };
+    ghost invariant = { λ m. (THREADS ≤ length m.guest.harts.list + m.guest.harts.room)
+        × IsSound (machine_of (parts_of m.guest)) };
 }
 
 /// The most pages of the image, so that the stack has room.
@@ -111,7 +112,8 @@ impl Machine {
         requires { can_run (machine_of self.old) tid ≡ true }
         ensures step { IfOk result (λ advanced. Steps (step (machine_of self.old) tid)
             (stepped_of advanced) self.new events.old.list (events.new.list ++ told tid advanced)) }
-        ensures refused { OnErr result (IsAsBefore self.old self.new events.old.list events.new.list) }
+        ensures refused { OnErr result (IsAsBefore self.old self.new
+            events.old.list events.new.list) }
         ensures no_memory { next_instruction (machine_of self.old) tid ≢ Ok Ecall → IsOk result }
         ensures entry { self.new.entry ≡ self.old.entry }
         ensures quiet { IfOk result (λ advanced. IsQuiet advanced self.new events.old events.new) }
@@ -125,7 +127,8 @@ impl Machine {
         requires { can_run (machine_of self.old) tid ≡ true }
         ensures step { IfOk result (λ stepped. Steps
             (step (machine_of self.old) tid) stepped self.new events.old.list events.new.list) }
-        ensures refused { OnErr result (IsAsBefore self.old self.new events.old.list events.new.list) }
+        ensures refused { OnErr result (IsAsBefore self.old self.new
+            events.old.list events.new.list) }
         ensures no_memory { 4 ≤ events.old.room → next_instruction
             (machine_of self.old) tid ≢ Ok Ecall → IsOk result }
         ensures entry { self.new.entry ≡ self.old.entry }

@@ -8,7 +8,7 @@ ghost use Rattle.guest_machine.specs.Start.{start, strings};
 
 use crate::guest::Guest;
 use crate::image_pages::greatest_end;
-use crate::stack::RANDOM_ADDRESS;
+use crate::stack::{RANDOM_ADDRESS, STRINGS_LIMIT};
 use crate::start_memory::start_memory;
 use elf_image::Image;
 use guest_calls::{Inputs, Kernel};
@@ -48,7 +48,7 @@ impl From<AllocError> for SetupError {
 // The words stand below the strings, at a multiple of 16.
 fn stack_pointer(first: Addr, count: usize) -> Addr
     requires high { 0x70000000 ≤ first }
-    requires few { count ≤ 65536 }
+    requires few { count ≤ STRINGS_LIMIT }
     ensures { result ≡ (first - 4 * (count + 17)) / 16 * 16 }
 {
     (first - 4 * (count as u32 + 17)) / 16 * 16
@@ -73,7 +73,7 @@ pub(crate) fn first_guest(
     text_bytes: u32,
 ) -> Result<Guest, AllocError>
     requires texts { text_bytes ≡ length (strings (map string_bytes arguments.now)) }
-    requires limit { text_bytes ≤ 65536 }
+    requires limit { text_bytes ≤ STRINGS_LIMIT }
     requires few { page_count image.now.segments + STACK_PAGES ≤ PAGES }
     ensures start { IfOk result (λ guest. machine_of (parts_of guest)
         ≡ start image.now (map string_bytes arguments.now) inputs stdin.items) }

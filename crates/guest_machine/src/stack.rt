@@ -1,5 +1,5 @@
 //! The guest's stack at its start.
-ghost use Rattle.std.specs.Prelude.{◌≡◌, ◌≤◌, ◌<◌, ◌+◌, ◌*◌, ◌^◌, ◌++◌, length, map, flat_map, string_bytes, IfOk, OnOk};
+ghost use Rattle.std.specs.Prelude.{◌≡◌, ◌≤◌, ◌<◌, ◌+◌, ◌^◌, ◌++◌, length, map, flat_map, string_bytes, IfOk, OnOk};
 ghost use Rattle.std.specs.Int.{w32, to_le_bytes};
 ghost use Rattle.guest_machine.specs.Setup.{limited_length};
 ghost use Rattle.guest_machine.specs.Start.{string_addresses, strings, stack_words, strings_address, random_bytes};
@@ -9,7 +9,7 @@ use guest_words::Addr;
 use std::alloc::{AllocError, Global};
 
 /// The most bytes of the argument strings, each with its zero byte.
-const STRINGS_LIMIT: usize = 65536;
+pub const STRINGS_LIMIT: usize = 65536;
 
 /// Where the sixteen bytes stand that stand for random ones.
 pub(crate) const RANDOM_ADDRESS: u32 = 0x7FFF_FFF0;
@@ -102,8 +102,8 @@ pub(crate) fn word_bytes(
     first: Addr,
 ) -> Result<Vec<u8>, AllocError>
     requires address { first ≡ strings_address (map string_bytes arguments.now) }
-    requires limit { length (strings (map string_bytes arguments.now)) ≤ 65536 }
-    requires count { length arguments.now ≤ 65536 }
+    requires limit { length (strings (map string_bytes arguments.now)) ≤ STRINGS_LIMIT }
+    requires count { length arguments.now ≤ STRINGS_LIMIT }
     ensures { IfOk result (λ bytes. bytes.items
         ≡ flat_map (λ n. to_le_bytes w32 n)
         (stack_words image.now (map string_bytes arguments.now))) }

@@ -6,7 +6,7 @@ ghost use Rattle.elf_image.specs.Image.{page_count};
 ghost use Rattle.guest_machine.specs.Start.{stack_page, stack_pointer, stack_rights, start_memory, strings, strings_address};
 
 use crate::image_pages::image_memory;
-use crate::stack::{argument_bytes, word_bytes};
+use crate::stack::{STRINGS_LIMIT, argument_bytes, word_bytes};
 use elf_image::Image;
 use guest_memory::{GuestMemory, MemError};
 use guest_words::limits::{PAGES, STACK_PAGES};
@@ -45,7 +45,7 @@ pub(crate) fn start_memory(
 ) -> Result<GuestMemory, AllocError>
     requires first { first ≡ strings_address (map string_bytes arguments.now) }
     requires pointer { pointer ≡ stack_pointer (map string_bytes arguments.now) }
-    requires limit { length (strings (map string_bytes arguments.now)) ≤ 65536 }
+    requires limit { length (strings (map string_bytes arguments.now)) ≤ STRINGS_LIMIT }
     requires few { page_count image.now.segments + STACK_PAGES ≤ PAGES }
     ensures { IfOk result (λ memory. memory_of memory
         ≡ start_memory image.now (map string_bytes arguments.now)) }

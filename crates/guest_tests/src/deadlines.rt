@@ -1,3 +1,4 @@
+//! Deadlines of four threads at two times, and one that is taken back.
 ghost use Rattle.std.specs.Prelude.{◌≤◌, ◌<◌, ◌+◌, length};
 ghost use Rattle.guest_words.specs.declared.limits.TheConstants.{THREADS};
 

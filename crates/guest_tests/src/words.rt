@@ -1,3 +1,4 @@
+//! Words of memory, numbers of threads and faults, bytes of fields, names, and the words and numbers of a text.
 use guest_words::{
     ByThread, FaultKind, Name, NameError, ReadyList, Tid, Word, cut, decimal_number, first_number,
     le16, le32, push_decimal, put_le32, wide_decimal_number, words_over,

@@ -3,18 +3,16 @@ use Rattle.std.proofs.Common.{◌≡◌, ℕ, zero, suc, ◌<◌, Bool, true, fa
 use Rattle.std.specs.Prelude.{◌==◌, nat_lt}
 use Rattle.std.specs.List.{position, position_or_len}
 use Rattle.std.specs.Option.{option_map}
+use Rattle.std.proofs.lemmas.Bool.{eqb-true}
 use Rattle.std.proofs.lemmas.Bool.Decides.{nat_tests}
 use Rattle.std.proofs.lemmas.List.{length-map}
 use Rattle.std.proofs.lemmas.List.Quantifiers.{position-Some}
 use Rattle.std.proofs.lemmas.List.Elements.{All-head, All-tail, All-cons}
 use Rattle.guest_words.specs.ByThread.{IsRising, numbers, value_of, with_value, without_thread}
 
-same_number : (n t : ℕ) → (n == t) ≡ true → n ≡ t
-same_number n t is = grind (arith, nat_tests)
-
 -- three numbers of which two are equal differ from the third or do not together
 same_tests : (n t u : ℕ) → (n == t) ≡ true → (n == u) ≡ (t == u)
-same_tests n t u is = ap (λ m. m == u) (same_number n t is)
+same_tests n t u is = ap (λ m. m == u) (eqb-true n t is)
 
 not_both : (n t u : ℕ) → (n == t) ≡ false → (t == u) ≡ true → (n == u) ≡ true → ⊥
 not_both n t u isnt is is' = let same : (n == t) ≡ true = grind (arith, nat_tests, is, is') in cc

@@ -25,7 +25,10 @@ impl<T> Model for ByThread<T> {
 
     ghost coded = { table_code T.code };
 
-    ghost view = { λ t. record { list = t.entries.items; room = vec_capacity t.entries - vec_len t.entries } };
+    ghost view = { λ t. record {
+      list = t.entries.items;
+      room = vec_capacity t.entries - vec_len t.entries;
+    } };
 
     ghost invariant = { λ t. IsRising (numbers t.entries.items) };
 }

@@ -1,7 +1,7 @@
 -- What holds behind the lines that a reading has taken.
 use Rattle.std.proofs.Common.{◌≡◌, ℕ, ◌+◌, ◌&&◌, Bool, true, false, cond, List, [], ◌∷◌, ◌++◌, length, Option, Some, None, inl, refl, sym, ap, ◌∙◌, subst, arith}
 use Rattle.std.specs.List.{AllByRecursion}
-use Rattle.std.proofs.lemmas.Bool.{and_from, and_parts, cond-true}
+use Rattle.std.proofs.lemmas.Bool.{and_from, and_parts, cond-true, false≢true}
 use Rattle.std.proofs.lemmas.List.{append_assoc, append-nil, length-append, length_push}
 use Rattle.std.proofs.lemmas.List.Concat.{flat_map-append}
 use Rattle.profile_report.specs.declared.line.Line.{Line}
@@ -40,9 +40,6 @@ fit_later (x ∷ xs) ys h = fit_later xs ys h.1
 fit_push : (xs : List Line) (y : Line) → AllByRecursion FitsLine xs → FitsLine y → AllByRecursion FitsLine (xs ++ y ∷ [])
 fit_push [] y h fits = (fits, tt)
 fit_push (x ∷ xs) y h fits = (h.0, fit_push xs y h.1 fits)
-
-apart : false ≡ true → ⊥
-apart e = cc
 
 pub chosen : (b : Bool) (o : Option ParseState) (q : ParseState) → cond b o None ≡ Some q → (b ≡ true) × (o ≡ Some q)
 chosen true o q h = (refl, h)
@@ -140,11 +137,11 @@ allowed number state bytes errors.Version l fits text may rise why =
   where
     first : (k : Line) → may_stand AtVersion k ≡ true → (v : ReportVersion) × (k ≡ First v)
     first (First v) h = (v, refl)
-    first k h = absurd (apart h)
-allowed number state bytes (errors.Line n) l fits text may rise why = absurd (apart (sym (why.2 l fits text) ∙ may))
+    first k h = absurd (false≢true h)
+allowed number state bytes (errors.Line n) l fits text may rise why = absurd (false≢true (sym (why.2 l fits text) ∙ may))
 allowed number state bytes (errors.Order n) l fits text may rise why =
     let one : l ≡ why.1.0 = why.1.1.alone l fits text in
-    absurd (apart (sym why.1.3 ∙ ap (rises state) (sym one) ∙ rise))
+    absurd (false≢true (sym why.1.3 ∙ ap (rises state) (sym one) ∙ rise))
 allowed number state bytes errors.Short l fits text may rise why = absurd why
 allowed number state bytes errors.Memory l fits text may rise why = refl
 
@@ -153,7 +150,7 @@ pub allowed_rest : (number : ℕ) (state : ParseState) (rest : List ℕ) (e : Re
 allowed_rest number state rest errors.Version r over none why = absurd why
 allowed_rest number state rest (errors.Line n) r over none why = absurd (why.2 none)
 allowed_rest number state rest (errors.Order n) r over none why = absurd why
-allowed_rest number state rest errors.Short r over none why = absurd (apart (sym why ∙ ap is_over over))
+allowed_rest number state rest errors.Short r over none why = absurd (false≢true (sym why ∙ ap is_over over))
 allowed_rest number state rest errors.Memory r over none why = absurd why
 
 -- a report that is over is one

@@ -1,5 +1,6 @@
 -- A text has one refusal, and none where it is a report's, as far as there is memory.
 use Rattle.std.proofs.Common.{◌≡◌, ◌≢◌, ◌⊎◌, ℕ, ◌+◌, ◌&&◌, true, false, List, [], ◌∷◌, ◌++◌, length, Some, inl, inr, refl, sym, ap, ap₂, ◌∙◌, subst, arith}
+use Rattle.std.proofs.lemmas.Bool.{false≢true}
 use Rattle.std.specs.List.{AllByRecursion}
 use Rattle.std.proofs.lemmas.List.{append_assoc, append_cancel_left, length-append}
 use Rattle.profile_report.specs.declared.line.Line.{Line}
@@ -68,9 +69,6 @@ same_lines m n p s q (l ∷ ls) (k ∷ ks) rest more e f fl fk ll lk is a b ne n
     let others : ls ≡ ks = same_lines m n (next p l) s q ls ks rest more e f fl.1 fk.1 (tail_leads p s l ls ll) (tail_leads_as p q l k ks one lk) cut.1 a b ne nf in
     ap₂ (λ x xs. x ∷ xs) one others
 
-apart : false ≡ true → ⊥
-apart e = cc
-
 first_rises : (l : Line) → rises AtVersion l ≡ true
 first_rises l = refl
 
@@ -83,19 +81,19 @@ one_line n s bytes e errors.Memory a b ne nf = absurd (nf refl)
 one_line n s bytes errors.Version errors.Version a b ne nf = refl
 one_line n s bytes errors.Version (errors.Line k) a b ne nf = absurd (b.1 a.0)
 one_line n s bytes errors.Version (errors.Order k) a b ne nf =
-    absurd (apart (sym (subst (λ p. rises p b.1.0 ≡ false) a.0 b.1.3) ∙ first_rises b.1.0))
+    absurd (false≢true (sym (subst (λ p. rises p b.1.0 ≡ false) a.0 b.1.3) ∙ first_rises b.1.0))
 one_line n s bytes (errors.Line m) errors.Version a b ne nf = absurd (a.1 b.0)
 one_line n s bytes (errors.Line m) (errors.Line k) a b ne nf = ap errors.Line (b.0 ∙ sym a.0)
-one_line n s bytes (errors.Line m) (errors.Order k) a b ne nf = absurd (apart (sym (a.2 b.1.0 b.1.1.fits b.1.1.text) ∙ b.1.2))
+one_line n s bytes (errors.Line m) (errors.Order k) a b ne nf = absurd (false≢true (sym (a.2 b.1.0 b.1.1.fits b.1.1.text) ∙ b.1.2))
 one_line n s bytes (errors.Order m) errors.Version a b ne nf =
-    absurd (apart (sym (subst (λ p. rises p a.1.0 ≡ false) b.0 a.1.3) ∙ first_rises a.1.0))
-one_line n s bytes (errors.Order m) (errors.Line k) a b ne nf = absurd (apart (sym (b.2 a.1.0 a.1.1.fits a.1.1.text) ∙ a.1.2))
+    absurd (false≢true (sym (subst (λ p. rises p a.1.0 ≡ false) b.0 a.1.3) ∙ first_rises a.1.0))
+one_line n s bytes (errors.Order m) (errors.Line k) a b ne nf = absurd (false≢true (sym (b.2 a.1.0 a.1.1.fits a.1.1.text) ∙ a.1.2))
 one_line n s bytes (errors.Order m) (errors.Order k) a b ne nf = ap errors.Order (b.0 ∙ sym a.0)
 
 one_rest : (n : ℕ) (s : ParseState) (rest : List ℕ) (e f : ReportError) → RefusesRest n s rest e → RefusesRest n s rest f → f ≡ e
 one_rest n s rest errors.Short errors.Short a b = refl
-one_rest n s rest errors.Short (errors.Line k) a b = absurd (apart (sym a ∙ b.1))
-one_rest n s rest (errors.Line m) errors.Short a b = absurd (apart (sym b ∙ a.1))
+one_rest n s rest errors.Short (errors.Line k) a b = absurd (false≢true (sym a ∙ b.1))
+one_rest n s rest (errors.Line m) errors.Short a b = absurd (false≢true (sym b ∙ a.1))
 one_rest n s rest (errors.Line m) (errors.Line k) a b = ap errors.Line (b.0 ∙ sym a.0)
 one_rest n s rest errors.Version f a b = absurd a
 one_rest n s rest (errors.Order m) f a b = absurd a

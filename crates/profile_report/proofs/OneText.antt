@@ -1,9 +1,9 @@
 -- What a line says is told by its text.
-use Rattle.std.proofs.Common.{◌≡◌, ℕ, ◌+◌, ◌*◌, ◌/◌, ◌%◌, ◌<◌, ◌^◌, ◌-◌, true, false, cond, eqb, leb, codes, List, [], ◌∷◌, ◌++◌, get_or, Option, Some, None, refl, sym, ap, ap₂, ◌∙◌, subst, arith}
+use Rattle.std.proofs.Common.{◌≡◌, ℕ, ◌+◌, ◌*◌, ◌/◌, ◌%◌, ◌<◌, ◌^◌, ◌-◌, true, cond, eqb, leb, codes, List, [], ◌∷◌, ◌++◌, get_or, Option, Some, None, refl, sym, ap, ap₂, ◌∙◌, subst, arith}
 use Rattle.std.specs.Bool.{MatchBool}
 use Rattle.std.specs.Fmt.{decimal}
 use Rattle.std.specs.List.{AllByRecursion}
-use Rattle.std.proofs.lemmas.Bool.{agree_below_at, eqb-true}
+use Rattle.std.proofs.lemmas.Bool.{agree_below_at, eqb-true, false≢true}
 use Rattle.std.proofs.lemmas.List.{append_assoc, append_cancel_left}
 use Rattle.guest_words.specs.Names.{is_name}
 use Rattle.guest_words.specs.declared.endings.Finish.{Finish}
@@ -65,11 +65,8 @@ value_back at fits =
 address_same : (a b : ℕ) → a < 2 ^ 32 → b < 2 ^ 32 → hex_address a ≡ hex_address b → a ≡ b
 address_same a b fa fb is = sym (value_back a fa) ∙ ap value is ∙ value_back b fb
 
-impossible : false ≡ true → ⊥
-impossible e = cc
-
 no_dash : (bytes : List ℕ) → is_name bytes ≡ true → codes "-" ≡ bytes → ⊥
-no_dash bytes fits is = impossible (subst (λ b. is_name b ≡ true) (sym is) fits)
+no_dash bytes fits is = false≢true (subst (λ b. is_name b ≡ true) (sym is) fits)
 
 name_same : (m n : Option (List ℕ)) → FitsName m → FitsName n → name_word m ≡ name_word n → m ≡ n
 name_same None None fm fn is = refl

@@ -1,7 +1,7 @@
 -- What lines that lead to the end of a report say.
-use Rattle.std.proofs.Common.{◌≡◌, ℕ, ◌+◌, ◌-◌, ◌<◌, ◌^◌, ◌&&◌, true, false, eqb, ltb, List, [], ◌∷◌, ◌++◌, length, map, get_or, Option, Some, None, refl, sym, ap, ◌∙◌, subst, arith}
+use Rattle.std.proofs.Common.{◌≡◌, ℕ, ◌+◌, ◌-◌, ◌<◌, ◌^◌, ◌&&◌, true, eqb, ltb, List, [], ◌∷◌, ◌++◌, length, map, get_or, Option, Some, None, refl, sym, ap, ◌∙◌, subst, arith}
 use Rattle.std.specs.List.{AllByRecursion, flat_map}
-use Rattle.std.proofs.lemmas.Bool.{and_parts, eqb-true, ltb-true}
+use Rattle.std.proofs.lemmas.Bool.{and_parts, eqb-true, false≢true, ltb-true}
 use Rattle.std.proofs.lemmas.List.{append_assoc, append-nil, length_push, map_push, get_or_push}
 use Rattle.std.proofs.lemmas.List.Concat.{flat_map-append}
 use Rattle.cost_points.specs.declared.point.Point.{Point}
@@ -15,7 +15,6 @@ use Rattle.profile_report.specs.Grammar.{FitsLine, line_text, closed, has_points
 use Rattle.profile_report.specs.LineForms.{ended, point_line, routine_line}
 use Rattle.profile_report.specs.Reading.{led, lines_text}
 use Rattle.profile_report.specs.Reported.{Reported, ReportedRoutine}
-use Rattle.profile_report.specs.declared.report.ReportVersion.{ReportVersion}
 use Rattle.profile_report.specs.ReportText.{report_text, routine_text}
 use Rattle.profile_report.specs.Valid.{IsValid, IsValidRoutine}
 use Rattle.profile_report.proofs.Behind.{Behind, chosen}
@@ -62,9 +61,6 @@ Fits (Over r) = IsValid r
 
 abbrev Onward : ParseState → Line → Type 0
 Onward p l = Fits (next p l) × (written (next p l) ≡ written p ++ text l)
-
-impossible : false ≡ true → ⊥
-impossible e = cc
 
 none_rise : IsRising []
 none_rise i j below inside = absurd (omega arith)
@@ -164,7 +160,7 @@ onward (AtRoutines q (Some r)) (Done n) h fits may rise =
       record { finish = h.finish; steps = h.steps; pending = h.pending; entries = h.entries; routines = all_valid q (Some r) h parts.0 },
       ap (λ k. head_text q ++ flat_map routine_text (q.routines ++ r ∷ []) ++ text (Done k)) (length_push q.routines r ∙ sym (eqb-true n (length q.routines + 1) parts.1)),
     )
-onward p l h fits may rise = absurd (impossible may)
+onward p l h fits may rise = absurd (false≢true may)
 
 -- Lines that lead to the end of a report are its text, and the report is valid.
 leads_valid : (p : ParseState) (ls : List Line) (r : Reported) → Fits p → AllByRecursion FitsLine ls → led p ls ≡ Some (Over r) → IsValid r × (written p ++ lines_text ls ≡ report_text r)

@@ -1,11 +1,11 @@
 //! Reading a line: what a line says, where it has one of the forms.
-ghost use Rattle.std.specs.Prelude.{◌≡◌, ℕ, ◌≤◌, ◌<◌, ◌^◌, List, ◌++◌, ◌∷◌, ◌↔◌, codes, Option, Some, true, IfSome, IsSomeAnd, IsTrue, MatchResult, IfErr, IfOk};
+ghost use Rattle.std.specs.Prelude.{◌≡◌, ℕ, ◌≤◌, ◌<◌, ◌^◌, List, ◌++◌, ◌∷◌, codes, Option, Some, true, IfSome, IsSomeAnd, MatchResult, IfErr, IfOk};
 ghost use Rattle.std.specs.Fmt.{decimal};
 ghost use Rattle.std.specs.Option.{SomeIff};
 ghost use Rattle.guest_words.specs.Names.{is_name};
 ghost use Rattle.guest_words.specs.declared.endings.FaultKind.{FaultKind};
 ghost use Rattle.guest_words.specs.declared.endings.Finish.{Finish};
-ghost use Rattle.profile_report.specs.LineForms.{end_line, fault_words, first_line, hex_address, kind_number, labelled, name_word};
+ghost use Rattle.profile_report.specs.LineForms.{end_line, fault_words, first_line, hex_address, kind_number, name_word};
 ghost use Rattle.profile_report.specs.declared.line.Line.{Line};
 ghost use Rattle.profile_report.specs.declared.report.ReportVersion.{ReportVersion};
 ghost use Rattle.profile_report.specs.Grammar.{FitsLine, IsPlain, line_text};

@@ -1,6 +1,5 @@
 //! The lines of a report, one function a form.
 ghost use Rattle.std.specs.Prelude.{◌≡◌, ◌++◌, ◌<◌, codes, OnErr, OnOk};
-ghost use Rattle.std.specs.Fmt.{decimal};
 ghost use Rattle.profile_report.specs.LineForms.{end_line, ended, fault_words, first_line, hex_address, hex_glyph, kind_number, labelled, name_word, point_line, routine_line, split_words};
 
 use crate::ReportVersion;

@@ -146,7 +146,13 @@ fn without_routines(
     steps: u64,
     pending: u64,
 ) -> Report
-    ensures { result ≡ record { version = version; finish = finish; steps = steps; pending = pending; routines = [] } }
+    ensures { result ≡ record {
+      version = version;
+      finish = finish;
+      steps = steps;
+      pending = pending;
+      routines = [];
+    } }
 {
     Report {
         version,

@@ -1,5 +1,5 @@
 //! Reading a report.
-ghost use Rattle.std.specs.Prelude.{◌≡◌, ℕ, ◌≤◌, ◌<◌, ◌^◌, ◌+◌, List, [], IfOk, IfErr, MatchResult};
+ghost use Rattle.std.specs.Prelude.{◌≡◌, ℕ, List, [], IfOk, IfErr, MatchResult};
 ghost use Rattle.profile_report.specs.Reading.{IsMisplaced, IsRefused, Leads, RefusesLine, RefusesRest};
 ghost use Rattle.profile_report.specs.Reported.{Reported};
 ghost use Rattle.profile_report.specs.ReportText.{report_text};

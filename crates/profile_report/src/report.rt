@@ -44,5 +44,11 @@ impl Model for Report {
 
     ghost Value = { Reported };
 
-    ghost view = { λ r. record { version = r.version; finish = r.finish; steps = r.steps; pending = r.pending; routines = r.routines.items } };
+    ghost view = { λ r. record {
+      version = r.version;
+      finish = r.finish;
+      steps = r.steps;
+      pending = r.pending;
+      routines = r.routines.items;
+    } };
 }

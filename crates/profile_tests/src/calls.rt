@@ -1,3 +1,4 @@
+//! Jumps by the link registers, a return to no open call, and two threads whose calls are kept apart.
 use call_tracker::{CallStacks, JumpKind, OpenCall, OpenCalls, kind};
 use guest_words::Tid;
 use rv_isa::{Instr, Reg};

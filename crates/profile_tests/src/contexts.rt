@@ -1,3 +1,4 @@
+//! A routine that is called in two ways: its numbers, and its places in the order of the text.
 ghost use Rattle.std.specs.Prelude.{◌≡◌, List, reverse, IfOk};
 ghost use Rattle.trace_model.specs.declared.event_kinds.Event.{Event};
 ghost use Rattle.trace_order.specs.Order.{IsOrderOf};

@@ -1,3 +1,4 @@
+//! Slices of pseudo-random stamps, of lengths about a block's, against loops over one stamp at a time.
 ghost use Rattle.std.specs.Prelude.{◌≡◌, ◌≤◌, ◌+◌, ◌*◌, ◌^◌, All, length, map, true};
 
 use stamp_lanes::{Bulk, Lanes};

@@ -1,3 +1,4 @@
+//! A cache of one set and two ways, and which numbers are the form of a cache.
 use cache_lines::{Cache, Shape};
 use std::test::Fail;
 

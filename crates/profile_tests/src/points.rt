@@ -1,3 +1,4 @@
+//! The points of a deep recursion, of activations by size and by cause, and of two that are joined.
 ghost use Rattle.std.specs.Prelude.{◌≡◌};
 ghost use Rattle.trace_model.specs.Profile.{HasParts};
 

@@ -1,3 +1,4 @@
+//! The deepest call of each width, and the greatest stamp.
 use stamps::{Stamp, StampBits, depth_limit};
 
 #[test]

@@ -30,7 +30,13 @@ impl<S: Lanes> Model for Profile<S> {
 
     ghost Value = { Kept };
 
-    ghost view = { λ p. record { stamps = p.profiler; points = p.points; ended = p.ended.items; added = p.added; steps = p.steps } };
+    ghost view = { λ p. record {
+      stamps = p.profiler;
+      points = p.points;
+      ended = p.ended.items;
+      added = p.added;
+      steps = p.steps;
+    } };
 }
 
 /// How many steps the event is.

@@ -42,7 +42,10 @@ impl Model for Builder {
 
     ghost view = { λ b. record { lines = b.lines.items; bindings = b.bindings.items } };
 
-    ghost invariant = { λ b. IsSound (record { lines = b.lines.items; bindings = b.bindings.items }) };
+    ghost invariant = { λ b. IsSound (record {
+      lines = b.lines.items;
+      bindings = b.bindings.items;
+    }) };
 }
 
 /// The words of a program.

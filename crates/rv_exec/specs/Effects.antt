@@ -185,10 +185,3 @@ effect tid Fence c = on_registers c (passed c.registers)
 effect tid FenceI c = on_registers c (passed c.registers)
 effect tid Ecall c = (KernelCall, c)
 effect tid Ebreak c = (Fault fault.Break, c)
-
--- whether it is a load, a store or an atomic operation
-abbrev pub accesses_memory : Instr → Bool
-accesses_memory (Load kind rd base offset) = true
-accesses_memory (Store kind from base offset) = true
-accesses_memory (Atomic op rd base from order) = true
-accesses_memory i = false

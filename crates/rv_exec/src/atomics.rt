@@ -1,6 +1,5 @@
 //! The atomic operations.
 ghost use Rattle.std.specs.Prelude.{◌≡◌, ◌-◌, ◌%◌};
-ghost use Rattle.guest_memory.specs.Guest.{memory_of};
 ghost use Rattle.guest_memory.specs.Reserved.{HoldAtMost, without_thread};
 ghost use Rattle.guest_memory.specs.ReservedBy.{reserved_by};
 ghost use Rattle.rv_exec.specs.Accesses.{atomic_result};

@@ -1,8 +1,9 @@
 -- The classes of stamps, start by start.
-use Rattle.std.proofs.Common.{◌≡◌, ℕ, ◌+◌, ◌%◌, ◌<◌, ◌≤◌, List, [], ◌∷◌, ◌++◌, length, map, cond, replicate, nat_lt, nat_le, count_by, arith, refl, ap, sym, ◌∙◌, add_assoc}
+use Rattle.std.proofs.Common.{◌≡◌, ℕ, ◌+◌, ◌%◌, ◌<◌, ◌≤◌, List, [], ◌∷◌, ◌++◌, length, map, cond, replicate, nat_lt, nat_le, count_by, arith, ap, sym, ◌∙◌, add_assoc}
+use Rattle.std.proofs.lemmas.List.{map-id}
 use Rattle.std.proofs.lemmas.List.Sums.{count_by-le-length, fold-append}
 use Rattle.std.proofs.lemmas.Bool.Decides.{nat_tests}
-use Rattle.std.proofs.lemmas.Simd.{splat_is_map, zip2_of_maps}
+use Rattle.std.proofs.lemmas.Simd.{zip2_of_maps}
 use Rattle.std.proofs.Math.Nat.{mod-eq_of_lt}
 use Rattle.std.specs.Simd.Lanes.{sel_l, zip2}
 use Rattle.stamp_lanes.specs.Plain.{class_of}
@@ -28,13 +29,9 @@ pub more_classes : (vs done classes starts zeros ones more sums : List ℕ) (bel
     → classes ≡ map (class_of done below) vs → starts ≡ map (λ _. s) vs → zeros ≡ map (λ _. 0) vs → ones ≡ map (λ _. 1) vs
     → more ≡ sel_l (zip2 nat_lt vs starts) zeros ones → sums ≡ zip2 (λ x y. (x + y) % (top + 1)) classes more → sums ≡ map (class_of (done ++ s ∷ []) below) vs
 more_classes vs done classes starts zeros ones more sums below s top room before a b d e f =
-    let added = chosen nat_lt (λ (v : ℕ). v) (λ v. s) (λ v. 0) (λ v. 1) vs (sym (map_same vs)) a b d e in
+    let added = chosen nat_lt (λ (v : ℕ). v) (λ v. s) (λ v. 0) (λ v. 1) vs (sym (map-id vs)) a b d e in
     f ∙ (zip2_of_maps (λ x y. (x + y) % (top + 1)) (class_of done below) (λ v. cond (nat_lt v s) 0 1) vs before added
     ∙ same_map _ (class_of (done ++ s ∷ []) below) (λ v. class_more done below s top v room) vs)
-  where
-    map_same : (xs : List ℕ) → map (λ x. x) xs ≡ xs
-    map_same [] = refl
-    map_same (x ∷ xs) = ap (λ ys. x ∷ ys) (map_same xs)
 
 pub no_classes : (vs ns : List ℕ) (below s : ℕ) → length vs ≡ 16 → ns ≡ replicate 16 s → s ≡ below → ns ≡ map (class_of [] below) vs
 no_classes vs ns below s long is same = splatted vs below long is same ∙ same_map (λ _. below) (class_of [] below) (λ n. omega arith) vs

@@ -1,5 +1,5 @@
 -- The columns of places and of renewals.
-use Rattle.std.proofs.Common.{◌≡◌, ℕ, List, [], ◌∷◌, length, map, refl, ap, sym, ◌∙◌, ◌<◌, get_or, take, drop, arith, zero, suc}
+use Rattle.std.proofs.Common.{◌≡◌, ℕ, List, [], ◌∷◌, length, map, refl, ap, sym, ◌∙◌, ◌<◌, get_or, take, drop, arith}
 use Rattle.std.proofs.lemmas.List.{drop-map, get_or-map, length-map, take-map}
 use Rattle.std.specs.Simd.Lanes.{chunk}
 use Rattle.stamp_lanes.specs.Plain.{Place, Renewal, places, renewals}

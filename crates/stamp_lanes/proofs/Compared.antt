@@ -1,5 +1,6 @@
 -- What a comparison of two vectors chooses and counts.
-use Rattle.std.proofs.Common.{◌≡◌, ℕ, ◌≤◌, ◌-◌, ◌^◌, ◌%◌, ◌∙◌, Bool, cond, List, [], ◌∷◌, length, map, count_by, ap, sym, refl, arith, zero, suc}
+use Rattle.std.proofs.Common.{◌≡◌, ℕ, ◌≤◌, ◌-◌, ◌^◌, ◌%◌, ◌∙◌, Bool, cond, List, [], ◌∷◌, length, map, count_by, ap, sym, arith}
+use Rattle.std.proofs.lemmas.List.{map-id}
 use Rattle.std.proofs.lemmas.Simd.{mask_l-mod, ones-mask_l, tops_compared}
 use Rattle.std.specs.Int.RustNames.{count_ones}
 use Rattle.std.specs.Simd.Lanes.{sel_l, zip2}
@@ -10,10 +11,6 @@ use mir.Val.{bits, hbits}
 pub chosen_lanes : (w : Width) (t : ℕ → ℕ → Bool) (xs ys us vs : List ℕ)
     → sel_l (map (top (hbits w)) (zip2 (λ a b. cond (t a b) (2 ^ bits w - 1) 0) xs ys)) us vs ≡ sel_l (zip2 t xs ys) us vs
 chosen_lanes w t xs ys us vs = ap (λ ms. sel_l ms us vs) (tops_compared w t xs ys)
-
-map_same : (ms : List Bool) → map (λ b. b) ms ≡ ms
-map_same [] = refl
-map_same (m ∷ ms) = ap (λ ts. m ∷ ts) (map_same ms)
 
 pub shorter : {A B C : Type 0} (t : A → B → C) (xs : List A) (ys : List B) → length (zip2 t xs ys) ≤ length xs
 shorter t [] ys = omega arith
@@ -28,4 +25,4 @@ counted_lanes w t xs ys few =
     let short = shorter t xs ys in
     let fits : length ms ≤ 64 = omega arith in
     ap (λ ts. count_ones (mask_l ts % 2 ^ 64)) (tops_compared w t xs ys)
-    ∙ (ap count_ones (mask_l-mod ms 64 fits ∙ ap mask_l (sym (map_same ms))) ∙ ones-mask_l (λ b. b) ms)
+    ∙ (ap count_ones (mask_l-mod ms 64 fits ∙ ap mask_l (sym (map-id ms))) ∙ ones-mask_l (λ b. b) ms)

@@ -1,5 +1,5 @@
 -- Lanes that are computed from a list, each from its own item.
-use Rattle.std.proofs.Common.{◌≡◌, ℕ, ◌+◌, ◌≤◌, ◌<◌, Bool, cond, List, [], ◌∷◌, length, map, count_by, replicate, refl, ap, ap₂, sym, ◌∙◌, arith, zero, suc}
+use Rattle.std.proofs.Common.{◌≡◌, ℕ, ◌+◌, ◌≤◌, Bool, cond, List, [], ◌∷◌, length, map, count_by, replicate, refl, ap, ap₂, sym, ◌∙◌, arith}
 use Rattle.std.proofs.lemmas.List.Sums.{sum_by-cons}
 use Rattle.std.proofs.lemmas.Simd.{splat_is_map, zip2_of_maps}
 use Rattle.std.specs.Simd.Lanes.{sel_l, zip2}

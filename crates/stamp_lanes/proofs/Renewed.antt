@@ -1,5 +1,5 @@
 -- The new stamps of a block.
-use Rattle.std.proofs.Common.{◌≡◌, ℕ, ◌+◌, ◌*◌, ◌%◌, ◌<◌, ◌≤◌, ◌==◌, All, Bool, cond, List, [], ◌∷◌, length, map, nat_lt, nat_eq, refl, ap, ap₂, sym, subst, ◌∙◌, arith, get_or, take, drop, true, false, zero, suc}
+use Rattle.std.proofs.Common.{◌≡◌, ℕ, ◌+◌, ◌*◌, ◌%◌, ◌<◌, ◌≤◌, All, Bool, cond, List, [], ◌∷◌, length, map, nat_lt, nat_eq, refl, ap, ap₂, sym, subst, ◌∙◌, arith, get_or, take, drop, true, false, suc}
 use Rattle.std.proofs.lemmas.Bool.Decides.{nat_tests}
 use Rattle.std.proofs.lemmas.List.{get_or-map, length-map}
 use Rattle.std.proofs.lemmas.Simd.{get_or-chunk, length-chunk, zip2_of_maps}

@@ -1,7 +1,7 @@
 -- What stands written so far, each number computed from its own item.
 use Rattle.std.proofs.Common.{◌≡◌, ℕ, ◌+◌, ◌<◌, ◌≤◌, List, [], ◌∷◌, ◌++◌, length, map, take, drop, get_or, set, arith, ap, ap₂, sym, ◌∙◌}
 use Rattle.std.proofs.Math.Seq.{take-add}
-use Rattle.std.proofs.lemmas.List.{length-map, map-append, take_more, take_more_set}
+use Rattle.std.proofs.lemmas.List.{map-append, take_more, take_more_set}
 use Rattle.std.proofs.lemmas.Simd.{take_more_put_chunk}
 use Rattle.std.specs.Simd.Lanes.{put_chunk}
 

@@ -95,7 +95,8 @@ fn read_blocks<B: Block>(
     requires few { length own.now ≤ 2 ^ 30 }
     ensures end { result.1 ≤ length own.now }
     ensures counts { IsBulk (B.Lane.number_of start)
-        (take result.1 (places (map B.Lane.number_of own.now) (map B.Lane.number_of write.now) marks.now))
+        (take result.1 (places
+        (map B.Lane.number_of own.now) (map B.Lane.number_of write.now) marks.now))
         result.0 }
 {
     let mut counts = Bulk {

@@ -48,7 +48,8 @@ fn classes_of_blocks<B: Block>(
     ensures end { result ≤ length stamps.now }
     ensures length { length into.new ≡ length into.old }
     ensures written { take result (map B.Lane.number_of into.new)
-        ≡ map (class_of (map B.Lane.number_of starts.now) below) (take result (map B.Lane.number_of stamps.now)) }
+        ≡ map (class_of (map B.Lane.number_of starts.now) below)
+        (take result (map B.Lane.number_of stamps.now)) }
 {
     let mut at = 0;
     while stamps.len() - at >= 16 {

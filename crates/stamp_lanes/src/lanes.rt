@@ -18,7 +18,8 @@ pub trait Lanes: Stamp {
         requires lengths { length stamps.now ≡ length into.old }
         requires room { below + length starts.now ≤ Self.MAX }
         ensures { map Self.number_of into.new
-            ≡ map (class_of (map Self.number_of starts.now) below) (map Self.number_of stamps.now) };
+            ≡ map (class_of (map Self.number_of starts.now) below)
+            (map Self.number_of stamps.now) };
 
     /// Writes a new stamp for each own one, three for each class: the order within a class stays.
     fn renew_into(

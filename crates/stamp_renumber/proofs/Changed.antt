@@ -2,6 +2,7 @@
 use Rattle.std.proofs.Common.{◌≡◌, ℕ, zero, suc, ◌+◌, ◌-◌, ◌<◌, ◌≤◌, Bool, true, false, cond, List, [], ◌∷◌, ◌++◌, length, Option, Some, None, refl, sym, ap, ap₂, ◌∙◌, subst, arith, All, not}
 use Rattle.std.specs.Prelude.{◌==◌, is_some, OnErr, OnOk, Result, Ok, Err}
 use Rattle.std.specs.Option.{option_map_or}
+use Rattle.std.proofs.lemmas.Bool.{eq-eqb}
 use Rattle.std.proofs.lemmas.Bool.Decides.{nat_tests}
 use Rattle.std.proofs.lemmas.List.{length-append, length-map}
 use Rattle.guest_words.specs.ByThread.{IsRising, numbers, value_of, with_value, without_thread}
@@ -10,9 +11,6 @@ use Rattle.shadow_stack.specs.declared.sums.Sums.{Sums}
 use Rattle.shadow_stack.specs.Frames.{Frame, IsPopped, added, added_to_last, starts_of}
 use Rattle.stamp_renumber.specs.Kept.{IsKept}
 use Rattle.stamp_renumber.specs.Threads.{Stamped, all_starts, frames_of, pages_of, spare_of, stamped}
-
-same_test : (t : ℕ) → (t == t) ≡ true
-same_test t = grind (arith, nat_tests)
 
 -- ---- how many frames there are
 pub starts_long : (x : ℕ × Stamped) (xs : List (ℕ × Stamped)) → length (all_starts (x ∷ xs)) ≡ length x.1.frames + length (all_starts xs)
@@ -112,7 +110,7 @@ module _ (xs threads : List (ℕ × Stamped)) (is : xs ≡ threads) (t : ℕ) (o
   spare_was = ap (λ (o : Option Stamped). option_map_or (λ (s : Stamped). s.spare) o 0) there
 
   now : (new : Stamped) → value_of (with_value xs t new) t ≡ Some new
-  now new = value_of-with xs t new old here t ∙ ap (λ b. cond b (Some new) (value_of xs t)) (same_test t)
+  now new = value_of-with xs t new old here t ∙ ap (λ b. cond b (Some new) (value_of xs t)) (eq-eqb t t refl)
 
   pub frames_are : (new : Stamped) → frames_of (with_value xs t new) t ≡ new.frames
   frames_are new = ap (λ (o : Option Stamped). option_map_or (λ (s : Stamped). s.frames) o []) (now new)
@@ -140,7 +138,7 @@ unchanged threads t lives = by (value_of threads t) refl lives
 pub added_thread : (xs threads : List (ℕ × Stamped)) (is : xs ≡ threads) (t : ℕ) (new : Stamped) → All (λ k. k < t) (numbers xs) → new.frames ≡ [] → new.pages ≡ [] →
     xs ++ (t, new) ∷ [] ≡ threads ++ (t, stamped (xs ++ (t, new) ∷ []) t [] []) ∷ []
 added_thread xs threads is t new above f p =
-    let now : value_of (xs ++ (t, new) ∷ []) t ≡ Some new = value_of-pushed xs t new above t ∙ ap (λ b. cond b (Some new) (value_of xs t)) (same_test t) in
+    let now : value_of (xs ++ (t, new) ∷ []) t ≡ Some new = value_of-pushed xs t new above t ∙ ap (λ b. cond b (Some new) (value_of xs t)) (eq-eqb t t refl) in
     let spare : new.spare ≡ spare_of (xs ++ (t, new) ∷ []) t = sym (ap (λ (o : Option Stamped). option_map_or (λ (s : Stamped). s.spare) o 0) now) in
     ap₂ (λ (ys : List (ℕ × Stamped)) (s : Stamped). ys ++ (t, s) ∷ []) is (λ i. record { frames = f i; spare = spare i; pages = p i })
 

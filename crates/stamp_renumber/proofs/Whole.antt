@@ -3,7 +3,7 @@ use Rattle.std.proofs.Common.{◌≡◌, ℕ, zero, suc, ◌+◌, ◌*◌, ◌<�
 use Rattle.std.specs.Prelude.{◌==◌, Contains}
 use Rattle.std.specs.Option.{IsSome, option_copied_mut}
 use Rattle.std.specs.List.Sorted.{IsPermutation}
-use Rattle.std.proofs.lemmas.Bool.{cases_lt}
+use Rattle.std.proofs.lemmas.Bool.{cases_lt, eq-eqb}
 use Rattle.std.proofs.lemmas.Bool.Decides.{nat_tests}
 use Rattle.std.proofs.lemmas.List.{length-append, length-map, get_or-set_same, get_or-set_other, get_or_append_left, get_or-append-add}
 use Rattle.std.proofs.lemmas.List.Elements.{All-contains_itself}
@@ -55,15 +55,12 @@ above n (x ∷ xs) (suc i) d rising within =
     let far = above x.0 xs i d rising.1 (omega (arith, within)) in
     omega (arith, up, far)
 
-same_test : (t : ℕ) → (t == t) ≡ true
-same_test t = grind (arith, nat_tests)
-
 other_test : (n t : ℕ) → n < t → (n == t) ≡ false
 other_test n t lt = grind (arith, nat_tests)
 
 pub value_at : (xs : List (ℕ × Stamped)) (i : ℕ) (d : ℕ × Stamped) → IsRising (numbers xs) → i < length xs → value_of xs (get_or xs i d).0 ≡ Some (get_or xs i d).1
 value_at [] i d rising within = absurd (omega (arith, within))
-value_at (x ∷ xs) zero d rising within = ap (λ b. cond b (Some x.1) (value_of xs x.0)) (same_test x.0)
+value_at (x ∷ xs) zero d rising within = ap (λ b. cond b (Some x.1) (value_of xs x.0)) (eq-eqb x.0 x.0 refl)
 value_at (x ∷ xs) (suc i) d rising within =
     let inside : i < length xs = omega (arith, within) in
     let t = (get_or xs i d).0 in
@@ -71,7 +68,7 @@ value_at (x ∷ xs) (suc i) d rising within =
 
 pub with_at : (xs : List (ℕ × Stamped)) (i : ℕ) (d : ℕ × Stamped) (v : Stamped) → IsRising (numbers xs) → i < length xs → with_value xs (get_or xs i d).0 v ≡ set xs i ((get_or xs i d).0, v)
 with_at [] i d v rising within = absurd (omega (arith, within))
-with_at (x ∷ xs) zero d v rising within = ap (λ b. cond b ((x.0, v) ∷ xs) (x ∷ with_value xs x.0 v)) (same_test x.0)
+with_at (x ∷ xs) zero d v rising within = ap (λ b. cond b ((x.0, v) ∷ xs) (x ∷ with_value xs x.0 v)) (eq-eqb x.0 x.0 refl)
 with_at (x ∷ xs) (suc i) d v rising within =
     let inside : i < length xs = omega (arith, within) in
     let t = (get_or xs i d).0 in

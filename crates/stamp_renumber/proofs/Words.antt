@@ -2,6 +2,7 @@
 use Rattle.std.proofs.Common.{◌≡◌, ◌==◌, ℕ, zero, suc, ◌+◌, ◌*◌, ◌/◌, ◌%◌, ◌<◌, ◌≤◌, Bool, true, false, cond, List, [], ◌∷◌, ◌++◌, length, map, get_or, set, take, drop, Option, Some, None, refl, sym, ap, ap₂, ◌∙◌, subst, arith, All}
 use Rattle.std.specs.Prelude.{slice_index}
 use Rattle.std.specs.Option.{is_some, option_map}
+use Rattle.std.proofs.lemmas.Bool.{eqb-true}
 use Rattle.std.proofs.lemmas.Bool.Decides.{nat_tests}
 use Rattle.std.proofs.lemmas.List.{append-nil, drop_all, take_all, get_or_default, get_or-replicate, length-replicate}
 use Rattle.std.proofs.lemmas.List.Edits.{map_over_more}
@@ -18,9 +19,6 @@ pub record IsPageOf (P : Page → Type 0) (n : ℕ) (p : Page) : Type 0 where
   pub holds : P p
   pub number : p.number ≡ n
 
-same_number : (n m : ℕ) → (n == m) ≡ true → n ≡ m
-same_number n m is = grind (arith, nat_tests)
-
 found_page : (P : Page → Type 0) (pages : List Page) (n : ℕ) (p : Page) → All P pages → page_of pages n ≡ Some p → IsPageOf P n p
 found_page P [] n p all found = absurd (cc)
 found_page P (q ∷ pages) n p all found = by (q.number == n) refl found (λ later. found_page P pages n p (All-tail P q pages all) later)
@@ -28,7 +26,7 @@ found_page P (q ∷ pages) n p all found = by (q.number == n) refl found (λ lat
     by : (b : Bool) → (q.number == n) ≡ b → cond b (Some q) (page_of pages n) ≡ Some p → (page_of pages n ≡ Some p → IsPageOf P n p) → IsPageOf P n p
     by true is here later =
         let same : q ≡ p = cc in
-        subst (IsPageOf P n) same (record { holds = All-head P q pages all; number = same_number q.number n is })
+        subst (IsPageOf P n) same (record { holds = All-head P q pages all; number = eqb-true q.number n is })
     by false is here later = later here
 
 -- as many stamps as before replace all of them

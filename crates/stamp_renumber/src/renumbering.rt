@@ -1,5 +1,5 @@
 //! New stamps for all threads.
-ghost use Rattle.std.specs.Prelude.{◌≡◌, ◌≤◌, ◌<◌, ◌+◌, ◌*◌, All, Contains, length, map};
+ghost use Rattle.std.specs.Prelude.{◌≡◌, ◌≤◌, ◌+◌, ◌*◌, All, Contains, length, map};
 ghost use Rattle.std.specs.Vec.{vec_capacity};
 ghost use Rattle.std.specs.List.Sorted.{IsNonDecreasingBy, IsPermutation};
 ghost use Rattle.stamp_renumber.specs.Renumbered.{AreRenumbered};
@@ -47,7 +47,8 @@ pub(crate) fn renumber_threads<S: Lanes>(
     requires fit { 3 * length starts.now + 2 ≤ S.MAX }
     requires among { All (Contains (map S.number_of starts.now)) (all_starts threads.old.list) }
     requires room { length (all_starts threads.old.list) ≤ vec_capacity renewed.old }
-    ensures threads { AreRenumbered (map S.number_of starts.now) writes.now.pages threads.old.list threads.new.list }
+    ensures threads { AreRenumbered (map S.number_of starts.now) writes.now.pages
+        threads.old.list threads.new.list }
     ensures capacity { vec_capacity renewed.old ≤ vec_capacity renewed.new }
 {
     for i in 0..threads.len() {

@@ -2,7 +2,7 @@
 ghost use Rattle.std.specs.Prelude.{◌≡◌, ◌≤◌, ◌+◌, ◌*◌, IfOk, length, map};
 ghost use Rattle.std.specs.List.Sorted.{IsNonDecreasingBy};
 ghost use Rattle.shadow_pages.specs.Pages.{zeros};
-ghost use Rattle.stamp_renumber.specs.Classes.{class, new_write};
+ghost use Rattle.stamp_renumber.specs.Classes.{new_write};
 ghost use Rattle.stamp_renumber.specs.Rows.{new_accesses};
 
 use crate::starts::classes_into;

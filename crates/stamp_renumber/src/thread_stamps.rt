@@ -28,7 +28,11 @@ impl<S: Stamp> Model for ThreadStamps<S> {
 
     ghost Value = { Stamped };
 
-    ghost view = { λ t. record { frames = t.frames.list; spare = t.frames.spare; pages = t.shadow.pages } };
+    ghost view = { λ t. record {
+      frames = t.frames.list;
+      spare = t.frames.spare;
+      pages = t.shadow.pages;
+    } };
 }
 
 impl<S: Stamp> ThreadStamps<S> {

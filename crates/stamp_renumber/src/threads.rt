@@ -40,7 +40,8 @@ impl<S: Lanes> Model for Threads<S> {
 
     ghost view = { λ t. record { threads = t.threads.list; marks = t.marks } };
 
-    ghost invariant = { λ t. IsKept t.threads.list t.frames t.marks (vec_capacity t.starts) (vec_capacity t.renewed) };
+    ghost invariant = { λ t. IsKept t.threads.list t.frames t.marks
+        (vec_capacity t.starts) (vec_capacity t.renewed) };
 }
 
 impl<S: Lanes> Threads<S> {
@@ -197,7 +198,10 @@ impl<S: Lanes> Threads<S> {
     #[inline(always)]
     pub fn frames(&self, tid: Tid) -> &Frames<S>
         requires { is_some (value_of self.now.threads tid) ≡ true }
-        ensures { result.now ≡ record { list = frames_of self.now.threads tid; spare = spare_of self.now.threads tid } }
+        ensures { result.now ≡ record {
+          list = frames_of self.now.threads tid;
+          spare = spare_of self.now.threads tid;
+        } }
     {
         self.threads.get(tid).unwrap().frames()
     }

@@ -3,6 +3,7 @@ use Rattle.std.proofs.Common.{◌≡◌, ℕ, zero, suc, ◌+◌, ◌<◌, min, 
 use Rattle.std.specs.Prelude.{filter, nat_lt, slice_get}
 use Rattle.std.specs.List.{list_any}
 use Rattle.std.proofs.lemmas.Bool.{ltb-true}
+use Rattle.std.proofs.Math.Bool.{or-false}
 use Rattle.std.proofs.lemmas.List.{append-nil, drop-drop, drop_more, length-drop, map-append, take-append-drop}
 use Rattle.std.proofs.lemmas.List.Elements.{filter-append}
 use Rattle.std.proofs.lemmas.List.Folds.{list_any-append}
@@ -64,11 +65,7 @@ least_above_more last live i t best result h so_far is =
     ∙ ap (λ ts. least (above last (able (take i live)) ++ ts)) (above_if last t.0 t.1) ∙ least_if (above last (able (take i live))) t.0 (t.1 && nat_lt last t.0))
 
 any_if : (tid t : ℕ) (b : Bool) → list_any (λ other. eqb other tid) (cond b (t ∷ []) []) ≡ (b && eqb t tid)
-any_if tid t true = by (eqb t tid)
-  where
-    by : (b : Bool) → (b || false) ≡ b
-    by true = refl
-    by false = refl
+any_if tid t true = or-false (eqb t tid)
 any_if tid t false = refl
 
 -- whether a thread can run, with one more thread

@@ -1,7 +1,7 @@
 //! The turn rule.
-ghost use Rattle.std.specs.Prelude.{◌≡◌, ◌==◌, ◌≤◌, ℕ, length, if◌then◌else◌, nat_lt, Some};
+ghost use Rattle.std.specs.Prelude.{◌≡◌, ◌==◌, ◌≤◌, length, if◌then◌else◌, Some};
 ghost use Rattle.std.specs.List.{list_any};
-ghost use Rattle.thread_sched.specs.TurnRule.{able, above, behind, least, lesser, next_thread, scheduled, turn_of};
+ghost use Rattle.thread_sched.specs.TurnRule.{able, above, behind, least, lesser, scheduled, turn_of};
 
 use crate::{Entry, Schedule};
 use guest_words::limits::QUANTUM_STEPS;
@@ -92,7 +92,12 @@ impl Model for Sched {
 
     ghost Value = { SchedulerState };
 
-    ghost view = { λ s. record { quantum = s.quantum; last = s.last; line = s.used + 1; entries = drop s.used s.entries.items } };
+    ghost view = { λ s. record {
+      quantum = s.quantum;
+      last = s.last;
+      line = s.used + 1;
+      entries = drop s.used s.entries.items;
+    } };
 
     ghost invariant = { λ s. s.used ≤ length s.entries.items };
 }

@@ -23,10 +23,6 @@ Entry = ℕ × List ℕ
 abbrev Below : Entry → Entry → Type 0
 Below x y = x.0 < y.0
 
--- the first name rises
-pub rising_one : (x : Entry) → IsRising ([] ++ x ∷ [])
-rising_one x i j d before low = absurd (omega arith)
-
 pub rising_push : (names : Names) (x : Entry) (last : Entry) → IsRising names → 1 ≤ length names → last.0 < x.0 → ((d : Entry) → get_or names (length names - 1) d ≡ last) → IsRising (names ++ x ∷ [])
 rising_push names x last rising some above is = all_pairs_push Below names x rising each
   where

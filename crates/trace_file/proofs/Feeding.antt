@@ -95,9 +95,6 @@ fed_record s new b es es' result high fed = record {
   reads = λ bytes past is. goes_either new (bytes ++ b ∷ []) (past_after past fed.more) result (fed.reads bytes past (at_record s bytes past high is));
 }
 
-pub may_read_record : (s : ReaderState) → MayReadByte IsReading s → 14 ≤ s.line → MayReadByte IsAtRecord s
-may_read_record s may high = record { bytes = may.bytes; past = may.past; now = at_record s may.bytes may.past high may.now; room = may.room }
-
 -- ---- and what is refused from then on
 any_refusal : (s : ReaderState) (o : Option TraceError) (bytes : List ℕ) (past : List Event) → IsReading s bytes past → IsReading (record s { refusal = o }) bytes past
 any_refusal s o bytes past (inl at) = inl (record { line = at.line; read = at.read; none = at.none; order = at.order; names = at.names; finish = at.finish; held = at.held; place = at.place })
@@ -121,9 +118,6 @@ fed_byte s mid new b es es' result none fed same = record {
 }
 
 -- ---- pieces
-pub fed_nothing : (s : ReaderState) (es : List Event) → HasFed s s [] es es
-fed_nothing s es = record { more = []; appended = sym (append-nil es); read = λ bytes past is. subst (λ y. HasRead s y past) (sym (append-nil bytes)) is }
-
 pub fed_more : (s mid new : ReaderState) (xs ys : List ℕ) (es es' es'' : List Event) → HasFed s mid xs es es' → HasFed mid new ys es' es'' → HasFed s new (xs ++ ys) es es''
 fed_more s mid new xs ys es es' es'' first second = record {
   more = first.more ++ second.more;

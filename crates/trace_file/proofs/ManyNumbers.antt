@@ -1,7 +1,8 @@
 -- Numbers one behind the other.
-use Rattle.std.proofs.Common.{suc, add-one, ◌≡◌, ℕ, ◌+◌, ◌≤◌, ◌<◌, ◌++◌, ◌∷◌, [], ◌^◌, ◌/◌, ◌%◌, List, length, take, drop, map, get_or, refl, sym, subst, ap, ◌∙◌, arith, append_assoc, append-nil, All}
+use Rattle.std.proofs.Common.{suc, add-one, ◌≡◌, ℕ, ◌+◌, ◌<◌, ◌++◌, ◌∷◌, [], ◌^◌, ◌/◌, ◌%◌, List, length, take, drop, map, get_or, refl, sym, subst, ap, ◌∙◌, arith, append_assoc, append-nil, All}
 use Rattle.std.specs.List.{flat_map, AllByRecursion}
 use Rattle.std.proofs.Math.ListN.{set}
+use Rattle.std.proofs.Math.Nat.{le_refl}
 use Rattle.std.proofs.Math.Seq.{drop-cons, take-suc, take-suc-set}
 use Rattle.std.proofs.lemmas.Grind.{flat_map-append}
 use Rattle.std.proofs.lemmas.List.{get_or-drop, length-drop, take-append-drop}
@@ -38,10 +39,7 @@ least_of rs = map (λ r. r.least) rs
 
 least_fit : (rs : List Range) → AllByRecursion IsSound rs → AreInRanges (least_of rs) rs
 least_fit [] sound = tt
-least_fit (r ∷ rs) sound = ((refl_le r.least, sound.0.some), least_fit rs sound.1)
-  where
-    refl_le : (n : ℕ) → n ≤ n
-    refl_le n = omega arith
+least_fit (r ∷ rs) sound = ((le_refl r.least, sound.0.some), least_fit rs sound.1)
 
 -- the first number of numbers
 parts : (r : Range) (rs : List Range) (x : List ℕ) → AreNumbers (r ∷ rs) x → (n : ℕ) × (y : List ℕ) × IsIn r n × AreNumbers rs y × (x ≡ number_bytes n ++ y)

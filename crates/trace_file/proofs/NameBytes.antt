@@ -3,6 +3,7 @@ use Rattle.std.proofs.Common.{zero, suc, ◌≡◌, ℕ, ◌-◌, ◌≤◌, ◌
 use Rattle.std.specs.Prelude.{nat_le}
 use Rattle.std.specs.List.{list_all}
 use Rattle.std.proofs.Math.Seq.{take-append_seam}
+use Rattle.std.proofs.lemmas.Bool.{true≢false}
 use Rattle.std.proofs.lemmas.Bool.Decides.{nat_tests}
 use Rattle.std.proofs.lemmas.List.{length-replicate, take-append-drop, take-append-le}
 use Rattle.std.proofs.lemmas.List.Folds.{list_all-append}
@@ -39,31 +40,28 @@ begun_name bytes len least most short visible =
       unfinished = λ x rest name same. absurd (omega (arith, ap length same, length-append x rest, name.1));
     }
 
-apart : true ≡ false → ⊥
-apart e = cc
-
 is_visible_name : (x : List ℕ) → is_name x ≡ true → list_all is_visible x ≡ true
 is_visible_name x name = by (not (is_dash x)) (nat_le 1 (length x)) (nat_le (length x) NAME_BYTES) (list_all is_visible x) name
   where
     by : (a b c d : Bool) → (a && b && c && d) ≡ true → d ≡ true
     by a b c true all = refl
-    by true true true false all = absurd (apart (sym all))
-    by true true false false all = absurd (apart (sym all))
-    by true false c false all = absurd (apart (sym all))
-    by false b c false all = absurd (apart (sym all))
+    by true true true false all = absurd (true≢false (sym all))
+    by true true false false all = absurd (true≢false (sym all))
+    by true false c false all = absurd (true≢false (sym all))
+    by false b c false all = absurd (true≢false (sym all))
 
 -- an early byte that can't stand in a name
 pub none_early : (bytes : List ℕ) (len : ℕ) → length bytes < len → list_all is_visible bytes ≡ false → IsNone (IsNameOf len) bytes
 none_early bytes len short hidden x more rest name same =
     let begins : bytes ≡ take (length bytes) x = sym (take-append_seam bytes more) ∙ ap (take (length bytes)) same ∙ take-append-le (length bytes) x rest (omega (arith, name.1)) in
     let split : x ≡ bytes ++ drop (length bytes) x = sym (take-append-drop (length bytes) x) ∙ ap (λ y. y ++ drop (length bytes) x) (sym begins) in
-    apart (sym (is_visible_name x name.0) ∙ ap (list_all is_visible) split ∙ list_all-append is_visible bytes (drop (length bytes) x) ∙ ap (λ b. b && list_all is_visible (drop (length bytes) x)) hidden)
+    true≢false (sym (is_visible_name x name.0) ∙ ap (list_all is_visible) split ∙ list_all-append is_visible bytes (drop (length bytes) x) ∙ ap (λ b. b && list_all is_visible (drop (length bytes) x)) hidden)
 
 -- so many bytes that are no name
 pub none_whole : (bytes : List ℕ) (len : ℕ) → len ≤ length bytes → is_name (take len bytes) ≡ false → IsNone (IsNameOf len) bytes
 none_whole bytes len long bad x more rest name same =
     let is : take len bytes ≡ x = sym (take-append-le len bytes more long) ∙ ap (take len) same ∙ ap (λ n. take n (x ++ rest)) (sym name.1) ∙ take-append_seam x rest in
-    apart (sym name.0 ∙ ap is_name (sym is) ∙ bad)
+    true≢false (sym name.0 ∙ ap is_name (sym is) ∙ bad)
 
 -- a name of each length
 pub named_filler : (n : ℕ) → 1 ≤ n → n ≤ NAME_BYTES → is_name (replicate n 97) ≡ true

@@ -1,10 +1,8 @@
 //! Reading a trace, in any pieces.
-ghost use Rattle.std.specs.Prelude.{◌≡◌, ◌≢◌, ◌≤◌, ◌<◌, ◌^◌, ◌+◌, ◌++◌, ◌∷◌, [], ℕ, List, None, Some, length, Err, get_or, IfErr, IfOk, IsTrue, MatchResult, OnErr, OnOk, ◌↔◌};
+ghost use Rattle.std.specs.Prelude.{◌≡◌, ◌≢◌, ◌<◌, ◌^◌, ◌+◌, ◌++◌, ◌∷◌, [], ℕ, List, None, Some, length, Err, get_or, IfErr, IfOk, IsTrue, OnErr, OnOk, ◌↔◌};
 ghost use Rattle.std.specs.Result.{result_err};
 ghost use Rattle.trace_file.specs.declared.errors.TraceError.{TraceError};
 ghost use Rattle.trace_model.specs.declared.event_kinds.Event.{Event};
-ghost use Rattle.trace_model.specs.Cut.{past_after};
-ghost use Rattle.trace_order.specs.Order.{IsOrderOf};
 ghost use Rattle.trace_file.specs.declared.records.Record.TheVariants.{OfEvent, OfName, OfFinish};
 ghost use Rattle.trace_file.specs.Records.{Fits};
 ghost use Rattle.trace_file.specs.Reading.{HasFed, HasRead, IsAtRecord, IsReading, IsRefused, MayFeed};
@@ -46,7 +44,15 @@ impl Model for TraceReader {
 
     ghost Value = { ReaderState };
 
-    ghost view = { λ r. record { line = r.line; held = r.held.items; at = r.at; order = r.order; names = r.names.items; finish = r.finish; refusal = r.refusal } };
+    ghost view = { λ r. record {
+      line = r.line;
+      held = r.held.items;
+      at = r.at;
+      order = r.order;
+      names = r.names.items;
+      finish = r.finish;
+      refusal = r.refusal;
+    } };
 }
 
 /// Whether an entry is above those of all names, which rise.
@@ -74,7 +80,6 @@ fn push_byte(held: &mut Vec<u8>, byte: u8) -> Result<(), AllocError>
 }
 
 impl TraceReader {
-    // Adds an event.
     fn add_event(&mut self, e: Event, events: &mut Events) -> Result<(), TraceError>
         requires begun { (past : List Event) × IsOpen self.old past }
         requires fits { Fits (OfEvent e) }
@@ -94,7 +99,6 @@ impl TraceReader {
         Ok(())
     }
 
-    // Adds a name.
     fn add_name(&mut self, entry: Addr, name: Name) -> Result<(), TraceError>
         requires begun { (past : List Event) × IsOpen self.old past }
         requires fits { Fits (OfName entry name) }
@@ -110,7 +114,6 @@ impl TraceReader {
         Ok(())
     }
 
-    // Adds the end.
     fn add_finish(&mut self, f: Finish)
         requires fits { Fits (OfFinish f) }
         ensures { (past : List Event) → IsOpen self.old past
@@ -119,7 +122,6 @@ impl TraceReader {
         self.finish = Some(f);
     }
 
-    // Adds a record.
     fn add_record(&mut self, next: Record, events: &mut Events) -> Result<(), TraceError>
         requires begun { (past : List Event) × IsOpen self.old past }
         requires fits { Fits next }

@@ -12,7 +12,7 @@ ghost use Rattle.std.specs.List.{flat_map, list_all};
 
 use crate::records::{Form, Range, Record};
 use guest_words::limits::{LAST_TID, NAME_BYTES};
-use guest_words::{Addr, FaultKind, Finish, Name, NameError, Tid, Word};
+use guest_words::{FaultKind, Finish, Name, NameError, Tid, Word};
 use std::alloc::Global;
 use trace_model::Event;
 

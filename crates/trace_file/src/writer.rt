@@ -1,5 +1,5 @@
 //! Writing a trace.
-ghost use Rattle.std.specs.Prelude.{◌≡◌, ◌≤◌, ◌<◌, ◌++◌, ◌∷◌, [], ℕ, List, length, take, map, OnErr, OnOk, IfOk};
+ghost use Rattle.std.specs.Prelude.{◌≡◌, ◌≤◌, ◌++◌, ◌∷◌, [], ℕ, List, length, OnErr, OnOk, IfOk};
 ghost use Rattle.std.specs.List.{flat_map, AllByRecursion};
 ghost use Rattle.guest_words.specs.declared.endings.Finish.TheVariants as ends;
 ghost use Rattle.trace_model.specs.declared.event_kinds.Event.{Event};

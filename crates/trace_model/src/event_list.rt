@@ -19,7 +19,10 @@ impl Model for Events {
 
     ghost Value = { EventList };
 
-    ghost view = { λ e. record { list = e.items.items; room = vec_capacity e.items - vec_len e.items } };
+    ghost view = { λ e. record {
+      list = e.items.items;
+      room = vec_capacity e.items - vec_len e.items;
+    } };
 }
 
 impl Events {

@@ -94,7 +94,9 @@ fn counted_touch(inside: &[Event], past: &[Event], tid: Tid, word: u64) -> Optio
 /// The parts that a read of `count` words from `first` on adds.
 fn parts_of_read(inside: &[Event], past: &[Event], tid: Tid, first: Word, count: u32) -> SizeParts
     ensures { result
-        ≡ parts_by (λ cause. count_by (counts_by cause (reverse inside.now) (reverse past.now) tid) (range_with_len first count)) }
+        ≡ parts_by (λ cause. count_by
+        (counts_by cause (reverse inside.now) (reverse past.now) tid)
+        (range_with_len first count)) }
 {
     let first = u64::from(first.number());
     let mut parts = SizeParts::NONE;

@@ -1,17 +1,17 @@
 -- Threads by rising number: where one is found, and what is among them after a change.
-use Rattle.std.proofs.Common.{inl, inr, ◌≡◌, ℕ, ◌+◌, ◌<◌, ◌≤◌, Bool, true, false, not, ◌&&◌, ◌||◌, List, [], ◌∷◌, ◌++◌, length, get_or, Option, Some, None, Result, Ok, Err, refl, sym, ap, ◌∙◌, arith, All, AllPairs}
+use Rattle.std.proofs.Common.{inl, inr, ◌≡◌, ℕ, ◌+◌, ◌<◌, ◌≤◌, Bool, true, false, not, ◌&&◌, ◌||◌, List, ◌∷◌, length, get_or, Option, Some, None, Result, Ok, Err, refl, sym, ap, ◌∙◌, arith, All, AllPairs}
 use Rattle.std.specs.Prelude.{nat_eq, is_some, MatchOption}
 use Rattle.std.specs.List.{remove}
 use Rattle.std.specs.Ordering.{nat_cmp}
 use Rattle.std.specs.List.Sorted.{IsBinarySearchResult}
 use Rattle.std.specs.Result.{MatchResult, result_ok}
-use Rattle.std.proofs.lemmas.Bool.{cases_lt}
+use Rattle.std.proofs.lemmas.Bool.{cases_lt, eq-eqb}
 use Rattle.std.proofs.lemmas.Bool.Decides.{nat_tests}
 use Rattle.std.proofs.lemmas.List.{get_or_default}
 use Rattle.std.proofs.lemmas.List.Edits.{length-remove, get_or-remove_below, get_or-remove_above}
-use Rattle.std.proofs.lemmas.List.Elements.{All-from_get_or, All-get_or, All-tail}
-use Rattle.std.proofs.lemmas.List.Folds.{list_any-append, list_any_none, list_any_at}
-use Rattle.std.proofs.lemmas.List.Quantifiers.{all_pairs_push, all_pairs_remove}
+use Rattle.std.proofs.lemmas.List.Elements.{All-from_get_or, All-tail}
+use Rattle.std.proofs.lemmas.List.Folds.{list_any_none, list_any_at}
+use Rattle.std.proofs.lemmas.List.Quantifiers.{all_pairs_remove}
 use Rattle.std.proofs.lemmas.List.Sorted.{searched, IsPermutation-remove, IsPermutation-sym, list_any-IsPermutation, All-permutation}
 use Rattle.trace_order.specs.Order.{is_among}
 
@@ -31,9 +31,6 @@ apart_low t u low = grind (arith, nat_tests, low)
 apart_high : (t u : ℕ) → t < u → nat_eq t u ≡ false
 apart_high t u low = grind (arith, nat_tests, low)
 
-same : (t : ℕ) → nat_eq t t ≡ true
-same t = grind (arith, nat_tests)
-
 none_among : (xs : List ℕ) (t i : ℕ) → ((k : ℕ) → k < i → get_or xs k 0 < t) → ((k : ℕ) → i ≤ k → k < length xs → t < get_or xs k 0) → is_among xs t ≡ false
 none_among xs t i below above = list_any_none (nat_eq t) xs (All-from_get_or (λ u. nat_eq t u ≡ false) xs 0 each)
   where
@@ -45,7 +42,7 @@ none_among xs t i below above = list_any_none (nat_eq t) xs (All-from_get_or (λ
         ]
 
 among_at : (xs : List ℕ) (t i : ℕ) → i < length xs → get_or xs i 0 ≡ t → is_among xs t ≡ true
-among_at xs t i low is = list_any_at (nat_eq t) xs i 0 low (ap (nat_eq t) is ∙ same t)
+among_at xs t i low is = list_any_at (nat_eq t) xs i 0 low (ap (nat_eq t) is ∙ eq-eqb t t refl)
 
 -- what a search finds
 pub found : (xs : List ℕ) (t : ℕ) (r : Result ℕ ℕ) → IsRising xs → IsBinarySearchResult (λ u. nat_cmp u t) xs r →
@@ -62,22 +59,7 @@ pub is_found : (xs : List ℕ) (t : ℕ) (o : Option ℕ) → MatchOption o (is_
 is_found xs t (Some i) is = sym (among_at xs t i is.0 is.1)
 is_found xs t None is = sym is
 
--- ---- one more
-pub among-push : (xs : List ℕ) (t u : ℕ) → is_among (xs ++ t ∷ []) u ≡ (nat_eq u t || is_among xs u)
-among-push xs t u = list_any-append (nat_eq u) xs (t ∷ []) ∙ by (is_among xs u) (nat_eq u t)
-  where
-    by : (a b : Bool) → (a || (b || false)) ≡ (b || a)
-    by true true = refl
-    by true false = refl
-    by false true = refl
-    by false false = refl
-
-pub rising-push : (xs : List ℕ) (t greatest : ℕ) → IsRising xs → All (λ u. u ≤ greatest) xs → greatest < t → IsRising (xs ++ t ∷ [])
-rising-push xs t greatest rising started above =
-    all_pairs_push (λ t u. t < u) xs t rising
-    (λ k d low. let at : get_or xs k d ≤ greatest = All-get_or (λ u. u ≤ greatest) xs k d low started in omega arith)
-
--- ---- and one less
+-- ---- one less
 pub among-remove : (xs : List ℕ) (t i : ℕ) → IsRising xs → i < length xs → get_or xs i 0 ≡ t → (u : ℕ) → is_among (remove xs i) u ≡ (not (nat_eq u t) && is_among xs u)
 among-remove xs t i rising low is u = by (nat_eq u t) refl
   where

@@ -27,9 +27,19 @@ impl Model for Order {
 
     ghost Value = { OrderState };
 
-    ghost view = { λ o. record { live = o.live.items; last = o.last; greatest = o.greatest; weight = o.weight } };
+    ghost view = { λ o. record {
+      live = o.live.items;
+      last = o.last;
+      greatest = o.greatest;
+      weight = o.weight;
+    } };
 
-    ghost invariant = { λ o. IsInOrder (record { live = o.live.items; last = o.last; greatest = o.greatest; weight = o.weight }) };
+    ghost invariant = { λ o. IsInOrder (record {
+      live = o.live.items;
+      last = o.last;
+      greatest = o.greatest;
+      weight = o.weight;
+    }) };
 }
 
 /// The place of the thread, if it is one of these.

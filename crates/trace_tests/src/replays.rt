@@ -1,3 +1,4 @@
+//! A trace of 49 bytes, replayed.
 use guest_words::Finish;
 use std::test::Fail;
 use trace_replay::replay;

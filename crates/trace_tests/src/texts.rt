@@ -1,5 +1,5 @@
 //! A trace of 49 bytes, written and read.
-ghost use Rattle.std.specs.Prelude.{◌≡◌, List, IfOk};
+ghost use Rattle.std.specs.Prelude.{List, IfOk};
 ghost use Rattle.trace_model.specs.declared.event_kinds.Event.{Event};
 ghost use Rattle.trace_order.specs.Order.{IsOrderOf};
 ghost use Rattle.trace_file.specs.TraceText.{IsTextOf};

@@ -1,18 +1,10 @@
 -- A thread has at most one deadline, also where one is added or some are taken out.
 use Rattle.std.proofs.Common.{◌≡◌, ℕ, Bool, true, false, ◌||◌, cond, nat_eq, List, [], ◌∷◌, ◌++◌, filter, refl, ap₂, ◌∙◌, arith}
 use Rattle.std.proofs.lemmas.List.Folds.{list_any-append}
+use Rattle.std.proofs.lemmas.Bool.{or_parts}
 use Rattle.std.proofs.lemmas.Bool.Decides.{nat_tests}
 use Rattle.virtual_clock.specs.declared.deadline.Deadline.{Deadline}
 use Rattle.virtual_clock.specs.Once.{has, IsOnce}
-
--- a disjunction that fails, by its sides
-or-left : (a b : Bool) → (a || b) ≡ false → a ≡ false
-or-left false b e = refl
-or-left true b e = absurd (cc)
-
-or-right : (a b : Bool) → (a || b) ≡ false → b ≡ false
-or-right false b e = e
-or-right true b e = absurd (cc)
 
 nat_eq-sym : (a b : ℕ) → nat_eq a b ≡ nat_eq b a
 nat_eq-sym a b = grind (arith, nat_tests)
@@ -21,8 +13,8 @@ nat_eq-sym a b = grind (arith, nat_tests)
 pub has-filter : (p : Deadline → Bool) (xs : List Deadline) (t : ℕ) → has xs t ≡ false → has (filter p xs) t ≡ false
 has-filter p [] t e = refl
 has-filter p (x ∷ xs) t e =
-    let here = or-left (nat_eq x.tid t) (has xs t) e in
-    let there = has-filter p xs t (or-right (nat_eq x.tid t) (has xs t) e) in
+    let here = (or_parts (nat_eq x.tid t) (has xs t) e).0 in
+    let there = has-filter p xs t (or_parts (nat_eq x.tid t) (has xs t) e).1 in
     elim (p x) as (λ b. has (cond b (x ∷ filter p xs) (filter p xs)) t ≡ false) [ true ↦ ap₂ (λ a b. a || b) here there | false ↦ there ]
 
 pub IsOnce-filter : (p : Deadline → Bool) (xs : List Deadline) → IsOnce xs → IsOnce (filter p xs)
@@ -34,5 +26,5 @@ IsOnce-filter p (x ∷ xs) once =
 pub IsOnce-push : (xs : List Deadline) (d : Deadline) → IsOnce xs → has xs d.tid ≡ false → IsOnce (xs ++ d ∷ [])
 IsOnce-push [] d once new = (refl, tt)
 IsOnce-push (x ∷ xs) d once new =
-    let here : nat_eq d.tid x.tid ≡ false = nat_eq-sym d.tid x.tid ∙ or-left (nat_eq x.tid d.tid) (has xs d.tid) new in
-    (list_any-append (λ e. nat_eq e.tid x.tid) xs (d ∷ []) ∙ ap₂ (λ a b. a || (b || false)) once.0 here, IsOnce-push xs d once.1 (or-right (nat_eq x.tid d.tid) (has xs d.tid) new))
+    let here : nat_eq d.tid x.tid ≡ false = nat_eq-sym d.tid x.tid ∙ (or_parts (nat_eq x.tid d.tid) (has xs d.tid) new).0 in
+    (list_any-append (λ e. nat_eq e.tid x.tid) xs (d ∷ []) ∙ ap₂ (λ a b. a || (b || false)) once.0 here, IsOnce-push xs d once.1 (or_parts (nat_eq x.tid d.tid) (has xs d.tid) new).1)

@@ -1,11 +1,9 @@
-use Rattle.std.proofs.Common.{◌≡◌, true, false, Some, ◌∙◌, sym, subst, ap}
+use Rattle.std.proofs.Common.{Some, ◌∙◌, sym, subst, ap}
+use Rattle.std.proofs.lemmas.Bool.{false≢true}
 use Rattle.cost_points.specs.Valid.{IsPoint}
 use Rattle.guest_words.proofs.Found.{nothing, same}
 use Rattle.profile_report.proofs.PointWords.{point_words, same_numbers}
 use Rattle.profile_report.proofs.point_reader.point_of.Goals as goal
-
-apart : false ≡ true → ⊥
-apart e = cc
 
 pub returns-in_err-sum-clause-only : goal.returns-in_err-sum-clause-only
 returns-in_err-sum-clause-only c p fits is =
@@ -32,4 +30,4 @@ returns-else-is_point-clause-only c p fits is =
     let most = c.in_ok-most.ensures.only p.most _ fits.most least.1 in
     let sum = same _ _ _ c.in_ok-sum.was (c.sum_and_split.ensures.only p.sum p.split fits.sum fits.split most.1) in
     let one = same_numbers _ p size.0 calls.0 least.0 most.0 (ap (λ x. x.0) sum) (ap (λ x. x.1) sum) in
-    absurd (apart (sym c.if-is_point.false ∙ c.is_point.ensures.1 (subst IsPoint (sym one) fits.costs)))
+    absurd (false≢true (sym c.if-is_point.false ∙ c.is_point.ensures.1 (subst IsPoint (sym one) fits.costs)))

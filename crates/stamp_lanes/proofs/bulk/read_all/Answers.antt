@@ -1,4 +1,4 @@
-use Rattle.std.proofs.Common.{◌≡◌, ℕ, ◌+◌, ◌≤◌, ◌<◌, ◌^◌, ◌∙◌, List, arith, length, map, take, refl, sym, subst, ap, get_or}
+use Rattle.std.proofs.Common.{◌≡◌, ◌≤◌, ◌<◌, ◌^◌, ◌∙◌, List, arith, length, map, refl, sym, subst, ap, get_or}
 use Rattle.std.proofs.lemmas.List.{get_or-map, length-map, take_all}
 use Rattle.stamp_lanes.specs.Plain.{IsBulk, Place, places}
 use Rattle.stamp_lanes.proofs.Columns.{numbers_both, numbers_like, place_columns, places_length}

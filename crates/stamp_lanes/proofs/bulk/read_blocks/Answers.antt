@@ -1,9 +1,9 @@
-use Rattle.std.proofs.Common.{◌≡◌, ◌+◌, ◌≤◌, ◌^◌, ◌∙◌, arith, length, map, take, drop, refl, sym, ap}
+use Rattle.std.proofs.Common.{◌≡◌, ◌+◌, ◌≤◌, ◌^◌, arith, length, map, take, drop}
 use Rattle.std.proofs.lemmas.List.{length-map}
-use Rattle.stamp_lanes.specs.Plain.{IsBulk, Place, places}
+use Rattle.stamp_lanes.specs.Plain.{places}
 use Rattle.stamp_lanes.proofs.Columns.{block_columns, numbers_both, numbers_like, places_length}
 use Rattle.stamp_lanes.proofs.Loaded.{loaded_is, loaded_length}
-use Rattle.stamp_lanes.proofs.Read.{FitBoth, bulk_more, more_fits}
+use Rattle.stamp_lanes.proofs.Read.{bulk_more, more_fits}
 use Rattle.stamp_lanes.proofs.bulk.read_blocks.Goals as goal
 
 pub read_block-more-requires : goal.read_block-more-requires

@@ -1,6 +1,5 @@
 use Rattle.std.proofs.Common.{◌≡◌, ◌+◌, ◌≤◌, ◌∙◌, ap, sym, arith, length, map, min, max}
 use Rattle.std.specs.List.{fold}
-use Rattle.std.specs.Simd.Lanes.{zip2}
 use Rattle.std.proofs.lemmas.Simd.{length-zip2}
 use Rattle.stamp_lanes.proofs.Folds.{greater_lanes, lesser_lanes, max_more, min_more}
 use Rattle.stamp_lanes.proofs.Loaded.{loaded_is, loaded_length}

@@ -1,4 +1,4 @@
-use Rattle.std.proofs.Common.{◌≡◌, ◌≤◌, ◌<◌, ◌+◌, ◌∙◌, ap, sym, arith, length, map, take, drop}
+use Rattle.std.proofs.Common.{◌≡◌, ◌≤◌, ◌<◌, ◌+◌, ◌∙◌, sym, arith, length, map, take, drop}
 use Rattle.std.proofs.lemmas.List.{length-map}
 use Rattle.stamp_lanes.specs.Plain.{renewals, renewed}
 use Rattle.stamp_lanes.proofs.Columns.{as_many, column_length, loaded_renewals}

@@ -1,4 +1,4 @@
-use Rattle.std.proofs.Common.{arith, ◌≡◌, ◌+◌, ◌<◌, ◌^◌, ◌∙◌, List, ap, subst, sym}
+use Rattle.std.proofs.Common.{arith, subst, sym}
 use Rattle.run_profile.specs.Profile.{IsProfileOf, Kept}
 use Rattle.run_profile.proofs.Profiles.{few_steps, observed, refused}
 use Rattle.run_profile.proofs.profile.ProfileObserver.observe.Goals as goal
