@@ -7,7 +7,6 @@ use Rattle.guest_memory.specs.Memory.{Memory, bytes_at}
 use Rattle.rv_exec.specs.Accesses.{can_read}
 use Rattle.guest_calls.specs.declared.descriptor.Descriptor.{Descriptor}
 use Rattle.guest_calls.specs.declared.descriptor.Descriptor.TheVariants.{Closed, StandardInput, Output, InputFile}
-use Rattle.guest_calls.specs.declared.outgoing.TheConstants.{WRITE_LIMIT}
 use Rattle.guest_calls.specs.Errors.{enoent, ebadf, eacces, efault, einval, emfile, espipe, enametoolong}
 use Rattle.guest_calls.specs.Inputs.{is_named}
 use Rattle.guest_calls.specs.Kernel.{KernelState, descriptor, with_descriptor}
@@ -142,7 +141,7 @@ llseek c =
 -- ---- read and write
 -- the most bytes that one call writes
 abbrev pub write_limit : ℕ
-write_limit = WRITE_LIMIT
+write_limit = 65536
 
 abbrev pub read : Call → CallResult
 read c =

@@ -11,7 +11,6 @@ use Rattle.elf_image.specs.Image.{Executable, Segment, touches}
 use Rattle.guest_calls.specs.Inputs.{Input}
 use Rattle.guest_calls.specs.Kernel.{started}
 use Rattle.guest_machine.specs.Machine.{MachineState}
-use Rattle.guest_machine.specs.declared.stack.TheConstants.{STRINGS_LIMIT}
 
 -- ---- the segments
 abbrev pub no_rights : Rights
@@ -70,7 +69,7 @@ strings arguments = flat_map (λ s. s ++ 0 ∷ []) arguments
 
 -- they have no more bytes than this
 abbrev pub strings_limit : ℕ
-strings_limit = STRINGS_LIMIT
+strings_limit = 65536
 
 -- where they stand: one after another, up to the random bytes
 abbrev pub strings_address : List (List ℕ) → ℕ
