@@ -20,11 +20,12 @@ use Rattle.cost_points.specs.declared.point.Point.{Point}
 use Rattle.cost_points.specs.Keys.{grouped}
 use Rattle.context_tree.specs.Contexts.{context_of, contexts, same, with_context}
 use Rattle.context_tree.specs.Links.{IsLinked, no_links}
-use Rattle.context_tree.specs.Numbers.{IsBeyond, IsNumberOf, numbered}
+use Rattle.context_tree.specs.Numbers.{IsBeyond, IsNumberOf, above_of, numbered}
 use Rattle.context_tree.specs.Numbers as by_number
 use Rattle.context_tree.specs.Points.{done_in_context, points_from, points_in, points_of}
-use Rattle.context_tree.specs.Trees.{Kept, StandsFor, current_of, with_list}
-use Rattle.context_tree.specs.Ways.{ArePoints, IsWay, above_of, tagged, up}
+use Rattle.context_tree.specs.Trees.{Kept, StandsFor, current_of}
+use Rattle.context_tree.specs.Adding.{with_list}
+use Rattle.context_tree.specs.Ways.{ArePoints, IsWay, tagged, up}
 use Rattle.context_tree.proofs.Known.{done_known, no_members}
 use Rattle.context_tree.proofs.Linking.{linked_none}
 use Rattle.context_tree.proofs.Numbering.{none_stand, not_none, same_front}

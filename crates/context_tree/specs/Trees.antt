@@ -1,5 +1,5 @@
 -- What is kept of the calling contexts of a run.
-use Rattle.std.specs.Prelude.{◌≡◌, ℕ, ◌+◌, ◌≤◌, length, Bool, if◌then◌else◌, List, [], ◌∷◌, ◌++◌, All, IsSomeAnd, is_some, map}
+use Rattle.std.specs.Prelude.{◌≡◌, ℕ, ◌+◌, ◌≤◌, length, List, [], ◌∷◌, ◌++◌, All, IsSomeAnd, is_some, map}
 use Rattle.std.specs.Option.{option_map_or}
 use Rattle.guest_words.specs.ByThread.{numbers, value_of}
 use Rattle.trace_model.specs.declared.event_kinds.Event.{Event}
@@ -66,7 +66,3 @@ pub record IsOfLight (kept : Kept) : Type 0 where
 -- The event begins a context that is not there, where there are as many as can be numbered.
 abbrev pub HasTooMany : Event → List Event → Type 0
 HasTooMany e past = IsSomeAnd (context_begun e past) (IsBeyond (contexts past))
-
--- the points of each context with those of a context that comes last, which has none, unless it is one of them
-abbrev pub with_list : Bool → List (List Point) → List (List Point)
-with_list there lists = if there then lists else lists ++ [] ∷ []

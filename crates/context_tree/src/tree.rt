@@ -13,7 +13,8 @@ ghost use Rattle.context_tree.specs.Links.{IsLinked};
 ghost use Rattle.context_tree.specs.Numbers.{IsBeyond, IsNumberOf, numbered};
 ghost use Rattle.context_tree.specs.Numbers as by_number;
 ghost use Rattle.context_tree.specs.Order.{IsFollowedBy, IsInOrder};
-ghost use Rattle.context_tree.specs.Trees.{HasTooMany, IsOfLight, IsOfSome, IsShown, MayApply, StandsFor, current_of, with_list};
+ghost use Rattle.context_tree.specs.Trees.{HasTooMany, IsOfLight, IsOfSome, IsShown, MayApply, StandsFor, current_of};
+ghost use Rattle.context_tree.specs.Adding.{with_list};
 ghost use Rattle.context_tree.specs.Ways.{ArePoints, IsWay, lists};
 
 use crate::order::{Links, add_link, after_under};
