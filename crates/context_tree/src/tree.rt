@@ -1,5 +1,5 @@
 //! The tree of a run's calling contexts.
-ghost use Rattle.std.specs.Prelude.{◌≡◌, ◌≤◌, ◌<◌, ◌++◌, ◌∷◌, [], true, ℕ, List, All, length, is_some, slice_index_or, Err, IfOk, OnErr, OnOk};
+ghost use Rattle.std.specs.Prelude.{◌≡◌, ◌≤◌, ◌<◌, ◌++◌, ◌∷◌, [], true, ℕ, List, All, length, is_some, slice_index_or, Err, IfOk, IsOk, None, OnErr, OnOk};
 ghost use Rattle.std.specs.List.{list_any};
 ghost use Rattle.guest_words.specs.ByThread.{numbers, value_of};
 ghost use Rattle.trace_model.specs.declared.event_kinds.Event.{Event};
@@ -8,7 +8,7 @@ ghost use Rattle.trace_model.specs.Profile.{done, ended};
 ghost use Rattle.cost_points.specs.Contents.{contents_of};
 ghost use Rattle.context_tree.specs.declared.errors.TreeError.{TreeError};
 ghost use Rattle.context_tree.specs.declared.numbers.TheConstants.{CONTEXTS};
-ghost use Rattle.context_tree.specs.Contexts.{contexts, same, with_context};
+ghost use Rattle.context_tree.specs.Contexts.{context_begun, contexts, same, with_context};
 ghost use Rattle.context_tree.specs.Links.{IsLinked};
 ghost use Rattle.context_tree.specs.Numbers.{IsBeyond, IsNumberOf, numbered};
 ghost use Rattle.context_tree.specs.Numbers as by_number;
@@ -106,7 +106,8 @@ impl Tree {
         })
     }
 
-    /// Takes one more event, and the activations that it ends, the innermost first. A refusal changes nothing.
+    /// Takes one more event, and the activations that it ends, the innermost first. A refusal changes nothing. An event that
+    /// begins no context and ends no activation is not refused.
     pub fn apply(&mut self, e: Event, ends: &[Done]) -> Result<(), TreeError>
         requires { MayApply self.old e ends.now }
         ensures stands { (past : List Event) → StandsFor self.old past → ends.now ≡ ended e past
@@ -116,6 +117,8 @@ impl Tree {
         ensures only_memory { (past : List Event) → StandsFor self.old past → HasTooMany e past
             → result ≡ Err TreeError.TooMany }
         ensures refused { OnErr result (self.new ≡ self.old) }
+        ensures no_memory { (past : List Event) → context_begun e past ≡ None → ends.now ≡ []
+            → IsOk result }
     {
         match e {
             Event::Start { tid, entry } => self.start(tid, entry),
@@ -286,6 +289,7 @@ impl Tree {
             → ends.now ≡ ended (Ret tid target) past
             → OnOk result (StandsFor self.new (Ret tid target ∷ past)) }
         ensures refused { OnErr result (self.new ≡ self.old) }
+        ensures no_memory { ends.now ≡ [] → IsOk result }
     {
         let from = self.current(tid);
         reserve_up(&mut self.points, &self.numbers, from, ends.len())?;
@@ -304,6 +308,7 @@ impl Tree {
             → ends.now ≡ ended (End tid) past
             → OnOk result (StandsFor self.new (End tid ∷ past)) }
         ensures refused { OnErr result (self.new ≡ self.old) }
+        ensures no_memory { ends.now ≡ [] → IsOk result }
     {
         let from = self.current(tid);
         reserve_up(&mut self.points, &self.numbers, from, ends.len())?;
