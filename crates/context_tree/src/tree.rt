@@ -74,6 +74,7 @@ fn begin(
         → IsBeyond contexts (numbered contexts above ++ entry ∷ []) → result ≡ Err TreeError.TooMany }
     ensures refused_numbers { OnErr result (numbers.new ≡ numbers.old) }
     ensures linked { OnOk result (IsLinked numbers.new links.new.items) }
+    ensures few { OnOk result (length numbers.new ≤ CONTEXTS) }
     ensures refused_points { OnErr result (lists points.new.items ≡ lists points.old.items) }
     ensures refused_links { OnErr result (links.new.items ≡ links.old.items) }
 {
