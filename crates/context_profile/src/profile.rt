@@ -1,5 +1,5 @@
 //! The contexts of a run that goes on.
-ghost use Rattle.std.specs.Prelude.{◌≡◌, ◌≤◌, [], ◌∷◌, List, IfOk, MatchOption, None, OnErr, OnOk};
+ghost use Rattle.std.specs.Prelude.{◌≡◌, ◌≤◌, [], ◌∷◌, List, IfOk, IsOk, MatchOption, None, OnErr, OnOk};
 ghost use Rattle.trace_model.specs.declared.event_kinds.Event.{Event};
 ghost use Rattle.trace_model.specs.Profile.{ended};
 ghost use Rattle.context_profile.specs.Kept.{AreContextsOf, AreOfLight, AreTotalsOf, HasTree, IsPastNumbers, MayGrow};
@@ -40,12 +40,15 @@ pub struct ContextTotals {
     pub tree: Tree,
 }
 
-// Takes an event into the tree, unless there is none any more. A tree that has no number for a context is dropped.
+// Takes an event into the tree, unless there is none any more. A tree that has no number for a context is dropped, which
+// wants no memory.
 fn grow(tree: &mut Option<Tree>, e: Event, ends: &[Done]) -> Result<(), AllocError>
     requires { MayGrow tree.old e ends.now }
     ensures grown { (past : List Event) → HasTree tree.old past → ends.now ≡ ended e past
         → OnOk result (HasTree tree.new (e ∷ past)) }
     ensures refused { OnErr result (tree.new ≡ tree.old) }
+    ensures no_memory { (past : List Event) → HasTree tree.old past → IsPastNumbers (e ∷ past)
+        → IsOk result }
 {
     let Some(kept) = tree else {
         return Ok(());
@@ -82,6 +85,8 @@ impl<S: Lanes> ContextProfile<S> {
         ensures stands { (past : List Event) → AreContextsOf S.MAX self.old past
             → AreContextsOf S.MAX self.new past }
         ensures settled { OnOk result (self.new.next ≡ None) }
+        ensures no_memory { (past : List Event) → AreContextsOf S.MAX self.old past
+            → IsPastNumbers past → IsOk result }
     {
         if let Some(e) = self.next {
             grow(&mut self.tree, e, &self.ended)?;
@@ -91,11 +96,13 @@ impl<S: Lanes> ContextProfile<S> {
         Ok(())
     }
 
-    /// What the run comes to with its contexts; `None` where they are more than can be numbered.
+    /// What the run comes to with its contexts; `None` where they are more than can be numbered, which wants no memory.
     pub fn into_totals(self, alloc: Global) -> Result<Option<ContextTotals>, AllocError>
         requires { AreOfLight S.MAX self }
-        ensures { IfOk result (λ found. (past : List Event) → AreContextsOf S.MAX self past
+        ensures totals { IfOk result (λ found. (past : List Event) → AreContextsOf S.MAX self past
             → MatchOption found (IsPastNumbers past) (λ totals. AreTotalsOf S.MAX totals past)) }
+        ensures no_memory { (past : List Event) → AreContextsOf S.MAX self past
+            → IsPastNumbers past → IsOk result }
     {
         let mut profile = self;
         profile.settle()?;
