@@ -1,6 +1,9 @@
 //! The contexts of a run that goes on.
-ghost use Rattle.std.specs.Prelude.{◌≡◌, ◌≤◌, [], ◌∷◌, List, IfOk, IsOk, MatchOption, None, OnErr, OnOk};
+ghost use Rattle.std.specs.Prelude.{◌≡◌, ◌≤◌, [], ◌∷◌, List, false, IfOk, IsOk, MatchOption, None, Ok, OnErr, OnOk};
 ghost use Rattle.trace_model.specs.declared.event_kinds.Event.{Event};
+ghost use Rattle.trace_model.specs.declared.observer.Observed.{Observed};
+ghost use Rattle.trace_model.specs.Depth.{is_within};
+ghost use Rattle.trace_model.specs.Observing.{MayTake, Observes, StandsAsBefore};
 ghost use Rattle.trace_model.specs.Profile.{ended};
 ghost use Rattle.context_profile.specs.Kept.{AreContextsOf, AreOfLight, AreTotalsOf, HasTree, IsPastNumbers, MayGrow};
 
@@ -87,6 +90,7 @@ impl<S: Lanes> ContextProfile<S> {
         ensures settled { OnOk result (self.new.next ≡ None) }
         ensures no_memory { (past : List Event) → AreContextsOf S.MAX self.old past
             → IsPastNumbers past → IsOk result }
+        ensures nothing { self.old.next ≡ None → IsOk result }
     {
         if let Some(e) = self.next {
             grow(&mut self.tree, e, &self.ended)?;
@@ -136,8 +140,17 @@ impl<S: Lanes> Observer for ContextProfile<S> {
 
     ghost fits_closed = { λ _. within_closed S.MAX };
 
+    // What is too deep is refused, and wants no memory where no event is still to come into the tree.
     #[inline(always)]
-    fn observe(&mut self, e: Event) -> Result<Observed, AllocError> {
+    fn observe(&mut self, e: Event) -> Result<Observed, AllocError>
+        requires { MayTake (AreContextsOf S.MAX) self.old e }
+        ensures observed { IfOk result (Observes (AreContextsOf S.MAX)
+            (is_within S.MAX) e self.old self.new) }
+        ensures refused { OnErr result (StandsAsBefore (AreContextsOf S.MAX) self.old self.new) }
+        ensures too_deep { (past : List Event) → AreContextsOf S.MAX self.old past
+            → self.old.next ≡ None → is_within S.MAX (e ∷ past) ≡ false
+            → result ≡ Ok Observed.Refused }
+    {
         self.settle()?;
         match self.profiler.apply(e, &mut self.ended) {
             Ok(()) => {
