@@ -1,6 +1,7 @@
 -- The misses of a run that goes on.
-use Rattle.std.specs.Prelude.{◌≡◌, ℕ, List}
+use Rattle.std.specs.Prelude.{◌≡◌, ℕ, Bool, true, false, List}
 use Rattle.trace_model.specs.declared.event_kinds.Event.{Event}
+use Rattle.trace_model.specs.declared.event_kinds.Event.TheVariants.{Fill, Step}
 use Rattle.trace_model.specs.Profile.{steps}
 use Rattle.trace_model.specs.WellFormed.{AreWords, IsWellFormed}
 use Rattle.call_tracker.specs.CallStacks.{Stacks}
@@ -26,6 +27,12 @@ pub record StandsFor (shape : Form) (kept : Kept) (past : List Event) : Type 0 w
   pub calls : calls.StandsFor kept.calls past
   pub routines : kept.routines ≡ by_routine (all_accesses shape past)
   pub steps_are : kept.steps ≡ steps past
+
+-- the event is a step or a fill
+abbrev pub is_step_or_fill : Event → Bool
+is_step_or_fill (Step _) = true
+is_step_or_fill (Fill _ _) = true
+is_step_or_fill _ = false
 
 -- It is that of some well-formed past, and there are such words.
 pub record MayAccess (shape : Form) (kept : Kept) (first count : ℕ) : Type 0 where

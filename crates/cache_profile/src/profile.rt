@@ -1,10 +1,11 @@
 //! The misses of a run that goes on.
-ghost use Rattle.std.specs.Prelude.{◌≡◌, ◌<◌, [], ◌∷◌, List, length, slice_get, IfOk, OnErr, OnOk};
+ghost use Rattle.std.specs.Prelude.{◌≡◌, ◌<◌, [], ◌∷◌, List, true, length, slice_get, IfOk, IsOk, OnErr, OnOk};
 ghost use Rattle.trace_model.specs.declared.event_kinds.Event.{Event};
 ghost use Rattle.trace_model.specs.declared.event_kinds.Event.TheVariants.{Read, Write};
+ghost use Rattle.trace_model.specs.Observing.{MayTake, Observes, StandsAsBefore};
 ghost use Rattle.call_tracker.specs.CallStacks.{StandsFor as CallsOf};
 ghost use Rattle.cache_profile.specs.ByRoutine.{innermost};
-ghost use Rattle.cache_profile.specs.Profile.{MayAccess, StandsFor};
+ghost use Rattle.cache_profile.specs.Profile.{MayAccess, StandsFor, is_step_or_fill};
 
 use crate::RoutineMisses;
 use crate::lines::access_words;
@@ -129,7 +130,13 @@ impl<K: Shaped> Observer for CacheProfile<K> {
 
     ghost fits_closed = { λ profile e past fits. refl };
 
-    fn observe(&mut self, e: Event) -> Result<Observed, AllocError> {
+    // It takes every event. Steps and fills want no memory.
+    fn observe(&mut self, e: Event) -> Result<Observed, AllocError>
+        requires { MayTake (StandsFor K.shape) self.old e }
+        ensures observed { IfOk result (Observes (StandsFor K.shape) (λ past. true) e self.old self.new) }
+        ensures refused { OnErr result (StandsAsBefore (StandsFor K.shape) self.old self.new) }
+        ensures no_memory { is_step_or_fill e ≡ true → IsOk result }
+    {
         match e {
             Event::Read { tid, first, count } => self.access(tid, first, count)?,
             Event::Write { tid, first, count } => self.access(tid, first, count)?,

@@ -1,6 +1,9 @@
 //! The contexts of a run that goes on.
-ghost use Rattle.std.specs.Prelude.{◌≡◌, ◌≤◌, [], ◌∷◌, List, IfOk, MatchOption, None, OnErr, OnOk};
+ghost use Rattle.std.specs.Prelude.{◌≡◌, ◌≤◌, [], ◌∷◌, List, false, IfOk, IsOk, MatchOption, None, Ok, OnErr, OnOk};
 ghost use Rattle.trace_model.specs.declared.event_kinds.Event.{Event};
+ghost use Rattle.trace_model.specs.declared.observer.Observed.{Observed};
+ghost use Rattle.trace_model.specs.Depth.{is_within};
+ghost use Rattle.trace_model.specs.Observing.{MayTake, Observes, StandsAsBefore};
 ghost use Rattle.trace_model.specs.Profile.{ended};
 ghost use Rattle.context_profile.specs.Kept.{AreContextsOf, AreOfLight, AreTotalsOf, HasTree, IsPastNumbers, MayGrow};
 
@@ -40,12 +43,15 @@ pub struct ContextTotals {
     pub tree: Tree,
 }
 
-// Takes an event into the tree, unless there is none any more. A tree that has no number for a context is dropped.
+// Takes an event into the tree, unless there is none any more. A tree that has no number for a context is dropped, which
+// wants no memory.
 fn grow(tree: &mut Option<Tree>, e: Event, ends: &[Done]) -> Result<(), AllocError>
     requires { MayGrow tree.old e ends.now }
     ensures grown { (past : List Event) → HasTree tree.old past → ends.now ≡ ended e past
         → OnOk result (HasTree tree.new (e ∷ past)) }
     ensures refused { OnErr result (tree.new ≡ tree.old) }
+    ensures no_memory { (past : List Event) → HasTree tree.old past → IsPastNumbers (e ∷ past)
+        → IsOk result }
 {
     let Some(kept) = tree else {
         return Ok(());
@@ -82,6 +88,9 @@ impl<S: Lanes> ContextProfile<S> {
         ensures stands { (past : List Event) → AreContextsOf S.MAX self.old past
             → AreContextsOf S.MAX self.new past }
         ensures settled { OnOk result (self.new.next ≡ None) }
+        ensures no_memory { (past : List Event) → AreContextsOf S.MAX self.old past
+            → IsPastNumbers past → IsOk result }
+        ensures nothing { self.old.next ≡ None → IsOk result }
     {
         if let Some(e) = self.next {
             grow(&mut self.tree, e, &self.ended)?;
@@ -91,11 +100,13 @@ impl<S: Lanes> ContextProfile<S> {
         Ok(())
     }
 
-    /// What the run comes to with its contexts; `None` where they are more than can be numbered.
+    /// What the run comes to with its contexts; `None` where they are more than can be numbered, which wants no memory.
     pub fn into_totals(self, alloc: Global) -> Result<Option<ContextTotals>, AllocError>
         requires { AreOfLight S.MAX self }
-        ensures { IfOk result (λ found. (past : List Event) → AreContextsOf S.MAX self past
+        ensures totals { IfOk result (λ found. (past : List Event) → AreContextsOf S.MAX self past
             → MatchOption found (IsPastNumbers past) (λ totals. AreTotalsOf S.MAX totals past)) }
+        ensures no_memory { (past : List Event) → AreContextsOf S.MAX self past
+            → IsPastNumbers past → IsOk result }
     {
         let mut profile = self;
         profile.settle()?;
@@ -129,8 +140,17 @@ impl<S: Lanes> Observer for ContextProfile<S> {
 
     ghost fits_closed = { λ _. within_closed S.MAX };
 
+    // What is too deep is refused, and wants no memory where no event is still to come into the tree.
     #[inline(always)]
-    fn observe(&mut self, e: Event) -> Result<Observed, AllocError> {
+    fn observe(&mut self, e: Event) -> Result<Observed, AllocError>
+        requires { MayTake (AreContextsOf S.MAX) self.old e }
+        ensures observed { IfOk result (Observes (AreContextsOf S.MAX)
+            (is_within S.MAX) e self.old self.new) }
+        ensures refused { OnErr result (StandsAsBefore (AreContextsOf S.MAX) self.old self.new) }
+        ensures too_deep { (past : List Event) → AreContextsOf S.MAX self.old past
+            → self.old.next ≡ None → is_within S.MAX (e ∷ past) ≡ false
+            → result ≡ Ok Observed.Refused }
+    {
         self.settle()?;
         match self.profiler.apply(e, &mut self.ended) {
             Ok(()) => {

@@ -9,9 +9,9 @@ use Rattle.cost_points.specs.declared.point.Point.{Point}
 use Rattle.cost_points.specs.Points.{point_of}
 use Rattle.cost_points.proofs.Merged.{sized-more}
 use Rattle.context_tree.specs.Contexts.{same}
-use Rattle.context_tree.specs.Numbers.{StandsFor, numbered}
+use Rattle.context_tree.specs.Numbers.{StandsFor, above_of, numbered}
 use Rattle.context_tree.specs.Points.{members_of, points_from, points_of}
-use Rattle.context_tree.specs.Ways.{ArePoints, HasSpare, IsWay, PointList, above_of, lists, no_points, tagged, up, with_ended}
+use Rattle.context_tree.specs.Ways.{ArePoints, HasSpare, IsWay, PointList, lists, no_points, tagged, up, with_ended}
 use Rattle.context_tree.proofs.Numbering.{other_told, same_told}
 
 -- ---- the way up

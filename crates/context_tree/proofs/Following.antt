@@ -18,13 +18,15 @@ use Rattle.trace_model.specs.Profile.{done_of, ended}
 use Rattle.trace_model.specs.WellFormed.{IsLight, IsRunning, MayFollow, greatest_start, is_live}
 use Rattle.cost_points.specs.declared.point.Point.{Point}
 use Rattle.cost_points.specs.Keys.{grouped}
+use Rattle.context_tree.specs.declared.numbers.TheConstants.{CONTEXTS}
 use Rattle.context_tree.specs.Contexts.{context_of, contexts, same, with_context}
 use Rattle.context_tree.specs.Links.{IsLinked, no_links}
-use Rattle.context_tree.specs.Numbers.{IsBeyond, IsNumberOf, numbered}
+use Rattle.context_tree.specs.Numbers.{IsBeyond, IsNumberOf, above_of, numbered}
 use Rattle.context_tree.specs.Numbers as by_number
 use Rattle.context_tree.specs.Points.{done_in_context, points_from, points_in, points_of}
-use Rattle.context_tree.specs.Trees.{Kept, StandsFor, current_of, with_list}
-use Rattle.context_tree.specs.Ways.{ArePoints, IsWay, above_of, tagged, up}
+use Rattle.context_tree.specs.Trees.{Kept, StandsFor, current_of}
+use Rattle.context_tree.specs.Adding.{with_list}
+use Rattle.context_tree.specs.Ways.{ArePoints, IsWay, tagged, up}
 use Rattle.context_tree.proofs.Known.{done_known, no_members}
 use Rattle.context_tree.proofs.Linking.{linked_none}
 use Rattle.context_tree.proofs.Numbering.{none_stand, not_none, same_front}
@@ -159,11 +161,13 @@ module _ (old new : Kept) (past : List Event) (e : Event) (tid n : ℕ) (a : Act
   grown = begins ∙ ap (with_context (contexts past)) own_context
 
   pub stands-begun : IsLinked new.places new.links → by_number.StandsFor new.places (with_context (contexts past) (numbered (contexts past) (current_of old tid) ++ a.entry ∷ [])) →
+      length new.places ≤ CONTEXTS →
       new.points ≡ with_list (list_any (same (numbered (contexts past) (current_of old tid) ++ a.entry ∷ [])) (contexts past)) old.points →
       IsNumberOf (with_context (contexts past) (numbered (contexts past) (current_of old tid) ++ a.entry ∷ [])) n (numbered (contexts past) (current_of old tid) ++ a.entry ∷ []) →
       ((t : ℕ) → value_of new.threads t ≡ cond (tid == t) (Some n) (value_of old.threads t)) →
       ((t : ℕ) → is_some (value_of new.threads t) ≡ is_live (e ∷ past) t) → All (λ n. n ≤ greatest_start (e ∷ past)) (numbers new.threads) → StandsFor new (e ∷ past)
-  stands-begun linked places points number reads live began = record {
+  stands-begun linked places few points number reads live began = record {
+    few = omega (arith, few, places.long, ap length grown);
     links_are = linked;
     contexts_are = subst (by_number.StandsFor new.places) (sym grown) places;
     points_are =
@@ -202,6 +206,7 @@ module _ (old new : Kept) (past : List Event) (e : Event) (tid count : ℕ) (ds 
       ((t : ℕ) → (tid == t) ≡ false → open_calls (e ∷ past) t ≡ open_calls past t) →
       ((t : ℕ) → is_some (value_of new.threads t) ≡ is_live (e ∷ past) t) → All (λ n. n ≤ greatest_start (e ∷ past)) (numbers new.threads) → StandsFor new (e ∷ past)
   stands-ended v linked places points reads own others live began = record {
+    few = subst (λ (cs : List (List ℕ)). length cs ≤ CONTEXTS) (sym same_contexts) stands.few;
     links_are = linked;
     contexts_are = subst (by_number.StandsFor new.places) (sym same_contexts) places;
     points_are = points_ended points;
@@ -217,6 +222,7 @@ module _ (old new : Kept) (past : List Event) (e : Event) (tid count : ℕ) (ds 
 pub record HasBegun (old new : Kept) (known : List (List ℕ)) (above entry n : ℕ) : Type 0 where
   pub linked : IsLinked new.places new.links
   pub places : by_number.StandsFor new.places (with_context known (numbered known above ++ entry ∷ []))
+  pub few : length new.places ≤ CONTEXTS
   pub points : new.points ≡ with_list (list_any (same (numbered known above ++ entry ∷ [])) known) old.points
   pub number : IsNumberOf (with_context known (numbered known above ++ entry ∷ [])) n (numbered known above ++ entry ∷ [])
 
@@ -236,7 +242,7 @@ module _ (old new : Kept) (past : List Event) (tid entry n : ℕ) (above : All (
   pub stands-start : new.threads ≡ old.threads ++ (tid, n) ∷ [] → HasBegun old new (contexts past) 0 entry n → StandsFor new (Start tid entry ∷ past)
   stands-start threads first =
       let begun : HasBegun old new (contexts past) (current_of old tid) entry n = subst (λ m. HasBegun old new (contexts past) m entry n) (sym (first_number old tid above)) first in
-      stands-begun old new past (Start tid entry) tid n (record { at = length past; entry = entry; back = None }) stands (λ t. refl) refl (nothing_more past) begun.linked begun.places begun.points begun.number reads
+      stands-begun old new past (Start tid entry) tid n (record { at = length past; entry = entry; back = None }) stands (λ t. refl) refl (nothing_more past) begun.linked begun.places begun.few begun.points begun.number reads
       (λ t. ap is_some (reads t) ∙ live t (tid == t) refl)
       (All-same (λ n. n ≤ max tid (greatest_start past)) (numbers new.threads) (numbers old.threads ++ tid ∷ [])
       (ap numbers threads ∙ map-append (λ x. x.0) old.threads ((tid, n) ∷ []))
@@ -277,7 +283,7 @@ pub stands-call : (old new : Kept) (past : List Event) (tid entry back above n :
     HasBegun old new (contexts past) above entry n → StandsFor new (Call tid entry back ∷ past)
 stands-call old new past tid entry back above n at lives threads stands there =
     let begun : HasBegun old new (contexts past) (current_of old tid) entry n = subst (λ m. HasBegun old new (contexts past) m entry n) at there in
-    stands-begun old new past (Call tid entry back) tid n (record { at = length past; entry = entry; back = Some back }) stands (λ t. refl) refl (nothing_more past) begun.linked begun.places begun.points begun.number
+    stands-begun old new past (Call tid entry back) tid n (record { at = length past; entry = entry; back = Some back }) stands (λ t. refl) refl (nothing_more past) begun.linked begun.places begun.few begun.points begun.number
     (reads_changed old new past tid n lives threads stands) (still_live old new past tid n lives threads stands) (still_began old new past tid n lives threads stands)
 
 -- what the end of activations of the context of a number and those above it comes to
@@ -369,6 +375,7 @@ quiet_points past = ap (λ all. map (points_of all) (contexts past)) (sym (nothi
 pub stands-step : (kept : Kept) (past : List Event) (tid : ℕ) → StandsFor kept past → StandsFor kept (Step tid ∷ past)
 stands-step kept past tid stands = record {
   contexts_are = stands.contexts_are;
+  few = stands.few;
   points_are = stands.points_are ∙ quiet_points past;
   links_are = stands.links_are;
   threads_live = stands.threads_live;
@@ -387,6 +394,7 @@ pub stands-quiet : (kept : Kept) (past : List Event) (e : Event) → is_quiet e 
 stands-quiet kept past (Step tid) is stands = stands-step kept past tid stands
 stands-quiet kept past (Read tid first count) is stands = record {
   contexts_are = stands.contexts_are;
+  few = stands.few;
   points_are = stands.points_are ∙ quiet_points past;
   links_are = stands.links_are;
   threads_live = stands.threads_live;
@@ -395,6 +403,7 @@ stands-quiet kept past (Read tid first count) is stands = record {
 }
 stands-quiet kept past (Write tid first count) is stands = record {
   contexts_are = stands.contexts_are;
+  few = stands.few;
   points_are = stands.points_are ∙ quiet_points past;
   links_are = stands.links_are;
   threads_live = stands.threads_live;
@@ -403,6 +412,7 @@ stands-quiet kept past (Write tid first count) is stands = record {
 }
 stands-quiet kept past (Fill first count) is stands = record {
   contexts_are = stands.contexts_are;
+  few = stands.few;
   points_are = stands.points_are ∙ quiet_points past;
   links_are = stands.links_are;
   threads_live = stands.threads_live;
@@ -428,6 +438,7 @@ pub stands-none : (kept : Kept) → kept.places ≡ [] → kept.points ≡ [] �
 stands-none kept places points links threads = record {
   links_are = subst (λ ps. IsLinked ps kept.links) (sym places) (subst (λ ls. IsLinked [] ls) (sym links) linked_none);
   contexts_are = subst (λ ps. by_number.StandsFor ps []) (sym places) none_stand;
+  few = omega arith;
   points_are = points;
   threads_live = λ t. ap (λ (xs : List (ℕ × ℕ)). is_some (value_of xs t)) threads;
   threads_began = subst (λ (xs : List (ℕ × ℕ)). All (λ n. n ≤ 0) (numbers xs)) (sym threads) (All-nil (λ n. n ≤ 0));

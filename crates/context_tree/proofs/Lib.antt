@@ -11,4 +11,6 @@ pub mod Ordering
 pub mod Listed
 pub mod Sorting
 pub mod InOrder
+pub mod Standing
+pub mod AddingUp
 mod Places

@@ -5,7 +5,7 @@ use Rattle.std.proofs.lemmas.List.{get_or_append_left, get_or-set_other, get_or-
 use Rattle.std.proofs.Math.Seq.{get_or-append_seam}
 use Rattle.context_tree.specs.declared.order.Links.{Links}
 use Rattle.context_tree.specs.Links.{IsLastUnder, IsLinked, IsNextUnder, links_at, no_links}
-use Rattle.context_tree.specs.Ways.{above_of}
+use Rattle.context_tree.specs.Numbers.{above_of}
 
 -- ---- depths
 pub depth_le : (places : List (ℕ × ℕ)) (links : List Links) → IsLinked places links → (k n : ℕ) → n ≤ k → n ≤ length places → (links_at links n).depth ≤ n

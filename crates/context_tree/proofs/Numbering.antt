@@ -108,7 +108,7 @@ module _ {X Y : Type 0} (p : X → Bool) (q : Y → Bool) (d : X) (f : Y) where
   first_agree (x ∷ xs) (y ∷ ys) long agree = grind (arith, agree 0 (omega arith), first_agree xs ys (omega (arith, long)) (λ k lt. agree (suc k) (omega (arith, lt))))
 
 module _ {X : Type 0} (p : X → Bool) where
-  within_any : (xs : List X) → list_any p xs ≡ true → position_or_len p xs < length xs
+  pub within_any : (xs : List X) → list_any p xs ≡ true → position_or_len p xs < length xs
   within_any [] there = absurd (cc)
   within_any (x ∷ xs) there = grind (arith, within_any xs)
 

@@ -6,9 +6,9 @@ use Rattle.std.proofs.lemmas.List.{append-nil, append_cancel_left, length_push, 
 use Rattle.std.proofs.lemmas.List.FromFn.{map-range_with_len_more}
 use Rattle.context_tree.specs.Contexts.{same}
 use Rattle.context_tree.specs.Links.{IsNextUnder}
-use Rattle.context_tree.specs.Numbers.{StandsFor, numbered}
-use Rattle.context_tree.specs.Order.{Extends, IsFollowedBy, IsLeftBy, IsUnder, is_before, numbers_down_to}
-use Rattle.context_tree.specs.Ways.{above_of}
+use Rattle.context_tree.specs.Numbers.{StandsFor, above_of, numbered}
+use Rattle.context_tree.specs.Order.{IsFollowedBy, is_before, numbers_down_to}
+use Rattle.context_tree.specs.Leaving.{Extends, IsLeftBy, IsUnder}
 use Rattle.context_tree.proofs.Before.{IsApart, before_append, before_asym, before_less, before_more, before_self, extends_or, has_last}
 use Rattle.context_tree.proofs.Numbering.{other_told, same_told}
 

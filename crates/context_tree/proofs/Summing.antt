@@ -37,7 +37,7 @@ use Rattle.context_tree.proofs.Numbering.{same_last, same_told}
 use Rattle.context_tree.proofs.Reordered.{AreAlike, IsOfOne, by_parts}
 use Rattle.context_tree.proofs.Rooms.{all_done, of_members}
 
--- ---- each member has one size
+-- ---- each member has one key
 abbrev size_of : Done → ℕ
 size_of d = d.size
 
@@ -78,28 +78,32 @@ any_kept q x (y ∷ ks) is = elim (order x y) [
     later true is rest = refl
     later false is rest = rest is
 
-sizes_have : (ms : List Done) → All (λ d. list_any (λ k. d.size == k) (rising (map size_of ms)) ≡ true) ms
-sizes_have [] = All-nil (λ (d : Done). list_any (λ k. d.size == k) [] ≡ true)
-sizes_have (m ∷ ms) =
-    All-cons (λ (d : Done). list_any (λ k. d.size == k) (rising (map size_of (m ∷ ms))) ≡ true) m ms (any_own m.size (rising (map size_of ms)))
-    (All-weaker (λ (d : Done). list_any (λ k. d.size == k) (rising (map size_of ms)) ≡ true) (λ d. list_any (λ k. d.size == k) (rising (map size_of (m ∷ ms))) ≡ true)
-    (λ d is. any_kept (λ k. d.size == k) m.size (rising (map size_of ms)) is) ms (sizes_have ms))
+keys_have : (key : Done → ℕ) (ms : List Done) → All (λ d. list_any (λ k. key d == k) (rising (map key ms)) ≡ true) ms
+keys_have key [] = All-nil (λ (d : Done). list_any (λ k. key d == k) [] ≡ true)
+keys_have key (m ∷ ms) =
+    All-cons (λ (d : Done). list_any (λ k. key d == k) (rising (map key (m ∷ ms))) ≡ true) m ms (any_own (key m) (rising (map key ms)))
+    (All-weaker (λ (d : Done). list_any (λ k. key d == k) (rising (map key ms)) ≡ true) (λ d. list_any (λ k. key d == k) (rising (map key (m ∷ ms))) ≡ true)
+    (λ d is. any_kept (λ k. key d == k) (key m) (rising (map key ms)) is) ms (keys_have key ms))
 
-one_size : (ms : List Done) → All (λ d. IsOfOne (λ k. d.size == k) (rising (map size_of ms))) ms
-one_size ms = All-weaker (λ (d : Done). list_any (λ k. d.size == k) (rising (map size_of ms)) ≡ true) (λ d. IsOfOne (λ k. d.size == k) (rising (map size_of ms)))
+-- each member has one key
+pub one_key : (key : Done → ℕ) (ms : List Done) → All (λ d. IsOfOne (λ k. key d == k) (rising (map key ms))) ms
+one_key key ms = All-weaker (λ (d : Done). list_any (λ k. key d == k) (rising (map key ms)) ≡ true) (λ d. IsOfOne (λ k. key d == k) (rising (map key ms)))
     (λ d is. record {
       some = is;
       once = λ i j e less lt yes too.
-          let up : get_or (rising (map size_of ms)) i 0 < get_or (rising (map size_of ms)) j 0 = IsRising-rising (map size_of ms) i j less lt in
-          let one : d.size ≡ get_or (rising (map size_of ms)) i e = told d.size (get_or (rising (map size_of ms)) i e) yes in
-          let two : d.size ≡ get_or (rising (map size_of ms)) j e = told d.size (get_or (rising (map size_of ms)) j e) too in
-          let one_there = get_or_default (rising (map size_of ms)) i e 0 (omega (arith, less, lt)) in
-          let two_there = get_or_default (rising (map size_of ms)) j e 0 lt in
+          let up : get_or (rising (map key ms)) i 0 < get_or (rising (map key ms)) j 0 = IsRising-rising (map key ms) i j less lt in
+          let one : key d ≡ get_or (rising (map key ms)) i e = told (key d) (get_or (rising (map key ms)) i e) yes in
+          let two : key d ≡ get_or (rising (map key ms)) j e = told (key d) (get_or (rising (map key ms)) j e) too in
+          let one_there = get_or_default (rising (map key ms)) i e 0 (omega (arith, less, lt)) in
+          let two_there = get_or_default (rising (map key ms)) j e 0 lt in
           absurd (omega (arith, up, one, two, one_there, two_there));
-    }) ms (sizes_have ms)
+    }) ms (keys_have key ms)
   where
     told : (x y : ℕ) → (x == y) ≡ true → x ≡ y
     told x y is = grind (arith, nat_tests)
+
+pub one_size : (ms : List Done) → All (λ d. IsOfOne (λ k. d.size == k) (rising (map size_of ms))) ms
+one_size ms = one_key size_of ms
 
 flat_all : {K A : Type 0} (f g : K → List A) (ks : List K) → ((k : K) → f k ≡ g k) → flat_map f ks ≡ flat_map g ks
 flat_all f g [] is = refl
@@ -187,7 +191,7 @@ good_points ms parts = All-grouped (λ (d : Done). d.size) point_of IsPoint ms
     (λ k some. IsPoint-of k (having (λ (d : Done). d.size) k ms) some (having_sized k ms) (All-filter (λ (d : Done). d.size == k) HasParts ms parts))
 
 -- ---- each ended activation has one context
-same_turned : (b c : List ℕ) → same b c ≡ same c b
+pub same_turned : (b c : List ℕ) → same b c ≡ same c b
 same_turned b c = by (same b c) (same c b) refl refl
   where
     by : (x y : Bool) → same b c ≡ x → same c b ≡ y → x ≡ y
@@ -201,7 +205,7 @@ any_turned b [] = refl
 any_turned b (c ∷ known) = ap₂ (λ x y. x || y) (same_turned c b) (any_turned b known)
 
 module _ (past : List Event) (places : List (ℕ × ℕ)) (stands : by_number.StandsFor places (contexts past)) where
-  one_context : All (λ (x : List ℕ × Done). IsOfOne (λ c. same c x.0) (contexts past)) (done_in_context past)
+  pub one_context : All (λ (x : List ℕ × Done). IsOfOne (λ c. same c x.0) (contexts past)) (done_in_context past)
   one_context = All-weaker (λ (x : List ℕ × Done). IsKnown (contexts past) x.0) (λ x. IsOfOne (λ c. same c x.0) (contexts past))
       (λ x is. record {
         some = any_turned x.0 (contexts past) ∙ is;

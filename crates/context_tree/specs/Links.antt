@@ -1,7 +1,7 @@
 -- The order of the contexts right under each one, by number.
 use Rattle.std.specs.Prelude.{◌≡◌, ◌≢◌, ℕ, suc, ◌+◌, ◌<◌, ◌≤◌, List, length, slice_index_or, Option, Some, None}
 use Rattle.context_tree.specs.declared.order.Links.{Links}
-use Rattle.context_tree.specs.Ways.{above_of}
+use Rattle.context_tree.specs.Numbers.{above_of}
 
 abbrev pub no_links : Links
 no_links = record { first_child = None; last_child = None; next_sibling = None; depth = 0 }
@@ -29,9 +29,3 @@ pub record IsLinked (places : List (ℕ × ℕ)) (links : List Links) : Type 0 w
   pub next : (n : ℕ) → 1 ≤ n → n ≤ length places → IsNextUnder places (above_of places n) n (links_at links n).next_sibling
   pub none : (links_at links 0).depth ≡ 0
   pub depth : (n : ℕ) → 1 ≤ n → n ≤ length places → (links_at links n).depth ≡ (links_at links (above_of places n)).depth + 1
-
--- They are those of some places, among which the number is.
-pub record AreLinked (links : List Links) (n : ℕ) : Type 0 where
-  pub places : List (ℕ × ℕ)
-  pub now : IsLinked places links
-  pub within : n ≤ length places

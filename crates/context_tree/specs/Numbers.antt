@@ -1,5 +1,5 @@
 -- Contexts by number. The context with no entry has the number 0, and the others those from 1 on, in order of first begin.
-use Rattle.std.specs.Prelude.{◌≡◌, ◌≢◌, ℕ, zero, suc, ◌<◌, ◌≤◌, Bool, false, ◌&&◌, nat_eq, if◌then◌else◌, List, [], ◌∷◌, ◌++◌, length, slice_index_or}
+use Rattle.std.specs.Prelude.{◌≡◌, ◌≢◌, ℕ, zero, suc, ◌-◌, ◌<◌, ◌≤◌, Bool, false, ◌&&◌, nat_eq, if◌then◌else◌, List, [], ◌∷◌, ◌++◌, length, slice_index_or}
 use Rattle.std.specs.List.{list_any}
 use Rattle.context_tree.specs.declared.numbers.TheConstants.{CONTEXTS}
 use Rattle.context_tree.specs.Contexts.{same}
@@ -8,6 +8,10 @@ use Rattle.context_tree.specs.Contexts.{same}
 abbrev pub numbered : List (List ℕ) → ℕ → List ℕ
 numbered contexts zero = []
 numbered contexts (suc i) = slice_index_or contexts i []
+
+-- the number of the context right above that of the number n
+abbrev pub above_of : List (ℕ × ℕ) → ℕ → ℕ
+above_of places n = (slice_index_or places (n - 1) (0, 0)).0
 
 -- two places are the same
 abbrev pub same_place : ℕ × ℕ → ℕ × ℕ → Bool

@@ -1,6 +1,6 @@
 -- The order of contexts in a text: depth first, each context before all that are under it, and the contexts right under one
 -- in order of their first begin.
-use Rattle.std.specs.Prelude.{◌≡◌, ◌⊎◌, ℕ, ◌≤◌, ◌==◌, Bool, true, false, nat_lt, if◌then◌else◌, List, [], ◌∷◌, ◌++◌, length, map, take, slice_index_or, Option, Some, None}
+use Rattle.std.specs.Prelude.{◌≡◌, ◌⊎◌, ℕ, ◌≤◌, ◌==◌, Bool, true, false, nat_lt, if◌then◌else◌, List, [], ◌∷◌, length, map, take, slice_index_or, Option, Some, None}
 use Rattle.std.specs.List.{AllPairs, count_by, filter, position_or_len, range_with_len}
 use Rattle.std.specs.List.Sorted.{IsPermutation}
 use Rattle.context_tree.specs.Contexts.{same}
@@ -30,25 +30,6 @@ IsFollowedBy contexts c (Some n) =
     × (n ≤ length contexts)
     × (comes_before contexts c (numbered contexts n) ≡ true)
     × ((m : ℕ) → 1 ≤ m → m ≤ length contexts → comes_before contexts c (numbered contexts m) ≡ true → (n ≡ m) ⊎ (comes_before contexts (numbered contexts n) (numbered contexts m) ≡ true))
-
--- one list begins with the other
-pub record Extends (k m : List ℕ) : Type 0 where
-  pub rest : List ℕ
-  pub is : m ≡ k ++ rest
-
--- the one context is the other, or under it
-abbrev pub IsUnder : List (List ℕ) → List ℕ → List ℕ → Type 0
-IsUnder contexts c d = Extends (numbers_down_to contexts c) (numbers_down_to contexts d)
-
--- The number is that of the first context in the text that comes after this one and all that are under it, or none does.
-abbrev pub IsLeftBy : List (List ℕ) → List ℕ → Option ℕ → Type 0
-IsLeftBy contexts c None = (m : ℕ) → 1 ≤ m → m ≤ length contexts → comes_before contexts c (numbered contexts m) ≡ true → IsUnder contexts c (numbered contexts m)
-IsLeftBy contexts c (Some n) =
-    (1 ≤ n)
-    × (n ≤ length contexts)
-    × (comes_before contexts c (numbered contexts n) ≡ true)
-    × ((m : ℕ) → 1 ≤ m → m ≤ length contexts → comes_before contexts c (numbered contexts m) ≡ true →
-    IsUnder contexts c (numbered contexts m) ⊎ ((n ≡ m) ⊎ (comes_before contexts (numbered contexts n) (numbered contexts m) ≡ true)))
 
 -- These are the contexts in the order of the text.
 pub record IsInOrder (contexts ordered : List (List ℕ)) : Type 0 where

@@ -1,5 +1,5 @@
 -- What is kept of the calling contexts of a run.
-use Rattle.std.specs.Prelude.{◌≡◌, ℕ, ◌+◌, ◌≤◌, length, Bool, if◌then◌else◌, List, [], ◌∷◌, ◌++◌, All, IsSomeAnd, is_some, map}
+use Rattle.std.specs.Prelude.{◌≡◌, ℕ, ◌+◌, ◌≤◌, length, List, [], ◌∷◌, ◌++◌, All, IsSomeAnd, is_some, map}
 use Rattle.std.specs.Option.{option_map_or}
 use Rattle.guest_words.specs.ByThread.{numbers, value_of}
 use Rattle.trace_model.specs.declared.event_kinds.Event.{Event}
@@ -8,6 +8,7 @@ use Rattle.trace_model.specs.Activations.{open_calls}
 use Rattle.trace_model.specs.Profile.{ended}
 use Rattle.trace_model.specs.WellFormed.{IsLight, IsWellFormed, greatest_start, is_live}
 use Rattle.cost_points.specs.declared.point.Point.{Point}
+use Rattle.context_tree.specs.declared.numbers.TheConstants.{CONTEXTS}
 use Rattle.context_tree.specs.declared.order.Links.{Links}
 use Rattle.context_tree.specs.Contexts.{context_begun, context_of, contexts}
 use Rattle.context_tree.specs.Links.{IsLinked}
@@ -28,9 +29,10 @@ abbrev pub current_of : Kept → ℕ → ℕ
 current_of kept t = option_map_or (λ n. n) (value_of kept.threads t) 0
 
 -- It is what is kept of this past. The contexts of all open activations of a thread are that of the innermost and its
--- beginnings, so they are kept with it.
+-- beginnings, so they are kept with it. There are no more contexts than can be numbered.
 pub record StandsFor (kept : Kept) (past : List Event) : Type 0 where
   pub contexts_are : by_number.StandsFor kept.places (contexts past)
+  pub few : length (contexts past) ≤ CONTEXTS
   pub points_are : kept.points ≡ map (points_in past) (contexts past)
   pub links_are : IsLinked kept.places kept.links
   pub threads_live : (t : ℕ) → is_some (value_of kept.threads t) ≡ is_live past t
@@ -66,7 +68,3 @@ pub record IsOfLight (kept : Kept) : Type 0 where
 -- The event begins a context that is not there, where there are as many as can be numbered.
 abbrev pub HasTooMany : Event → List Event → Type 0
 HasTooMany e past = IsSomeAnd (context_begun e past) (IsBeyond (contexts past))
-
--- the points of each context with those of a context that comes last, which has none, unless it is one of them
-abbrev pub with_list : Bool → List (List Point) → List (List Point)
-with_list there lists = if there then lists else lists ++ [] ∷ []

@@ -7,11 +7,7 @@ use Rattle.cost_points.specs.Keys.{IsRising, put}
 use Rattle.cost_points.specs.Merging.{merged}
 use Rattle.cost_points.specs.Points.{point_of}
 use Rattle.cost_points.specs.Search.{HasRoom}
-use Rattle.context_tree.specs.Numbers.{numbered}
-
--- the number of the context right above that of the number n
-abbrev pub above_of : List (ℕ × ℕ) → ℕ → ℕ
-above_of places n = (slice_index_or places (n - 1) (0, 0)).0
+use Rattle.context_tree.specs.Numbers.{above_of, numbered}
 
 -- the number of the context that is k above that of the number n
 abbrev pub up : List (ℕ × ℕ) → ℕ → ℕ → ℕ

@@ -2,6 +2,7 @@
 #![tactic(auto)]
 
 mod errors;
+mod laws;
 mod numbers;
 mod order;
 mod points;
@@ -9,5 +10,6 @@ mod sums;
 mod tree;
 
 pub use errors::TreeError;
+pub use laws::{contexts_add_up, the_order_is_one};
 pub use numbers::ContextNumbers;
 pub use tree::Tree;

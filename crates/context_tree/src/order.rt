@@ -2,9 +2,10 @@
 ghost use Rattle.std.specs.Prelude.{◌≡◌, ◌<◌, ◌≤◌, ◌++◌, ◌∷◌, [], ℕ, List, length, vec_len};
 ghost use Rattle.std.specs.Vec.{vec_capacity};
 ghost use Rattle.context_tree.specs.declared.numbers.TheConstants.{CONTEXTS};
-ghost use Rattle.context_tree.specs.Links.{AreLinked, IsLinked};
+ghost use Rattle.context_tree.specs.Links.{IsLinked};
+ghost use Rattle.context_tree.specs.Adding.{AreLinked};
 ghost use Rattle.context_tree.specs.Numbers.{StandsFor, numbered};
-ghost use Rattle.context_tree.specs.Order.{IsLeftBy};
+ghost use Rattle.context_tree.specs.Leaving.{IsLeftBy};
 
 use crate::ContextNumbers;
 

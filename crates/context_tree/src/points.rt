@@ -1,5 +1,5 @@
 //! The points of contexts, by number.
-ghost use Rattle.std.specs.Prelude.{◌≡◌, ◌≤◌, ◌+◌, ◌++◌, [], List, ℕ, length, map, OnOk};
+ghost use Rattle.std.specs.Prelude.{◌≡◌, ◌≤◌, ◌+◌, ◌++◌, [], List, ℕ, length, map, IsOk, OnOk};
 ghost use Rattle.std.specs.List.{All};
 ghost use Rattle.trace_model.specs.declared.slow_profile.Done.{Done};
 ghost use Rattle.context_tree.specs.Numbers.{StandsFor};
@@ -75,6 +75,7 @@ pub(crate) fn reserve_up(
     requires way { IsWay numbers.now from count }
     ensures points { lists points.new.items ≡ lists points.old.items }
     ensures room { OnOk result (HasSpare points.new.items numbers.now from count) }
+    ensures no_memory { count ≡ 0 → IsOk result }
 {
     let mut n = from;
     for _ in 0..count {

@@ -1,5 +1,5 @@
 //! The tree of a run's calling contexts.
-ghost use Rattle.std.specs.Prelude.{◌≡◌, ◌≤◌, ◌<◌, ◌++◌, ◌∷◌, [], true, ℕ, List, All, length, is_some, slice_index_or, Err, IfOk, OnErr, OnOk};
+ghost use Rattle.std.specs.Prelude.{◌≡◌, ◌≤◌, ◌<◌, ◌++◌, ◌∷◌, [], true, ℕ, List, All, length, is_some, slice_index_or, Err, IfOk, IsOk, None, OnErr, OnOk};
 ghost use Rattle.std.specs.List.{list_any};
 ghost use Rattle.guest_words.specs.ByThread.{numbers, value_of};
 ghost use Rattle.trace_model.specs.declared.event_kinds.Event.{Event};
@@ -8,12 +8,13 @@ ghost use Rattle.trace_model.specs.Profile.{done, ended};
 ghost use Rattle.cost_points.specs.Contents.{contents_of};
 ghost use Rattle.context_tree.specs.declared.errors.TreeError.{TreeError};
 ghost use Rattle.context_tree.specs.declared.numbers.TheConstants.{CONTEXTS};
-ghost use Rattle.context_tree.specs.Contexts.{contexts, same, with_context};
+ghost use Rattle.context_tree.specs.Contexts.{context_begun, contexts, same, with_context};
 ghost use Rattle.context_tree.specs.Links.{IsLinked};
 ghost use Rattle.context_tree.specs.Numbers.{IsBeyond, IsNumberOf, numbered};
 ghost use Rattle.context_tree.specs.Numbers as by_number;
 ghost use Rattle.context_tree.specs.Order.{IsFollowedBy, IsInOrder};
-ghost use Rattle.context_tree.specs.Trees.{HasTooMany, IsOfLight, IsOfSome, IsShown, MayApply, StandsFor, current_of, with_list};
+ghost use Rattle.context_tree.specs.Trees.{HasTooMany, IsOfLight, IsOfSome, IsShown, MayApply, StandsFor, current_of};
+ghost use Rattle.context_tree.specs.Adding.{with_list};
 ghost use Rattle.context_tree.specs.Ways.{ArePoints, IsWay, lists};
 
 use crate::order::{Links, add_link, after_under};
@@ -73,6 +74,7 @@ fn begin(
         → IsBeyond contexts (numbered contexts above ++ entry ∷ []) → result ≡ Err TreeError.TooMany }
     ensures refused_numbers { OnErr result (numbers.new ≡ numbers.old) }
     ensures linked { OnOk result (IsLinked numbers.new links.new.items) }
+    ensures few { OnOk result (length numbers.new ≤ CONTEXTS) }
     ensures refused_points { OnErr result (lists points.new.items ≡ lists points.old.items) }
     ensures refused_links { OnErr result (links.new.items ≡ links.old.items) }
 {
@@ -105,7 +107,8 @@ impl Tree {
         })
     }
 
-    /// Takes one more event, and the activations that it ends, the innermost first. A refusal changes nothing.
+    /// Takes one more event, and the activations that it ends, the innermost first. A refusal changes nothing. An event that
+    /// begins no context and ends no activation is not refused.
     pub fn apply(&mut self, e: Event, ends: &[Done]) -> Result<(), TreeError>
         requires { MayApply self.old e ends.now }
         ensures stands { (past : List Event) → StandsFor self.old past → ends.now ≡ ended e past
@@ -115,6 +118,8 @@ impl Tree {
         ensures only_memory { (past : List Event) → StandsFor self.old past → HasTooMany e past
             → result ≡ Err TreeError.TooMany }
         ensures refused { OnErr result (self.new ≡ self.old) }
+        ensures no_memory { (past : List Event) → context_begun e past ≡ None → ends.now ≡ []
+            → IsOk result }
     {
         match e {
             Event::Start { tid, entry } => self.start(tid, entry),
@@ -285,6 +290,7 @@ impl Tree {
             → ends.now ≡ ended (Ret tid target) past
             → OnOk result (StandsFor self.new (Ret tid target ∷ past)) }
         ensures refused { OnErr result (self.new ≡ self.old) }
+        ensures no_memory { ends.now ≡ [] → IsOk result }
     {
         let from = self.current(tid);
         reserve_up(&mut self.points, &self.numbers, from, ends.len())?;
@@ -303,6 +309,7 @@ impl Tree {
             → ends.now ≡ ended (End tid) past
             → OnOk result (StandsFor self.new (End tid ∷ past)) }
         ensures refused { OnErr result (self.new ≡ self.old) }
+        ensures no_memory { ends.now ≡ [] → IsOk result }
     {
         let from = self.current(tid);
         reserve_up(&mut self.points, &self.numbers, from, ends.len())?;

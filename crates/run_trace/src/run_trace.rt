@@ -1,7 +1,9 @@
 //! The trace of a run that goes on.
-ghost use Rattle.std.specs.Prelude.{◌≡◌, ◌↔◌, ◌+◌, ◌<◌, ◌≤◌, ◌^◌, ◌∷◌, [], true, false, not, List, length, IfOk, IfSome, IsTrue, OnOk, MatchOption};
+ghost use Rattle.std.specs.Prelude.{◌≡◌, ◌↔◌, ◌+◌, ◌<◌, ◌≤◌, ◌^◌, ◌∷◌, [], true, false, not, List, length, is_some, IfOk, IfSome, IsOk, IsTrue, Ok, OnErr, OnOk, MatchOption};
 ghost use Rattle.trace_model.specs.declared.event_kinds.Event.{Event};
 ghost use Rattle.trace_model.specs.Depth.{is_within};
+ghost use Rattle.trace_model.specs.Observing.{MayTake, Observes, StandsAsBefore};
+ghost use Rattle.trace_model.specs.declared.observer.Observed.{Observed};
 ghost use Rattle.trace_file.specs.TraceText.{IsTextOf};
 ghost use Rattle.stamps.specs.declared.width.StampBits.TheVariants.{B32};
 ghost use Rattle.stamps.specs.Widths.{greatest};
@@ -55,11 +57,13 @@ impl RunTrace {
         entry_begun(e).is_some() && self.stacks.pending() >= OPEN_CALLS
     }
 
-    // Writes what is still to come, and drops a text that is too long.
+    // Writes what is still to come, and drops a text that is too long, which wants no memory.
     fn settle(&mut self) -> Result<(), AllocError>
         requires { IsTraceOfFormed self.old }
         ensures stands { (past : List Event) → IsTraceOf self.old past → IsTraceOf self.new past }
         ensures settled { OnOk result (IsSettled self.new) }
+        ensures refused { OnErr result (is_some self.new.written ≡ true) }
+        ensures no_memory { IsSettled self.old → IsOk result }
     {
         let outgrown = match &mut self.written {
             Some(written) => {
@@ -75,12 +79,14 @@ impl RunTrace {
     }
 
     /// The text of the events and the entries of the activations that began; `None` where the text is longer than the limit.
+    /// Where nothing is still to come, it wants no memory.
     pub fn into_text(self) -> Result<Option<EventText>, AllocError>
         requires { IsTraceOfFormed self }
         ensures text { IfOk result (λ found. (past : List Event) → IsTraceOf self past
             → MatchOption found (IsTooLong past) (λ text. IsTextOf text.writer past × (text.entries.keys ≡ entries_begun past))) }
         ensures within { IfOk result (λ found. IfSome found
             (λ text. length text.writer ≤ TRACE_BYTES)) }
+        ensures no_memory { IsSettled self → IsOk result }
     {
         let mut trace = self;
         trace.settle()?;
@@ -105,7 +111,14 @@ impl Observer for RunTrace {
 
     ghost fits_closed = { λ _. within_closed (greatest B32) };
 
-    fn observe(&mut self, e: Event) -> Result<Observed, AllocError> {
+    // What is too deep is refused, and wants no memory.
+    fn observe(&mut self, e: Event) -> Result<Observed, AllocError>
+        requires { MayTake IsTraceOf self.old e }
+        ensures observed { IfOk result (Observes IsTraceOf (is_within (greatest B32)) e self.old self.new) }
+        ensures refused { OnErr result (StandsAsBefore IsTraceOf self.old self.new) }
+        ensures too_deep { (past : List Event) → IsTraceOf self.old past
+            → is_within (greatest B32) (e ∷ past) ≡ false → result ≡ Ok Observed.Refused }
+    {
         if self.is_too_deep(&e) {
             return Ok(Observed::Refused);
         }

@@ -1,5 +1,5 @@
 //! What is written of a trace.
-ghost use Rattle.std.specs.Prelude.{◌≡◌, [], ◌∷◌, List, None, IfOk, OnOk, length};
+ghost use Rattle.std.specs.Prelude.{◌≡◌, [], ◌∷◌, List, None, IfOk, IsOk, OnOk, length};
 ghost use Rattle.trace_model.specs.declared.event_kinds.Event.{Event};
 ghost use Rattle.trace_model.specs.WellFormed.{IsWellFormed};
 ghost use Rattle.trace_file.specs.TraceText.{IsTextOf};
@@ -60,7 +60,9 @@ impl Written {
         requires { MayWrite self.old }
         ensures stands { (past : List Event) → IsWrittenOf self.old past
             → IsWrittenOf self.new past }
+        ensures entry { self.new.entry ≡ self.old.entry }
         ensures written { OnOk result (self.new.next ≡ None) }
+        ensures no_memory { self.old.next ≡ None → IsOk result }
     {
         if let Some(e) = self.next {
             self.text.writer.push(e)?;
@@ -75,6 +77,7 @@ impl Written {
             → IsWrittenOf self.new past }
         ensures next { self.new.next ≡ self.old.next }
         ensures added { OnOk result (self.new.entry ≡ None) }
+        ensures no_memory { self.old.entry ≡ None → IsOk result }
     {
         if let Some(entry) = self.entry {
             self.text.entries.insert(entry)?;
@@ -90,6 +93,7 @@ impl Written {
             → IsWrittenOf self.new past }
         ensures written { OnOk result (self.new.next ≡ None) }
         ensures added { OnOk result (self.new.entry ≡ None) }
+        ensures no_memory { self.old.next ≡ None → self.old.entry ≡ None → IsOk result }
     {
         self.write_next()?;
         self.add_entry()

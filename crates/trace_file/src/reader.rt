@@ -1,5 +1,5 @@
 //! Reading a trace, in any pieces.
-ghost use Rattle.std.specs.Prelude.{◌≡◌, ◌≢◌, ◌<◌, ◌^◌, ◌+◌, ◌++◌, ◌∷◌, [], ℕ, List, None, Some, length, Err, get_or, IfErr, IfOk, IsTrue, OnErr, OnOk, ◌↔◌};
+ghost use Rattle.std.specs.Prelude.{◌≡◌, ◌≢◌, ◌<◌, ◌^◌, ◌+◌, ◌++◌, ◌∷◌, [], ℕ, List, None, Some, length, Err, get_or, IfErr, IsOk, is_some, true, IfOk, IsTrue, OnErr, OnOk, ◌↔◌};
 ghost use Rattle.std.specs.Result.{result_err};
 ghost use Rattle.trace_file.specs.declared.errors.TraceError.{TraceError};
 ghost use Rattle.trace_model.specs.declared.event_kinds.Event.{Event};
@@ -255,13 +255,15 @@ impl TraceReader {
         Ok(())
     }
 
-    /// The names and the end, where the bytes that were read are the text of a trace.
+    /// The names and the end, where the bytes that were read are the text of a trace. It wants no memory.
     pub fn finish(self) -> Result<TraceEnd, TraceError>
         ensures ok { (bytes : List ℕ) (past : List Event) → HasRead self bytes past
             → IfOk result (λ t. IsTrace bytes past t.names.items t.finish) }
         ensures err { (bytes : List ℕ) (past : List Event) → HasRead self bytes past
             → IfErr result (λ e. IsRefused bytes past e) }
         ensures stays { (e : TraceError) → self.refusal ≡ Some e → result ≡ Err e }
+        ensures short { self.refusal ≡ None → self.finish ≡ None → result ≡ Err TraceError.Short }
+        ensures no_memory { self.refusal ≡ None → is_some self.finish ≡ true → IsOk result }
     {
         let TraceReader {
             names,

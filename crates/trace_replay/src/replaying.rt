@@ -1,6 +1,7 @@
 //! Reading a stored trace into a profile.
-ghost use Rattle.std.specs.Prelude.{◌≡◌, ◌≤◌, ◌<◌, ◌+◌, ◌^◌, ◌++◌, [], List, ℕ, length, IfOk, OnOk, IfErr, MatchResult};
+ghost use Rattle.std.specs.Prelude.{◌≡◌, ◌≤◌, ◌<◌, ◌+◌, ◌^◌, ◌++◌, [], List, ℕ, length, None, Some, Err, IfOk, OnOk, IfErr, MatchResult};
 ghost use Rattle.trace_file.specs.Reading.{IsRefused};
+ghost use Rattle.trace_file.specs.declared.errors.TraceError.{TraceError};
 ghost use Rattle.trace_model.specs.declared.event_kinds.Event.{Event};
 ghost use Rattle.trace_replay.specs.Replays.{HasReplayed, IsReplayOf, Replays};
 
@@ -59,7 +60,7 @@ impl<S: Lanes> TraceProfile<S> {
         })
     }
 
-    // Reads a piece more, and profiles its events as long as they are taken.
+    // Reads a piece more, and profiles its events as long as they are taken. What the reader refuses is told as it is.
     fn feed(&mut self, piece: &[u8]) -> Result<(), TraceError>
         requires { (bytes : List ℕ) × HasReplayed S.MAX self.old bytes
             × (length bytes + length piece.now < 2 ^ 64) }
@@ -67,6 +68,7 @@ impl<S: Lanes> TraceProfile<S> {
             → OnOk result (HasReplayed S.MAX self.new (bytes ++ piece.now)) }
         ensures err { (bytes more : List ℕ) → HasReplayed S.MAX self.old bytes
             → IfErr result (λ e. (past : List Event) × IsRefused (bytes ++ (piece.now ++ more)) past e) }
+        ensures refused { (e : TraceError) → self.new.reader.refusal ≡ Some e → result ≡ Err e }
     {
         self.events.clear();
         self.reader.feed(piece, &mut self.events)?;
@@ -79,10 +81,14 @@ impl<S: Lanes> TraceProfile<S> {
         Ok(())
     }
 
-    // What the trace comes to, where the bytes are one.
+    // What the trace comes to, where the bytes are one. What the reader refuses is told as it is.
     fn finish(self) -> Result<Replayed, TraceError>
         requires { (bytes : List ℕ) × HasReplayed S.MAX self bytes }
-        ensures { (bytes : List ℕ) → HasReplayed S.MAX self bytes → Replays S.MAX bytes result }
+        ensures replays { (bytes : List ℕ) → HasReplayed S.MAX self bytes
+            → Replays S.MAX bytes result }
+        ensures refused { (e : TraceError) → self.reader.refusal ≡ Some e → result ≡ Err e }
+        ensures short { self.reader.refusal ≡ None → self.reader.finish ≡ None
+            → result ≡ Err TraceError.Short }
     {
         let TraceProfile {
             reader,

@@ -1,6 +1,6 @@
 use Rattle.std.proofs.Common.{◌≡◌, ◌≤◌, ℕ, ap, sym, subst, arith}
 use Rattle.context_tree.specs.Links.{IsNextUnder}
-use Rattle.context_tree.specs.Ways.{above_of}
+use Rattle.context_tree.specs.Numbers.{above_of}
 use Rattle.context_tree.proofs.Ordering.{IsClimbing, climbed, climbed_out, climbs_first, climbs_on}
 use Rattle.context_tree.proofs.order.after_under.Goals as goal
 

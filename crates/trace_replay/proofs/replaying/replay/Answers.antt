@@ -28,4 +28,4 @@ pub returns : goal.returns
 returns g c =
     let inv = c.loop-rest.invariant in
     let none : c.loop-rest.rest.now ≡ [] = empty_of c.loop-rest.rest.now (sym c.is_empty.ensures ∙ c.loop-rest-test.false) in
-    subst (λ bs. Replays g.S.Stamp.MAX bs c.finish.result) (sym (append-nil inv.0) ∙ ap (λ rest. inv.0 ++ rest) (sym none) ∙ inv.1) (c.finish.ensures inv.0 inv.2)
+    subst (λ bs. Replays g.S.Stamp.MAX bs c.finish.result) (sym (append-nil inv.0) ∙ ap (λ rest. inv.0 ++ rest) (sym none) ∙ inv.1) (c.finish.ensures.replays inv.0 inv.2)

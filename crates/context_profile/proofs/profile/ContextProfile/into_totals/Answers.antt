@@ -1,10 +1,10 @@
-use Rattle.std.proofs.Common.{◌∙◌, ap, subst, sym}
+use Rattle.std.proofs.Common.{◌∙◌, ap, arith, subst, sym}
 use Rattle.context_profile.specs.Kept.{AreContextsOf, HasTree, Kept}
 use Rattle.context_profile.proofs.Observed.{settled}
 use Rattle.context_profile.proofs.profile.ContextProfile.into_totals.Goals as goal
 
-pub returns-in_default : goal.returns-in_default
-returns-in_default g c = λ past kept.
+pub returns-in_default-clause-totals : goal.returns-in_default-clause-totals
+returns-in_default-clause-totals g c = λ past kept.
     let p = subst (λ (k : Kept). AreContextsOf g.S.Stamp.MAX k past) (sym c.profile.view_is) (c.settle.ensures.stands past kept) in
     subst (λ tree. HasTree tree past) c.in_default.is
     (settled g.S.Stamp.MAX _ past p (ap (λ (k : Kept). k.next) c.profile.view_is ∙ c.in_ok-settle.ensures.settled))
@@ -20,8 +20,8 @@ totals-requires g c =
       light = c.requires.light;
     }
 
-pub returns : goal.returns
-returns g c = λ past kept.
+pub returns-clause-totals : goal.returns-clause-totals
+returns-clause-totals g c = λ past kept.
     let p = subst (λ (k : Kept). AreContextsOf g.S.Stamp.MAX k past) (sym c.profile.view_is) (c.settle.ensures.stands past kept) in
     let tree = subst (λ tree. HasTree tree past) c.in-Some.is
     (settled g.S.Stamp.MAX _ past p (ap (λ (k : Kept). k.next) c.profile.view_is ∙ c.in_ok-settle.ensures.settled)) in
@@ -34,3 +34,13 @@ returns g c = λ past kept.
       };
       tree = tree;
     }
+
+pub returns-in_err-settle-clause-no_memory : goal.returns-in_err-settle-clause-no_memory
+returns-in_err-settle-clause-no_memory g c = λ past kept many. let no = c.in_err-settle.ensures.no_memory past kept many in absurd (cc)
+
+pub returns-in_err-totals-clause-no_memory : goal.returns-in_err-totals-clause-no_memory
+returns-in_err-totals-clause-no_memory g c = λ past kept many.
+    let p = subst (λ (k : Kept). AreContextsOf g.S.Stamp.MAX k past) (sym c.profile.view_is) (c.settle.ensures.stands past kept) in
+    let tree = subst (λ tree. HasTree tree past) c.in-Some.is
+    (settled g.S.Stamp.MAX _ past p (ap (λ (k : Kept). k.next) c.profile.view_is ∙ c.in_ok-settle.ensures.settled)) in
+    absurd (omega (arith, many, tree.few))

@@ -1,7 +1,7 @@
 use Rattle.std.proofs.Common.{arith, ◌∙◌, ap, subst, sym}
 use Rattle.run_profile.proofs.Profiles.{few_steps}
 use Rattle.context_profile.specs.Kept.{AreContextsOf, Kept}
-use Rattle.context_profile.proofs.Observed.{observed, refused}
+use Rattle.context_profile.proofs.Observed.{is_deep, observed, refused}
 use Rattle.context_profile.proofs.profile.ContextProfileObserver.observe.Goals as goal
 
 pub apply-requires : goal.apply-requires
@@ -26,3 +26,15 @@ returns-in-Err-TooDeep-clause-observed g c = λ past kept.
     refused g.S.Stamp.MAX c.args.e _ c.apply.new.self c.apply.new.done.items past p (ap (λ (k : Kept). k.next) c.self.view_is ∙ c.in_ok-settle.ensures.settled)
     c.in-Err-TooDeep.ensures.refused c.in-Err-TooDeep.ensures.kept
     (λ shallow. absurd (let no = c.in-Err-TooDeep.ensures.not_deep past p.stands shallow in cc))
+
+pub returns-in-Ok-clause-too_deep : goal.returns-in-Ok-clause-too_deep
+returns-in-Ok-clause-too_deep g c = λ past kept none deep.
+    let p = subst (λ (k : Kept). AreContextsOf g.S.Stamp.MAX k past) (sym c.self.view_is) (c.settle.ensures.stands past kept) in
+    let no = c.in-Ok.ensures.deep past p.stands (is_deep g.S.Stamp.MAX c.args.e _ past p deep) in
+    absurd (cc)
+
+pub returns-in-Err-Memory-clause-too_deep : goal.returns-in-Err-Memory-clause-too_deep
+returns-in-Err-Memory-clause-too_deep g c = λ past kept none deep.
+    let p = subst (λ (k : Kept). AreContextsOf g.S.Stamp.MAX k past) (sym c.self.view_is) (c.settle.ensures.stands past kept) in
+    let no = c.in-Err-Memory.ensures.deep past p.stands (is_deep g.S.Stamp.MAX c.args.e _ past p deep) in
+    absurd (cc)

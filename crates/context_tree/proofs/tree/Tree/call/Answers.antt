@@ -13,6 +13,7 @@ returns-clause-stands c = λ past back stands.
     stands-call _ _ past c.args.tid c.args.entry back c.current-above.result c.in_ok-number.number (c.current-above.ensures ∙ ap (λ (k : Kept). current_of k c.args.tid) (sym c.self.view_is)) lives refl s (record {
       linked = c.in_ok-number.ensures.linked;
       places = c.in_ok-number.ensures.stands (contexts past) s.contexts_are;
+      few = c.in_ok-number.ensures.few;
       points = c.in_ok-number.ensures.points (contexts past) s.contexts_are;
       number = c.in_ok-number.ensures.number (contexts past) s.contexts_are;
     })

@@ -44,6 +44,7 @@ returns-clause-stands c = λ past stands.
     (ok_of c.insert.result _ (c.insert.ensures.room c.in_ok-reserve.ensures.room) c.insert.ensures.ok ∙ ap (λ (xs : List (ℕ × ℕ)). xs ++ (c.args.tid, c.in_ok-number.number) ∷ []) c.in_ok-reserve.ensures.list) (record {
       linked = c.in_ok-number.ensures.linked;
       places = c.in_ok-number.ensures.stands (contexts past) s.contexts_are;
+      few = c.in_ok-number.ensures.few;
       points = c.in_ok-number.ensures.points (contexts past) s.contexts_are;
       number = c.in_ok-number.ensures.number (contexts past) s.contexts_are;
     })

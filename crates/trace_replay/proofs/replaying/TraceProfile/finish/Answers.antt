@@ -1,4 +1,4 @@
-use Rattle.std.proofs.Common.{subst, sym}
+use Rattle.std.proofs.Common.{◌∙◌, ap, subst, sym}
 use Rattle.std.proofs.lemmas.Result.{err_from_is_err_and}
 use Rattle.trace_model.specs.Cut.{cut}
 use Rattle.trace_model.specs.Depth.{is_within}
@@ -6,8 +6,8 @@ use Rattle.trace_replay.specs.Replays.{Going, HasReplayed}
 use Rattle.trace_replay.proofs.Cuts.{cut_formed, light_of}
 use Rattle.trace_replay.proofs.replaying.TraceProfile.finish.Goals as goal
 
-pub returns-in_err-names : goal.returns-in_err-names
-returns-in_err-names g c = λ bytes has.
+pub returns-in_err-names-clause-replays : goal.returns-in_err-names-clause-replays
+returns-in_err-names-clause-replays g c = λ bytes has.
     let was = subst (λ (k : Going). HasReplayed g.S.Stamp.MAX k bytes) (sym c.self.view_is) has in
     let p = err_from_is_err_and c.from_residual.result c.from_residual.ensures.1 in
     rw (p.1, p.2) (was.past, c.in_err-names.ensures.err bytes was.past was.read)
@@ -19,8 +19,8 @@ into_totals-requires g c =
     let past = cut (is_within g.S.Stamp.MAX) was.past in
     record { past = past; now = was.profile; light = light_of past formed }
 
-pub returns : goal.returns
-returns g c = λ bytes has.
+pub returns-clause-replays : goal.returns-clause-replays
+returns-clause-replays g c = λ bytes has.
     let was = subst (λ (k : Going). HasReplayed g.S.Stamp.MAX k bytes) (sym c.self.view_is) has in
     record {
       past = was.past;
@@ -28,3 +28,19 @@ returns g c = λ bytes has.
       totals = c.in_ok-totals.ensures (cut (is_within g.S.Stamp.MAX) was.past) was.profile;
       whole = was.whole;
     }
+
+pub returns-in_err-names-clause-refused : goal.returns-in_err-names-clause-refused
+returns-in_err-names-clause-refused g c = λ e is.
+    let p = err_from_is_err_and c.from_residual.result c.from_residual.ensures.1 in
+    let told = c.in_err-names.ensures.stays e (ap (λ (k : Going). k.reader.refusal) c.self.view_is ∙ is) in
+    rw (p.1, p.2) (cc)
+
+pub returns-in_err-totals-clause-refused : goal.returns-in_err-totals-clause-refused
+returns-in_err-totals-clause-refused g c = λ e is.
+    let no = c.in_ok-names.ensures.stays e (ap (λ (k : Going). k.reader.refusal) c.self.view_is ∙ is) in
+    absurd (cc)
+
+pub returns-clause-refused : goal.returns-clause-refused
+returns-clause-refused g c = λ e is.
+    let no = c.in_ok-names.ensures.stays e (ap (λ (k : Going). k.reader.refusal) c.self.view_is ∙ is) in
+    absurd (cc)
