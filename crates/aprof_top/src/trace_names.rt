@@ -1,8 +1,7 @@
 //! The names that a stored trace gives its routines.
-ghost use Rattle.std.specs.Prelude.{◌≡◌, ◌<◌, ℕ, List, length, slice_get, None, IfOk, MatchOption, AllPairs};
+ghost use Rattle.std.specs.Prelude.{◌≡◌, ◌<◌, ℕ, List, length, slice_get, None, MatchOption, AllPairs};
 ghost use Rattle.std.specs.List.{find};
 ghost use Rattle.std.specs.Prelude.{◌==◌};
-ghost use Rattle.elf_image.specs.Image.{name_beside};
 
 use crate::report::RoutineNames;
 use guest_words::{Addr, Name};

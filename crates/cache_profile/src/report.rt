@@ -1,6 +1,5 @@
 //! The report of cache misses.
-ghost use Rattle.std.specs.Prelude.{◌≡◌, ◌++◌, codes, IfOk, OnOk};
-ghost use Rattle.std.specs.Fmt.{decimal};
+ghost use Rattle.std.specs.Prelude.{◌≡◌, ◌++◌, IfOk, OnOk};
 ghost use Rattle.std.specs.List.{flat_map};
 ghost use Rattle.profile_report.specs.LineForms.{ended};
 ghost use Rattle.cache_profile.specs.ReportText.{cache_text, counts_line, routine_text};

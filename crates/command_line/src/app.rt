@@ -1,5 +1,5 @@
 //! The fixed command line.
-ghost use Rattle.std.specs.Prelude.{◌≡◌, IfOk, false, codes};
+ghost use Rattle.std.specs.Prelude.{◌≡◌, IfOk, false};
 ghost use Rattle.clap.specs.Words.{app_of, rule_of};
 ghost use Rattle.clap.specs.declared.builder.command.Command.TheViews.{out-Command};
 ghost use Rattle.command_line.specs.App.{the_app, top_app, run_app, demo_app, trace_app, cache_app, replay_app, contexts_app, flag_rule, output_rule, required_option, required_rule, value_rule, word_rule};

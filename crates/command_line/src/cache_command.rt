@@ -1,5 +1,5 @@
 //! The command `cache`, of the matches that `clap` makes.
-ghost use Rattle.std.specs.Prelude.{◌≡◌, ◌≤◌, IfOk, IfErr, Some, None, option_map};
+ghost use Rattle.std.specs.Prelude.{◌≡◌, IfOk, IfErr, Some, None, option_map};
 ghost use Rattle.clap.specs.Words.{found_of, rows_of};
 ghost use Rattle.command_line.specs.Options.{cache_of_rows, number_to, shape_of_rows};
 ghost use Rattle.command_line.specs.Read.{AreInRange, cache_in, guest_in};

@@ -1,5 +1,5 @@
 //! The command `run`, of the matches that `clap` makes.
-ghost use Rattle.std.specs.Prelude.{◌≡◌, IfOk, IfErr, Some, None, option_map};
+ghost use Rattle.std.specs.Prelude.{◌≡◌, IfOk, IfErr, Some, None};
 ghost use Rattle.clap.specs.Words.{found_of, rows_of};
 ghost use Rattle.command_line.specs.Options.{options_of_rows};
 ghost use Rattle.command_line.specs.Read.{AreInRange, guest_in, options_in};

@@ -21,7 +21,7 @@ use Rattle.cost_points.specs.Keys.{grouped}
 use Rattle.context_tree.specs.declared.numbers.TheConstants.{CONTEXTS}
 use Rattle.context_tree.specs.Contexts.{context_of, contexts, same, with_context}
 use Rattle.context_tree.specs.Links.{IsLinked, no_links}
-use Rattle.context_tree.specs.Numbers.{IsBeyond, IsNumberOf, above_of, numbered}
+use Rattle.context_tree.specs.Numbers.{IsNumberOf, above_of, numbered}
 use Rattle.context_tree.specs.Numbers as by_number
 use Rattle.context_tree.specs.Points.{done_in_context, points_from, points_in, points_of}
 use Rattle.context_tree.specs.Trees.{Kept, StandsFor, current_of}

@@ -1,5 +1,5 @@
 //! Bytes by address: their permissions, and reads and writes of ranges.
-ghost use Rattle.std.specs.Prelude.{◌≡◌, ◌<◌, ◌≤◌, ◌+◌, ◌*◌, ◌^◌, ◌%◌, drop, length, OnOk, OnErr, IfNone};
+ghost use Rattle.std.specs.Prelude.{◌≡◌, ◌<◌, ◌≤◌, ◌+◌, ◌^◌, ◌%◌, drop, length, OnOk, OnErr, IfNone};
 ghost use Rattle.guest_memory.specs.Memory.{AreMapped, byte_refusal, first_refusal, number_at, byte_count, bytes_at, with_bytes, loaded, unless_refused};
 ghost use Rattle.guest_memory.specs.declared.refusal.Permission.TheVariants as permission;
 ghost use Rattle.guest_memory.specs.State.{memory_in};

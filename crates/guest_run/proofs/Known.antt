@@ -1,10 +1,9 @@
 -- A move whose instruction is known.
-use Rattle.std.proofs.Common.{◌≡◌, ℕ, zero, suc, ◌+◌, ◌-◌, ◌<◌, ◌≤◌, Bool, true, false, List, ◌∷◌, length, Some, None, Ok, Err, refl, ap, subst, ◌∙◌, sym, arith}
+use Rattle.std.proofs.Common.{◌≡◌, ℕ, zero, suc, ◌+◌, ◌-◌, ◌<◌, ◌≤◌, Bool, false, List, ◌∷◌, length, Some, Ok, Err, refl, ap, subst, ◌∙◌, sym, arith}
 use Rattle.std.specs.Prelude.{Option, Result, if◌then◌else◌}
 use Rattle.std.specs.Result.{IsErr}
 use Rattle.std.specs.declared.alloc.AllocError.{AllocError}
 use Rattle.guest_words.specs.declared.endings.Finish.TheVariants.{Deep}
-use Rattle.guest_words.specs.declared.limits.TheConstants.{RUN_STEPS}
 use Rattle.trace_model.specs.declared.event_kinds.Event.{Event}
 use Rattle.trace_model.specs.declared.observer.Observed.{Observed}
 use Rattle.trace_model.specs.declared.observer.Observed.TheVariants.{Refused, Taken}
@@ -22,7 +21,7 @@ use Rattle.guest_run.specs.declared.turns.Recorder.{Recorder}
 use Rattle.guest_run.specs.CurrentTurn.{IsUnderWay, chosen_of, position, recorded}
 use Rattle.guest_run.specs.Going.{IsGoing, IsPastOf, IsSameRun, Leads, MakesAKnownMove, MayAdvance, Remains, past_by}
 use Rattle.guest_run.specs.Machine.{guest}
-use Rattle.guest_run.specs.Output.{Sinks, with_output}
+use Rattle.guest_run.specs.Output.{Sinks}
 use Rattle.guest_run.specs.Run.{Move, Position, chosen, chosen_by}
 use Rattle.guest_run.specs.Steps.{StepEnds}
 use Rattle.guest_run.proofs.Advances.{goes_turn, may_take, over_moved, step_failed}
@@ -57,7 +56,7 @@ module _ {W : Type 0} (Stands : W → List Event → Type 0) (fits : List Event 
 
     pub known_moves : (o : Observed) →
         ((now : Sinks) → StepEnds Stands fits (guest.step (machine_of old.stepper.machine) old.turn.tid) watcher now new.stepper watched now
-            (Ok (if is_taken o then GoesOn else Ends Deep))) →
+        (Ok (if is_taken o then GoesOn else Ends Deep))) →
         ((m : Move) (rest : List Move) → m.opens ≡ false → recorded old.recorder (m ∷ rest) ≡ recorded new.recorder rest) →
         new.recorder.made ≡ old.recorder.made + 1 → new.turn.scheduler ≡ old.turn.scheduler → new.turn.tid ≡ old.turn.tid →
         new.turn.left ≡ old.turn.left - 1 → MakesAKnownMove Stands fits old watcher new watched (Ok (Some o))

@@ -1,5 +1,5 @@
 -- The line of a run that ended at an entry of its schedule is counted from 1, and is not above the number of its moves and one.
-use Rattle.std.proofs.Common.{◌≡◌, ℕ, zero, suc, ◌+◌, ◌≤◌, Bool, true, false, cond, List, [], ◌∷◌, Option, Some, None, refl, sym, ap, subst, arith}
+use Rattle.std.proofs.Common.{◌≡◌, ℕ, zero, suc, ◌+◌, ◌≤◌, Bool, true, false, cond, List, [], ◌∷◌, Option, Some, None, refl, subst, arith}
 use Rattle.std.specs.List.{list_any}
 use Rattle.std.specs.Prelude.{pred, ◌==◌}
 use Rattle.guest_words.specs.declared.endings.Finish.{Finish}
@@ -10,7 +10,7 @@ use Rattle.guest_machine.specs.Machine.{MachineState}
 use Rattle.guest_run.specs.declared.turn_status.TurnStatus.{TurnStatus}
 use Rattle.guest_run.specs.declared.turn_status.TurnStatus.TheVariants.{GoesOn, TurnOver, Ends}
 use Rattle.guest_run.specs.Laws.{scheduler}
-use Rattle.guest_run.specs.Machine.{Progress, guest, turn_status_of}
+use Rattle.guest_run.specs.Machine.{guest, turn_status_of}
 use Rattle.guest_run.specs.Profiled.{profiled}
 use Rattle.guest_run.specs.Run.{Chosen, Move, Position, WrittenRun, by_turn, by_turn_status, chosen, chosen_by, go_on, position_after, run, run_from, start}
 use Rattle.guest_run.specs.Run.Chosen.{Moves, Stops}

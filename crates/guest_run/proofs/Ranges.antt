@@ -1,6 +1,6 @@
 -- The numbers that a run tells are in their ranges.
-use Rattle.std.proofs.Common.{◌≡◌, ◌⊎◌, ℕ, zero, suc, ◌<◌, ◌≤◌, ◌+◌, ◌^◌, Bool, true, false, cond, List, [], ◌∷◌, ◌++◌, refl, sym, ap, subst, ◌∙◌, arith, inl, inr}
-use Rattle.std.specs.Prelude.{max, nat_eq, not, pred, ◌&&◌, ◌||◌}
+use Rattle.std.proofs.Common.{◌≡◌, ℕ, zero, suc, ◌<◌, ◌≤◌, ◌+◌, ◌^◌, Bool, true, false, cond, List, [], ◌∷◌, refl, sym, subst, arith, inl, inr}
+use Rattle.std.specs.Prelude.{max, nat_eq, not, pred, ◌||◌}
 use Rattle.std.specs.List.{AllByRecursion}
 use Rattle.std.proofs.lemmas.Bool.{and_parts}
 use Rattle.std.proofs.lemmas.Bool.Decides.{nat_tests}
@@ -13,7 +13,6 @@ use Rattle.trace_model.specs.declared.event_kinds.Event.{Event}
 use Rattle.trace_model.specs.declared.event_kinds.Event.TheVariants as events
 use Rattle.trace_model.specs.WellFormed.{greatest_start, is_live}
 use Rattle.thread_sched.specs.TurnRule.{turn_of}
-use Rattle.thread_sched.specs.declared.entry.Entry.{Entry}
 use Rattle.thread_sched.specs.declared.turns.Turn.{Turn}
 use Rattle.thread_sched.specs.declared.turns.Turn.TheVariants as turn
 use Rattle.elf_image.specs.Image.{Executable}
@@ -24,20 +23,19 @@ use Rattle.guest_machine.specs.Laws.{HaveAddresses, IsAddress, IsToldInRange, Te
 use Rattle.guest_machine.specs.Machine.{MachineState, can_run}
 use Rattle.guest_machine.specs.Start.{start}
 use Rattle.guest_machine.specs.Step.{step}
-use Rattle.guest_machine.specs.Waking.{woken}
 use Rattle.guest_machine.proofs.Ranges.{every_step_in_range, every_waking_in_range, tells-append}
 use Rattle.guest_run.specs.declared.turn_status.TurnStatus.{TurnStatus}
 use Rattle.guest_run.specs.declared.turn_status.TurnStatus.TheVariants.{GoesOn, TurnOver, Ends}
 use Rattle.guest_run.specs.Laws.{scheduler}
 use Rattle.guest_run.specs.Machine.{guest, turn_status_of}
 use Rattle.guest_run.specs.Profiled.{first_past, profiled}
-use Rattle.guest_run.specs.Run.{Chosen, Move, Position, by_turn, by_turn_status, chosen, chosen_by, events_of, go_on, move_of, position_after, run, run_from}
+use Rattle.guest_run.specs.Run.{Chosen, Position, by_turn, by_turn_status, chosen, chosen_by, events_of, go_on, move_of, position_after, run, run_from}
 use Rattle.guest_run.specs.Run as runs
 use Rattle.guest_run.specs.Run.Chosen.{Moves, Stops}
 use Rattle.guest_run.specs.Traces.{EveryRunTellsInRange, IsEndInRange, IsInRange, IsThread}
 use Rattle.guest_run.proofs.Able.{step_able}
 use Rattle.guest_run.proofs.Entries.{numbered}
-use Rattle.guest_run.proofs.Formed.{AllFollow, all_after, all_cut, run_follows}
+use Rattle.guest_run.proofs.Formed.{AllFollow, all_after, run_follows}
 use Rattle.guest_run.proofs.Guarded.{IsAble, IsChosenAble, IsSoundAfter, Steps, chosen_able, each_move, goes_went, sound_next, sound_woken, start_able, start_sound}
 use Rattle.guest_run.proofs.Lines.{IsCounted, ends_same, finish_of, observed_counted}
 

@@ -1,9 +1,7 @@
 //! The run.
-ghost use Rattle.std.specs.Prelude.{◌≡◌, ◌≤◌, ◌+◌, ◌<◌, ℕ, [], List, length, true, IfOk, IfErr};
+ghost use Rattle.std.specs.Prelude.{◌≡◌, ◌≤◌, ◌+◌, ◌<◌, [], true, IfOk, IfErr};
 ghost use Rattle.trace_model.specs.declared.event_kinds.Event.{Event};
-ghost use Rattle.thread_sched.specs.TurnRule.{SchedulerState};
 ghost use Rattle.guest_machine.specs.Kept.{machine_of};
-ghost use Rattle.guest_machine.specs.Machine.{MachineState};
 ghost use Rattle.guest_run.specs.declared.run_error.RunError.TheVariants.{Memory};
 ghost use Rattle.guest_run.specs.CurrentTurn.{recorded};
 ghost use Rattle.guest_run.specs.Going.{IsCounted, IsNewRunner, MakesAKnownMove, MakesAMove, MakesMoves, MayAdvance, RemainsSome};

@@ -1,6 +1,5 @@
 //! Who moves next, and the recording so far.
 ghost use Rattle.std.specs.Prelude.{◌≡◌, ◌≤◌, ◌+◌, ◌<◌, [], ◌∷◌, List, true, false, IfOk};
-ghost use Rattle.thread_sched.specs.TurnRule.{SchedulerState};
 ghost use Rattle.guest_machine.specs.Kept.{machine_of};
 ghost use Rattle.guest_machine.specs.Laws.{KeepsThreads};
 ghost use Rattle.guest_run.specs.Machine.{guest};

@@ -1,5 +1,5 @@
 //! The trace of a run that goes on.
-ghost use Rattle.std.specs.Prelude.{◌≡◌, ◌↔◌, ◌+◌, ◌<◌, ◌≤◌, ◌^◌, ◌∷◌, [], true, false, not, List, length, is_some, IfOk, IfSome, IsOk, IsTrue, Ok, OnErr, OnOk, MatchOption};
+ghost use Rattle.std.specs.Prelude.{◌≡◌, ◌<◌, ◌≤◌, ◌∷◌, [], true, false, not, List, length, is_some, IfOk, IfSome, IsOk, Ok, OnErr, OnOk, MatchOption};
 ghost use Rattle.trace_model.specs.declared.event_kinds.Event.{Event};
 ghost use Rattle.trace_model.specs.Depth.{is_within};
 ghost use Rattle.trace_model.specs.Observing.{MayTake, Observes, StandsAsBefore};

@@ -1,7 +1,6 @@
 //! What is written of a trace.
 ghost use Rattle.std.specs.Prelude.{◌≡◌, [], ◌∷◌, List, None, IfOk, IsOk, OnOk, length};
 ghost use Rattle.trace_model.specs.declared.event_kinds.Event.{Event};
-ghost use Rattle.trace_model.specs.WellFormed.{IsWellFormed};
 ghost use Rattle.trace_file.specs.TraceText.{IsTextOf};
 ghost use Rattle.run_trace.specs.Entries.{entries_begun};
 ghost use Rattle.run_trace.specs.Kept.{IsWrittenOf, MayWrite};

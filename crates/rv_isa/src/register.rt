@@ -1,5 +1,5 @@
 //! The numbers of the integer registers.
-ghost use Rattle.std.specs.Prelude.{◌≡◌, ◌<◌, ◌≤◌, ℕ, IsSome, IfSome, ◌↔◌};
+ghost use Rattle.std.specs.Prelude.{◌≡◌, ◌<◌, ℕ, IsSome, IfSome, ◌↔◌};
 
 use std::marker::Model;
 

@@ -11,7 +11,7 @@ use Rattle.trace_model.specs.declared.slow_profile.Done.{Done}
 use Rattle.std.specs.List.{position_or_len}
 use Rattle.trace_model.specs.declared.activations.Activation.{Activation}
 use Rattle.trace_model.specs.Activations.{backs, count_ending, count_returned, is_back, open_calls}
-use Rattle.trace_model.specs.Depth.{count_begun, pending}
+use Rattle.trace_model.specs.Depth.{count_begun}
 use Rattle.trace_model.specs.Events.{covers}
 use Rattle.trace_model.specs.Observing.{MayTake}
 use Rattle.trace_model.specs.Profile.{done_of}

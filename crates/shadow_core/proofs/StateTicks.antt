@@ -12,7 +12,7 @@ use Rattle.shadow_stack.specs.Frames.{Frame, starts_of}
 use Rattle.shadow_pages.specs.Pages.{Page, stamp_at}
 use Rattle.stamp_renumber.specs.Classes.{class}
 use Rattle.stamp_renumber.specs.Renumbered.{IsThreadRenumbered}
-use Rattle.stamp_renumber.specs.Threads.{Live, Stamped}
+use Rattle.stamp_renumber.specs.Threads.{Stamped}
 use Rattle.stamp_renumber.specs.Threads as parts
 use Rattle.stamp_renumber.specs.declared.ticks.Ticked.{Ticked}
 use Rattle.shadow_core.specs.Table.{Thread}

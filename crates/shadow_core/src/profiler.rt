@@ -200,7 +200,15 @@ impl<S: Lanes> Profiler<S> {
         ensures no_memory { AreCovered (pages_of self.old.live.threads tid) first count
             → AreCovered self.old.writes first count → IsOk result }
     {
-        if count == 1 && is_written(&self.threads, tid, &self.writes, &self.marks, first, self.counter)
+        if count == 1
+            && is_written(
+                &self.threads,
+                tid,
+                &self.writes,
+                &self.marks,
+                first,
+                self.counter,
+            )
         {
             self.weight += 1;
             return Ok(());

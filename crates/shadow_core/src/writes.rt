@@ -98,9 +98,7 @@ pub(crate) fn is_written<S: Lanes>(
     ensures write { result ≡ true → stamp_at writes.now.pages w ≡ counter }
     ensures mark { result ≡ true → stamp_at marks.now.pages w ≡ 0 }
 {
-    is_fresh(threads, tid, w, counter)
-        && writes.get(w).number() == counter
-        && marks.get(w) == 0
+    is_fresh(threads, tid, w, counter) && writes.get(w).number() == counter && marks.get(w) == 0
 }
 
 /// A write of words by the thread: each gets the stamp, as that of the thread's access and as that of its latest write, and

@@ -1,5 +1,5 @@
 //! The pages, and the words by them.
-ghost use Rattle.std.specs.Prelude.{◌≡◌, ◌≢◌, ◌<◌, ◌≤◌, ◌+◌, ◌*◌, ◌/◌, ◌%◌, ◌^◌, ◌++◌, ◌∷◌, ◌↔◌, ◌&&◌, ◌==◌, if◌then◌else◌, [], ℕ, Some, All, IfOk, IsOk, IsTrue, OnErr, OnOk, length, map, nat_le, nat_lt, slice_index, slice_set, true};
+ghost use Rattle.std.specs.Prelude.{◌≡◌, ◌≢◌, ◌<◌, ◌≤◌, ◌+◌, ◌*◌, ◌/◌, ◌%◌, ◌^◌, ◌↔◌, ◌&&◌, ◌==◌, if◌then◌else◌, [], ℕ, Some, All, IfOk, IsOk, IsTrue, OnErr, OnOk, length, map, nat_le, nat_lt, slice_index, slice_set, true};
 ghost use Rattle.std.specs.Borrow.{sem};
 ghost use Rattle.shadow_pages.specs.Directory.{HasTable};
 ghost use Rattle.shadow_pages.specs.Pages.{AreCovered, AreDistinct, AreFresh, HasPlace, HasWord, HaveAll, IsFull, IsIndexed, IsLow, IsReserved, changed, covers, in_range, page_at, page_of, stamp_at, zeros};

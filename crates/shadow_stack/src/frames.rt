@@ -1,5 +1,5 @@
 //! The frames and their search.
-ghost use Rattle.std.specs.Prelude.{◌≡◌, ◌≤◌, ◌<◌, ◌+◌, ◌-◌, ◌*◌, ◌^◌, ◌++◌, ◌∷◌, [], ℕ, List, length, map, All, IfSome, IsOk, OnOk, OnErr, slice_get, slice_index};
+ghost use Rattle.std.specs.Prelude.{◌≡◌, ◌≤◌, ◌<◌, ◌+◌, ◌-◌, ◌*◌, ◌^◌, ◌++◌, ◌∷◌, [], ℕ, length, map, All, IfSome, IsOk, OnOk, OnErr, slice_get, slice_index};
 ghost use Rattle.shadow_stack.specs.Frames.{FitsPop, FitsSums, IsLastAtMost, IsPopped, IsRising, added, new_frame, plus, restarted, starts_of};
 
 use crate::{Steps, Sums};

@@ -1,9 +1,9 @@
 //! Reading a stored trace into a profile.
-ghost use Rattle.std.specs.Prelude.{◌≡◌, ◌≤◌, ◌<◌, ◌+◌, ◌^◌, ◌++◌, [], List, ℕ, length, None, Some, Err, IfOk, OnOk, IfErr, MatchResult};
+ghost use Rattle.std.specs.Prelude.{◌≡◌, ◌≤◌, ◌<◌, ◌+◌, ◌^◌, ◌++◌, [], List, ℕ, length, None, Some, Err, IfOk, OnOk, IfErr};
 ghost use Rattle.trace_file.specs.Reading.{IsRefused};
 ghost use Rattle.trace_file.specs.declared.errors.TraceError.{TraceError};
 ghost use Rattle.trace_model.specs.declared.event_kinds.Event.{Event};
-ghost use Rattle.trace_replay.specs.Replays.{HasReplayed, IsReplayOf, Replays};
+ghost use Rattle.trace_replay.specs.Replays.{HasReplayed, Replays};
 
 use guest_words::{Addr, Finish, Name};
 use run_profile::{Profile, Totals};

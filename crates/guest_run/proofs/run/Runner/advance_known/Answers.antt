@@ -27,6 +27,6 @@ returns-in-Some-clause-advances g c =
     known_moves g.W.Observer.stands (g.W.Observer.fits c.args.observer.now) c.args.self.now c.args.observer.now c.requires.left
     (g.W.Observer.fits_closed c.args.observer.now) new c.step_known.new.observer c.in-Some.observed
     (subst (λ (o : Option Observed). KnownStepEnds g.W.Observer.stands (g.W.Observer.fits c.args.observer.now) (machine_of c.args.self.now.stepper.machine)
-        (guest.step (machine_of c.args.self.now.stepper.machine) c.args.self.now.turn.tid) c.args.observer.now c.step_known.new.self c.step_known.new.observer (Ok o))
-        c.in-Some.is c.in_ok-observed.ensures.ends)
+    (guest.step (machine_of c.args.self.now.stepper.machine) c.args.self.now.turn.tid) c.args.observer.now c.step_known.new.self c.step_known.new.observer (Ok o))
+    c.in-Some.is c.in_ok-observed.ensures.ends)
     c.add_to_turn.ensures.recorded c.add_to_turn.ensures.made refl refl refl
