@@ -1,9 +1,9 @@
 -- What stands behind the heads of records.
-use Rattle.std.proofs.Common.{zero, suc, inl, inr, ◌⊎◌, ◌≡◌, ◌≢◌, ℕ, ◌+◌, ◌-◌, ◌*◌, ◌/◌, ◌%◌, ◌^◌, ◌≤◌, ◌<◌, ◌++◌, ◌∷◌, [], List, true, length, take, get_or, replicate, refl, sym, subst, ap, ap₂, ◌∙◌, arith, append_assoc, append-nil, length-append}
+use Rattle.std.proofs.Common.{zero, suc, inl, inr, ◌⊎◌, ◌≡◌, ◌≢◌, ℕ, ◌+◌, ◌-◌, ◌*◌, ◌/◌, ◌%◌, ◌^◌, ◌≤◌, ◌<◌, ◌++◌, ◌∷◌, [], List, true, length, length-take, take, drop, get_or, replicate, refl, sym, subst, ap, ap₂, ◌∙◌, arith, append_assoc, append-nil, length-append}
 use Rattle.std.specs.List.{flat_map}
 use Rattle.std.proofs.Math.Seq.{take-append_seam}
 use Rattle.std.proofs.lemmas.Bool.{cases_lt}
-use Rattle.std.proofs.lemmas.List.{length-replicate}
+use Rattle.std.proofs.lemmas.List.{length-replicate, take-append-drop}
 use Rattle.guest_words.specs.Names.{is_name}
 use Rattle.guest_words.specs.declared.endings.FaultKind.{FaultKind}
 use Rattle.guest_words.specs.declared.endings.FaultKind.TheVariants.{Illegal, Fetch, Load, Store, JumpAlign, AtomicAlign, Break}
@@ -412,6 +412,17 @@ found_name f xs bytes rest name behind is has named long text =
       sym is,
       (behind, both.text ∙ ap₂ (λ n y. flat_map number_bytes (get_or xs 0 0 ∷ n ∷ []) ++ y) (sym long) text ∙ sym (append_assoc (flat_map number_bytes (get_or xs 0 0 ∷ length name ∷ [])) name behind)),
     )
+
+-- want of memory for a name whose bytes are there
+pub wanted_name : (f : Form) (xs bytes rest : List ℕ) → f ≡ Named → HasNumbers f (take (length (ranges f)) (three xs)) bytes rest → (get_or xs 1 0 ≤ length rest) × (is_name (take (get_or xs 1 0) rest) ≡ true) →
+    (r : Record) × Fits r × (form r ≡ f) × ((behind : List ℕ) × (bytes ≡ body r ++ behind))
+wanted_name f xs bytes rest is has there =
+    let long : length (take (get_or xs 1 0) rest) ≡ get_or xs 1 0 = length_of (get_or xs 1 0) rest there.0 in
+    let found = found_name f xs bytes rest (take (get_or xs 1 0) rest) (drop (get_or xs 1 0) rest) is has there.1 long (sym (take-append-drop (get_or xs 1 0) rest)) in
+    (OfName (get_or xs 0 0) (take (get_or xs 1 0) rest), found.0, found.1, found.2)
+  where
+    length_of : (n : ℕ) (ys : List ℕ) → n ≤ length ys → length (take n ys) ≡ n
+    length_of n ys few = omega (arith, length-take n ys)
 
 pub stop_name : (f : Form) (xs bytes rest : List ℕ) (stop : Stop) → f ≡ Named → HasNumbers f (take (length (ranges f)) (three xs)) bytes rest → Stops (IsNameOf (get_or xs 1 0)) rest stop → Stops (IsBody f) bytes stop
 stop_name f xs bytes rest stop is has stops =

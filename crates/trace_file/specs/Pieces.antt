@@ -29,6 +29,10 @@ Stops L bytes Memory = Unit {0}
 abbrev pub IsRecord : List ℕ → Type 0
 IsRecord x = (r : Record) × Fits r × (x ≡ record_bytes r)
 
+-- The bytes begin with a record.
+abbrev pub IsWhole : List ℕ → Type 0
+IsWhole bytes = (r : Record) × Fits r × ((rest : List ℕ) × (bytes ≡ record_bytes r ++ rest))
+
 -- the heads of forms
 abbrev pub IsHead : List ℕ → Type 0
 IsHead x = (f : Form) × (x ≡ head f)

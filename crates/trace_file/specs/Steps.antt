@@ -34,6 +34,11 @@ IsNotAdded s past r (errors.Order at) = (at ≡ s.at) × IsOutOfOrder (told_by s
 IsNotAdded s past r errors.Memory = Unit {0}
 IsNotAdded s past r e = ⊥
 
+-- A record that is refused for want of memory may come next.
+abbrev pub IsInOrder : ReaderState → List Event → Record → TraceError → Type 0
+IsInOrder s past r errors.Memory = IsOutOfOrder (told_by s past) r → ⊥
+IsInOrder s past r e = Unit {0}
+
 -- It is added, and the next record begins behind its bytes.
 pub record IsTaken (old new : ReaderState) (past : List Event) (r : Record) : Type 0 where
   pub added : IsAdded old new past r

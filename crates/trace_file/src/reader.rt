@@ -2,11 +2,13 @@
 ghost use Rattle.std.specs.Prelude.{◌≡◌, ◌≢◌, ◌<◌, ◌^◌, ◌+◌, ◌++◌, ◌∷◌, [], ℕ, List, None, Some, length, Err, get_or, IfErr, IsOk, is_some, true, IfOk, IsTrue, OnErr, OnOk, ◌↔◌};
 ghost use Rattle.std.specs.Result.{result_err};
 ghost use Rattle.trace_file.specs.declared.errors.TraceError.{TraceError};
+ghost use Rattle.guest_words.specs.declared.endings.Finish.{Finish};
 ghost use Rattle.trace_model.specs.declared.event_kinds.Event.{Event};
 ghost use Rattle.trace_file.specs.declared.records.Record.TheVariants.{OfEvent, OfName, OfFinish};
+ghost use Rattle.trace_file.specs.Pieces.{IsWhole};
 ghost use Rattle.trace_file.specs.Records.{Fits};
 ghost use Rattle.trace_file.specs.Reading.{HasFed, HasRead, IsAtRecord, IsReading, IsRefused, MayFeed};
-ghost use Rattle.trace_file.specs.Steps.{IsAdded, IsFed, IsNotAdded, IsOpen, IsTaken, MayReadByte, said};
+ghost use Rattle.trace_file.specs.Steps.{IsAdded, IsFed, IsInOrder, IsNotAdded, IsOpen, IsTaken, MayReadByte, said};
 ghost use Rattle.trace_file.specs.TraceText.{IsRising, IsTrace, magic};
 
 use crate::errors::TraceError;
@@ -73,7 +75,8 @@ fn push_name(names: &mut Vec<(Addr, Name)>, entry: Addr, name: Name) -> Result<(
 
 /// Appends a byte.
 fn push_byte(held: &mut Vec<u8>, byte: u8) -> Result<(), AllocError>
-    ensures { OnOk result (held.new.items ≡ held.old.items ++ byte ∷ []) }
+    ensures ok { OnOk result (held.new.items ≡ held.old.items ++ byte ∷ []) }
+    ensures err { OnErr result (held.new.items ≡ held.old.items) }
 {
     held.push(byte)?;
     Ok(())
@@ -87,6 +90,8 @@ impl TraceReader {
             → OnOk result (IsAdded self.old self.new past (OfEvent e)) }
         ensures err { (past : List Event) → IsOpen self.old past
             → IfErr result (λ x. IsNotAdded self.old past (OfEvent e) x) }
+        ensures memory { (past : List Event) → IsOpen self.old past
+            → IfErr result (λ x. IsInOrder self.old past (OfEvent e) x) }
         ensures appended { OnOk result (events.new.list ≡ events.old.list ++ e ∷ []) }
         ensures kept { OnErr result (events.new.list ≡ events.old.list) }
     {
@@ -106,6 +111,8 @@ impl TraceReader {
             → OnOk result (IsAdded self.old self.new past (OfName entry name)) }
         ensures err { (past : List Event) → IsOpen self.old past
             → IfErr result (λ x. IsNotAdded self.old past (OfName entry name) x) }
+        ensures memory { (past : List Event) → IsOpen self.old past
+            → IfErr result (λ x. IsInOrder self.old past (OfName entry name) x) }
     {
         if !is_above(&self.names, entry) {
             return Err(TraceError::Order { at: self.at });
@@ -129,6 +136,8 @@ impl TraceReader {
             → OnOk result (IsAdded self.old self.new past next) }
         ensures err { (past : List Event) → IsOpen self.old past
             → IfErr result (λ x. IsNotAdded self.old past next x) }
+        ensures memory { (past : List Event) → IsOpen self.old past
+            → IfErr result (λ x. IsInOrder self.old past next x) }
         ensures appended { OnOk result (events.new.list ≡ events.old.list ++ said next) }
         ensures kept { OnErr result (events.new.list ≡ events.old.list) }
     {
@@ -151,6 +160,8 @@ impl TraceReader {
             → OnOk result (IsTaken self.old self.new past next) }
         ensures err { (past : List Event) → IsOpen self.old past
             → IfErr result (λ x. IsNotAdded self.old past next x) }
+        ensures memory { (past : List Event) → IsOpen self.old past
+            → IfErr result (λ x. IsInOrder self.old past next x) }
         ensures appended { OnOk result (events.new.list ≡ events.old.list ++ said next) }
         ensures kept { OnErr result (events.new.list ≡ events.old.list) }
     {
@@ -165,8 +176,10 @@ impl TraceReader {
     fn read_byte(&mut self, byte: u8, events: &mut Events) -> Result<(), TraceError>
         requires reading { MayReadByte IsAtRecord self.old }
         requires unfinished { self.old.finish ≡ None }
-        ensures { IsFed IsAtRecord IsAtRecord self.old self.new
+        ensures fed { IsFed IsAtRecord IsAtRecord self.old self.new
             (byte ∷ []) events.old.list events.new.list result }
+        ensures memory { IfErr result (λ e. e ≡ TraceError.Memory
+            → self.new.held ≡ self.old.held ++ byte ∷ [] → IsWhole (self.old.held ++ byte ∷ [])) }
     {
         push_byte(&mut self.held, byte)?;
         match read_record(self.alloc, &self.held) {
@@ -197,8 +210,10 @@ impl TraceReader {
     // Reads a byte more, where nothing fails so far.
     fn next_byte(&mut self, byte: u8, events: &mut Events) -> Result<(), TraceError>
         requires reading { MayReadByte IsReading self.old }
-        ensures { IsFed IsReading IsReading self.old self.new
+        ensures fed { IsFed IsReading IsReading self.old self.new
             (byte ∷ []) events.old.list events.new.list result }
+        ensures behind { (f : Finish) → self.old.finish ≡ Some f → length magic ≤ self.old.line
+            → result ≡ Err (TraceError.Record self.old.at) }
     {
         if self.line < MAGIC.len() {
             return self.read_line_byte(byte);
@@ -261,6 +276,7 @@ impl TraceReader {
             → IfOk result (λ t. IsTrace bytes past t.names.items t.finish) }
         ensures err { (bytes : List ℕ) (past : List Event) → HasRead self bytes past
             → IfErr result (λ e. IsRefused bytes past e) }
+        ensures memory { self.refusal ≡ None → IfErr result (λ e. e ≡ TraceError.Short) }
         ensures stays { (e : TraceError) → self.refusal ≡ Some e → result ≡ Err e }
         ensures short { self.refusal ≡ None → self.finish ≡ None → result ≡ Err TraceError.Short }
         ensures no_memory { self.refusal ≡ None → is_some self.finish ≡ true → IsOk result }

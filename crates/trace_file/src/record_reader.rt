@@ -2,9 +2,10 @@
 ghost use Rattle.std.specs.Prelude.{true, false, All, ◌≡◌, ◌≢◌, ◌≤◌, ◌<◌, ◌^◌, ◌++◌, ◌∷◌, [], ℕ, List, length, take, drop, slice_index, IfErr, IfNone, IfOk, IfSome};
 ghost use Rattle.byteorder.specs.Endian.{little_number};
 ghost use Rattle.trace_file.specs.declared.records.Form.{Form};
+ghost use Rattle.trace_file.specs.declared.records.Record.{Record};
 ghost use Rattle.guest_words.specs.Names.{is_name, is_visible};
 ghost use Rattle.guest_words.specs.declared.limits.TheConstants.{NAME_BYTES};
-ghost use Rattle.trace_file.specs.Pieces.{AreNumbers, IsBody, IsHead, IsNameOf, IsNone, IsRecord, Stops, body};
+ghost use Rattle.trace_file.specs.Pieces.{AreNumbers, IsBody, IsHead, IsNameOf, IsNone, IsRecord, IsWhole, Stops, body};
 ghost use Rattle.trace_file.specs.declared.records.Record.TheVariants.{OfEvent, OfFinish};
 ghost use Rattle.trace_file.specs.Records.{AreInRanges, Fits, IsIn, form, head, kind_number, number_bytes, ranges, record_bytes, thread};
 ghost use Rattle.trace_file.specs.Made.{IsLeastNumber, IsMade, IsSound, is_event};
@@ -93,6 +94,7 @@ fn end_head(second: u8) -> Option<Form>
 fn read_head(bytes: &[u8]) -> Result<(Form, &[u8]), Stop>
     ensures found { IfOk result (λ x. bytes.now ≡ head x.0 ++ x.1.now) }
     ensures stops { IfErr result (λ stop. Stops IsHead bytes.now stop) }
+    ensures memory { IfErr result (λ stop. stop ≢ Stop.Memory) }
 {
     if bytes.is_empty() {
         return Err(Stop::Begun);
@@ -158,6 +160,7 @@ fn read_number(bytes: &[u8], range: Range) -> Result<u32, Stop>
         × (bytes.now ≡ number_bytes n ++ drop 4 bytes.now)) }
     ensures long { IfOk result (λ n. 4 ≤ length bytes.now) }
     ensures stops { IfErr result (λ stop. Stops (AreNumbers (range ∷ [])) bytes.now stop) }
+    ensures memory { IfErr result (λ stop. stop ≢ Stop.Memory) }
 {
     if least_number(bytes, range) > u64::from(range.most) {
         return Err(Stop::NoForm);
@@ -183,6 +186,7 @@ fn read_numbers<'a>(bytes: &'a [u8], ranges: &[Range]) -> Result<([u32; 3], &'a 
     ensures found { IfOk result (λ x. AreInRanges (take (length ranges.now) x.0) ranges.now
         × (bytes.now ≡ flat_map number_bytes (take (length ranges.now) x.0) ++ x.1.now)) }
     ensures stops { IfErr result (λ stop. Stops (AreNumbers ranges.now) bytes.now stop) }
+    ensures memory { IfErr result (λ stop. stop ≢ Stop.Memory) }
 {
     let mut numbers = [0; 3];
     let mut rest = bytes;
@@ -347,6 +351,8 @@ fn read_name(alloc: Global, bytes: &[u8], len: usize) -> Result<Name, Stop>
     ensures found { IfOk result (λ name. (is_name name ≡ true) × (length name ≡ len)
         × (bytes.now ≡ name ++ drop len bytes.now)) }
     ensures stops { IfErr result (λ stop. Stops (IsNameOf len) bytes.now stop) }
+    ensures memory { IfErr result (λ stop. stop ≡ Stop.Memory
+        → (len ≤ length bytes.now) × (is_name (take len bytes.now) ≡ true)) }
 {
     if bytes.len() < len {
         if are_visible(bytes) {
@@ -366,6 +372,8 @@ fn read_body(alloc: Global, wanted: Form, bytes: &[u8]) -> Result<Record, Stop>
     ensures found { IfOk result (λ r. Fits r × (form r ≡ wanted)
         × ((rest : List ℕ) × (bytes.now ≡ body r ++ rest))) }
     ensures stops { IfErr result (λ stop. Stops (IsBody wanted) bytes.now stop) }
+    ensures memory { IfErr result (λ stop. stop ≡ Stop.Memory
+        → (r : Record) × Fits r × (form r ≡ wanted) × ((rest : List ℕ) × (bytes.now ≡ body r ++ rest))) }
 {
     let (numbers, rest) = read_numbers(bytes, ranges(wanted))?;
     let [a, b, c] = numbers;
@@ -383,6 +391,7 @@ pub fn read_record(alloc: Global, bytes: &[u8]) -> Result<Record, Stop>
     ensures found { IfOk result (λ r. Fits r
         × ((rest : List ℕ) × (bytes.now ≡ record_bytes r ++ rest))) }
     ensures stops { IfErr result (λ stop. Stops IsRecord bytes.now stop) }
+    ensures memory { IfErr result (λ stop. stop ≡ Stop.Memory → IsWhole bytes.now) }
 {
     let (form, body) = read_head(bytes)?;
     read_body(alloc, form, body)

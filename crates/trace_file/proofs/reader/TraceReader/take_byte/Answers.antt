@@ -5,5 +5,5 @@ use Rattle.trace_file.proofs.Feeding.{fed_byte}
 use Rattle.trace_file.proofs.reader.TraceReader.take_byte.Goals as goal
 
 pub returns-clause-fed : goal.returns-clause-fed
-returns-clause-fed c = fed_byte c.args.self.now _ _ c.args.byte _ _ c.next_byte-read.result c.requires.none c.next_byte-read.ensures
+returns-clause-fed c = fed_byte c.args.self.now _ _ c.args.byte _ _ c.next_byte-read.result c.requires.none c.next_byte-read.ensures.fed
     (ap₂ (λ (s : ReaderState) (o : Option TraceError). record s { refusal = o }) c.self.view_is c.err-self-inside.ensures.value)
