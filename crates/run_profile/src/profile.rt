@@ -1,5 +1,5 @@
 //! The profile of a run that goes on.
-ghost use Rattle.std.specs.Prelude.{◌≡◌, ◌≤◌, ◌∷◌, [], List, IfOk, OnOk};
+ghost use Rattle.std.specs.Prelude.{◌≡◌, ◌≤◌, ◌∷◌, [], List, IfOk, IsOk, OnOk};
 ghost use Rattle.trace_model.specs.declared.event_kinds.Event.{Event};
 ghost use Rattle.trace_model.specs.Profile.{steps};
 ghost use Rattle.run_profile.specs.Profile.{AreTotalsOf, IsOfLight, IsProfileOf};
@@ -66,6 +66,7 @@ impl<S: Lanes> Profile<S> {
         ensures stands { (past : List Event) → IsProfileOf S.MAX self.old past
             → IsProfileOf S.MAX self.new past }
         ensures settled { OnOk result (self.new.ended ≡ []) }
+        ensures no_memory { self.old.ended ≡ [] → IsOk result }
     {
         if self.ended.is_empty() {
             return Ok(());
@@ -105,7 +106,10 @@ impl<S: Lanes> Profile<S> {
 }
 
 impl<S: Lanes> Observer for Profile<S> {
+    ghost use Rattle.std.specs.Prelude.{true, Ok, OnErr};
+    ghost use Rattle.shadow_core.specs.Applying.{is_too_deep};
     ghost use Rattle.trace_model.specs.Depth.{is_within};
+    ghost use Rattle.trace_model.specs.Observing.{MayTake, Observes, StandsAsBefore};
     ghost use Rattle.trace_model.proofs.Cut.{within_closed};
     ghost use Rattle.run_profile.specs.Profile.{IsProfileOf};
 
@@ -116,7 +120,13 @@ impl<S: Lanes> Observer for Profile<S> {
     ghost fits_closed = { λ _. within_closed S.MAX };
 
     #[inline(always)]
-    fn observe(&mut self, e: Event) -> Result<Observed, AllocError> {
+    fn observe(&mut self, e: Event) -> Result<Observed, AllocError>
+        requires { MayTake (IsProfileOf S.MAX) self.old e }
+        ensures observed { IfOk result (Observes (IsProfileOf S.MAX) (is_within S.MAX) e self.old self.new) }
+        ensures refused { OnErr result (StandsAsBefore (IsProfileOf S.MAX) self.old self.new) }
+        ensures deep { (past : List Event) → IsProfileOf S.MAX self.old past → self.old.ended ≡ []
+            → is_too_deep S.MAX e past ≡ true → result ≡ Ok Observed.Refused }
+    {
         self.settle()?;
         match self.profiler.apply(e, &mut self.ended) {
             Ok(()) => {
