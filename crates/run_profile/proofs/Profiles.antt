@@ -7,7 +7,7 @@ use Rattle.std.proofs.lemmas.List.Elements.{All-tail}
 use Rattle.trace_model.specs.declared.event_kinds.Event.{Event}
 use Rattle.trace_model.specs.declared.event_kinds.Event.TheVariants.{Step, Read, Write, Fill, Call, Ret, Start, End}
 use Rattle.trace_model.specs.declared.slow_profile.Done.{Done}
-use Rattle.trace_model.specs.Depth.{is_within, pending}
+use Rattle.trace_model.specs.Depth.{is_within}
 use Rattle.trace_model.specs.Profile.{HasParts, done, ended, steps}
 use Rattle.trace_model.specs.WellFormed.{IsLight, weight}
 use Rattle.trace_model.proofs.Causes.{done_has_parts}

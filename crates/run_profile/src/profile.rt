@@ -109,6 +109,7 @@ impl<S: Lanes> Observer for Profile<S> {
     ghost use Rattle.std.specs.Prelude.{true, Ok, OnErr};
     ghost use Rattle.shadow_core.specs.Applying.{is_too_deep};
     ghost use Rattle.trace_model.specs.Depth.{is_within};
+    ghost use Rattle.trace_model.specs.Profile.{ended};
     ghost use Rattle.trace_model.specs.Observing.{MayTake, Observes, StandsAsBefore};
     ghost use Rattle.trace_model.proofs.Cut.{within_closed};
     ghost use Rattle.run_profile.specs.Profile.{IsProfileOf};
@@ -126,6 +127,8 @@ impl<S: Lanes> Observer for Profile<S> {
         ensures refused { OnErr result (StandsAsBefore (IsProfileOf S.MAX) self.old self.new) }
         ensures deep { (past : List Event) → IsProfileOf S.MAX self.old past → self.old.ended ≡ []
             → is_too_deep S.MAX e past ≡ true → result ≡ Ok Observed.Refused }
+        ensures last { (past : List Event) → IsProfileOf S.MAX self.old past
+            → IfOk result (λ observed. observed ≡ Observed.Taken → self.new.ended ≡ ended e past) }
     {
         self.settle()?;
         match self.profiler.apply(e, &mut self.ended) {

@@ -1,4 +1,4 @@
-use Rattle.std.proofs.Common.{◌≡◌, ◌∙◌, ap, subst, sym}
+use Rattle.std.proofs.Common.{◌∙◌, ap, subst, sym}
 use Rattle.run_profile.specs.Profile.{IsProfileOf, Kept}
 use Rattle.run_profile.proofs.Profiles.{comes_to}
 use Rattle.run_profile.proofs.profile.Profile.into_totals.Goals as goal
