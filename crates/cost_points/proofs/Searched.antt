@@ -7,7 +7,12 @@ use Rattle.std.proofs.lemmas.List.{get_or-map, length-map}
 use Rattle.std.proofs.lemmas.List.Sorted.{IsNonDecreasingBy-from_default}
 use Rattle.std.proofs.lemmas.Bool.Decides.{nat_tests}
 use Rattle.cost_points.specs.Keys.{IsRising}
-use Rattle.cost_points.specs.Search.{FindsKey}
+use Rattle.std.proofs.Common.{inl, inr, Some}
+use Rattle.std.specs.List.{slice_get}
+use Rattle.std.proofs.lemmas.Option.{get_or_from_slice_get, slice_get_within}
+use Rattle.cost_points.proofs.Rising.{order}
+use Rattle.std.proofs.lemmas.Bool.{cases_lt}
+use Rattle.cost_points.specs.Search.{FindsKey, IsAt, IsInsertionPoint}
 
 module _ {X : Type 0} (label : X → ℕ) (d : X) (xs : List X) (up : IsRising (map label xs)) (x : ℕ) where
   labelled : (i : ℕ) → i < length xs → get_or (map label xs) i 0 ≡ label (get_or xs i d)
@@ -39,3 +44,43 @@ module _ {X : Type 0} (label : X → ℕ) (d : X) (xs : List X) (up : IsRising (
         let above : x < label (get_or xs j d) = ranked _ x _ (sym ((parted comparisons_rise).1 j d le within)) in
         omega (arith, above, labelled j within);
   }
+
+-- A key that stands at a place would go at none.
+pub apart : (keys : List ℕ) (key i j : ℕ) → IsAt keys key i → IsInsertionPoint keys key j → ⊥
+apart keys key i j at goes = elim (cases_lt i j) [
+  | inl before ↦
+      let low : get_or keys i 0 < key = goes.smaller i before in
+      let here : get_or keys i 0 ≡ key = at.here in
+      omega arith
+  | inr behind ↦
+      let high : key < get_or keys i 0 = goes.greater i behind at.in_range in
+      let here : get_or keys i 0 ≡ key = at.here in
+      omega arith
+]
+
+-- A key stands at one place among rising ones.
+same_place : (keys : List ℕ) (key i j : ℕ) → IsRising keys → IsAt keys key i → IsAt keys key j → i ≡ j
+same_place keys key i j up at also = elim (order i j) [
+  | inl before ↦
+      let low : get_or keys i 0 < get_or keys j 0 = up i j before also.in_range in
+      let here : get_or keys i 0 ≡ key = at.here in
+      let there : get_or keys j 0 ≡ key = also.here in
+      absurd (omega arith)
+  | inr (inl same) ↦ same
+  | inr (inr behind) ↦
+      let low : get_or keys j 0 < get_or keys i 0 = up j i behind at.in_range in
+      let here : get_or keys i 0 ≡ key = at.here in
+      let there : get_or keys j 0 ≡ key = also.here in
+      absurd (omega arith)
+]
+
+pub at_key : {B : Type 0} (key : B → ℕ) (items : List B) (x i : ℕ) (b : B) → slice_get items i ≡ Some b → key b ≡ x → IsAt (map key items) x i
+at_key key items x i b is same =
+    let inside : i < length items = slice_get_within items i b is in
+    record { in_range = omega (arith, inside, length-map items key); here = get_or-map key items i b 0 inside ∙ ap key (get_or_from_slice_get items i b b is) ∙ same }
+
+-- The item that is found by its key is the one of that key.
+pub the_item : {B : Type 0} (key : B → ℕ) (items : List B) (x i j : ℕ) (b found : B) → IsRising (map key items) → slice_get items i ≡ Some b → key b ≡ x → IsAt (map key items) x j → found ≡ get_or items j found → found ≡ b
+the_item key items x i j b found up is same at read =
+    let place : j ≡ i = same_place (map key items) x j i up at (at_key key items x i b is same) in
+    read ∙ ap (λ k. get_or items k found) place ∙ get_or_from_slice_get items i b found is

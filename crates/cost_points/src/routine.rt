@@ -1,10 +1,10 @@
 //! The points of one routine.
-ghost use Rattle.std.specs.Prelude.{◌≡◌, ◌<◌, [], ◌∷◌, map, vec_len, IfOk, OnOk, OnErr};
+ghost use Rattle.std.specs.Prelude.{◌≡◌, ◌<◌, [], ◌∷◌, ℕ, map, vec_len, IfOk, IsOk, OnOk, OnErr};
 ghost use Rattle.std.specs.List.{All};
 ghost use Rattle.std.specs.Vec.{vec_capacity};
 ghost use Rattle.cost_points.specs.Keys.{IsRising, put};
 ghost use Rattle.cost_points.specs.Merging.{merged, point_added};
-ghost use Rattle.cost_points.specs.Search.{FindsKey, HasRoom, IsInsertionPoint};
+ghost use Rattle.cost_points.specs.Search.{FindsKey, HasRoom, IsAt, IsInsertionPoint};
 ghost use Rattle.cost_points.specs.Points.{point_of};
 
 use crate::Point;
@@ -104,6 +104,8 @@ impl RoutinePoints {
         ensures ok { OnOk result (self.new ≡ point_added
             (point_of ended.now.size (ended.now ∷ [])) self.old) }
         ensures err { OnErr result (self.new ≡ self.old) }
+        ensures no_memory { (place : ℕ) → IsAt (map (λ p. p.size) self.old.points) ended.now.size place
+            → IsOk result }
     {
         match find(&self.points, self.last, ended.size) {
             Ok(at) => {

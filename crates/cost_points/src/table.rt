@@ -1,12 +1,12 @@
 //! The table of all routines.
-ghost use Rattle.std.specs.Prelude.{◌≡◌, ◌+◌, ◌<◌, ◌^◌, [], ◌∷◌, ◌++◌, true, is_some, List, length, map, slice_get, IfOk, OnOk, OnErr};
+ghost use Rattle.std.specs.Prelude.{◌≡◌, ◌+◌, ◌<◌, ◌^◌, [], ◌∷◌, ◌++◌, true, is_some, ℕ, List, length, map, slice_get, IfOk, IsOk, OnOk, OnErr};
 ghost use Rattle.std.specs.List.{All};
 ghost use Rattle.trace_model.specs.declared.slow_profile.Done.{Done};
 ghost use Rattle.trace_model.specs.Profile.{HasParts};
 ghost use Rattle.cost_points.specs.Keys.{IsRising};
 ghost use Rattle.cost_points.specs.Merging.{ArePointOf, with_point};
-ghost use Rattle.cost_points.specs.Search.{FindsKey, HasRoom, IsInsertionPoint};
-ghost use Rattle.cost_points.specs.Points.{point_of};
+ghost use Rattle.cost_points.specs.Search.{FindsKey, HasRoom, IsAt, IsInsertionPoint};
+ghost use Rattle.cost_points.specs.Points.{Routine, point_of};
 ghost use Rattle.cost_points.specs.Contents.{contents_of};
 ghost use Rattle.cost_points.specs.Valid.{IsPoint, IsProfile};
 
@@ -78,6 +78,9 @@ fn add_one(
         ≡ with_point ended.now.entry
         (point_of ended.now.size (ended.now ∷ [])) routines.old.items) }
     ensures err { OnErr result (routines.new.items ≡ routines.old.items) }
+    ensures no_memory { (at place : ℕ) (r : Routine) → slice_get routines.old.items at ≡ Some r
+        → r.entry ≡ ended.now.entry → IsAt (map (λ p. p.size) r.points) ended.now.size place
+        → IsOk result }
 {
     match find(routines, *last, ended.entry) {
         Ok(at) => {
@@ -155,6 +158,9 @@ impl Table {
             → OnOk result (self.new ≡ contents_of (added ++ ended ∷ [])) }
         ensures members { OnOk result (self.new.members ≡ self.old.members + 1) }
         ensures err { OnErr result (self.new ≡ self.old) }
+        ensures no_memory { (at place : ℕ) (r : Routine) → slice_get self.old.routines at ≡ Some r
+            → r.entry ≡ ended.entry → IsAt (map (λ p. p.size) r.points) ended.size place
+            → IsOk result }
     {
         self.add_ended(&ended)
     }
@@ -168,6 +174,9 @@ impl Table {
             → OnOk result (self.new ≡ contents_of (added ++ ended.now ∷ [])) }
         ensures members { OnOk result (self.new.members ≡ self.old.members + 1) }
         ensures err { OnErr result (self.new ≡ self.old) }
+        ensures no_memory { (at place : ℕ) (r : Routine) → slice_get self.old.routines at ≡ Some r
+            → r.entry ≡ ended.now.entry → IsAt (map (λ p. p.size) r.points) ended.now.size place
+            → IsOk result }
     {
         let (_size, _cost) = (ended.size, ended.cost); // so that they are known to be of 64 bits
         add_one(self.alloc, &mut self.routines, &mut self.last, ended)?;

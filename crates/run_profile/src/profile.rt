@@ -1,5 +1,5 @@
 //! The profile of a run that goes on.
-ghost use Rattle.std.specs.Prelude.{◌≡◌, ◌≤◌, ◌∷◌, [], List, IfOk, OnOk};
+ghost use Rattle.std.specs.Prelude.{◌≡◌, ◌≤◌, ◌∷◌, [], List, IfOk, IsOk, OnOk};
 ghost use Rattle.trace_model.specs.declared.event_kinds.Event.{Event};
 ghost use Rattle.trace_model.specs.Profile.{steps};
 ghost use Rattle.run_profile.specs.Profile.{AreTotalsOf, IsOfLight, IsProfileOf};
@@ -72,6 +72,7 @@ impl<S: Lanes> Profile<S> {
         ensures stands { (past : List Event) → IsProfileOf S.MAX self.old past
             → IsProfileOf S.MAX self.new past }
         ensures settled { OnOk result (self.new.ended ≡ []) }
+        ensures no_memory { self.old.ended ≡ [] → IsOk result }
     {
         if self.ended.is_empty() {
             return Ok(());
@@ -111,7 +112,11 @@ impl<S: Lanes> Profile<S> {
 }
 
 impl<S: Lanes> Observer for Profile<S> {
+    ghost use Rattle.std.specs.Prelude.{true, Ok, OnErr};
+    ghost use Rattle.shadow_core.specs.Applying.{is_too_deep};
     ghost use Rattle.trace_model.specs.Depth.{is_within};
+    ghost use Rattle.trace_model.specs.Profile.{ended};
+    ghost use Rattle.trace_model.specs.Observing.{MayTake, Observes, StandsAsBefore};
     ghost use Rattle.trace_model.proofs.Cut.{within_closed};
     ghost use Rattle.run_profile.specs.Profile.{IsProfileOf};
 
@@ -122,7 +127,15 @@ impl<S: Lanes> Observer for Profile<S> {
     ghost fits_closed = { λ _. within_closed S.MAX };
 
     #[inline(always)]
-    fn observe(&mut self, e: Event) -> Result<Observed, AllocError> {
+    fn observe(&mut self, e: Event) -> Result<Observed, AllocError>
+        requires { MayTake (IsProfileOf S.MAX) self.old e }
+        ensures observed { IfOk result (Observes (IsProfileOf S.MAX) (is_within S.MAX) e self.old self.new) }
+        ensures refused { OnErr result (StandsAsBefore (IsProfileOf S.MAX) self.old self.new) }
+        ensures deep { (past : List Event) → IsProfileOf S.MAX self.old past → self.old.ended ≡ []
+            → is_too_deep S.MAX e past ≡ true → result ≡ Ok Observed.Refused }
+        ensures last { (past : List Event) → IsProfileOf S.MAX self.old past
+            → IfOk result (λ observed. observed ≡ Observed.Taken → self.new.ended ≡ ended e past) }
+    {
         self.settle()?;
         match self.profiler.apply(e, &mut self.ended) {
             Ok(()) => {

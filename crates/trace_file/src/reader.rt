@@ -212,8 +212,11 @@ impl TraceReader {
         requires reading { MayReadByte IsReading self.old }
         ensures fed { IsFed IsReading IsReading self.old self.new
             (byte ∷ []) events.old.list events.new.list result }
+        ensures line { self.old.line < length magic → IfErr result (λ e. e ≡ TraceError.Magic) }
         ensures behind { (f : Finish) → self.old.finish ≡ Some f → length magic ≤ self.old.line
             → result ≡ Err (TraceError.Record self.old.at) }
+        ensures memory { IfErr result (λ e. e ≡ TraceError.Memory
+            → self.new.held ≡ self.old.held ++ byte ∷ [] → IsWhole (self.old.held ++ byte ∷ [])) }
     {
         if self.line < MAGIC.len() {
             return self.read_line_byte(byte);
@@ -230,6 +233,11 @@ impl TraceReader {
         requires none { self.old.refusal ≡ None }
         ensures fed { HasFed self.old self.new (byte ∷ []) events.old.list events.new.list }
         ensures answer { self.new.refusal ≡ result_err result }
+        ensures line { self.old.line < length magic → IfErr result (λ e. e ≡ TraceError.Magic) }
+        ensures behind { (f : Finish) → self.old.finish ≡ Some f → length magic ≤ self.old.line
+            → result ≡ Err (TraceError.Record self.old.at) }
+        ensures memory { IfErr result (λ e. e ≡ TraceError.Memory
+            → self.new.held ≡ self.old.held ++ byte ∷ [] → IsWhole (self.old.held ++ byte ∷ [])) }
     {
         let read = self.next_byte(byte, events);
         self.refusal = read.err();

@@ -3,7 +3,8 @@ use Rattle.cost_points.specs.declared.point.Point.{Point}
 use Rattle.cost_points.specs.Keys.{IsRising, put}
 use Rattle.cost_points.specs.Merging.{merged}
 use Rattle.cost_points.specs.Points.{Routine, point_of}
-use Rattle.cost_points.specs.Search.{IsAt}
+use Rattle.cost_points.specs.Search.{IsAt, IsInsertionPoint}
+use Rattle.cost_points.proofs.Searched.{apart}
 use Rattle.cost_points.proofs.Merged.{routine_same}
 use Rattle.cost_points.proofs.Put.{put_at}
 use Rattle.cost_points.proofs.routine.RoutinePoints.add_one.Goals as goal
@@ -19,3 +20,9 @@ returns-in-Ok-clause-ok c =
     (ap (set items c.in-Ok.at) c.add_one.ensures
     ∙ put_at (λ (q : Point). q.size) p.size (λ q. merged q p) p items c.in-Ok.at c.index_mut-point.result.now rising place c.index_mut-point.ensures.value
     ∙ ap (put (λ (q : Point). q.size) p.size (λ q. merged q p) p) points)
+
+pub returns-in-Err-clause-no_memory : goal.returns-in-Err-clause-no_memory
+returns-in-Err-clause-no_memory c place at =
+    let points = c.deref.ensures.value ∙ ap (λ (r : Routine). r.points) c.self.view_is in
+    let goes = subst (λ (ps : List Point). IsInsertionPoint (map (λ q. q.size) ps) c.args.ended.now.size c.in-Err.at) points c.in-Err.ensures in
+    absurd (apart _ _ place c.in-Err.at at goes)

@@ -1,4 +1,6 @@
-use Rattle.std.proofs.Common.{arith, subst, sym}
+use Rattle.std.proofs.Common.{arith, ◌++◌, ◌∙◌, List, ap, subst, sym}
+use Rattle.trace_model.specs.declared.slow_profile.Done.{Done}
+use Rattle.trace_model.specs.Profile.{ended}
 use Rattle.run_profile.specs.Profile.{IsProfileOf, Kept}
 use Rattle.run_profile.proofs.Profiles.{few_steps, observed, refused}
 use Rattle.run_profile.proofs.profile.ProfileObserver.observe.Goals as goal
@@ -23,3 +25,19 @@ returns-in-Err-TooDeep-clause-observed g c = λ past kept.
     let p = subst (λ (k : Kept). IsProfileOf g.S.Stamp.MAX k past) (sym c.self.view_is) (c.settle.ensures.stands past kept) in
     refused g.S.Stamp.MAX c.args.e _ c.apply.new.self c.apply.new.done.items past p c.in-Err-TooDeep.ensures.refused c.in-Err-TooDeep.ensures.kept
     (λ shallow. absurd (let no = c.in-Err-TooDeep.ensures.not_deep past p.stands shallow in cc))
+
+pub returns-in-Ok-clause-deep : goal.returns-in-Ok-clause-deep
+returns-in-Ok-clause-deep g c = λ past kept none deep.
+    let p = subst (λ (k : Kept). IsProfileOf g.S.Stamp.MAX k past) (sym c.self.view_is) (c.settle.ensures.stands past kept) in
+    absurd (let no = c.in-Ok.ensures.deep past p.stands deep in cc)
+
+pub returns-in-Err-Memory-clause-deep : goal.returns-in-Err-Memory-clause-deep
+returns-in-Err-Memory-clause-deep g c = λ past kept none deep.
+    let p = subst (λ (k : Kept). IsProfileOf g.S.Stamp.MAX k past) (sym c.self.view_is) (c.settle.ensures.stands past kept) in
+    absurd (let no = c.in-Err-Memory.ensures.deep past p.stands deep in cc)
+
+pub returns-in-Ok-clause-last : goal.returns-in-Ok-clause-last
+returns-in-Ok-clause-last g c = λ past kept taken.
+    let p = subst (λ (k : Kept). IsProfileOf g.S.Stamp.MAX k past) (sym c.self.view_is) (c.settle.ensures.stands past kept) in
+    (c.in-Ok.ensures.stands past p.stands).recorded
+    ∙ ap (λ (ds : List Done). ds ++ ended c.args.e past) (ap (λ (k : Kept). k.ended) c.self.view_is ∙ c.in_ok-settle.ensures.settled)
