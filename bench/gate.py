@@ -31,6 +31,14 @@ def seconds(pid):
     return (int(fields[11]) + int(fields[12])) / TICKS if len(fields) > 12 else 0.0
 
 
+def is_below(pid, gate):
+    """Whether a process was started by the gate, by its parents."""
+    while pid not in ("", "0", "1", str(gate)):
+        fields = read(f"/proc/{pid}/stat").rpartition(")")[2].split()
+        pid = fields[1] if len(fields) > 1 else ""
+    return pid == str(gate)
+
+
 def kind_of(words, begun):
     """The crate that a process of the checker is at work on, and with what."""
     crate = words[words.index("--crate-name") + 1]
@@ -51,9 +59,7 @@ def watch(gate, spent):
             if pid not in kinds:
                 words = read(f"/proc/{pid}/cmdline").split("\0")
                 is_checker = os.path.basename(words[0]) == "rattle" and "--crate-name" in words
-                if not is_checker and words[0]:
-                    continue
-                if is_checker:
+                if is_checker and is_below(pid, gate.pid):
                     kinds[pid] = kind_of(words, begun)
             if pid in kinds:
                 spent[kinds[pid], pid] = max(spent[kinds[pid], pid], seconds(pid))
