@@ -90,10 +90,16 @@ impl RoutinePoints {
         requires fits { HasRoom point }
         ensures ok { OnOk result (self.new ≡ point_added point self.old) }
         ensures err { OnErr result (self.new ≡ self.old) }
+        ensures no_memory { (place : ℕ) → IsAt (map (λ p. p.size) self.old.points) point.size place
+            → IsOk result }
     {
-        self.points.reserve(1)?;
-        insert_point(&mut self.points, point);
-        Ok(())
+        match search(&self.points, point.size) {
+            Ok(at) => {
+                self.points[at] = self.points[at].merged(point);
+                Ok(())
+            }
+            Err(at) => Ok(self.points.insert(at, point)?),
+        }
     }
 
     /// One more activation of the routine.

@@ -124,6 +124,8 @@ fn add_to(
     requires fits { HasRoom point }
     ensures ok { OnOk result (routines.new.items ≡ with_point entry point routines.old.items) }
     ensures err { OnErr result (routines.new.items ≡ routines.old.items) }
+    ensures no_memory { (at place : ℕ) (r : Routine) → slice_get routines.old.items at ≡ Some r
+        → r.entry ≡ entry → IsAt (map (λ p. p.size) r.points) point.size place → IsOk result }
 {
     match search(routines, entry) {
         Ok(at) => {
@@ -195,6 +197,8 @@ impl Table {
             → ArePointOf entry p.now more
             → OnOk result (self.new ≡ contents_of (added ++ more)) }
         ensures err { OnErr result (self.new ≡ self.old) }
+        ensures no_memory { (at place : ℕ) (r : Routine) → slice_get self.old.routines at ≡ Some r
+            → r.entry ≡ entry → IsAt (map (λ q. q.size) r.points) p.now.size place → IsOk result }
     {
         let point = *p;
         add_to(self.alloc, &mut self.routines, entry, point)?;

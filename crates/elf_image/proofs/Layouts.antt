@@ -4,7 +4,7 @@ use Rattle.std.specs.List.{count_by, find, range_with_len}
 use Rattle.std.specs.List.Sorted.{IsPermutation}
 use Rattle.std.proofs.lemmas.Bool.{and_from, and_right, le-ltb, lt-ltb}
 use Rattle.std.proofs.Math.Bool.{and_comm}
-use Rattle.std.proofs.lemmas.List.{length-map, map-append, take_more}
+use Rattle.std.proofs.lemmas.List.{map-append, take_more}
 use Rattle.std.proofs.lemmas.List.Recursion.{found_at, found_nowhere}
 use Rattle.std.proofs.lemmas.List.Sorted.{IsPermutation-map, list_any-IsPermutation}
 use Rattle.elf_image.specs.declared.headers.ProgramHeader.{ProgramHeader}
@@ -12,7 +12,7 @@ use Rattle.elf_image.specs.Headers.{file_header}
 use Rattle.elf_image.specs.Image.{Segment, is_code, is_touched, page_count, share_byte, touches}
 use Rattle.elf_image.specs.Layout.{AreCounted}
 use Rattle.elf_image.specs.Segments.{holds_headers, occupied_headers, segment_of, segments_of}
-use Rattle.elf_image.specs.Tests.{any_two, fails_entry, fails_no_load, fails_overlap}
+use Rattle.elf_image.specs.Tests.{any_two, fails_entry}
 use Rattle.elf_image.proofs.PageCounts.{counted_more, pages_counted}
 use Rattle.elf_image.proofs.Pairs.{any_two-at, any_two-none, any_two-permutation, list_any-map}
 
@@ -88,19 +88,8 @@ pub no_found_headers : (file : List ℕ) (hs : List ProgramHeader) → ((k : ℕ
 no_found_headers file hs none = found_nowhere (find (holds_headers file)) (holds_headers file) Some None refl (λ h rest. refl) hs no_header none
 
 -- what the parts told of an ordered list, of the file
-pub overlap_is : (file : List ℕ) (hs gs : List ProgramHeader) (r : Bool) → hs ≡ occupied_headers file → IsPermutation hs gs
-    → r ≡ any_two share_byte (map (segment_of file) gs) → r ≡ fails_overlap file
-overlap_is file hs gs r whole moves told = told ∙ (overlap-permutation file hs gs moves ∙ ap (λ xs. any_two share_byte (map (segment_of file) xs)) whole)
-
-pub pages_are : (file : List ℕ) (hs gs : List ProgramHeader) (n : ℕ) → hs ≡ occupied_headers file → IsPermutation hs gs
-    → n ≡ page_count (map (segment_of file) gs) → n ≡ page_count (segments_of file)
-pages_are file hs gs n whole moves told = told ∙ (pages-permutation file hs gs moves ∙ ap (λ xs. page_count (map (segment_of file) xs)) whole)
-
 pub entry_is : (file : List ℕ) (hs : List ProgramHeader) (entry : ℕ) (r : Bool) → hs ≡ occupied_headers file → entry ≡ (file_header file).e_entry
     → r ≡ (eqb (entry % 4) 0 && is_code (map (segment_of file) hs) entry) → not r ≡ fails_entry file
 entry_is file hs entry r whole header told =
     ap not told ∙ (ap (λ xs. not (eqb (entry % 4) 0 && is_code (map (segment_of file) xs) entry)) whole
     ∙ ap (λ e. not (eqb (e % 4) 0 && is_code (segments_of file) e)) header)
-
-pub no_load_is : (file : List ℕ) (hs : List ProgramHeader) → hs ≡ occupied_headers file → eqb (length hs) 0 ≡ fails_no_load file
-no_load_is file hs whole = ap (λ n. eqb n 0) (ap length whole ∙ sym (length-map (occupied_headers file) (segment_of file)))

@@ -2,7 +2,6 @@
 pub mod Fields
 pub mod Headers
 pub mod Image
-pub mod Numbers
 pub mod Reading
 pub mod Segments
 pub mod Symbols

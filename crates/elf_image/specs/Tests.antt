@@ -91,34 +91,46 @@ fails_entry file =
 abbrev pub fails_pages : List ℕ → Bool
 fails_pages file = nat_lt PAGES (page_count (segments_of file))
 
--- the error of the first test that fails, among tests with their errors
-abbrev pub first_of : List (Bool × ElfError) → Option ElfError
+-- tests, each with the error of a file that fails it
+abbrev pub Tests : Type 0
+Tests = List (Bool × ElfError)
+
+-- the error of the first test that fails
+abbrev pub first_of : Tests → Option ElfError
 first_of [] = None
 first_of (test ∷ rest) = if test.0 then Some test.1 else first_of rest
 
--- the tests of the file header
-abbrev pub header_tests : List ℕ → List (Bool × ElfError)
-header_tests file =
-    (fails_short file, error.Short) ∷ (fails_magic file, error.Magic) ∷ (fails_class file, error.Class)
-    ∷ (fails_byte_order file, error.ByteOrder) ∷ (fails_version file, error.Version) ∷ (fails_file_kind file, error.FileKind)
-    ∷ (fails_machine file, error.Machine) ∷ (fails_flags file, error.Flags) ∷ (fails_header_size file, error.HeaderSize)
-    ∷ (fails_header_table file, error.HeaderTable) ∷ []
+-- the tests of the file header: of its first 16 bytes and its version, of what the file is for, and of the table of program
+-- headers, and before them that there is one
+abbrev pub format_tests : List ℕ → Tests
+format_tests file =
+    (fails_magic file, error.Magic) ∷ (fails_class file, error.Class) ∷ (fails_byte_order file, error.ByteOrder)
+    ∷ (fails_version file, error.Version) ∷ []
+
+abbrev pub kind_tests : List ℕ → Tests
+kind_tests file = (fails_file_kind file, error.FileKind) ∷ (fails_machine file, error.Machine) ∷ (fails_flags file, error.Flags) ∷ []
+
+abbrev pub table_tests : List ℕ → Tests
+table_tests file = (fails_header_size file, error.HeaderSize) ∷ (fails_header_table file, error.HeaderTable) ∷ []
+
+abbrev pub header_tests : List ℕ → Tests
+header_tests file = (fails_short file, error.Short) ∷ (format_tests file ++ (kind_tests file ++ table_tests file))
 
 -- the tests of each program header: of its type, of its file part, and of its place in memory
-abbrev pub interpreter_test : List ℕ → List (Bool × ElfError)
-interpreter_test file = (fails_interpreter file, error.Interpreter) ∷ []
+abbrev pub type_tests : List ℕ → Tests
+type_tests file = (fails_interpreter file, error.Interpreter) ∷ []
 
-abbrev pub file_part_tests : List ℕ → List (Bool × ElfError)
+abbrev pub file_part_tests : List ℕ → Tests
 file_part_tests file = (fails_segment_file file, error.SegmentFile) ∷ (fails_segment_size file, error.SegmentSize) ∷ []
 
-abbrev pub place_test : List ℕ → List (Bool × ElfError)
-place_test file = (fails_segment_place file, error.SegmentPlace) ∷ []
+abbrev pub place_tests : List ℕ → Tests
+place_tests file = (fails_segment_place file, error.SegmentPlace) ∷ []
 
-abbrev pub segment_tests : List ℕ → List (Bool × ElfError)
-segment_tests file = interpreter_test file ++ (file_part_tests file ++ place_test file)
+abbrev pub segment_tests : List ℕ → Tests
+segment_tests file = type_tests file ++ (file_part_tests file ++ place_tests file)
 
 -- the tests of the segments together
-abbrev pub layout_tests : List ℕ → List (Bool × ElfError)
+abbrev pub layout_tests : List ℕ → Tests
 layout_tests file =
     (fails_overlap file, error.Overlap) ∷ (fails_no_load file, error.NoLoad) ∷ (fails_entry file, error.Entry)
     ∷ (fails_pages file, error.Pages) ∷ []
@@ -131,3 +143,25 @@ first_refusal file = first_of (header_tests file ++ (segment_tests file ++ layou
 abbrev pub unless_refused : Option ElfError → Result Unit ElfError
 unless_refused None = Ok tt
 unless_refused (Some e) = Err e
+
+-- the number of the test that fails, and 0 for want of memory
+abbrev pub number_of : ElfError → ℕ
+number_of error.Memory = 0
+number_of error.Short = 1
+number_of error.Magic = 2
+number_of error.Class = 3
+number_of error.ByteOrder = 4
+number_of error.Version = 5
+number_of error.FileKind = 6
+number_of error.Machine = 7
+number_of error.Flags = 8
+number_of error.HeaderSize = 9
+number_of error.HeaderTable = 10
+number_of error.Interpreter = 11
+number_of error.SegmentFile = 12
+number_of error.SegmentSize = 13
+number_of error.SegmentPlace = 14
+number_of error.Overlap = 15
+number_of error.NoLoad = 16
+number_of error.Entry = 17
+number_of error.Pages = 18

@@ -1,6 +1,6 @@
 //! Why a file is no executable that can be run.
 ghost use Rattle.std.specs.Prelude.{◌≡◌};
-ghost use Rattle.elf_image.specs.Numbers.{number_of};
+ghost use Rattle.elf_image.specs.Tests.{number_of};
 
 use std::alloc::AllocError;
 use thiserror::Error;
@@ -79,7 +79,7 @@ impl From<AllocError> for ElfError {
 }
 
 impl ElfError {
-    /// The number of the test that fails: 1 to 18, and 0 for want of memory.
+    /// The number of the test that fails, and 0 for want of memory.
     pub fn number(self) -> u8
         ensures { result ≡ number_of self }
     {

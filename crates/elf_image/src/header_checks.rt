@@ -1,8 +1,7 @@
 //! The tests of the file header.
-ghost use Rattle.std.specs.Prelude.{◌≡◌, ◌<◌, ◌≤◌, ◌+◌, ◌*◌, ◌∷◌, [], length, IfOk, IfErr, OnOk};
+ghost use Rattle.std.specs.Prelude.{◌≡◌, ◌<◌, ◌≤◌, ◌+◌, ◌*◌, length, IfOk, IfErr, OnOk};
 ghost use Rattle.elf_image.specs.Headers.{file_header};
-ghost use Rattle.elf_image.specs.Tests.{fails_byte_order, fails_class, fails_file_kind, fails_flags, fails_header_size, fails_header_table, fails_machine, fails_magic, fails_version, first_of, header_tests, unless_refused};
-ghost use Rattle.elf_image.specs.declared.error.ElfError.TheVariants as error;
+ghost use Rattle.elf_image.specs.Tests.{first_of, format_tests, header_tests, kind_tests, table_tests, unless_refused};
 
 use crate::ElfError;
 use crate::headers::FileHeader;
@@ -11,10 +10,7 @@ use crate::headers::FileHeader;
 fn check_format(file: &[u8], header: &FileHeader) -> Result<(), ElfError>
     requires long { 52 ≤ length file.now }
     requires header { header.now ≡ file_header file.now }
-    ensures { result ≡ unless_refused (first_of
-        ((fails_magic file.now, error.Magic) ∷ (fails_class file.now, error.Class)
-        ∷ (fails_byte_order file.now, error.ByteOrder)
-        ∷ (fails_version file.now, error.Version) ∷ [])) }
+    ensures { result ≡ unless_refused (first_of (format_tests file.now)) }
 {
     if !(file[0] == 0x7f && file[1] == b'E' && file[2] == b'L' && file[3] == b'F') {
         return Err(ElfError::Magic);
@@ -34,8 +30,7 @@ fn check_format(file: &[u8], header: &FileHeader) -> Result<(), ElfError>
 /// The tests of what the file is for.
 fn check_kind(file: &[u8], header: &FileHeader) -> Result<(), ElfError>
     requires { header.now ≡ file_header file.now }
-    ensures { result ≡ unless_refused (first_of ((fails_file_kind file.now, error.FileKind)
-        ∷ (fails_machine file.now, error.Machine) ∷ (fails_flags file.now, error.Flags) ∷ [])) }
+    ensures { result ≡ unless_refused (first_of (kind_tests file.now)) }
 {
     if header.e_type != 2 {
         return Err(ElfError::FileKind);
@@ -52,8 +47,7 @@ fn check_kind(file: &[u8], header: &FileHeader) -> Result<(), ElfError>
 /// The tests of the program headers' size and place.
 fn check_table(file: &[u8], header: &FileHeader) -> Result<(), ElfError>
     requires { header.now ≡ file_header file.now }
-    ensures { result ≡ unless_refused (first_of ((fails_header_size file.now, error.HeaderSize)
-        ∷ (fails_header_table file.now, error.HeaderTable) ∷ [])) }
+    ensures { result ≡ unless_refused (first_of (table_tests file.now)) }
 {
     if header.e_ehsize != 52 || (header.e_phnum != 0 && header.e_phentsize != 32) {
         return Err(ElfError::HeaderSize);

@@ -1,11 +1,12 @@
 //! The load segments together: their order in memory, overlaps and pages.
-ghost use Rattle.std.specs.Prelude.{◌≡◌, ◌+◌, ◌%◌, ◌&&◌, ◌==◌, nat_le, nat_lt, ℕ, List, map, All, IfOk};
+ghost use Rattle.std.specs.Prelude.{◌≡◌, ◌+◌, ◌%◌, ◌&&◌, ◌==◌, nat_le, nat_lt, not, ℕ, List, All, IfOk};
 ghost use Rattle.std.specs.List.{list_any};
 ghost use Rattle.std.specs.List.Sorted.{IsNonDecreasingBy, IsPermutation};
-ghost use Rattle.elf_image.specs.Image.{is_code, page_count, share_byte};
+ghost use Rattle.elf_image.specs.Image.{page_count};
 ghost use Rattle.elf_image.specs.Layout.{IsLoadable};
-ghost use Rattle.elf_image.specs.Segments.{segment_of};
-ghost use Rattle.elf_image.specs.Tests.{any_two};
+ghost use Rattle.elf_image.specs.Headers.{file_header};
+ghost use Rattle.elf_image.specs.Segments.{occupied_headers, segments_of};
+ghost use Rattle.elf_image.specs.Tests.{fails_entry, fails_overlap};
 
 use crate::headers::ProgramHeader;
 use guest_words::Addr;
@@ -31,7 +32,8 @@ pub(crate) fn by_place(
 pub(crate) fn has_overlap(ordered: &[ProgramHeader]) -> bool
     requires loadable { (file_size : ℕ) × All (IsLoadable file_size) ordered.now }
     requires rising { IsNonDecreasingBy (λ h. h.p_vaddr) ordered.now }
-    ensures { (file : List ℕ) → result ≡ any_two share_byte (map (segment_of file) ordered.now) }
+    ensures { (file : List ℕ) → IsPermutation (occupied_headers file) ordered.now
+        → result ≡ fails_overlap file }
 {
     let mut end = 0u64;
     for h in ordered {
@@ -47,7 +49,8 @@ pub(crate) fn has_overlap(ordered: &[ProgramHeader]) -> bool
 pub(crate) fn count_pages(ordered: &[ProgramHeader]) -> u32
     requires loadable { (file_size : ℕ) × All (IsLoadable file_size) ordered.now }
     requires rising { IsNonDecreasingBy (λ h. h.p_vaddr) ordered.now }
-    ensures { (file : List ℕ) → result ≡ page_count (map (segment_of file) ordered.now) }
+    ensures { (file : List ℕ) → IsPermutation (occupied_headers file) ordered.now
+        → result ≡ page_count (segments_of file) }
 {
     let mut pages = 0u32;
     // The first page behind those that were counted.
@@ -73,8 +76,8 @@ fn is_code_in(headers: &[ProgramHeader], at: Addr) -> bool
 
 /// Whether a guest can begin at an address: a multiple of 4, and one of a segment's bytes that may be run.
 pub(crate) fn is_entry(headers: &[ProgramHeader], at: Addr) -> bool
-    ensures { (file : List ℕ) → result
-        ≡ ((at % 4 == 0) && is_code (map (segment_of file) headers.now) at) }
+    ensures { (file : List ℕ) → headers.now ≡ occupied_headers file
+        → at ≡ (file_header file).e_entry → not result ≡ fails_entry file }
 {
     at % 4 == 0 && is_code_in(headers, at)
 }

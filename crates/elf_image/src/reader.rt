@@ -11,8 +11,8 @@ use crate::segments::{check_segments, header_place};
 use crate::{ElfError, Image};
 use std::alloc::Global;
 
-/// The executable of a file, or the first of the 18 tests that the file fails. Names need no test: a file whose section
-/// or symbol tables can't be read has none.
+/// The executable of a file, or the first of the tests that the file fails. Names need no test: a file whose section or
+/// symbol tables can't be read has none.
 pub fn read_image(alloc: Global, file: &[u8]) -> Result<Image, ElfError>
     // Want of memory may come at any file, every other error at those whose first failing test it is.
     ensures refused { IfErr result (λ e. e ≢ ElfError.Memory → first_refusal file.now ≡ Some e) }

@@ -1,10 +1,10 @@
 //! The load segments of a file, and the tests of each.
-ghost use Rattle.std.specs.Prelude.{◌≡◌, ◌≢◌, ◌<◌, ◌≤◌, ◌^◌, ◌+◌, ◌*◌, length, filter, map, All, nat_lt, ◌==◌, ◌||◌, Some, None, IfOk, IfErr, OnOk};
+ghost use Rattle.std.specs.Prelude.{◌≡◌, ◌≢◌, ◌<◌, ◌≤◌, ◌^◌, ◌+◌, ◌*◌, ℕ, List, length, filter, map, All, nat_lt, ◌==◌, ◌||◌, Some, None, IfOk, IfErr};
 ghost use Rattle.std.specs.List.{list_any};
 ghost use Rattle.elf_image.specs.Headers.{file_header, program_headers};
 ghost use Rattle.elf_image.specs.Layout.{IsLoadable};
 ghost use Rattle.elf_image.specs.Segments.{header_place, is_load, is_occupied, load_headers, occupied_headers, rights_of, segment_of};
-ghost use Rattle.elf_image.specs.Tests.{file_part_tests, first_of, interpreter_test, segment_tests};
+ghost use Rattle.elf_image.specs.Tests.{file_part_tests, first_of, place_tests, segment_tests, type_tests, unless_refused};
 ghost use Rattle.elf_image.specs.declared.error.ElfError.TheVariants as error;
 
 use crate::headers::{FileHeader, ProgramHeader};
@@ -87,32 +87,21 @@ fn is_misplaced(headers: &[ProgramHeader]) -> bool
         || h.p_vaddr as u64 + h.p_memsz as u64 > END_OF_SEGMENTS)
 }
 
-/// The headers of load segments, where none names an interpreter.
-fn load_headers(
-    alloc: Global,
-    file: &[u8],
-    header: &FileHeader,
-) -> Result<Vec<ProgramHeader>, ElfError>
-    requires header { header.now ≡ file_header file.now }
-    requires table { header.now.e_phoff + 32 * header.now.e_phnum ≤ length file.now }
-    ensures refused { IfErr result (λ e. e ≢ error.Memory
-        → first_of (interpreter_test file.now) ≡ Some e) }
-    ensures passed { IfOk result (λ _. first_of (interpreter_test file.now) ≡ None) }
-    ensures loads { IfOk result (λ headers. headers.items ≡ load_headers file.now) }
+/// The tests of the types of segments.
+fn check_types(headers: &[ProgramHeader]) -> Result<(), ElfError>
+    ensures { (file : List ℕ) → headers.now ≡ program_headers file
+        → result ≡ unless_refused (first_of (type_tests file)) }
 {
-    let mut headers = program_headers(alloc, file, header)?;
-    if names_interpreter(&headers) {
+    if names_interpreter(headers) {
         return Err(ElfError::Interpreter);
     }
-    keep_loads(&mut headers);
-    Ok(headers)
+    Ok(())
 }
 
 /// The tests of the file parts of load segments.
 fn check_file_parts(file: &[u8], loads: &[ProgramHeader]) -> Result<(), ElfError>
     requires { loads.now ≡ load_headers file.now }
-    ensures refused { IfErr result (λ e. first_of (file_part_tests file.now) ≡ Some e) }
-    ensures passed { OnOk result (first_of (file_part_tests file.now) ≡ None) }
+    ensures { result ≡ unless_refused (first_of (file_part_tests file.now)) }
 {
     if is_cut_off(loads, file.len()) {
         return Err(ElfError::SegmentFile);
@@ -123,7 +112,19 @@ fn check_file_parts(file: &[u8], loads: &[ProgramHeader]) -> Result<(), ElfError
     Ok(())
 }
 
+/// The tests of the places of load segments that take memory.
+fn check_places(occupied: &[ProgramHeader]) -> Result<(), ElfError>
+    ensures { (file : List ℕ) → occupied.now ≡ occupied_headers file
+        → result ≡ unless_refused (first_of (place_tests file)) }
+{
+    if is_misplaced(occupied) {
+        return Err(ElfError::SegmentPlace);
+    }
+    Ok(())
+}
+
 /// The headers of the load segments that take memory, where each passes the tests.
+#[tactic(auto, unfolding(crate::specs::Segments::load_headers, crate::specs::Segments::occupied_headers))]
 pub(crate) fn check_segments(
     alloc: Global,
     file: &[u8],
@@ -136,12 +137,12 @@ pub(crate) fn check_segments(
     ensures passed { IfOk result (λ _. first_of (segment_tests file.now) ≡ None) }
     ensures occupied { IfOk result (λ headers. headers.items ≡ occupied_headers file.now) }
 {
-    let mut headers = load_headers(alloc, file, header)?;
+    let mut headers = program_headers(alloc, file, header)?;
+    check_types(&headers)?;
+    keep_loads(&mut headers);
     check_file_parts(file, &headers)?;
     keep_occupied(&mut headers);
-    if is_misplaced(&headers) {
-        return Err(ElfError::SegmentPlace);
-    }
+    check_places(&headers)?;
     Ok(headers)
 }
 

@@ -1,5 +1,5 @@
 -- Names that rise.
-use Rattle.std.proofs.Common.{inl, inr, ◌≡◌, ℕ, ◌-◌, ◌<◌, ◌≤◌, ◌++◌, ◌∷◌, [], List, Bool, true, false, length, get_or, refl, sym, subst, ap, ◌∙◌, arith, append_assoc, append-nil, length-append}
+use Rattle.std.proofs.Common.{inl, inr, ◌≡◌, ℕ, ◌-◌, ◌<◌, ◌≤◌, ◌++◌, ◌∷◌, [], List, Bool, true, false, Some, length, get_or, refl, sym, subst, ap, ◌∙◌, arith, append_assoc, append-nil, length-append}
 use Rattle.std.specs.Prelude.{IsTrue, nat_lt, ◌↔◌, ◌==◌}
 use Rattle.std.proofs.lemmas.List.{get_or_default}
 use Rattle.std.proofs.lemmas.Bool.{cases_lt}
@@ -9,9 +9,10 @@ use Rattle.std.proofs.Math.Seq.{get_or-append_seam}
 use Rattle.std.proofs.lemmas.List.Quantifiers.{all_pairs_push}
 use Rattle.std.specs.List.{AllByRecursion}
 use Rattle.std.proofs.lemmas.List.{map-append}
+use Rattle.guest_words.specs.declared.endings.Finish.{Finish}
 use Rattle.trace_model.specs.declared.event_kinds.Event.{Event}
 use Rattle.trace_file.specs.declared.records.Record.{Record}
-use Rattle.trace_file.specs.declared.records.Record.TheVariants.{OfName}
+use Rattle.trace_file.specs.declared.records.Record.TheVariants.{OfName, OfFinish}
 use Rattle.trace_file.specs.Records.{Fits}
 use Rattle.trace_file.specs.Reading.{ReaderState, told_by}
 use Rattle.trace_file.specs.Steps.{IsAdded, IsOpen}
@@ -84,6 +85,27 @@ added_name old new past entry name is fits rises same = subst (λ s. IsAdded old
       told = record {
         formed = is.told.formed;
         rising = rises;
+        fits = subst (λ rs. AllByRecursion Fits rs) (sym more) (all_push _ _ is.told.fits fits);
+      };
+      order = is.order;
+      records = more;
+      line = refl;
+    }
+
+with_finish : (es ns : List Record) (f : Finish) → es ++ (ns ++ OfFinish f ∷ []) ≡ (es ++ (ns ++ [])) ++ OfFinish f ∷ []
+with_finish es ns f = ap (λ y. es ++ (y ++ OfFinish f ∷ [])) (sym (append-nil ns)) ∙ sym (append_assoc es (ns ++ []) (OfFinish f ∷ []))
+
+pub added_finish : (old new : ReaderState) (past : List Event) (f : Finish) → IsOpen old past → Fits (OfFinish f) → new ≡ record old { finish = Some f } → IsAdded old new past (OfFinish f)
+added_finish old new past f is fits same = subst (λ s. IsAdded old s past (OfFinish f)) (sym same) added
+  where
+    more : records (record { past = past; names = old.names; finish = Some f }) ≡ records (told_by old past) ++ OfFinish f ∷ []
+    more = subst (λ o. event_records past ++ (name_records old.names ++ OfFinish f ∷ []) ≡ (event_records past ++ (name_records old.names ++ finish_records o)) ++ OfFinish f ∷ []) (sym is.finish) (with_finish (event_records past) (name_records old.names) f)
+
+    added : IsAdded old (record old { finish = Some f }) past (OfFinish f)
+    added = record {
+      told = record {
+        formed = is.told.formed;
+        rising = is.told.rising;
         fits = subst (λ rs. AllByRecursion Fits rs) (sym more) (all_push _ _ is.told.fits fits);
       };
       order = is.order;

@@ -18,7 +18,7 @@ use Rattle.trace_file.specs.declared.record_reader.Stop.{Stop}
 use Rattle.trace_file.specs.declared.record_reader.Stop.TheVariants.{Begun, NoForm, Memory}
 use Rattle.trace_file.specs.Records.{AreInRanges, Fits, form, head, kind_number, name_bytes, number_bytes, numbers, ranges, record_bytes}
 use Rattle.trace_file.specs.Made.{IsMade}
-use Rattle.trace_file.specs.Pieces.{AreNumbers, IsBegun, IsBody, IsHead, IsNameOf, IsNone, IsRecord, Stops, body}
+use Rattle.trace_file.specs.Pieces.{AreNumbers, HasNameBody, IsBegun, IsBody, IsHead, IsNameOf, IsNone, IsRecord, Stops, body}
 use Rattle.trace_file.proofs.Heads.{one_head}
 use Rattle.trace_file.proofs.NameBytes.{named_filler}
 use Rattle.trace_file.proofs.ManyNumbers.{same_rest, one_number, nothing}
@@ -195,7 +195,7 @@ numbers_stop f bytes Begun stops = elim (line_or_plain f) [
   | inr plain ↦ begun_plain f bytes plain stops
 ]
 numbers_stop f bytes NoForm stops = none_body f bytes stops
-numbers_stop f bytes Memory stops = tt
+numbers_stop f bytes (Memory entry) stops = tt
 
 -- ---- what stops behind the numbers
 name_form : (r : Record) → form r ≡ Named → (e : ℕ) × (n : List ℕ) × (r ≡ OfName e n)
@@ -306,7 +306,7 @@ name_stop bytes rest a b Begun within text stops = record {
 name_stop bytes rest a b NoForm within text stops = λ x more behind named same.
     let p = name_parts x bytes rest a b more behind (omega (arith, within.1.0.1)) text named same in
     stops p.0 more behind p.1 p.2
-name_stop bytes rest a b Memory within text stops = tt
+name_stop bytes rest a b (Memory entry) within text stops = tt
 
 -- ---- heads and bodies
 ones : List Range → List ℕ
@@ -352,7 +352,7 @@ pub head_stop : (bytes : List ℕ) (stop : Stop) → Stops IsHead bytes stop →
 head_stop bytes Begun stops = head_begun bytes stops
 head_stop bytes NoForm stops = λ x more rest r same.
     stops (head (form r.0)) more (body r.0 ++ rest) (form r.0, refl) (same ∙ ap (λ y. y ++ rest) r.2 ∙ append_assoc (head (form r.0)) (body r.0) rest)
-head_stop bytes Memory stops = tt
+head_stop bytes (Memory entry) stops = tt
 
 -- the body of a record, behind the head
 behind_head : (f : Form) (bytes rest behind : List ℕ) (r : Record) → head f ++ rest ≡ record_bytes r ++ behind → (form r ≡ f) × (rest ≡ body r ++ behind)
@@ -372,7 +372,7 @@ body_stop f bytes rest Begun text stops = record {
 body_stop f bytes rest NoForm text stops = λ x more behind r same.
     let both = behind_head f bytes (rest ++ more) behind r.0 (sym (append_assoc (head f) rest more) ∙ ap (λ y. y ++ more) (sym text) ∙ same ∙ ap (λ y. y ++ behind) r.2) in
     stops (body r.0) more behind (r.0, r.1, both.0, refl) both.1
-body_stop f bytes rest Memory text stops = tt
+body_stop f bytes rest (Memory entry) text stops = tt
 
 -- ---- three numbers that are read
 abbrev pub three : List ℕ → List ℕ
@@ -415,11 +415,11 @@ found_name f xs bytes rest name behind is has named long text =
 
 -- want of memory for a name whose bytes are there
 pub wanted_name : (f : Form) (xs bytes rest : List ℕ) → f ≡ Named → HasNumbers f (take (length (ranges f)) (three xs)) bytes rest → (get_or xs 1 0 ≤ length rest) × (is_name (take (get_or xs 1 0) rest) ≡ true) →
-    (r : Record) × Fits r × (form r ≡ f) × ((behind : List ℕ) × (bytes ≡ body r ++ behind))
+    HasNameBody f (get_or xs 0 0) bytes
 wanted_name f xs bytes rest is has there =
     let long : length (take (get_or xs 1 0) rest) ≡ get_or xs 1 0 = length_of (get_or xs 1 0) rest there.0 in
     let found = found_name f xs bytes rest (take (get_or xs 1 0) rest) (drop (get_or xs 1 0) rest) is has there.1 long (sym (take-append-drop (get_or xs 1 0) rest)) in
-    (OfName (get_or xs 0 0) (take (get_or xs 1 0) rest), found.0, found.1, found.2)
+    (take (get_or xs 1 0) rest, found.0, found.1, found.2)
   where
     length_of : (n : ℕ) (ys : List ℕ) → n ≤ length ys → length (take n ys) ≡ n
     length_of n ys few = omega (arith, length-take n ys)

@@ -4,7 +4,7 @@ use Rattle.std.specs.Prelude.{IfErr, OnOk, OnErr}
 use Rattle.std.specs.Result.{result_err}
 use Rattle.std.proofs.Math.Seq.{take-suc}
 use Rattle.std.proofs.lemmas.List.{reverse-append, take-append-drop}
-use Rattle.trace_file.specs.TraceText.{magic}
+use Rattle.trace_file.specs.TraceText.{magic, told_text}
 use Rattle.guest_words.specs.declared.endings.Finish.{Finish}
 use Rattle.trace_model.specs.declared.event_kinds.Event.{Event}
 use Rattle.trace_model.specs.Cut.{past_after}
@@ -15,9 +15,9 @@ use Rattle.trace_file.specs.declared.errors.TraceError.{TraceError}
 use Rattle.trace_file.specs.declared.errors.TraceError.TheVariants as errors
 use Rattle.trace_file.specs.Records.{Fits, record_bytes}
 use Rattle.trace_file.specs.Pieces.{IsBegun, IsNone, IsRecord, Stops}
-use Rattle.trace_file.specs.Reading.{HasFed, HasRead, HasReadBy, IsAtLine, IsAtRecord, IsReading, IsRefused, ReaderState}
-use Rattle.trace_file.specs.Steps.{GoesOnOr, IsFed, IsNotAdded, IsOpen, IsTaken, MayReadByte, said}
-use Rattle.trace_file.proofs.ReadBytes.{behind_end, held_more, line_more, no_form, other_line, no_memory, not_added, open_of, stays, taken, whole_held}
+use Rattle.trace_file.specs.Reading.{HasFed, HasNext, HasRead, HasReadBy, IsAtLine, IsAtRecord, IsOutOfOrder, IsReading, IsRefused, ReaderState, WantsMemory, told_by}
+use Rattle.trace_file.specs.Steps.{GoesOnOr, IsFed, IsInOrder, IsNotAdded, IsOpen, IsTaken, MayReadByte, said}
+use Rattle.trace_file.proofs.ReadBytes.{behind_end, held_more, line_more, no_form, other_line, no_memory, not_added, open_of, stays, taken, text_push, whole_held}
 
 -- the state with one more byte held
 abbrev pub Held : ReaderState → ℕ → ReaderState
@@ -31,9 +31,6 @@ held_view view s held b is more = ap₂ (λ (m : ReaderState) (h : List ℕ). re
 
 pub fed_memory : (s new : ReaderState) (b : ℕ) (es : List Event) → AtRecord s new b es es (Err errors.Memory)
 fed_memory s new b es = record { more = []; appended = sym (append-nil es); reads = λ bytes past is. no_memory s bytes past b is }
-
-pub fed_refused : (s new : ReaderState) (b : ℕ) (es : List Event) (result : Result (Unit {0}) TraceError) (e : TraceError) → result ≡ Err e → e ≡ errors.Memory → AtRecord s new b es es result
-fed_refused s new b es result e is memory = subst (λ r. AtRecord s new b es es r) (sym (is ∙ ap (λ x. Err x) memory)) (fed_memory s new b es)
 
 pub fed_begun : (s new : ReaderState) (b : ℕ) (es : List Event) → s.finish ≡ None → new ≡ Held s b → IsBegun IsRecord (s.held ++ b ∷ []) → AtRecord s new b es es (Ok tt)
 fed_begun s new b es ends same begun = record { more = []; appended = sym (append-nil es); reads = λ bytes past is. held_more s new bytes past b is ends same begun }
@@ -117,6 +114,44 @@ fed_byte s mid new b es es' result none fed same = record {
   read = λ bytes past is. subst (λ n. HasRead n (bytes ++ b ∷ []) (past_after past fed.more)) (sym same) (keeps mid (bytes ++ b ∷ []) (past_after past fed.more) result (fed.reads bytes past (reading_of s bytes past none is)));
 }
 
+-- ---- want of memory for a whole record that may come next
+next_there : (s : ReaderState) (bytes : List ℕ) (past : List Event) (b : ℕ) (r : Record) → IsAtRecord s bytes past → s.finish ≡ None → Fits r → s.held ++ b ∷ [] ≡ record_bytes r → (IsOutOfOrder (told_by s past) r → ⊥) →
+    HasNext (Held s b) (bytes ++ b ∷ []) past
+next_there s bytes past b r is ends fits text in_order = record {
+  next = r;
+  rest = [];
+  leads = record { told = is.leads.told; text = text_push (told_text (told_by s past)) s.held bytes b is.leads.text ∙ ap (λ y. told_text (told_by s past) ++ y) (text ∙ sym (append-nil (record_bytes r))) };
+  fits = fits;
+  unfinished = ends;
+  in_order = in_order;
+}
+
+pub wants_next : (s mid new : ReaderState) (b : ℕ) (r : Record) (rest : List ℕ) (es es' : List Event) (result : Result (Unit {0}) TraceError) → s.finish ≡ None → mid ≡ Held s b → Fits r → s.held ++ b ∷ [] ≡ record_bytes r ++ rest →
+    ((past : List Event) → IsOpen mid past → IfErr result (λ x. IsInOrder mid past r x)) → OnErr result (new ≡ mid) → OnErr result (es' ≡ es) →
+    IfErr result (λ e. e ≡ errors.Memory → WantsMemory IsAtRecord s new (b ∷ []) es es')
+wants_next s mid new b r rest es es' (Ok u) ends same fits text err stays kept = tt
+wants_next s mid new b r rest es es' (Err e) ends same fits text err stays kept = λ memory. record {
+  more = [];
+  appended = kept ∙ sym (append-nil es);
+  next = λ bytes past is.
+      let allowed : IsInOrder mid past r errors.Memory = subst (λ x. IsInOrder mid past r x) memory (err past (open_mid s mid past b same (open_of s bytes past is ends))) in
+      subst (λ n. HasNext n (bytes ++ b ∷ []) past) (sym (stays ∙ same))
+      (next_there s bytes past b r is ends fits (whole_held s bytes past b r rest is ends fits text) (subst (λ (m : ReaderState). IsOutOfOrder (told_by m past) r → ⊥) same allowed));
+}
+
+pub wants_record : (s new : ReaderState) (b : ℕ) (es es' : List Event) → 14 ≤ s.line → WantsMemory IsAtRecord s new (b ∷ []) es es' → WantsMemory IsReading s new (b ∷ []) es es'
+wants_record s new b es es' high wants = record { more = wants.more; appended = wants.appended; next = λ bytes past is. wants.next bytes past (at_record s bytes past high is) }
+
+pub wants_byte : (s mid new : ReaderState) (o : Option TraceError) (b : ℕ) (es es' : List Event) → s.refusal ≡ None → WantsMemory IsReading s mid (b ∷ []) es es' → new ≡ record mid { refusal = o } → WantsMemory HasRead s new (b ∷ []) es es'
+wants_byte s mid new o b es es' none wants same = record {
+  more = wants.more;
+  appended = wants.appended;
+  next = λ bytes past is.
+      let there = wants.next bytes past (reading_of s bytes past none is) in
+      subst (λ n. HasNext n (bytes ++ b ∷ []) (past_after past wants.more)) (sym same)
+      (record { next = there.next; rest = there.rest; leads = record { told = there.leads.told; text = there.leads.text }; fits = there.fits; unfinished = there.unfinished; in_order = there.in_order });
+}
+
 -- ---- pieces
 pub fed_more : (s mid new : ReaderState) (xs ys : List ℕ) (es es' es'' : List Event) → HasFed s mid xs es es' → HasFed mid new ys es' es'' → HasFed s new (xs ++ ys) es es''
 fed_more s mid new xs ys es es' es'' first second = record {
@@ -145,3 +180,34 @@ pub fed_refusal : (s mid new : ReaderState) (piece : List ℕ) (i : ℕ) (es es'
 fed_refusal s mid new piece i es es' es'' e low refused first second =
     let more : take i piece ++ get_or piece i 0 ∷ [] ≡ take (suc i) piece = sym (take-suc piece i 0 low) in
     fed_rest s new piece (suc i) es es'' e refused (subst (λ p. HasFed s new p es es'') more (fed_more s mid new (take i piece) (get_or piece i 0 ∷ []) es es' es'' first second))
+
+-- a byte of a piece for whose record memory is wanted
+more_behind : (s : ReaderState) (bytes more : List ℕ) (past : List Event) → HasNext s bytes past → HasNext s (bytes ++ more) past
+more_behind s bytes more past there = record {
+  next = there.next;
+  rest = there.rest ++ more;
+  leads = record {
+    told = there.leads.told;
+    text = ap (λ y. y ++ more) there.leads.text ∙ append_assoc (told_text (told_by s past)) (record_bytes there.next ++ there.rest) more
+        ∙ ap (λ y. told_text (told_by s past) ++ y) (append_assoc (record_bytes there.next) there.rest more);
+  };
+  fits = there.fits;
+  unfinished = there.unfinished;
+  in_order = there.in_order;
+}
+
+pub wants_in_piece : (s mid new : ReaderState) (piece : List ℕ) (i : ℕ) (es es' es'' : List Event) → i < length piece → HasFed s mid (take i piece) es es' → WantsMemory HasRead mid new (get_or piece i 0 ∷ []) es' es'' → WantsMemory HasRead s new piece es es''
+wants_in_piece s mid new piece i es es' es'' low first wants =
+    let byte = get_or piece i 0 in
+    let begun : take i piece ++ byte ∷ [] ≡ take (suc i) piece = sym (take-suc piece i 0 low) in
+    let whole : (take i piece ++ byte ∷ []) ++ drop (suc i) piece ≡ piece = ap (λ y. y ++ drop (suc i) piece) begun ∙ take-append-drop (suc i) piece in
+    record {
+      more = first.more ++ wants.more;
+      appended = wants.appended ∙ ap (λ y. y ++ wants.more) first.appended ∙ append_assoc es first.more wants.more;
+      next = λ bytes past is.
+          let there = wants.next (bytes ++ take i piece) (past_after past first.more) (first.read bytes past is) in
+          let all = more_behind new ((bytes ++ take i piece) ++ byte ∷ []) (drop (suc i) piece) (past_after (past_after past first.more) wants.more) there in
+          subst (λ p. HasNext new (bytes ++ piece) p) (sym (ap (λ y. y ++ past) (reverse-append first.more wants.more) ∙ append_assoc (reverse wants.more) (reverse first.more) past))
+          (subst (λ y. HasNext new y (past_after (past_after past first.more) wants.more))
+          (ap (λ y. y ++ drop (suc i) piece) (append_assoc bytes (take i piece) (byte ∷ [])) ∙ append_assoc bytes (take i piece ++ byte ∷ []) (drop (suc i) piece) ∙ ap (λ y. bytes ++ y) whole) all);
+    }

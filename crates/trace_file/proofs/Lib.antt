@@ -1,6 +1,7 @@
 pub mod Texts
 pub mod OneNumber
 pub mod Heads
+pub mod Lengths
 pub mod ManyNumbers
 pub mod NameBytes
 pub mod Bodies

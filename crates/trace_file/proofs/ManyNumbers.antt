@@ -67,7 +67,7 @@ first_stops r rs bytes Begun sound stops = by stops.text
 first_stops r rs bytes NoForm sound stops = λ x more rest numbers same.
     let p = parts r rs x numbers in
     stops (number_bytes p.0) more (p.1 ++ rest) (one r p.0 p.2) (same ∙ ap (λ y. y ++ rest) p.4 ∙ append_assoc (number_bytes p.0) p.1 rest)
-first_stops r rs bytes Memory sound stops = tt
+first_stops r rs bytes (Memory entry) sound stops = tt
 
 -- behind one more number
 cons_stops : (r : Range) (rs : List Range) (n : ℕ) (bytes : List ℕ) (stop : Stop) → IsIn r n → Stops (AreNumbers rs) bytes stop → Stops (AreNumbers (r ∷ rs)) (number_bytes n ++ bytes) stop
@@ -82,7 +82,7 @@ cons_stops r rs n bytes Begun within stops = record {
 cons_stops r rs n bytes NoForm within stops = λ x more rest numbers same.
     let p = parts r rs x numbers in
     stops p.1 more rest p.3 (same_rest n p.0 _ _ (sym (append_assoc (number_bytes n) bytes more) ∙ same ∙ ap (λ y. y ++ rest) p.4 ∙ append_assoc (number_bytes p.0) p.1 rest))
-cons_stops r rs n bytes Memory within stops = tt
+cons_stops r rs n bytes (Memory entry) within stops = tt
 
 -- behind numbers
 pub stops_later : (ns : List ℕ) (before : List Range) (r : Range) (rs : List Range) (bytes rest : List ℕ) (stop : Stop) → AreInRanges ns before → AllByRecursion IsSound rs → bytes ≡ flat_map number_bytes ns ++ rest → Stops (AreNumbers (r ∷ [])) rest stop → Stops (AreNumbers (before ++ r ∷ rs)) bytes stop

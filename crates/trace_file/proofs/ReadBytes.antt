@@ -45,14 +45,14 @@ text_more rs r =
     ap (λ y. magic ++ y) (flat_map-append record_bytes rs (r ∷ []) ∙ ap (λ y. flat_map record_bytes rs ++ y) (append-nil (record_bytes r)))
     ∙ sym (append_assoc magic (flat_map record_bytes rs) (record_bytes r))
 
-goes_begun : (f : Option Finish) (rest : List ℕ) → f ≡ None → GoesOn f rest → IsBegun IsRecord rest
+pub goes_begun : (f : Option Finish) (rest : List ℕ) → f ≡ None → GoesOn f rest → IsBegun IsRecord rest
 goes_begun f rest is goes = subst (λ o. GoesOn o rest) is goes
 
 goes_on_begun : (f : Option Finish) (rest : List ℕ) → f ≡ None → IsBegun IsRecord rest → GoesOn f rest
 goes_on_begun f rest is begun = subst (λ o. GoesOn o rest) (sym is) begun
 
 -- the bytes with one more
-text_push : (text held bytes : List ℕ) (b : ℕ) → bytes ≡ text ++ held → bytes ++ b ∷ [] ≡ text ++ (held ++ b ∷ [])
+pub text_push : (text held bytes : List ℕ) (b : ℕ) → bytes ≡ text ++ held → bytes ++ b ∷ [] ≡ text ++ (held ++ b ∷ [])
 text_push text held bytes b is = ap (λ y. y ++ b ∷ []) is ∙ append_assoc text held (b ∷ [])
 
 pub open_of : (s : ReaderState) (bytes : List ℕ) (past : List Event) → IsAtRecord s bytes past → s.finish ≡ None → IsOpen s past

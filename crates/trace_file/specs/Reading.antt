@@ -143,3 +143,18 @@ pub record HasFed (old new : ReaderState) (piece : List ℕ) (es es' : List Even
   pub more : List Event
   pub appended : es' ≡ es ++ more
   pub read : (bytes : List ℕ) (past : List Event) → HasRead old bytes past → HasRead new (bytes ++ piece) (past_after past more)
+
+-- Behind what is told the bytes have a whole record, which may come there.
+pub record HasNext (s : ReaderState) (bytes : List ℕ) (past : List Event) : Type 0 where
+  pub next : Record
+  pub rest : List ℕ
+  pub leads : Leads bytes (told_by s past) (record_bytes next ++ rest)
+  pub fits : Fits next
+  pub unfinished : s.finish ≡ None
+  pub in_order : IsOutOfOrder (told_by s past) next → ⊥
+
+-- It has read of a piece what comes before a record for which it wants memory.
+pub record WantsMemory (At : ReaderState → List ℕ → List Event → Type 0) (old new : ReaderState) (piece : List ℕ) (es es' : List Event) : Type 0 where
+  pub more : List Event
+  pub appended : es' ≡ es ++ more
+  pub next : (bytes : List ℕ) (past : List Event) → At old bytes past → HasNext new (bytes ++ piece) (past_after past more)

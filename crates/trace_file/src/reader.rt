@@ -1,19 +1,19 @@
 //! Reading a trace, in any pieces.
-ghost use Rattle.std.specs.Prelude.{◌≡◌, ◌≢◌, ◌≤◌, ◌<◌, ◌^◌, ◌+◌, ◌++◌, ◌∷◌, [], ℕ, List, None, Some, length, Err, get_or, IfErr, IsOk, is_some, true, IfOk, IsTrue, OnErr, OnOk, ◌↔◌};
+ghost use Rattle.std.specs.Prelude.{◌≡◌, ◌≢◌, ◌≤◌, ◌<◌, ◌^◌, ◌+◌, ◌++◌, ◌∷◌, [], ℕ, List, None, Some, length, Err, get_or, IfErr, IsOk, is_some, true, vec_len, IfOk, IsTrue, OnErr, OnOk, ◌↔◌};
 ghost use Rattle.std.specs.Result.{result_err};
 ghost use Rattle.trace_file.specs.declared.errors.TraceError.{TraceError};
 ghost use Rattle.guest_words.specs.declared.endings.Finish.{Finish};
 ghost use Rattle.trace_model.specs.declared.event_kinds.Event.{Event};
 ghost use Rattle.trace_file.specs.declared.records.Record.TheVariants.{OfEvent, OfName, OfFinish};
-ghost use Rattle.trace_file.specs.Pieces.{IsWhole};
 ghost use Rattle.trace_file.specs.Records.{Fits};
-ghost use Rattle.trace_file.specs.Reading.{HasFed, HasRead, IsAtRecord, IsReading, IsRefused, MayFeed};
+ghost use Rattle.std.specs.Vec.{vec_capacity};
+ghost use Rattle.trace_file.specs.Reading.{HasFed, HasRead, IsAtRecord, IsReading, IsRefused, MayFeed, WantsMemory};
 ghost use Rattle.trace_file.specs.Steps.{IsAdded, IsFed, IsInOrder, IsNotAdded, IsOpen, IsTaken, MayReadByte, said};
 ghost use Rattle.trace_file.specs.TraceText.{IsRising, IsTrace, magic};
 
 use crate::errors::TraceError;
 use crate::record_reader::{Stop, read_record};
-use crate::records::{MAGIC, Record};
+use crate::records::{MAGIC, RECORD_BYTES, Record};
 use guest_words::{Addr, Finish, Name};
 use std::alloc::{AllocError, Global};
 use std::marker::Model;
@@ -27,8 +27,8 @@ pub struct TraceEnd {
     pub finish: Finish,
 }
 
-/// Reads a trace in any pieces. It keeps the bytes of the record that is begun, the names, and what tells the order of
-/// events, and not the events. Once it refuses, it goes on refusing.
+/// Reads a trace in any pieces. It keeps the bytes of the record that is begun, for which it has room from the start, the
+/// names, and what tells the order of events, and not the events. Once it refuses, it goes on refusing.
 #[derive(Drop)]
 pub struct TraceReader {
     alloc: Global,
@@ -42,6 +42,9 @@ pub struct TraceReader {
 }
 
 impl Model for TraceReader {
+    ghost use Rattle.std.specs.Prelude.{◌≤◌};
+    ghost use Rattle.std.specs.Vec.{vec_capacity};
+    ghost use Rattle.trace_file.specs.declared.records.TheConstants.{RECORD_BYTES};
     ghost use Rattle.trace_file.specs.Reading.{ReaderState};
 
     ghost Value = { ReaderState };
@@ -55,6 +58,8 @@ impl Model for TraceReader {
       finish = r.finish;
       refusal = r.refusal;
     } };
+
+    ghost invariant = { λ r. RECORD_BYTES ≤ vec_capacity r.held };
 }
 
 /// Whether an entry is above those of all names, which rise.
@@ -67,19 +72,20 @@ fn is_above(names: &[(Addr, Name)], entry: Addr) -> bool
 
 /// Appends a name.
 fn push_name(names: &mut Vec<(Addr, Name)>, entry: Addr, name: Name) -> Result<(), AllocError>
-    ensures { OnOk result (names.new.items ≡ names.old.items ++ (entry, name) ∷ []) }
+    ensures ok { OnOk result (names.new.items ≡ names.old.items ++ (entry, name) ∷ []) }
+    ensures err { OnErr result (names.new.items ≡ names.old.items) }
 {
     names.push((entry, name))?;
     Ok(())
 }
 
-/// Appends a byte.
-fn push_byte(held: &mut Vec<u8>, byte: u8) -> Result<(), AllocError>
-    ensures ok { OnOk result (held.new.items ≡ held.old.items ++ byte ∷ []) }
-    ensures err { OnErr result (held.new.items ≡ held.old.items) }
+/// Appends a byte, where there is room for it.
+fn push_byte(held: &mut Vec<u8>, byte: u8)
+    requires { vec_len held.old < vec_capacity held.old }
+    ensures items { held.new.items ≡ held.old.items ++ byte ∷ [] }
+    ensures room { vec_capacity held.old ≤ vec_capacity held.new }
 {
-    held.push(byte)?;
-    Ok(())
+    let _ = held.push(byte);
 }
 
 impl TraceReader {
@@ -92,6 +98,7 @@ impl TraceReader {
             → IfErr result (λ x. IsNotAdded self.old past (OfEvent e) x) }
         ensures memory { (past : List Event) → IsOpen self.old past
             → IfErr result (λ x. IsInOrder self.old past (OfEvent e) x) }
+        ensures same { OnErr result (self.new ≡ self.old) }
         ensures appended { OnOk result (events.new.list ≡ events.old.list ++ e ∷ []) }
         ensures kept { OnErr result (events.new.list ≡ events.old.list) }
     {
@@ -113,12 +120,28 @@ impl TraceReader {
             → IfErr result (λ x. IsNotAdded self.old past (OfName entry name) x) }
         ensures memory { (past : List Event) → IsOpen self.old past
             → IfErr result (λ x. IsInOrder self.old past (OfName entry name) x) }
+        ensures same { OnErr result (self.new ≡ self.old) }
     {
         if !is_above(&self.names, entry) {
             return Err(TraceError::Order { at: self.at });
         }
         push_name(&mut self.names, entry, name)?;
         Ok(())
+    }
+
+    // Why a name is not added for which memory is wanted: its entry does not rise, or else for that.
+    fn refuse_name(&self, entry: Addr) -> TraceError
+        requires { (past : List Event) × IsOpen self.now past }
+        ensures err { (past : List Event) (name : List ℕ) → IsOpen self.now past
+            → IsNotAdded self.now past (OfName entry name) result }
+        ensures memory { (past : List Event) (name : List ℕ) → IsOpen self.now past
+            → IsInOrder self.now past (OfName entry name) result }
+    {
+        if is_above(&self.names, entry) {
+            TraceError::Memory
+        } else {
+            TraceError::Order { at: self.at }
+        }
     }
 
     fn add_finish(&mut self, f: Finish)
@@ -138,6 +161,7 @@ impl TraceReader {
             → IfErr result (λ x. IsNotAdded self.old past next x) }
         ensures memory { (past : List Event) → IsOpen self.old past
             → IfErr result (λ x. IsInOrder self.old past next x) }
+        ensures same { OnErr result (self.new ≡ self.old) }
         ensures appended { OnOk result (events.new.list ≡ events.old.list ++ said next) }
         ensures kept { OnErr result (events.new.list ≡ events.old.list) }
     {
@@ -162,6 +186,7 @@ impl TraceReader {
             → IfErr result (λ x. IsNotAdded self.old past next x) }
         ensures memory { (past : List Event) → IsOpen self.old past
             → IfErr result (λ x. IsInOrder self.old past next x) }
+        ensures same { OnErr result (self.new ≡ self.old) }
         ensures appended { OnOk result (events.new.list ≡ events.old.list ++ said next) }
         ensures kept { OnErr result (events.new.list ≡ events.old.list) }
     {
@@ -178,15 +203,15 @@ impl TraceReader {
         requires unfinished { self.old.finish ≡ None }
         ensures fed { IsFed IsAtRecord IsAtRecord self.old self.new
             (byte ∷ []) events.old.list events.new.list result }
-        ensures memory { IfErr result (λ e. e ≡ TraceError.Memory
-            → self.new.held ≡ self.old.held ++ byte ∷ [] → IsWhole (self.old.held ++ byte ∷ [])) }
+        ensures memory { IfErr result (λ e. e ≡ TraceError.Memory → WantsMemory IsAtRecord
+            self.old self.new (byte ∷ []) events.old.list events.new.list) }
     {
-        push_byte(&mut self.held, byte)?;
+        push_byte(&mut self.held, byte);
         match read_record(self.alloc, &self.held) {
             Ok(next) => self.take_record(next, events),
             Err(Stop::Begun) => Ok(()),
             Err(Stop::NoForm) => Err(TraceError::Record { at: self.at }),
-            Err(Stop::Memory) => Err(TraceError::Memory),
+            Err(Stop::Memory { entry }) => Err(self.refuse_name(entry)),
         }
     }
 
@@ -215,8 +240,8 @@ impl TraceReader {
         ensures line { self.old.line < length magic → IfErr result (λ e. e ≡ TraceError.Magic) }
         ensures behind { (f : Finish) → self.old.finish ≡ Some f → length magic ≤ self.old.line
             → result ≡ Err (TraceError.Record self.old.at) }
-        ensures memory { IfErr result (λ e. e ≡ TraceError.Memory
-            → self.new.held ≡ self.old.held ++ byte ∷ [] → IsWhole (self.old.held ++ byte ∷ [])) }
+        ensures memory { IfErr result (λ e. e ≡ TraceError.Memory → WantsMemory IsReading
+            self.old self.new (byte ∷ []) events.old.list events.new.list) }
     {
         if self.line < MAGIC.len() {
             return self.read_line_byte(byte);
@@ -236,8 +261,8 @@ impl TraceReader {
         ensures line { self.old.line < length magic → IfErr result (λ e. e ≡ TraceError.Magic) }
         ensures behind { (f : Finish) → self.old.finish ≡ Some f → length magic ≤ self.old.line
             → result ≡ Err (TraceError.Record self.old.at) }
-        ensures memory { IfErr result (λ e. e ≡ TraceError.Memory
-            → self.new.held ≡ self.old.held ++ byte ∷ [] → IsWhole (self.old.held ++ byte ∷ [])) }
+        ensures memory { IfErr result (λ e. e ≡ TraceError.Memory → WantsMemory HasRead
+            self.old self.new (byte ∷ []) events.old.list events.new.list) }
     {
         let read = self.next_byte(byte, events);
         self.refusal = read.err();
@@ -251,7 +276,7 @@ impl TraceReader {
         Ok(TraceReader {
             alloc,
             line: 0,
-            held: Vec::new(alloc),
+            held: Vec::with_capacity(alloc, RECORD_BYTES)?,
             at: 0,
             order: Order::new(alloc)?,
             names: Vec::new(alloc),
@@ -268,6 +293,8 @@ impl TraceReader {
         ensures answer { self.new.refusal ≡ result_err result }
         ensures stays { (e : TraceError) → self.old.refusal ≡ Some e
             → (self.new ≡ self.old) × (events.new.list ≡ events.old.list) }
+        ensures memory { self.old.refusal ≡ None → IfErr result (λ e. e ≡ TraceError.Memory
+            → WantsMemory HasRead self.old self.new piece.now events.old.list events.new.list) }
     {
         if let Some(e) = self.refusal {
             return Err(e);

@@ -5,7 +5,7 @@ ghost use Rattle.trace_file.specs.declared.records.Form.{Form};
 ghost use Rattle.trace_file.specs.declared.records.Record.{Record};
 ghost use Rattle.guest_words.specs.Names.{is_name, is_visible};
 ghost use Rattle.guest_words.specs.declared.limits.TheConstants.{NAME_BYTES};
-ghost use Rattle.trace_file.specs.Pieces.{AreNumbers, IsBody, IsHead, IsNameOf, IsNone, IsRecord, IsWhole, Stops, body};
+ghost use Rattle.trace_file.specs.Pieces.{AreNumbers, HasName, HasNameBody, IsBody, IsHead, IsNameOf, IsNone, IsRecord, Stops, body};
 ghost use Rattle.trace_file.specs.declared.records.Record.TheVariants.{OfEvent, OfFinish};
 ghost use Rattle.trace_file.specs.Records.{AreInRanges, Fits, IsIn, form, head, kind_number, number_bytes, ranges, record_bytes, thread};
 ghost use Rattle.trace_file.specs.Made.{IsLeastNumber, IsMade, IsSound, is_event};
@@ -13,7 +13,7 @@ ghost use Rattle.std.specs.List.{flat_map, list_all};
 
 use crate::records::{Form, Range, Record};
 use guest_words::limits::{LAST_TID, NAME_BYTES};
-use guest_words::{FaultKind, Finish, Name, NameError, Tid, Word};
+use guest_words::{Addr, FaultKind, Finish, Name, NameError, Tid, Word};
 use std::alloc::Global;
 use trace_model::Event;
 
@@ -24,8 +24,8 @@ pub enum Stop {
     Begun,
     /// Whatever follows the bytes, they don't begin with a record.
     NoForm,
-    /// Want of memory.
-    Memory,
+    /// Want of memory for the name of the routine with this entry. Its record is whole.
+    Memory { entry: Addr },
 }
 
 const THREAD: Range = Range {
@@ -94,7 +94,7 @@ fn end_head(second: u8) -> Option<Form>
 fn read_head(bytes: &[u8]) -> Result<(Form, &[u8]), Stop>
     ensures found { IfOk result (λ x. bytes.now ≡ head x.0 ++ x.1.now) }
     ensures stops { IfErr result (λ stop. Stops IsHead bytes.now stop) }
-    ensures memory { IfErr result (λ stop. stop ≢ Stop.Memory) }
+    ensures memory { (entry : ℕ) → IfErr result (λ stop. stop ≢ Stop.Memory entry) }
 {
     if bytes.is_empty() {
         return Err(Stop::Begun);
@@ -160,7 +160,7 @@ fn read_number(bytes: &[u8], range: Range) -> Result<u32, Stop>
         × (bytes.now ≡ number_bytes n ++ drop 4 bytes.now)) }
     ensures long { IfOk result (λ n. 4 ≤ length bytes.now) }
     ensures stops { IfErr result (λ stop. Stops (AreNumbers (range ∷ [])) bytes.now stop) }
-    ensures memory { IfErr result (λ stop. stop ≢ Stop.Memory) }
+    ensures memory { (entry : ℕ) → IfErr result (λ stop. stop ≢ Stop.Memory entry) }
 {
     if least_number(bytes, range) > u64::from(range.most) {
         return Err(Stop::NoForm);
@@ -186,7 +186,7 @@ fn read_numbers<'a>(bytes: &'a [u8], ranges: &[Range]) -> Result<([u32; 3], &'a 
     ensures found { IfOk result (λ x. AreInRanges (take (length ranges.now) x.0) ranges.now
         × (bytes.now ≡ flat_map number_bytes (take (length ranges.now) x.0) ++ x.1.now)) }
     ensures stops { IfErr result (λ stop. Stops (AreNumbers ranges.now) bytes.now stop) }
-    ensures memory { IfErr result (λ stop. stop ≢ Stop.Memory) }
+    ensures memory { (entry : ℕ) → IfErr result (λ stop. stop ≢ Stop.Memory entry) }
 {
     let mut numbers = [0; 3];
     let mut rest = bytes;
@@ -344,15 +344,15 @@ fn are_visible(bytes: &[u8]) -> bool
     bytes.iter().all(|b| 0x21 <= *b && *b <= 0x7e)
 }
 
-/// A name of so many bytes.
-fn read_name(alloc: Global, bytes: &[u8], len: usize) -> Result<Name, Stop>
+/// A name of so many bytes, of the routine with an entry.
+fn read_name(alloc: Global, entry: Addr, bytes: &[u8], len: usize) -> Result<Name, Stop>
     requires least { 1 ≤ len }
     requires most { len ≤ NAME_BYTES }
     ensures found { IfOk result (λ name. (is_name name ≡ true) × (length name ≡ len)
         × (bytes.now ≡ name ++ drop len bytes.now)) }
     ensures stops { IfErr result (λ stop. Stops (IsNameOf len) bytes.now stop) }
-    ensures memory { IfErr result (λ stop. stop ≡ Stop.Memory
-        → (len ≤ length bytes.now) × (is_name (take len bytes.now) ≡ true)) }
+    ensures memory { (of : ℕ) → IfErr result (λ stop. stop ≡ Stop.Memory of
+        → (of ≡ entry) × (len ≤ length bytes.now) × (is_name (take len bytes.now) ≡ true)) }
 {
     if bytes.len() < len {
         if are_visible(bytes) {
@@ -363,7 +363,7 @@ fn read_name(alloc: Global, bytes: &[u8], len: usize) -> Result<Name, Stop>
     match Name::new(alloc, &bytes[..len]) {
         Ok(name) => Ok(name),
         Err(NameError::Bad) => Err(Stop::NoForm),
-        Err(NameError::Memory) => Err(Stop::Memory),
+        Err(NameError::Memory) => Err(Stop::Memory { entry }),
     }
 }
 
@@ -372,13 +372,13 @@ fn read_body(alloc: Global, wanted: Form, bytes: &[u8]) -> Result<Record, Stop>
     ensures found { IfOk result (λ r. Fits r × (form r ≡ wanted)
         × ((rest : List ℕ) × (bytes.now ≡ body r ++ rest))) }
     ensures stops { IfErr result (λ stop. Stops (IsBody wanted) bytes.now stop) }
-    ensures memory { IfErr result (λ stop. stop ≡ Stop.Memory
-        → (r : Record) × Fits r × (form r ≡ wanted) × ((rest : List ℕ) × (bytes.now ≡ body r ++ rest))) }
+    ensures memory { (entry : ℕ) → IfErr result (λ stop. stop ≡ Stop.Memory entry
+        → HasNameBody wanted entry bytes.now) }
 {
     let (numbers, rest) = read_numbers(bytes, ranges(wanted))?;
     let [a, b, c] = numbers;
     match wanted {
-        Form::Named => Ok(Record::OfName(a, read_name(alloc, rest, b as usize)?)),
+        Form::Named => Ok(Record::OfName(a, read_name(alloc, a, rest, b as usize)?)),
         _ => match made(wanted, a, b, c) {
             Some(record) => Ok(record),
             None => Err(Stop::NoForm),
@@ -391,7 +391,8 @@ pub fn read_record(alloc: Global, bytes: &[u8]) -> Result<Record, Stop>
     ensures found { IfOk result (λ r. Fits r
         × ((rest : List ℕ) × (bytes.now ≡ record_bytes r ++ rest))) }
     ensures stops { IfErr result (λ stop. Stops IsRecord bytes.now stop) }
-    ensures memory { IfErr result (λ stop. stop ≡ Stop.Memory → IsWhole bytes.now) }
+    ensures memory { (entry : ℕ) → IfErr result (λ stop. stop ≡ Stop.Memory entry
+        → HasName entry bytes.now) }
 {
     let (form, body) = read_head(bytes)?;
     read_body(alloc, form, body)

@@ -1,10 +1,14 @@
 //! Records, and the forms that they have.
 
+use guest_words::limits::NAME_BYTES;
 use guest_words::{Addr, Finish, Name};
 use trace_model::Event;
 
 /// The line that a trace begins with.
 pub const MAGIC: [u8; 14] = *b"aprof trace 1\n";
+
+/// How many bytes the longest record has, that of a name.
+pub const RECORD_BYTES: usize = 9 + NAME_BYTES;
 
 /// What a record says.
 #[derive(Drop)]

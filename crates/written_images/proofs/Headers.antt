@@ -1,17 +1,16 @@
 -- The headers of a file, whose first 84 bytes are known but for three sizes.
-use Rattle.std.proofs.Common.{◌≡◌, ℕ, ◌+◌, ◌-◌, ◌*◌, ◌/◌, ◌%◌, ◌^◌, ◌<◌, ◌≤◌, Bool, true, false, not, eqb, leb, ltb, ◌||◌, List, [], ◌∷◌, ◌++◌, length, map, take, drop, filter, Some, None, refl, ap, subst, ◌∙◌, arith, ne_eqb, length-append}
+use Rattle.std.proofs.Common.{◌≡◌, ℕ, ◌+◌, ◌-◌, ◌*◌, ◌/◌, ◌%◌, ◌^◌, ◌<◌, ◌≤◌, Bool, true, false, not, eqb, leb, ltb, ◌||◌, List, [], ◌∷◌, ◌++◌, length, map, take, filter, Some, None, refl, ap, subst, ◌∙◌, arith, ne_eqb, length-append}
 use Rattle.std.specs.List.{find, list_any}
 use Rattle.std.specs.Option.{option_map_or}
 use Rattle.std.proofs.lemmas.Bool.{le-leb, le-ltb, lt-ltb}
 use Rattle.std.proofs.Math.Seq.{take-append_seam}
 use Rattle.guest_words.specs.declared.limits.TheConstants.{FILE_BYTES, PAGES}
-use Rattle.elf_image.specs.declared.error.ElfError.TheVariants as error
 use Rattle.elf_image.specs.Headers.{half_at, word_at, program_header_at, program_headers}
 use Rattle.elf_image.specs.Image.{Executable, Segment, is_code, page_count, share_byte}
 use Rattle.elf_image.specs.Reading.{image_of, names_of}
 use Rattle.elf_image.specs.Segments.{header_place, holds_headers, is_load, is_occupied, load_headers, occupied_headers, segment_of, segments_of}
 use Rattle.elf_image.specs.Tests.{any_two, fails_entry, fails_header_table, fails_interpreter, fails_no_load, fails_overlap, fails_pages, fails_segment_file, fails_segment_place, fails_segment_size, fails_short, first_of, first_refusal, header_tests, layout_tests, segment_tests}
-use Rattle.elf_image.proofs.FirstTests.{goes_on, passed_all}
+use Rattle.elf_image.proofs.FirstTests.{in_third, none_fails, of_file}
 use Rattle.elf_image.proofs.PageCounts.{counted_more, counted_none}
 use Rattle.rv_asm.specs.Executable.{code_bytes, code_end, image_bytes, plain_file}
 use Rattle.rv_asm.proofs.Sizes.{plain_size}
@@ -73,8 +72,9 @@ module _ (words : List ℕ) (shoff shnum : ℕ) where
       header_passes : first_of (header_tests file) ≡ None
       unfolding image_bytes half_at word_at
       header_passes =
-          goes_on (fails_short file) error.Short (drop 1 (header_tests file)) None (le-ltb (length file) 52 (omega (arith, file_size)))
-          (goes_on (fails_header_table file) error.HeaderTable [] None (le-ltb (length file) 84 (omega (arith, file_size))) refl)
+          let long : fails_short file ≡ false = le-ltb (length file) 52 (omega (arith, file_size)) in
+          let whole : fails_header_table file ≡ false = le-ltb (length file) 84 (omega (arith, file_size)) in
+          none_fails (header_tests file) (search (long, whole))
 
       -- the one program header, of a load segment that takes memory
       program_headers_are : program_headers file ≡ program_header_at file 52 ∷ []
@@ -126,11 +126,7 @@ module _ (words : List ℕ) (shoff shnum : ℕ) where
           (ap (λ n. ltb 0x40000000 (0x10000 + n)) size_is ∙ le-ltb 0x40000000 (0x10000 + code_end (length words)) (omega arith))
 
       segment_passes : first_of (segment_tests file) ≡ None
-      segment_passes =
-          goes_on (fails_interpreter file) error.Interpreter (drop 1 (segment_tests file)) None interpreter
-          (goes_on (fails_segment_file file) error.SegmentFile (drop 2 (segment_tests file)) None segment_file
-          (goes_on (fails_segment_size file) error.SegmentSize (drop 3 (segment_tests file)) None segment_size
-          (goes_on (fails_segment_place file) error.SegmentPlace [] None segment_place refl)))
+      segment_passes = none_fails (segment_tests file) (search (interpreter, segment_file, segment_size, segment_place))
 
       -- the tests of its segment
       enters : fails_entry file ≡ false
@@ -142,15 +138,17 @@ module _ (words : List ℕ) (shoff shnum : ℕ) where
       pages = ap (λ s. ltb PAGES (page_count s)) segments_are
           ∙ few (code_end (length words)) (take (code_end (length words)) file) (omega arith) fits
 
+      overlap : fails_overlap file ≡ false
+      overlap = ap (any_two share_byte) segments_are
+
+      no_load : fails_no_load file ≡ false
+      no_load = ap (λ s. eqb (length s) 0) segments_are
+
       layout_passes : first_of (layout_tests file) ≡ None
-      layout_passes =
-          goes_on (fails_overlap file) error.Overlap (drop 1 (layout_tests file)) None (ap (any_two share_byte) segments_are)
-          (goes_on (fails_no_load file) error.NoLoad (drop 2 (layout_tests file)) None (ap (λ s. eqb (length s) 0) segments_are)
-          (goes_on (fails_entry file) error.Entry (drop 3 (layout_tests file)) None enters
-          (goes_on (fails_pages file) error.Pages [] None pages refl)))
+      layout_passes = none_fails (layout_tests file) (search (overlap, no_load, enters, pages))
 
       pub passes : first_refusal file ≡ None
-      passes = passed_all file header_passes segment_passes layout_passes
+      passes = of_file file ∙ in_third _ _ _ None header_passes segment_passes layout_passes
 
       -- the segment holds the program header
       holds : holds_headers file (program_header_at file 52) ≡ true

@@ -2,9 +2,9 @@ use Rattle.std.proofs.Common.{◌≡◌, ◌+◌, ◌-◌, ◌/◌, ◌≤◌, L
 use Rattle.std.proofs.lemmas.List.{get_or_default, take_all}
 use Rattle.elf_image.specs.declared.headers.ProgramHeader.{ProgramHeader}
 use Rattle.elf_image.specs.Image.{page_count}
-use Rattle.elf_image.specs.Segments.{segment_of}
+use Rattle.elf_image.specs.Segments.{occupied_headers, segment_of}
 use Rattle.elf_image.specs.Layout.{IsLoadable}
-use Rattle.elf_image.proofs.Layouts.{counted_above, counted_one, no_header}
+use Rattle.elf_image.proofs.Layouts.{counted_above, counted_one, no_header, pages-permutation}
 use Rattle.elf_image.proofs.PageCounts.{counted_none}
 use Rattle.elf_image.proofs.layout.count_pages.Goals as goal
 
@@ -37,10 +37,11 @@ loop-h-preserved c =
     }
 
 pub returns : goal.returns
-returns c = λ file.
+returns c = λ file moves.
     let hs = c.args.ordered.now in
     let all : take c.loop-h.h-index hs ≡ hs = take_all _ _ (omega arith) in
     (c.loop-h.invariant.counted file 262144 (λ i d below.
     let high : (get_or hs i d).p_vaddr + (get_or hs i d).p_memsz ≤ 0x40000000 = (c.requires.loadable.1 i d (omega arith)).high in
     omega (arith, high))).count
     ∙ ap (λ (xs : List ProgramHeader). page_count (map (segment_of file) xs)) all
+    ∙ pages-permutation file (occupied_headers file) hs moves

@@ -1,4 +1,4 @@
-use Rattle.std.proofs.Common.{◌≡◌, length, map, Option, ap, ◌∙◌}
+use Rattle.std.proofs.Common.{◌≡◌, length, map, Option, None, ap, ◌∙◌}
 use Rattle.std.specs.List.{All}
 use Rattle.std.specs.Option.{option_map}
 use Rattle.std.proofs.lemmas.Result.{err_from_is_err_and}
@@ -7,7 +7,8 @@ use Rattle.elf_image.specs.Image.{Executable, name_of}
 use Rattle.elf_image.specs.Layout.{IsLoadable}
 use Rattle.elf_image.specs.Reading.{names_of}
 use Rattle.elf_image.proofs.Executables.{filled_from, image_is, names_from}
-use Rattle.elf_image.proofs.FirstTests.{passed_all, refused_header, refused_layout, refused_segment}
+use Rattle.elf_image.specs.Tests.{first_of, header_tests, layout_tests, segment_tests}
+use Rattle.elf_image.proofs.FirstTests.{in_first, in_second, in_third, of_file}
 use Rattle.elf_image.proofs.NameLists.{name_of-symbols, named}
 use Rattle.elf_image.proofs.Sound.{loadable_from}
 use Rattle.elf_image.proofs.Values.{values_fit}
@@ -16,17 +17,17 @@ use Rattle.elf_image.proofs.reader.read_image.Goals as goal
 pub returns-in_err-header-clause-refused : goal.returns-in_err-header-clause-refused
 returns-in_err-header-clause-refused c =
     let p = err_from_is_err_and c.from_residual.result c.from_residual.ensures.1 in
-    rw (p.1, p.2) (λ _. refused_header c.args.file.now _ c.in_err-header.ensures.refused)
+    rw (p.1, p.2) (λ _. of_file c.args.file.now ∙ in_first (first_of (header_tests c.args.file.now)) (first_of (segment_tests c.args.file.now)) (first_of (layout_tests c.args.file.now)) _ c.in_err-header.ensures.refused)
 
 pub returns-in_err-headers-clause-refused : goal.returns-in_err-headers-clause-refused
 returns-in_err-headers-clause-refused c =
     let p = err_from_is_err_and c.from_residual-in_err-headers.result c.from_residual-in_err-headers.ensures.1 in
-    rw (p.1, p.2) (λ other. refused_segment c.args.file.now _ c.in_ok-header.ensures.passed (c.in_err-headers.ensures.refused other))
+    rw (p.1, p.2) (λ other. of_file c.args.file.now ∙ in_second _ _ _ _ c.in_ok-header.ensures.passed (c.in_err-headers.ensures.refused other))
 
 pub returns-in_err-segments-clause-refused : goal.returns-in_err-segments-clause-refused
 returns-in_err-segments-clause-refused c =
     let p = err_from_is_err_and c.from_residual-in_err-segments.result c.from_residual-in_err-segments.ensures.1 in
-    rw (p.1, p.2) (λ other. refused_layout c.args.file.now _ c.in_ok-header.ensures.passed c.in_ok-headers.ensures.passed (c.in_err-segments.ensures.refused other))
+    rw (p.1, p.2) (λ other. of_file c.args.file.now ∙ in_third _ _ _ _ c.in_ok-header.ensures.passed c.in_ok-headers.ensures.passed (c.in_err-segments.ensures.refused other))
 
 pub load-requires-clause-loadable : goal.load-requires-clause-loadable
 load-requires-clause-loadable c =
@@ -47,7 +48,7 @@ new-requires c =
     c.in_ok-headers.ensures.passed c.in_ok-segments.ensures.passed c.header_place.ensures.range c.in_ok-header.ensures.count c.in_ok-symbols.ensures.rising
 
 pub returns-clause-accepted : goal.returns-clause-accepted
-returns-clause-accepted c = passed_all c.args.file.now c.in_ok-header.ensures.passed c.in_ok-headers.ensures.passed c.in_ok-segments.ensures.passed
+returns-clause-accepted c = of_file c.args.file.now ∙ in_third _ _ _ None c.in_ok-header.ensures.passed c.in_ok-headers.ensures.passed c.in_ok-segments.ensures.passed
 
 pub returns-clause-image : goal.returns-clause-image
 returns-clause-image c =

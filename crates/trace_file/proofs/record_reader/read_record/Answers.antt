@@ -1,8 +1,9 @@
 use Rattle.std.proofs.Common.{◌≡◌, sym, subst}
 use Rattle.trace_file.specs.declared.record_reader.Stop.TheVariants.{Memory}
+use Rattle.trace_file.specs.declared.records.Record.TheVariants.{OfName}
 use Rattle.std.specs.Result.{IfErr}
 use Rattle.std.proofs.lemmas.Result.{IfErr-weaker, IfOk-weaker, err_from_is_err_and}
-use Rattle.trace_file.specs.Pieces.{IsRecord, IsWhole, Stops}
+use Rattle.trace_file.specs.Pieces.{HasName, IsRecord, Stops}
 use Rattle.trace_file.proofs.Bodies.{body_stop, head_stop, whole_record}
 use Rattle.trace_file.proofs.record_reader.read_record.Goals as goal
 
@@ -20,5 +21,5 @@ pub returns-clause-found : goal.returns-clause-found
 returns-clause-found c = IfOk-weaker c.read_body.result _ _ (λ r h. whole_record c.in_ok-form.form _ _ r h.0 h.1 h.2.0 c.in_ok-form.ensures.found h.2.1) c.read_body.ensures.found
 
 pub returns-clause-memory : goal.returns-clause-memory
-returns-clause-memory c = IfErr-weaker c.read_body.result _ (λ stop. stop ≡ Memory → IsWhole c.args.bytes.now)
-    (λ stop h same. let r = h same in let whole = whole_record c.in_ok-form.form _ _ r.0 r.1 r.2 r.3.0 c.in_ok-form.ensures.found r.3.1 in (r.0, whole.0, whole.1)) c.read_body.ensures.memory
+returns-clause-memory c entry = IfErr-weaker c.read_body.result _ (λ stop. stop ≡ Memory entry → HasName entry c.args.bytes.now)
+    (λ stop h same. let n = h same in let whole = whole_record c.in_ok-form.form _ _ (OfName entry n.0) n.1 n.2 n.3.0 c.in_ok-form.ensures.found n.3.1 in (n.0, whole.0, whole.1)) (c.read_body.ensures.memory entry)

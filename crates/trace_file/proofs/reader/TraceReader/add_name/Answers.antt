@@ -20,7 +20,7 @@ returns-clause-ok c past is =
     let names = c.deref.ensures.value ∙ ap (λ (s : ReaderState). s.names) c.self.view_is in
     let rises = subst (λ ns. IsRising (ns ++ (c.args.entry, c.args.name) ∷ [])) names ((c.is_above.ensures c.args.name).0 (is_true _ c.if-not-is_above.false)) in
     added_name c.args.self.now _ past c.args.entry c.args.name is c.requires.fits rises
-    (ap₂ (λ (s : ReaderState) (ns : Names). record s { names = ns }) c.self.view_is (c.in_ok-push_name.ensures ∙ ap (λ (s : ReaderState). s.names ++ (c.args.entry, c.args.name) ∷ []) c.self.view_is))
+    (ap₂ (λ (s : ReaderState) (ns : Names). record s { names = ns }) c.self.view_is (c.in_ok-push_name.ensures.ok ∙ ap (λ (s : ReaderState). s.names ++ (c.args.entry, c.args.name) ∷ []) c.self.view_is))
 
 pub returns-in_err-push_name-clause-memory : goal.returns-in_err-push_name-clause-memory
 returns-in_err-push_name-clause-memory c past is =
