@@ -5,8 +5,9 @@ use Rattle.guest_calls.specs.Kernel.{KernelState, Kept}
 use Rattle.guest_calls.specs.Outcome.{asked, Does, Gives}
 use Rattle.guest_calls.specs.Results.{Call, CallResult, number}
 use Rattle.guest_calls.specs.Table.{call}
+use Rattle.guest_calls.proofs.AllCalls.{every_call_is_lawful}
 use Rattle.guest_calls.proofs.Rows.{call_write, call_writev}
-use Rattle.guest_calls.proofs.Settled.{does_before, free_after, free_either_way, gives_before, if_gives_before, refused_before, silent}
+use Rattle.guest_calls.proofs.Settled.{does_before, free_after, free_either_way, gives_before, if_gives_before, refused_before}
 use Rattle.guest_calls.proofs.kernel.Kernel.carry_out.Goals as goal
 
 pub returns-in-64-clause-call : goal.returns-in-64-clause-call
@@ -47,7 +48,7 @@ returns-in_ok-answer-in_default-clause-call c =
     let does = subst (λ (k : KernelState). Does (call (asked (record { tid = c.args.tid; cpu = c.args.cpu.now }) k c.args.memory.now c.args.held.now)) answer c.call.new.self c.call.new.memory c.call.new.held c.reserve.new.self c.call.new.events) was c.in_ok-answer-in_default.ensures.does in
     record {
       does = does_before (call made) answer c.call.new.self c.call.new.memory c.call.new.held c.reserve.new.self c.args.events.now c.call.new.events c.in_ok-reserve.ensures.list does;
-      out = c.clear.ensures ∙ sym (silent made (λ e. no_write (c.number.ensures ∙ e)) (λ e. no_writev (c.number.ensures ∙ e)));
+      out = c.clear.ensures ∙ sym ((every_call_is_lawful made).silent (λ e. no_write (c.number.ensures ∙ e)) (λ e. no_writev (c.number.ensures ∙ e)));
     }
 
 pub returns-in_ok-answer-in_default-clause-break_free : goal.returns-in_ok-answer-in_default-clause-break_free
