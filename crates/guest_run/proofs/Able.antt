@@ -1,5 +1,5 @@
 -- A thread that went on by its step can run.
-use Rattle.std.proofs.Common.{◌≡◌, ℕ, Bool, true, false, Ok, Err, refl}
+use Rattle.std.proofs.Common.{◌≡◌, ℕ, true, Ok, Err, refl}
 use Rattle.std.specs.Prelude.{Result}
 use Rattle.guest_words.specs.declared.endings.FaultKind.{FaultKind}
 use Rattle.rv_isa.specs.declared.instruction.Instr.{Instr}
