@@ -57,11 +57,13 @@ each_is_lawful =
     and (λ c is. futex_is_lawful c)
     and tt
 
-by_test : (c : Call) (m n : ℕ) (b : Bool) (one other : Call → CallResult) → (m == n) ≡ b → number c ≡ n → (number c ≡ m → IsLawful c (one c)) → IsLawful c (other c) → IsLawful c (cond b one other c)
+by_test : (c : Call) (m n : ℕ) (b : Bool) (one other : Call → CallResult) → (m == n) ≡ b → number c ≡ n →
+    (number c ≡ m → IsLawful c (one c)) → IsLawful c (other c) → IsLawful c (cond b one other c)
 by_test c m n true one other same is here there = here (is ∙ sym (eqb-true m n same))
 by_test c m n false one other same is here there = there
 
-numbered_is_lawful : (c : Call) (n : ℕ) (rows : List (ℕ × (Call → CallResult))) → number c ≡ n → AreLawful rows → IsLawful c (call_numbered n rows c)
+numbered_is_lawful : (c : Call) (n : ℕ) (rows : List (ℕ × (Call → CallResult))) →
+    number c ≡ n → AreLawful rows → IsLawful c (call_numbered n rows c)
 numbered_is_lawful c n [] is each = lawful_returns c enosys
 numbered_is_lawful c n (row ∷ rows) is each =
     by_test c row.0 n (row.0 == n) row.1 (call_numbered n rows) refl is (each.0 c) (numbered_is_lawful c n rows is each.1)

@@ -15,9 +15,9 @@ use Rattle.guest_calls.specs.declared.answer.Answer.{Answer}
 use Rattle.guest_calls.specs.declared.answer.Answer.TheVariants.{Back, Yield, Block, ThreadEnd, ProcessEnd, Born}
 use Rattle.guest_calls.specs.declared.thread.Thread.{Thread}
 use Rattle.guest_calls.specs.Kernel.{KernelState, can_run, lives}
-use Rattle.guest_calls.specs.Lawful.{AreCopies, BeginsBehind, EndsWithByte, GivesNumber, IsLawful, goes_on, tids_after}
-use Rattle.guest_calls.specs.Pages.{IsBreakFree}
-use Rattle.guest_calls.specs.Results.{Call, CallResult, Guest, answered_or, either, fill_event, filled, first_answer, number, read_event, returns, unless, writable}
+use Rattle.guest_calls.specs.Lawful.{AreCopies, BeginsBehind, EndsWithByte, GivesNumber, IsLawful, goes_on, tids, tids_after}
+use Rattle.guest_calls.specs.Pages.{IsBreakFree, remaps}
+use Rattle.guest_calls.specs.Results.{Call, CallResult, Guest, ◌▷◌, answered_or, changes, either, fill_event, filled, fills, first_answer, number, read_event, returns, unless, writable}
 use Rattle.guest_calls.proofs.Passed.{failed}
 use Rattle.guest_calls.proofs.Reach.{writable_end}
 
@@ -109,7 +109,8 @@ stays_begins pc ThreadEnd stays = absurd stays
 stays_begins pc (ProcessEnd s) stays = absurd stays
 stays_begins pc (Born child registers) stays = absurd stays
 
-stays_number : (answer : Answer) (old new : KernelState) → Stays answer → new.last_tid ≡ old.last_tid → GivesNumber answer old new
+stays_number : (answer : Answer) (old new : KernelState) → Stays answer →
+    new.last_tid ≡ old.last_tid → GivesNumber answer old new
 stays_number (Back value) old new stays last = last
 stays_number Yield old new stays last = last
 stays_number Block old new stays last = last
@@ -117,22 +118,23 @@ stays_number ThreadEnd old new stays last = absurd stays
 stays_number (ProcessEnd s) old new stays last = absurd stays
 stays_number (Born child registers) old new stays last = absurd stays
 
-pub any_thread : (threads : List Thread) (tid : ℕ) → list_any (λ t. t.tid == tid) threads ≡ list_any (λ n. n == tid) (map (λ t. t.tid) threads)
+pub any_thread : (threads : List Thread) (tid : ℕ) →
+    list_any (λ t. t.tid == tid) threads ≡ list_any (λ n. n == tid) (map (λ t. t.tid) threads)
 any_thread [] tid = refl
 any_thread (t ∷ threads) tid = ap (λ b. (t.tid == tid) || b) (any_thread threads tid)
 
-pub lives_by : (k l : KernelState) (tid : ℕ) → map (λ t. t.tid) k.threads ≡ map (λ t. t.tid) l.threads → lives k tid ≡ lives l tid
+pub lives_by : (k l : KernelState) (tid : ℕ) → tids k ≡ tids l → lives k tid ≡ lives l tid
 lives_by k l tid same = any_thread k.threads tid ∙ ap (list_any (λ n. n == tid)) same ∙ sym (any_thread l.threads tid)
 
 -- ---- what stays
 -- the threads, the last number and the break
 pub record IsSteady (old new : KernelState) : Type 0 where
-  pub tids : map (λ t. t.tid) new.threads ≡ map (λ t. t.tid) old.threads
+  pub threads : tids new ≡ tids old
   pub last : new.last_tid ≡ old.last_tid
   pub break_is : new.program_break ≡ old.program_break
 
 pub steady : (k : KernelState) → IsSteady k k
-steady k = record { tids = refl; last = refl; break_is = refl }
+steady k = record { threads = refl; last = refl; break_is = refl }
 
 -- the rights of the pages; and no reservation is new
 pub record IsKept (c : Call) (g : Guest) : Type 0 where
@@ -148,15 +150,16 @@ filled_kept c g at bytes before = record {
   held = λ q some. before.held q (some_of_rest _ (g.held q) some);
 }
 
-pub kept_free : (c : Call) (k : KernelState) (g : Guest) → k.program_break ≡ c.kernel.program_break → g.memory.rights ≡ c.memory.rights →
+pub kept_free : (c : Call) (k : KernelState) (g : Guest) → IsSteady c.kernel k → IsKept c g →
     IsBreakFree c.memory c.kernel.program_break → IsBreakFree g.memory k.program_break
-kept_free c k g break_is rights free =
-    subst (λ (b : ℕ). IsBreakFree g.memory b) (sym break_is) (λ q low high. ap (λ (all : ℕ → Option Rights). all q) rights ∙ free q low high)
+kept_free c k g same rest free =
+    subst (λ (b : ℕ). IsBreakFree g.memory b) (sym same.break_is)
+    (λ q low high. ap (λ (rights : ℕ → Option Rights). rights q) rest.rights ∙ free q low high)
 
 -- the same threads live afterwards
 pub record IsCalm (c : Call) (r : CallResult) : Type 0 where
   pub stays : Stays r.answer
-  pub tids : map (λ t. t.tid) r.kernel.threads ≡ map (λ t. t.tid) c.kernel.threads
+  pub threads : tids r.kernel ≡ tids c.kernel
   pub last : r.kernel.last_tid ≡ c.kernel.last_tid
   pub able : can_run c.kernel c.tid ≡ true → goes_on r.answer ≡ true → can_run r.kernel c.tid ≡ true
   pub held : (q : ℕ) → is_some (r.guest.held q) ≡ true → is_some (c.held q) ≡ true
@@ -171,8 +174,8 @@ calm_lawful c r calm = record {
   copies = calm.fair.copies;
   break_free = calm.free;
   numbers = stays_number r.answer c.kernel r.kernel calm.stays calm.last;
-  threads = calm.tids ∙ sym (stays_tids r.answer c.tid (map (λ t. t.tid) c.kernel.threads) calm.stays);
-  holders = λ live q some. lives_by r.kernel c.kernel q calm.tids ∙ live q (calm.held q some);
+  threads = calm.threads ∙ sym (stays_tids r.answer c.tid (tids c.kernel) calm.stays);
+  holders = λ live q some. lives_by r.kernel c.kernel q calm.threads ∙ live q (calm.held q some);
   begins = (stays_begins c.registers.pc r.answer calm.stays).0;
   byte = (stays_begins c.registers.pc r.answer calm.stays).1;
   able = calm.able;
@@ -180,53 +183,60 @@ calm_lawful c r calm = record {
 }
 
 -- ---- kinds of calls
+-- the thread still can run in this state
+abbrev pub StillRuns : Call → KernelState → Type 0
+StillRuns c k = can_run c.kernel c.tid ≡ true → can_run k c.tid ≡ true
+
 -- a call that answers so and puts no byte out
 pub lawful_by : (c : Call) (answer : Answer) (k : KernelState) (g : Guest) → Stays answer → IsSteady c.kernel k →
-    (can_run c.kernel c.tid ≡ true → goes_on answer ≡ true → can_run k c.tid ≡ true) → IsKept c g → AreFair c.tid g.events →
+    (goes_on answer ≡ true → StillRuns c k) → IsKept c g → AreFair c.tid g.events →
     IsLawful c (record { answer = answer; kernel = k; guest = g; out = None })
-lawful_by c answer k g stays same able rest fair = calm_lawful c (record { answer = answer; kernel = k; guest = g; out = None }) (record {
+lawful_by c answer k g stays same able rest fair = calm_lawful c _ (record {
   stays = stays;
-  tids = same.tids;
+  threads = same.threads;
   last = same.last;
-  able = able;
+  able = λ can goes. able goes can;
   held = rest.held;
-  free = kept_free c k g same.break_is rest.rights;
+  free = kept_free c k g same rest;
   fair = fair;
   silent = λ no_write no_writev. refl;
 })
 
+-- a call that changes the kernel alone
+pub lawful_changes : (c : Call) (k : KernelState) (value : ℕ) → IsSteady c.kernel k → StillRuns c k →
+    IsLawful c (record (returns c value) { kernel = k })
+lawful_changes c k value same able =
+    lawful_by c (Back value) k (returns c value).guest tt same (λ goes. able) (kept c []) (none_fair c.tid)
+
 -- a call that changes nothing
 pub lawful_returns : (c : Call) (value : ℕ) → IsLawful c (returns c value)
-lawful_returns c value = lawful_by c (Back value) c.kernel (returns c value).guest tt (steady c.kernel) (λ can goes. can) (kept c []) (none_fair c.tid)
-
--- a call that changes the kernel
-pub lawful_changes : (c : Call) (k : KernelState) (value : ℕ) → IsSteady c.kernel k → (can_run c.kernel c.tid ≡ true → can_run k c.tid ≡ true) →
-    IsLawful c (record (returns c value) { kernel = k })
-lawful_changes c k value same able = lawful_by c (Back value) k (returns c value).guest tt same (λ can goes. able can) (kept c []) (none_fair c.tid)
+lawful_returns c value = lawful_changes c c.kernel value (steady c.kernel) (λ can. can)
 
 -- a call that fills bytes, where they can be written, and may change the kernel
-pub lawful_fills : (c : Call) (k : KernelState) (value at : ℕ) (bytes : List ℕ) → IsSteady c.kernel k → (can_run c.kernel c.tid ≡ true → can_run k c.tid ≡ true) →
-    not (writable c at (length bytes)) ≡ false → IsLawful c (record { answer = Back value; kernel = k; guest = filled at bytes (returns c value).guest; out = None })
+pub lawful_fills : (c : Call) (k : KernelState) (value at : ℕ) (bytes : List ℕ) → IsSteady c.kernel k → StillRuns c k →
+    not (writable c at (length bytes)) ≡ false → IsLawful c (record (returns c value ▷ fills at bytes) { kernel = k })
 lawful_fills c k value at bytes same able reach =
-    lawful_by c (Back value) k (filled at bytes (returns c value).guest) tt same (λ can goes. able can) (filled_kept c (returns c value).guest at bytes (kept c []))
+    lawful_by c (Back value) k (returns c value ▷ fills at bytes).guest tt same (λ goes. able)
+    (filled_kept c (returns c value).guest at bytes (kept c []))
     (fill_fair c.tid at (length bytes) (writable_end c.memory at (length bytes) (not-false (writable c at (length bytes)) reach)))
 
--- a call that changes the pages and no thread
-pub lawful_remaps : (c : Call) (k : KernelState) (value : ℕ) (m : Memory) → map (λ t. t.tid) k.threads ≡ map (λ t. t.tid) c.kernel.threads → k.last_tid ≡ c.kernel.last_tid →
-    (can_run c.kernel c.tid ≡ true → can_run k c.tid ≡ true) → (IsBreakFree c.memory c.kernel.program_break → IsBreakFree m k.program_break) →
-    IsLawful c (record { answer = Back value; kernel = k; guest = record { memory = m; held = c.held; events = [] }; out = None })
-lawful_remaps c k value m tids last able free = calm_lawful c (record { answer = Back value; kernel = k; guest = record { memory = m; held = c.held; events = [] }; out = None }) (record {
+-- a call that changes the pages, and in the kernel at most the break
+pub lawful_remaps : (c : Call) (value b : ℕ) (m : Memory) →
+    (IsBreakFree c.memory c.kernel.program_break → IsBreakFree m b) →
+    IsLawful c (returns c value ▷ changes (λ k. record k { program_break = b }) ▷ remaps (λ _. m))
+lawful_remaps c value b m free = calm_lawful c _ (record {
   stays = tt;
-  tids = tids;
-  last = last;
-  able = λ can goes. able can;
+  threads = refl;
+  last = refl;
+  able = λ can goes. can;
   held = λ q some. some;
   free = free;
   fair = none_fair c.tid;
   silent = λ no_write no_writev. refl;
 })
 
-pub lawful_either : (c : Call) (b : Bool) (one other : CallResult → CallResult) (r : CallResult) → IsLawful c (one r) → IsLawful c (other r) → IsLawful c (either b one other r)
+pub lawful_either : (c : Call) (b : Bool) (one other : CallResult → CallResult) (r : CallResult) →
+    IsLawful c (one r) → IsLawful c (other r) → IsLawful c (either b one other r)
 lawful_either c true one other r here there = here
 lawful_either c false one other r here there = there
 
@@ -240,10 +250,13 @@ all_failed : (tests : List (Bool × ℕ)) → first_answer tests ≡ None → Ar
 all_failed [] passed = tt
 all_failed (t ∷ tests) passed = let one = failed t.0 t.1 (first_answer tests) passed in (one.0, all_failed tests one.1)
 
-lawful_answered : (c : Call) (o : Option ℕ) (effect : Unit {0} → CallResult) → (o ≡ None → IsLawful c (effect tt)) → IsLawful c (answered_or o c effect)
+lawful_answered : (c : Call) (o : Option ℕ) (effect : Unit {0} → CallResult) →
+    (o ≡ None → IsLawful c (effect tt)) → IsLawful c (answered_or o c effect)
 lawful_answered c None effect done = done refl
 lawful_answered c (Some value) effect done = lawful_returns c value
 
 -- a call with tests is refused, or all its tests fail
-pub lawful_unless : (c : Call) (tests : List (Bool × ℕ)) (effect : Unit {0} → CallResult) → (AreFailed tests → IsLawful c (effect tt)) → IsLawful c (unless c tests effect)
-lawful_unless c tests effect done = lawful_answered c (first_answer tests) effect (λ passed. done (all_failed tests passed))
+pub lawful_unless : (c : Call) (tests : List (Bool × ℕ)) (effect : Unit {0} → CallResult) →
+    (AreFailed tests → IsLawful c (effect tt)) → IsLawful c (unless c tests effect)
+lawful_unless c tests effect done =
+    lawful_answered c (first_answer tests) effect (λ passed. done (all_failed tests passed))

@@ -29,6 +29,10 @@ abbrev pub GivesNumber : Answer → KernelState → KernelState → Type 0
 GivesNumber (Born child registers) old new = (child ≡ old.last_tid + 1) × (new.last_tid ≡ child) × (is_full old ≡ false)
 GivesNumber _ old new = new.last_tid ≡ old.last_tid
 
+-- the numbers of the live threads
+abbrev pub tids : KernelState → List ℕ
+tids k = map (λ t. t.tid) k.threads
+
 -- the threads after an answer
 abbrev pub tids_after : Answer → ℕ → List ℕ → List ℕ
 tids_after ThreadEnd tid ts = filter (λ n. not (n == tid)) ts
@@ -65,9 +69,10 @@ pub record IsLawful (c : Call) (r : CallResult) : Type 0 where
   -- each event is a copy for the calling thread
   pub copies : AreCopies c.tid r.guest.events
   -- where no page from the break up to the limit is mapped, none is afterwards
-  pub break_free : IsBreakFree c.memory c.kernel.program_break → IsBreakFree r.guest.memory r.kernel.program_break
+  pub break_free :
+      IsBreakFree c.memory c.kernel.program_break → IsBreakFree r.guest.memory r.kernel.program_break
   pub numbers : GivesNumber r.answer c.kernel r.kernel
-  pub threads : map (λ t. t.tid) r.kernel.threads ≡ tids_after r.answer c.tid (map (λ t. t.tid) c.kernel.threads)
+  pub threads : tids r.kernel ≡ tids_after r.answer c.tid (tids c.kernel)
   pub holders : HoldersLive c.held c.kernel → HoldersLive r.guest.held r.kernel
   pub begins : BeginsBehind c.registers.pc r.answer
   pub byte : EndsWithByte r.answer

@@ -24,17 +24,20 @@ went_goes_on ThreadEnd went = absurd (cc)
 went_goes_on (ProcessEnd status) went = absurd (cc)
 went_goes_on (Born child registers) went = refl
 
-effect_able : (m : MachineState) (tid : ℕ) (i : Instr) (given : Outcome × ExecState) → can_run m tid ≡ true → (after_effect m tid i given).outcome ≡ Went → can_run (after_effect m tid i given).machine tid ≡ true
+effect_able : (m : MachineState) (tid : ℕ) (i : Instr) (given : Outcome × ExecState) → can_run m tid ≡ true →
+    (after_effect m tid i given).outcome ≡ Went → can_run (after_effect m tid i given).machine tid ≡ true
 effect_able m tid i (outcome.Went accessed, c) can goes = can
 effect_able m tid i (outcome.Fault kind, c) can goes = absurd (cc)
 effect_able m tid i (outcome.KernelCall, c) can goes =
     let made = call_of (later m) tid in
     (every_call_is_lawful made).able can (went_goes_on (call made).answer goes)
 
-executed_able : (m : MachineState) (tid : ℕ) (found : Result Instr FaultKind) → can_run m tid ≡ true → (executed m tid found).outcome ≡ Went → can_run (executed m tid found).machine tid ≡ true
+executed_able : (m : MachineState) (tid : ℕ) (found : Result Instr FaultKind) → can_run m tid ≡ true →
+    (executed m tid found).outcome ≡ Went → can_run (executed m tid found).machine tid ≡ true
 executed_able m tid (Ok i) can goes = effect_able m tid i (effect tid i (exec_state_of m tid)) can goes
 executed_able m tid (Err kind) can goes = absurd (cc)
 
-pub step_able : (m : MachineState) (tid : ℕ) → can_run m tid ≡ true → (step m tid).outcome ≡ Went → can_run (step m tid).machine tid ≡ true
+pub step_able : (m : MachineState) (tid : ℕ) → can_run m tid ≡ true → (step m tid).outcome ≡ Went →
+    can_run (step m tid).machine tid ≡ true
 unfolding step
 step_able m tid can goes = executed_able m tid (next_instruction m tid) can goes
