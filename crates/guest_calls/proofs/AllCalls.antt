@@ -1,33 +1,73 @@
--- What holds of each call of the table holds of every call.
-use Rattle.std.proofs.Common.{◌≡◌, ℕ, Bool, true, false, cond, List, [], ◌∷◌, Option, Some, None, refl}
+-- Every call is lawful, since each row of the table is.
+use Rattle.std.proofs.Common.{◌≡◌, ℕ, Bool, true, false, cond, List, [], ◌∷◌, refl, sym, ◌∙◌}
 use Rattle.std.specs.Prelude.{◌==◌}
-use Rattle.guest_calls.specs.Errors.{enosys}
-use Rattle.guest_calls.specs.Results.{Call, CallResult, answered_or, first_answer, number, returns, unless}
-use Rattle.guest_calls.specs.Table.{table, call, call_numbered, always}
+use Rattle.std.proofs.lemmas.Bool.{eqb-true}
+use Rattle.guest_calls.specs.Errors.{enosys, enotty}
+use Rattle.guest_calls.specs.Laws.{EveryCallIsLawful}
+use Rattle.guest_calls.specs.Lawful.{IsLawful}
+use Rattle.guest_calls.specs.Results.{Call, CallResult, number}
+use Rattle.guest_calls.specs.Table.{call, call_numbered, table}
+use Rattle.guest_calls.proofs.ClockCalls.{clock_gettime_is_lawful, clock_nanosleep_is_lawful}
+use Rattle.guest_calls.proofs.CloneCall.{clone_is_lawful}
+use Rattle.guest_calls.proofs.FileCalls.{close_is_lawful, llseek_is_lawful, openat_is_lawful, read_is_lawful, write_is_lawful}
+use Rattle.guest_calls.proofs.FutexCall.{futex_is_lawful}
+use Rattle.guest_calls.proofs.Lawful.{lawful_returns}
+use Rattle.guest_calls.proofs.PageCalls.{brk_is_lawful, mmap2_is_lawful, mprotect_is_lawful, munmap_is_lawful}
+use Rattle.guest_calls.proofs.ThreadCalls.{exit_group_is_lawful, exit_is_lawful, rt_sigprocmask_is_lawful, sched_yield_is_lawful, set_tid_address_is_lawful}
+use Rattle.guest_calls.proofs.VectorCalls.{readv_is_lawful, writev_is_lawful}
 
-abbrev pub OfCalls : (Call → CallResult → Type 0) → (Call → CallResult) → Type 0
-OfCalls P what = (c : Call) → P c (what c)
+-- the call of each row is lawful where it is made by its number
+abbrev AreLawful : List (ℕ × (Call → CallResult)) → Type 0
+AreLawful [] = Unit {0}
+AreLawful (row ∷ rows) = ((c : Call) → number c ≡ row.0 → IsLawful c (row.1 c)) × AreLawful rows
 
-abbrev pub OfRows : (Call → CallResult → Type 0) → List (ℕ × (Call → CallResult)) → Type 0
-OfRows P [] = Unit {0}
-OfRows P (row ∷ rows) = OfCalls P row.1 × OfRows P rows
+infixr 4 ◌and◌
+◌and◌ : {P Q : Type 0} → P → Q → P × Q
+first and others = (first, others)
 
-of_cond : (P : Call → CallResult → Type 0) (b : Bool) (one other : Call → CallResult) → OfCalls P one → OfCalls P other → OfCalls P (cond b one other)
-of_cond P true one other here there = here
-of_cond P false one other here there = there
+-- Each call of the table, in its order.
+each_is_lawful : AreLawful table
+unfolding table
+each_is_lawful =
+    (λ c is. lawful_returns c enotty)
+    and (λ c is. openat_is_lawful c)
+    and (λ c is. close_is_lawful c)
+    and (λ c is. llseek_is_lawful c)
+    and (λ c is. read_is_lawful c)
+    and write_is_lawful
+    and (λ c is. readv_is_lawful c)
+    and writev_is_lawful
+    and (λ c is. exit_is_lawful c)
+    and (λ c is. exit_group_is_lawful c)
+    and (λ c is. set_tid_address_is_lawful c)
+    and (λ c is. lawful_returns c 0)
+    and (λ c is. sched_yield_is_lawful c)
+    and (λ c is. lawful_returns c 0)
+    and (λ c is. rt_sigprocmask_is_lawful c)
+    and (λ c is. lawful_returns c 1)
+    and (λ c is. lawful_returns c c.tid)
+    and (λ c is. brk_is_lawful c)
+    and (λ c is. munmap_is_lawful c)
+    and (λ c is. clone_is_lawful c)
+    and (λ c is. mmap2_is_lawful c)
+    and (λ c is. mprotect_is_lawful c)
+    and (λ c is. lawful_returns c 0)
+    and (λ c is. clock_gettime_is_lawful c)
+    and (λ c is. clock_nanosleep_is_lawful c)
+    and (λ c is. futex_is_lawful c)
+    and tt
 
-pub of_numbered : (P : Call → CallResult → Type 0) (n : ℕ) (rows : List (ℕ × (Call → CallResult))) → OfRows P rows → OfCalls P (always enosys) → OfCalls P (call_numbered n rows)
-of_numbered P n [] each unknown = unknown
-of_numbered P n (row ∷ rows) each unknown = of_cond P (row.0 == n) row.1 (call_numbered n rows) each.0 (of_numbered P n rows each.1 unknown)
+by_test : (c : Call) (m n : ℕ) (b : Bool) (one other : Call → CallResult) → (m == n) ≡ b → number c ≡ n →
+    (number c ≡ m → IsLawful c (one c)) → IsLawful c (other c) → IsLawful c (cond b one other c)
+by_test c m n true one other same is here there = here (is ∙ sym (eqb-true m n same))
+by_test c m n false one other same is here there = there
 
-pub of_every_call : (P : Call → CallResult → Type 0) → OfRows P table → OfCalls P (always enosys) → OfCalls P call
+numbered_is_lawful : (c : Call) (n : ℕ) (rows : List (ℕ × (Call → CallResult))) →
+    number c ≡ n → AreLawful rows → IsLawful c (call_numbered n rows c)
+numbered_is_lawful c n [] is each = lawful_returns c enosys
+numbered_is_lawful c n (row ∷ rows) is each =
+    by_test c row.0 n (row.0 == n) row.1 (call_numbered n rows) refl is (each.0 c) (numbered_is_lawful c n rows is each.1)
+
+pub every_call_is_lawful : EveryCallIsLawful
 unfolding call
-of_every_call P each unknown c = of_numbered P (number c) table each unknown c
-
-of_answered : (P : Call → CallResult → Type 0) (c : Call) (o : Option ℕ) (effect : Unit {0} → CallResult) → ((value : ℕ) → P c (returns c value)) → (o ≡ None → P c (effect tt)) → P c (answered_or o c effect)
-of_answered P c None effect refused done = done refl
-of_answered P c (Some value) effect refused done = refused value
-
--- a call with tests is refused, or all its tests fail
-pub of_unless : (P : Call → CallResult → Type 0) (c : Call) (tests : List (Bool × ℕ)) (effect : Unit {0} → CallResult) → ((value : ℕ) → P c (returns c value)) → (first_answer tests ≡ None → P c (effect tt)) → P c (unless c tests effect)
-of_unless P c tests effect refused done = of_answered P c (first_answer tests) effect refused done
+every_call_is_lawful c = numbered_is_lawful c (number c) table refl each_is_lawful

@@ -66,7 +66,7 @@ cleared_tid : (b : Bool) (t u : Thread) → u.tid ≡ t.tid → (cond b u t).tid
 cleared_tid true t u same = same
 cleared_tid false t u same = refl
 
-tid_kept : (tid at : ℕ) (t : Thread) → (with_clear_tid tid at t).tid ≡ t.tid
+pub tid_kept : (tid at : ℕ) (t : Thread) → (with_clear_tid tid at t).tid ≡ t.tid
 tid_kept tid at t = cleared_tid (is_thread tid t) t (record t { clear_tid = at }) refl
 
 cleared_rises : (tid at low : ℕ) (ts : List Thread) (last : ℕ) → RisesTo low ts last → RisesTo low (map (with_clear_tid tid at) ts) last

@@ -4,27 +4,18 @@ use Rattle.std.specs.Option.{option_map_or}
 use Rattle.guest_memory.specs.declared.memory.GuestMemory.{GuestMemory}
 use Rattle.guest_memory.specs.declared.reservations.Reservations.{Reservations}
 use Rattle.trace_model.specs.EventList.{EventList}
-use Rattle.guest_calls.specs.declared.answer.Answer.TheVariants.{Back, Yield}
+use Rattle.guest_calls.specs.declared.answer.Answer.TheVariants.{Back}
 use Rattle.guest_calls.specs.declared.caller.Caller.{Caller}
 use Rattle.guest_calls.specs.declared.operation.Operation.{Operation}
 use Rattle.guest_calls.specs.Errors.{enosys}
 use Rattle.guest_calls.specs.Futex.{futex, futex_by, futex_tests, operation, performed}
 use Rattle.guest_calls.specs.Kernel.{KernelState}
 use Rattle.guest_calls.specs.Outcome.{asked, Does}
-use Rattle.guest_calls.specs.Results.{Call, answered_or, answers, first_answer, returns, ◌▷◌}
+use Rattle.guest_calls.specs.Results.{Call, answered_or, first_answer, returns}
 
 -- nothing is done, and this is answered
 pub does_nothing : (caller : Caller) (state : KernelState) (memory : GuestMemory) (held : Reservations) (events : EventList) (value : ℕ) → Does (returns (asked caller state memory held) value) (Back value) state memory held events events
 does_nothing caller state memory held events value = record {
-  answered = refl;
-  state_is = refl;
-  memory_is = refl;
-  held_is = refl;
-  events = sym (append-nil events.list);
-}
-
-pub does_yield : (caller : Caller) (state : KernelState) (memory : GuestMemory) (held : Reservations) (events : EventList) → Does (returns (asked caller state memory held) 0 ▷ answers Yield) Yield state memory held events events
-does_yield caller state memory held events = record {
   answered = refl;
   state_is = refl;
   memory_is = refl;

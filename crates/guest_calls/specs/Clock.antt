@@ -24,8 +24,11 @@ time_bytes time = to_le_bytes w64 (time / 10 ^ 9) ++ to_le_bytes w32 (time % 10 
 abbrev pub clock_gettime_tests : Call → List (Bool × ℕ)
 clock_gettime_tests c = not (is_clock (arg c 0)) ⇒ einval or not (writable c (arg c 1) time_size) ⇒ efault
 
+abbrev pub clock_gettime_effect : Call → CallResult
+clock_gettime_effect c = returns c 0 ▷ fills (arg c 1) (time_bytes c.kernel.time)
+
 abbrev pub clock_gettime : Call → CallResult
-clock_gettime c = unless c (clock_gettime_tests c) λ _. returns c 0 ▷ fills (arg c 1) (time_bytes c.kernel.time)
+clock_gettime c = unless c (clock_gettime_tests c) λ _. clock_gettime_effect c
 
 -- ---- times that are read
 -- the greatest signed number of 64 bits: no time and no deadline is later

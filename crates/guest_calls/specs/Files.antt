@@ -100,8 +100,11 @@ abbrev pub openat : Call → CallResult
 openat c = unless c (openat_tests c) λ _. openat_effect c
 
 -- ---- close
+abbrev pub close_tests : Call → List (Bool × ℕ)
+close_tests c = is_closed (descriptor c.kernel (arg c 0)) ⇒ ebadf
+
 abbrev pub close : Call → CallResult
-close c = unless c (is_closed (descriptor c.kernel (arg c 0)) ⇒ ebadf) λ _. returns c 0 ▷ sets (arg c 0) Closed
+close c = unless c (close_tests c) λ _. returns c 0 ▷ sets (arg c 0) Closed
 
 -- ---- _llseek
 -- what an offset is counted from: the start 0, the position 1 or the end 2
@@ -131,32 +134,55 @@ llseek_tests c =
     or is_out_of_range (target c.kernel file (arg c 1) (arg c 2) (arg c 4)) ⇒ einval
     or not (writable c (arg c 3) 8) ⇒ efault
 
-abbrev pub llseek : Call → CallResult
-llseek c =
+abbrev pub llseek_effect : Call → CallResult
+llseek_effect c =
     let file = descriptor c.kernel (arg c 0) in
     let position = unsigned_abs (target c.kernel file (arg c 1) (arg c 2) (arg c 4)) in
-    unless c (llseek_tests c)
-    λ _. returns c 0 ▷ sets (arg c 0) (with_position file position) ▷ fills (arg c 3) (to_le_bytes w64 position)
+    returns c 0 ▷ sets (arg c 0) (with_position file position) ▷ fills (arg c 3) (to_le_bytes w64 position)
 
--- ---- read and write
+abbrev pub llseek : Call → CallResult
+llseek c = unless c (llseek_tests c) λ _. llseek_effect c
+
+-- ---- read
+-- the bytes that are read
+abbrev pub read_bytes : Call → List ℕ
+read_bytes c = take (arg c 2) (bytes_left c.kernel (descriptor c.kernel (arg c 0)))
+
+abbrev pub read_tests : Call → List (Bool × ℕ)
+read_tests c =
+    not (is_source (descriptor c.kernel (arg c 0))) ⇒ ebadf
+    or not (writable c (arg c 1) (length (read_bytes c))) ⇒ efault
+
+abbrev pub read_effect : Call → CallResult
+read_effect c =
+    let n = length (read_bytes c) in
+    returns c n
+    ▷ fills (arg c 1) (read_bytes c)
+    ▷ changes (advanced (descriptor c.kernel (arg c 0)) (arg c 0) n)
+
+abbrev pub read : Call → CallResult
+read c = unless c (read_tests c) λ _. read_effect c
+
+-- ---- write
 -- the most bytes that one call writes
 abbrev pub write_limit : ℕ
 write_limit = 65536
 
-abbrev pub read : Call → CallResult
-read c =
-    let file = descriptor c.kernel (arg c 0) in
-    let bytes = take (arg c 2) (bytes_left c.kernel file) in
-    unless c (
-    not (is_source file) ⇒ ebadf
-    or not (writable c (arg c 1) (length bytes)) ⇒ efault
-    ) λ _. returns c (length bytes) ▷ fills (arg c 1) bytes ▷ changes (advanced file (arg c 0) (length bytes))
+-- how many bytes are written
+abbrev pub write_count : Call → ℕ
+write_count c = min (arg c 2) write_limit
+
+abbrev pub write_tests : Call → List (Bool × ℕ)
+write_tests c =
+    is_none (channel (descriptor c.kernel (arg c 0))) ⇒ ebadf
+    or not (readable c (arg c 1) (write_count c)) ⇒ efault
+
+abbrev pub write_effect : Call → CallResult
+write_effect c =
+    let n = write_count c in
+    returns c n
+    ▷ reads c.tid (arg c 1) n
+    ▷ puts (unwrap_or (channel (descriptor c.kernel (arg c 0))) 0) (bytes_at c.memory (arg c 1) n)
 
 abbrev pub write : Call → CallResult
-write c =
-    let out = channel (descriptor c.kernel (arg c 0)) in
-    let n = min (arg c 2) write_limit in
-    unless c (
-    is_none out ⇒ ebadf
-    or not (readable c (arg c 1) n) ⇒ efault
-    ) λ _. returns c n ▷ reads c.tid (arg c 1) n ▷ puts (unwrap_or out 0) (bytes_at c.memory (arg c 1) n)
+write c = unless c (write_tests c) λ _. write_effect c

@@ -7,6 +7,7 @@ pub mod Futex
 pub mod Inputs
 pub mod Invariant
 pub mod Kernel
+pub mod Lawful
 pub mod Laws
 pub mod Outcome
 pub mod Pages

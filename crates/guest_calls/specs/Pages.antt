@@ -61,8 +61,11 @@ munmap_tests c =
     or arg c 1 == 0 ⇒ einval
     or nat_lt (2 ^ 20) (arg c 0 / 4096 + pages (arg c 1)) ⇒ einval
 
+abbrev pub munmap_effect : Call → CallResult
+munmap_effect c = returns c 0 ▷ unmaps (arg c 0 / 4096) (pages (arg c 1))
+
 abbrev pub munmap : Call → CallResult
-munmap c = unless c (munmap_tests c) λ _. returns c 0 ▷ unmaps (arg c 0 / 4096) (pages (arg c 1))
+munmap c = unless c (munmap_tests c) λ _. munmap_effect c
 
 -- ---- mmap2
 -- each of so many pages is mapped
@@ -94,11 +97,14 @@ mmap2_tests c =
     or is_none (first_fit c.memory count) ⇒ enomem
     or nat_lt PAGES (mapped_pages c.memory + count) ⇒ enomem
 
-abbrev pub mmap2 : Call → CallResult
-mmap2 c =
+abbrev pub mmap2_effect : Call → CallResult
+mmap2_effect c =
     let count = pages (arg c 1) in
     let page = unwrap_or (first_fit c.memory count) 0 in
-    unless c (mmap2_tests c) λ _. returns c (page * 4096) ▷ maps page count (rights_of (arg c 2))
+    returns c (page * 4096) ▷ maps page count (rights_of (arg c 2))
+
+abbrev pub mmap2 : Call → CallResult
+mmap2 c = unless c (mmap2_tests c) λ _. mmap2_effect c
 
 -- ---- mprotect
 abbrev pub mprotect_tests : Call → List (Bool × ℕ)
@@ -108,7 +114,9 @@ mprotect_tests c =
     or nat_lt (2 ^ 32) (arg c 0 + arg c 1) ⇒ enomem
     or not (are_mapped c.memory (arg c 0 / 4096) (pages (arg c 1))) ⇒ enomem
 
+abbrev pub mprotect_effect : Call → CallResult
+mprotect_effect c =
+    returns c 0 ▷ remaps (λ m. with_rights m (arg c 0 / 4096) (pages (arg c 1)) (rights_of (arg c 2)))
+
 abbrev pub mprotect : Call → CallResult
-mprotect c =
-    unless c (mprotect_tests c)
-    λ _. returns c 0 ▷ remaps (λ m. with_rights m (arg c 0 / 4096) (pages (arg c 1)) (rights_of (arg c 2)))
+mprotect c = unless c (mprotect_tests c) λ _. mprotect_effect c

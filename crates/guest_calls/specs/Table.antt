@@ -73,8 +73,3 @@ call_numbered n (row ∷ rows) = if row.0 == n then row.1 else call_numbered n r
 -- what a call of the kernel answers and does
 unfoldable pub call : Call → CallResult
 call c = call_numbered (number c) table c
-
--- for a number that no other call's arm takes: what a call that does nothing answers, and each unknown one
-abbrev pub constant_answer : ℕ → ℕ
-constant_answer n =
-    if 29 == n then enotty else (if 99 == n then 0 else (if 134 == n then 0 else (if 172 == n then 1 else (if 233 == n then 0 else enosys))))

@@ -1,5 +1,5 @@
 -- The calls on threads and the process: exit(2), exit_group(2), set_tid_address(2), sched_yield(2), rt_sigprocmask(2).
-use Rattle.std.specs.Prelude.{ℕ, ◌%◌, ◌^◌, Bool, not, ◌&&◌, ◌==◌, [], map, replicate, if◌then◌else◌}
+use Rattle.std.specs.Prelude.{ℕ, ◌%◌, ◌^◌, Bool, not, ◌&&◌, ◌==◌, List, [], map, replicate, if◌then◌else◌}
 use Rattle.std.specs.List.{find}
 use Rattle.std.specs.Option.{option_map_or}
 use Rattle.guest_memory.specs.Reserved.{nothing_reserved}
@@ -62,9 +62,12 @@ set_tid_address c =
 abbrev pub sched_yield : Call → CallResult
 sched_yield c = returns c 0 ▷ answers Yield
 
+abbrev pub rt_sigprocmask_tests : Call → List (Bool × ℕ)
+rt_sigprocmask_tests c = not (arg c 2 == 0) && not (writable c (arg c 2) 8) ⇒ efault
+
 -- no signal is ever blocked: the old set is empty
+abbrev pub rt_sigprocmask_effect : Call → CallResult
+rt_sigprocmask_effect c = returns c 0 ▷ when (not (arg c 2 == 0)) (fills (arg c 2) (replicate 8 0))
+
 abbrev pub rt_sigprocmask : Call → CallResult
-rt_sigprocmask c =
-    let old = arg c 2 in
-    unless c (not (old == 0) && not (writable c old 8) ⇒ efault)
-    λ _. returns c 0 ▷ when (not (old == 0)) (fills old (replicate 8 0))
+rt_sigprocmask c = unless c (rt_sigprocmask_tests c) λ _. rt_sigprocmask_effect c

@@ -31,6 +31,4 @@ mod writes;
 pub use answer::Answer;
 pub use inputs::Inputs;
 pub use kernel::Kernel;
-pub use laws::{
-    every_call_is_light, every_call_is_traced, every_call_keeps_the_break_free, wakes_exactly,
-};
+pub use laws::{every_call_is_lawful, wakes_exactly};

@@ -1,10 +1,11 @@
 //! The calls by their numbers on riscv32.
 ghost use Rattle.std.specs.Prelude.{◌≡◌, ◌≢◌, ◌≤◌, ◌+◌, true, IfOk, OnErr, slice_index};
 ghost use Rattle.guest_memory.specs.Guest.{memory_of};
+ghost use Rattle.guest_calls.specs.declared.answer.Answer.TheVariants.{Back};
 ghost use Rattle.guest_calls.specs.Kernel.{can_run};
 ghost use Rattle.guest_calls.specs.Outcome.{asked, Does, IsUntouched};
 ghost use Rattle.guest_calls.specs.Pages.{IsBreakFree};
-ghost use Rattle.guest_calls.specs.Table.{call, constant_answer};
+ghost use Rattle.guest_calls.specs.Table.{call};
 
 use crate::Answer;
 use crate::caller::Caller;
@@ -21,20 +22,16 @@ pub(crate) const WRITE: u32 = 64;
 
 pub(crate) const WRITEV: u32 = 66;
 
-/// What a call answers that does nothing: ioctl, set_robust_list, rt_sigaction, getpid, madvise, and each unknown one.
-fn constant_answer(number: u32) -> u32
-    ensures { result ≡ constant_answer number }
+/// The call does nothing, and this is answered.
+fn always(value: u32) -> Answer
+    ensures { result ≡ Back value }
 {
-    match number {
-        29 => ENOTTY,
-        99 | 134 | 233 => 0,
-        172 => 1,
-        _ => ENOSYS,
-    }
+    Answer::Back { value }
 }
 
 impl State {
     /// Carries out a call that writes to no channel.
+    #[tactic(auto, using(crate::proofs::Rows::call_is, crate::proofs::Rows::none_added), unfolding(crate::specs::Table::table))]
     pub(crate) fn call(
         &mut self,
         memory: &mut GuestMemory,
@@ -55,6 +52,8 @@ impl State {
         ensures room { events.old.room ≤ events.new.room + CALL_EVENTS }
     {
         match caller.number() {
+            // ioctl
+            29 => Ok(always(ENOTTY)),
             56 => Ok(self.openat(memory, events, caller)),
             57 => Ok(self.close(caller)),
             62 => Ok(self.llseek(memory, held, events, caller)),
@@ -63,22 +62,28 @@ impl State {
             93 => Ok(self.exit(memory, held, events, caller)),
             94 => Ok(self.exit_group(held, caller)),
             96 => Ok(self.set_tid_address(caller)),
+            // set_robust_list
+            99 => Ok(always(0)),
+            // sched_yield
             124 => Ok(Answer::Yield),
+            // rt_sigaction
+            134 => Ok(always(0)),
             135 => Ok(rt_sigprocmask(memory, held, events, caller)),
-            178 => Ok(Answer::Back {
-                value: caller.tid.number(),
-            }),
+            // getpid
+            172 => Ok(always(1)),
+            // gettid
+            178 => Ok(always(caller.tid.number())),
             214 => self.brk(memory, caller),
             215 => Ok(munmap(memory, caller)),
             220 => Ok(self.clone_thread(memory, held, events, caller)),
             222 => mmap2(memory, caller),
             226 => Ok(mprotect(memory, caller)),
+            // madvise
+            233 => Ok(always(0)),
             403 => Ok(self.clock_gettime(memory, held, events, caller)),
             407 => Ok(self.clock_nanosleep(memory, events, caller)),
             422 => Ok(self.futex(memory, events, caller)),
-            number => Ok(Answer::Back {
-                value: constant_answer(number),
-            }),
+            _ => Ok(always(ENOSYS)),
         }
     }
 }

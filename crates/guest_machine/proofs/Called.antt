@@ -14,13 +14,13 @@ use Rattle.guest_memory.specs.Memory.{Memory}
 use Rattle.guest_memory.specs.Reserved.{Reserved}
 use Rattle.guest_calls.specs.Kernel.{KernelState}
 use Rattle.guest_calls.specs.Invariant.{IsState, RisesTo}
-use Rattle.guest_calls.specs.Laws.{GivesNumber}
+use Rattle.guest_calls.specs.Lawful.{BeginsBehind, GivesNumber, tids_after}
 use Rattle.guest_calls.specs.declared.thread.Thread.{Thread}
 use Rattle.guest_words.specs.ByThread.{numbers}
 use Rattle.std.proofs.lemmas.List.Elements.{All-cons, All-nil, All-same}
 use Rattle.guest_calls.specs.Pages.{IsBreakFree}
 use Rattle.guest_calls.specs.Results.{CallResult}
-use Rattle.guest_calls.proofs.Numbers.{every_call_numbers}
+use Rattle.guest_calls.proofs.AllCalls.{every_call_is_lawful}
 use Rattle.guest_calls.specs.Table.{call}
 use Rattle.guest_machine.specs.declared.stepped.Stepped.{Stepped}
 use Rattle.guest_machine.specs.Kept.{Parts, Steps, machine_of}
@@ -28,7 +28,6 @@ use Rattle.guest_calls.proofs.Times.{later_is_state}
 use Rattle.guest_machine.specs.Machine.{Hart, MachineState, later, registers_of, with_registers, without_hart}
 use Rattle.guest_machine.specs.Sound.{IsSound, OfEachPc}
 use Rattle.guest_machine.specs.Step.{after_call, call_of, harts_after, life_events, resumed, stepped_by}
-use Rattle.guest_machine.proofs.Calls.{BeginsBehind, call_lawful, tids_after}
 use Rattle.guest_machine.proofs.Registers.{each-append, each-with_registers, each-without, pc_of_each, tids-with_registers}
 use Rattle.rv_exec.proofs.CallerLemmas.{next_aligned}
 
@@ -80,7 +79,7 @@ sound-later m sound = record {
 pub sound-called : (m : MachineState) (tid : ℕ) → IsSound m → IsState (call (call_of m tid)).kernel → IsBreakFree (call (call_of m tid)).guest.memory (call (call_of m tid)).kernel.program_break → IsSound (after_call m tid (call (call_of m tid))).machine
 sound-called m tid sound state free =
     let r = call (call_of m tid) in
-    let lawful = call_lawful (call_of m tid) in
+    let lawful = every_call_is_lawful (call_of m tid) in
     record {
       same_threads = after_tids r.answer m.harts tid (registers_of m.harts tid) ∙ ap (tids_after r.answer tid) sound.same_threads ∙ sym lawful.threads;
       aligned = after_each (λ pc. pc % 4 ≡ 0) refl next_aligned r.answer m.harts tid sound.aligned lawful.begins;
@@ -93,7 +92,7 @@ sound-called m tid sound state free =
 pub born_room : (m : MachineState) (tid : ℕ) (child : ℕ) (registers : Registers) → IsSound m → IsState (call (call_of m tid)).kernel → (call (call_of m tid)).answer ≡ Born child registers → length m.harts < THREADS
 born_room m tid child registers sound state is =
     let r = call (call_of m tid) in
-    let lawful = call_lawful (call_of m tid) in
+    let lawful = every_call_is_lawful (call_of m tid) in
     let grown : map (λ t. t.tid) r.kernel.threads ≡ map (λ t. t.tid) m.kernel.threads ++ child ∷ [] = lawful.threads ∙ ap (λ a. tids_after a tid (map (λ t. t.tid) m.kernel.threads)) is in
     let after : length r.kernel.threads ≡ length m.kernel.threads + 1 = sym (length-map r.kernel.threads (λ t. t.tid)) ∙ ap length grown ∙ length-append (map (λ t. t.tid) m.kernel.threads) (child ∷ []) ∙ ap (λ n. n + 1) (length-map m.kernel.threads (λ t. t.tid)) in
     let count : length m.harts ≡ length m.kernel.threads = sym (length-map m.harts (λ h. h.0)) ∙ ap length sound.same_threads ∙ length-map m.kernel.threads (λ t. t.tid) in
@@ -111,7 +110,7 @@ rises_below low (t ∷ threads) last child rising above =
 
 pub born_above : (m : MachineState) (tid child : ℕ) (registers : Registers) → IsSound m → (call (call_of m tid)).answer ≡ Born child registers → All (λ n. n < child) (numbers m.harts)
 born_above m tid child registers sound is =
-    let given = subst (λ a. GivesNumber a m.kernel (call (call_of m tid)).kernel) is (every_call_numbers (call_of m tid)) in
+    let given = subst (λ a. GivesNumber a m.kernel (call (call_of m tid)).kernel) is (every_call_is_lawful (call_of m tid)).numbers in
     All-same (λ n. n < child) (numbers m.harts) (map (λ t. t.tid) m.kernel.threads) sound.same_threads
     (rises_below 0 m.kernel.threads m.kernel.last_tid child sound.state.rising (omega (arith, given.0)))
 

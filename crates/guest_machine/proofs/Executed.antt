@@ -16,7 +16,8 @@ use Rattle.rv_exec.proofs.CallerLemmas.{effect_aligned, effect_calls, effect_kep
 use Rattle.guest_calls.specs.Kernel.{lives}
 use Rattle.guest_calls.proofs.Times.{later_is_state}
 use Rattle.guest_machine.specs.Machine.{Hart, MachineState, can_run, later, with_registers}
-use Rattle.guest_machine.specs.Sound.{IsSound, HoldersLive}
+use Rattle.guest_calls.specs.Lawful.{HoldersLive}
+use Rattle.guest_machine.specs.Sound.{IsSound}
 use Rattle.guest_machine.specs.Kept.{Parts, Steps, machine_of}
 use Rattle.guest_machine.specs.declared.stepped.Stepped.TheVariants as stepped
 use Rattle.guest_machine.specs.Step.{StepResult, pc_of, after_effect, exec_state_of, executed, faulted, went, with_exec_state}

@@ -14,7 +14,7 @@ use Rattle.guest_machine.specs.Machine.{Hart, MachineState, can_run, without_har
 use Rattle.guest_words.specs.ByThread.{value_of}
 use Rattle.guest_machine.specs.Sound.{IsSound}
 use Rattle.guest_machine.proofs.Registers.{lives_here}
-use Rattle.guest_machine.proofs.Calls.{any_thread}
+use Rattle.guest_calls.proofs.Lawful.{any_thread}
 
 -- a number among the threads, by the threads of the machine or of the kernel
 any_hart : (harts : List Hart) (tid : ℕ) → list_any (λ h. h.0 == tid) harts ≡ list_any (λ n. n == tid) (map (λ h. h.0) harts)

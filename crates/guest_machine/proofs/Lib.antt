@@ -2,7 +2,6 @@ mod Told
 pub mod Registers
 pub mod Holders
 pub mod Executed
-pub mod Calls
 pub mod Called
 pub mod ImagePages
 pub mod Stacks

@@ -26,16 +26,16 @@ use Rattle.trace_model.specs.declared.event_kinds.Event.TheVariants as events
 use Rattle.virtual_clock.specs.declared.deadline.Deadline.{Deadline}
 use Rattle.guest_calls.specs.declared.answer.Answer.{Answer}
 use Rattle.guest_calls.specs.declared.answer.Answer.TheVariants.{Back, Yield, Block, ThreadEnd, ProcessEnd, Born}
-use Rattle.guest_calls.specs.Laws.{AreCopies}
+use Rattle.guest_calls.specs.Lawful.{AreCopies}
 use Rattle.guest_calls.specs.Table.{call}
 use Rattle.guest_calls.specs.Waking.{next_due}
-use Rattle.guest_calls.proofs.CopyEvents.{every_call_copies}
+use Rattle.guest_calls.proofs.AllCalls.{every_call_is_lawful}
 use Rattle.guest_machine.specs.Laws.{EveryStepIsInRange, EveryWakingIsInRange, HaveAddresses, IsAddress, IsInRange, IsToldInRange, TellsAddresses}
 use Rattle.guest_machine.specs.Machine.{Hart, MachineState, later, registers_of}
 use Rattle.guest_machine.specs.Step.{access_events, after_effect, call_of, exec_state_of, executed, jump_events, life_events, next_instruction, pc_of, step, stepped_by}
 use Rattle.guest_machine.specs.Waking.{answered, one_woken, with_answer, woken, woken_times}
 use Rattle.guest_machine.proofs.Called.{after_each}
-use Rattle.guest_machine.proofs.Calls.{BeginsBehind, EndsWithByte, call_lawful}
+use Rattle.guest_calls.specs.Lawful.{BeginsBehind, EndsWithByte}
 use Rattle.guest_machine.proofs.Registers.{each-with_registers, pc_of_each}
 
 -- ---- the pc after an instruction
@@ -169,12 +169,12 @@ effect_in_range m tid i (outcome.Fault kind, c) all new = record { harts = all; 
 effect_in_range m tid i (outcome.KernelCall, c) all new =
     let made = call_of (later m) tid in
     let r = call made in
-    let lawful = call_lawful made in
+    let lawful = every_call_is_lawful made in
     record {
       harts = after_each IsAddress no_pc (λ pc low. behind pc) r.answer m.harts tid all lawful.begins;
       events = (
         tt,
-        tells-append r.guest.events _ (copies_tell tid r.guest.events (every_call_copies made)) (life_tells r.answer m.harts tid (pc_of m tid) lawful.begins),
+        tells-append r.guest.events _ (copies_tell tid r.guest.events lawful.copies) (life_tells r.answer m.harts tid (pc_of m tid) lawful.begins),
       );
       outcome = answer_told r.answer lawful.byte;
     }

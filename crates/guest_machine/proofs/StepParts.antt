@@ -23,10 +23,9 @@ use Rattle.trace_model.specs.Profile.{steps}
 use Rattle.trace_model.proofs.Parts.{part_weight}
 use Rattle.guest_calls.specs.declared.answer.Answer.{Answer}
 use Rattle.guest_calls.specs.declared.answer.Answer.TheVariants.{Back, Yield, Block, ThreadEnd, ProcessEnd, Born}
-use Rattle.guest_calls.specs.Laws.{AreCopies}
+use Rattle.guest_calls.specs.Lawful.{AreCopies}
 use Rattle.guest_calls.specs.Table.{call}
-use Rattle.guest_calls.proofs.CopyEvents.{every_call_copies}
-use Rattle.guest_calls.proofs.Weights.{every_call_has_few, every_call_light}
+use Rattle.guest_calls.proofs.AllCalls.{every_call_is_lawful}
 use Rattle.guest_machine.specs.declared.stepped.Stepped.{Stepped}
 use Rattle.guest_machine.specs.declared.stepped.Stepped.TheVariants.{Went, Yielded, Blocked, Ended, Finished, Faulted}
 use Rattle.guest_machine.specs.Laws.{EveryStepIsOnePart, IsOnePart}
@@ -78,10 +77,11 @@ call_few : (m : MachineState) (tid : ℕ) → AreFew (call (call_of (later m) ti
 call_few m tid =
     let c = call_of (later m) tid in
     let events = (call c).guest.events in
+    let lawful = every_call_is_lawful c in
     record {
-      stepless = copies_stepless tid events (every_call_copies c);
-      few = every_call_has_few c;
-      reads = fewer_words events 65535 (omega (arith, part_weight events, every_call_light c));
+      stepless = copies_stepless tid events lawful.copies;
+      few = lawful.few;
+      reads = fewer_words events 65535 (omega (arith, part_weight events, lawful.light));
     }
 
 -- ---- the other events of a step

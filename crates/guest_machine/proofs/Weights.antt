@@ -20,7 +20,7 @@ use Rattle.trace_model.specs.WellFormed.{weight}
 use Rattle.guest_calls.specs.declared.answer.Answer.{Answer}
 use Rattle.guest_calls.specs.declared.answer.Answer.TheVariants.{Back, Yield, Block, ThreadEnd, ProcessEnd, Born}
 use Rattle.guest_calls.specs.Table.{call}
-use Rattle.guest_calls.proofs.Weights.{every_call_light}
+use Rattle.guest_calls.proofs.AllCalls.{every_call_is_lawful}
 use Rattle.trace_model.proofs.Bounds.{weight-append}
 use Rattle.guest_machine.specs.Laws.{EveryStepIsLight}
 use Rattle.guest_machine.specs.Machine.{Hart, MachineState, later, registers_of, with_registers}
@@ -69,7 +69,7 @@ effect_weight m tid i (outcome.Fault kind, c) few = omega arith
 effect_weight m tid i (outcome.KernelCall, c) few =
     let r = call (call_of (later m) tid) in
     let both = weight-append r.guest.events (life_events r.answer m.harts tid) in
-    omega (arith, both, every_call_light (call_of (later m) tid), life_weight r.answer m.harts tid (registers_of m.harts tid))
+    omega (arith, both, (every_call_is_lawful (call_of (later m) tid)).light, life_weight r.answer m.harts tid (registers_of m.harts tid))
 
 executed_weight : (m : MachineState) (tid : ℕ) (found : Result Instr FaultKind) →
     weight (executed m tid found).events + length (executed m tid found).machine.harts ≤ 65540 + length m.harts

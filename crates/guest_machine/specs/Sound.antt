@@ -1,14 +1,9 @@
 -- What holds of a machine between steps.
-use Rattle.std.specs.Prelude.{◌≡◌, ℕ, ◌%◌, true, List, [], ◌∷◌, map, is_some}
-use Rattle.guest_memory.specs.Reserved.{Reserved}
+use Rattle.std.specs.Prelude.{◌≡◌, ℕ, ◌%◌, List, [], ◌∷◌, map}
 use Rattle.guest_calls.specs.Invariant.{IsState}
-use Rattle.guest_calls.specs.Kernel.{KernelState, lives}
+use Rattle.guest_calls.specs.Lawful.{HoldersLive}
 use Rattle.guest_calls.specs.Pages.{IsBreakFree}
 use Rattle.guest_machine.specs.Machine.{Hart, MachineState}
-
--- a thread that has a reservation lives
-abbrev pub HoldersLive : Reserved → KernelState → Type 0
-HoldersLive held kernel = (tid : ℕ) → is_some (held tid) ≡ true → lives kernel tid ≡ true
 
 -- this holds of the pc of each thread
 abbrev pub OfEachPc : (ℕ → Type 0) → List Hart → Type 0
