@@ -1,5 +1,5 @@
 -- A run that goes on, as the program makes it.
-use Rattle.std.specs.Prelude.{◌≡◌, ℕ, suc, ◌+◌, ◌<◌, ◌≤◌, Bool, true, List, [], ◌∷◌, ◌++◌, length, Option, Some, None, Result, Ok, Err, All}
+use Rattle.std.specs.Prelude.{◌≡◌, ℕ, suc, ◌+◌, ◌-◌, ◌<◌, ◌≤◌, Bool, true, false, List, [], ◌∷◌, ◌++◌, length, Option, Some, None, Result, Ok, Err, All}
 use Rattle.std.specs.declared.alloc.AllocError.{AllocError}
 use Rattle.guest_words.specs.declared.limits.TheConstants.{RUN_STEPS}
 use Rattle.guest_words.specs.declared.endings.Finish.{Finish}
@@ -9,17 +9,19 @@ use Rattle.trace_model.specs.Cut.{past_after}
 use Rattle.trace_model.specs.Parts.{IsShort, parts}
 use Rattle.trace_model.specs.Profile.{steps}
 use Rattle.trace_model.specs.WellFormed.{IsWellFormed}
-use Rattle.trace_model.specs.declared.observer.Observed.{Observed}
-use Rattle.trace_model.specs.declared.observer.Observed.TheVariants.{Refused, Taken}
 use Rattle.thread_sched.specs.TurnRule.{SchedulerState}
 use Rattle.guest_machine.specs.Kept.{Parts, machine_of}
 use Rattle.guest_machine.specs.Laws.{IsWithinLimits, StandsFor}
 use Rattle.guest_machine.specs.Machine.{MachineState}
+use Rattle.guest_run.specs.declared.run.KnownMoves.{KnownMoves}
 use Rattle.guest_run.specs.declared.run.Runner.{Runner}
 use Rattle.guest_run.specs.declared.run.Turned.{Turned}
 use Rattle.guest_run.specs.declared.run.Turned.TheVariants as turned
 use Rattle.guest_run.specs.declared.run_error.RunError.{RunError}
 use Rattle.guest_run.specs.declared.run_error.RunError.TheVariants.{CannotPut, Memory}
+use Rattle.guest_run.specs.declared.stepper.Stepper.{Stepper}
+use Rattle.guest_run.specs.declared.turns.CurrentTurn.{CurrentTurn}
+use Rattle.guest_run.specs.declared.turns.Recorder.{Recorder}
 use Rattle.guest_run.specs.CurrentTurn.{IsUnderWay, position, recorded}
 use Rattle.guest_run.specs.Machine.{guest}
 use Rattle.guest_run.specs.Output.{Sinks, with_output}
@@ -128,20 +130,14 @@ MakesAMove Stands fits old observed now new observer after result =
     → IsGoing Stands fits first start moves old observed → length moves < RUN_STEPS → now ≡ with_output moves before
     → Advances Stands fits first start moves before new observer after result
 
--- The same run stands there: of the machine only what no definition sees is another.
-pub record IsSameRun (old new : Runner) : Type 0 where
-  pub machine : machine_of new.stepper.machine ≡ machine_of old.stepper.machine
-  pub turn : new.turn ≡ old.turn
-  pub recorder : new.recorder ≡ old.recorder
+-- a run
+abbrev pub runner : Stepper → CurrentTurn → Recorder → Runner
+runner stepper turn recorder = record { stepper = stepper; turn = turn; recorder = recorder }
 
--- Where the instruction of the next move is known, the run advances by the move, and no byte goes out. Else it stays.
-abbrev pub MakesAKnownMove : {W : Type 0} → (W → List Event → Type 0) → (List Event → Bool) → Runner → W → Runner → W →
-    Result (Option Observed) AllocError → Type 0
-MakesAKnownMove Stands fits old observed new observer (Ok (Some Taken)) = (now : Sinks) → MakesAMove Stands fits old observed now new observer now (Ok None)
-MakesAKnownMove Stands fits old observed new observer (Ok (Some Refused)) =
-    (now : Sinks) → MakesAMove Stands fits old observed now new observer now (Ok (Some Deep))
-MakesAKnownMove Stands fits old observed new observer (Ok None) = IsSameRun old new × (observer ≡ observed)
-MakesAKnownMove Stands fits old observed new observer (Err e) = (now : Sinks) → MakesAMove Stands fits old observed now new observer now (Err Memory)
+-- the run after so many further moves of its turn, as its counts say it
+abbrev pub moved : Stepper → CurrentTurn → Recorder → ℕ → Runner
+moved stepper turn recorder n =
+    runner stepper (record turn { left = turn.left - n }) (record recorder { made = recorder.made + n })
 
 -- How a run goes on with moves of a turn: it remains after so many moves in all, or its budget shows how it ended or why it was
 -- given up.
@@ -165,3 +161,44 @@ MakesMoves Stands fits made budget old observed now new observer after result =
 abbrev pub IsCounted : ℕ → ℕ → Result Turned RunError → Type 0
 IsCounted made budget (Ok (turned.GoesOn count)) = (made ≤ count) × (count ≤ budget)
 IsCounted made budget other = Unit {0}
+
+-- ---- moves of known instructions
+-- So many moves were made, and so many more may follow in the turn.
+pub record RemainsWith {W : Type 0} (Stands : W → List Event → Type 0) (fits : List Event → Bool) (first : List Event) (start : Position MachineState)
+    (before : Sinks) (made most : ℕ) (r : Runner) (observer : W) (now : Sinks) : Type 0 where
+  pub remains : Remains Stands fits first start before made r observer now
+  pub left : most ≤ r.turn.left
+  pub room : made + most ≤ RUN_STEPS
+
+-- It is so of some run with this turn.
+pub record MayMakeMoves {W : Type 0} (Stands : W → List Event → Type 0) (fits : List Event → Bool) (turn : CurrentTurn) (most : ℕ)
+    (stepper : Stepper) (observer : W) : Type 0 where
+  pub recorder : Recorder
+  pub first : List Event
+  pub start : Position MachineState
+  pub before : Sinks
+  pub made : ℕ
+  pub now : Sinks
+  pub remains : RemainsWith Stands fits first start before made most (runner stepper turn recorder) observer now
+
+-- After so many known moves the run remains, or the last one was refused, and that is all that the budget shows.
+abbrev pub AfterKnown : {W : Type 0} → (W → List Event → Type 0) → (List Event → Bool) → List Event → Position MachineState → Sinks → ℕ → ℕ →
+    Runner → W → Sinks → Bool → Type 0
+AfterKnown Stands fits first start before made budget r observer now true = IsOver Stands (observed fits first start budget) before r observer now Deep
+AfterKnown Stands fits first start before made budget r observer now false = Remains Stands fits first start before made r observer now
+
+-- How a run goes on by known moves, whatever budget allows them; no byte goes out.
+abbrev pub KnownEnds : {W : Type 0} → (W → List Event → Type 0) → (List Event → Bool) → List Event → Position MachineState → Sinks → ℕ → ℕ →
+    CurrentTurn → Recorder → Stepper → W → Sinks → Result KnownMoves AllocError → Type 0
+KnownEnds Stands fits first start before made budget turn recorder stepper observer now (Ok known) =
+    AfterKnown Stands fits first start before (made + known.count) budget (moved stepper turn recorder known.count) observer now known.is_refused
+KnownEnds Stands fits first start before made budget turn recorder stepper observer now (Err e) =
+    RunEnds Stands (observed fits first start budget) before observer now (Err Memory)
+
+-- Whatever run remains with this turn, it goes on so.
+abbrev pub MakesKnownMoves : {W : Type 0} → (W → List Event → Type 0) → (List Event → Bool) → CurrentTurn → ℕ →
+    Stepper → W → Stepper → W → Result KnownMoves AllocError → Type 0
+MakesKnownMoves Stands fits turn most old observed' new observer result =
+    (recorder : Recorder) (first : List Event) (start : Position MachineState) (before : Sinks) (made budget : ℕ) (now : Sinks)
+    → RemainsWith Stands fits first start before made most (runner old turn recorder) observed' now → made + most ≤ budget
+    → KnownEnds Stands fits first start before made budget turn recorder new observer now result

@@ -4,9 +4,9 @@ ghost use Rattle.trace_model.specs.declared.event_kinds.Event.{Event};
 ghost use Rattle.guest_machine.specs.Kept.{machine_of};
 ghost use Rattle.guest_run.specs.declared.run_error.RunError.TheVariants.{Memory};
 ghost use Rattle.guest_run.specs.CurrentTurn.{recorded};
-ghost use Rattle.guest_run.specs.Going.{IsCounted, IsNewRunner, MakesAKnownMove, MakesAMove, MakesMoves, MayAdvance, RemainsSome};
+ghost use Rattle.guest_run.specs.Going.{IsCounted, IsNewRunner, MakesAMove, MakesKnownMoves, MakesMoves, MayAdvance, MayMakeMoves, RemainsSome};
 ghost use Rattle.guest_run.specs.Machine.{guest};
-ghost use Rattle.guest_run.specs.Output.{sinks};
+ghost use Rattle.guest_run.specs.Output.{Sinks, sinks};
 ghost use Rattle.guest_run.specs.Profiled.{first_past, profiled};
 ghost use Rattle.guest_run.specs.Run.{run};
 ghost use Rattle.guest_run.specs.RunEnds.{IsAtStart, RunEnds};
@@ -27,6 +27,13 @@ use trace_model::{Event, Observed, Observer};
 pub struct Ended {
     pub finish: Finish,
     pub recording: Recording,
+}
+
+// Moves of a turn whose instructions were known: how many, and whether the observer refused the last one.
+#[derive(Clone, Copy)]
+struct KnownMoves {
+    count: u64,
+    is_refused: bool,
 }
 
 // A run after moves of a turn: it goes on after so many moves, or is at its end.
@@ -59,6 +66,40 @@ fn observe_start<W: Observer>(observer: &mut W, entry: Addr) -> Result<(), Alloc
         Observed::Taken => Ok(()),
         Observed::Refused => unreachable!(),
     }
+}
+
+// Makes at most so many moves of a turn, while their instructions are known.
+fn step_while_known<W: Observer>(
+    stepper: &mut Stepper,
+    turn: &CurrentTurn,
+    most: u64,
+    observer: &mut W,
+) -> Result<KnownMoves, AllocError>
+    requires { MayMakeMoves W.stands (W.fits observer.old) turn.now most stepper.old observer.old }
+    ensures moves { MakesKnownMoves W.stands (W.fits observer.old) turn.now most
+        stepper.old observer.old stepper.new observer.new result }
+    ensures count { IfOk result (λ known. known.count ≤ most) }
+    ensures same { W.fits observer.new ≡ W.fits observer.old }
+{
+    let tid = turn.tid;
+    let mut count = 0;
+    'moves: while count < most {
+        match stepper.step_known(tid, observer)? {
+            Some(Observed::Taken) => {}
+            Some(Observed::Refused) => {
+                return Ok(KnownMoves {
+                    count: count + 1,
+                    is_refused: true,
+                });
+            }
+            None => break 'moves,
+        }
+        count += 1;
+    }
+    Ok(KnownMoves {
+        count,
+        is_refused: false,
+    })
 }
 
 impl Runner {
@@ -108,68 +149,36 @@ impl Runner {
         }
     }
 
-    // Makes one more move of the present turn, where its instruction is known; else the run stays where it is.
-    #[inline(always)]
-    fn advance_known<W: Observer>(
-        &mut self,
-        observer: &mut W,
-    ) -> Result<Option<Observed>, AllocError>
-        requires may { MayAdvance W.stands (W.fits observer.old) self.old observer.old }
-        requires left { 0 < self.old.turn.left }
-        ensures advances { MakesAKnownMove W.stands (W.fits observer.old) self.old observer.old
-            self.new observer.new result }
-        ensures same { W.fits observer.new ≡ W.fits observer.old }
-        ensures made { IfOk result (λ end. self.new.recorder.made ≤ self.old.recorder.made + 1) }
-    {
-        let tid = self.turn.tid;
-        match self.stepper.step_known(tid, observer)? {
-            Some(observed) => {
-                self.recorder.add_to_turn();
-                self.turn.left -= 1;
-                Ok(Some(observed))
-            }
-            None => Ok(None),
-        }
-    }
-
-    // Makes moves of the present turn, from so many on, while it has some left and the budget lasts.
-    fn run_turn<W: Observer, O: Sink, E: Sink>(
+    // Makes further moves of the present turn, from so many on, while their instructions are known, the turn has some left and
+    // the budget lasts.
+    fn run_known<W: Observer>(
         &mut self,
         made: u64,
         budget: u64,
         observer: &mut W,
-        out: &mut O,
-        err: &mut E,
     ) -> Result<Turned, RunError>
-        requires remains { RemainsSome W.stands (W.fits observer.old) made self.old observer.old
-            (sinks (O.state out.old) (E.state err.old)) }
+        requires remains { (now : Sinks)
+            × RemainsSome W.stands (W.fits observer.old) made self.old observer.old now }
         requires budget { made ≤ budget }
         requires limit { budget ≤ RUN_STEPS }
-        ensures ends { MakesMoves W.stands (W.fits observer.old) made budget
-            self.old observer.old (sinks (O.state out.old) (E.state err.old))
-            self.new observer.new (sinks (O.state out.new) (E.state err.new)) result }
+        ensures ends { (now : Sinks) → MakesMoves W.stands (W.fits observer.old) made budget
+            self.old observer.old now self.new observer.new now result }
         ensures count { IsCounted made budget result }
         ensures same { W.fits observer.new ≡ W.fits observer.old }
         ensures made { IfOk result (λ end. self.new.recorder.made ≤ RUN_STEPS) }
     {
-        let mut count = made;
-        'moves: while self.turn.left > 0 && count < budget {
-            match self.advance_known(observer)? {
-                Some(Observed::Taken) => {}
-                Some(Observed::Refused) => {
-                    return Ok(Turned::Ends {
-                        finish: Finish::Deep,
-                    });
-                }
-                None => {
-                    if let Some(finish) = self.advance(observer, out, err)? {
-                        return Ok(Turned::Ends { finish });
-                    }
-                }
-            }
-            count += 1;
+        let most = self.turn.left.min(budget - made);
+        let known = step_while_known(&mut self.stepper, &self.turn, most, observer)?;
+        self.turn.left -= known.count;
+        self.recorder.made += known.count;
+        if known.is_refused {
+            return Ok(Turned::Ends {
+                finish: Finish::Deep,
+            });
         }
-        Ok(Turned::GoesOn { count })
+        Ok(Turned::GoesOn {
+            count: made + known.count,
+        })
     }
 
     /// Makes moves, from so many on: the next one, and those that follow it in its turn while the budget lasts.
@@ -195,7 +204,7 @@ impl Runner {
         if let Some(finish) = self.advance(observer, out, err)? {
             return Ok(Turned::Ends { finish });
         }
-        self.run_turn(made + 1, budget, observer, out, err)
+        self.run_known(made + 1, budget, observer)
     }
 
     /// What is known of the run, which ends so.

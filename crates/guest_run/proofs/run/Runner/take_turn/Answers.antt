@@ -32,8 +32,8 @@ returns-in-Some-clause-ends g c = λ first start before begun.
     over_by g.W.Observer.stands fits first start before c.args.made c.args.self.now c.args.observer.now now remains
     c.args.budget c.requires.budget c.advance.new.self c.advance.new.observer after c.in-Some.finish over
 
-pub run_turn-requires : goal.run_turn-requires
-run_turn-requires g c =
+pub run_known-requires : goal.run_known-requires
+run_known-requires g c =
     let some = c.requires.remains in
     let now = sinks (g.O.Sink.state c.args.out.now) (g.E.Sink.state c.args.err.now) in
     let after = sinks (g.O.Sink.state c.advance.new.out) (g.E.Sink.state c.advance.new.err) in
@@ -44,13 +44,16 @@ run_turn-requires g c =
     fits refl (omega (arith, c.requires.budget, c.requires.limit))
     c.advance.new.self c.advance.new.observer after (Ok c.in_ok-finish.field-0) c.in_ok-finish.ensures.advances) in
     record {
-      remains = record {
-        first = some.first;
-        start = some.start;
-        before = some.before;
-        remains = remains_same g.W.Observer.stands fits (g.W.Observer.fits c.advance.new.observer) c.in_ok-finish.ensures.same some.first some.start some.before
-            (c.args.made + 1) c.advance.new.self c.advance.new.observer after next;
-      };
+      remains = (
+        after,
+        record {
+          first = some.first;
+          start = some.start;
+          before = some.before;
+          remains = remains_same g.W.Observer.stands fits (g.W.Observer.fits c.advance.new.observer) c.in_ok-finish.ensures.same some.first some.start some.before
+              (c.args.made + 1) c.advance.new.self c.advance.new.observer after next;
+        },
+      );
       budget = omega (arith, c.requires.budget);
       limit = c.requires.limit;
     }
@@ -66,7 +69,7 @@ returns-clause-ends g c = λ first start before begun.
     fits refl (omega (arith, c.requires.budget, c.requires.limit))
     c.advance.new.self c.advance.new.observer after (Ok c.in_ok-finish.field-0) c.in_ok-finish.ensures.advances) in
     turn_same g.W.Observer.stands fits (g.W.Observer.fits c.advance.new.observer) c.in_ok-finish.ensures.same first start before c.args.budget
-    c.run_turn.new.self c.run_turn.new.observer (sinks (g.O.Sink.state c.run_turn.new.out) (g.E.Sink.state c.run_turn.new.err)) c.run_turn.result
-    (c.run_turn.ensures.ends first start before
+    c.run_known.new.self c.run_known.new.observer after c.run_known.result
+    (c.run_known.ensures.ends after first start before
     (remains_same g.W.Observer.stands fits (g.W.Observer.fits c.advance.new.observer) c.in_ok-finish.ensures.same first start before
     (c.args.made + 1) c.advance.new.self c.advance.new.observer after next))
