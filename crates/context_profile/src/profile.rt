@@ -1,8 +1,9 @@
 //! The contexts of a run that goes on.
-ghost use Rattle.std.specs.Prelude.{◌≡◌, ◌≤◌, [], ◌∷◌, List, false, IfOk, IsOk, MatchOption, None, Ok, OnErr, OnOk};
+ghost use Rattle.std.specs.Prelude.{◌≡◌, ◌≤◌, [], ◌∷◌, List, nat_lt, false, IfOk, IsOk, MatchOption, None, Ok, OnErr, OnOk};
 ghost use Rattle.trace_model.specs.declared.event_kinds.Event.{Event};
 ghost use Rattle.trace_model.specs.declared.observer.Observed.{Observed};
-ghost use Rattle.trace_model.specs.Depth.{is_within};
+ghost use Rattle.trace_model.specs.Depth.{count_begun, is_within};
+ghost use Rattle.shadow_core.specs.Applying.{is_too_deep};
 ghost use Rattle.trace_model.specs.Observing.{MayTake, Observes, StandsAsBefore};
 ghost use Rattle.trace_model.specs.Profile.{ended};
 ghost use Rattle.context_profile.specs.Kept.{AreContextsOf, AreOfLight, AreTotalsOf, HasTree, IsPastNumbers, MayGrow};
@@ -66,6 +67,14 @@ fn grow(tree: &mut Option<Tree>, e: Event, ends: &[Done]) -> Result<(), AllocErr
     }
 }
 
+// Whether the event begins an activation.
+#[inline(always)]
+fn begins(e: &Event) -> bool
+    ensures { result ≡ nat_lt 0 (count_begun e.now) }
+{
+    matches!(*e, Event::Start { .. } | Event::Call { .. })
+}
+
 impl<S: Lanes> ContextProfile<S> {
     /// No event so far.
     pub fn new(alloc: Global) -> Result<ContextProfile<S>, AllocError>
@@ -98,6 +107,16 @@ impl<S: Lanes> ContextProfile<S> {
             self.next = None;
         }
         Ok(())
+    }
+
+    // Whether the event begins an activation too many.
+    #[inline(always)]
+    fn is_too_deep(&self, e: &Event) -> bool
+        requires { (past : List Event) × AreContextsOf S.MAX self.now past }
+        ensures { (past : List Event) → AreContextsOf S.MAX self.now past
+            → result ≡ is_too_deep S.MAX e.now past }
+    {
+        begins(e) && u64::from(S::MAX) < 3 * (self.profiler.pending() + 2)
     }
 
     /// What the run comes to with its contexts; `None` where they are more than can be numbered, which wants no memory.
@@ -140,7 +159,7 @@ impl<S: Lanes> Observer for ContextProfile<S> {
 
     ghost fits_closed = { λ _. within_closed S.MAX };
 
-    // What is too deep is refused, and wants no memory where no event is still to come into the tree.
+    // What is too deep is refused, and wants no memory.
     #[inline(always)]
     fn observe(&mut self, e: Event) -> Result<Observed, AllocError>
         requires { MayTake (AreContextsOf S.MAX) self.old e }
@@ -148,9 +167,11 @@ impl<S: Lanes> Observer for ContextProfile<S> {
             (is_within S.MAX) e self.old self.new) }
         ensures refused { OnErr result (StandsAsBefore (AreContextsOf S.MAX) self.old self.new) }
         ensures too_deep { (past : List Event) → AreContextsOf S.MAX self.old past
-            → self.old.next ≡ None → is_within S.MAX (e ∷ past) ≡ false
-            → result ≡ Ok Observed.Refused }
+            → is_within S.MAX (e ∷ past) ≡ false → result ≡ Ok Observed.Refused }
     {
+        if self.is_too_deep(&e) {
+            return Ok(Observed::Refused);
+        }
         self.settle()?;
         match self.profiler.apply(e, &mut self.ended) {
             Ok(()) => {

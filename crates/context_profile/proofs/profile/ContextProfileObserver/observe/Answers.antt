@@ -1,5 +1,5 @@
 use Rattle.std.proofs.Common.{arith, ◌∙◌, ap, subst, sym}
-use Rattle.run_profile.proofs.Profiles.{few_steps}
+use Rattle.run_profile.proofs.Profiles.{does_not_fit, few_steps}
 use Rattle.context_profile.specs.Kept.{AreContextsOf, Kept}
 use Rattle.context_profile.proofs.Observed.{is_deep, observed, refused}
 use Rattle.context_profile.proofs.profile.ContextProfileObserver.observe.Goals as goal
@@ -27,14 +27,28 @@ returns-in-Err-TooDeep-clause-observed g c = λ past kept.
     c.in-Err-TooDeep.ensures.refused c.in-Err-TooDeep.ensures.kept
     (λ shallow. absurd (let no = c.in-Err-TooDeep.ensures.not_deep past p.stands shallow in cc))
 
+pub is_too_deep-requires : goal.is_too_deep-requires
+is_too_deep-requires g c = (c.requires.past, c.requires.now)
+
+pub returns-then-is_too_deep-clause-observed : goal.returns-then-is_too_deep-clause-observed
+returns-then-is_too_deep-clause-observed g c = λ past kept.
+    let deep = c.is_too_deep.ensures past kept in
+    (kept, does_not_fit g.S.Stamp.MAX c.args.e c.args.self.now.stamps past kept.stands (λ shallow. absurd (let so = c.if-is_too_deep.true in cc)))
+
+pub returns-in_err-settle-clause-too_deep : goal.returns-in_err-settle-clause-too_deep
+returns-in_err-settle-clause-too_deep g c = λ past kept out.
+    let deep = c.is_too_deep.ensures past kept ∙ is_deep g.S.Stamp.MAX c.args.e _ past kept out in
+    let no = c.if-is_too_deep.false in
+    absurd (cc)
+
 pub returns-in-Ok-clause-too_deep : goal.returns-in-Ok-clause-too_deep
-returns-in-Ok-clause-too_deep g c = λ past kept none deep.
-    let p = subst (λ (k : Kept). AreContextsOf g.S.Stamp.MAX k past) (sym c.self.view_is) (c.settle.ensures.stands past kept) in
-    let no = c.in-Ok.ensures.deep past p.stands (is_deep g.S.Stamp.MAX c.args.e _ past p deep) in
+returns-in-Ok-clause-too_deep g c = λ past kept out.
+    let deep = c.is_too_deep.ensures past kept ∙ is_deep g.S.Stamp.MAX c.args.e _ past kept out in
+    let no = c.if-is_too_deep.false in
     absurd (cc)
 
 pub returns-in-Err-Memory-clause-too_deep : goal.returns-in-Err-Memory-clause-too_deep
-returns-in-Err-Memory-clause-too_deep g c = λ past kept none deep.
-    let p = subst (λ (k : Kept). AreContextsOf g.S.Stamp.MAX k past) (sym c.self.view_is) (c.settle.ensures.stands past kept) in
-    let no = c.in-Err-Memory.ensures.deep past p.stands (is_deep g.S.Stamp.MAX c.args.e _ past p deep) in
+returns-in-Err-Memory-clause-too_deep g c = λ past kept out.
+    let deep = c.is_too_deep.ensures past kept ∙ is_deep g.S.Stamp.MAX c.args.e _ past kept out in
+    let no = c.if-is_too_deep.false in
     absurd (cc)
