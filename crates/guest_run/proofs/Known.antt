@@ -1,5 +1,5 @@
 -- Moves whose instructions are known.
-use Rattle.std.proofs.Common.{◌≡◌, ℕ, zero, suc, ◌+◌, ◌-◌, ◌<◌, ◌≤◌, Bool, true, false, cond, List, ◌∷◌, ◌++◌, length, Some, None, Ok, Err, refl, ap, subst, ◌∙◌, sym, arith}
+use Rattle.std.proofs.Common.{◌≡◌, ℕ, zero, suc, ◌+◌, ◌-◌, ◌<◌, ◌≤◌, Bool, true, false, cond, List, ◌∷◌, ◌++◌, Some, None, Ok, Err, refl, ap, subst, ◌∙◌, arith}
 use Rattle.std.specs.Prelude.{Option, Result, min}
 use Rattle.std.specs.Result.{IsErr}
 use Rattle.std.specs.declared.alloc.AllocError.{AllocError}
@@ -23,7 +23,7 @@ use Rattle.guest_run.specs.declared.turn_status.TurnStatus.TheVariants.{Ends, Go
 use Rattle.guest_run.specs.declared.turns.Choice.TheVariants.{Moves}
 use Rattle.guest_run.specs.declared.turns.CurrentTurn.{CurrentTurn}
 use Rattle.guest_run.specs.declared.turns.Recorder.{Recorder}
-use Rattle.guest_run.specs.CurrentTurn.{IsUnderWay, chosen_of, position, recorded, with_present}
+use Rattle.guest_run.specs.CurrentTurn.{chosen_of, position, recorded, with_present}
 use Rattle.guest_run.specs.Going.{Advances, IsOver, KnownEnds, MakesAMove, MayAdvance, Remains, RemainsWith, moved, observed}
 use Rattle.guest_run.specs.Machine.{guest}
 use Rattle.guest_run.specs.Output.{Sinks}

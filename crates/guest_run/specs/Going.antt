@@ -198,7 +198,7 @@ KnownEnds Stands fits first start before made budget turn recorder stepper obser
 -- Whatever run remains with this turn, it goes on so.
 abbrev pub MakesKnownMoves : {W : Type 0} → (W → List Event → Type 0) → (List Event → Bool) → CurrentTurn → ℕ →
     Stepper → W → Stepper → W → Result KnownMoves AllocError → Type 0
-MakesKnownMoves Stands fits turn most old observed' new observer result =
+MakesKnownMoves Stands fits turn most old watcher new observer result =
     (recorder : Recorder) (first : List Event) (start : Position MachineState) (before : Sinks) (made budget : ℕ) (now : Sinks)
-    → RemainsWith Stands fits first start before made most (runner old turn recorder) observed' now → made + most ≤ budget
+    → RemainsWith Stands fits first start before made most (runner old turn recorder) watcher now → made + most ≤ budget
     → KnownEnds Stands fits first start before made budget turn recorder new observer now result

@@ -1,4 +1,4 @@
-use Rattle.std.proofs.Common.{◌≡◌, Err, Ok, Option, Some, subst, sym, ap, ◌∙◌, arith}
+use Rattle.std.proofs.Common.{Err, Ok, Option, Some, subst, sym, ap, ◌∙◌, arith}
 use Rattle.trace_model.specs.Observing.{MayTakeAll}
 use Rattle.trace_model.specs.declared.observer.Observed.{Observed}
 use Rattle.guest_machine.specs.Kept.{machine_of}
