@@ -85,7 +85,7 @@ fn push_byte(held: &mut Vec<u8>, byte: u8)
     ensures items { held.new.items ≡ held.old.items ++ byte ∷ [] }
     ensures room { vec_capacity held.old ≤ vec_capacity held.new }
 {
-    let _ = held.push(byte);
+    held.push(byte).unwrap();
 }
 
 impl TraceReader {
