@@ -8,7 +8,7 @@ use Rattle.std.proofs.lemmas.List.Elements.{All-cons, All-nil, All-tail}
 use Rattle.std.proofs.lemmas.List.Kept.{AllPairs-cons}
 use Rattle.std.proofs.lemmas.Grind.{flat_map-append}
 use Rattle.cache_profile.specs.ReportText.{cache_text}
-use Rattle.command_line.specs.Options.{CacheOptions, ContextsOptions, TraceOptions}
+use Rattle.cache_lines.specs.Shapes.{Form}
 use Rattle.cost_points.specs.Keys as keys
 use Rattle.cost_points.proofs.Rising.{IsRising-above, IsRising-rising, IsRising-tail}
 use Rattle.elf_image.specs.Image.{Executable, name_of}
@@ -39,15 +39,9 @@ use Rattle.aprof_top.specs.Traces.{is_storable, named_entries, trace_of}
 use Rattle.aprof_top.specs.Verdicts.{IsOfRun}
 
 -- a run came to a verdict by whether its result can be stored
-of_run_by : (b : Bool) (finish : Finish) → IsOfRun (if b then Ran finish else ResultTooLarge)
+pub of_run_by : (b : Bool) (finish : Finish) → IsOfRun (if b then Ran finish else ResultTooLarge)
 of_run_by true finish = tt
 of_run_by false finish = tt
-
-pub of_run_trace : (options : TraceOptions) (image : Executable) (run : Profiled) → IsOfRun (trace_outcome options image run).verdict
-of_run_trace options image run = of_run_by (is_storable (trace_of image run)) run.finish
-
-pub of_run_contexts : (options : ContextsOptions) (image : Executable) (run : Profiled) → IsOfRun (contexts_outcome options image run).verdict
-of_run_contexts options image run = of_run_by (can_be_numbered run.past) run.finish
 
 -- a trace that is stored, and one that is too long
 pub storable : (text : List ℕ) → length text ≤ TRACE_BYTES → is_storable text ≡ true
@@ -107,20 +101,20 @@ one_unstored outcome path bytes are store.Failed old new err fails = record {
 one_unstored outcome path bytes are store.Memory old new err same = record { stored = (0, same); err = refl }
 
 -- that of a trace
-module _ (options : TraceOptions) (image : Executable) (run : Profiled) (bytes : List ℕ) (is : bytes ≡ trace_of image run) (short : length bytes ≤ TRACE_BYTES) where
-  stores_are : (trace_outcome options image run).stores ≡ (options.trace, bytes) ∷ []
+module _ (path : List ℕ) (image : Executable) (run : Profiled) (bytes : List ℕ) (is : bytes ≡ trace_of image run) (short : length bytes ≤ TRACE_BYTES) where
+  stores_are : (trace_outcome path image run).stores ≡ (path, bytes) ∷ []
   stores_are =
-      ap (λ (b : Bool). if b then (options.trace, trace_of image run) ∷ [] else []) (storable (trace_of image run) (subst (λ (text : List ℕ). length text ≤ TRACE_BYTES) is short))
-      ∙ ap (λ (text : List ℕ). (options.trace, text) ∷ []) (sym is)
+      ap (λ (b : Bool). if b then (path, trace_of image run) ∷ [] else []) (storable (trace_of image run) (subst (λ (text : List ℕ). length text ≤ TRACE_BYTES) is short))
+      ∙ ap (λ (text : List ℕ). (path, text) ∷ []) (sym is)
 
-  pub unstored : (e : StoreError) (old new : FilesState) (err : SinkState) → StoreEnds options.trace bytes old new (Err e) → RunIsStored (trace_outcome options image run) (desk old err) (desk new err) (Err (of_store e))
-  unstored = one_unstored (trace_outcome options image run) options.trace bytes stores_are
+  pub unstored : (e : StoreError) (old new : FilesState) (err : SinkState) → StoreEnds path bytes old new (Err e) → RunIsStored (trace_outcome path image run) (desk old err) (desk new err) (Err (of_store e))
+  unstored = one_unstored (trace_outcome path image run) path bytes stores_are
 
 -- that of a report of cache misses
-pub misses_unstored : (options : CacheOptions) (image : Executable) (run : Profiled) (bytes : List ℕ) → bytes ≡ cache_text (misses_of options.shape image run.finish run.past)
-    → (e : StoreError) (old new : FilesState) (err : SinkState) → StoreEnds options.report bytes old new (Err e) → RunIsStored (cache_outcome options image run) (desk old err) (desk new err) (Err (of_store e))
-misses_unstored options image run bytes is =
-    one_unstored (cache_outcome options image run) options.report bytes (ap (λ (text : List ℕ). (options.report, text) ∷ []) (sym is))
+pub misses_unstored : (path : List ℕ) (shape : Form) (image : Executable) (run : Profiled) (bytes : List ℕ) → bytes ≡ cache_text (misses_of shape image run.finish run.past)
+    → (e : StoreError) (old new : FilesState) (err : SinkState) → StoreEnds path bytes old new (Err e) → RunIsStored (cache_outcome path shape image run) (desk old err) (desk new err) (Err (of_store e))
+misses_unstored path shape image run bytes is =
+    one_unstored (cache_outcome path shape image run) path bytes (ap (λ (text : List ℕ). (path, text) ∷ []) (sym is))
 
 -- that of a report with contexts
 pub few_contexts : (past : List Event) → length (contexts past) ≤ CONTEXTS → can_be_numbered past ≡ true
@@ -129,8 +123,8 @@ few_contexts past few = grind (arith, nat_tests, few)
 pub many_contexts : (past : List Event) → IsPastNumbers past → can_be_numbered past ≡ false
 many_contexts past many = grind (arith, nat_tests, many)
 
-pub contexts_unstored : (options : ContextsOptions) (image : Executable) (run : Profiled) (bytes : List ℕ) → can_be_numbered run.past ≡ true → bytes ≡ contexts_report image run
-    → (e : StoreError) (old new : FilesState) (err : SinkState) → StoreEnds options.report bytes old new (Err e) → RunIsStored (contexts_outcome options image run) (desk old err) (desk new err) (Err (of_store e))
-contexts_unstored options image run bytes few is =
-    one_unstored (contexts_outcome options image run) options.report bytes
-    (ap (λ (b : Bool). if b then (options.report, contexts_report image run) ∷ [] else []) few ∙ ap (λ (text : List ℕ). (options.report, text) ∷ []) (sym is))
+pub contexts_unstored : (path : List ℕ) (image : Executable) (run : Profiled) (bytes : List ℕ) → can_be_numbered run.past ≡ true → bytes ≡ contexts_report image run
+    → (e : StoreError) (old new : FilesState) (err : SinkState) → StoreEnds path bytes old new (Err e) → RunIsStored (contexts_outcome path image run) (desk old err) (desk new err) (Err (of_store e))
+contexts_unstored path image run bytes few is =
+    one_unstored (contexts_outcome path image run) path bytes
+    (ap (λ (b : Bool). if b then (path, contexts_report image run) ∷ [] else []) few ∙ ap (λ (text : List ℕ). (path, text) ∷ []) (sym is))

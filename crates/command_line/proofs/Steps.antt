@@ -1,7 +1,7 @@
 -- The walk of `clap` over the words of a command that has options, word by word.
 use Rattle.std.proofs.Common.{◌≡◌, ◌<◌, ◌^◌, ℕ, Bool, true, false, refl, ◌&&◌, ap, ap₂, ◌∙◌, List, [], ◌∷◌, ◌++◌, Option, Some, None, codes, unwrap_or, arith, nat_eq, nat_le, length}
 use Rattle.std.proofs.lemmas.Bool.Decides.{nat_tests}
-use Rattle.std.specs.Prelude.{slice_get}
+use Rattle.std.specs.Prelude.{drop, slice_get}
 use Rattle.std.specs.List.{list_all}
 use Rattle.std.specs.Str.{bytes_eq}
 use Rattle.std.proofs.Math.Bool.{and-false, and-true}
@@ -11,8 +11,9 @@ use Rattle.clap.specs.Takes.{settle_passes, turn_passes, walk_passes}
 use Rattle.clap.specs.Walk.{Waiting, Walk, has_row, idle, option, positional, settled_rows, walked}
 use Rattle.clap.specs.Words.{Row, Rule, Shape, Text, built}
 use Rattle.clap.proofs.OnLiterals.{clap_on_literals}
-use Rattle.command_line.specs.App.{the_app, top_app, run_app, demo_app, trace_app, cache_app, replay_app, contexts_app}
-use Rattle.command_line.specs.Plain.{Choice, is_of_cache, is_of_contexts, is_of_replay, is_of_run, is_of_trace, is_plain_word, stats}
+use Rattle.command_line.specs.App.{the_app, top_app, guest_app, demo_app, replay_app}
+use Rattle.command_line.specs.Plain.{Choice, GuestCommand, caching, is_of, is_of_replay, is_plain_word, running, stats, telling, tracing}
+use Rattle.command_line.specs.Plain as plain
 use Rattle.command_line.proofs.Rows.{choice_row, new_row, new_row_kept, plain_row}
 
 -- the commands as `clap` builds them
@@ -34,40 +35,58 @@ replay_shape = unwrap_or (slice_get (built the_app).subs 4) (new_shape [])
 abbrev pub contexts_shape : Shape
 contexts_shape = unwrap_or (slice_get (built the_app).subs 5) (new_shape [])
 
+-- the commands that run a guest
+abbrev pub guest_shape : GuestCommand → Shape
+guest_shape running = run_shape
+guest_shape tracing = trace_shape
+guest_shape caching = cache_shape
+guest_shape telling = contexts_shape
+
+-- what all of them have, and what one has beside
+abbrev pub shared_rules : List Rule
+shared_rules = trace_shape.rules
+
+abbrev pub own_rules : GuestCommand → List Rule
+own_rules g = drop 7 (guest_shape g).rules
+
 -- The commands that have options.
 pub data Subcommand : Type 0 where
-  running : Subcommand
-  tracing : Subcommand
-  caching : Subcommand
+  of_guest : GuestCommand → Subcommand
   replaying : Subcommand
-  telling : Subcommand
+
+-- its name
+abbrev pub name_of : Subcommand → Text
+name_of (of_guest g) = plain.name_of g
+name_of replaying = codes "replay"
 
 -- it runs a guest: its image and further words follow the options
 abbrev pub RunsGuest : Subcommand → Type 0
+RunsGuest (of_guest g) = Unit {0}
 RunsGuest replaying = ⊥
-RunsGuest k = Unit {0}
 
 -- the argument of the path that follows the options
 abbrev pub path_id : Subcommand → Text
+path_id (of_guest g) = codes "image"
 path_id replaying = codes "trace"
-path_id k = codes "image"
 
+-- a command that runs a guest is told by its name and by what it has beside
 abbrev pub shape : Subcommand → Shape
-shape running = run_shape
-shape tracing = trace_shape
-shape telling = contexts_shape
-shape caching = cache_shape
+shape (of_guest g) = record trace_shape { name = plain.name_of g; rules = shared_rules ++ own_rules g }
 shape replaying = replay_shape
 
 abbrev pub rules : Subcommand → List Rule
 rules k = (shape k).rules
 
+pub shape_is : (g : GuestCommand) → guest_shape g ≡ shape (of_guest g)
+unfolding the_app top_app guest_app demo_app replay_app clap_on_literals
+shape_is running = refl
+shape_is tracing = refl
+shape_is caching = refl
+shape_is telling = refl
+
 -- the option is one of the command
 abbrev pub has_option : Subcommand → Choice → Bool
-has_option running c = is_of_run c
-has_option tracing c = is_of_trace c
-has_option telling c = is_of_contexts c
-has_option caching c = is_of_cache c
+has_option (of_guest g) c = is_of g c
 has_option replaying c = is_of_replay c
 
 -- an argument whose values are being read
@@ -127,158 +146,49 @@ pub record TakesValue (k : Subcommand) (flag id : Text) : Type 0 where
   pub settles : (rows : List Row) (word : Text) → has_row id rows ≡ false
       → Settles k rows (Some (id, word ∷ [])) (rows ++ plain_row id (word ∷ []) ∷ [])
 
-pub takes_stdin : (k : Subcommand) → RunsGuest k → TakesValue k (codes "--stdin") (codes "stdin")
-unfolding the_app top_app run_app demo_app trace_app cache_app replay_app contexts_app clap_on_literals
-takes_stdin running guest = record {
+pub takes_stdin : (g : GuestCommand) → TakesValue (of_guest g) (codes "--stdin") (codes "stdin")
+unfolding the_app top_app guest_app demo_app replay_app clap_on_literals
+takes_stdin g = record {
   flag_word = λ rows p. refl;
   flag_turn = λ rows p. and-true _;
   value_word = λ rows word h. rw (h.no_dashes, h.no_long, h.no_short) refl;
   value_turn = λ rows word h. rw (h.no_dashes, h.no_long, h.no_short) refl;
   settles = λ rows word h. record { rows_are = new_row (codes "stdin") (word ∷ []) rows h; passes = rw h refl };
 }
-takes_stdin tracing guest = record {
-  flag_word = λ rows p. refl;
-  flag_turn = λ rows p. and-true _;
-  value_word = λ rows word h. rw (h.no_dashes, h.no_long, h.no_short) refl;
-  value_turn = λ rows word h. rw (h.no_dashes, h.no_long, h.no_short) refl;
-  settles = λ rows word h. record { rows_are = new_row (codes "stdin") (word ∷ []) rows h; passes = rw h refl };
-}
-takes_stdin telling guest = record {
-  flag_word = λ rows p. refl;
-  flag_turn = λ rows p. and-true _;
-  value_word = λ rows word h. rw (h.no_dashes, h.no_long, h.no_short) refl;
-  value_turn = λ rows word h. rw (h.no_dashes, h.no_long, h.no_short) refl;
-  settles = λ rows word h. record { rows_are = new_row (codes "stdin") (word ∷ []) rows h; passes = rw h refl };
-}
-takes_stdin caching guest = record {
-  flag_word = λ rows p. refl;
-  flag_turn = λ rows p. and-true _;
-  value_word = λ rows word h. rw (h.no_dashes, h.no_long, h.no_short) refl;
-  value_turn = λ rows word h. rw (h.no_dashes, h.no_long, h.no_short) refl;
-  settles = λ rows word h. record { rows_are = new_row (codes "stdin") (word ∷ []) rows h; passes = rw h refl };
-}
-takes_stdin replaying guest = absurd guest
 
-pub takes_quantum : (k : Subcommand) → RunsGuest k → TakesValue k (codes "--quantum") (codes "quantum")
-unfolding the_app top_app run_app demo_app trace_app cache_app replay_app contexts_app clap_on_literals
-takes_quantum running guest = record {
+pub takes_quantum : (g : GuestCommand) → TakesValue (of_guest g) (codes "--quantum") (codes "quantum")
+unfolding the_app top_app guest_app demo_app replay_app clap_on_literals
+takes_quantum g = record {
   flag_word = λ rows p. refl;
   flag_turn = λ rows p. and-true _;
   value_word = λ rows word h. rw (h.no_dashes, h.no_long, h.no_short) refl;
   value_turn = λ rows word h. rw (h.no_dashes, h.no_long, h.no_short) refl;
   settles = λ rows word h. record { rows_are = new_row (codes "quantum") (word ∷ []) rows h; passes = rw h refl };
 }
-takes_quantum tracing guest = record {
-  flag_word = λ rows p. refl;
-  flag_turn = λ rows p. and-true _;
-  value_word = λ rows word h. rw (h.no_dashes, h.no_long, h.no_short) refl;
-  value_turn = λ rows word h. rw (h.no_dashes, h.no_long, h.no_short) refl;
-  settles = λ rows word h. record { rows_are = new_row (codes "quantum") (word ∷ []) rows h; passes = rw h refl };
-}
-takes_quantum telling guest = record {
-  flag_word = λ rows p. refl;
-  flag_turn = λ rows p. and-true _;
-  value_word = λ rows word h. rw (h.no_dashes, h.no_long, h.no_short) refl;
-  value_turn = λ rows word h. rw (h.no_dashes, h.no_long, h.no_short) refl;
-  settles = λ rows word h. record { rows_are = new_row (codes "quantum") (word ∷ []) rows h; passes = rw h refl };
-}
-takes_quantum caching guest = record {
-  flag_word = λ rows p. refl;
-  flag_turn = λ rows p. and-true _;
-  value_word = λ rows word h. rw (h.no_dashes, h.no_long, h.no_short) refl;
-  value_turn = λ rows word h. rw (h.no_dashes, h.no_long, h.no_short) refl;
-  settles = λ rows word h. record { rows_are = new_row (codes "quantum") (word ∷ []) rows h; passes = rw h refl };
-}
-takes_quantum replaying guest = absurd guest
 
-pub takes_schedule : (k : Subcommand) → RunsGuest k → TakesValue k (codes "--schedule") (codes "schedule")
-unfolding the_app top_app run_app demo_app trace_app cache_app replay_app contexts_app clap_on_literals
-takes_schedule running guest = record {
+pub takes_schedule : (g : GuestCommand) → TakesValue (of_guest g) (codes "--schedule") (codes "schedule")
+unfolding the_app top_app guest_app demo_app replay_app clap_on_literals
+takes_schedule g = record {
   flag_word = λ rows p. refl;
   flag_turn = λ rows p. and-true _;
   value_word = λ rows word h. rw (h.no_dashes, h.no_long, h.no_short) refl;
   value_turn = λ rows word h. rw (h.no_dashes, h.no_long, h.no_short) refl;
   settles = λ rows word h. record { rows_are = new_row (codes "schedule") (word ∷ []) rows h; passes = rw h refl };
 }
-takes_schedule tracing guest = record {
-  flag_word = λ rows p. refl;
-  flag_turn = λ rows p. and-true _;
-  value_word = λ rows word h. rw (h.no_dashes, h.no_long, h.no_short) refl;
-  value_turn = λ rows word h. rw (h.no_dashes, h.no_long, h.no_short) refl;
-  settles = λ rows word h. record { rows_are = new_row (codes "schedule") (word ∷ []) rows h; passes = rw h refl };
-}
-takes_schedule telling guest = record {
-  flag_word = λ rows p. refl;
-  flag_turn = λ rows p. and-true _;
-  value_word = λ rows word h. rw (h.no_dashes, h.no_long, h.no_short) refl;
-  value_turn = λ rows word h. rw (h.no_dashes, h.no_long, h.no_short) refl;
-  settles = λ rows word h. record { rows_are = new_row (codes "schedule") (word ∷ []) rows h; passes = rw h refl };
-}
-takes_schedule caching guest = record {
-  flag_word = λ rows p. refl;
-  flag_turn = λ rows p. and-true _;
-  value_word = λ rows word h. rw (h.no_dashes, h.no_long, h.no_short) refl;
-  value_turn = λ rows word h. rw (h.no_dashes, h.no_long, h.no_short) refl;
-  settles = λ rows word h. record { rows_are = new_row (codes "schedule") (word ∷ []) rows h; passes = rw h refl };
-}
-takes_schedule replaying guest = absurd guest
 
-pub takes_budget : (k : Subcommand) → RunsGuest k → TakesValue k (codes "--budget") (codes "budget")
-unfolding the_app top_app run_app demo_app trace_app cache_app replay_app contexts_app clap_on_literals
-takes_budget running guest = record {
+pub takes_budget : (g : GuestCommand) → TakesValue (of_guest g) (codes "--budget") (codes "budget")
+unfolding the_app top_app guest_app demo_app replay_app clap_on_literals
+takes_budget g = record {
   flag_word = λ rows p. refl;
   flag_turn = λ rows p. and-true _;
   value_word = λ rows word h. rw (h.no_dashes, h.no_long, h.no_short) refl;
   value_turn = λ rows word h. rw (h.no_dashes, h.no_long, h.no_short) refl;
   settles = λ rows word h. record { rows_are = new_row (codes "budget") (word ∷ []) rows h; passes = rw h refl };
 }
-takes_budget tracing guest = record {
-  flag_word = λ rows p. refl;
-  flag_turn = λ rows p. and-true _;
-  value_word = λ rows word h. rw (h.no_dashes, h.no_long, h.no_short) refl;
-  value_turn = λ rows word h. rw (h.no_dashes, h.no_long, h.no_short) refl;
-  settles = λ rows word h. record { rows_are = new_row (codes "budget") (word ∷ []) rows h; passes = rw h refl };
-}
-takes_budget telling guest = record {
-  flag_word = λ rows p. refl;
-  flag_turn = λ rows p. and-true _;
-  value_word = λ rows word h. rw (h.no_dashes, h.no_long, h.no_short) refl;
-  value_turn = λ rows word h. rw (h.no_dashes, h.no_long, h.no_short) refl;
-  settles = λ rows word h. record { rows_are = new_row (codes "budget") (word ∷ []) rows h; passes = rw h refl };
-}
-takes_budget caching guest = record {
-  flag_word = λ rows p. refl;
-  flag_turn = λ rows p. and-true _;
-  value_word = λ rows word h. rw (h.no_dashes, h.no_long, h.no_short) refl;
-  value_turn = λ rows word h. rw (h.no_dashes, h.no_long, h.no_short) refl;
-  settles = λ rows word h. record { rows_are = new_row (codes "budget") (word ∷ []) rows h; passes = rw h refl };
-}
-takes_budget replaying guest = absurd guest
 
 pub takes_output : (k : Subcommand) → TakesValue k (codes "-o") (codes "output")
-unfolding the_app top_app run_app demo_app trace_app cache_app replay_app contexts_app clap_on_literals
-takes_output running = record {
-  flag_word = λ rows p. refl;
-  flag_turn = λ rows p. and-true _;
-  value_word = λ rows word h. rw (h.no_dashes, h.no_long, h.no_short) refl;
-  value_turn = λ rows word h. rw (h.no_dashes, h.no_long, h.no_short) refl;
-  settles = λ rows word h. record { rows_are = new_row (codes "output") (word ∷ []) rows h; passes = rw h refl };
-}
-takes_output tracing = record {
-  flag_word = λ rows p. refl;
-  flag_turn = λ rows p. and-true _;
-  value_word = λ rows word h. rw (h.no_dashes, h.no_long, h.no_short) refl;
-  value_turn = λ rows word h. rw (h.no_dashes, h.no_long, h.no_short) refl;
-  settles = λ rows word h. record { rows_are = new_row (codes "output") (word ∷ []) rows h; passes = rw h refl };
-}
-takes_output telling = record {
-  flag_word = λ rows p. refl;
-  flag_turn = λ rows p. and-true _;
-  value_word = λ rows word h. rw (h.no_dashes, h.no_long, h.no_short) refl;
-  value_turn = λ rows word h. rw (h.no_dashes, h.no_long, h.no_short) refl;
-  settles = λ rows word h. record { rows_are = new_row (codes "output") (word ∷ []) rows h; passes = rw h refl };
-}
-takes_output caching = record {
+unfolding the_app top_app guest_app demo_app replay_app clap_on_literals
+takes_output (of_guest g) = record {
   flag_word = λ rows p. refl;
   flag_turn = λ rows p. and-true _;
   value_word = λ rows word h. rw (h.no_dashes, h.no_long, h.no_short) refl;
@@ -293,9 +203,9 @@ takes_output replaying = record {
   settles = λ rows word h. record { rows_are = new_row (codes "output") (word ∷ []) rows h; passes = rw h refl };
 }
 
-pub takes_recording : TakesValue running (codes "--record") (codes "record")
-unfolding the_app top_app run_app demo_app trace_app cache_app replay_app contexts_app clap_on_literals
-takes_recording = record {
+pub run_takes_recording : TakesValue (of_guest running) (codes "--record") (codes "record")
+unfolding the_app top_app guest_app demo_app replay_app clap_on_literals
+run_takes_recording = record {
   flag_word = λ rows p. refl;
   flag_turn = λ rows p. and-true _;
   value_word = λ rows word h. rw (h.no_dashes, h.no_long, h.no_short) refl;
@@ -303,9 +213,9 @@ takes_recording = record {
   settles = λ rows word h. record { rows_are = new_row (codes "record") (word ∷ []) rows h; passes = rw h refl };
 }
 
-pub takes_stamps : TakesValue running (codes "--stamps") (codes "stamps")
-unfolding the_app top_app run_app demo_app trace_app cache_app replay_app contexts_app clap_on_literals
-takes_stamps = record {
+pub run_takes_stamps : TakesValue (of_guest running) (codes "--stamps") (codes "stamps")
+unfolding the_app top_app guest_app demo_app replay_app clap_on_literals
+run_takes_stamps = record {
   flag_word = λ rows p. refl;
   flag_turn = λ rows p. and-true _;
   value_word = λ rows word h. rw (h.no_dashes, h.no_long, h.no_short) refl;
@@ -314,7 +224,7 @@ takes_stamps = record {
 }
 
 pub replay_takes_stamps : TakesValue replaying (codes "--stamps") (codes "stamps")
-unfolding the_app top_app run_app demo_app trace_app cache_app replay_app contexts_app clap_on_literals
+unfolding the_app top_app guest_app demo_app replay_app clap_on_literals
 replay_takes_stamps = record {
   flag_word = λ rows p. refl;
   flag_turn = λ rows p. and-true _;
@@ -323,8 +233,8 @@ replay_takes_stamps = record {
   settles = λ rows word h. record { rows_are = new_row (codes "stamps") (word ∷ []) rows h; passes = rw h refl };
 }
 
-pub contexts_takes_stamps : TakesValue telling (codes "--stamps") (codes "stamps")
-unfolding the_app top_app run_app demo_app trace_app cache_app replay_app contexts_app clap_on_literals
+pub contexts_takes_stamps : TakesValue (of_guest telling) (codes "--stamps") (codes "stamps")
+unfolding the_app top_app guest_app demo_app replay_app clap_on_literals
 contexts_takes_stamps = record {
   flag_word = λ rows p. refl;
   flag_turn = λ rows p. and-true _;
@@ -333,9 +243,9 @@ contexts_takes_stamps = record {
   settles = λ rows word h. record { rows_are = new_row (codes "stamps") (word ∷ []) rows h; passes = rw h refl };
 }
 
-pub takes_sets : TakesValue caching (codes "--sets") (codes "sets")
-unfolding the_app top_app run_app demo_app trace_app cache_app replay_app contexts_app clap_on_literals
-takes_sets = record {
+pub cache_takes_sets : TakesValue (of_guest caching) (codes "--sets") (codes "sets")
+unfolding the_app top_app guest_app demo_app replay_app clap_on_literals
+cache_takes_sets = record {
   flag_word = λ rows p. refl;
   flag_turn = λ rows p. and-true _;
   value_word = λ rows word h. rw (h.no_dashes, h.no_long, h.no_short) refl;
@@ -343,9 +253,9 @@ takes_sets = record {
   settles = λ rows word h. record { rows_are = new_row (codes "sets") (word ∷ []) rows h; passes = rw h refl };
 }
 
-pub takes_ways : TakesValue caching (codes "--ways") (codes "ways")
-unfolding the_app top_app run_app demo_app trace_app cache_app replay_app contexts_app clap_on_literals
-takes_ways = record {
+pub cache_takes_ways : TakesValue (of_guest caching) (codes "--ways") (codes "ways")
+unfolding the_app top_app guest_app demo_app replay_app clap_on_literals
+cache_takes_ways = record {
   flag_word = λ rows p. refl;
   flag_turn = λ rows p. and-true _;
   value_word = λ rows word h. rw (h.no_dashes, h.no_long, h.no_short) refl;
@@ -353,9 +263,9 @@ takes_ways = record {
   settles = λ rows word h. record { rows_are = new_row (codes "ways") (word ∷ []) rows h; passes = rw h refl };
 }
 
-pub takes_line : TakesValue caching (codes "--line") (codes "line")
-unfolding the_app top_app run_app demo_app trace_app cache_app replay_app contexts_app clap_on_literals
-takes_line = record {
+pub cache_takes_line : TakesValue (of_guest caching) (codes "--line") (codes "line")
+unfolding the_app top_app guest_app demo_app replay_app clap_on_literals
+cache_takes_line = record {
   flag_word = λ rows p. refl;
   flag_turn = λ rows p. and-true _;
   value_word = λ rows word h. rw (h.no_dashes, h.no_long, h.no_short) refl;
@@ -372,15 +282,15 @@ pub record TakesStats (k : Subcommand) : Type 0 where
   pub flag_turn : (rows : List Row) (p : Pending) → has_row (codes "stats") (settled_rows (rules k) p rows) ≡ false
       → turn k rows p idle 1 (codes "--stats") ≡ may_settle k rows p
 
-pub run_takes_stats : TakesStats running
-unfolding the_app top_app run_app demo_app trace_app cache_app replay_app contexts_app clap_on_literals
+pub run_takes_stats : TakesStats (of_guest running)
+unfolding the_app top_app guest_app demo_app replay_app clap_on_literals
 run_takes_stats = record {
-  flag_word = λ rows p h. ap (λ (all : List Row). stand all None idle 1) (new_row (codes "stats") (codes "true" ∷ []) (settled_rows (rules running) p rows) h);
+  flag_word = λ rows p h. ap (λ (all : List Row). stand all None idle 1) (new_row (codes "stats") (codes "true" ∷ []) (settled_rows (rules (of_guest running)) p rows) h);
   flag_turn = λ rows p h. rw h (and-true _ ∙ and-true _);
 }
 
 pub replay_takes_stats : TakesStats replaying
-unfolding the_app top_app run_app demo_app trace_app cache_app replay_app contexts_app clap_on_literals
+unfolding the_app top_app guest_app demo_app replay_app clap_on_literals
 replay_takes_stats = record {
   flag_word = λ rows p h. ap (λ (all : List Row). stand all None idle 1) (new_row (codes "stats") (codes "true" ∷ []) (settled_rows (rules replaying) p rows) h);
   flag_turn = λ rows p h. rw h (and-true _ ∙ and-true _);
@@ -390,39 +300,24 @@ replay_takes_stats = record {
 
 pub path_word : (k : Subcommand) (rows : List Row) (p : Pending) (word : Text) → IsNoFlag word
     → walked (rules k) [] (stand rows p idle 1) word ≡ stand (settled_rows (rules k) p rows) (Some (path_id k, word ∷ [])) idle 2
-unfolding the_app top_app run_app demo_app trace_app cache_app replay_app contexts_app clap_on_literals
-path_word running rows None word h = rw (h.no_dashes, h.no_long, h.no_short) refl
-path_word running rows (Some q) word h = rw (h.no_dashes, h.no_long, h.no_short, and-false (bytes_eq q.0 (codes "image"))) refl
-path_word tracing rows None word h = rw (h.no_dashes, h.no_long, h.no_short) refl
-path_word tracing rows (Some q) word h = rw (h.no_dashes, h.no_long, h.no_short, and-false (bytes_eq q.0 (codes "image"))) refl
-path_word telling rows None word h = rw (h.no_dashes, h.no_long, h.no_short) refl
-path_word telling rows (Some q) word h = rw (h.no_dashes, h.no_long, h.no_short, and-false (bytes_eq q.0 (codes "image"))) refl
-path_word caching rows None word h = rw (h.no_dashes, h.no_long, h.no_short) refl
-path_word caching rows (Some q) word h = rw (h.no_dashes, h.no_long, h.no_short, and-false (bytes_eq q.0 (codes "image"))) refl
+unfolding the_app top_app guest_app demo_app replay_app clap_on_literals
+path_word (of_guest g) rows None word h = rw (h.no_dashes, h.no_long, h.no_short) refl
+path_word (of_guest g) rows (Some q) word h = rw (h.no_dashes, h.no_long, h.no_short, and-false (bytes_eq q.0 (codes "image"))) refl
 path_word replaying rows None word h = rw (h.no_dashes, h.no_long, h.no_short) refl
 path_word replaying rows (Some q) word h = rw (h.no_dashes, h.no_long, h.no_short, and-false (bytes_eq q.0 (codes "trace"))) refl
 
 pub path_turn : (k : Subcommand) (rows : List Row) (p : Pending) (word : Text) → IsNoFlag word
     → turn k rows p idle 1 word ≡ may_settle k rows p
-unfolding the_app top_app run_app demo_app trace_app cache_app replay_app contexts_app clap_on_literals
-path_turn running rows None word h = rw (h.no_dashes, h.no_long, h.no_short) refl
-path_turn running rows (Some q) word h = rw (h.no_dashes, h.no_long, h.no_short, and-false (bytes_eq q.0 (codes "image"))) refl
-path_turn tracing rows None word h = rw (h.no_dashes, h.no_long, h.no_short) refl
-path_turn tracing rows (Some q) word h = rw (h.no_dashes, h.no_long, h.no_short, and-false (bytes_eq q.0 (codes "image"))) refl
-path_turn telling rows None word h = rw (h.no_dashes, h.no_long, h.no_short) refl
-path_turn telling rows (Some q) word h = rw (h.no_dashes, h.no_long, h.no_short, and-false (bytes_eq q.0 (codes "image"))) refl
-path_turn caching rows None word h = rw (h.no_dashes, h.no_long, h.no_short) refl
-path_turn caching rows (Some q) word h = rw (h.no_dashes, h.no_long, h.no_short, and-false (bytes_eq q.0 (codes "image"))) refl
+unfolding the_app top_app guest_app demo_app replay_app clap_on_literals
+path_turn (of_guest g) rows None word h = rw (h.no_dashes, h.no_long, h.no_short) refl
+path_turn (of_guest g) rows (Some q) word h = rw (h.no_dashes, h.no_long, h.no_short, and-false (bytes_eq q.0 (codes "image"))) refl
 path_turn replaying rows None word h = rw (h.no_dashes, h.no_long, h.no_short) refl
 path_turn replaying rows (Some q) word h = rw (h.no_dashes, h.no_long, h.no_short, and-false (bytes_eq q.0 (codes "trace"))) refl
 
 pub path_settles : (k : Subcommand) (rows : List Row) (path : Text) → has_row (path_id k) rows ≡ false
     → Settles k rows (Some (path_id k, path ∷ [])) (rows ++ plain_row (path_id k) (path ∷ []) ∷ [])
-unfolding the_app top_app run_app demo_app trace_app cache_app replay_app contexts_app clap_on_literals
-path_settles running rows path h = record { rows_are = new_row (codes "image") (path ∷ []) rows h; passes = rw h refl }
-path_settles tracing rows path h = record { rows_are = new_row (codes "image") (path ∷ []) rows h; passes = rw h refl }
-path_settles telling rows path h = record { rows_are = new_row (codes "image") (path ∷ []) rows h; passes = rw h refl }
-path_settles caching rows path h = record { rows_are = new_row (codes "image") (path ∷ []) rows h; passes = rw h refl }
+unfolding the_app top_app guest_app demo_app replay_app clap_on_literals
+path_settles (of_guest g) rows path h = record { rows_are = new_row (codes "image") (path ∷ []) rows h; passes = rw h refl }
 path_settles replaying rows path h = record { rows_are = new_row (codes "trace") (path ∷ []) rows h; passes = rw h refl }
 
 -- ---- the further words
@@ -430,58 +325,34 @@ path_settles replaying rows path h = record { rows_are = new_row (codes "trace")
 pub first_word : (k : Subcommand) → RunsGuest k → (rows : List Row) (image word : Text) → IsNoFlag word
     → walked (rules k) [] (stand rows (Some (path_id k, image ∷ [])) idle 2) word
     ≡ stand (settled_rows (rules k) (Some (path_id k, image ∷ [])) rows) (Some (codes "word", word ∷ [])) positional 2
-unfolding the_app top_app run_app demo_app trace_app cache_app replay_app contexts_app clap_on_literals
-first_word running guest rows image word h = rw (h.no_dashes, h.no_long, h.no_short) refl
-first_word tracing guest rows image word h = rw (h.no_dashes, h.no_long, h.no_short) refl
-first_word telling guest rows image word h = rw (h.no_dashes, h.no_long, h.no_short) refl
-first_word caching guest rows image word h = rw (h.no_dashes, h.no_long, h.no_short) refl
+unfolding the_app top_app guest_app demo_app replay_app clap_on_literals
+first_word (of_guest g) guest rows image word h = rw (h.no_dashes, h.no_long, h.no_short) refl
 first_word replaying guest rows image word h = absurd guest
 
 pub first_turn : (k : Subcommand) → RunsGuest k → (rows : List Row) (image word : Text) → IsNoFlag word
     → turn k rows (Some (path_id k, image ∷ [])) idle 2 word ≡ may_settle k rows (Some (path_id k, image ∷ []))
-unfolding the_app top_app run_app demo_app trace_app cache_app replay_app contexts_app clap_on_literals
-first_turn running guest rows image word h = rw (h.no_dashes, h.no_long, h.no_short) refl
-first_turn tracing guest rows image word h = rw (h.no_dashes, h.no_long, h.no_short) refl
-first_turn telling guest rows image word h = rw (h.no_dashes, h.no_long, h.no_short) refl
-first_turn caching guest rows image word h = rw (h.no_dashes, h.no_long, h.no_short) refl
+unfolding the_app top_app guest_app demo_app replay_app clap_on_literals
+first_turn (of_guest g) guest rows image word h = rw (h.no_dashes, h.no_long, h.no_short) refl
 first_turn replaying guest rows image word h = absurd guest
 
 pub further_word : (k : Subcommand) → RunsGuest k → (rows : List Row) (words : List Text) (word : Text) → IsNoFlag word
     → walked (rules k) [] (stand rows (Some (codes "word", words)) positional 2) word
     ≡ stand rows (Some (codes "word", words ++ word ∷ [])) positional 2
-unfolding the_app top_app run_app demo_app trace_app cache_app replay_app contexts_app clap_on_literals
-further_word running guest rows words word h = rw (h.no_dashes, h.no_long, h.no_short) refl
-further_word tracing guest rows words word h = rw (h.no_dashes, h.no_long, h.no_short) refl
-further_word telling guest rows words word h = rw (h.no_dashes, h.no_long, h.no_short) refl
-further_word caching guest rows words word h = rw (h.no_dashes, h.no_long, h.no_short) refl
+unfolding the_app top_app guest_app demo_app replay_app clap_on_literals
+further_word (of_guest g) guest rows words word h = rw (h.no_dashes, h.no_long, h.no_short) refl
 further_word replaying guest rows words word h = absurd guest
 
 pub further_turn : (k : Subcommand) → RunsGuest k → (rows : List Row) (words : List Text) (word : Text) → IsNoFlag word
     → turn k rows (Some (codes "word", words)) positional 2 word ≡ true
-unfolding the_app top_app run_app demo_app trace_app cache_app replay_app contexts_app clap_on_literals
-further_turn running guest rows words word h = rw (h.no_dashes, h.no_long, h.no_short) refl
-further_turn tracing guest rows words word h = rw (h.no_dashes, h.no_long, h.no_short) refl
-further_turn telling guest rows words word h = rw (h.no_dashes, h.no_long, h.no_short) refl
-further_turn caching guest rows words word h = rw (h.no_dashes, h.no_long, h.no_short) refl
+unfolding the_app top_app guest_app demo_app replay_app clap_on_literals
+further_turn (of_guest g) guest rows words word h = rw (h.no_dashes, h.no_long, h.no_short) refl
 further_turn replaying guest rows words word h = absurd guest
 
 pub words_settle : (k : Subcommand) → RunsGuest k → (rows : List Row) (word : Text) (words : List Text) → has_row (codes "word") rows ≡ false
     → length (word ∷ words) < 2 ^ 64
     → Settles k rows (Some (codes "word", word ∷ words)) (rows ++ plain_row (codes "word") (word ∷ words) ∷ [])
-unfolding the_app top_app run_app demo_app trace_app cache_app replay_app contexts_app clap_on_literals
-words_settle running guest rows word words h lt =
-    let few : nat_le (length (word ∷ words)) usize_max ≡ true = grind (arith, nat_tests) in
-    let some : nat_le 0 (length (word ∷ words)) ≡ true = grind (arith, nat_tests) in
-    record { rows_are = new_row_kept (codes "word") (word ∷ words) rows h; passes = rw (some, few) (all_true words) }
-words_settle tracing guest rows word words h lt =
-    let few : nat_le (length (word ∷ words)) usize_max ≡ true = grind (arith, nat_tests) in
-    let some : nat_le 0 (length (word ∷ words)) ≡ true = grind (arith, nat_tests) in
-    record { rows_are = new_row_kept (codes "word") (word ∷ words) rows h; passes = rw (some, few) (all_true words) }
-words_settle telling guest rows word words h lt =
-    let few : nat_le (length (word ∷ words)) usize_max ≡ true = grind (arith, nat_tests) in
-    let some : nat_le 0 (length (word ∷ words)) ≡ true = grind (arith, nat_tests) in
-    record { rows_are = new_row_kept (codes "word") (word ∷ words) rows h; passes = rw (some, few) (all_true words) }
-words_settle caching guest rows word words h lt =
+unfolding the_app top_app guest_app demo_app replay_app clap_on_literals
+words_settle (of_guest g) guest rows word words h lt =
     let few : nat_le (length (word ∷ words)) usize_max ≡ true = grind (arith, nat_tests) in
     let some : nat_le 0 (length (word ∷ words)) ≡ true = grind (arith, nat_tests) in
     record { rows_are = new_row_kept (codes "word") (word ∷ words) rows h; passes = rw (some, few) (all_true words) }
