@@ -1,5 +1,5 @@
 -- What `contexts` stores begins with the report of the run.
-use Rattle.std.proofs.Common.{refl, sym, ap, ◌∙◌}
+use Rattle.std.proofs.Common.{◌≡◌, true, refl, sym, ap, ◌∙◌}
 use Rattle.std.specs.Prelude.{if◌then◌else◌}
 use Rattle.command_line.specs.Options.Analysis.{Contexts}
 use Rattle.elf_image.specs.Reading.{image_of}
@@ -16,7 +16,7 @@ use Rattle.aprof_top.specs.Loads.{loaded_of}
 use Rattle.aprof_top.specs.Outcome.{Outcome, job_of, recording_stores, stage}
 use Rattle.aprof_top.specs.Report.{report_of}
 use Rattle.aprof_top.specs.Run.{run_of}
-use Rattle.aprof_top.proofs.StoredRuns.{came_to, run_is, stored_text}
+use Rattle.aprof_top.proofs.StoredRuns.{came_to, either_outcome, run_is, stored_text}
 
 pub contexts_begin : ContextsBeginWithTheReport
 contexts_begin guest path options files bytes contexts ran is_contexts stored is_ran =
@@ -25,7 +25,8 @@ contexts_begin guest path options files bytes contexts ran is_contexts stored is
     let loaded = loaded_of guest files in
     let image = image_of loaded.image in
     let run : Profiled = run_of options.bits guest loaded came.turns in
-    let text = stored_text (can_be_numbered run.past) path bytes (contexts_report image run) (ap (λ (o : Outcome). o.stores) (sym came.answered) ∙ stored) in
+    let text = stored_text run (can_be_numbered run.past) path bytes (contexts_report image run) (ap (λ (o : Outcome). o.stores) (sym came.answered) ∙ stored) in
+    let is : contexts ≡ either_outcome run path (contexts_report image run) true = came.answered ∙ ap (either_outcome run path (contexts_report image run)) text.1 in
     let ran_is = run_is guest path options job.leaves files contexts came ran is_ran in
     record {
       earlier = recording_stores options.recording (recording run.moves);
@@ -33,9 +34,7 @@ contexts_begin guest path options files bytes contexts ran is_contexts stored is
       stored = ap (λ (o : Outcome). o.stores) ran_is;
       more = contexts_text run.past (in_order (tree.contexts run.past));
       begins = text.0;
-      verdict = ap (λ (o : Outcome). o.verdict) came.answered
-          ∙ ap (λ b. if b then Ran run.finish else ResultTooLarge) text.1
-          ∙ sym (ap (λ (o : Outcome). o.verdict) ran_is);
-      out = ap (λ (o : Outcome). o.out) came.answered ∙ sym (ap (λ (o : Outcome). o.out) ran_is);
-      err = ap (λ (o : Outcome). o.err) came.answered ∙ sym (ap (λ (o : Outcome). o.err) ran_is);
+      verdict = ap (λ (o : Outcome). o.verdict) is ∙ sym (ap (λ (o : Outcome). o.verdict) ran_is);
+      out = ap (λ (o : Outcome). o.out) is ∙ sym (ap (λ (o : Outcome). o.out) ran_is);
+      err = ap (λ (o : Outcome). o.err) is ∙ sym (ap (λ (o : Outcome). o.err) ran_is);
     }

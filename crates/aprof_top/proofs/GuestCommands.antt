@@ -1,8 +1,6 @@
 -- How a command that runs a guest ends, once its guest is prepared.
-use Rattle.std.proofs.Common.{◌≡◌, ℕ, Bool, List, None, Result, refl, ap₂}
+use Rattle.std.proofs.Common.{◌≡◌, ℕ, Bool, List, Option, Some, None, Result, refl, ap₂}
 use Rattle.command_line.specs.Options.{Analysis, GuestOptions, arguments}
-use Rattle.command_line.specs.Options.Analysis.{Run, Trace, Cache, Contexts}
-use Rattle.elf_image.specs.Image.{Executable}
 use Rattle.guest_machine.specs.Setup.{setup_refusal}
 use Rattle.guest_machine.specs.Start.{start}
 use Rattle.guest_run.specs.Output.{Sinks, sinks, with_output}
@@ -14,36 +12,27 @@ use Rattle.trace_model.specs.declared.event_kinds.Event.{Event}
 use Rattle.aprof_top.specs.declared.ending.Ending as declared
 use Rattle.aprof_top.specs.declared.ending.Verdict.{Verdict}
 use Rattle.aprof_top.specs.declared.preparation.Prepared.{Prepared}
-use Rattle.aprof_top.specs.ContextReports.{can_be_numbered}
 use Rattle.aprof_top.specs.Jobs.{JobRuns, RunIsStored, RunStops, desk, ending_by}
 use Rattle.aprof_top.specs.Loads.{Loaded}
-use Rattle.aprof_top.specs.Outcome.{Job, Outcome, follows_to, job_of, left_of}
+use Rattle.aprof_top.specs.Outcome.{Job, Left, Outcome, analysed, follows_to, job_of, left_of, run_outcome}
 use Rattle.aprof_top.specs.Outside.{outside}
 use Rattle.aprof_top.specs.Preparing.{ArePrepared}
 use Rattle.aprof_top.specs.Run.{observed_from}
-use Rattle.aprof_top.specs.Traces.{is_storable, trace_of}
 use Rattle.aprof_top.specs.Verdicts.{IsOfRun}
-use Rattle.aprof_top.proofs.Recorded.{of_run_by}
 use Rattle.aprof_top.proofs.Runs.{FilesRun-given_up, FilesRun-stored, seen_by}
 
--- what is left of a run: it came to this, and the output is the guest's
-of_run : (path : List ℕ) (analysis : Analysis) (image : Executable) (seen : Profiled) → IsOfRun (left_of path analysis image seen).verdict
-of_run path (Run options) image seen = tt
-of_run path Trace image seen = of_run_by (is_storable (trace_of image seen)) seen.finish
-of_run path (Cache shape) image seen = tt
-of_run path (Contexts bits) image seen = of_run_by (can_be_numbered seen.past) seen.finish
+-- what a run leaves: it came to this, and the output is the guest's
+of_run : (seen : Profiled) (left : Option Left) → IsOfRun (run_outcome seen left).verdict
+of_run seen (Some left) = tt
+of_run seen None = tt
 
-out_is : (path : List ℕ) (analysis : Analysis) (image : Executable) (seen : Profiled) → (left_of path analysis image seen).out ≡ bytes_on 1 seen.moves
-out_is path (Run options) image seen = refl
-out_is path Trace image seen = refl
-out_is path (Cache shape) image seen = refl
-out_is path (Contexts bits) image seen = refl
+out_is : (seen : Profiled) (left : Option Left) → (run_outcome seen left).out ≡ bytes_on 1 seen.moves
+out_is seen (Some left) = refl
+out_is seen None = refl
 
-err_is : (path : List ℕ) (analysis : Analysis) (image : Executable) (seen : Profiled) → (left_of path analysis image seen).err ≡ bytes_on 2 seen.moves
-err_is path (Run options) image seen = refl
-err_is path Trace image seen = refl
-err_is path (Cache shape) image seen = refl
-err_is path (Contexts bits) image seen = refl
+err_is : (seen : Profiled) (left : Option Left) → (run_outcome seen left).err ≡ bytes_on 2 seen.moves
+err_is seen (Some left) = refl
+err_is seen None = refl
 
 -- what is observed of the run of a guest that was prepared
 abbrev pub seen_of : (List Event → Bool) → GuestOptions → Prepared → Profiled
@@ -58,12 +47,15 @@ module _ (guest : GuestOptions) (path : List ℕ) (analysis : Analysis) (prepare
   abbrev seen : Profiled
   seen = seen_of (follows_to analysis) guest prepared
 
-  abbrev left : Outcome
+  abbrev left : Option Left
   left = left_of path analysis prepared.image seen
 
-  left_is : (loaded : Loaded) → ArePrepared guest loaded prepared → left ≡ job.leaves loaded prepared.files.schedule
+  abbrev outcome : Outcome
+  outcome = run_outcome seen left
+
+  left_is : (loaded : Loaded) → ArePrepared guest loaded prepared → outcome ≡ job.leaves loaded prepared.files.schedule
   left_is loaded are =
-      ap₂ (left_of path analysis) are.image
+      ap₂ (analysed path analysis) are.image
       (seen_by (follows_to analysis) guest loaded prepared.files.schedule prepared.image prepared.files.inputs prepared.files.stdin.items are.image are.inputs_are are.stdin)
 
   -- its run stopped before its end
@@ -71,15 +63,15 @@ module _ (guest : GuestOptions) (path : List ℕ) (analysis : Analysis) (prepare
       JobRuns job prepared (outside files out err) (outside files after.out after.err) e
   JobRuns-given_up e stops loaded are =
       FilesRun-given_up job loaded are.accepted prepared.files.schedule are.read.0 are.read.1 prepared.image are.image
-      seen left (left_is loaded are) (of_run path analysis prepared.image seen) (out_is path analysis prepared.image seen) (err_is path analysis prepared.image seen)
+      seen outcome (left_is loaded are) (of_run seen left) (out_is seen left) (err_is seen left)
       files (sinks out err) after e stops
 
   -- its run came to its end, and what it leaves was stored so
   pub JobRuns-stored : setup_refusal prepared.image (arguments guest) ≡ None → after ≡ with_output seen.moves (sinks out err) →
       (stored : FilesState) (last : SinkState) (result : Result Verdict declared.Ending) →
-      RunIsStored left (desk files after.err) (desk stored last) result →
+      RunIsStored outcome (desk files after.err) (desk stored last) result →
       JobRuns job prepared (outside files out err) (outside stored after.out last) (ending_by result)
   JobRuns-stored begins whole stored last result stores loaded are =
       FilesRun-stored job loaded are.accepted prepared.files.schedule are.read.0 are.read.1 prepared.image are.image
-      seen left (left_is loaded are) (of_run path analysis prepared.image seen) (out_is path analysis prepared.image seen) (err_is path analysis prepared.image seen)
+      seen outcome (left_is loaded are) (of_run seen left) (out_is seen left) (err_is seen left)
       files (sinks out err) after begins whole stored last result stores

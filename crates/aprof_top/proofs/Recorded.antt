@@ -9,6 +9,8 @@ use Rattle.std.proofs.lemmas.List.Kept.{AllPairs-cons}
 use Rattle.std.proofs.lemmas.Grind.{flat_map-append}
 use Rattle.cache_profile.specs.ReportText.{cache_text}
 use Rattle.cache_lines.specs.Shapes.{Form}
+use Rattle.command_line.specs.Options.Analysis.{Trace, Cache, Contexts}
+use Rattle.stamps.specs.declared.width.StampBits.{StampBits}
 use Rattle.cost_points.specs.Keys as keys
 use Rattle.cost_points.proofs.Rising.{IsRising-above, IsRising-rising, IsRising-tail}
 use Rattle.elf_image.specs.Image.{Executable, name_of}
@@ -34,14 +36,9 @@ use Rattle.context_tree.specs.Contexts.{contexts}
 use Rattle.context_tree.specs.declared.numbers.TheConstants.{CONTEXTS}
 use Rattle.aprof_top.specs.ContextReports.{can_be_numbered, contexts_report}
 use Rattle.aprof_top.specs.CacheMisses.{misses_of}
-use Rattle.aprof_top.specs.Outcome.{Outcome, cache_outcome, contexts_outcome, trace_outcome}
+use Rattle.aprof_top.specs.Outcome.{Outcome, analysed, one_file, run_outcome}
 use Rattle.aprof_top.specs.Traces.{is_storable, named_entries, trace_of}
 use Rattle.aprof_top.specs.Verdicts.{IsOfRun}
-
--- a run came to a verdict by whether its result can be stored
-pub of_run_by : (b : Bool) (finish : Finish) → IsOfRun (if b then Ran finish else ResultTooLarge)
-of_run_by true finish = tt
-of_run_by false finish = tt
 
 -- a trace that is stored, and one that is too long
 pub storable : (text : List ℕ) → length text ≤ TRACE_BYTES → is_storable text ≡ true
@@ -102,19 +99,19 @@ one_unstored outcome path bytes are store.Memory old new err same = record { sto
 
 -- that of a trace
 module _ (path : List ℕ) (image : Executable) (run : Profiled) (bytes : List ℕ) (is : bytes ≡ trace_of image run) (short : length bytes ≤ TRACE_BYTES) where
-  stores_are : (trace_outcome path image run).stores ≡ (path, bytes) ∷ []
+  stores_are : (analysed path Trace image run).stores ≡ (path, bytes) ∷ []
   stores_are =
-      ap (λ (b : Bool). if b then (path, trace_of image run) ∷ [] else []) (storable (trace_of image run) (subst (λ (text : List ℕ). length text ≤ TRACE_BYTES) is short))
+      ap (λ (b : Bool). (run_outcome run (if b then Some (one_file path (trace_of image run)) else None)).stores) (storable (trace_of image run) (subst (λ (text : List ℕ). length text ≤ TRACE_BYTES) is short))
       ∙ ap (λ (text : List ℕ). (path, text) ∷ []) (sym is)
 
-  pub unstored : (e : StoreError) (old new : FilesState) (err : SinkState) → StoreEnds path bytes old new (Err e) → RunIsStored (trace_outcome path image run) (desk old err) (desk new err) (Err (of_store e))
-  unstored = one_unstored (trace_outcome path image run) path bytes stores_are
+  pub unstored : (e : StoreError) (old new : FilesState) (err : SinkState) → StoreEnds path bytes old new (Err e) → RunIsStored (analysed path Trace image run) (desk old err) (desk new err) (Err (of_store e))
+  unstored = one_unstored (analysed path Trace image run) path bytes stores_are
 
 -- that of a report of cache misses
 pub misses_unstored : (path : List ℕ) (shape : Form) (image : Executable) (run : Profiled) (bytes : List ℕ) → bytes ≡ cache_text (misses_of shape image run.finish run.past)
-    → (e : StoreError) (old new : FilesState) (err : SinkState) → StoreEnds path bytes old new (Err e) → RunIsStored (cache_outcome path shape image run) (desk old err) (desk new err) (Err (of_store e))
+    → (e : StoreError) (old new : FilesState) (err : SinkState) → StoreEnds path bytes old new (Err e) → RunIsStored (analysed path (Cache shape) image run) (desk old err) (desk new err) (Err (of_store e))
 misses_unstored path shape image run bytes is =
-    one_unstored (cache_outcome path shape image run) path bytes (ap (λ (text : List ℕ). (path, text) ∷ []) (sym is))
+    one_unstored (analysed path (Cache shape) image run) path bytes (ap (λ (text : List ℕ). (path, text) ∷ []) (sym is))
 
 -- that of a report with contexts
 pub few_contexts : (past : List Event) → length (contexts past) ≤ CONTEXTS → can_be_numbered past ≡ true
@@ -123,8 +120,8 @@ few_contexts past few = grind (arith, nat_tests, few)
 pub many_contexts : (past : List Event) → IsPastNumbers past → can_be_numbered past ≡ false
 many_contexts past many = grind (arith, nat_tests, many)
 
-pub contexts_unstored : (path : List ℕ) (image : Executable) (run : Profiled) (bytes : List ℕ) → can_be_numbered run.past ≡ true → bytes ≡ contexts_report image run
-    → (e : StoreError) (old new : FilesState) (err : SinkState) → StoreEnds path bytes old new (Err e) → RunIsStored (contexts_outcome path image run) (desk old err) (desk new err) (Err (of_store e))
-contexts_unstored path image run bytes few is =
-    one_unstored (contexts_outcome path image run) path bytes
-    (ap (λ (b : Bool). if b then (path, contexts_report image run) ∷ [] else []) few ∙ ap (λ (text : List ℕ). (path, text) ∷ []) (sym is))
+pub contexts_unstored : (path : List ℕ) (bits : StampBits) (image : Executable) (run : Profiled) (bytes : List ℕ) → can_be_numbered run.past ≡ true → bytes ≡ contexts_report image run
+    → (e : StoreError) (old new : FilesState) (err : SinkState) → StoreEnds path bytes old new (Err e) → RunIsStored (analysed path (Contexts bits) image run) (desk old err) (desk new err) (Err (of_store e))
+contexts_unstored path bits image run bytes few is =
+    one_unstored (analysed path (Contexts bits) image run) path bytes
+    (ap (λ (b : Bool). (run_outcome run (if b then Some (one_file path (contexts_report image run)) else None)).stores) few ∙ ap (λ (text : List ℕ). (path, text) ∷ []) (sym is))

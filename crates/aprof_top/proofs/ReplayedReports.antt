@@ -138,7 +138,7 @@ traces_replay known guest report options files path bytes traced ran replayed fe
     let image = image_of loaded.image in
     let wide : Profiled = run_of B32 guest loaded came.turns in
     let narrow : Profiled = run_of options.bits guest loaded came.turns in
-    let text = stored_text (is_storable (trace_of image wide)) path bytes (trace_of image wide) (ap (λ (o : Outcome). o.stores) (sym came.answered) ∙ stored) in
+    let text = stored_text wide (is_storable (trace_of image wide)) path bytes (trace_of image wide) (ap (λ (o : Outcome). o.stores) (sym came.answered) ∙ stored) in
     let asked = replayed_from report options path in
     let is_trace : IsTrace bytes wide.past (names_begun image wide.past) wide.finish = record {
       told = record {

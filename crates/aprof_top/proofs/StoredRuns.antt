@@ -8,10 +8,11 @@ use Rattle.elf_image.specs.Reading.{image_of}
 use Rattle.elf_image.specs.Tests.{first_refusal}
 use Rattle.guest_machine.specs.declared.setup.SetupError.{SetupError}
 use Rattle.guest_machine.specs.Setup.{setup_refusal}
+use Rattle.guest_run.specs.Profiled.{Profiled}
 use Rattle.thread_sched.specs.declared.entry.Entry.{Entry}
 use Rattle.aprof_top.specs.declared.ending.Verdict.TheVariants.{BadImage, BadSchedule, TooLarge}
 use Rattle.aprof_top.specs.Loads.{Loaded, loaded_of}
-use Rattle.aprof_top.specs.Outcome.{ByImage, Follows, IsRun, Job, Outcome, Stage, begun_outcome, job_of, refusal, run_outcome, scheduled_outcome, stage}
+use Rattle.aprof_top.specs.Outcome.{ByImage, Follows, IsRun, Job, Outcome, Stage, begun_outcome, analysed, job_of, one_file, refusal, run_outcome, scheduled_outcome, stage}
 use Rattle.aprof_top.specs.Outcome.Stage.{Complete, Loading, PastLimit}
 use Rattle.aprof_top.specs.Run.{run_of}
 use Rattle.aprof_top.specs.Schedules.{Reading, Reads}
@@ -62,7 +63,7 @@ module _ (guest : GuestOptions) (report : List ℕ) (options : RunOptions) (leav
   with_files = loaded_of guest files
 
   pub run_is : Follows (run_job guest report options) files ran (stage guest files)
-      → ran ≡ run_outcome report options (image_of with_files.image) (run_of options.bits guest with_files came.turns)
+      → ran ≡ analysed report (Run options) (image_of with_files.image) (run_of options.bits guest with_files came.turns)
   run_is follows =
       let is_run : IsRun (run_job guest report options) with_files ran = subst (λ s. Follows (run_job guest report options) files ran s) came.complete follows in
       let scheduled = subst (λ o. ByImage (run_job guest report options) with_files ran o) came.accepted is_run in
@@ -71,11 +72,11 @@ module _ (guest : GuestOptions) (report : List ℕ) (options : RunOptions) (leav
       ∙ ap (begun_outcome (run_job guest report options) with_files came.turns) came.begins
 
 -- what was stored is this text
-abbrev pub either_store : Bool → List ℕ → List ℕ → List (List ℕ × List ℕ)
-either_store b path text = if b then (path, text) ∷ [] else []
+abbrev pub either_outcome : Profiled → List ℕ → List ℕ → Bool → Outcome
+either_outcome run path text b = run_outcome run (if b then Some (one_file path text) else None)
 
-pub stored_text : (b : Bool) (path bytes text : List ℕ) → either_store b path text ≡ (path, bytes) ∷ [] → (bytes ≡ text) × (b ≡ true)
-stored_text true path bytes text same =
+pub stored_text : (run : Profiled) (b : Bool) (path bytes text : List ℕ) → (either_outcome run path text b).stores ≡ (path, bytes) ∷ [] → (bytes ≡ text) × (b ≡ true)
+stored_text run true path bytes text same =
     let first : (path, text) ≡ (path, bytes) = cc same in
     (sym (ap (λ (store : List ℕ × List ℕ). store.1) first), refl)
-stored_text false path bytes text same = absurd (cc same)
+stored_text run false path bytes text same = absurd (cc same)

@@ -6,6 +6,7 @@ use Rattle.std.specs.Option.{option_to_list}
 use Rattle.std.proofs.lemmas.Bool.Decides.{nat_tests}
 use Rattle.guest_words.specs.declared.limits.TheConstants.{RUN_STEPS}
 use Rattle.command_line.specs.Options.{GuestOptions, RunOptions, arguments, inputs}
+use Rattle.command_line.specs.Options.Analysis.{Run}
 use Rattle.elf_image.specs.declared.error.ElfError.{ElfError}
 use Rattle.elf_image.specs.Reading.{image_of}
 use Rattle.elf_image.specs.Tests.{first_refusal}
@@ -26,7 +27,7 @@ use Rattle.aprof_top.specs.declared.ending.Verdict.TheVariants.{BadImage, BadSch
 use Rattle.aprof_top.specs.Laws.{TwoRunsAgree, under_schedule, with_schedule}
 use Rattle.aprof_top.specs.Limits.{file_limit, inputs_limit}
 use Rattle.aprof_top.specs.Loads.{Loaded, with_inputs, first_file, file_at, loaded_of, loaded_paths, passes_limit, shared_count, shared_length}
-use Rattle.aprof_top.specs.Outcome.{ByImage, Follows, IsRun, Outcome, Stage, begun_outcome, recording_stores, refusal, run_outcome, scheduled_outcome, stage}
+use Rattle.aprof_top.specs.Outcome.{ByImage, Follows, IsRun, Outcome, Stage, analysed, begun_outcome, recording_stores, refusal, scheduled_outcome, stage}
 use Rattle.aprof_top.specs.Outcome.Stage.{Complete, Loading, PastLimit}
 use Rattle.aprof_top.specs.Report.{report_of}
 use Rattle.aprof_top.specs.Run.{first_state, observed_from, run_of}
@@ -152,7 +153,7 @@ record Ran' (guest : GuestOptions) (report : List ℕ) (options : RunOptions) (l
   accepted : first_refusal loaded.image ≡ None
   begins : setup_refusal (image_of loaded.image) (arguments guest) ≡ None
   turns : List Entry
-  answered : outcome ≡ run_outcome report options (image_of loaded.image) (run_of options.bits guest loaded turns)
+  answered : outcome ≡ analysed report (Run options) (image_of loaded.image) (run_of options.bits guest loaded turns)
 
 module _ (guest : GuestOptions) (report : List ℕ) (options : RunOptions) (loaded : Loaded) (outcome : Outcome) (finish : Finish) (ran : outcome.verdict ≡ Ran finish) where
   no_refusal : {A : Type 0} (v : Verdict) → (v ≡ Ran finish → ⊥) → outcome ≡ refusal v → A
@@ -205,13 +206,13 @@ module _ (replays : ReplaysProfiled) (entries : EveryRunRecordsEntries) (guest :
   are_entries few = (entries (image_of loaded.image) (arguments guest) (with_inputs [] (inputs guest) loaded.inputs) loaded.stdin (is_within (greatest options.bits)) (scheduler guest.quantum turns) guest.budget few).profiled_part
 
   module _ (few : guest.budget ≤ RUN_STEPS) (no_mismatch : IsNoMismatch seen.finish) (is_text : text ≡ schedule_text (recording seen.moves)) (accepted : first_refusal loaded.image ≡ None) (begins : setup_refusal (image_of loaded.image) (arguments guest) ≡ None) (second : Outcome) where
-    under_turns : second ≡ scheduled_outcome (run_job (under_schedule guest path) report options) again (Turns (recording seen.moves)) → second ≡ run_outcome report options (image_of loaded.image) seen
+    under_turns : second ≡ scheduled_outcome (run_job (under_schedule guest path) report options) again (Turns (recording seen.moves)) → second ≡ analysed report (Run options) (image_of loaded.image) seen
     under_turns is =
         is
         ∙ ap (begun_outcome (run_job (under_schedule guest path) report options) again (recording seen.moves)) begins
-        ∙ ap (run_outcome report options (image_of loaded.image)) (same_seen no_mismatch)
+        ∙ ap (analysed report (Run options) (image_of loaded.image)) (same_seen no_mismatch)
 
-    second_run : IsRun (run_job (under_schedule guest path) report options) again second → second ≡ run_outcome report options (image_of loaded.image) seen
+    second_run : IsRun (run_job (under_schedule guest path) report options) again second → second ≡ analysed report (Run options) (image_of loaded.image) seen
     second_run is =
         let run = subst (λ o. ByImage (run_job (under_schedule guest path) report options) again second o) accepted is in
         under_turns (run.answered ∙ ap (scheduled_outcome (run_job (under_schedule guest path) report options) again) (reads_once text run.reading (Turns (recording seen.moves)) run.read (are_entries few, inl is_text)))

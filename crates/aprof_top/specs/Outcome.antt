@@ -1,6 +1,5 @@
 -- What the written product answers to a command, over the files that it loads.
 use Rattle.std.specs.Prelude.{◌≡◌, ◌≢◌, ◌⊎◌, ℕ, ◌^◌, Bool, true, false, codes, nat_lt, List, [], ◌∷◌, ◌++◌, length, Option, Some, None, if◌then◌else◌}
-use Rattle.cache_lines.specs.Shapes.{Form}
 use Rattle.command_line.specs.Options.{Analysis, Asked, GuestOptions, ReplayOptions, RunOptions, arguments}
 use Rattle.command_line.specs.Options.Analysis.{Run, Trace, Cache, Contexts}
 use Rattle.command_line.specs.Options.Asked.{Guest, Replay, Demo}
@@ -76,46 +75,47 @@ run_stores report options image finish past turns =
 abbrev pub stats_of : Bool → ℕ → List ℕ
 stats_of asked count = if asked then renumberings_text count else []
 
--- what a run leaves: its output and its files
-abbrev pub run_outcome : List ℕ → RunOptions → Executable → Profiled → Outcome
-run_outcome report options image run = record {
-  verdict = Ran run.finish;
-  out = bytes_on 1 run.moves;
-  err = bytes_on 2 run.moves;
-  stores = run_stores report options image run.finish run.past (recording run.moves);
+-- What is made of a run beside the guest's output.
+pub record Left : Type 0 where
+  -- the files that are stored, in order: the path and the bytes of each
+  pub stores : List (List ℕ × List ℕ)
+  -- what is put on `err` then
+  pub stats : List ℕ
+
+-- one file is stored
+abbrev pub one_file : List ℕ → List ℕ → Left
+one_file path bytes = record { stores = (path, bytes) ∷ []; stats = [] }
+
+-- what an analysis makes of a run, with its result at this path; none where that is too large
+abbrev pub left_of : List ℕ → Analysis → Executable → Profiled → Option Left
+left_of path (Run options) image run = Some (record {
+  stores = run_stores path options image run.finish run.past (recording run.moves);
   stats = stats_of options.stats (renumberings (greatest options.bits) run.past);
-}
+})
+left_of path Trace image run = if is_storable (trace_of image run) then Some (one_file path (trace_of image run)) else None
+left_of path (Cache shape) image run = Some (one_file path (cache_text (misses_of shape image run.finish run.past)))
+left_of path (Contexts bits) image run = if can_be_numbered run.past then Some (one_file path (contexts_report image run)) else None
 
--- what a run leaves that is traced: its output, and its trace at this path unless that is too long
-abbrev pub trace_outcome : List ℕ → Executable → Profiled → Outcome
-trace_outcome path image run = record {
-  verdict = if is_storable (trace_of image run) then Ran run.finish else ResultTooLarge;
-  out = bytes_on 1 run.moves;
-  err = bytes_on 2 run.moves;
-  stores = if is_storable (trace_of image run) then (path, trace_of image run) ∷ [] else [];
-  stats = [];
-}
-
--- what a run leaves whose misses of a cache are counted: its output, and the report of them
-abbrev pub cache_outcome : List ℕ → Form → Executable → Profiled → Outcome
-cache_outcome report shape image run = record {
+-- what a run leaves: the guest's output, and what is made of it
+abbrev pub run_outcome : Profiled → Option Left → Outcome
+run_outcome run (Some left) = record {
   verdict = Ran run.finish;
   out = bytes_on 1 run.moves;
   err = bytes_on 2 run.moves;
-  stores = (report, cache_text (misses_of shape image run.finish run.past)) ∷ [];
+  stores = left.stores;
+  stats = left.stats;
+}
+run_outcome run None = record {
+  verdict = ResultTooLarge;
+  out = bytes_on 1 run.moves;
+  err = bytes_on 2 run.moves;
+  stores = [];
   stats = [];
 }
 
--- what a run leaves whose calling contexts are told: its output, and its report with them unless they are more than can be
--- numbered
-abbrev pub contexts_outcome : List ℕ → Executable → Profiled → Outcome
-contexts_outcome report image run = record {
-  verdict = if can_be_numbered run.past then Ran run.finish else ResultTooLarge;
-  out = bytes_on 1 run.moves;
-  err = bytes_on 2 run.moves;
-  stores = if can_be_numbered run.past then (report, contexts_report image run) ∷ [] else [];
-  stats = [];
-}
+-- the same, by the analysis
+abbrev pub analysed : List ℕ → Analysis → Executable → Profiled → Outcome
+analysed path analysis image run = run_outcome run (left_of path analysis image run)
 
 -- A command that runs a guest: how it is run, and what its run leaves with these files, under these turns.
 pub record Job : Type 0 where
@@ -130,18 +130,11 @@ follows_to Trace = is_within (greatest B32)
 follows_to (Cache shape) = λ past. true
 follows_to (Contexts bits) = is_within (greatest bits)
 
--- what it leaves of what is observed so far, with its result at this path
-abbrev pub left_of : List ℕ → Analysis → Executable → Profiled → Outcome
-left_of path (Run options) = run_outcome path options
-left_of path Trace = trace_outcome path
-left_of path (Cache shape) = cache_outcome path shape
-left_of path (Contexts bits) = contexts_outcome path
-
 -- the command that makes this of the run of this guest
 abbrev pub job_of : GuestOptions → List ℕ → Analysis → Job
 job_of guest path analysis = record {
   guest = guest;
-  leaves = λ loaded turns. left_of path analysis (image_of loaded.image) (observed_of (follows_to analysis) guest loaded turns);
+  leaves = λ loaded turns. analysed path analysis (image_of loaded.image) (observed_of (follows_to analysis) guest loaded turns);
 }
 
 -- a guest that can begin is run

@@ -8,7 +8,7 @@ ghost use Rattle.guest_run.specs.Profiled.{Profiled};
 ghost use Rattle.host_io.specs.Sink.{SinkState};
 ghost use Rattle.aprof_top.specs.CacheMisses.{misses_of};
 ghost use Rattle.aprof_top.specs.Jobs.{JobRuns, RunIsStored, desk, ending_by};
-ghost use Rattle.aprof_top.specs.Outcome.{cache_outcome, job_of};
+ghost use Rattle.aprof_top.specs.Outcome.{analysed, job_of};
 ghost use Rattle.aprof_top.specs.Outside.{outside};
 
 use crate::ending::{Ending, Verdict};
@@ -29,7 +29,7 @@ fn deliver_misses<F: Files>(
 ) -> Result<Verdict, Ending>
     ensures { (shape : Form) (image : Executable) (seen : Profiled)
         → report.now ≡ misses_of shape image seen.finish seen.past
-        → (err : SinkState) → RunIsStored (cache_outcome path.now shape image seen)
+        → (err : SinkState) → RunIsStored (analysed path.now (Cache shape) image seen)
         (desk (F.state files.old) err) (desk (F.state files.new) err) result }
 {
     let bytes = write_cache_report(alloc, report)?;

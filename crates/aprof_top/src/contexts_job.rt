@@ -5,10 +5,11 @@ ghost use Rattle.command_line.specs.Read.{AreInRange, guest_in};
 ghost use Rattle.context_profile.specs.Kept.{AreTotalsOf};
 ghost use Rattle.guest_run.specs.Profiled.{Profiled};
 ghost use Rattle.host_io.specs.Sink.{SinkState};
+ghost use Rattle.stamps.specs.declared.width.StampBits.{StampBits};
 ghost use Rattle.trace_model.specs.declared.event_kinds.Event.{Event};
 ghost use Rattle.aprof_top.specs.ContextReports.{can_be_numbered, contexts_report};
 ghost use Rattle.aprof_top.specs.Jobs.{HaveContexts, JobRuns, RunIsStored, desk, ending_by};
-ghost use Rattle.aprof_top.specs.Outcome.{contexts_outcome, job_of};
+ghost use Rattle.aprof_top.specs.Outcome.{analysed, job_of};
 ghost use Rattle.aprof_top.specs.Outside.{outside};
 
 use crate::contexts_run::{ContextsRun, contexts_of_run};
@@ -54,9 +55,9 @@ fn deliver_contexts<F: Files>(
     files: &mut F,
 ) -> Result<Verdict, Ending>
     requires { (most : ℕ) × ((past : List Event) × HaveContexts most run.contexts past) }
-    ensures { (most : ℕ) (seen : Profiled) → run.finish ≡ seen.finish
+    ensures { (bits : StampBits) (most : ℕ) (seen : Profiled) → run.finish ≡ seen.finish
         → HaveContexts most run.contexts seen.past
-        → (err : SinkState) → RunIsStored (contexts_outcome path.now image.now seen)
+        → (err : SinkState) → RunIsStored (analysed path.now (Contexts bits) image.now seen)
         (desk (F.state files.old) err) (desk (F.state files.new) err) result }
 {
     let ContextsRun { contexts, finish } = run;

@@ -7,7 +7,7 @@ ghost use Rattle.guest_run.specs.Run.{recording};
 ghost use Rattle.stamps.specs.Widths.{greatest};
 ghost use Rattle.run_profile.specs.Profile.{AreTotalsOf};
 ghost use Rattle.aprof_top.specs.Jobs.{JobRuns, RunIsStored, desk, ending_by, store_of};
-ghost use Rattle.aprof_top.specs.Outcome.{job_of, recording_stores, run_outcome, run_stores};
+ghost use Rattle.aprof_top.specs.Outcome.{analysed, job_of, recording_stores, run_stores};
 ghost use Rattle.aprof_top.specs.Outside.{outside};
 ghost use Rattle.trace_model.specs.declared.event_kinds.Event.{Event};
 
@@ -71,7 +71,7 @@ fn deliver_run<F: Files, E: Sink>(
 ) -> Result<Verdict, Ending>
     ensures { (seen : Profiled) → AreTotalsOf (greatest options.now.bits) run.now.totals seen.past
         → run.now.ended.recording ≡ recording seen.moves → run.now.ended.finish ≡ seen.finish
-        → RunIsStored (run_outcome path.now (run_in options.now) image.now seen)
+        → RunIsStored (analysed path.now (Run (run_in options.now)) image.now seen)
         (desk (F.state files.old) (E.state err.old)) (desk (F.state files.new) (E.state err.new)) result }
 {
     let stores = run_stores(alloc, path, options, image, run)?;

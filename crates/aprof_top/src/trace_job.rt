@@ -9,7 +9,7 @@ ghost use Rattle.run_trace.specs.declared.run_trace.TheConstants.{TRACE_BYTES};
 ghost use Rattle.trace_file.specs.TraceText.{trace_text};
 ghost use Rattle.trace_model.specs.declared.event_kinds.Event.{Event};
 ghost use Rattle.aprof_top.specs.Jobs.{AreTexts, JobRuns, RunIsStored, desk, ending_by};
-ghost use Rattle.aprof_top.specs.Outcome.{job_of, trace_outcome};
+ghost use Rattle.aprof_top.specs.Outcome.{analysed, job_of};
 ghost use Rattle.aprof_top.specs.Outside.{outside};
 ghost use Rattle.aprof_top.specs.Traces.{named_entries, names_begun};
 
@@ -75,7 +75,7 @@ fn deliver_trace<F: Files>(
     requires line { (line : ℕ) → run.finish ≡ ends.Schedule line → 1 ≤ line }
     requires text { (past : List Event) × AreTexts run.text past }
     ensures { (seen : Profiled) → run.finish ≡ seen.finish → AreTexts run.text seen.past
-        → (err : SinkState) → RunIsStored (trace_outcome path.now image.now seen)
+        → (err : SinkState) → RunIsStored (analysed path.now Trace image.now seen)
         (desk (F.state files.old) err) (desk (F.state files.new) err) result }
 {
     let TracedRun { text, finish } = run;
