@@ -9,9 +9,9 @@ use Rattle.std.proofs.lemmas.Bool.{and_parts, or_parts}
 use Rattle.clap.specs.Takes.{walk_passes}
 use Rattle.clap.specs.Walk.{Waiting, Walk, has_row, idle, option, positional, settled_rows, walked}
 use Rattle.clap.specs.Words.{Row, Text}
-use Rattle.command_line.specs.Plain.{ArePlain, Choice, HasNoRepeat, budget, caching, choice_words, has_plain_value, id_of, is_chosen, is_plain_word, line, quantum, recording, report, running, schedule, sets, stamps, stats, stdin, telling, tracing, ways, words_of}
+use Rattle.command_line.specs.Plain.{ArePlain, Choice, HasNoRepeat, budget, choice_words, has_plain_value, id_of, is_chosen, is_plain_word, line, quantum, recording, report, schedule, sets, stamps, stats, stdin, ways, words_of}
 use Rattle.command_line.proofs.Rows.{absent_in_both, IsNoChoice, choice_row, choice_rows, image_is_none, made_rows, no_choice_row, plain_row, tail_rows, trace_is_none, word_is_none, word_rows}
-use Rattle.command_line.proofs.Steps.{IsNoFlag, Pending, RunsGuest, Settles, Subcommand, TakesStats, TakesValue, cache_takes_line, cache_takes_sets, cache_takes_ways, contexts_takes_stamps, first_turn, first_word, further_turn, further_word, has_option, of_guest, pass_step, path_id, path_settles, path_turn, path_word, plain_is_no_flag, replay_takes_stamps, replay_takes_stats, replaying, rules, run_takes_recording, run_takes_stamps, run_takes_stats, shape, stand, takes_budget, takes_output, takes_quantum, takes_schedule, takes_stdin, turn, words_settle}
+use Rattle.command_line.proofs.Steps.{IsNoFlag, Pending, RunsGuest, Settles, Subcommand, TakesStats, TakesValue, first_turn, first_word, further_turn, further_word, has_option, of_guest, pass_step, path_id, path_settles, path_turn, path_word, plain_is_no_flag, replaying, rules, shape, stand, takes_choice, turn, words_settle}
 
 -- ---- the options
 
@@ -55,45 +55,17 @@ goes_stats k rows p all takes h fresh =
 
 goes_choice : (k : Subcommand) (c : Choice) (rows : List Row) (p : Pending) (all : List Row) → Settles k rows p all → has_option k c ≡ true
     → has_plain_value c ≡ true → has_row (id_of c) all ≡ false → Goes k rows p (words_of c) (all ++ choice_row c ∷ [])
-goes_choice (of_guest g) (stdin v) rows p all h has plain fresh = goes_value (of_guest g) _ _ v rows p all (takes_stdin g) h (plain_is_no_flag v plain) fresh
-goes_choice replaying (stdin v) rows p all h has plain fresh = let no : false ≡ true = has in cc
-goes_choice (of_guest g) (quantum v) rows p all h has plain fresh = goes_value (of_guest g) _ _ v rows p all (takes_quantum g) h (plain_is_no_flag v plain) fresh
-goes_choice replaying (quantum v) rows p all h has plain fresh = let no : false ≡ true = has in cc
-goes_choice (of_guest g) (schedule v) rows p all h has plain fresh = goes_value (of_guest g) _ _ v rows p all (takes_schedule g) h (plain_is_no_flag v plain) fresh
-goes_choice replaying (schedule v) rows p all h has plain fresh = let no : false ≡ true = has in cc
-goes_choice (of_guest g) (budget v) rows p all h has plain fresh = goes_value (of_guest g) _ _ v rows p all (takes_budget g) h (plain_is_no_flag v plain) fresh
-goes_choice replaying (budget v) rows p all h has plain fresh = let no : false ≡ true = has in cc
-goes_choice k (report v) rows p all h has plain fresh = goes_value k _ _ v rows p all (takes_output k) h (plain_is_no_flag v plain) fresh
-goes_choice (of_guest running) (recording v) rows p all h has plain fresh = goes_value (of_guest running) _ _ v rows p all run_takes_recording h (plain_is_no_flag v plain) fresh
-goes_choice (of_guest running) (stamps v) rows p all h has plain fresh = goes_value (of_guest running) _ _ v rows p all run_takes_stamps h (plain_is_no_flag v plain) fresh
-goes_choice (of_guest running) stats rows p all h has plain fresh = goes_stats (of_guest running) rows p all run_takes_stats h fresh
-goes_choice (of_guest running) (sets v) rows p all h has plain fresh = let no : false ≡ true = has in cc
-goes_choice (of_guest running) (ways v) rows p all h has plain fresh = let no : false ≡ true = has in cc
-goes_choice (of_guest running) (line v) rows p all h has plain fresh = let no : false ≡ true = has in cc
-goes_choice (of_guest tracing) (recording v) rows p all h has plain fresh = let no : false ≡ true = has in cc
-goes_choice (of_guest tracing) (stamps v) rows p all h has plain fresh = let no : false ≡ true = has in cc
-goes_choice (of_guest tracing) stats rows p all h has plain fresh = let no : false ≡ true = has in cc
-goes_choice (of_guest tracing) (sets v) rows p all h has plain fresh = let no : false ≡ true = has in cc
-goes_choice (of_guest tracing) (ways v) rows p all h has plain fresh = let no : false ≡ true = has in cc
-goes_choice (of_guest tracing) (line v) rows p all h has plain fresh = let no : false ≡ true = has in cc
-goes_choice (of_guest caching) (recording v) rows p all h has plain fresh = let no : false ≡ true = has in cc
-goes_choice (of_guest caching) (stamps v) rows p all h has plain fresh = let no : false ≡ true = has in cc
-goes_choice (of_guest caching) stats rows p all h has plain fresh = let no : false ≡ true = has in cc
-goes_choice (of_guest caching) (sets v) rows p all h has plain fresh = goes_value (of_guest caching) _ _ v rows p all cache_takes_sets h (plain_is_no_flag v plain) fresh
-goes_choice (of_guest caching) (ways v) rows p all h has plain fresh = goes_value (of_guest caching) _ _ v rows p all cache_takes_ways h (plain_is_no_flag v plain) fresh
-goes_choice (of_guest caching) (line v) rows p all h has plain fresh = goes_value (of_guest caching) _ _ v rows p all cache_takes_line h (plain_is_no_flag v plain) fresh
-goes_choice (of_guest telling) (recording v) rows p all h has plain fresh = let no : false ≡ true = has in cc
-goes_choice (of_guest telling) (stamps v) rows p all h has plain fresh = goes_value (of_guest telling) _ _ v rows p all contexts_takes_stamps h (plain_is_no_flag v plain) fresh
-goes_choice (of_guest telling) stats rows p all h has plain fresh = let no : false ≡ true = has in cc
-goes_choice (of_guest telling) (sets v) rows p all h has plain fresh = let no : false ≡ true = has in cc
-goes_choice (of_guest telling) (ways v) rows p all h has plain fresh = let no : false ≡ true = has in cc
-goes_choice (of_guest telling) (line v) rows p all h has plain fresh = let no : false ≡ true = has in cc
-goes_choice replaying (recording v) rows p all h has plain fresh = let no : false ≡ true = has in cc
-goes_choice replaying (stamps v) rows p all h has plain fresh = goes_value replaying _ _ v rows p all replay_takes_stamps h (plain_is_no_flag v plain) fresh
-goes_choice replaying stats rows p all h has plain fresh = goes_stats replaying rows p all replay_takes_stats h fresh
-goes_choice replaying (sets v) rows p all h has plain fresh = let no : false ≡ true = has in cc
-goes_choice replaying (ways v) rows p all h has plain fresh = let no : false ≡ true = has in cc
-goes_choice replaying (line v) rows p all h has plain fresh = let no : false ≡ true = has in cc
+goes_choice k (stdin v) rows p all h has plain fresh = goes_value k _ _ v rows p all (takes_choice k (stdin v) has) h (plain_is_no_flag v plain) fresh
+goes_choice k (quantum v) rows p all h has plain fresh = goes_value k _ _ v rows p all (takes_choice k (quantum v) has) h (plain_is_no_flag v plain) fresh
+goes_choice k (schedule v) rows p all h has plain fresh = goes_value k _ _ v rows p all (takes_choice k (schedule v) has) h (plain_is_no_flag v plain) fresh
+goes_choice k (recording v) rows p all h has plain fresh = goes_value k _ _ v rows p all (takes_choice k (recording v) has) h (plain_is_no_flag v plain) fresh
+goes_choice k (budget v) rows p all h has plain fresh = goes_value k _ _ v rows p all (takes_choice k (budget v) has) h (plain_is_no_flag v plain) fresh
+goes_choice k (stamps v) rows p all h has plain fresh = goes_value k _ _ v rows p all (takes_choice k (stamps v) has) h (plain_is_no_flag v plain) fresh
+goes_choice k stats rows p all h has plain fresh = goes_stats k rows p all (takes_choice k stats has) h fresh
+goes_choice k (report v) rows p all h has plain fresh = goes_value k _ _ v rows p all (takes_choice k (report v) has) h (plain_is_no_flag v plain) fresh
+goes_choice k (sets v) rows p all h has plain fresh = goes_value k _ _ v rows p all (takes_choice k (sets v) has) h (plain_is_no_flag v plain) fresh
+goes_choice k (ways v) rows p all h has plain fresh = goes_value k _ _ v rows p all (takes_choice k (ways v) has) h (plain_is_no_flag v plain) fresh
+goes_choice k (line v) rows p all h has plain fresh = goes_value k _ _ v rows p all (takes_choice k (line v) has) h (plain_is_no_flag v plain) fresh
 
 -- none of the choices has a row
 abbrev AllFresh : List Row → List Choice → Type 0

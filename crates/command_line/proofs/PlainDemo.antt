@@ -11,10 +11,10 @@ use Rattle.command_line.specs.App.{the_app, top_app, guest_app, demo_app, replay
 use Rattle.command_line.specs.Options.{Demo}
 use Rattle.command_line.specs.Plain.{PlainDemoIsRead, PlainDemoIsTaken, demo_words}
 use Rattle.command_line.proofs.Fixed.{the_app_is_simple}
-use Rattle.command_line.proofs.PlainWords.{after_program, names, top_ends, top_rules}
+use Rattle.command_line.proofs.PlainWords.{after_program, top_ends}
 use Rattle.command_line.proofs.Refusals.{asked_is, read_of}
 use Rattle.command_line.proofs.Rows.{plain_row}
-use Rattle.command_line.proofs.Steps.{IsNoFlag, demo_shape, plain_is_no_flag}
+use Rattle.command_line.proofs.Steps.{IsNoFlag, demo_shape, names, plain_is_no_flag, top_rules}
 
 abbrev demo_rules : List Rule
 demo_rules = demo_shape.rules

@@ -4,7 +4,7 @@ use Rattle.std.specs.Prelude.{option_map}
 use Rattle.std.specs.List.{list_all, list_any}
 use Rattle.clap.specs.Words.{Row, Text, first_of, subcommand_of}
 use Rattle.command_line.specs.App.{the_app}
-use Rattle.command_line.specs.Options.{Analysis, Demo, GuestOptions, Replay, analysis_of_rows, asked_of, asked_of_rows, bits_of, budget_of, guest_asked_of_rows, guest_asked_with, guest_of_rows, guest_with, has_zero, quantum_of, replay_of_rows, replay_with}
+use Rattle.command_line.specs.Options.{Demo, GuestOptions, Replay, analysis_of_rows, asked_of, asked_of_rows, bits_of, budget_of, guest_asked_of_rows, guest_asked_with, guest_of_rows, guest_with, has_zero, quantum_of, replay_of_rows, replay_with}
 use Rattle.command_line.specs.Plain.{ArePlain, Choice, GiveBadNumber, GiveBadSteps, GuestCommand, PlainNumbersAreRefused, analysis_given, caching, demo_words, run_given, running, telling, tracing}
 use Rattle.command_line.specs.Plain as plain
 use Rattle.command_line.specs.Taken.{HasBadSteps, HasBadWidth}
@@ -60,12 +60,6 @@ bad_steps : (k : Subcommand) (choices : List Choice) (path : Text) (words : List
 bad_steps k choices path words (inl q) = inl (ap quantum_of (option_read k (codes "quantum") choices path words (refl, refl, refl, refl)) ∙ q)
 bad_steps k choices path words (inr b) = inr (ap budget_of (option_read k (codes "budget") choices path words (refl, refl, refl, refl)) ∙ b)
 
-no_analysis : (g : GuestCommand) (choices : List Choice) → GiveBadNumber g choices → analysis_given g choices ≡ None
-no_analysis running choices width = ap (option_map (run_given choices)) width
-no_analysis tracing choices none = absurd none
-no_analysis caching choices shape = ap (option_map Analysis.Cache) shape
-no_analysis telling choices width = ap (option_map Analysis.Contexts) width
-
 guest_asks_nothing : (g : GuestCommand) (choices : List Choice) (image : Text) (words : List Text) → GiveBadSteps choices ⊎ GiveBadNumber g choices
     → guest_asked_of_rows (plain.name_of g) (all_rows (of_guest g) choices image words) ≡ None
 guest_asks_nothing g choices image words (inl steps) =
@@ -74,7 +68,7 @@ guest_asks_nothing g choices image words (inl steps) =
     (no_guest rows (bad_steps (of_guest g) choices image words steps))
 guest_asks_nothing g choices image words (inr number) =
     let rows = all_rows (of_guest g) choices image words in
-    ap (guest_asked_with (guest_of_rows rows) (first_of (codes "output") rows)) (analysis_read g choices image words ∙ no_analysis g choices number)
+    ap (guest_asked_with (guest_of_rows rows) (first_of (codes "output") rows)) (analysis_read g choices image words ∙ number)
     ∙ nothing_asked (guest_of_rows rows) (first_of (codes "output") rows)
 
 pub plain_numbers : PlainNumbersAreRefused

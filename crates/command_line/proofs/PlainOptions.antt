@@ -1,6 +1,5 @@
 -- What is read of the rows of plain words.
 use Rattle.std.proofs.Common.{◌≡◌, ℕ, Bool, true, false, refl, ap, ap₂, sym, ◌∙◌, List, [], ◌∷◌, ◌++◌, Option, Some, None, codes, inl, inr}
-use Rattle.std.proofs.lemmas.List.{append-nil}
 use Rattle.std.specs.Prelude.{option_map, unwrap_or}
 use Rattle.std.specs.Str.{bytes_eq}
 use Rattle.clap.specs.Words.{Row, Text, all_of, first_of}
@@ -9,9 +8,9 @@ use Rattle.command_line.specs.Options.{Analysis, Replay, analysis_of_rows, asked
 use Rattle.command_line.specs.Plain.{Choice, GuestCommand, PlainOptionsAreRead, PlainReplayIsRead, analysis_given, budget, caching, given, guest_given, guest_words, id_of, is_chosen, line, quantum, recording, replay_words, report, run_given, running, schedule, sets, stamps, stats, stdin, telling, tracing, value_of, ways}
 use Rattle.command_line.specs.Plain as plain
 use Rattle.command_line.proofs.Refusals.{asked_is, read_of}
-use Rattle.command_line.proofs.PlainWords.{added_rows, all_rows, has_stats, plain_subcommand, rows_by}
-use Rattle.command_line.proofs.Steps.{Subcommand, of_guest, path_id, replaying}
-use Rattle.command_line.proofs.Rows.{IsNoChoice, choice_row, choice_rows, image_is_none, plain_rows, row_value, tail_rows, trace_is_none, word_is_none}
+use Rattle.command_line.proofs.PlainWords.{all_rows, end_rows, plain_subcommand, rows_are}
+use Rattle.command_line.proofs.Steps.{Subcommand, has_stats, of_guest, path_id, replaying}
+use Rattle.command_line.proofs.Rows.{IsNoChoice, choice_row, choice_rows, image_is_none, plain_rows, row_value, trace_is_none, word_is_none}
 
 -- a choice of this argument has a value, where that is not `stats`
 has_value : (id : Text) (c : Choice) → bytes_eq (codes "stats") id ≡ false → bytes_eq (id_of c) id ≡ true → Some (row_value c) ≡ value_of c
@@ -62,15 +61,6 @@ first_after id (c ∷ cs) rest h = rw (h c) (first_after id cs rest h)
 all_after : (id : Text) (cs : List Choice) (rest : List Row) → IsNoChoice id → all_of id (choice_rows cs ++ rest) ≡ all_of id rest
 all_after id [] rest h = refl
 all_after id (c ∷ cs) rest h = rw (h c) (all_after id cs rest h)
-
--- the rows after those of the options
-abbrev pub end_rows : Bool → Text → Text → List Text → Bool → List Row
-end_rows has id path words given = tail_rows id path words ++ added_rows has given
-
-rows_are : (has : Bool) (id : Text) (choices : List Choice) (path : Text) (words : List Text)
-    → rows_by has id choices path words ≡ choice_rows choices ++ end_rows has id path words (is_chosen (codes "stats") choices)
-rows_are true id choices path words = refl
-rows_are false id choices path words = ap (λ (end : List Row). choice_rows choices ++ end) (sym (append-nil (tail_rows id path words)))
 
 words_read : (has : Bool) (image : Text) (words : List Text) (given : Bool) → unwrap_or (all_of (codes "word") (end_rows has (codes "image") image words given)) [] ≡ words
 words_read true image [] true = refl

@@ -1,72 +1,26 @@
 -- Plain words are taken, and their rows are these.
-use Rattle.std.proofs.Common.{◌≡◌, ◌⊎◌, inl, inr, Bool, true, false, refl, ap, ap₂, sym, ◌∙◌, ◌&&◌, ◌||◌, List, [], ◌∷◌, ◌++◌, Option, Some, None, codes, append_assoc, cond}
+use Rattle.std.proofs.Common.{◌≡◌, ◌⊎◌, inl, inr, Bool, true, false, refl, ap, ap₂, sym, ◌∙◌, ◌&&◌, ◌||◌, List, [], ◌∷◌, ◌++◌, Option, Some, None, codes, append_assoc}
+use Rattle.std.proofs.lemmas.Bool.{and_parts}
 use Rattle.std.proofs.lemmas.List.{append-nil}
 use Rattle.std.proofs.lemmas.List.Folds.{list_any-append}
 use Rattle.std.proofs.Math.Bool.{or-false}
 use Rattle.std.proofs.lemmas.Slice.Eq.{bytes_eq-Decides}
-use Rattle.std.specs.Prelude.{drop, fold, is_some, take}
+use Rattle.std.specs.Prelude.{fold, is_some}
 use Rattle.std.specs.List.{list_all}
 use Rattle.std.specs.Str.{bytes_eq}
-use Rattle.clap.specs.Simple.{argument_words, entered, names_of}
-use Rattle.clap.specs.Takes.{built_takes, default_passes, entered_passes, is_given, is_valid, level_passes, settle_passes, turn_passes, walk_passes}
-use Rattle.clap.specs.Walk.{Names, Walk, default_rows, finished, has_row, idle, nothing_held, reading_by, rows_after, settled_rows, walk_from, walked, with_default}
-use Rattle.clap.specs.Words.{Row, Rule, Text, built, subcommand_of, takes}
+use Rattle.clap.specs.Simple.{argument_words, entered}
+use Rattle.clap.specs.Takes.{built_takes, default_passes, entered_passes, is_given, is_valid, level_passes, settle_passes, walk_passes}
+use Rattle.clap.specs.Walk.{Walk, finished, has_row, idle, nothing_held, rows_after, settled_rows, walk_from, walked, with_default}
+use Rattle.clap.specs.Words.{Row, Text, built, subcommand_of, takes}
 use Rattle.clap.proofs.OnLiterals.{clap_on_literals}
 use Rattle.command_line.specs.App.{the_app, top_app, guest_app, demo_app, replay_app}
-use Rattle.command_line.specs.Plain.{ArePlain, Choice, GuestCommand, HasRequired, PlainReplayIsTaken, PlainWordsAreTaken, budget, caching, choice_words, id_of, is_chosen, line, named_words, quantum, recording, report, running, schedule, sets, stamps, stats, stdin, telling, tracing, ways}
+use Rattle.command_line.specs.Plain.{ArePlain, Choice, HasRequired, PlainReplayIsTaken, PlainWordsAreTaken, budget, choice_words, id_of, is_chosen, line, named_words, quantum, recording, report, required, schedule, sets, stamps, stats, stdin, ways}
 use Rattle.command_line.proofs.Choices.{MayFollow, ends_command}
 use Rattle.command_line.proofs.Fixed.{the_app_is_simple}
-use Rattle.command_line.proofs.Rows.{choice_rows, if_unset, image_is_none, made_rows, plain_rows, tail_rows, trace_is_none, unset_rows, IsNoChoice}
-use Rattle.command_line.proofs.Steps.{Subcommand, has_option, name_of, of_guest, own_rules, path_id, replaying, rules, shape, shared_rules, stand}
+use Rattle.command_line.proofs.Rows.{choice_rows, image_is_none, made_rows, plain_rows, tail_rows, trace_is_none, unset_rows, IsNoChoice}
+use Rattle.command_line.proofs.Steps.{Subcommand, added_rows, at_command, defaults_pass, enters_command, enters_passes, finished_rows, has_option, has_stats, name_of, names, needed, no_override, of_guest, path_id, replaying, rules, shape, stand, stops_at, top_rules, turn_at, valid_given}
 
 -- ---- defaults
-
-abbrev pub NoDefaults : List Rule → Type 0
-NoDefaults [] = Unit {0}
-NoDefaults (a ∷ rest) = (a.defaults ≡ []) × NoDefaults rest
-
-if_none : (b : Bool) (a : Rule) (rows : List Row) → a.defaults ≡ [] → cond b rows (default_rows a.id (reading_by a) a.defaults rows) ≡ rows
-if_none true a rows e = refl
-if_none false a rows e = rw e refl
-
-pub no_defaults : (as_rules : List Rule) (rows : List Row) → NoDefaults as_rules → fold with_default rows as_rules ≡ rows
-no_defaults [] rows h = refl
-no_defaults (a ∷ rest) rows h =
-    ap (λ x. fold with_default x rest) (if_none (has_row a.id rows) a rows h.0) ∙ no_defaults rest rows h.1
-
--- only `--stats` has a default
-finished_shared : (rest : List Rule) (rows : List Row) → fold with_default rows (shared_rules ++ rest) ≡ fold with_default rows rest
-unfolding the_app top_app guest_app demo_app replay_app clap_on_literals
-finished_shared rest rows = ap (λ x. fold with_default x rest) (no_defaults shared_rules rows (refl, (refl, (refl, (refl, (refl, (refl, (refl, tt))))))))
-
--- the command has `--stats`
-abbrev pub has_stats : Subcommand → Bool
-has_stats (of_guest running) = true
-has_stats (of_guest tracing) = false
-has_stats (of_guest caching) = false
-has_stats (of_guest telling) = false
-has_stats replaying = true
-
--- the row that is added where the command has the option and it is not given
-abbrev pub added_rows : Bool → Bool → List Row
-added_rows has given = cond has (unset_rows given) []
-
-finished_own : (g : GuestCommand) (rows : List Row) → fold with_default rows (own_rules g) ≡ rows ++ added_rows (has_stats (of_guest g)) (has_row (codes "stats") rows)
-unfolding the_app top_app guest_app demo_app replay_app clap_on_literals
-finished_own running rows =
-    ap (λ x. fold with_default x (drop 2 (own_rules running))) (no_defaults (take 2 (own_rules running)) rows (refl, (refl, tt)))
-    ∙ if_unset (has_row (codes "stats") rows) rows refl
-finished_own tracing rows = sym (append-nil rows)
-finished_own caching rows = no_defaults (own_rules caching) rows (refl, (refl, (refl, tt))) ∙ sym (append-nil rows)
-finished_own telling rows = no_defaults (own_rules telling) rows (refl, tt) ∙ sym (append-nil rows)
-
-pub finished_rows : (k : Subcommand) (rows : List Row) → fold with_default rows (rules k) ≡ rows ++ added_rows (has_stats k) (has_row (codes "stats") rows)
-unfolding the_app top_app guest_app demo_app replay_app clap_on_literals
-finished_rows (of_guest g) rows = finished_shared (own_rules g) rows ∙ finished_own g rows
-finished_rows replaying rows =
-    ap (λ x. fold with_default x (drop 1 (rules replaying))) (no_defaults (take 1 (rules replaying)) rows (refl, tt))
-    ∙ (no_defaults (drop 2 (rules replaying)) (fold with_default rows (take 1 (drop 1 (rules replaying)))) (refl, (refl, tt))
-    ∙ if_unset (has_row (codes "stats") rows) rows refl)
 
 chosen_stats : (cs : List Choice) → has_row (codes "stats") (choice_rows cs) ≡ is_chosen (codes "stats") cs
 chosen_stats [] = refl
@@ -148,46 +102,45 @@ given_after : (id : Text) (cs : List Choice) (rest : List Row) → IsNoChoice id
 given_after id [] rest h g = g
 given_after id (c ∷ cs) rest h g = rw (h c) (given_after id cs rest h g)
 
+-- an option that is chosen is given among all rows, and so is the image
+given_first : (id : Text) (choices : List Choice) (rest : List Row) → is_chosen id choices ≡ true → is_given id (choice_rows choices ++ rest) ≡ true
+given_first id choices rest chosen = given_left id (choice_rows choices) rest (given_chosen id choices chosen)
+
+all_given : (choices : List Choice) (rest : List Row) (ids : List Text) → list_all (λ id. is_chosen id choices) ids ≡ true
+    → list_all (λ id. is_given id (choice_rows choices ++ rest)) ids ≡ true
+all_given choices rest [] h = refl
+all_given choices rest (id ∷ ids) h =
+    let two = and_parts (is_chosen id choices) (list_all (λ id. is_chosen id choices) ids) h in
+    ap₂ ◌&&◌ (given_first id choices rest two.0) (all_given choices rest ids two.1)
+
 -- the options that a command has to have are among the choices
 abbrev pub HasAll : Subcommand → List Choice → Type 0
 HasAll (of_guest g) cs = HasRequired g cs
 HasAll replaying cs = is_chosen (codes "output") cs ≡ true
 
--- an option that is chosen is given among all rows, and so is the image
-given_first : (id : Text) (choices : List Choice) (rest : List Row) → is_chosen id choices ≡ true → is_given id (choice_rows choices ++ rest) ≡ true
-given_first id choices rest chosen = given_left id (choice_rows choices) rest (given_chosen id choices chosen)
+-- the rows after those of the options
+abbrev pub end_rows : Bool → Text → Text → List Text → Bool → List Row
+end_rows has id path words given = tail_rows id path words ++ added_rows has given
+
+pub rows_are : (has : Bool) (id : Text) (choices : List Choice) (path : Text) (words : List Text)
+    → rows_by has id choices path words ≡ choice_rows choices ++ end_rows has id path words (is_chosen (codes "stats") choices)
+rows_are true id choices path words = refl
+rows_are false id choices path words = ap (λ (end : List Row). choice_rows choices ++ end) (sym (append-nil (tail_rows id path words)))
+
+all_needed : (k : Subcommand) (choices : List Choice) (path : Text) (words : List Text) → HasAll k choices
+    → list_all (λ id. is_given id (choice_rows choices ++ end_rows (has_stats k) (path_id k) path words (is_chosen (codes "stats") choices))) (needed k) ≡ true
+all_needed (of_guest g) choices path words chosen =
+    let end = end_rows (has_stats (of_guest g)) (codes "image") path words (is_chosen (codes "stats") choices) in
+    ap₂ ◌&&◌ (given_after (codes "image") choices end image_is_none refl) (all_given choices end (required g) chosen)
+all_needed replaying choices path words chosen =
+    let end = end_rows true (codes "trace") path words (is_chosen (codes "stats") choices) in
+    ap₂ ◌&&◌ (given_after (codes "trace") choices end trace_is_none refl) (ap₂ ◌&&◌ (given_first (codes "output") choices end chosen) refl)
 
 command_valid : (k : Subcommand) (choices : List Choice) (path : Text) (words : List Text) → HasAll k choices
     → is_valid (shape k) (all_rows k choices path words) false ≡ true
-unfolding the_app top_app guest_app demo_app replay_app clap_on_literals
-command_valid (of_guest running) choices path words chosen =
-    let tail = tail_rows (path_id (of_guest running)) path words ++ unset_rows (is_chosen (codes "stats") choices) in
-    let o = given_first (codes "output") choices tail chosen in
-    let i = given_after (codes "image") choices tail image_is_none refl in
-    rw (o, i) refl
-command_valid (of_guest tracing) choices path words chosen =
-    let tail = tail_rows (path_id (of_guest tracing)) path words in
-    let o = given_first (codes "output") choices tail chosen in
-    let i = given_after (codes "image") choices tail image_is_none refl in
-    rw (o, i) refl
-command_valid (of_guest caching) choices path words chosen =
-    let tail = tail_rows (path_id (of_guest caching)) path words in
-    let s = given_first (codes "sets") choices tail chosen.0 in
-    let w = given_first (codes "ways") choices tail chosen.1 in
-    let l = given_first (codes "line") choices tail chosen.2 in
-    let o = given_first (codes "output") choices tail chosen.3 in
-    let i = given_after (codes "image") choices tail image_is_none refl in
-    rw (o, i, s, w, l) refl
-command_valid (of_guest telling) choices path words chosen =
-    let tail = tail_rows (path_id (of_guest telling)) path words in
-    let o = given_first (codes "output") choices tail chosen in
-    let i = given_after (codes "image") choices tail image_is_none refl in
-    rw (o, i) refl
-command_valid replaying choices path words chosen =
-    let tail = tail_rows (path_id replaying) path words ++ unset_rows (is_chosen (codes "stats") choices) in
-    let o = given_first (codes "output") choices tail chosen in
-    let i = given_after (codes "trace") choices tail trace_is_none refl in
-    rw (o, i) refl
+command_valid k choices path words chosen =
+    valid_given k (all_rows k choices path words)
+    (ap (λ rows. list_all (λ id. is_given id rows) (needed k)) (rows_are (has_stats k) (path_id k) choices path words) ∙ all_needed k choices path words chosen)
 
 -- ---- the command and its words
 
@@ -197,19 +150,6 @@ command_rows k choices image words may plain has =
     let end = ends_command k choices image words may plain has in
     ap (λ w. fold with_default (settled_rows (rules k) w.held.pending w.held.rows) (rules k)) end.walk
     ∙ (ap (λ rows. fold with_default rows (rules k)) end.settles.rows_are ∙ finished_plain k choices image words)
-
-no_override : (k : Subcommand) → (shape k).args_override_self ≡ false
-unfolding the_app top_app guest_app demo_app replay_app
-no_override (of_guest g) = refl
-no_override replaying = refl
-
-defaults_pass : (k : Subcommand) → list_all default_passes (rules k) ≡ true
-unfolding the_app top_app guest_app demo_app replay_app clap_on_literals
-defaults_pass (of_guest running) = refl
-defaults_pass (of_guest tracing) = refl
-defaults_pass (of_guest caching) = refl
-defaults_pass (of_guest telling) = refl
-defaults_pass replaying = refl
 
 level_from : (k : Subcommand) (words : List Text) (w : Walk) → fold (walked (rules k) []) (stand [] None idle 1) words ≡ w
     → walk_passes (shape k) [] (stand [] None idle 1) words ≡ true
@@ -233,32 +173,6 @@ command_passes k choices image words may plain has chosen =
 
 -- ---- the subcommand
 
-abbrev pub top_rules : List Rule
-top_rules = (built the_app).top.rules
-
-abbrev pub names : Names
-names = names_of (built the_app)
-
--- the walk stopped at the command, with these words after it
-abbrev at_command : Subcommand → List Text → Walk
-at_command k words = record (walk_from nothing_held) { stopped = Some (name_of k, words) }
-
-stops_at : (k : Subcommand) → walked top_rules names (walk_from nothing_held) (name_of k) ≡ at_command k []
-unfolding the_app top_app guest_app demo_app replay_app clap_on_literals
-stops_at (of_guest running) = refl
-stops_at (of_guest tracing) = refl
-stops_at (of_guest caching) = refl
-stops_at (of_guest telling) = refl
-stops_at replaying = refl
-
-turn_at : (k : Subcommand) → turn_passes (built the_app).top names (walk_from nothing_held) (name_of k) ≡ true
-unfolding the_app top_app guest_app demo_app replay_app clap_on_literals
-turn_at (of_guest running) = refl
-turn_at (of_guest tracing) = refl
-turn_at (of_guest caching) = refl
-turn_at (of_guest telling) = refl
-turn_at replaying = refl
-
 stays_at : (k : Subcommand) (rest before : List Text) → fold (walked top_rules names) (at_command k before) rest ≡ at_command k (before ++ rest)
 unfolding walked
 stays_at k [] before = ap (at_command k) (sym (append-nil before))
@@ -277,14 +191,6 @@ unfolding walk_passes
 top_passes k rest =
     ap₂ ◌&&◌ (turn_at k) (ap (λ w. walk_passes (built the_app).top names w rest) (stops_at k) ∙ passes_at k rest [])
 
-enters_command : (k : Subcommand) (rest : List Text) → entered (built the_app) (Some (name_of k, rest)) ≡ Some (name_of k, rows_after (rules k) [] rest)
-unfolding the_app top_app guest_app demo_app replay_app clap_on_literals
-enters_command (of_guest running) rest = refl
-enters_command (of_guest tracing) rest = refl
-enters_command (of_guest caching) rest = refl
-enters_command (of_guest telling) rest = refl
-enters_command replaying rest = refl
-
 -- what holds after the walk of the top command, by what was met and whether it has matches
 abbrev pub top_ends : Walk → Bool → Bool
 top_ends w has_subcommand = settle_passes top_rules (built the_app).top.args_override_self w.held
@@ -293,15 +199,6 @@ top_ends w has_subcommand = settle_passes top_rules (built the_app).top.args_ove
 top_valid : (k : Subcommand) (rest : List Text) → top_ends (at_command k rest) true ≡ true
 unfolding the_app top_app guest_app demo_app replay_app clap_on_literals
 top_valid k rest = refl
-
-enters_passes : (k : Subcommand) (rest : List Text) → level_passes (shape k) [] nothing_held rest false ≡ true
-    → entered_passes (built the_app) (Some (name_of k, rest)) ≡ true
-unfolding the_app top_app guest_app demo_app replay_app clap_on_literals
-enters_passes (of_guest running) rest h = h
-enters_passes (of_guest tracing) rest h = h
-enters_passes (of_guest caching) rest h = h
-enters_passes (of_guest telling) rest h = h
-enters_passes replaying rest h = h
 
 built_takes_command : (k : Subcommand) (rest : List Text) → level_passes (shape k) [] nothing_held rest false ≡ true
     → built_takes (built the_app) nothing_held (name_of k ∷ rest) ≡ true

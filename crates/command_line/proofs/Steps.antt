@@ -1,20 +1,22 @@
 -- The walk of `clap` over the words of a command that has options, word by word.
-use Rattle.std.proofs.Common.{◌≡◌, ◌<◌, ◌^◌, ℕ, Bool, true, false, refl, ◌&&◌, ap, ap₂, ◌∙◌, List, [], ◌∷◌, ◌++◌, Option, Some, None, codes, unwrap_or, arith, nat_eq, nat_le, length}
+use Rattle.std.proofs.Common.{◌≡◌, ◌<◌, ◌^◌, ℕ, Bool, true, false, refl, sym, cond, ◌&&◌, ap, ap₂, ◌∙◌, List, [], ◌∷◌, ◌++◌, Option, Some, None, codes, unwrap_or, arith, nat_eq, nat_le, length}
 use Rattle.std.proofs.lemmas.Bool.Decides.{nat_tests}
-use Rattle.std.specs.Prelude.{drop, slice_get}
+use Rattle.std.specs.Prelude.{drop, fold, slice_get, take}
+use Rattle.std.proofs.lemmas.Bool.{and_parts}
+use Rattle.std.proofs.lemmas.List.{append-nil}
 use Rattle.std.specs.List.{list_all}
 use Rattle.std.specs.Str.{bytes_eq}
 use Rattle.std.proofs.Math.Bool.{and-false, and-true}
 use Rattle.clap.specs.Lexer.{long_of, short_of, usize_max}
-use Rattle.clap.specs.Simple.{new_shape}
-use Rattle.clap.specs.Takes.{settle_passes, turn_passes, walk_passes}
-use Rattle.clap.specs.Walk.{Waiting, Walk, has_row, idle, option, positional, settled_rows, walked}
+use Rattle.clap.specs.Simple.{entered, names_of, new_shape}
+use Rattle.clap.specs.Takes.{default_passes, entered_passes, is_given, is_valid, level_passes, settle_passes, turn_passes, walk_passes}
+use Rattle.clap.specs.Walk.{Names, Waiting, Walk, default_rows, has_row, idle, nothing_held, option, positional, reading_by, rows_after, settled_rows, walk_from, walked, with_default}
 use Rattle.clap.specs.Words.{Row, Rule, Shape, Text, built}
 use Rattle.clap.proofs.OnLiterals.{clap_on_literals}
 use Rattle.command_line.specs.App.{the_app, top_app, guest_app, demo_app, replay_app}
-use Rattle.command_line.specs.Plain.{Choice, GuestCommand, caching, is_of, is_of_replay, is_plain_word, running, stats, telling, tracing}
+use Rattle.command_line.specs.Plain.{Choice, GuestCommand, budget, caching, id_of, is_of, is_of_replay, is_plain_word, line, quantum, recording, report, required, running, schedule, sets, stamps, stats, stdin, telling, tracing, ways, words_of}
 use Rattle.command_line.specs.Plain as plain
-use Rattle.command_line.proofs.Rows.{choice_row, new_row, new_row_kept, plain_row}
+use Rattle.command_line.proofs.Rows.{choice_row, if_unset, new_row, new_row_kept, plain_row, unset_rows}
 
 -- the commands as `clap` builds them
 abbrev pub run_shape : Shape
@@ -296,6 +298,61 @@ replay_takes_stats = record {
   flag_turn = λ rows p h. rw h (and-true _ ∙ and-true _);
 }
 
+-- ---- all options
+
+-- the flag of an option
+abbrev flag_of : Choice → Text
+flag_of c = unwrap_or (slice_get (words_of c) 0) []
+
+-- the command takes the option
+abbrev pub TakesChoice : Subcommand → Choice → Type 0
+TakesChoice k stats = TakesStats k
+TakesChoice k c = TakesValue k (flag_of c) (id_of c)
+
+no_option : {A : Type 0} → false ≡ true → A
+no_option has = absurd (cc has)
+
+pub takes_choice : (k : Subcommand) (c : Choice) → has_option k c ≡ true → TakesChoice k c
+takes_choice (of_guest g) (stdin v) has = takes_stdin g
+takes_choice replaying (stdin v) has = no_option has
+takes_choice (of_guest g) (quantum v) has = takes_quantum g
+takes_choice replaying (quantum v) has = no_option has
+takes_choice (of_guest g) (schedule v) has = takes_schedule g
+takes_choice replaying (schedule v) has = no_option has
+takes_choice (of_guest g) (budget v) has = takes_budget g
+takes_choice replaying (budget v) has = no_option has
+takes_choice k (report v) has = takes_output k
+takes_choice (of_guest running) (recording v) has = run_takes_recording
+takes_choice (of_guest running) (stamps v) has = run_takes_stamps
+takes_choice (of_guest running) stats has = run_takes_stats
+takes_choice (of_guest running) (sets v) has = no_option has
+takes_choice (of_guest running) (ways v) has = no_option has
+takes_choice (of_guest running) (line v) has = no_option has
+takes_choice (of_guest tracing) (recording v) has = no_option has
+takes_choice (of_guest tracing) (stamps v) has = no_option has
+takes_choice (of_guest tracing) stats has = no_option has
+takes_choice (of_guest tracing) (sets v) has = no_option has
+takes_choice (of_guest tracing) (ways v) has = no_option has
+takes_choice (of_guest tracing) (line v) has = no_option has
+takes_choice (of_guest caching) (recording v) has = no_option has
+takes_choice (of_guest caching) (stamps v) has = no_option has
+takes_choice (of_guest caching) stats has = no_option has
+takes_choice (of_guest caching) (sets v) has = cache_takes_sets
+takes_choice (of_guest caching) (ways v) has = cache_takes_ways
+takes_choice (of_guest caching) (line v) has = cache_takes_line
+takes_choice (of_guest telling) (recording v) has = no_option has
+takes_choice (of_guest telling) (stamps v) has = contexts_takes_stamps
+takes_choice (of_guest telling) stats has = no_option has
+takes_choice (of_guest telling) (sets v) has = no_option has
+takes_choice (of_guest telling) (ways v) has = no_option has
+takes_choice (of_guest telling) (line v) has = no_option has
+takes_choice replaying (recording v) has = no_option has
+takes_choice replaying (stamps v) has = replay_takes_stamps
+takes_choice replaying stats has = replay_takes_stats
+takes_choice replaying (sets v) has = no_option has
+takes_choice replaying (ways v) has = no_option has
+takes_choice replaying (line v) has = no_option has
+
 -- ---- the image, or the trace
 
 pub path_word : (k : Subcommand) (rows : List Row) (p : Pending) (word : Text) → IsNoFlag word
@@ -357,6 +414,141 @@ words_settle (of_guest g) guest rows word words h lt =
     let some : nat_le 0 (length (word ∷ words)) ≡ true = grind (arith, nat_tests) in
     record { rows_are = new_row_kept (codes "word") (word ∷ words) rows h; passes = rw (some, few) (all_true words) }
 words_settle replaying guest rows word words h lt = absurd guest
+
+-- ---- defaults, and what is required
+
+abbrev pub NoDefaults : List Rule → Type 0
+NoDefaults [] = Unit {0}
+NoDefaults (a ∷ rest) = (a.defaults ≡ []) × NoDefaults rest
+
+if_none : (b : Bool) (a : Rule) (rows : List Row) → a.defaults ≡ [] → cond b rows (default_rows a.id (reading_by a) a.defaults rows) ≡ rows
+if_none true a rows e = refl
+if_none false a rows e = rw e refl
+
+pub no_defaults : (as_rules : List Rule) (rows : List Row) → NoDefaults as_rules → fold with_default rows as_rules ≡ rows
+no_defaults [] rows h = refl
+no_defaults (a ∷ rest) rows h =
+    ap (λ x. fold with_default x rest) (if_none (has_row a.id rows) a rows h.0) ∙ no_defaults rest rows h.1
+
+-- only `--stats` has a default
+finished_shared : (rest : List Rule) (rows : List Row) → fold with_default rows (shared_rules ++ rest) ≡ fold with_default rows rest
+unfolding the_app top_app guest_app demo_app replay_app clap_on_literals
+finished_shared rest rows = ap (λ x. fold with_default x rest) (no_defaults shared_rules rows (refl, (refl, (refl, (refl, (refl, (refl, (refl, tt))))))))
+
+-- the command has `--stats`
+abbrev pub has_stats : Subcommand → Bool
+has_stats (of_guest running) = true
+has_stats (of_guest tracing) = false
+has_stats (of_guest caching) = false
+has_stats (of_guest telling) = false
+has_stats replaying = true
+
+-- the row that is added where the command has the option and it is not given
+abbrev pub added_rows : Bool → Bool → List Row
+added_rows has given = cond has (unset_rows given) []
+
+finished_own : (g : GuestCommand) (rows : List Row) → fold with_default rows (own_rules g) ≡ rows ++ added_rows (has_stats (of_guest g)) (has_row (codes "stats") rows)
+unfolding the_app top_app guest_app demo_app replay_app clap_on_literals
+finished_own running rows =
+    ap (λ x. fold with_default x (drop 2 (own_rules running))) (no_defaults (take 2 (own_rules running)) rows (refl, (refl, tt)))
+    ∙ if_unset (has_row (codes "stats") rows) rows refl
+finished_own tracing rows = sym (append-nil rows)
+finished_own caching rows = no_defaults (own_rules caching) rows (refl, (refl, (refl, tt))) ∙ sym (append-nil rows)
+finished_own telling rows = no_defaults (own_rules telling) rows (refl, tt) ∙ sym (append-nil rows)
+
+pub finished_rows : (k : Subcommand) (rows : List Row) → fold with_default rows (rules k) ≡ rows ++ added_rows (has_stats k) (has_row (codes "stats") rows)
+unfolding the_app top_app guest_app demo_app replay_app clap_on_literals
+finished_rows (of_guest g) rows = finished_shared (own_rules g) rows ∙ finished_own g rows
+finished_rows replaying rows =
+    ap (λ x. fold with_default x (drop 1 (rules replaying))) (no_defaults (take 1 (rules replaying)) rows (refl, tt))
+    ∙ (no_defaults (drop 2 (rules replaying)) (fold with_default rows (take 1 (drop 1 (rules replaying)))) (refl, (refl, tt))
+    ∙ if_unset (has_row (codes "stats") rows) rows refl)
+
+two_needed : (rows : List Row) → (is_given (codes "image") rows && (is_given (codes "output") rows && true)) ≡ true → (is_given (codes "output") rows && (is_given (codes "image") rows && true)) ≡ true
+two_needed rows h =
+    let i = and_parts (is_given (codes "image") rows) _ h in
+    let o = and_parts (is_given (codes "output") rows) true i.1 in
+    rw (o.0, i.0) refl
+
+-- what a command has to have: the path, and the options that it requires
+abbrev pub needed : Subcommand → List Text
+needed (of_guest g) = codes "image" ∷ required g
+needed replaying = codes "trace" ∷ codes "output" ∷ []
+
+pub valid_given : (k : Subcommand) (rows : List Row) → list_all (λ id. is_given id rows) (needed k) ≡ true → is_valid (shape k) rows false ≡ true
+unfolding the_app top_app guest_app demo_app replay_app clap_on_literals
+valid_given (of_guest running) rows h = two_needed rows h
+valid_given (of_guest tracing) rows h = two_needed rows h
+valid_given (of_guest caching) rows h =
+    let i = and_parts (is_given (codes "image") rows) _ h in
+    let s = and_parts (is_given (codes "sets") rows) _ i.1 in
+    let w = and_parts (is_given (codes "ways") rows) _ s.1 in
+    let l = and_parts (is_given (codes "line") rows) _ w.1 in
+    let o = and_parts (is_given (codes "output") rows) true l.1 in
+    rw (o.0, i.0, s.0, w.0, l.0) refl
+valid_given (of_guest telling) rows h = two_needed rows h
+valid_given replaying rows h =
+    let t = and_parts (is_given (codes "trace") rows) _ h in
+    let o = and_parts (is_given (codes "output") rows) true t.1 in
+    rw (o.0, t.0) refl
+
+pub no_override : (k : Subcommand) → (shape k).args_override_self ≡ false
+unfolding the_app top_app guest_app demo_app replay_app
+no_override (of_guest g) = refl
+no_override replaying = refl
+
+pub defaults_pass : (k : Subcommand) → list_all default_passes (rules k) ≡ true
+unfolding the_app top_app guest_app demo_app replay_app clap_on_literals
+defaults_pass (of_guest running) = refl
+defaults_pass (of_guest tracing) = refl
+defaults_pass (of_guest caching) = refl
+defaults_pass (of_guest telling) = refl
+defaults_pass replaying = refl
+
+-- ---- the name of a command
+
+abbrev pub top_rules : List Rule
+top_rules = (built the_app).top.rules
+
+abbrev pub names : Names
+names = names_of (built the_app)
+
+-- the walk stopped at the command, with these words after it
+abbrev pub at_command : Subcommand → List Text → Walk
+at_command k words = record (walk_from nothing_held) { stopped = Some (name_of k, words) }
+
+pub stops_at : (k : Subcommand) → walked top_rules names (walk_from nothing_held) (name_of k) ≡ at_command k []
+unfolding the_app top_app guest_app demo_app replay_app clap_on_literals
+stops_at (of_guest running) = refl
+stops_at (of_guest tracing) = refl
+stops_at (of_guest caching) = refl
+stops_at (of_guest telling) = refl
+stops_at replaying = refl
+
+pub turn_at : (k : Subcommand) → turn_passes (built the_app).top names (walk_from nothing_held) (name_of k) ≡ true
+unfolding the_app top_app guest_app demo_app replay_app clap_on_literals
+turn_at (of_guest running) = refl
+turn_at (of_guest tracing) = refl
+turn_at (of_guest caching) = refl
+turn_at (of_guest telling) = refl
+turn_at replaying = refl
+
+pub enters_command : (k : Subcommand) (rest : List Text) → entered (built the_app) (Some (name_of k, rest)) ≡ Some (name_of k, rows_after (rules k) [] rest)
+unfolding the_app top_app guest_app demo_app replay_app clap_on_literals
+enters_command (of_guest running) rest = refl
+enters_command (of_guest tracing) rest = refl
+enters_command (of_guest caching) rest = refl
+enters_command (of_guest telling) rest = refl
+enters_command replaying rest = refl
+
+pub enters_passes : (k : Subcommand) (rest : List Text) → level_passes (shape k) [] nothing_held rest false ≡ true
+    → entered_passes (built the_app) (Some (name_of k, rest)) ≡ true
+unfolding the_app top_app guest_app demo_app replay_app clap_on_literals
+enters_passes (of_guest running) rest h = h
+enters_passes (of_guest tracing) rest h = h
+enters_passes (of_guest caching) rest h = h
+enters_passes (of_guest telling) rest h = h
+enters_passes replaying rest h = h
 
 -- ---- one word of a walk
 

@@ -20,10 +20,9 @@ use Rattle.command_line.specs.Plain as plain
 use Rattle.command_line.specs.Taken.{FailsByNumber, HasBadDemo, HasBadNumber, HasBadSteps, HasBadWidth, IsFound, TakenWordsFailByNumbers}
 use Rattle.command_line.proofs.Filled.{AllKeep, IsKept, filled_same, is_appended, is_filled, is_flag, is_own, is_set, kept_keeps, row_for, settle_keeps, walk_keeps}
 use Rattle.command_line.proofs.PlainOptions.{asked_by_name}
-use Rattle.command_line.proofs.PlainWords.{added_rows, finished_rows, has_stats, no_defaults}
 use Rattle.command_line.proofs.Refusals.{asked_is, read_of}
 use Rattle.command_line.proofs.Rows.{unset_rows}
-use Rattle.command_line.proofs.Steps.{Subcommand, demo_shape, of_guest, own_rules, replay_shape, replaying, rules, shape}
+use Rattle.command_line.proofs.Steps.{Subcommand, added_rows, demo_shape, finished_rows, has_stats, no_defaults, of_guest, own_rules, replay_shape, replaying, rules, shape}
 
 -- what a search among these can find
 abbrev FoundIn : List Shape → Option Shape → Type 0

@@ -149,11 +149,14 @@ pub record ArePlain (choices : List Choice) (image : Text) (words : List Text) :
   -- as many as a list in memory can have
   pub few : length words < 2 ^ 64
 
--- the options that the command has to have are among the choices
+-- the options that the command has to have
+abbrev pub required : GuestCommand → List Text
+required caching = codes "sets" ∷ codes "ways" ∷ codes "line" ∷ codes "output" ∷ []
+required command = codes "output" ∷ []
+
+-- they are among the choices
 abbrev pub HasRequired : GuestCommand → List Choice → Type 0
-HasRequired caching choices =
-    (is_chosen (codes "sets") choices ≡ true) × (is_chosen (codes "ways") choices ≡ true) × (is_chosen (codes "line") choices ≡ true) × (is_chosen (codes "output") choices ≡ true)
-HasRequired command choices = is_chosen (codes "output") choices ≡ true
+HasRequired command choices = list_all (λ id. is_chosen id choices) (required command) ≡ true
 
 -- Plain words of a command that runs a guest are taken, where each option is one of the command and those that it has to have are
 -- among them.
@@ -246,16 +249,9 @@ GiveBadSteps choices = (quantum_of (given (codes "quantum") choices) ≡ None) �
 abbrev pub GiveBadWidth : List Choice → Type 0
 GiveBadWidth choices = bits_of (given (codes "stamps") choices) ≡ None
 
--- the numbers of a cache are not all given, in their form and range, or no cache has the shape
-abbrev pub GiveNoShape : List Choice → Type 0
-GiveNoShape choices = shape_said (given (codes "sets") choices) (given (codes "ways") choices) (given (codes "line") choices) ≡ None
-
--- a number that the command has beside is out of its form or range, or makes no shape
+-- what the command has beside is out of its form or range, or the numbers of a cache make no shape
 abbrev pub GiveBadNumber : GuestCommand → List Choice → Type 0
-GiveBadNumber running choices = GiveBadWidth choices
-GiveBadNumber tracing choices = ⊥
-GiveBadNumber caching choices = GiveNoShape choices
-GiveBadNumber telling choices = GiveBadWidth choices
+GiveBadNumber command choices = analysis_given command choices ≡ None
 
 -- Plain words ask for nothing where a number is out of its form or range, or where the numbers of a cache make no shape.
 pub record PlainNumbersAreRefused : Type 0 where
