@@ -1,6 +1,5 @@
 -- What `contexts` stores begins with the report of the run.
 use Rattle.std.proofs.Common.{◌≡◌, true, refl, sym, ap, ◌∙◌}
-use Rattle.std.specs.Prelude.{if◌then◌else◌}
 use Rattle.command_line.specs.Options.Analysis.{Contexts}
 use Rattle.elf_image.specs.Reading.{image_of}
 use Rattle.guest_run.specs.Profiled.{Profiled}
@@ -9,7 +8,6 @@ use Rattle.context_report.specs.ContextText.{contexts_text}
 use Rattle.context_tree.specs.Contexts as tree
 use Rattle.context_tree.specs.Order.{in_order}
 use Rattle.profile_report.specs.ReportText.{report_text}
-use Rattle.aprof_top.specs.declared.ending.Verdict.TheVariants.{Ran, ResultTooLarge}
 use Rattle.aprof_top.specs.ContextReports.{can_be_numbered, contexts_report}
 use Rattle.aprof_top.specs.Laws.{ContextsBeginWithTheReport}
 use Rattle.aprof_top.specs.Loads.{loaded_of}

@@ -11,6 +11,7 @@ ghost use Rattle.aprof_top.specs.Jobs.{JobRuns, RunIsStored, desk, ending_by};
 ghost use Rattle.aprof_top.specs.Outcome.{analysed, job_of};
 ghost use Rattle.aprof_top.specs.Outside.{outside};
 
+use crate::delivery::store_result;
 use crate::ending::{Ending, Verdict};
 use crate::missed_run::count_misses;
 use crate::preparation::Prepared;
@@ -33,8 +34,7 @@ fn deliver_misses<F: Files>(
         (desk (F.state files.old) err) (desk (F.state files.new) err) result }
 {
     let bytes = write_cache_report(alloc, report)?;
-    files.store(path, bytes.as_slice())?;
-    Ok(Verdict::Ran(report.finish))
+    store_result(path, bytes.as_slice(), report.finish, files)
 }
 
 /// Runs a guest that was prepared, and stores the report of its cache misses.

@@ -13,6 +13,7 @@ ghost use Rattle.aprof_top.specs.Outcome.{analysed, job_of};
 ghost use Rattle.aprof_top.specs.Outside.{outside};
 
 use crate::contexts_run::{ContextsRun, contexts_of_run};
+use crate::delivery::store_result;
 use crate::ending::{Ending, Verdict};
 use crate::preparation::Prepared;
 use crate::report::report_of;
@@ -65,8 +66,7 @@ fn deliver_contexts<F: Files>(
         return Ok(Verdict::ResultTooLarge);
     };
     let text = contexts_report(alloc, image, &contexts, &finish)?;
-    files.store(path, text.as_slice())?;
-    Ok(Verdict::Ran(finish))
+    store_result(path, text.as_slice(), finish, files)
 }
 
 /// Runs a guest that was prepared, and stores the report of its run with its contexts.

@@ -13,6 +13,7 @@ ghost use Rattle.aprof_top.specs.Outcome.{analysed, job_of};
 ghost use Rattle.aprof_top.specs.Outside.{outside};
 ghost use Rattle.aprof_top.specs.Traces.{named_entries, names_begun};
 
+use crate::delivery::store_result;
 use crate::ending::{Ending, Verdict};
 use crate::preparation::Prepared;
 use crate::traced_run::{TracedRun, trace_image};
@@ -85,8 +86,7 @@ fn deliver_trace<F: Files>(
     let Some(bytes) = whole_text(alloc, image, text, &finish)? else {
         return Ok(Verdict::ResultTooLarge);
     };
-    files.store(path, bytes.as_slice())?;
-    Ok(Verdict::Ran(finish))
+    store_result(path, bytes.as_slice(), finish, files)
 }
 
 /// Runs a guest that was prepared, and stores the trace of its run.
