@@ -25,7 +25,8 @@ fn run_prepared<F: Files, O: Sink, E: Sink>(
     err: &mut E,
 ) -> Result<Verdict, Ending>
     requires { AreInRange (guest_in command.now.guest) }
-    ensures { JobRuns (job_of (guest_in command.now.guest) command.now.output.now (analysis_in command.now.analysis)) prepared
+    ensures { JobRuns (job_of (guest_in command.now.guest) command.now.output.now
+        (analysis_in command.now.analysis)) prepared
         (outside (F.state files.old) (O.state out.old) (E.state err.old))
         (outside (F.state files.new) (O.state out.new) (E.state err.new)) (ending_by result) }
 {

@@ -50,7 +50,8 @@ fn run_stores<'a>(
 ) -> Result<Vec<Store<'a>>, AllocError>
     ensures { IfOk result (λ stores. (most : ℕ) (past : List Event)
         → AreTotalsOf most run.now.totals past
-        → map store_of stores.items ≡ run_stores path.entry.now (run_in options.now) image.now run.now.ended.finish past run.now.ended.recording) }
+        → map store_of stores.items ≡ run_stores path.entry.now (run_in options.now) image.now
+        run.now.ended.finish past run.now.ended.recording) }
 {
     let mut stores = recording_stores(alloc, options.recording, &run.ended.recording)?;
     let report = report_of(alloc, image, &run.totals, run.ended.finish)?;

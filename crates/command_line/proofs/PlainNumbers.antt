@@ -5,7 +5,7 @@ use Rattle.std.specs.List.{list_all, list_any}
 use Rattle.clap.specs.Words.{Row, Text, first_of, subcommand_of}
 use Rattle.command_line.specs.App.{the_app}
 use Rattle.command_line.specs.Options.{Demo, GuestOptions, Replay, analysis_of_rows, asked_of, asked_of_rows, bits_of, budget_of, guest_asked_of_rows, guest_asked_with, guest_of_rows, guest_with, has_zero, quantum_of, replay_of_rows, replay_with}
-use Rattle.command_line.specs.Plain.{ArePlain, Choice, GiveBadNumber, GiveBadSteps, GuestCommand, PlainNumbersAreRefused, analysis_given, caching, demo_words, run_given, running, telling, tracing}
+use Rattle.command_line.specs.Plain.{ArePlain, Choice, GiveBadNumber, GiveBadSteps, GuestCommand, PlainNumbersAreRefused, demo_words}
 use Rattle.command_line.specs.Plain as plain
 use Rattle.command_line.specs.Taken.{HasBadSteps, HasBadWidth}
 use Rattle.command_line.proofs.Choices.{MayFollow}

@@ -54,7 +54,8 @@ fn shape_of_matches(matches: &ArgMatches) -> Option<Shape>
 
 /// What the command of this name makes of its guest's run, by its matches.
 pub(crate) fn analysis_of_matches<'a>(name: &str, matches: &ArgMatches<'a>) -> Option<Analysis<'a>>
-    ensures { option_map analysis_in result ≡ analysis_of_rows name.now (rows_of (found_of matches.now)) }
+    ensures { option_map analysis_in result
+        ≡ analysis_of_rows name.now (rows_of (found_of matches.now)) }
 {
     if name == "run" {
         return Some(Analysis::Run(RunOptions {

@@ -29,8 +29,8 @@ pub(crate) fn guest_command_of_matches<'a>(
     name: &str,
     matches: &ArgMatches<'a>,
 ) -> Result<GuestCommand<'a>, CommandError>
-    ensures asked { IfOk result (λ command. guest_asked_of_rows name.now (rows_of (found_of matches.now))
-        ≡ Some (guest_asked_in command)) }
+    ensures asked { IfOk result (λ command.
+        guest_asked_of_rows name.now (rows_of (found_of matches.now)) ≡ Some (guest_asked_in command)) }
     ensures refused { IfErr result (λ e. e ≡ Refused
         → guest_asked_of_rows name.now (rows_of (found_of matches.now)) ≡ None) }
     ensures ranges { IfOk result (λ command. AreInRange (guest_in command.guest)) }
