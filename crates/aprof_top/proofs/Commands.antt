@@ -1,12 +1,12 @@
 -- From the loads and the run of a command to how it ends.
-use Rattle.std.proofs.Common.{◌∙◌, ◌≡◌, ◌⊎◌, ℕ, ◌<◌, Bool, true, false, cond, List, [], Option, Some, None, Err, refl, sym, ap, subst, inl, inr, arith, length, slice_get, ◌≤◌}
+use Rattle.std.proofs.Common.{◌∙◌, ◌≡◌, ◌⊎◌, ℕ, ◌<◌, Bool, true, false, cond, List, [], Some, None, Err, refl, sym, ap, subst, inl, inr, arith, length, slice_get}
 use Rattle.std.specs.Prelude.{nat_lt}
-use Rattle.std.specs.List.{AllByRecursion, list_any}
+use Rattle.std.specs.List.{list_any}
 use Rattle.std.proofs.lemmas.Bool.Decides.{nat_tests}
 use Rattle.std.proofs.lemmas.Option.{slice_get_within}
-use Rattle.command_line.specs.Options.{Asked, AsksFor, CacheOptions, ContextsOptions, GuestOptions, RunOptions, TraceOptions, has_zero}
-use Rattle.command_line.specs.Options.Asked.{Run, Trace, Cache, Contexts, Demo}
-use Rattle.host_io.specs.Files.{Contents, FilesState}
+use Rattle.command_line.specs.Options.{Analysis, Asked, AsksFor, GuestOptions, has_zero}
+use Rattle.command_line.specs.Options.Asked.{Demo, Guest}
+use Rattle.host_io.specs.Files.{FilesState}
 use Rattle.host_io.specs.Sink.{PutEnds, SinkState, appended}
 use Rattle.host_io.specs.declared.sink.PutError.{PutError}
 use Rattle.host_io.specs.declared.sink.PutError.TheVariants as refused
@@ -20,18 +20,17 @@ use Rattle.aprof_top.specs.declared.ending.Verdict.TheVariants as verdict
 use Rattle.aprof_top.specs.Ending.{AskedEnds, Delivers, end_of, of_command, wanted_of, of_put}
 use Rattle.aprof_top.specs.Ends.{Reaches}
 use Rattle.aprof_top.specs.Ends.End.{Decided}
-use Rattle.aprof_top.specs.Found.{Decision, Found, length_limit, paths_of}
-use Rattle.aprof_top.specs.Limits.{file_limit}
+use Rattle.aprof_top.specs.Found.{Decision, Found}
 use Rattle.aprof_top.specs.Loading.{LoadsEnd}
 use Rattle.aprof_top.specs.Loads.{loaded_of, loaded_paths, passes_limit, shared_count}
-use Rattle.aprof_top.specs.Outcome.{Follows, IsDemo, IsOutcome, IsRun, IsUndecided, Job, Outcome, cache_job, contexts_job, refusal, run_job, stage, trace_job}
+use Rattle.aprof_top.specs.Outcome.{Follows, IsDemo, IsOutcome, IsRun, Job, Outcome, job_of, refusal, stage}
 use Rattle.aprof_top.specs.Outcome.Stage.{Complete, Loading, PastLimit}
-use Rattle.aprof_top.specs.Outside.{AreFiles, AreHeld, Outside, outside}
+use Rattle.aprof_top.specs.Outside.{AreFiles, Outside, outside}
 use Rattle.aprof_top.specs.Jobs.{FilesRun, summed}
 use Rattle.aprof_top.specs.Preparing.{AreAll, AreRefused}
 use Rattle.aprof_top.proofs.Runs.{FilesRun-refused}
 use Rattle.aprof_top.specs.Sources.{path_of}
-use Rattle.aprof_top.specs.Sources.Wanted.{Nothing, OfGuest}
+use Rattle.aprof_top.specs.Sources.Wanted.{Nothing}
 use Rattle.aprof_top.specs.Verdicts.{IsOfRun}
 use Rattle.aprof_top.proofs.Sinks.{appended-nothing, same_files, takes_none}
 
@@ -75,110 +74,70 @@ pub Reaches-unread : (words : List (List ℕ)) (e : CommandError) (outside' : Ou
 Reaches-unread words command.Refused o asks zero = Reaches-bad_command words o.files o.out o.err (asks refl)
 Reaches-unread words command.Memory o asks zero = record { no_zero = zero refl; done = inl refl }
 
--- ---- a command that runs a guest
--- What is asked is this job.
-pub record IsJob (asked : Asked) (job : Job) : Type 0 where
-  pub outcome : (files : List (List ℕ)) (outcome : Outcome) → Follows job files outcome (stage job.guest files) → IsOutcome (Some asked) files outcome
-  pub undecided : (files : List (List ℕ)) → stage job.guest files ≡ Loading → IsUndecided (Some asked) files
-  pub paths : loaded_paths job.guest ≡ paths_of (Some asked)
-  pub wanted : wanted_of asked ≡ OfGuest job.guest
-  pub limit : length_limit (Some asked) ≡ file_limit
+-- ---- a command that runs a guest: before its loads and after them; its sinks are untouched
+module _ (guest : GuestOptions) (path : List ℕ) (analysis : Analysis) (files loaded : FilesState) (out err : SinkState) where
+  abbrev asked : Asked
+  asked = Guest guest path analysis
 
-pub is_run_job : (options : RunOptions) → IsJob (Run options) (run_job options)
-is_run_job options = record { outcome = λ files outcome follows. follows; undecided = λ files is. is; paths = refl; wanted = refl; limit = refl }
+  abbrev job : Job
+  job = job_of guest path analysis
 
-pub is_trace_job : (options : TraceOptions) → IsJob (Trace options) (trace_job options)
-is_trace_job options = record { outcome = λ files outcome follows. follows; undecided = λ files is. is; paths = refl; wanted = refl; limit = refl }
-
-pub is_cache_job : (options : CacheOptions) → IsJob (Cache options) (cache_job options)
-is_cache_job options = record { outcome = λ files outcome follows. follows; undecided = λ files is. is; paths = refl; wanted = refl; limit = refl }
-
-pub is_contexts_job : (options : ContextsOptions) → IsJob (Contexts options) (contexts_job options)
-is_contexts_job options = record { outcome = λ files outcome follows. follows; undecided = λ files is. is; paths = refl; wanted = refl; limit = refl }
-
--- ---- before its loads and after them; its sinks are untouched
-module _ (asked : Asked) (job : Job) (is_job : IsJob asked job) (files loaded : FilesState) (out err : SinkState) where
   abbrev before : Outside
   before = outside files out err
 
   abbrev between : Outside
   between = outside loaded out err
 
-  -- what was found of the files
-  held_by : (contents : Option Contents) (found : List (List ℕ)) → AreHeld contents (loaded_paths job.guest) found → AreHeld contents (paths_of (Some asked)) found
-  held_by contents found held = subst (λ paths. AreHeld contents paths found) is_job.paths held
-
-  limited_by : (found : List (List ℕ)) → AllByRecursion (λ file. length file ≤ file_limit) found → AllByRecursion (λ file. length file ≤ length_limit (Some asked)) found
-  limited_by found each = subst (λ most. AllByRecursion (λ file. length file ≤ most) found) (sym is_job.limit) each
-
-  limited : {rose : Type 0} (found : List (List ℕ)) → AllByRecursion (λ file. length file ≤ file_limit) found ⊎ rose → AllByRecursion (λ file. length file ≤ length_limit (Some asked)) found ⊎ rose
-  limited found (inl each) = inl (limited_by found each)
-  limited found (inr rose) = inr rose
-
-  end_is : (e : declared.Ending) → end_of (OfGuest job.guest) e ≡ end_of (wanted_of asked) e
-  end_is e = ap (λ what. end_of what e) (sym is_job.wanted)
-
-  -- how the command ends, told by its guest
-  abbrev Told : Outside → declared.Ending → Type 0
-  Told after e = (words : List (List ℕ)) → AsksFor words (Some asked) → Reaches words (end_of (OfGuest job.guest) e) before after
-
-  asked_ends : (after : Outside) (e : declared.Ending) → Told after e → AskedEnds asked before after e
-  asked_ends after e told words asks = subst (λ end. Reaches words end before after) (end_is e) (told words asks)
-
-  told_unloaded : (e : declared.Ending) → LoadsEnd job.guest files loaded e → Told between e
-  told_unloaded (ending.CannotRead source) fails words asks = record {
-    found = record { asked = Some asked; asks = asks; files = fails.files; held = held_by files.contents fails.files fails.held; limit = inl (limited_by fails.files fails.each) };
-    undecided = is_job.undecided fails.files (loading_stage job.guest fails.files (path_of job.guest source) fails.few fails.next);
-    next = subst (λ paths. slice_get paths (length fails.files) ≡ Some (path_of job.guest source)) is_job.paths fails.next;
+  -- the loads ended it
+  pub AskedEnds-unloaded : (e : declared.Ending) → LoadsEnd guest files loaded e → AskedEnds asked before between e
+  AskedEnds-unloaded (ending.CannotRead source) fails words asks = record {
+    found = record { asked = Some asked; asks = asks; files = fails.files; held = fails.held; limit = inl fails.each };
+    undecided = loading_stage guest fails.files (path_of guest source) fails.few fails.next;
+    next = fails.next;
     failed = fails.failed;
     contents = fails.contents;
     out = refl;
     err = refl;
   }
-  told_unloaded (ending.Decided why) (too_large, passes) words asks =
+  AskedEnds-unloaded (ending.Decided why) (too_large, passes) words asks =
       refused_by words why files loaded out err
-      (record { asked = Some asked; asks = asks; files = passes.files; held = held_by files.contents passes.files passes.held; limit = limited passes.files passes.limit })
-      (is_job.outcome passes.files (refusal why) (subst (λ s. Follows job passes.files (refusal why) s) (sym (past_stage job.guest passes.files passes.many)) (ap refusal too_large)))
+      (record { asked = Some asked; asks = asks; files = passes.files; held = passes.held; limit = passes.limit })
+      (subst (λ s. Follows job passes.files (refusal why) s) (sym (past_stage guest passes.files passes.many)) (ap refusal too_large))
       passes.unchanged
-  told_unloaded ending.CannotWrite ends' words asks = absurd ends'
-  told_unloaded ending.CannotPut ends' words asks = absurd ends'
-  told_unloaded ending.OutOfMemory same words asks = record { no_zero = no_zero words asked asks; done = inl (ap (λ f. outside f out err) same) }
-
-  -- the loads ended it
-  pub AskedEnds-unloaded : (e : declared.Ending) → LoadsEnd job.guest files loaded e → AskedEnds asked before between e
-  AskedEnds-unloaded e ends = asked_ends between e (told_unloaded e ends)
+  AskedEnds-unloaded ending.CannotWrite ends' words asks = absurd ends'
+  AskedEnds-unloaded ending.CannotPut ends' words asks = absurd ends'
+  AskedEnds-unloaded ending.OutOfMemory same words asks = record { no_zero = no_zero words asked asks; done = inl (ap (λ f. outside f out err) same) }
 
   -- all was loaded
-  module _ (found : List (List ℕ)) (all : AreAll job.guest found files loaded) where
-    decided : (outcome : Outcome) → IsRun job (loaded_of job.guest found) outcome → IsOutcome (Some asked) found outcome
-    decided outcome is_run =
-        is_job.outcome found outcome (subst (λ s. Follows job found outcome s) (sym (complete_stage job.guest found all.are.few all.all)) is_run)
+  module _ (found : List (List ℕ)) (all : AreAll guest found files loaded) where
+    decided : (outcome : Outcome) → IsRun job (loaded_of guest found) outcome → IsOutcome (Some asked) found outcome
+    decided outcome is_run = subst (λ s. Follows job found outcome s) (sym (complete_stage guest found all.are.few all.all)) is_run
 
-    abbrev decision : (words : List (List ℕ)) (after : Outside) (outcome : Outcome) → AsksFor words (Some asked) → IsRun job (loaded_of job.guest found) outcome → Decision words before after
+    abbrev decision : (words : List (List ℕ)) (after : Outside) (outcome : Outcome) → AsksFor words (Some asked) → IsRun job (loaded_of guest found) outcome → Decision words before after
     decision words after outcome asks is_run = record {
-      found = record { asked = Some asked; asks = asks; files = found; held = held_by files.contents found all.are.held; limit = inl (limited_by found all.are.each) };
+      found = record { asked = Some asked; asks = asks; files = found; held = all.are.held; limit = inl all.are.each };
       outcome = outcome;
       written = decided outcome is_run;
     }
 
-    told_run : (after : Outside) (e : declared.Ending) → FilesRun job (loaded_of job.guest found) before after e → Told after e
-    told_run after (ending.Decided v) runs words asks = (decision words after runs.outcome asks runs.is_run, runs.delivered.0, runs.delivered.1)
-    told_run after (ending.CannotRead source) runs words asks = absurd runs
-    told_run after ending.CannotWrite runs words asks = record { decision = decision words after runs.outcome asks runs.is_run; ran = runs.delivered.0; fails = runs.delivered.1 }
-    told_run after ending.CannotPut runs words asks = record { decision = decision words after runs.outcome asks runs.is_run; ran = runs.delivered.0; fails = runs.delivered.1 }
-    told_run after ending.OutOfMemory (inl same) words asks = record { no_zero = no_zero words asked asks; done = inl same }
-    told_run after ending.OutOfMemory (inr runs) words asks = record { no_zero = no_zero words asked asks; done = inr (decision words after runs.outcome asks runs.is_run, runs.delivered) }
+    ends_run : (after : Outside) (e : declared.Ending) → FilesRun job (loaded_of guest found) before after e → AskedEnds asked before after e
+    ends_run after (ending.Decided v) runs words asks = (decision words after runs.outcome asks runs.is_run, runs.delivered.0, runs.delivered.1)
+    ends_run after (ending.CannotRead source) runs words asks = absurd runs
+    ends_run after ending.CannotWrite runs words asks = record { decision = decision words after runs.outcome asks runs.is_run; ran = runs.delivered.0; fails = runs.delivered.1 }
+    ends_run after ending.CannotPut runs words asks = record { decision = decision words after runs.outcome asks runs.is_run; ran = runs.delivered.0; fails = runs.delivered.1 }
+    ends_run after ending.OutOfMemory (inl same) words asks = record { no_zero = no_zero words asked asks; done = inl same }
+    ends_run after ending.OutOfMemory (inr runs) words asks = record { no_zero = no_zero words asked asks; done = inr (decision words after runs.outcome asks runs.is_run, runs.delivered) }
 
     -- and the guest was run
-    pub AskedEnds-run : (after : Outside) (e : declared.Ending) → FilesRun job (loaded_of job.guest found) between after e → AskedEnds asked before after e
+    pub AskedEnds-run : (after : Outside) (e : declared.Ending) → FilesRun job (loaded_of guest found) between after e → AskedEnds asked before after e
     AskedEnds-run after e runs =
-        asked_ends after e (told_run after e (subst (λ f. FilesRun job (loaded_of job.guest found) (outside f out err) after e) all.are.same runs))
+        ends_run after e (subst (λ f. FilesRun job (loaded_of guest found) (outside f out err) after e) all.are.same runs)
 
   -- or one of the files was refused
-  pub AskedEnds-unprepared : (e : declared.Ending) → LoadsEnd job.guest files loaded e ⊎ AreRefused job.guest files loaded e → AskedEnds asked before between e
+  pub AskedEnds-unprepared : (e : declared.Ending) → LoadsEnd guest files loaded e ⊎ AreRefused guest files loaded e → AskedEnds asked before between e
   AskedEnds-unprepared e (inl ends) = AskedEnds-unloaded e ends
   AskedEnds-unprepared e (inr are) =
-      AskedEnds-run are.files are.loaded between e (FilesRun-refused job (loaded_of job.guest are.files) between e are.refused)
+      AskedEnds-run are.files are.loaded between e (FilesRun-refused job (loaded_of guest are.files) between e are.refused)
 
 -- ---- the demo
 -- its outcome was handed out

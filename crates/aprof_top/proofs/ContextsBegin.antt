@@ -1,6 +1,6 @@
 -- What `contexts` stores begins with the report of the run.
-use Rattle.std.proofs.Common.{refl, sym, ap, ◌∙◌}
-use Rattle.std.specs.Prelude.{if◌then◌else◌}
+use Rattle.std.proofs.Common.{◌≡◌, true, refl, sym, ap, ◌∙◌}
+use Rattle.command_line.specs.Options.Analysis.{Contexts}
 use Rattle.elf_image.specs.Reading.{image_of}
 use Rattle.guest_run.specs.Profiled.{Profiled}
 use Rattle.guest_run.specs.Run.{recording}
@@ -8,33 +8,31 @@ use Rattle.context_report.specs.ContextText.{contexts_text}
 use Rattle.context_tree.specs.Contexts as tree
 use Rattle.context_tree.specs.Order.{in_order}
 use Rattle.profile_report.specs.ReportText.{report_text}
-use Rattle.aprof_top.specs.declared.ending.Verdict.TheVariants.{Ran, ResultTooLarge}
 use Rattle.aprof_top.specs.ContextReports.{can_be_numbered, contexts_report}
-use Rattle.aprof_top.specs.Laws.{ContextsBeginWithTheReport, with_contexts}
+use Rattle.aprof_top.specs.Laws.{ContextsBeginWithTheReport}
 use Rattle.aprof_top.specs.Loads.{loaded_of}
-use Rattle.aprof_top.specs.Outcome.{Outcome, contexts_job, recording_stores, stage}
+use Rattle.aprof_top.specs.Outcome.{Outcome, job_of, recording_stores, stage}
 use Rattle.aprof_top.specs.Report.{report_of}
 use Rattle.aprof_top.specs.Run.{run_of}
-use Rattle.aprof_top.proofs.StoredRuns.{came_to, run_is, stored_text}
+use Rattle.aprof_top.proofs.StoredRuns.{came_to, either_outcome, run_is, stored_text}
 
 pub contexts_begin : ContextsBeginWithTheReport
-contexts_begin options files bytes contexts ran is_contexts stored is_ran =
-    let job = contexts_job (with_contexts options) in
-    let came = came_to job files contexts (λ none. absurd (cc (sym stored ∙ none))) (stage options.guest files) refl is_contexts in
-    let loaded = loaded_of options.guest files in
+contexts_begin guest path options files bytes contexts ran is_contexts stored is_ran =
+    let job = job_of guest path (Contexts options.bits) in
+    let came = came_to job files contexts (λ none. absurd (cc (sym stored ∙ none))) (stage guest files) refl is_contexts in
+    let loaded = loaded_of guest files in
     let image = image_of loaded.image in
-    let run : Profiled = run_of options.bits options.guest loaded came.turns in
-    let text = stored_text (can_be_numbered run.past) options.report bytes (contexts_report image run) (ap (λ (o : Outcome). o.stores) (sym came.answered) ∙ stored) in
-    let ran_is = run_is options job.leaves files contexts came ran is_ran in
+    let run : Profiled = run_of options.bits guest loaded came.turns in
+    let text = stored_text run (can_be_numbered run.past) path bytes (contexts_report image run) (ap (λ (o : Outcome). o.stores) (sym came.answered) ∙ stored) in
+    let is : contexts ≡ either_outcome run path (contexts_report image run) true = came.answered ∙ ap (either_outcome run path (contexts_report image run)) text.1 in
+    let ran_is = run_is guest path options job.leaves files contexts came ran is_ran in
     record {
       earlier = recording_stores options.recording (recording run.moves);
       report = report_text (report_of image.names run.finish run.past);
       stored = ap (λ (o : Outcome). o.stores) ran_is;
       more = contexts_text run.past (in_order (tree.contexts run.past));
       begins = text.0;
-      verdict = ap (λ (o : Outcome). o.verdict) came.answered
-          ∙ ap (λ b. if b then Ran run.finish else ResultTooLarge) text.1
-          ∙ sym (ap (λ (o : Outcome). o.verdict) ran_is);
-      out = ap (λ (o : Outcome). o.out) came.answered ∙ sym (ap (λ (o : Outcome). o.out) ran_is);
-      err = ap (λ (o : Outcome). o.err) came.answered ∙ sym (ap (λ (o : Outcome). o.err) ran_is);
+      verdict = ap (λ (o : Outcome). o.verdict) is ∙ sym (ap (λ (o : Outcome). o.verdict) ran_is);
+      out = ap (λ (o : Outcome). o.out) is ∙ sym (ap (λ (o : Outcome). o.out) ran_is);
+      err = ap (λ (o : Outcome). o.err) is ∙ sym (ap (λ (o : Outcome). o.err) ran_is);
     }

@@ -4,12 +4,12 @@ use Rattle.std.specs.Prelude.{nat_lt}
 use Rattle.trace_file.specs.Laws.{BytesAreRefusedInOneWay, TextIsOfOneTrace, TracesAreNotRefused}
 use Rattle.thread_sched.proofs.Read.{never_both, one_bad_line, read_once}
 use Rattle.command_line.specs.Options.{ReplayOptions}
-use Rattle.command_line.specs.Options.Asked.{Run, Trace, Cache, Contexts, Replay, Demo}
+use Rattle.command_line.specs.Options.Asked.{Guest, Replay, Demo}
 use Rattle.demo_guest.specs.Image.{OneDemoFile}
 use Rattle.elf_image.specs.Reading.{image_of}
 use Rattle.elf_image.specs.declared.error.ElfError.{ElfError}
 use Rattle.aprof_top.specs.Loads.{Loaded, loaded_of}
-use Rattle.aprof_top.specs.Outcome.{ByImage, ByLength, Follows, IsOfNoTrace, IsOfTrace, IsReplay, IsScheduled, Job, Outcome, Stage, cache_job, contexts_job, demo_files, demo_options, demo_outcome, refusal, replay_outcome, run_job, scheduled_outcome, stage, trace_job}
+use Rattle.aprof_top.specs.Outcome.{ByImage, ByLength, Follows, IsOfNoTrace, IsOfTrace, IsReplay, IsScheduled, Job, Outcome, Stage, demo_files, demo_options, demo_outcome, job_of, refusal, replay_outcome, scheduled_outcome, stage}
 use Rattle.aprof_top.specs.Outcome.Stage.{PastLimit, Loading, Complete}
 use Rattle.aprof_top.specs.Laws.{OneOutcome}
 use Rattle.aprof_top.specs.Limits.{trace_limit}
@@ -75,10 +75,7 @@ replay_once known options (bytes ∷ files) a b p q = by_length known options by
 
 pub one_outcome : OneDemoFile → TracesAreKnown → OneOutcome
 one_outcome one_file known None files a b p q = p ∙ sym q
-one_outcome one_file known (Some (Run options)) files a b p q = follows_once (run_job options) files a b (stage options.guest files) p q
-one_outcome one_file known (Some (Trace options)) files a b p q = follows_once (trace_job options) files a b (stage options.guest files) p q
-one_outcome one_file known (Some (Cache options)) files a b p q = follows_once (cache_job options) files a b (stage options.guest files) p q
-one_outcome one_file known (Some (Contexts options)) files a b p q = follows_once (contexts_job options) files a b (stage options.guest files) p q
+one_outcome one_file known (Some (Guest guest path analysis)) files a b p q = follows_once (job_of guest path analysis) files a b (stage guest files) p q
 one_outcome one_file known (Some (Replay options)) files a b p q = replay_once known options files a b p q
 one_outcome one_file known (Some (Demo number)) files a b p q =
     p.answered

@@ -1,14 +1,12 @@
 -- What the commands beside `run` make of a run, and what becomes of it.
 use Rattle.std.proofs.Common.{◌≡◌, ◌∙◌, ◌<◌, ◌≤◌, ℕ, Bool, true, false, List, [], ◌∷◌, ◌++◌, Option, Some, None, refl, ap, sym, subst, length, length-append, arith}
-use Rattle.std.specs.Prelude.{if◌then◌else◌, Err}
+use Rattle.std.specs.Prelude.{if◌then◌else◌, Err, Result}
 use Rattle.std.proofs.lemmas.Bool.Decides.{nat_tests}
 use Rattle.std.specs.List.{All, flat_map}
 use Rattle.std.specs.Option.{option_map, option_to_list}
 use Rattle.std.proofs.lemmas.List.Elements.{All-cons, All-nil, All-tail}
 use Rattle.std.proofs.lemmas.List.Kept.{AllPairs-cons}
 use Rattle.std.proofs.lemmas.Grind.{flat_map-append}
-use Rattle.cache_profile.specs.ReportText.{cache_text}
-use Rattle.command_line.specs.Options.{CacheOptions, ContextsOptions, TraceOptions}
 use Rattle.cost_points.specs.Keys as keys
 use Rattle.cost_points.proofs.Rising.{IsRising-above, IsRising-rising, IsRising-tail}
 use Rattle.elf_image.specs.Image.{Executable, name_of}
@@ -25,29 +23,17 @@ use Rattle.host_io.specs.Sink.{SinkState}
 use Rattle.host_io.specs.declared.files.StoreError.{StoreError}
 use Rattle.host_io.specs.declared.files.StoreError.TheVariants as store
 use Rattle.run_trace.specs.declared.run_trace.TheConstants.{TRACE_BYTES}
-use Rattle.aprof_top.specs.declared.ending.Verdict.TheVariants.{Ran, ResultTooLarge}
+use Rattle.aprof_top.specs.declared.ending.Ending.{Ending}
+use Rattle.aprof_top.specs.declared.ending.Verdict.{Verdict}
 use Rattle.aprof_top.specs.Delivery.{StoreFails}
 use Rattle.aprof_top.specs.Ending.{of_store}
-use Rattle.aprof_top.specs.Jobs.{RunIsStored, desk}
+use Rattle.aprof_top.specs.Jobs.{Desk, RunIsStored, desk}
 use Rattle.context_profile.specs.Kept.{IsPastNumbers}
 use Rattle.context_tree.specs.Contexts.{contexts}
 use Rattle.context_tree.specs.declared.numbers.TheConstants.{CONTEXTS}
-use Rattle.aprof_top.specs.ContextReports.{can_be_numbered, contexts_report}
-use Rattle.aprof_top.specs.CacheMisses.{misses_of}
-use Rattle.aprof_top.specs.Outcome.{Outcome, cache_outcome, contexts_outcome, trace_outcome}
-use Rattle.aprof_top.specs.Traces.{is_storable, named_entries, trace_of}
-use Rattle.aprof_top.specs.Verdicts.{IsOfRun}
-
--- a run came to a verdict by whether its result can be stored
-of_run_by : (b : Bool) (finish : Finish) → IsOfRun (if b then Ran finish else ResultTooLarge)
-of_run_by true finish = tt
-of_run_by false finish = tt
-
-pub of_run_trace : (options : TraceOptions) (image : Executable) (run : Profiled) → IsOfRun (trace_outcome options image run).verdict
-of_run_trace options image run = of_run_by (is_storable (trace_of image run)) run.finish
-
-pub of_run_contexts : (options : ContextsOptions) (image : Executable) (run : Profiled) → IsOfRun (contexts_outcome options image run).verdict
-of_run_contexts options image run = of_run_by (can_be_numbered run.past) run.finish
+use Rattle.aprof_top.specs.ContextReports.{can_be_numbered}
+use Rattle.aprof_top.specs.Outcome.{Left, Outcome, one_file, run_outcome}
+use Rattle.aprof_top.specs.Traces.{is_storable, named_entries}
 
 -- a trace that is stored, and one that is too long
 pub storable : (text : List ℕ) → length text ≤ TRACE_BYTES → is_storable text ≡ true
@@ -98,7 +84,7 @@ pub begun_rise : (image : Executable) (entries : List ℕ) (past : List Event) �
 begun_rise image entries past are = names_rise image entries (subst keys.IsRising (sym are) (IsRising-rising (flat_map (λ e. option_to_list (entry_begun e)) past)))
 
 -- ---- the store of a result failed
-one_unstored : (outcome : Outcome) (path bytes : List ℕ) → outcome.stores ≡ (path, bytes) ∷ [] → (e : StoreError) (old new : FilesState) (err : SinkState)
+pub one_unstored : (outcome : Outcome) (path bytes : List ℕ) → outcome.stores ≡ (path, bytes) ∷ [] → (e : StoreError) (old new : FilesState) (err : SinkState)
     → StoreEnds path bytes old new (Err e) → RunIsStored outcome (desk old err) (desk new err) (Err (of_store e))
 one_unstored outcome path bytes are store.Failed old new err fails = record {
   stored = subst (λ stores. StoreFails stores old new) (sym are) (record { count = 0; store = (path, bytes); next = refl; failed = fails });
@@ -106,31 +92,19 @@ one_unstored outcome path bytes are store.Failed old new err fails = record {
 }
 one_unstored outcome path bytes are store.Memory old new err same = record { stored = (0, same); err = refl }
 
--- that of a trace
-module _ (options : TraceOptions) (image : Executable) (run : Profiled) (bytes : List ℕ) (is : bytes ≡ trace_of image run) (short : length bytes ≤ TRACE_BYTES) where
-  stores_are : (trace_outcome options image run).stores ≡ (options.trace, bytes) ∷ []
-  stores_are =
-      ap (λ (b : Bool). if b then (options.trace, trace_of image run) ∷ [] else []) (storable (trace_of image run) (subst (λ (text : List ℕ). length text ≤ TRACE_BYTES) is short))
-      ∙ ap (λ (text : List ℕ). (options.trace, text) ∷ []) (sym is)
+-- ---- one file is made of a run
+-- what is made of a run is this file
+pub stored_left : (run : Profiled) (left : Option Left) (path bytes : List ℕ) → left ≡ Some (one_file path bytes) → (old new : Desk) (result : Result Verdict Ending)
+    → RunIsStored (run_outcome run (Some (one_file path bytes))) old new result → RunIsStored (run_outcome run left) old new result
+stored_left run left path bytes is old new result stored = subst (λ l. RunIsStored (run_outcome run l) old new result) (sym is) stored
 
-  pub unstored : (e : StoreError) (old new : FilesState) (err : SinkState) → StoreEnds options.trace bytes old new (Err e) → RunIsStored (trace_outcome options image run) (desk old err) (desk new err) (Err (of_store e))
-  unstored = one_unstored (trace_outcome options image run) options.trace bytes stores_are
+pub either_left : (b : Bool) (path text bytes : List ℕ) → b ≡ true → bytes ≡ text → (if b then Some (one_file path text) else None) ≡ Some (one_file path bytes)
+either_left b path text bytes fits is =
+    ap (λ (b : Bool). if b then Some (one_file path text) else None) fits ∙ ap (λ (t : List ℕ). Some (one_file path t)) (sym is)
 
--- that of a report of cache misses
-pub misses_unstored : (options : CacheOptions) (image : Executable) (run : Profiled) (bytes : List ℕ) → bytes ≡ cache_text (misses_of options.shape image run.finish run.past)
-    → (e : StoreError) (old new : FilesState) (err : SinkState) → StoreEnds options.report bytes old new (Err e) → RunIsStored (cache_outcome options image run) (desk old err) (desk new err) (Err (of_store e))
-misses_unstored options image run bytes is =
-    one_unstored (cache_outcome options image run) options.report bytes (ap (λ (text : List ℕ). (options.report, text) ∷ []) (sym is))
-
--- that of a report with contexts
+-- contexts that can be numbered, and those that can't
 pub few_contexts : (past : List Event) → length (contexts past) ≤ CONTEXTS → can_be_numbered past ≡ true
 few_contexts past few = grind (arith, nat_tests, few)
 
 pub many_contexts : (past : List Event) → IsPastNumbers past → can_be_numbered past ≡ false
 many_contexts past many = grind (arith, nat_tests, many)
-
-pub contexts_unstored : (options : ContextsOptions) (image : Executable) (run : Profiled) (bytes : List ℕ) → can_be_numbered run.past ≡ true → bytes ≡ contexts_report image run
-    → (e : StoreError) (old new : FilesState) (err : SinkState) → StoreEnds options.report bytes old new (Err e) → RunIsStored (contexts_outcome options image run) (desk old err) (desk new err) (Err (of_store e))
-contexts_unstored options image run bytes few is =
-    one_unstored (contexts_outcome options image run) options.report bytes
-    (ap (λ (b : Bool). if b then (options.report, contexts_report image run) ∷ [] else []) few ∙ ap (λ (text : List ℕ). (options.report, text) ∷ []) (sym is))

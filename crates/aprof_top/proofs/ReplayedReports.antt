@@ -7,6 +7,7 @@ use Rattle.guest_words.specs.declared.endings.Finish.{Finish}
 use Rattle.guest_words.specs.declared.endings.Finish.TheVariants.{Deep}
 use Rattle.guest_words.specs.declared.limits.TheConstants.{RUN_STEPS}
 use Rattle.command_line.specs.Options.{GuestOptions, arguments, inputs}
+use Rattle.command_line.specs.Options.Analysis.{Trace}
 use Rattle.elf_image.specs.Image.{Executable}
 use Rattle.elf_image.specs.Reading.{image_of}
 use Rattle.guest_run.specs.Profiled.{Profiled, profiled}
@@ -26,10 +27,10 @@ use Rattle.trace_model.specs.Cut.{cut}
 use Rattle.trace_model.specs.Depth.{is_within, pending}
 use Rattle.trace_model.specs.WellFormed.{IsWellFormed}
 use Rattle.run_trace.specs.Entries.{entries_begun}
-use Rattle.aprof_top.specs.Laws.{TracesReplay, replayed_from, traced_at}
+use Rattle.aprof_top.specs.Laws.{TracesReplay, replayed_from}
 use Rattle.aprof_top.specs.Limits.{trace_limit}
 use Rattle.aprof_top.specs.Loads.{Loaded, loaded_of, with_inputs}
-use Rattle.aprof_top.specs.Outcome.{ByLength, Outcome, recording_stores, replay_outcome, replay_text, stage, stats_of, told_apart, told_finish, trace_job}
+use Rattle.aprof_top.specs.Outcome.{ByLength, Outcome, job_of, recording_stores, replay_outcome, replay_text, stage, stats_of, told_apart, told_finish}
 use Rattle.aprof_top.specs.Report.{report_of}
 use Rattle.aprof_top.specs.Run.{first_state, observed_from, run_of}
 use Rattle.aprof_top.specs.Traces.{is_storable, names_begun, trace_of}
@@ -130,20 +131,20 @@ wide_in_range options loaded turns entry =
     every_run_in_range (image_of loaded.image) (arguments options) (with_inputs [] (inputs options) loaded.inputs) loaded.stdin (is_within (greatest B32)) options.quantum turns options.budget entry
 
 pub traces_replay : TracesAreKnown → TracesReplay
-traces_replay known options files path bytes traced ran replayed few is_traced stored is_ran is_replayed =
-    let job = trace_job (traced_at options path) in
-    let came = came_to job files traced (λ none. absurd (cc (sym stored ∙ none))) (stage options.guest files) refl is_traced in
-    let loaded = loaded_of options.guest files in
+traces_replay known guest report options files path bytes traced ran replayed few is_traced stored is_ran is_replayed =
+    let job = job_of guest path Trace in
+    let came = came_to job files traced (λ none. absurd (cc (sym stored ∙ none))) (stage guest files) refl is_traced in
+    let loaded = loaded_of guest files in
     let image = image_of loaded.image in
-    let wide : Profiled = run_of B32 options.guest loaded came.turns in
-    let narrow : Profiled = run_of options.bits options.guest loaded came.turns in
-    let text = stored_text (is_storable (trace_of image wide)) path bytes (trace_of image wide) (ap (λ (o : Outcome). o.stores) (sym came.answered) ∙ stored) in
-    let asked = replayed_from options path in
+    let wide : Profiled = run_of B32 guest loaded came.turns in
+    let narrow : Profiled = run_of options.bits guest loaded came.turns in
+    let text = stored_text wide (is_storable (trace_of image wide)) path bytes (trace_of image wide) (ap (λ (o : Outcome). o.stores) (sym came.answered) ∙ stored) in
+    let asked = replayed_from report options path in
     let is_trace : IsTrace bytes wide.past (names_begun image wide.past) wide.finish = record {
       told = record {
-        formed = formed_wide options.guest loaded came.turns few;
+        formed = formed_wide guest loaded came.turns few;
         rising = begun_rise image (entries_begun wide.past) wide.past refl;
-        fits = records_fit loaded.image (1 + options.guest.budget) wide (omega (arith, few)) (wide_in_range options.guest loaded came.turns (entry_low loaded.image came.accepted));
+        fits = records_fit loaded.image (1 + guest.budget) wide (omega (arith, few)) (wide_in_range guest loaded came.turns (entry_low loaded.image came.accepted));
       };
       text = text.0;
     } in
@@ -151,15 +152,15 @@ traces_replay known options files path bytes traced ran replayed few is_traced s
     let of_trace : ByLength asked bytes whole false = inl (record { past = wide.past; names = names_begun image wide.past; finish = wide.finish; trace = is_trace; answered = refl }) in
     let short : nat_lt trace_limit (length bytes) ≡ false = ap (λ (t : List ℕ). nat_lt trace_limit (length t)) text.0 ∙ short_enough (trace_of image wide) text.1 in
     let replayed_is : replayed ≡ whole = replay_once known asked (bytes ∷ []) replayed whole is_replayed (subst (ByLength asked bytes whole) (sym short) of_trace) in
-    let ran_is = run_is options job.leaves files traced came ran is_ran in
+    let ran_is = run_is guest report options job.leaves files traced came ran is_ran in
     let earlier = recording_stores options.recording (recording narrow.moves) in
     record {
       earlier = earlier;
       reports = ap (λ (o : Outcome). o.stores) ran_is
-          ∙ ap (λ (t : List ℕ). earlier ++ (options.report, t) ∷ []) (sym (text_again options.bits options.guest loaded came.turns image))
+          ∙ ap (λ (t : List ℕ). earlier ++ (report, t) ∷ []) (sym (text_again options.bits guest loaded came.turns image))
           ∙ ap (λ (o : Outcome). earlier ++ o.stores) (sym replayed_is);
       replayed = ap (λ (o : Outcome). o.verdict) replayed_is;
       stats = ap (λ (o : Outcome). o.stats) replayed_is
-          ∙ ap (λ past. stats_of options.stats (renumberings (greatest options.bits) past)) (past_again options.bits options.guest loaded came.turns)
+          ∙ ap (λ past. stats_of options.stats (renumberings (greatest options.bits) past)) (past_again options.bits guest loaded came.turns)
           ∙ ap (λ (o : Outcome). o.stats) (sym ran_is);
     }

@@ -6,8 +6,9 @@ use Rattle.std.specs.Str.{bytes_eq}
 use Rattle.std.proofs.lemmas.Map.{update_same, update_other}
 use Rattle.std.proofs.lemmas.Slice.Eq.{bytes_eq-Decides}
 use Rattle.std.specs.Io.KnownBytes.{append_known}
-use Rattle.command_line.specs.Options.{Asked, RunOptions}
-use Rattle.command_line.specs.Options.Asked.{Run}
+use Rattle.command_line.specs.Options.{Asked, GuestOptions, RunOptions}
+use Rattle.command_line.specs.Options.Analysis.{Run}
+use Rattle.command_line.specs.Options.Asked.{Guest}
 use Rattle.elf_image.specs.declared.error.ElfError.{ElfError}
 use Rattle.elf_image.specs.Reading.{image_of}
 use Rattle.elf_image.specs.Tests.{first_refusal}
@@ -28,7 +29,7 @@ use Rattle.aprof_top.specs.Found.{Decision}
 use Rattle.aprof_top.specs.LastText.{IsMade, IsPut, LastText}
 use Rattle.aprof_top.specs.declared.ending.Verdict.{Verdict}
 use Rattle.aprof_top.specs.Loads.{Loaded, loaded_of}
-use Rattle.aprof_top.specs.Outcome.{ByImage, Follows, IsOutcome, Outcome, Stage, begun_outcome, recording_stores, run_job, scheduled_outcome, stage}
+use Rattle.aprof_top.specs.Outcome.{ByImage, Follows, IsOutcome, Outcome, Stage, begun_outcome, recording_stores, scheduled_outcome, stage}
 use Rattle.aprof_top.specs.Outcome.Stage.{PastLimit, Loading, Complete}
 use Rattle.aprof_top.specs.Outside.{Outside, outside, with_stores}
 use Rattle.aprof_top.specs.Schedules.{Reading}
@@ -40,34 +41,35 @@ use Rattle.aprof_top.proofs.Endings.{answers, cannot_read, err_rose, is_this, st
 use Rattle.aprof_top.proofs.Parts.{decision_after, err_whole, found_after, gained_is, gains_more, no_gain, no_text, output_came, part_at_stats, part_at_store, part_done, part_on_err, part_on_out, part_short, put_part, stats_came, text_alone, with_stores-paths}
 use Rattle.aprof_top.proofs.Sinks.{appended-nothing, with_stores-faults}
 use Rattle.aprof_top.proofs.Statuses.{written_status}
+use Rattle.aprof_top.proofs.StoredRuns.{run_job}
 
 -- ---- what a run stores
 -- Its stores are the recording, where it is asked for, and the report.
-record StoresRun (options : RunOptions) (stores : List (List ℕ × List ℕ)) : Type 0 where
+record StoresRun (guest : GuestOptions) (report : List ℕ) (options : RunOptions) (stores : List (List ℕ × List ℕ)) : Type 0 where
   turns : List Entry
   text : List ℕ
-  are : stores ≡ recording_stores options.recording turns ++ (options.report, text) ∷ []
+  are : stores ≡ recording_stores options.recording turns ++ (report, text) ∷ []
 
-by_setup : (options : RunOptions) (loaded : Loaded) (turns : List Entry) (why : Option SetupError) (outcome : Outcome) → outcome ≡ begun_outcome (run_job options) loaded turns why → IsOfRun outcome.verdict → StoresRun options outcome.stores
-by_setup options loaded turns (Some why) outcome is ran = absurd (subst (λ (o : Outcome). IsOfRun o.verdict) is ran)
-by_setup options loaded turns None outcome is ran = record { turns = _; text = _; are = ap (λ (o : Outcome). o.stores) is }
+by_setup : (guest : GuestOptions) (report : List ℕ) (options : RunOptions) (loaded : Loaded) (turns : List Entry) (why : Option SetupError) (outcome : Outcome) → outcome ≡ begun_outcome (run_job guest report options) loaded turns why → IsOfRun outcome.verdict → StoresRun guest report options outcome.stores
+by_setup guest report options loaded turns (Some why) outcome is ran = absurd (subst (λ (o : Outcome). IsOfRun o.verdict) is ran)
+by_setup guest report options loaded turns None outcome is ran = record { turns = _; text = _; are = ap (λ (o : Outcome). o.stores) is }
 
-by_schedule : (options : RunOptions) (loaded : Loaded) (reading : Reading) (outcome : Outcome) → outcome ≡ scheduled_outcome (run_job options) loaded reading → IsOfRun outcome.verdict → StoresRun options outcome.stores
-by_schedule options loaded (BadLine line) outcome is ran = absurd (subst (λ (o : Outcome). IsOfRun o.verdict) is ran)
-by_schedule options loaded (Turns turns) outcome is ran = by_setup options loaded turns (setup_refusal (image_of loaded.image) (arguments options.guest)) outcome is ran
+by_schedule : (guest : GuestOptions) (report : List ℕ) (options : RunOptions) (loaded : Loaded) (reading : Reading) (outcome : Outcome) → outcome ≡ scheduled_outcome (run_job guest report options) loaded reading → IsOfRun outcome.verdict → StoresRun guest report options outcome.stores
+by_schedule guest report options loaded (BadLine line) outcome is ran = absurd (subst (λ (o : Outcome). IsOfRun o.verdict) is ran)
+by_schedule guest report options loaded (Turns turns) outcome is ran = by_setup guest report options loaded turns (setup_refusal (image_of loaded.image) (arguments guest)) outcome is ran
 
-by_image : (options : RunOptions) (loaded : Loaded) (outcome : Outcome) (e : Option ElfError) → ByImage (run_job options) loaded outcome e → IsOfRun outcome.verdict → StoresRun options outcome.stores
-by_image options loaded outcome (Some e) is ran = absurd (subst (λ (o : Outcome). IsOfRun o.verdict) is ran)
-by_image options loaded outcome None is ran = by_schedule options loaded is.reading outcome is.answered ran
+by_image : (guest : GuestOptions) (report : List ℕ) (options : RunOptions) (loaded : Loaded) (outcome : Outcome) (e : Option ElfError) → ByImage (run_job guest report options) loaded outcome e → IsOfRun outcome.verdict → StoresRun guest report options outcome.stores
+by_image guest report options loaded outcome (Some e) is ran = absurd (subst (λ (o : Outcome). IsOfRun o.verdict) is ran)
+by_image guest report options loaded outcome None is ran = by_schedule guest report options loaded is.reading outcome is.answered ran
 
-by_stage : (options : RunOptions) (files : List (List ℕ)) (outcome : Outcome) (s : Stage) → Follows (run_job options) files outcome s → IsOfRun outcome.verdict → StoresRun options outcome.stores
-by_stage options files outcome PastLimit is ran = absurd (subst (λ (o : Outcome). IsOfRun o.verdict) is ran)
-by_stage options files outcome Loading is ran = absurd is
-by_stage options files outcome Complete is ran = by_image options (loaded_of options.guest files) outcome (first_refusal (loaded_of options.guest files).image) is ran
+by_stage : (guest : GuestOptions) (report : List ℕ) (options : RunOptions) (files : List (List ℕ)) (outcome : Outcome) (s : Stage) → Follows (run_job guest report options) files outcome s → IsOfRun outcome.verdict → StoresRun guest report options outcome.stores
+by_stage guest report options files outcome PastLimit is ran = absurd (subst (λ (o : Outcome). IsOfRun o.verdict) is ran)
+by_stage guest report options files outcome Loading is ran = absurd is
+by_stage guest report options files outcome Complete is ran = by_image guest report options (loaded_of guest files) outcome (first_refusal (loaded_of guest files).image) is ran
 
-stores_run : (options : RunOptions) (files : List (List ℕ)) (asked : Option Asked) (outcome : Outcome) → asked ≡ Some (Run options) → IsOutcome asked files outcome → IsOfRun outcome.verdict → StoresRun options outcome.stores
-stores_run options files asked outcome is written ran =
-    by_stage options files outcome (stage options.guest files) (subst (λ a. IsOutcome a files outcome) is written) ran
+stores_run : (guest : GuestOptions) (report : List ℕ) (options : RunOptions) (files : List (List ℕ)) (asked : Option Asked) (outcome : Outcome) → asked ≡ Some (Guest guest report (Run options)) → IsOutcome asked files outcome → IsOfRun outcome.verdict → StoresRun guest report options outcome.stores
+stores_run guest report options files asked outcome is written ran =
+    by_stage guest report options files outcome (stage guest files) (subst (λ a. IsOutcome a files outcome) is written) ran
 
 -- ---- files at other paths
 unequal : (a b : List ℕ) → (a ≡ b → ⊥) → bytes_eq a b ≡ false
@@ -126,12 +128,12 @@ failed_paths stores old new fails = (fails.count, fails.store, fails.next, path_
 store_rose : (stores : List (List ℕ × List ℕ)) (old new : FilesState) → StoreFails stores old new → Rose old.faults new.faults
 store_rose stores old new fails = subst (λ n. Rose n new.faults) (with_stores-faults (take fails.count stores) old) fails.failed.failed.faults
 
-module _ (options : RunOptions) (path : List ℕ) (asked : options.recording ≡ Some path) (apart : path ≡ options.report → ⊥) (stores : List (List ℕ × List ℕ)) (run : StoresRun options stores) (old new : FilesState) (fails : StoreFails stores old new) where
+module _ (guest : GuestOptions) (report : List ℕ) (options : RunOptions) (path : List ℕ) (asked : options.recording ≡ Some path) (apart : path ≡ report → ⊥) (stores : List (List ℕ × List ℕ)) (run : StoresRun guest report options stores) (old new : FilesState) (fails : StoreFails stores old new) where
   abbrev recorded : List ℕ × List ℕ
   recorded = (path, schedule_text run.turns)
 
   abbrev reported : List ℕ × List ℕ
-  reported = (options.report, run.text)
+  reported = (report, run.text)
 
   two : stores ≡ recorded ∷ reported ∷ []
   two = run.are ∙ ap (λ recording. recording_stores recording run.turns ++ reported ∷ []) asked
@@ -140,22 +142,22 @@ module _ (options : RunOptions) (path : List ℕ) (asked : options.recording ≡
   gained_store : (gained : List ℕ) → GainedPath gained old new → fails.store.0 ≡ gained
   gained_store gained gains = gained_is gained fails.store.0 old new (path_failed stores old new fails) gains
 
-  report_untouched : GainedPath path old new → IsUntouched options.report old new
+  report_untouched : GainedPath path old new → IsUntouched report old new
   report_untouched gains = by (which_failed recorded reported stores old new two fails)
     where
-      by : WhichFailed recorded reported fails.store.0 old new → IsUntouched options.report old new
-      by (inl (failed, left, contents)) = untouched path options.report left old new apart contents
+      by : WhichFailed recorded reported fails.store.0 old new → IsUntouched report old new
+      by (inl (failed, left, contents)) = untouched path report left old new apart contents
       by (inr (failed, left, contents)) = absurd (apart (sym (gained_store path gains) ∙ failed))
 
-  recording_stored : GainedPath options.report old new → (bytes : List ℕ) × (slice_get stores 0 ≡ Some (path, bytes)) × Holds new.contents path bytes
+  recording_stored : GainedPath report old new → (bytes : List ℕ) × (slice_get stores 0 ≡ Some (path, bytes)) × Holds new.contents path bytes
   recording_stored gains = by (which_failed recorded reported stores old new two fails)
     where
       by : WhichFailed recorded reported fails.store.0 old new → (bytes : List ℕ) × (slice_get stores 0 ≡ Some (path, bytes)) × Holds new.contents path bytes
-      by (inl (failed, left, contents)) = absurd (apart (sym failed ∙ gained_store options.report gains))
+      by (inl (failed, left, contents)) = absurd (apart (sym failed ∙ gained_store report gains))
       by (inr (failed, left, contents)) = (
         schedule_text run.turns,
         ap (λ s. slice_get s 0) two,
-        still_held path (schedule_text run.turns) options.report left old.contents new.contents apart contents,
+        still_held path (schedule_text run.turns) report left old.contents new.contents apart contents,
       )
 
 -- ---- the whole
@@ -187,10 +189,10 @@ module _ (words : List (List ℕ)) (status : ℕ) (before after : Outside) where
           fault = inr (store_rose outcome.stores before.files after.files fails.stored, failed);
           paths = inr failed;
           output = λ path gains. came;
-          recording_failed = λ options path asked recording apart gains. report_untouched options path recording apart outcome.stores
-              (stores_run options decision.found.files decision.found.asked outcome asked decision.written ran) before.files after.files fails.stored gains;
-          report_failed = λ options path asked recording apart gains. recording_stored options path recording apart outcome.stores
-              (stores_run options decision.found.files decision.found.asked outcome asked decision.written ran) before.files after.files fails.stored gains;
+          recording_failed = λ guest report options path asked recording apart gains. report_untouched guest report options path recording apart outcome.stores
+              (stores_run guest report options decision.found.files decision.found.asked outcome asked decision.written ran) before.files after.files fails.stored gains;
+          report_failed = λ guest report options path asked recording apart gains. recording_stored guest report options path recording apart outcome.stores
+              (stores_run guest report options decision.found.files decision.found.asked outcome asked decision.written ran) before.files after.files fails.stored gains;
           no_store_failed = λ calm. absurd (calm (store_rose outcome.stores before.files after.files fails.stored));
         }
 
@@ -205,8 +207,8 @@ module _ (words : List (List ℕ)) (status : ℕ) (before after : Outside) where
       fault = inl rose;
       paths = inl same;
       output = λ path gains. absurd (no_gain path before.files after.files same gains);
-      recording_failed = λ options path asked recording apart gains. absurd (no_gain path before.files after.files same gains);
-      report_failed = λ options path asked recording apart gains. absurd (no_gain options.report before.files after.files same gains);
+      recording_failed = λ guest report options path asked recording apart gains. absurd (no_gain path before.files after.files same gains);
+      report_failed = λ guest report options path asked recording apart gains. absurd (no_gain report before.files after.files same gains);
       no_store_failed = λ calm. lacks;
     }
 

@@ -1,16 +1,18 @@
 -- What a command came to that stored something, and the run of the same guest and files.
 use Rattle.std.proofs.Common.{◌≡◌, ℕ, Bool, true, false, List, [], ◌∷◌, Option, Some, None, refl, sym, ap, ◌∙◌, subst}
 use Rattle.std.specs.Prelude.{if◌then◌else◌}
-use Rattle.command_line.specs.Options.{RunOptions, arguments}
+use Rattle.command_line.specs.Options.{GuestOptions, RunOptions, arguments}
+use Rattle.command_line.specs.Options.Analysis.{Run}
 use Rattle.elf_image.specs.declared.error.ElfError.{ElfError}
 use Rattle.elf_image.specs.Reading.{image_of}
 use Rattle.elf_image.specs.Tests.{first_refusal}
 use Rattle.guest_machine.specs.declared.setup.SetupError.{SetupError}
 use Rattle.guest_machine.specs.Setup.{setup_refusal}
+use Rattle.guest_run.specs.Profiled.{Profiled}
 use Rattle.thread_sched.specs.declared.entry.Entry.{Entry}
 use Rattle.aprof_top.specs.declared.ending.Verdict.TheVariants.{BadImage, BadSchedule, TooLarge}
 use Rattle.aprof_top.specs.Loads.{Loaded, loaded_of}
-use Rattle.aprof_top.specs.Outcome.{ByImage, Follows, IsRun, Job, Outcome, Stage, begun_outcome, refusal, run_job, run_outcome, scheduled_outcome, stage}
+use Rattle.aprof_top.specs.Outcome.{ByImage, Follows, IsRun, Job, Outcome, Stage, begun_outcome, analysed, job_of, one_file, refusal, run_outcome, scheduled_outcome, stage}
 use Rattle.aprof_top.specs.Outcome.Stage.{Complete, Loading, PastLimit}
 use Rattle.aprof_top.specs.Run.{run_of}
 use Rattle.aprof_top.specs.Schedules.{Reading, Reads}
@@ -51,26 +53,30 @@ module _ (job : Job) (files : List (List ℕ)) (outcome : Outcome) (some : outco
   came_to Loading is follows = absurd follows
   came_to Complete is follows = by_image is (first_refusal loaded.image) refl follows
 
--- the run itself, of the same guest and files
-module _ (options : RunOptions) (leaves : Loaded → List Entry → Outcome) (files : List (List ℕ)) (outcome : Outcome) (came : CameTo (record { guest = options.guest; leaves = leaves }) files outcome) (ran : Outcome) where
-  abbrev with_files : Loaded
-  with_files = loaded_of options.guest files
+-- the job of `run`
+abbrev pub run_job : GuestOptions → List ℕ → RunOptions → Job
+run_job guest report options = job_of guest report (Run options)
 
-  pub run_is : Follows (run_job options) files ran (stage options.guest files)
-      → ran ≡ run_outcome options (image_of with_files.image) (run_of options.bits options.guest with_files came.turns)
+-- the run itself, of the same guest and files
+module _ (guest : GuestOptions) (report : List ℕ) (options : RunOptions) (leaves : Loaded → List Entry → Outcome) (files : List (List ℕ)) (outcome : Outcome) (came : CameTo (record { guest = guest; leaves = leaves }) files outcome) (ran : Outcome) where
+  abbrev with_files : Loaded
+  with_files = loaded_of guest files
+
+  pub run_is : Follows (run_job guest report options) files ran (stage guest files)
+      → ran ≡ analysed report (Run options) (image_of with_files.image) (run_of options.bits guest with_files came.turns)
   run_is follows =
-      let is_run : IsRun (run_job options) with_files ran = subst (λ s. Follows (run_job options) files ran s) came.complete follows in
-      let scheduled = subst (λ o. ByImage (run_job options) with_files ran o) came.accepted is_run in
+      let is_run : IsRun (run_job guest report options) with_files ran = subst (λ s. Follows (run_job guest report options) files ran s) came.complete follows in
+      let scheduled = subst (λ o. ByImage (run_job guest report options) with_files ran o) came.accepted is_run in
       scheduled.answered
-      ∙ ap (scheduled_outcome (run_job options) with_files) (reads_once with_files.schedule scheduled.reading (Turns came.turns) scheduled.read came.read)
-      ∙ ap (begun_outcome (run_job options) with_files came.turns) came.begins
+      ∙ ap (scheduled_outcome (run_job guest report options) with_files) (reads_once with_files.schedule scheduled.reading (Turns came.turns) scheduled.read came.read)
+      ∙ ap (begun_outcome (run_job guest report options) with_files came.turns) came.begins
 
 -- what was stored is this text
-abbrev pub either_store : Bool → List ℕ → List ℕ → List (List ℕ × List ℕ)
-either_store b path text = if b then (path, text) ∷ [] else []
+abbrev pub either_outcome : Profiled → List ℕ → List ℕ → Bool → Outcome
+either_outcome run path text b = run_outcome run (if b then Some (one_file path text) else None)
 
-pub stored_text : (b : Bool) (path bytes text : List ℕ) → either_store b path text ≡ (path, bytes) ∷ [] → (bytes ≡ text) × (b ≡ true)
-stored_text true path bytes text same =
+pub stored_text : (run : Profiled) (b : Bool) (path bytes text : List ℕ) → (either_outcome run path text b).stores ≡ (path, bytes) ∷ [] → (bytes ≡ text) × (b ≡ true)
+stored_text run true path bytes text same =
     let first : (path, text) ≡ (path, bytes) = cc same in
     (sym (ap (λ (store : List ℕ × List ℕ). store.1) first), refl)
-stored_text false path bytes text same = absurd (cc same)
+stored_text run false path bytes text same = absurd (cc same)

@@ -6,6 +6,7 @@ use Rattle.std.specs.Option.{option_to_list}
 use Rattle.std.proofs.lemmas.Bool.Decides.{nat_tests}
 use Rattle.guest_words.specs.declared.limits.TheConstants.{RUN_STEPS}
 use Rattle.command_line.specs.Options.{GuestOptions, RunOptions, arguments, inputs}
+use Rattle.command_line.specs.Options.Analysis.{Run}
 use Rattle.elf_image.specs.declared.error.ElfError.{ElfError}
 use Rattle.elf_image.specs.Reading.{image_of}
 use Rattle.elf_image.specs.Tests.{first_refusal}
@@ -23,10 +24,10 @@ use Rattle.thread_sched.specs.declared.entry.Entry.{Entry}
 use Rattle.thread_sched.specs.ScheduleText.{IsEntry, schedule_text}
 use Rattle.aprof_top.specs.declared.ending.Verdict.{Verdict}
 use Rattle.aprof_top.specs.declared.ending.Verdict.TheVariants.{BadImage, BadSchedule, Ran, TooLarge}
-use Rattle.aprof_top.specs.Laws.{TwoRunsAgree, scheduled, under_schedule, with_schedule}
+use Rattle.aprof_top.specs.Laws.{TwoRunsAgree, under_schedule, with_schedule}
 use Rattle.aprof_top.specs.Limits.{file_limit, inputs_limit}
 use Rattle.aprof_top.specs.Loads.{Loaded, with_inputs, first_file, file_at, loaded_of, loaded_paths, passes_limit, shared_count, shared_length}
-use Rattle.aprof_top.specs.Outcome.{ByImage, Follows, IsRun, Outcome, Stage, begun_outcome, recording_stores, refusal, run_job, run_outcome, scheduled_outcome, stage}
+use Rattle.aprof_top.specs.Outcome.{ByImage, Follows, IsRun, Outcome, Stage, analysed, begun_outcome, recording_stores, refusal, scheduled_outcome, stage}
 use Rattle.aprof_top.specs.Outcome.Stage.{Complete, Loading, PastLimit}
 use Rattle.aprof_top.specs.Report.{report_of}
 use Rattle.aprof_top.specs.Run.{first_state, observed_from, run_of}
@@ -37,6 +38,7 @@ use Rattle.aprof_top.specs.Schedules.{Reading}
 use Rattle.aprof_top.specs.Schedules.Reading.{BadLine, Turns}
 use Rattle.aprof_top.proofs.Commands.{complete_stage}
 use Rattle.aprof_top.proofs.OneOutcome.{reads_once}
+use Rattle.aprof_top.proofs.StoredRuns.{run_job}
 
 neither : (a b : Bool) → (a || b) ≡ false → (a ≡ false) × (b ≡ false)
 neither true b e = absurd (cc)
@@ -147,32 +149,32 @@ module _ (options : GuestOptions) (path text : List ℕ) where
 
 -- ---- the first run
 -- the guest ran, under these turns
-record Ran' (options : RunOptions) (loaded : Loaded) (outcome : Outcome) : Type 0 where
+record Ran' (guest : GuestOptions) (report : List ℕ) (options : RunOptions) (loaded : Loaded) (outcome : Outcome) : Type 0 where
   accepted : first_refusal loaded.image ≡ None
-  begins : setup_refusal (image_of loaded.image) (arguments options.guest) ≡ None
+  begins : setup_refusal (image_of loaded.image) (arguments guest) ≡ None
   turns : List Entry
-  answered : outcome ≡ run_outcome options (image_of loaded.image) (run_of options.bits options.guest loaded turns)
+  answered : outcome ≡ analysed report (Run options) (image_of loaded.image) (run_of options.bits guest loaded turns)
 
-module _ (options : RunOptions) (loaded : Loaded) (outcome : Outcome) (finish : Finish) (ran : outcome.verdict ≡ Ran finish) where
+module _ (guest : GuestOptions) (report : List ℕ) (options : RunOptions) (loaded : Loaded) (outcome : Outcome) (finish : Finish) (ran : outcome.verdict ≡ Ran finish) where
   no_refusal : {A : Type 0} (v : Verdict) → (v ≡ Ran finish → ⊥) → outcome ≡ refusal v → A
   no_refusal v other is = absurd (other (sym (ap (λ (o : Outcome). o.verdict) is) ∙ ran))
 
-  by_setup : first_refusal loaded.image ≡ None → (turns : List Entry) (o : Option SetupError) → setup_refusal (image_of loaded.image) (arguments options.guest) ≡ o → outcome ≡ begun_outcome (run_job options) loaded turns o → Ran' options loaded outcome
+  by_setup : first_refusal loaded.image ≡ None → (turns : List Entry) (o : Option SetupError) → setup_refusal (image_of loaded.image) (arguments guest) ≡ o → outcome ≡ begun_outcome (run_job guest report options) loaded turns o → Ran' guest report options loaded outcome
   by_setup accepted turns None begins is = record { accepted = accepted; begins = begins; turns = turns; answered = is }
   by_setup accepted turns (Some why) begins is = no_refusal TooLarge (λ e. cc) is
 
-  by_reading : first_refusal loaded.image ≡ None → (reading : Reading) → outcome ≡ scheduled_outcome (run_job options) loaded reading → Ran' options loaded outcome
-  by_reading accepted (Turns turns) is = by_setup accepted turns (setup_refusal (image_of loaded.image) (arguments options.guest)) refl is
+  by_reading : first_refusal loaded.image ≡ None → (reading : Reading) → outcome ≡ scheduled_outcome (run_job guest report options) loaded reading → Ran' guest report options loaded outcome
+  by_reading accepted (Turns turns) is = by_setup accepted turns (setup_refusal (image_of loaded.image) (arguments guest)) refl is
   by_reading accepted (BadLine line) is = no_refusal (BadSchedule line) (λ e. cc) is
 
-  by_image : (o : Option ElfError) → first_refusal loaded.image ≡ o → ByImage (run_job options) loaded outcome o → Ran' options loaded outcome
+  by_image : (o : Option ElfError) → first_refusal loaded.image ≡ o → ByImage (run_job guest report options) loaded outcome o → Ran' guest report options loaded outcome
   by_image None accepted is = by_reading accepted is.reading is.answered
   by_image (Some e) refused is = no_refusal (BadImage e) (λ e. cc) is
 
-complete_run : (options : RunOptions) (files : List (List ℕ)) (outcome : Outcome) (finish : Finish) → outcome.verdict ≡ Ran finish → (s : Stage) → stage options.guest files ≡ s → Follows (run_job options) files outcome s → (stage options.guest files ≡ Complete) × Ran' options (loaded_of options.guest files) outcome
-complete_run options files outcome finish ran PastLimit is follows = no_refusal options (loaded_of options.guest files) outcome finish ran TooLarge (λ e. cc) follows
-complete_run options files outcome finish ran Loading is follows = absurd follows
-complete_run options files outcome finish ran Complete is follows = (is, by_image options (loaded_of options.guest files) outcome finish ran (first_refusal (loaded_of options.guest files).image) refl follows)
+complete_run : (guest : GuestOptions) (report : List ℕ) (options : RunOptions) (files : List (List ℕ)) (outcome : Outcome) (finish : Finish) → outcome.verdict ≡ Ran finish → (s : Stage) → stage guest files ≡ s → Follows (run_job guest report options) files outcome s → (stage guest files ≡ Complete) × Ran' guest report options (loaded_of guest files) outcome
+complete_run guest report options files outcome finish ran PastLimit is follows = no_refusal guest report options (loaded_of guest files) outcome finish ran TooLarge (λ e. cc) follows
+complete_run guest report options files outcome finish ran Loading is follows = absurd follows
+complete_run guest report options files outcome finish ran Complete is follows = (is, by_image guest report options (loaded_of guest files) outcome finish ran (first_refusal (loaded_of guest files).image) refl follows)
 
 -- ---- the second run
 -- the recording that was stored
@@ -183,52 +185,52 @@ stored_is (Some other) turns more path text is get = ap (λ (store : List ℕ ×
     same : (a b : List ℕ × List ℕ) → Some a ≡ Some b → b ≡ a
     same a b e = cc
 
-module _ (replays : ReplaysProfiled) (entries : EveryRunRecordsEntries) (options : RunOptions) (loaded : Loaded) (turns : List Entry) (path text : List ℕ) where
+module _ (replays : ReplaysProfiled) (entries : EveryRunRecordsEntries) (guest : GuestOptions) (report : List ℕ) (options : RunOptions) (loaded : Loaded) (turns : List Entry) (path text : List ℕ) where
   abbrev again : Loaded
   again = record loaded { schedule = text }
 
   abbrev seen : Profiled
-  seen = run_of options.bits options.guest loaded turns
+  seen = run_of options.bits guest loaded turns
 
   first_fits : (bits : StampBits) (entry : ℕ) → is_within (greatest bits) (first_past entry) ≡ true
   first_fits B8 entry = refl
   first_fits B16 entry = refl
   first_fits B32 entry = refl
 
-  same_seen : IsNoMismatch seen.finish → run_of options.bits (under_schedule options.guest path) again (recording seen.moves) ≡ seen
+  same_seen : IsNoMismatch seen.finish → run_of options.bits (under_schedule guest path) again (recording seen.moves) ≡ seen
   unfolding observed_from first_state
-  same_seen no_mismatch = replays (is_within (greatest options.bits)) (first_past (image_of loaded.image).entry) options.guest.quantum options.guest.quantum options.guest.budget turns (first_state options.guest loaded) (within_closed (greatest options.bits)) (first_fits options.bits (image_of loaded.image).entry) no_mismatch
+  same_seen no_mismatch = replays (is_within (greatest options.bits)) (first_past (image_of loaded.image).entry) guest.quantum guest.quantum guest.budget turns (first_state guest loaded) (within_closed (greatest options.bits)) (first_fits options.bits (image_of loaded.image).entry) no_mismatch
 
-  are_entries : options.guest.budget ≤ RUN_STEPS → AllByRecursion IsEntry (recording seen.moves)
+  are_entries : guest.budget ≤ RUN_STEPS → AllByRecursion IsEntry (recording seen.moves)
   unfolding observed_from first_state
-  are_entries few = (entries (image_of loaded.image) (arguments options.guest) (with_inputs [] (inputs options.guest) loaded.inputs) loaded.stdin (is_within (greatest options.bits)) (scheduler options.guest.quantum turns) options.guest.budget few).profiled_part
+  are_entries few = (entries (image_of loaded.image) (arguments guest) (with_inputs [] (inputs guest) loaded.inputs) loaded.stdin (is_within (greatest options.bits)) (scheduler guest.quantum turns) guest.budget few).profiled_part
 
-  module _ (few : options.guest.budget ≤ RUN_STEPS) (no_mismatch : IsNoMismatch seen.finish) (is_text : text ≡ schedule_text (recording seen.moves)) (accepted : first_refusal loaded.image ≡ None) (begins : setup_refusal (image_of loaded.image) (arguments options.guest) ≡ None) (second : Outcome) where
-    under_turns : second ≡ scheduled_outcome (run_job (scheduled options path)) again (Turns (recording seen.moves)) → second ≡ run_outcome options (image_of loaded.image) seen
+  module _ (few : guest.budget ≤ RUN_STEPS) (no_mismatch : IsNoMismatch seen.finish) (is_text : text ≡ schedule_text (recording seen.moves)) (accepted : first_refusal loaded.image ≡ None) (begins : setup_refusal (image_of loaded.image) (arguments guest) ≡ None) (second : Outcome) where
+    under_turns : second ≡ scheduled_outcome (run_job (under_schedule guest path) report options) again (Turns (recording seen.moves)) → second ≡ analysed report (Run options) (image_of loaded.image) seen
     under_turns is =
         is
-        ∙ ap (begun_outcome (run_job (scheduled options path)) again (recording seen.moves)) begins
-        ∙ ap (run_outcome options (image_of loaded.image)) (same_seen no_mismatch)
+        ∙ ap (begun_outcome (run_job (under_schedule guest path) report options) again (recording seen.moves)) begins
+        ∙ ap (analysed report (Run options) (image_of loaded.image)) (same_seen no_mismatch)
 
-    second_run : IsRun (run_job (scheduled options path)) again second → second ≡ run_outcome options (image_of loaded.image) seen
+    second_run : IsRun (run_job (under_schedule guest path) report options) again second → second ≡ analysed report (Run options) (image_of loaded.image) seen
     second_run is =
-        let run = subst (λ o. ByImage (run_job (scheduled options path)) again second o) accepted is in
-        under_turns (run.answered ∙ ap (scheduled_outcome (run_job (scheduled options path)) again) (reads_once text run.reading (Turns (recording seen.moves)) run.read (are_entries few, inl is_text)))
+        let run = subst (λ o. ByImage (run_job (under_schedule guest path) report options) again second o) accepted is in
+        under_turns (run.answered ∙ ap (scheduled_outcome (run_job (under_schedule guest path) report options) again) (reads_once text run.reading (Turns (recording seen.moves)) run.read (are_entries few, inl is_text)))
 
 pub two_runs_agree : ReplaysProfiled → EveryRunRecordsEntries → TwoRunsAgree
-two_runs_agree replays entries options files first second path text few is leaves short second_is =
-    let loaded = loaded_of options.guest files in
-    let ran = complete_run options files first leaves.finish leaves.ran (stage options.guest files) refl is in
+two_runs_agree replays entries guest report options files first second path text few is leaves short second_is =
+    let loaded = loaded_of guest files in
+    let ran = complete_run guest report options files first leaves.finish leaves.ran (stage guest files) refl is in
     let run = ran.1 in
     let image = image_of loaded.image in
-    let seen : Profiled = run_of options.bits options.guest loaded run.turns in
+    let seen : Profiled = run_of options.bits guest loaded run.turns in
     let is_text : text ≡ schedule_text (recording seen.moves) =
-    stored_is options.recording (recording seen.moves) ((options.report, report_text (report_of image.names seen.finish seen.past)) ∷ []) leaves.path text leaves.asked (ap (λ (o : Outcome). slice_get o.stores 0) (sym run.answered) ∙ leaves.stored) in
+    stored_is options.recording (recording seen.moves) ((report, report_text (report_of image.names seen.finish seen.past)) ∷ []) leaves.path text leaves.asked (ap (λ (o : Outcome). slice_get o.stores 0) (sym run.answered) ∙ leaves.stored) in
     let finish : seen.finish ≡ leaves.finish = same_finish seen.finish leaves.finish (ap (λ (o : Outcome). o.verdict) (sym run.answered) ∙ leaves.ran) in
-    let complete = second_files options.guest path text files short ran.0 in
-    let is_run : IsRun (run_job (scheduled options path)) (record loaded { schedule = text }) second =
-    subst (λ l. IsRun (run_job (scheduled options path)) l second) complete.1 (subst (λ s. Follows (run_job (scheduled options path)) (with_schedule options.guest files text) second s) complete.0 second_is) in
-    second_run replays entries options loaded run.turns path text few (subst IsNoMismatch (sym finish) leaves.no_mismatch) is_text run.accepted run.begins second is_run
+    let complete = second_files guest path text files short ran.0 in
+    let is_run : IsRun (run_job (under_schedule guest path) report options) (record loaded { schedule = text }) second =
+    subst (λ l. IsRun (run_job (under_schedule guest path) report options) l second) complete.1 (subst (λ s. Follows (run_job (under_schedule guest path) report options) (with_schedule guest files text) second s) complete.0 second_is) in
+    second_run replays entries guest report options loaded run.turns path text few (subst IsNoMismatch (sym finish) leaves.no_mismatch) is_text run.accepted run.begins second is_run
     ∙ sym run.answered
   where
     same_finish : (a b : Finish) → Ran a ≡ Ran b → a ≡ b

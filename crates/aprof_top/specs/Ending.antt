@@ -1,7 +1,7 @@
 -- How the parts of the program end: the ends of a call, as the program has them.
 use Rattle.std.specs.Prelude.{◌≡◌, ◌⊎◌, ℕ, List, Some}
 use Rattle.command_line.specs.Options.{Asked, AsksFor}
-use Rattle.command_line.specs.Options.Asked.{Run, Trace, Cache, Contexts, Replay, Demo}
+use Rattle.command_line.specs.Options.Asked.{Guest, Replay, Demo}
 use Rattle.command_line.specs.Read.{guest_in}
 use Rattle.command_line.specs.declared.commands.CommandError.{CommandError}
 use Rattle.command_line.specs.declared.commands.CommandError.TheVariants as command
@@ -85,10 +85,7 @@ wanted_in (wanted.Trace path) = OfTrace path.now
 
 -- what is loaded for what is asked
 abbrev pub wanted_of : Asked → Wanted
-wanted_of (Run options) = OfGuest options.guest
-wanted_of (Trace options) = OfGuest options.guest
-wanted_of (Cache options) = OfGuest options.guest
-wanted_of (Contexts options) = OfGuest options.guest
+wanted_of (Guest guest path analysis) = OfGuest guest
 wanted_of (Replay options) = OfTrace options.trace
 wanted_of (Demo number) = Nothing
 

@@ -2,7 +2,7 @@
 use Rattle.std.specs.Prelude.{◌⊎◌, ◌≤◌, ℕ, List, [], ◌∷◌, length, Option, Some, None}
 use Rattle.std.specs.List.{AllByRecursion}
 use Rattle.command_line.specs.Options.{Asked, AsksFor}
-use Rattle.command_line.specs.Options.Asked.{Run, Trace, Cache, Contexts, Replay, Demo}
+use Rattle.command_line.specs.Options.Asked.{Guest, Replay, Demo}
 use Rattle.host_io.specs.Faults.{Rose}
 use Rattle.aprof_top.specs.Limits.{file_limit, trace_limit}
 use Rattle.aprof_top.specs.Loads.{loaded_paths}
@@ -12,10 +12,7 @@ use Rattle.aprof_top.specs.Outside.{Outside, AreHeld}
 -- the paths that are loaded, in order
 abbrev pub paths_of : Option Asked → List (List ℕ)
 paths_of None = []
-paths_of (Some (Run options)) = loaded_paths options.guest
-paths_of (Some (Trace options)) = loaded_paths options.guest
-paths_of (Some (Cache options)) = loaded_paths options.guest
-paths_of (Some (Contexts options)) = loaded_paths options.guest
+paths_of (Some (Guest guest path analysis)) = loaded_paths guest
 paths_of (Some (Replay options)) = options.trace ∷ []
 paths_of (Some (Demo number)) = []
 

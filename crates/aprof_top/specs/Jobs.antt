@@ -36,6 +36,8 @@ use Rattle.aprof_top.specs.Delivery.{DoesAll, FailsAtStats, FailsAtStore, FailsO
 use Rattle.aprof_top.specs.Loads.{Loaded}
 use Rattle.aprof_top.specs.Outcome.{IsRun, Job, Outcome}
 use Rattle.aprof_top.specs.Outside.{Outside, with_stores}
+use Rattle.aprof_top.specs.Preparing.{ArePrepared}
+use Rattle.aprof_top.specs.declared.preparation.Prepared.{Prepared}
 use Rattle.aprof_top.specs.Verdicts.{IsOfRun}
 
 -- the ending that a command's result is
@@ -61,59 +63,41 @@ abbrev pub ImageRuns : {W : Type 0} → (W → List Event → Type 0) → Option
 ImageRuns Stands setup run before observer after (Ok ended) = (setup ≡ None) × IsWhole Stands run before observer after ended
 ImageRuns Stands setup run before observer after (Err e) = RunStops setup run before after e
 
--- The run came to its end: these are its totals, all of its output was put, and this is its recording and its end.
-pub record IsProfiled (most : ℕ) (run : Profiled) (before after : Sinks) (profiled : ProfiledRun) : Type 0 where
+-- How the run of an executable ends of which something is made: it came to its end, all of its output was put, and this was made
+-- of it; or it stops.
+abbrev pub ImageIsRun : {A : Type 0} → (A → Profiled → Type 0) → Option SetupError → Profiled → Sinks → Sinks → Result A Ending → Type 0
+ImageIsRun IsMade setup run before after (Ok made) = (setup ≡ None) × (after ≡ with_output run.moves before) × IsMade made run
+ImageIsRun IsMade setup run before after (Err e) = RunStops setup run before after e
+
+-- These are the totals of a run, by stamps up to the greatest, its recording and its end.
+pub record IsProfiled (most : ℕ) (profiled : ProfiledRun) (run : Profiled) : Type 0 where
   pub totals : AreTotalsOf most profiled.totals run.past
-  pub output : after ≡ with_output run.moves before
   pub recorded : profiled.ended.recording ≡ recording run.moves
   pub finish : profiled.ended.finish ≡ run.finish
-
--- How the run of an executable ends that is profiled by stamps up to the greatest.
-abbrev pub ImageIsProfiled : ℕ → Option SetupError → Profiled → Sinks → Sinks → Result ProfiledRun Ending → Type 0
-ImageIsProfiled most setup run before after (Ok profiled) = (setup ≡ None) × IsProfiled most run before after profiled
-ImageIsProfiled most setup run before after (Err e) = RunStops setup run before after e
 
 -- the text of the events of a past and the entries of the activations that began, unless the text is too long
 abbrev pub AreTexts : Option EventText → List Event → Type 0
 AreTexts None past = IsTooLong past
 AreTexts (Some text) past = IsTextOf text.writer past × (text.entries.keys ≡ entries_begun past)
 
--- The run came to its end: these are the texts of its events; all of its output was put, and this is its end.
-pub record IsTraced (run : Profiled) (before after : Sinks) (traced : TracedRun) : Type 0 where
+-- These are the texts of a run's events, and its end.
+pub record IsTraced (traced : TracedRun) (run : Profiled) : Type 0 where
   pub text : AreTexts traced.text run.past
-  pub output : after ≡ with_output run.moves before
   pub finish : traced.finish ≡ run.finish
 
--- How the run of an executable ends whose trace is written.
-abbrev pub ImageIsTraced : Option SetupError → Profiled → Sinks → Sinks → Result TracedRun Ending → Type 0
-ImageIsTraced setup run before after (Ok traced) = (setup ≡ None) × IsTraced run before after traced
-ImageIsTraced setup run before after (Err e) = RunStops setup run before after e
-
--- The run came to its end: this is the report of its cache misses, and all of its output was put.
-pub record IsMissed (shape : Form) (image : Executable) (run : Profiled) (before after : Sinks) (report : Reported) : Type 0 where
-  pub report_is : report ≡ misses_of shape image run.finish run.past
-  pub output : after ≡ with_output run.moves before
-
--- How the run of an executable ends whose cache misses are counted.
-abbrev pub ImageIsMissed : Form → Executable → Option SetupError → Profiled → Sinks → Sinks → Result Reported Ending → Type 0
-ImageIsMissed shape image setup run before after (Ok report) = (setup ≡ None) × IsMissed shape image run before after report
-ImageIsMissed shape image setup run before after (Err e) = RunStops setup run before after e
+-- this is the report of a run's cache misses
+abbrev pub IsMissed : Form → Executable → Reported → Profiled → Type 0
+IsMissed shape image report run = report ≡ misses_of shape image run.finish run.past
 
 -- what the run comes to with its contexts, unless they are more than can be numbered
 abbrev pub HaveContexts : ℕ → Option ContextTotals → List Event → Type 0
 HaveContexts most None past = IsPastNumbers past
 HaveContexts most (Some totals) past = contexts.AreTotalsOf most totals past
 
--- The run came to its end: these are its contexts; all of its output was put, and this is its end.
-pub record HasContexts (most : ℕ) (run : Profiled) (before after : Sinks) (told : ContextsRun) : Type 0 where
+-- These are the contexts of a run, by stamps up to the greatest, and its end.
+pub record HasContexts (most : ℕ) (told : ContextsRun) (run : Profiled) : Type 0 where
   pub contexts_are : HaveContexts most told.contexts run.past
-  pub output : after ≡ with_output run.moves before
   pub finish : told.finish ≡ run.finish
-
--- How the run of an executable ends whose contexts are told apart by stamps up to the greatest.
-abbrev pub ImageHasContexts : ℕ → Option SetupError → Profiled → Sinks → Sinks → Result ContextsRun Ending → Type 0
-ImageHasContexts most setup run before after (Ok told) = (setup ≡ None) × HasContexts most run before after told
-ImageHasContexts most setup run before after (Err e) = RunStops setup run before after e
 
 -- the path and the bytes of a file to store
 abbrev pub store_of : Store → List ℕ × List ℕ
@@ -181,6 +165,10 @@ FilesRun job loaded before after CannotWrite =
 FilesRun job loaded before after CannotPut =
     IsHandedOut job loaded (IsOfRunAnd (λ outcome. FailsOnErr outcome before after ⊎ FailsAtStats outcome before after))
 FilesRun job loaded before after OutOfMemory = (after ≡ before) ⊎ IsHandedOut job loaded (λ outcome. StopsShort outcome before after)
+
+-- how a command ends whose guest was prepared: so it does with all files that the guest was prepared of
+abbrev pub JobRuns : Job → Prepared → Outside → Outside → Ending → Type 0
+JobRuns job prepared before after ending = (loaded : Loaded) → ArePrepared job.guest loaded prepared → FilesRun job loaded before after ending
 
 -- the outcome of a demo with this summary
 abbrev pub summed : List ℕ → Outcome

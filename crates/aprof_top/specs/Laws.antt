@@ -1,7 +1,8 @@
 -- Laws on the outcomes of commands.
 use Rattle.std.specs.Prelude.{◌≡◌, ◌≤◌, ℕ, suc, List, [], ◌∷◌, ◌++◌, length, take, slice_get, Option, Some}
-use Rattle.command_line.specs.Options.{Asked, ContextsOptions, GuestOptions, ReplayOptions, RunOptions, TraceOptions}
-use Rattle.command_line.specs.Options.Asked.{Run, Trace, Contexts, Replay}
+use Rattle.command_line.specs.Options.{Asked, GuestOptions, ReplayOptions, RunOptions}
+use Rattle.command_line.specs.Options.Analysis.{Run, Trace, Contexts}
+use Rattle.command_line.specs.Options.Asked.{Guest, Replay}
 use Rattle.guest_run.specs.Laws.{IsNoMismatch, TurnsHaveMoves}
 use Rattle.guest_run.specs.Profiled.{Profiled}
 use Rattle.guest_run.specs.Run.{recording}
@@ -24,10 +25,6 @@ OneOutcome = (asked : Option Asked) (files : List (List ℕ)) (a b : Outcome) �
 abbrev pub under_schedule : GuestOptions → List ℕ → GuestOptions
 under_schedule options path = record options { schedule = Some path }
 
--- the same command, under the schedule at this path
-abbrev pub scheduled : RunOptions → List ℕ → RunOptions
-scheduled options path = record options { guest = under_schedule options.guest path }
-
 -- the files of a command without its schedule, and then this one
 abbrev pub with_schedule : GuestOptions → List (List ℕ) → List ℕ → List (List ℕ)
 with_schedule options files text = take (suc (shared_count options)) files ++ text ∷ []
@@ -45,18 +42,15 @@ pub record LeavesRecording (options : RunOptions) (outcome : Outcome) (text : Li
 -- and files has the same outcome: verdict, output, recording and report.
 abbrev pub TwoRunsAgree : Type 0
 TwoRunsAgree =
-    (options : RunOptions) (files : List (List ℕ)) (first second : Outcome) (path text : List ℕ) → options.guest.budget ≤ RUN_STEPS
-    → IsOutcome (Some (Run options)) files first → LeavesRecording options first text → length text ≤ file_limit
-    → IsOutcome (Some (Run (scheduled options path))) (with_schedule options.guest files text) second → second ≡ first
+    (guest : GuestOptions) (report : List ℕ) (options : RunOptions) (files : List (List ℕ)) (first second : Outcome) (path text : List ℕ)
+    → guest.budget ≤ RUN_STEPS → IsOutcome (Some (Guest guest report (Run options))) files first
+    → LeavesRecording options first text → length text ≤ file_limit
+    → IsOutcome (Some (Guest (under_schedule guest path) report (Run options))) (with_schedule guest files text) second → second ≡ first
 
 -- ---- a stored trace
--- the same command, where the trace of the run is stored at the path in place of the report
-abbrev pub traced_at : RunOptions → List ℕ → TraceOptions
-traced_at options path = record { guest = options.guest; trace = path }
-
 -- the report of the trace at the path, asked for as the run's report is
-abbrev pub replayed_from : RunOptions → List ℕ → ReplayOptions
-replayed_from options path = record { trace = path; report = options.report; bits = options.bits; stats = options.stats }
+abbrev pub replayed_from : List ℕ → RunOptions → List ℕ → ReplayOptions
+replayed_from report options path = record { trace = path; report = report; bits = options.bits; stats = options.stats }
 
 -- The trace was replayed, and what that stores is the report that the run stores last; both count the same renumberings.
 pub record SharesReport (run replay : Outcome) : Type 0 where
@@ -69,16 +63,12 @@ pub record SharesReport (run replay : Outcome) : Type 0 where
 -- of any width.
 abbrev pub TracesReplay : Type 0
 TracesReplay =
-    (options : RunOptions) (files : List (List ℕ)) (path bytes : List ℕ) (traced run replayed : Outcome) → options.guest.budget ≤ RUN_STEPS
-    → IsOutcome (Some (Trace (traced_at options path))) files traced → traced.stores ≡ (path, bytes) ∷ []
-    → IsOutcome (Some (Run options)) files run → IsOutcome (Some (Replay (replayed_from options path))) (bytes ∷ []) replayed
-    → SharesReport run replayed
+    (guest : GuestOptions) (report : List ℕ) (options : RunOptions) (files : List (List ℕ)) (path bytes : List ℕ) (traced run replayed : Outcome)
+    → guest.budget ≤ RUN_STEPS → IsOutcome (Some (Guest guest path Trace)) files traced → traced.stores ≡ (path, bytes) ∷ []
+    → IsOutcome (Some (Guest guest report (Run options))) files run
+    → IsOutcome (Some (Replay (replayed_from report options path))) (bytes ∷ []) replayed → SharesReport run replayed
 
 -- ---- the report with the calling contexts
--- the same command, where the calling contexts are told behind the report
-abbrev pub with_contexts : RunOptions → ContextsOptions
-with_contexts options = record { guest = options.guest; report = options.report; bits = options.bits }
-
 -- The bytes begin with the report that the run stores last. Both commands have the same verdict, and the same output of the guest
 -- on each channel; the line of `--stats` is no part of that.
 pub record BeginsWithReport (path bytes : List ℕ) (contexts run : Outcome) : Type 0 where
@@ -94,9 +84,9 @@ pub record BeginsWithReport (path bytes : List ℕ) (contexts run : Outcome) : T
 -- What `contexts` stores begins, byte for byte, with the report that `run` stores with the same options and files.
 abbrev pub ContextsBeginWithTheReport : Type 0
 ContextsBeginWithTheReport =
-    (options : RunOptions) (files : List (List ℕ)) (bytes : List ℕ) (contexts run : Outcome)
-    → IsOutcome (Some (Contexts (with_contexts options))) files contexts → contexts.stores ≡ (options.report, bytes) ∷ []
-    → IsOutcome (Some (Run options)) files run → BeginsWithReport options.report bytes contexts run
+    (guest : GuestOptions) (report : List ℕ) (options : RunOptions) (files : List (List ℕ)) (bytes : List ℕ) (contexts run : Outcome)
+    → IsOutcome (Some (Guest guest report (Contexts options.bits))) files contexts → contexts.stores ≡ (report, bytes) ∷ []
+    → IsOutcome (Some (Guest guest report (Run options))) files run → BeginsWithReport report bytes contexts run
 
 -- A profiled run has at most as many steps as its budget, and each turn that it records has a move and at most as many.
 pub record IsBounded (run : Profiled) (budget : ℕ) : Type 0 where

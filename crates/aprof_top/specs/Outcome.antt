@@ -1,7 +1,8 @@
 -- What the written product answers to a command, over the files that it loads.
 use Rattle.std.specs.Prelude.{◌≡◌, ◌≢◌, ◌⊎◌, ℕ, ◌^◌, Bool, true, false, codes, nat_lt, List, [], ◌∷◌, ◌++◌, length, Option, Some, None, if◌then◌else◌}
-use Rattle.command_line.specs.Options.{Asked, CacheOptions, ContextsOptions, GuestOptions, ReplayOptions, RunOptions, TraceOptions, arguments}
-use Rattle.command_line.specs.Options.Asked.{Run, Trace, Cache, Contexts, Replay, Demo}
+use Rattle.command_line.specs.Options.{Analysis, Asked, GuestOptions, ReplayOptions, RunOptions, arguments}
+use Rattle.command_line.specs.Options.Analysis.{Run, Trace, Cache, Contexts}
+use Rattle.command_line.specs.Options.Asked.{Guest, Replay, Demo}
 use Rattle.elf_image.specs.declared.error.ElfError.{ElfError}
 use Rattle.elf_image.specs.Image.{Executable}
 use Rattle.elf_image.specs.Reading.{image_of}
@@ -34,7 +35,7 @@ use Rattle.aprof_top.specs.ContextReports.{can_be_numbered, contexts_report}
 use Rattle.aprof_top.specs.Limits.{trace_limit}
 use Rattle.aprof_top.specs.Loads.{Loaded, loaded_of, loaded_paths, passes_limit, shared_count}
 use Rattle.aprof_top.specs.Report.{report_of}
-use Rattle.aprof_top.specs.Run.{run_of, whole_run_of}
+use Rattle.aprof_top.specs.Run.{observed_of, run_of}
 use Rattle.demo_guest.specs.Image.{IsDemoFile}
 use Rattle.aprof_top.specs.Summary.{summary_text}
 use Rattle.aprof_top.specs.Texts.{renumberings_text}
@@ -64,83 +65,76 @@ abbrev pub recording_stores : Option (List ℕ) → List Entry → List (List �
 recording_stores None turns = []
 recording_stores (Some path) turns = (path, recordings.schedule_text turns) ∷ []
 
--- the files of a run that ended so, by its trace and its turns: its recording where it is asked for, and then its report
-abbrev pub run_stores : RunOptions → Executable → Finish → List Event → List Entry → List (List ℕ × List ℕ)
-run_stores options image finish past turns =
-    recording_stores options.recording turns ++ (options.report, report_text (report_of image.names finish past)) ∷ []
+-- the files of a run that ended so, by its trace and its turns: its recording where it is asked for, and then its report at this
+-- path
+abbrev pub run_stores : List ℕ → RunOptions → Executable → Finish → List Event → List Entry → List (List ℕ × List ℕ)
+run_stores report options image finish past turns =
+    recording_stores options.recording turns ++ (report, report_text (report_of image.names finish past)) ∷ []
 
 -- how often stamps were renumbered, where that is asked for
 abbrev pub stats_of : Bool → ℕ → List ℕ
 stats_of asked count = if asked then renumberings_text count else []
 
--- what a run leaves: its output and its files
-abbrev pub run_outcome : RunOptions → Executable → Profiled → Outcome
-run_outcome options image run = record {
-  verdict = Ran run.finish;
-  out = bytes_on 1 run.moves;
-  err = bytes_on 2 run.moves;
-  stores = run_stores options image run.finish run.past (recording run.moves);
+-- What is made of a run beside the guest's output.
+pub record Left : Type 0 where
+  -- the files that are stored, in order: the path and the bytes of each
+  pub stores : List (List ℕ × List ℕ)
+  -- what is put on `err` then
+  pub stats : List ℕ
+
+-- one file is stored
+abbrev pub one_file : List ℕ → List ℕ → Left
+one_file path bytes = record { stores = (path, bytes) ∷ []; stats = [] }
+
+-- what an analysis makes of a run, with its result at this path; none where that is too large
+abbrev pub left_of : List ℕ → Analysis → Executable → Profiled → Option Left
+left_of path (Run options) image run = Some (record {
+  stores = run_stores path options image run.finish run.past (recording run.moves);
   stats = stats_of options.stats (renumberings (greatest options.bits) run.past);
-}
+})
+left_of path Trace image run = if is_storable (trace_of image run) then Some (one_file path (trace_of image run)) else None
+left_of path (Cache shape) image run = Some (one_file path (cache_text (misses_of shape image run.finish run.past)))
+left_of path (Contexts bits) image run = if can_be_numbered run.past then Some (one_file path (contexts_report image run)) else None
 
--- what a run leaves that is traced: its output, and its trace unless that is too long
-abbrev pub trace_outcome : TraceOptions → Executable → Profiled → Outcome
-trace_outcome options image run = record {
-  verdict = if is_storable (trace_of image run) then Ran run.finish else ResultTooLarge;
-  out = bytes_on 1 run.moves;
-  err = bytes_on 2 run.moves;
-  stores = if is_storable (trace_of image run) then (options.trace, trace_of image run) ∷ [] else [];
-  stats = [];
-}
-
--- what a run leaves whose cache misses are counted: its output, and the report of them
-abbrev pub cache_outcome : CacheOptions → Executable → Profiled → Outcome
-cache_outcome options image run = record {
+-- what a run leaves: the guest's output, and what is made of it
+abbrev pub run_outcome : Profiled → Option Left → Outcome
+run_outcome run (Some left) = record {
   verdict = Ran run.finish;
   out = bytes_on 1 run.moves;
   err = bytes_on 2 run.moves;
-  stores = (options.report, cache_text (misses_of options.shape image run.finish run.past)) ∷ [];
+  stores = left.stores;
+  stats = left.stats;
+}
+run_outcome run None = record {
+  verdict = ResultTooLarge;
+  out = bytes_on 1 run.moves;
+  err = bytes_on 2 run.moves;
+  stores = [];
   stats = [];
 }
 
--- what a run leaves whose calling contexts are told: its output, and its report with them unless they are more than can be
--- numbered
-abbrev pub contexts_outcome : ContextsOptions → Executable → Profiled → Outcome
-contexts_outcome options image run = record {
-  verdict = if can_be_numbered run.past then Ran run.finish else ResultTooLarge;
-  out = bytes_on 1 run.moves;
-  err = bytes_on 2 run.moves;
-  stores = if can_be_numbered run.past then (options.report, contexts_report image run) ∷ [] else [];
-  stats = [];
-}
+-- the same, by the analysis
+abbrev pub analysed : List ℕ → Analysis → Executable → Profiled → Outcome
+analysed path analysis image run = run_outcome run (left_of path analysis image run)
 
 -- A command that runs a guest: how it is run, and what its run leaves with these files, under these turns.
 pub record Job : Type 0 where
   pub guest : GuestOptions
   pub leaves : Loaded → List Entry → Outcome
 
-abbrev pub run_job : RunOptions → Job
-run_job options = record {
-  guest = options.guest;
-  leaves = λ loaded turns. run_outcome options (image_of loaded.image) (run_of options.bits options.guest loaded turns);
-}
+-- how far an analysis follows a run: as far as its stamps tell the open calls apart, those of `trace` being the widest; misses of
+-- a cache need none
+abbrev pub follows_to : Analysis → List Event → Bool
+follows_to (Run options) = is_within (greatest options.bits)
+follows_to Trace = is_within (greatest B32)
+follows_to (Cache shape) = λ past. true
+follows_to (Contexts bits) = is_within (greatest bits)
 
-abbrev pub trace_job : TraceOptions → Job
-trace_job options = record {
-  guest = options.guest;
-  leaves = λ loaded turns. trace_outcome options (image_of loaded.image) (run_of B32 options.guest loaded turns);
-}
-
-abbrev pub cache_job : CacheOptions → Job
-cache_job options = record {
-  guest = options.guest;
-  leaves = λ loaded turns. cache_outcome options (image_of loaded.image) (whole_run_of options.guest loaded turns);
-}
-
-abbrev pub contexts_job : ContextsOptions → Job
-contexts_job options = record {
-  guest = options.guest;
-  leaves = λ loaded turns. contexts_outcome options (image_of loaded.image) (run_of options.bits options.guest loaded turns);
+-- the command that makes this of the run of this guest
+abbrev pub job_of : GuestOptions → List ℕ → Analysis → Job
+job_of guest path analysis = record {
+  guest = guest;
+  leaves = λ loaded turns. analysed path analysis (image_of loaded.image) (observed_of (follows_to analysis) guest loaded turns);
 }
 
 -- a guest that can begin is run
@@ -273,19 +267,13 @@ pub record IsDemo (number : ℕ) (outcome : Outcome) : Type 0 where
 -- The outcome of what the words ask for, or of their refusal, over the bytes of the files that were loaded.
 abbrev pub IsOutcome : Option Asked → List (List ℕ) → Outcome → Type 0
 IsOutcome None files outcome = outcome ≡ refusal BadCommand
-IsOutcome (Some (Run options)) files outcome = Follows (run_job options) files outcome (stage options.guest files)
-IsOutcome (Some (Trace options)) files outcome = Follows (trace_job options) files outcome (stage options.guest files)
-IsOutcome (Some (Cache options)) files outcome = Follows (cache_job options) files outcome (stage options.guest files)
-IsOutcome (Some (Contexts options)) files outcome = Follows (contexts_job options) files outcome (stage options.guest files)
+IsOutcome (Some (Guest guest path analysis)) files outcome = Follows (job_of guest path analysis) files outcome (stage guest files)
 IsOutcome (Some (Replay options)) files outcome = IsReplay options files outcome
 IsOutcome (Some (Demo number)) files outcome = IsDemo number outcome
 
 -- these files decide nothing yet
 abbrev pub IsUndecided : Option Asked → List (List ℕ) → Type 0
 IsUndecided None files = ⊥
-IsUndecided (Some (Run options)) files = stage options.guest files ≡ Loading
-IsUndecided (Some (Trace options)) files = stage options.guest files ≡ Loading
-IsUndecided (Some (Cache options)) files = stage options.guest files ≡ Loading
-IsUndecided (Some (Contexts options)) files = stage options.guest files ≡ Loading
+IsUndecided (Some (Guest guest path analysis)) files = stage guest files ≡ Loading
 IsUndecided (Some (Replay options)) files = files ≡ []
 IsUndecided (Some (Demo number)) files = ⊥

@@ -25,12 +25,14 @@ unfoldable pub observed_from : (List Event → Bool) → GuestOptions → List E
 observed_from fits options turns entry state =
     profiled fits (first_past entry) (run guest (scheduler options.quantum turns) options.budget state)
 
--- its moves, its trace and how it ended, as far as stamps of the width can tell the open calls apart
+-- what is observed of the run with these files: its moves, its trace and how it ended, as far as the trace fits
+abbrev pub observed_of : (List Event → Bool) → GuestOptions → Loaded → List Entry → Profiled
+observed_of fits options loaded turns = observed_from fits options turns (image_of loaded.image).entry (first_state options loaded)
+
+-- the same as far as stamps of the width can tell the open calls apart
 abbrev pub run_of : StampBits → GuestOptions → Loaded → List Entry → Profiled
-run_of bits options loaded turns =
-    observed_from (is_within (greatest bits)) options turns (image_of loaded.image).entry (first_state options loaded)
+run_of bits = observed_of (is_within (greatest bits))
 
 -- the same of the whole run, whatever its open calls
 abbrev pub whole_run_of : GuestOptions → Loaded → List Entry → Profiled
-whole_run_of options loaded turns =
-    observed_from (λ past. true) options turns (image_of loaded.image).entry (first_state options loaded)
+whole_run_of = observed_of (λ past. true)

@@ -1,8 +1,9 @@
 -- What stands outside after a call, sentence by sentence.
 use Rattle.std.specs.Prelude.{◌≡◌, ◌⊎◌, ◌<◌, ℕ, List, ◌++◌, ◌∷◌, [], length, take, Option, Some, IfSome, slice_get}
 use Rattle.std.specs.Io.KnownBytes.{append_known}
-use Rattle.command_line.specs.Options.{RunOptions}
-use Rattle.command_line.specs.Options.Asked.{Run}
+use Rattle.command_line.specs.Options.{GuestOptions, RunOptions}
+use Rattle.command_line.specs.Options.Analysis.{Run}
+use Rattle.command_line.specs.Options.Asked.{Guest}
 use Rattle.host_io.specs.Faults.{Rose}
 use Rattle.host_io.specs.Files.{FailsAt, FilesState, Holds, with_file, with_path}
 use Rattle.host_io.specs.Sink.{FailsToAppend, SinkState, appended}
@@ -124,11 +125,13 @@ pub record StandsAfterFault (words : List (List ℕ)) (before after : Outside) :
   -- where it gained one, all of the output had come
   pub output : (path : List ℕ) → GainedPath path before.files after.files → GotOutput decision.outcome before after
   -- where it gained the recording's path, which is not the report's, the report's file is as it was
-  pub recording_failed : (options : RunOptions) (path : List ℕ) → decision.found.asked ≡ Some (Run options) → options.recording ≡ Some path
-      → (path ≡ options.report → ⊥) → GainedPath path before.files after.files → IsUntouched options.report before.files after.files
+  pub recording_failed : (guest : GuestOptions) (report : List ℕ) (options : RunOptions) (path : List ℕ)
+      → decision.found.asked ≡ Some (Guest guest report (Run options)) → options.recording ≡ Some path
+      → (path ≡ report → ⊥) → GainedPath path before.files after.files → IsUntouched report before.files after.files
   -- where it gained the report's path, which is not the recording's, the recording was stored
-  pub report_failed : (options : RunOptions) (path : List ℕ) → decision.found.asked ≡ Some (Run options) → options.recording ≡ Some path
-      → (path ≡ options.report → ⊥) → GainedPath options.report before.files after.files
+  pub report_failed : (guest : GuestOptions) (report : List ℕ) (options : RunOptions) (path : List ℕ)
+      → decision.found.asked ≡ Some (Guest guest report (Run options)) → options.recording ≡ Some path
+      → (path ≡ report → ⊥) → GainedPath report before.files after.files
       → (bytes : List ℕ) × (slice_get decision.outcome.stores 0 ≡ Some (path, bytes)) × Holds after.files.contents path bytes
   -- where no store failed, nothing was stored, or the statistics alone are missing
   pub no_store_failed : (Rose before.files.faults after.files.faults → ⊥)

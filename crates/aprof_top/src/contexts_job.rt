@@ -1,28 +1,30 @@
 //! The command `contexts`: a guest's output, and the report of its run with its calling contexts.
 ghost use Rattle.std.specs.Prelude.{◌≡◌, ℕ, List, true, IfOk};
-ghost use Rattle.command_line.specs.Options.Asked.{Contexts};
-ghost use Rattle.command_line.specs.Read.{AreInRange, contexts_in, guest_in};
+ghost use Rattle.command_line.specs.Options.Analysis.{Contexts};
+ghost use Rattle.command_line.specs.Read.{AreInRange, guest_in};
 ghost use Rattle.context_profile.specs.Kept.{AreTotalsOf};
 ghost use Rattle.guest_run.specs.Profiled.{Profiled};
 ghost use Rattle.host_io.specs.Sink.{SinkState};
+ghost use Rattle.stamps.specs.declared.width.StampBits.{StampBits};
 ghost use Rattle.trace_model.specs.declared.event_kinds.Event.{Event};
 ghost use Rattle.aprof_top.specs.ContextReports.{can_be_numbered, contexts_report};
-ghost use Rattle.aprof_top.specs.Ending.{AskedEnds};
-ghost use Rattle.aprof_top.specs.Jobs.{HaveContexts, RunIsStored, desk, ending_by};
-ghost use Rattle.aprof_top.specs.Outcome.{contexts_outcome};
+ghost use Rattle.aprof_top.specs.Jobs.{HaveContexts, JobRuns, RunIsStored, desk, ending_by};
+ghost use Rattle.aprof_top.specs.Outcome.{analysed, job_of};
 ghost use Rattle.aprof_top.specs.Outside.{outside};
 
 use crate::contexts_run::{ContextsRun, contexts_of_run};
+use crate::delivery::store_result;
 use crate::ending::{Ending, Verdict};
-use crate::preparation::prepare;
+use crate::preparation::Prepared;
 use crate::report::report_of;
-use command_line::ContextsCommand;
+use command_line::GuestOptions;
 use context_profile::ContextTotals;
 use context_report::push_contexts;
 use elf_image::Image;
 use guest_words::Finish;
 use host_io::{Files, Sink};
 use profile_report::write_report;
+use stamps::StampBits;
 use std::alloc::{AllocError, Global};
 
 // The text of a report, and behind it the contexts.
@@ -48,15 +50,15 @@ fn contexts_report(
 // Stores the report of a run with its contexts, where those can be numbered.
 fn deliver_contexts<F: Files>(
     alloc: Global,
-    command: &ContextsCommand<'_>,
+    path: &str,
     image: &Image,
     run: ContextsRun,
     files: &mut F,
 ) -> Result<Verdict, Ending>
     requires { (most : ℕ) × ((past : List Event) × HaveContexts most run.contexts past) }
-    ensures { (most : ℕ) (seen : Profiled) → run.finish ≡ seen.finish
+    ensures { (bits : StampBits) (most : ℕ) (seen : Profiled) → run.finish ≡ seen.finish
         → HaveContexts most run.contexts seen.past
-        → (err : SinkState) → RunIsStored (contexts_outcome (contexts_in command.now) image.now seen)
+        → (err : SinkState) → RunIsStored (analysed path.now (Contexts bits) image.now seen)
         (desk (F.state files.old) err) (desk (F.state files.new) err) result }
 {
     let ContextsRun { contexts, finish } = run;
@@ -64,26 +66,26 @@ fn deliver_contexts<F: Files>(
         return Ok(Verdict::ResultTooLarge);
     };
     let text = contexts_report(alloc, image, &contexts, &finish)?;
-    files.store(command.report, text.as_slice())?;
-    Ok(Verdict::Ran(finish))
+    store_result(path, text.as_slice(), finish, files)
 }
 
-/// Prepares the guest of a command, runs it, and stores the report of its run with its contexts.
-pub(crate) fn contexts_command<F: Files, O: Sink, E: Sink>(
+/// Runs a guest that was prepared, and stores the report of its run with its contexts.
+pub(crate) fn contexts_job<F: Files, O: Sink, E: Sink>(
     alloc: Global,
-    command: &ContextsCommand<'_>,
+    guest: &GuestOptions<'_>,
+    path: &str,
+    bits: StampBits,
+    prepared: Prepared,
     files: &mut F,
     out: &mut O,
     err: &mut E,
 ) -> Result<Verdict, Ending>
-    requires { AreInRange (guest_in command.now.guest) }
-    ensures { AskedEnds (Contexts (contexts_in command.now))
+    requires { AreInRange (guest_in guest.now) }
+    ensures { JobRuns (job_of (guest_in guest.now) path.now (Contexts bits)) prepared
         (outside (F.state files.old) (O.state out.old) (E.state err.old))
         (outside (F.state files.new) (O.state out.new) (E.state err.new)) (ending_by result) }
 {
-    let guest = &command.guest;
-    let prepared = prepare(alloc, guest, files)?;
     let image = prepared.image;
-    let run = contexts_of_run(alloc, command.bits, guest, &image, prepared.files, out, err)?;
-    deliver_contexts(alloc, command, &image, run, files)
+    let run = contexts_of_run(alloc, bits, guest, &image, prepared.files, out, err)?;
+    deliver_contexts(alloc, path, &image, run, files)
 }

@@ -7,7 +7,7 @@ ghost use Rattle.command_line.specs.Read.{AreInRange, guest_in};
 ghost use Rattle.guest_machine.specs.Setup.{setup_refusal};
 ghost use Rattle.guest_machine.specs.Start.{start};
 ghost use Rattle.guest_run.specs.Output.{sinks};
-ghost use Rattle.aprof_top.specs.Jobs.{ImageHasContexts};
+ghost use Rattle.aprof_top.specs.Jobs.{HasContexts, ImageIsRun};
 ghost use Rattle.aprof_top.specs.Run.{observed_from};
 
 use crate::ending::Ending;
@@ -39,7 +39,7 @@ fn contexts_by<S: Lanes, O: Sink, E: Sink>(
 ) -> Result<ContextsRun, Ending>
     requires range { AreInRange (guest_in options.now) }
     requires stamps { 6 ≤ S.MAX }
-    ensures { ImageHasContexts S.MAX (setup_refusal image.now (arguments (guest_in options.now)))
+    ensures { ImageIsRun (HasContexts S.MAX) (setup_refusal image.now (arguments (guest_in options.now)))
         (observed_from (is_within S.MAX) (guest_in options.now) files.schedule image.now.entry
         (start image.now (arguments (guest_in options.now)) files.inputs files.stdin.items))
         (sinks (O.state out.old) (E.state err.old)) (sinks (O.state out.new) (E.state err.new)) result }
@@ -64,7 +64,7 @@ pub(crate) fn contexts_of_run<O: Sink, E: Sink>(
     err: &mut E,
 ) -> Result<ContextsRun, Ending>
     requires { AreInRange (guest_in options.now) }
-    ensures { ImageHasContexts (greatest bits)
+    ensures { ImageIsRun (HasContexts (greatest bits))
         (setup_refusal image.now (arguments (guest_in options.now)))
         (observed_from (is_within (greatest bits)) (guest_in options.now) files.schedule image.now.entry
         (start image.now (arguments (guest_in options.now)) files.inputs files.stdin.items))

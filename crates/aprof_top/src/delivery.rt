@@ -1,11 +1,13 @@
 //! Handing out what a command leaves: bytes to a sink, and files.
-ghost use Rattle.std.specs.Prelude.{◌<◌, length, map, OnErr};
-ghost use Rattle.host_io.specs.Sink.{PutEnds};
-ghost use Rattle.aprof_top.specs.Jobs.{StatsEnd, StoresEnd, store_of};
-ghost use Rattle.aprof_top.specs.Outcome.{stats_of};
+ghost use Rattle.std.specs.Prelude.{◌≡◌, ◌<◌, length, map, OnErr, Some};
+ghost use Rattle.guest_run.specs.Profiled.{Profiled};
+ghost use Rattle.host_io.specs.Sink.{PutEnds, SinkState};
+ghost use Rattle.aprof_top.specs.Jobs.{RunIsStored, StatsEnd, StoresEnd, desk, store_of};
+ghost use Rattle.aprof_top.specs.Outcome.{one_file, run_outcome, stats_of};
 
-use crate::ending::Ending;
+use crate::ending::{Ending, Verdict};
 use crate::texts::renumberings_text;
+use guest_words::Finish;
 use host_io::{Files, PutError, Sink, StoreError};
 use std::alloc::Global;
 
@@ -57,4 +59,19 @@ pub(crate) fn store_all<F: Files>(stores: &[Store<'_>], files: &mut F) -> Result
         }
     }
     Ok(())
+}
+
+/// Stores the one file that is made of a run, which ended so.
+pub(crate) fn store_result<F: Files>(
+    path: &str,
+    bytes: &[u8],
+    finish: Finish,
+    files: &mut F,
+) -> Result<Verdict, Ending>
+    ensures { (run : Profiled) → finish ≡ run.finish → (err : SinkState)
+        → RunIsStored (run_outcome run (Some (one_file path.now bytes.now)))
+        (desk (F.state files.old) err) (desk (F.state files.new) err) result }
+{
+    files.store(path, bytes)?;
+    Ok(Verdict::Ran(finish))
 }

@@ -8,6 +8,7 @@ mod contexts_run;
 mod delivery;
 mod demo;
 mod ending;
+mod guest_command;
 mod guest_job;
 mod laws;
 mod loaded;

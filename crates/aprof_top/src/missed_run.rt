@@ -8,7 +8,7 @@ ghost use Rattle.guest_machine.specs.Start.{start};
 ghost use Rattle.guest_run.specs.Output.{sinks};
 ghost use Rattle.cache_profile.specs.Profile.{StandsFor};
 ghost use Rattle.aprof_top.specs.CacheMisses.{misses_of, named_misses};
-ghost use Rattle.aprof_top.specs.Jobs.{ImageIsMissed};
+ghost use Rattle.aprof_top.specs.Jobs.{ImageIsRun, IsMissed};
 ghost use Rattle.aprof_top.specs.Run.{observed_from};
 
 use crate::ending::Ending;
@@ -70,7 +70,7 @@ fn misses_by<K: Shaped, O: Sink, E: Sink>(
 ) -> Result<CacheReport, Ending>
     requires range { AreInRange (guest_in options.now) }
     requires shape { shape ≡ K.shape }
-    ensures { ImageIsMissed K.shape image.now
+    ensures { ImageIsRun (IsMissed K.shape image.now)
         (setup_refusal image.now (arguments (guest_in options.now)))
         (observed_from (λ _. true) (guest_in options.now) files.schedule image.now.entry
         (start image.now (arguments (guest_in options.now)) files.inputs files.stdin.items))
@@ -93,7 +93,7 @@ pub(crate) fn count_misses<O: Sink, E: Sink>(
     err: &mut E,
 ) -> Result<CacheReport, Ending>
     requires { AreInRange (guest_in options.now) }
-    ensures { ImageIsMissed shape image.now
+    ensures { ImageIsRun (IsMissed shape image.now)
         (setup_refusal image.now (arguments (guest_in options.now)))
         (observed_from (λ _. true) (guest_in options.now) files.schedule image.now.entry
         (start image.now (arguments (guest_in options.now)) files.inputs files.stdin.items))

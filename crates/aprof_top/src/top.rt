@@ -11,15 +11,12 @@ ghost use Rattle.host_io.specs.Sink.{SinkState};
 ghost use Rattle.command_line.specs.Options.Asked.{Demo};
 ghost use Rattle.command_line.specs.Read.{IsInRange, asked_in};
 
-use crate::cache_job::cache_command;
-use crate::contexts_job::contexts_command;
 use crate::delivery::put_all;
 use crate::demo::run_demo;
 use crate::ending::{Ending, Verdict, ending_by, tell};
+use crate::guest_command::guest_command;
 use crate::replay_job::replay_command;
-use crate::run_job::run_command;
 use crate::source::Wanted;
-use crate::trace_job::trace_command;
 use command_line::{Command, read_command};
 use guest_words::limits::DEMO_ROUTINES;
 use host_io::{Files, Sink};
@@ -50,10 +47,7 @@ fn do_command<F: Files, O: Sink, E: Sink>(
         (outside (F.state files.new) (O.state out.new) (E.state err.new)) (ending_by result) }
 {
     match command {
-        Command::Run(command) => run_command(alloc, command, files, out, err),
-        Command::Trace(command) => trace_command(alloc, command, files, out, err),
-        Command::Cache(command) => cache_command(alloc, command, files, out, err),
-        Command::Contexts(command) => contexts_command(alloc, command, files, out, err),
+        Command::Guest(command) => guest_command(alloc, command, files, out, err),
         Command::Replay(command) => replay_command(alloc, command, files, err),
         Command::Demo(number) => show_demo(alloc, *number, out),
     }
@@ -64,10 +58,7 @@ fn wanted_of<'c, 'a>(command: &'c Command<'a>) -> Wanted<'c, 'a>
     ensures { wanted_in result ≡ wanted_of (asked_in command.now) }
 {
     match command {
-        Command::Run(command) => Wanted::Guest(&command.guest),
-        Command::Trace(command) => Wanted::Guest(&command.guest),
-        Command::Cache(command) => Wanted::Guest(&command.guest),
-        Command::Contexts(command) => Wanted::Guest(&command.guest),
+        Command::Guest(command) => Wanted::Guest(&command.guest),
         Command::Replay(command) => Wanted::Trace(command.trace),
         Command::Demo(_) => Wanted::Nothing,
     }

@@ -1,23 +1,23 @@
 //! The command `trace`: a guest's output, and the trace of its run.
 ghost use Rattle.std.specs.Prelude.{◌≡◌, ◌≤◌, ◌<◌, ℕ, List, length, Some, MatchOption, IfOk};
-ghost use Rattle.command_line.specs.Options.Asked.{Trace};
-ghost use Rattle.command_line.specs.Read.{AreInRange, guest_in, trace_in};
+ghost use Rattle.command_line.specs.Options.Analysis.{Trace};
+ghost use Rattle.command_line.specs.Read.{AreInRange, guest_in};
 ghost use Rattle.guest_words.specs.declared.endings.Finish.TheVariants as ends;
 ghost use Rattle.guest_run.specs.Profiled.{Profiled};
 ghost use Rattle.host_io.specs.Sink.{SinkState};
 ghost use Rattle.run_trace.specs.declared.run_trace.TheConstants.{TRACE_BYTES};
 ghost use Rattle.trace_file.specs.TraceText.{trace_text};
 ghost use Rattle.trace_model.specs.declared.event_kinds.Event.{Event};
-ghost use Rattle.aprof_top.specs.Ending.{AskedEnds};
-ghost use Rattle.aprof_top.specs.Jobs.{AreTexts, RunIsStored, desk, ending_by};
-ghost use Rattle.aprof_top.specs.Outcome.{trace_outcome};
+ghost use Rattle.aprof_top.specs.Jobs.{AreTexts, JobRuns, RunIsStored, desk, ending_by};
+ghost use Rattle.aprof_top.specs.Outcome.{analysed, job_of};
 ghost use Rattle.aprof_top.specs.Outside.{outside};
 ghost use Rattle.aprof_top.specs.Traces.{named_entries, names_begun};
 
+use crate::delivery::store_result;
 use crate::ending::{Ending, Verdict};
-use crate::preparation::prepare;
+use crate::preparation::Prepared;
 use crate::traced_run::{TracedRun, trace_image};
-use command_line::TraceCommand;
+use command_line::GuestOptions;
 use elf_image::Image;
 use guest_words::{Addr, Finish, Name};
 use host_io::{Files, Sink};
@@ -68,7 +68,7 @@ fn whole_text(
 // Stores the trace of a run, where it is not too long.
 fn deliver_trace<F: Files>(
     alloc: Global,
-    command: &TraceCommand<'_>,
+    path: &str,
     image: &Image,
     run: TracedRun,
     files: &mut F,
@@ -76,7 +76,7 @@ fn deliver_trace<F: Files>(
     requires line { (line : ℕ) → run.finish ≡ ends.Schedule line → 1 ≤ line }
     requires text { (past : List Event) × AreTexts run.text past }
     ensures { (seen : Profiled) → run.finish ≡ seen.finish → AreTexts run.text seen.past
-        → (err : SinkState) → RunIsStored (trace_outcome (trace_in command.now) image.now seen)
+        → (err : SinkState) → RunIsStored (analysed path.now Trace image.now seen)
         (desk (F.state files.old) err) (desk (F.state files.new) err) result }
 {
     let TracedRun { text, finish } = run;
@@ -86,26 +86,25 @@ fn deliver_trace<F: Files>(
     let Some(bytes) = whole_text(alloc, image, text, &finish)? else {
         return Ok(Verdict::ResultTooLarge);
     };
-    files.store(command.trace, bytes.as_slice())?;
-    Ok(Verdict::Ran(finish))
+    store_result(path, bytes.as_slice(), finish, files)
 }
 
-/// Prepares the guest of a command, runs it, and stores the trace of its run.
-pub(crate) fn trace_command<F: Files, O: Sink, E: Sink>(
+/// Runs a guest that was prepared, and stores the trace of its run.
+pub(crate) fn trace_job<F: Files, O: Sink, E: Sink>(
     alloc: Global,
-    command: &TraceCommand<'_>,
+    guest: &GuestOptions<'_>,
+    path: &str,
+    prepared: Prepared,
     files: &mut F,
     out: &mut O,
     err: &mut E,
 ) -> Result<Verdict, Ending>
-    requires { AreInRange (guest_in command.now.guest) }
-    ensures { AskedEnds (Trace (trace_in command.now))
+    requires { AreInRange (guest_in guest.now) }
+    ensures { JobRuns (job_of (guest_in guest.now) path.now Trace) prepared
         (outside (F.state files.old) (O.state out.old) (E.state err.old))
         (outside (F.state files.new) (O.state out.new) (E.state err.new)) (ending_by result) }
 {
-    let guest = &command.guest;
-    let prepared = prepare(alloc, guest, files)?;
     let image = prepared.image;
     let run = trace_image(alloc, guest, &image, prepared.files, out, err)?;
-    deliver_trace(alloc, command, &image, run, files)
+    deliver_trace(alloc, path, &image, run, files)
 }

@@ -7,7 +7,7 @@ ghost use Rattle.command_line.specs.Read.{AreInRange, guest_in};
 ghost use Rattle.guest_machine.specs.Setup.{setup_refusal};
 ghost use Rattle.guest_machine.specs.Start.{start};
 ghost use Rattle.guest_run.specs.Output.{sinks};
-ghost use Rattle.aprof_top.specs.Jobs.{ImageIsTraced};
+ghost use Rattle.aprof_top.specs.Jobs.{ImageIsRun, IsTraced};
 ghost use Rattle.aprof_top.specs.Run.{observed_from};
 
 use crate::ending::Ending;
@@ -36,7 +36,7 @@ pub(crate) fn trace_image<O: Sink, E: Sink>(
     err: &mut E,
 ) -> Result<TracedRun, Ending>
     requires { AreInRange (guest_in options.now) }
-    ensures { ImageIsTraced (setup_refusal image.now (arguments (guest_in options.now)))
+    ensures { ImageIsRun IsTraced (setup_refusal image.now (arguments (guest_in options.now)))
         (observed_from (is_within (greatest B32)) (guest_in options.now) files.schedule image.now.entry
         (start image.now (arguments (guest_in options.now)) files.inputs files.stdin.items))
         (sinks (O.state out.old) (E.state err.old)) (sinks (O.state out.new) (E.state err.new)) result }

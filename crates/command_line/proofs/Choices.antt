@@ -11,7 +11,7 @@ use Rattle.clap.specs.Walk.{Waiting, Walk, has_row, idle, option, positional, se
 use Rattle.clap.specs.Words.{Row, Text}
 use Rattle.command_line.specs.Plain.{ArePlain, Choice, HasNoRepeat, budget, choice_words, has_plain_value, id_of, is_chosen, is_plain_word, line, quantum, recording, report, schedule, sets, stamps, stats, stdin, ways, words_of}
 use Rattle.command_line.proofs.Rows.{absent_in_both, IsNoChoice, choice_row, choice_rows, image_is_none, made_rows, no_choice_row, plain_row, tail_rows, trace_is_none, word_is_none, word_rows}
-use Rattle.command_line.proofs.Steps.{IsNoFlag, Pending, RunsGuest, Settles, Subcommand, TakesStats, TakesValue, caching, contexts_takes_stamps, first_turn, first_word, further_turn, further_word, has_option, pass_step, path_id, path_settles, path_turn, path_word, plain_is_no_flag, replay_takes_stamps, replay_takes_stats, replaying, rules, run_takes_stats, running, shape, stand, takes_budget, takes_line, takes_output, takes_quantum, takes_recording, takes_schedule, takes_sets, takes_stamps, takes_stdin, takes_ways, telling, tracing, turn, words_settle}
+use Rattle.command_line.proofs.Steps.{IsNoFlag, Pending, RunsGuest, Settles, Subcommand, TakesStats, TakesValue, first_turn, first_word, further_turn, further_word, has_option, of_guest, pass_step, path_id, path_settles, path_turn, path_word, plain_is_no_flag, replaying, rules, shape, stand, takes_choice, turn, words_settle}
 
 -- ---- the options
 
@@ -55,57 +55,17 @@ goes_stats k rows p all takes h fresh =
 
 goes_choice : (k : Subcommand) (c : Choice) (rows : List Row) (p : Pending) (all : List Row) → Settles k rows p all → has_option k c ≡ true
     → has_plain_value c ≡ true → has_row (id_of c) all ≡ false → Goes k rows p (words_of c) (all ++ choice_row c ∷ [])
-goes_choice running (stdin v) rows p all h has plain fresh = goes_value running _ _ v rows p all (takes_stdin running tt) h (plain_is_no_flag v plain) fresh
-goes_choice tracing (stdin v) rows p all h has plain fresh = goes_value tracing _ _ v rows p all (takes_stdin tracing tt) h (plain_is_no_flag v plain) fresh
-goes_choice caching (stdin v) rows p all h has plain fresh = goes_value caching _ _ v rows p all (takes_stdin caching tt) h (plain_is_no_flag v plain) fresh
-goes_choice replaying (stdin v) rows p all h has plain fresh = let no : false ≡ true = has in cc
-goes_choice telling (stdin v) rows p all h has plain fresh = goes_value telling _ _ v rows p all (takes_stdin telling tt) h (plain_is_no_flag v plain) fresh
-goes_choice running (quantum v) rows p all h has plain fresh = goes_value running _ _ v rows p all (takes_quantum running tt) h (plain_is_no_flag v plain) fresh
-goes_choice tracing (quantum v) rows p all h has plain fresh = goes_value tracing _ _ v rows p all (takes_quantum tracing tt) h (plain_is_no_flag v plain) fresh
-goes_choice caching (quantum v) rows p all h has plain fresh = goes_value caching _ _ v rows p all (takes_quantum caching tt) h (plain_is_no_flag v plain) fresh
-goes_choice replaying (quantum v) rows p all h has plain fresh = let no : false ≡ true = has in cc
-goes_choice telling (quantum v) rows p all h has plain fresh = goes_value telling _ _ v rows p all (takes_quantum telling tt) h (plain_is_no_flag v plain) fresh
-goes_choice running (schedule v) rows p all h has plain fresh = goes_value running _ _ v rows p all (takes_schedule running tt) h (plain_is_no_flag v plain) fresh
-goes_choice tracing (schedule v) rows p all h has plain fresh = goes_value tracing _ _ v rows p all (takes_schedule tracing tt) h (plain_is_no_flag v plain) fresh
-goes_choice caching (schedule v) rows p all h has plain fresh = goes_value caching _ _ v rows p all (takes_schedule caching tt) h (plain_is_no_flag v plain) fresh
-goes_choice replaying (schedule v) rows p all h has plain fresh = let no : false ≡ true = has in cc
-goes_choice telling (schedule v) rows p all h has plain fresh = goes_value telling _ _ v rows p all (takes_schedule telling tt) h (plain_is_no_flag v plain) fresh
-goes_choice running (budget v) rows p all h has plain fresh = goes_value running _ _ v rows p all (takes_budget running tt) h (plain_is_no_flag v plain) fresh
-goes_choice tracing (budget v) rows p all h has plain fresh = goes_value tracing _ _ v rows p all (takes_budget tracing tt) h (plain_is_no_flag v plain) fresh
-goes_choice caching (budget v) rows p all h has plain fresh = goes_value caching _ _ v rows p all (takes_budget caching tt) h (plain_is_no_flag v plain) fresh
-goes_choice replaying (budget v) rows p all h has plain fresh = let no : false ≡ true = has in cc
-goes_choice telling (budget v) rows p all h has plain fresh = goes_value telling _ _ v rows p all (takes_budget telling tt) h (plain_is_no_flag v plain) fresh
-goes_choice k (report v) rows p all h has plain fresh = goes_value k _ _ v rows p all (takes_output k) h (plain_is_no_flag v plain) fresh
-goes_choice running (recording v) rows p all h has plain fresh = goes_value running _ _ v rows p all takes_recording h (plain_is_no_flag v plain) fresh
-goes_choice running (stamps v) rows p all h has plain fresh = goes_value running _ _ v rows p all takes_stamps h (plain_is_no_flag v plain) fresh
-goes_choice running stats rows p all h has plain fresh = goes_stats running rows p all run_takes_stats h fresh
-goes_choice running (sets v) rows p all h has plain fresh = let no : false ≡ true = has in cc
-goes_choice running (ways v) rows p all h has plain fresh = let no : false ≡ true = has in cc
-goes_choice running (line v) rows p all h has plain fresh = let no : false ≡ true = has in cc
-goes_choice tracing (recording v) rows p all h has plain fresh = let no : false ≡ true = has in cc
-goes_choice tracing (stamps v) rows p all h has plain fresh = let no : false ≡ true = has in cc
-goes_choice tracing stats rows p all h has plain fresh = let no : false ≡ true = has in cc
-goes_choice tracing (sets v) rows p all h has plain fresh = let no : false ≡ true = has in cc
-goes_choice tracing (ways v) rows p all h has plain fresh = let no : false ≡ true = has in cc
-goes_choice tracing (line v) rows p all h has plain fresh = let no : false ≡ true = has in cc
-goes_choice caching (recording v) rows p all h has plain fresh = let no : false ≡ true = has in cc
-goes_choice caching (stamps v) rows p all h has plain fresh = let no : false ≡ true = has in cc
-goes_choice caching stats rows p all h has plain fresh = let no : false ≡ true = has in cc
-goes_choice caching (sets v) rows p all h has plain fresh = goes_value caching _ _ v rows p all takes_sets h (plain_is_no_flag v plain) fresh
-goes_choice caching (ways v) rows p all h has plain fresh = goes_value caching _ _ v rows p all takes_ways h (plain_is_no_flag v plain) fresh
-goes_choice caching (line v) rows p all h has plain fresh = goes_value caching _ _ v rows p all takes_line h (plain_is_no_flag v plain) fresh
-goes_choice replaying (recording v) rows p all h has plain fresh = let no : false ≡ true = has in cc
-goes_choice replaying (stamps v) rows p all h has plain fresh = goes_value replaying _ _ v rows p all replay_takes_stamps h (plain_is_no_flag v plain) fresh
-goes_choice replaying stats rows p all h has plain fresh = goes_stats replaying rows p all replay_takes_stats h fresh
-goes_choice replaying (sets v) rows p all h has plain fresh = let no : false ≡ true = has in cc
-goes_choice replaying (ways v) rows p all h has plain fresh = let no : false ≡ true = has in cc
-goes_choice replaying (line v) rows p all h has plain fresh = let no : false ≡ true = has in cc
-goes_choice telling (recording v) rows p all h has plain fresh = let no : false ≡ true = has in cc
-goes_choice telling (stamps v) rows p all h has plain fresh = goes_value telling _ _ v rows p all contexts_takes_stamps h (plain_is_no_flag v plain) fresh
-goes_choice telling stats rows p all h has plain fresh = let no : false ≡ true = has in cc
-goes_choice telling (sets v) rows p all h has plain fresh = let no : false ≡ true = has in cc
-goes_choice telling (ways v) rows p all h has plain fresh = let no : false ≡ true = has in cc
-goes_choice telling (line v) rows p all h has plain fresh = let no : false ≡ true = has in cc
+goes_choice k (stdin v) rows p all h has plain fresh = goes_value k _ _ v rows p all (takes_choice k (stdin v) has) h (plain_is_no_flag v plain) fresh
+goes_choice k (quantum v) rows p all h has plain fresh = goes_value k _ _ v rows p all (takes_choice k (quantum v) has) h (plain_is_no_flag v plain) fresh
+goes_choice k (schedule v) rows p all h has plain fresh = goes_value k _ _ v rows p all (takes_choice k (schedule v) has) h (plain_is_no_flag v plain) fresh
+goes_choice k (recording v) rows p all h has plain fresh = goes_value k _ _ v rows p all (takes_choice k (recording v) has) h (plain_is_no_flag v plain) fresh
+goes_choice k (budget v) rows p all h has plain fresh = goes_value k _ _ v rows p all (takes_choice k (budget v) has) h (plain_is_no_flag v plain) fresh
+goes_choice k (stamps v) rows p all h has plain fresh = goes_value k _ _ v rows p all (takes_choice k (stamps v) has) h (plain_is_no_flag v plain) fresh
+goes_choice k stats rows p all h has plain fresh = goes_stats k rows p all (takes_choice k stats has) h fresh
+goes_choice k (report v) rows p all h has plain fresh = goes_value k _ _ v rows p all (takes_choice k (report v) has) h (plain_is_no_flag v plain) fresh
+goes_choice k (sets v) rows p all h has plain fresh = goes_value k _ _ v rows p all (takes_choice k (sets v) has) h (plain_is_no_flag v plain) fresh
+goes_choice k (ways v) rows p all h has plain fresh = goes_value k _ _ v rows p all (takes_choice k (ways v) has) h (plain_is_no_flag v plain) fresh
+goes_choice k (line v) rows p all h has plain fresh = goes_value k _ _ v rows p all (takes_choice k (line v) has) h (plain_is_no_flag v plain) fresh
 
 -- none of the choices has a row
 abbrev AllFresh : List Row → List Choice → Type 0
@@ -152,18 +112,12 @@ goes_choices k (c ∷ cs) rows p all h has plain once fresh =
 -- ---- the path and the further words
 
 pub path_is_none : (k : Subcommand) → IsNoChoice (path_id k)
-path_is_none running = image_is_none
-path_is_none tracing = image_is_none
-path_is_none telling = image_is_none
-path_is_none caching = image_is_none
+path_is_none (of_guest g) = image_is_none
 path_is_none replaying = trace_is_none
 
 -- no row of the path is one of further words
 path_is_no_word : (k : Subcommand) → bytes_eq (path_id k) (codes "word") ≡ false
-path_is_no_word running = refl
-path_is_no_word tracing = refl
-path_is_no_word telling = refl
-path_is_no_word caching = refl
+path_is_no_word (of_guest g) = refl
 path_is_no_word replaying = refl
 
 -- further words stand behind the path only of a command that runs a guest

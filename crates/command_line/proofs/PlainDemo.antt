@@ -7,14 +7,14 @@ use Rattle.clap.specs.Takes.{built_takes, default_passes, entered_passes, is_val
 use Rattle.clap.specs.Walk.{Held, Walk, finished, nothing_held, rows_after, walk_from, walked}
 use Rattle.clap.specs.Words.{Row, Rule, Text, built, subcommand_of}
 use Rattle.clap.proofs.OnLiterals.{clap_on_literals}
-use Rattle.command_line.specs.App.{the_app, top_app, run_app, demo_app, trace_app, cache_app, replay_app, contexts_app}
+use Rattle.command_line.specs.App.{the_app, top_app, guest_app, demo_app, replay_app}
 use Rattle.command_line.specs.Options.{Demo}
 use Rattle.command_line.specs.Plain.{PlainDemoIsRead, PlainDemoIsTaken, demo_words}
 use Rattle.command_line.proofs.Fixed.{the_app_is_simple}
-use Rattle.command_line.proofs.PlainWords.{after_program, names, top_ends, top_rules}
+use Rattle.command_line.proofs.PlainWords.{after_program, top_ends}
 use Rattle.command_line.proofs.Refusals.{asked_is, read_of}
 use Rattle.command_line.proofs.Rows.{plain_row}
-use Rattle.command_line.proofs.Steps.{IsNoFlag, demo_shape, plain_is_no_flag}
+use Rattle.command_line.proofs.Steps.{IsNoFlag, demo_shape, names, plain_is_no_flag, top_rules}
 
 abbrev demo_rules : List Rule
 demo_rules = demo_shape.rules
@@ -31,20 +31,20 @@ abbrev at_demo : Text → Walk
 at_demo number = record (walk_from nothing_held) { stopped = Some (codes "demo", number ∷ []) }
 
 top_walk : (number : Text) → fold (walked top_rules names) (walk_from nothing_held) (after_name number) ≡ at_demo number
-unfolding the_app top_app run_app demo_app trace_app cache_app replay_app contexts_app clap_on_literals
+unfolding the_app top_app guest_app demo_app replay_app clap_on_literals
 top_walk number = refl
 
 top_passes : (number : Text) → walk_passes (built the_app).top names (walk_from nothing_held) (after_name number) ≡ true
-unfolding the_app top_app run_app demo_app trace_app cache_app replay_app contexts_app clap_on_literals
+unfolding the_app top_app guest_app demo_app replay_app clap_on_literals
 top_passes number = refl
 
 top_valid : (number : Text) → top_ends (at_demo number) true ≡ true
-unfolding the_app top_app run_app demo_app trace_app cache_app replay_app contexts_app clap_on_literals
+unfolding the_app top_app guest_app demo_app replay_app clap_on_literals
 top_valid number = refl
 
 enters_demo : (number : Text)
     → entered (built the_app) (Some (codes "demo", number ∷ [])) ≡ Some (codes "demo", rows_after demo_rules [] (number ∷ []))
-unfolding the_app top_app run_app demo_app trace_app cache_app replay_app contexts_app clap_on_literals
+unfolding the_app top_app guest_app demo_app replay_app clap_on_literals
 enters_demo number = refl
 
 -- what is held after the number
@@ -53,15 +53,15 @@ demo_held number = record nothing_held { pending = Some (codes "number", number 
 
 number_word : (number : Text) → IsNoFlag number
     → walked demo_rules [] (walk_from nothing_held) number ≡ record (walk_from nothing_held) { held = demo_held number; position = 2 }
-unfolding the_app top_app run_app demo_app trace_app cache_app replay_app contexts_app clap_on_literals
+unfolding the_app top_app guest_app demo_app replay_app clap_on_literals
 number_word number h = rw (h.no_dashes, h.no_long, h.no_short) refl
 
 number_turn : (number : Text) → IsNoFlag number → turn_passes demo_shape [] (walk_from nothing_held) number ≡ true
-unfolding the_app top_app run_app demo_app trace_app cache_app replay_app contexts_app clap_on_literals
+unfolding the_app top_app guest_app demo_app replay_app clap_on_literals
 number_turn number h = rw (h.no_dashes, h.no_long, h.no_short) refl
 
 demo_rows : (number : Text) → finished demo_rules (demo_held number) ≡ demo_row number
-unfolding the_app top_app run_app demo_app trace_app cache_app replay_app contexts_app clap_on_literals
+unfolding the_app top_app guest_app demo_app replay_app clap_on_literals
 demo_rows number = refl
 
 -- what holds after the walk of `demo`, by what is held
@@ -70,7 +70,7 @@ demo_ends held = settle_passes demo_rules demo_shape.args_override_self held
     && (list_all default_passes demo_rules && is_valid demo_shape (finished demo_rules held) false)
 
 demo_valid : (number : Text) → demo_ends (demo_held number) ≡ true
-unfolding the_app top_app run_app demo_app trace_app cache_app replay_app contexts_app clap_on_literals
+unfolding the_app top_app guest_app demo_app replay_app clap_on_literals
 demo_valid number = refl
 
 demo_passes : (number : Text) → IsNoFlag number → level_passes demo_shape [] nothing_held (number ∷ []) false ≡ true
@@ -80,7 +80,7 @@ demo_passes number h =
 
 enters_passes : (number : Text) → level_passes demo_shape [] nothing_held (number ∷ []) false ≡ true
     → entered_passes (built the_app) (Some (codes "demo", number ∷ [])) ≡ true
-unfolding the_app top_app run_app demo_app trace_app cache_app replay_app contexts_app clap_on_literals
+unfolding the_app top_app guest_app demo_app replay_app clap_on_literals
 enters_passes number h = h
 
 built_takes_demo : (number : Text) → IsNoFlag number → built_takes (built the_app) nothing_held (after_name number) ≡ true

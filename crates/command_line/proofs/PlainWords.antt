@@ -1,66 +1,26 @@
 -- Plain words are taken, and their rows are these.
-use Rattle.std.proofs.Common.{◌≡◌, ◌⊎◌, inl, inr, Bool, true, false, refl, ap, ap₂, sym, ◌∙◌, ◌&&◌, ◌||◌, List, [], ◌∷◌, ◌++◌, Option, Some, None, codes, append_assoc, cond}
+use Rattle.std.proofs.Common.{◌≡◌, ◌⊎◌, inl, inr, Bool, true, false, refl, ap, ap₂, sym, ◌∙◌, ◌&&◌, ◌||◌, List, [], ◌∷◌, ◌++◌, Option, Some, None, codes, append_assoc}
+use Rattle.std.proofs.lemmas.Bool.{and_parts}
 use Rattle.std.proofs.lemmas.List.{append-nil}
 use Rattle.std.proofs.lemmas.List.Folds.{list_any-append}
 use Rattle.std.proofs.Math.Bool.{or-false}
 use Rattle.std.proofs.lemmas.Slice.Eq.{bytes_eq-Decides}
-use Rattle.std.specs.Prelude.{drop, fold, is_some, take}
+use Rattle.std.specs.Prelude.{fold, is_some}
 use Rattle.std.specs.List.{list_all}
 use Rattle.std.specs.Str.{bytes_eq}
-use Rattle.clap.specs.Simple.{argument_words, entered, names_of}
-use Rattle.clap.specs.Takes.{built_takes, default_passes, entered_passes, is_given, is_valid, level_passes, settle_passes, turn_passes, walk_passes}
-use Rattle.clap.specs.Walk.{Names, Walk, default_rows, finished, has_row, idle, nothing_held, reading_by, rows_after, settled_rows, walk_from, walked, with_default}
-use Rattle.clap.specs.Words.{Row, Rule, Text, built, subcommand_of, takes}
+use Rattle.clap.specs.Simple.{argument_words, entered}
+use Rattle.clap.specs.Takes.{built_takes, default_passes, entered_passes, is_given, is_valid, level_passes, settle_passes, walk_passes}
+use Rattle.clap.specs.Walk.{Walk, finished, has_row, idle, nothing_held, rows_after, settled_rows, walk_from, walked, with_default}
+use Rattle.clap.specs.Words.{Row, Text, built, subcommand_of, takes}
 use Rattle.clap.proofs.OnLiterals.{clap_on_literals}
-use Rattle.command_line.specs.App.{the_app, top_app, run_app, demo_app, trace_app, cache_app, replay_app, contexts_app}
-use Rattle.command_line.specs.Plain.{ArePlain, Choice, PlainCacheIsTaken, PlainContextsIsTaken, PlainReplayIsTaken, PlainTraceIsTaken, PlainWordsAreTaken, budget, choice_words, id_of, is_chosen, line, quantum, recording, report, schedule, sets, stamps, stats, stdin, ways}
+use Rattle.command_line.specs.App.{the_app, top_app, guest_app, demo_app, replay_app}
+use Rattle.command_line.specs.Plain.{ArePlain, Choice, HasRequired, PlainReplayIsTaken, PlainWordsAreTaken, budget, choice_words, id_of, is_chosen, line, named_words, quantum, recording, report, required, schedule, sets, stamps, stats, stdin, ways}
 use Rattle.command_line.proofs.Choices.{MayFollow, ends_command}
 use Rattle.command_line.proofs.Fixed.{the_app_is_simple}
-use Rattle.command_line.proofs.Rows.{choice_rows, if_unset, image_is_none, made_rows, plain_rows, tail_rows, trace_is_none, unset_rows, IsNoChoice}
-use Rattle.command_line.proofs.Steps.{Subcommand, caching, has_option, path_id, replaying, rules, running, shape, stand, telling, tracing}
+use Rattle.command_line.proofs.Rows.{choice_rows, image_is_none, made_rows, plain_rows, tail_rows, trace_is_none, unset_rows, IsNoChoice}
+use Rattle.command_line.proofs.Steps.{Subcommand, added_rows, at_command, defaults_pass, enters_command, enters_passes, finished_rows, has_option, has_stats, name_of, names, needed, no_override, of_guest, path_id, replaying, rules, shape, stand, stops_at, top_rules, turn_at, valid_given}
 
 -- ---- defaults
-
-abbrev pub NoDefaults : List Rule → Type 0
-NoDefaults [] = Unit {0}
-NoDefaults (a ∷ rest) = (a.defaults ≡ []) × NoDefaults rest
-
-if_none : (b : Bool) (a : Rule) (rows : List Row) → a.defaults ≡ [] → cond b rows (default_rows a.id (reading_by a) a.defaults rows) ≡ rows
-if_none true a rows e = refl
-if_none false a rows e = rw e refl
-
-pub no_defaults : (as_rules : List Rule) (rows : List Row) → NoDefaults as_rules → fold with_default rows as_rules ≡ rows
-no_defaults [] rows h = refl
-no_defaults (a ∷ rest) rows h =
-    ap (λ x. fold with_default x rest) (if_none (has_row a.id rows) a rows h.0) ∙ no_defaults rest rows h.1
-
--- only `--stats` has a default: that of `run`
-pub finished_rows : (rows : List Row) → fold with_default rows (rules running) ≡ rows ++ unset_rows (has_row (codes "stats") rows)
-unfolding the_app top_app run_app demo_app trace_app cache_app replay_app contexts_app clap_on_literals
-finished_rows rows =
-    ap (λ x. fold with_default x (drop 6 (rules running))) (no_defaults (take 6 (rules running)) rows (refl, (refl, (refl, (refl, (refl, (refl, tt)))))))
-    ∙ (no_defaults (drop 7 (rules running)) (fold with_default rows (take 1 (drop 6 (rules running)))) (refl, (refl, (refl, tt)))
-    ∙ if_unset (has_row (codes "stats") rows) rows refl)
-
--- and of `replay`
-pub finished_replay : (rows : List Row) → fold with_default rows (rules replaying) ≡ rows ++ unset_rows (has_row (codes "stats") rows)
-unfolding the_app top_app run_app demo_app trace_app cache_app replay_app contexts_app clap_on_literals
-finished_replay rows =
-    ap (λ x. fold with_default x (drop 1 (rules replaying))) (no_defaults (take 1 (rules replaying)) rows (refl, tt))
-    ∙ (no_defaults (drop 2 (rules replaying)) (fold with_default rows (take 1 (drop 1 (rules replaying)))) (refl, (refl, tt))
-    ∙ if_unset (has_row (codes "stats") rows) rows refl)
-
-pub finished_trace : (rows : List Row) → fold with_default rows (rules tracing) ≡ rows
-unfolding the_app top_app run_app demo_app trace_app cache_app replay_app contexts_app clap_on_literals
-finished_trace rows = no_defaults (rules tracing) rows (refl, (refl, (refl, (refl, (refl, (refl, (refl, tt)))))))
-
-pub finished_contexts : (rows : List Row) → fold with_default rows (rules telling) ≡ rows
-unfolding the_app top_app run_app demo_app trace_app cache_app replay_app contexts_app clap_on_literals
-finished_contexts rows = no_defaults (rules telling) rows (refl, (refl, (refl, (refl, (refl, (refl, (refl, (refl, tt))))))))
-
-pub finished_cache : (rows : List Row) → fold with_default rows (rules caching) ≡ rows
-unfolding the_app top_app run_app demo_app trace_app cache_app replay_app contexts_app clap_on_literals
-finished_cache rows = no_defaults (rules caching) rows (refl, (refl, (refl, (refl, (refl, (refl, (refl, (refl, (refl, (refl, tt))))))))))
 
 chosen_stats : (cs : List Choice) → has_row (codes "stats") (choice_rows cs) ≡ is_chosen (codes "stats") cs
 chosen_stats [] = refl
@@ -77,43 +37,37 @@ chosen_stats (ways v ∷ cs) = chosen_stats cs
 chosen_stats (line v ∷ cs) = chosen_stats cs
 
 no_stats_tail : (k : Subcommand) (path : Text) (words : List Text) → has_row (codes "stats") (tail_rows (path_id k) path words) ≡ false
-no_stats_tail running path [] = refl
-no_stats_tail running path (w ∷ ws) = refl
-no_stats_tail tracing path [] = refl
-no_stats_tail tracing path (w ∷ ws) = refl
-no_stats_tail telling path [] = refl
-no_stats_tail telling path (w ∷ ws) = refl
-no_stats_tail caching path [] = refl
-no_stats_tail caching path (w ∷ ws) = refl
+no_stats_tail (of_guest g) path [] = refl
+no_stats_tail (of_guest g) path (w ∷ ws) = refl
 no_stats_tail replaying path [] = refl
 no_stats_tail replaying path (w ∷ ws) = refl
 
--- the rows that plain words make of a command
-abbrev pub all_rows : Subcommand → List Choice → Text → List Text → List Row
-all_rows running choices path words = plain_rows (path_id running) choices path words
-all_rows tracing choices path words = made_rows (path_id tracing) choices path words
-all_rows telling choices path words = made_rows (path_id telling) choices path words
-all_rows caching choices path words = made_rows (path_id caching) choices path words
-all_rows replaying choices path words = plain_rows (path_id replaying) choices path words
+-- the rows that plain words make of a command, where it has `--stats` or not
+abbrev pub rows_by : Bool → Text → List Choice → Text → List Text → List Row
+rows_by true id choices path words = plain_rows id choices path words
+rows_by false id choices path words = made_rows id choices path words
 
--- where the row of `--stats` is added if there is none
-with_unset : (k : Subcommand) (choices : List Choice) (path : Text) (words : List Text)
-    → (let made = made_rows (path_id k) choices path words in made ++ unset_rows (has_row (codes "stats") made)) ≡ plain_rows (path_id k) choices path words
-with_unset k choices path words =
-    let made = made_rows (path_id k) choices path words in
-    let tail = tail_rows (path_id k) path words in
-    let chosen : has_row (codes "stats") made ≡ is_chosen (codes "stats") choices =
-    list_any-append (λ r. bytes_eq r.id (codes "stats")) (choice_rows choices) tail
-    ∙ (ap₂ ◌||◌ (chosen_stats choices) (no_stats_tail k path words) ∙ or-false _) in
-    ap (λ b. made ++ unset_rows b) chosen ∙ append_assoc (choice_rows choices) tail (unset_rows (is_chosen (codes "stats") choices))
+abbrev pub all_rows : Subcommand → List Choice → Text → List Text → List Row
+all_rows k choices path words = rows_by (has_stats k) (path_id k) choices path words
 
 finished_plain : (k : Subcommand) (choices : List Choice) (path : Text) (words : List Text)
     → fold with_default (made_rows (path_id k) choices path words) (rules k) ≡ all_rows k choices path words
-finished_plain running choices path words = finished_rows (made_rows (path_id running) choices path words) ∙ with_unset running choices path words
-finished_plain tracing choices path words = finished_trace (made_rows (path_id tracing) choices path words)
-finished_plain telling choices path words = finished_contexts (made_rows (path_id telling) choices path words)
-finished_plain caching choices path words = finished_cache (made_rows (path_id caching) choices path words)
-finished_plain replaying choices path words = finished_replay (made_rows (path_id replaying) choices path words) ∙ with_unset replaying choices path words
+finished_plain k choices path words = finished_rows k made ∙ by (has_stats k)
+  where
+    made : List Row
+    made = made_rows (path_id k) choices path words
+
+    tail : List Row
+    tail = tail_rows (path_id k) path words
+
+    chosen : has_row (codes "stats") made ≡ is_chosen (codes "stats") choices
+    chosen =
+        list_any-append (λ r. bytes_eq r.id (codes "stats")) (choice_rows choices) tail
+        ∙ (ap₂ ◌||◌ (chosen_stats choices) (no_stats_tail k path words) ∙ or-false _)
+
+    by : (has : Bool) → made ++ added_rows has (has_row (codes "stats") made) ≡ rows_by has (path_id k) choices path words
+    by true = ap (λ b. made ++ unset_rows b) chosen ∙ append_assoc (choice_rows choices) tail (unset_rows (is_chosen (codes "stats") choices))
+    by false = append-nil made
 
 -- ---- what is required is there
 
@@ -148,50 +102,45 @@ given_after : (id : Text) (cs : List Choice) (rest : List Row) → IsNoChoice id
 given_after id [] rest h g = g
 given_after id (c ∷ cs) rest h g = rw (h c) (given_after id cs rest h g)
 
--- the options that a command has to have are among the choices
-abbrev pub HasRequired : Subcommand → List Choice → Type 0
-HasRequired running cs = is_chosen (codes "output") cs ≡ true
-HasRequired tracing cs = is_chosen (codes "output") cs ≡ true
-HasRequired telling cs = is_chosen (codes "output") cs ≡ true
-HasRequired replaying cs = is_chosen (codes "output") cs ≡ true
-HasRequired caching cs =
-    (is_chosen (codes "sets") cs ≡ true) × (is_chosen (codes "ways") cs ≡ true) × (is_chosen (codes "line") cs ≡ true) × (is_chosen (codes "output") cs ≡ true)
-
 -- an option that is chosen is given among all rows, and so is the image
 given_first : (id : Text) (choices : List Choice) (rest : List Row) → is_chosen id choices ≡ true → is_given id (choice_rows choices ++ rest) ≡ true
 given_first id choices rest chosen = given_left id (choice_rows choices) rest (given_chosen id choices chosen)
 
-command_valid : (k : Subcommand) (choices : List Choice) (image : Text) (words : List Text) → HasRequired k choices
-    → is_valid (shape k) (all_rows k choices image words) false ≡ true
-unfolding the_app top_app run_app demo_app trace_app cache_app replay_app contexts_app clap_on_literals
-command_valid running choices image words chosen =
-    let tail = tail_rows (path_id running) image words ++ unset_rows (is_chosen (codes "stats") choices) in
-    let o = given_first (codes "output") choices tail chosen in
-    let i = given_after (codes "image") choices tail image_is_none refl in
-    rw (o, i) refl
-command_valid tracing choices image words chosen =
-    let tail = tail_rows (path_id tracing) image words in
-    let o = given_first (codes "output") choices tail chosen in
-    let i = given_after (codes "image") choices tail image_is_none refl in
-    rw (o, i) refl
-command_valid telling choices image words chosen =
-    let tail = tail_rows (path_id telling) image words in
-    let o = given_first (codes "output") choices tail chosen in
-    let i = given_after (codes "image") choices tail image_is_none refl in
-    rw (o, i) refl
-command_valid caching choices image words chosen =
-    let tail = tail_rows (path_id caching) image words in
-    let s = given_first (codes "sets") choices tail chosen.0 in
-    let w = given_first (codes "ways") choices tail chosen.1 in
-    let l = given_first (codes "line") choices tail chosen.2 in
-    let o = given_first (codes "output") choices tail chosen.3 in
-    let i = given_after (codes "image") choices tail image_is_none refl in
-    rw (s, w, l, o, i) refl
-command_valid replaying choices trace words chosen =
-    let tail = tail_rows (path_id replaying) trace words ++ unset_rows (is_chosen (codes "stats") choices) in
-    let o = given_first (codes "output") choices tail chosen in
-    let t = given_after (codes "trace") choices tail trace_is_none refl in
-    rw (o, t) refl
+all_given : (choices : List Choice) (rest : List Row) (ids : List Text) → list_all (λ id. is_chosen id choices) ids ≡ true
+    → list_all (λ id. is_given id (choice_rows choices ++ rest)) ids ≡ true
+all_given choices rest [] h = refl
+all_given choices rest (id ∷ ids) h =
+    let two = and_parts (is_chosen id choices) (list_all (λ id. is_chosen id choices) ids) h in
+    ap₂ ◌&&◌ (given_first id choices rest two.0) (all_given choices rest ids two.1)
+
+-- the options that a command has to have are among the choices
+abbrev pub HasAll : Subcommand → List Choice → Type 0
+HasAll (of_guest g) cs = HasRequired g cs
+HasAll replaying cs = is_chosen (codes "output") cs ≡ true
+
+-- the rows after those of the options
+abbrev pub end_rows : Bool → Text → Text → List Text → Bool → List Row
+end_rows has id path words given = tail_rows id path words ++ added_rows has given
+
+pub rows_are : (has : Bool) (id : Text) (choices : List Choice) (path : Text) (words : List Text)
+    → rows_by has id choices path words ≡ choice_rows choices ++ end_rows has id path words (is_chosen (codes "stats") choices)
+rows_are true id choices path words = refl
+rows_are false id choices path words = ap (λ (end : List Row). choice_rows choices ++ end) (sym (append-nil (tail_rows id path words)))
+
+all_needed : (k : Subcommand) (choices : List Choice) (path : Text) (words : List Text) → HasAll k choices
+    → list_all (λ id. is_given id (choice_rows choices ++ end_rows (has_stats k) (path_id k) path words (is_chosen (codes "stats") choices))) (needed k) ≡ true
+all_needed (of_guest g) choices path words chosen =
+    let end = end_rows (has_stats (of_guest g)) (codes "image") path words (is_chosen (codes "stats") choices) in
+    ap₂ ◌&&◌ (given_after (codes "image") choices end image_is_none refl) (all_given choices end (required g) chosen)
+all_needed replaying choices path words chosen =
+    let end = end_rows true (codes "trace") path words (is_chosen (codes "stats") choices) in
+    ap₂ ◌&&◌ (given_after (codes "trace") choices end trace_is_none refl) (ap₂ ◌&&◌ (given_first (codes "output") choices end chosen) refl)
+
+command_valid : (k : Subcommand) (choices : List Choice) (path : Text) (words : List Text) → HasAll k choices
+    → is_valid (shape k) (all_rows k choices path words) false ≡ true
+command_valid k choices path words chosen =
+    valid_given k (all_rows k choices path words)
+    (ap (λ rows. list_all (λ id. is_given id rows) (needed k)) (rows_are (has_stats k) (path_id k) choices path words) ∙ all_needed k choices path words chosen)
 
 -- ---- the command and its words
 
@@ -201,22 +150,6 @@ command_rows k choices image words may plain has =
     let end = ends_command k choices image words may plain has in
     ap (λ w. fold with_default (settled_rows (rules k) w.held.pending w.held.rows) (rules k)) end.walk
     ∙ (ap (λ rows. fold with_default rows (rules k)) end.settles.rows_are ∙ finished_plain k choices image words)
-
-no_override : (k : Subcommand) → (shape k).args_override_self ≡ false
-unfolding the_app top_app run_app demo_app trace_app cache_app replay_app contexts_app
-no_override running = refl
-no_override tracing = refl
-no_override telling = refl
-no_override caching = refl
-no_override replaying = refl
-
-defaults_pass : (k : Subcommand) → list_all default_passes (rules k) ≡ true
-unfolding the_app top_app run_app demo_app trace_app cache_app replay_app contexts_app clap_on_literals
-defaults_pass running = refl
-defaults_pass tracing = refl
-defaults_pass telling = refl
-defaults_pass caching = refl
-defaults_pass replaying = refl
 
 level_from : (k : Subcommand) (words : List Text) (w : Walk) → fold (walked (rules k) []) (stand [] None idle 1) words ≡ w
     → walk_passes (shape k) [] (stand [] None idle 1) words ≡ true
@@ -229,7 +162,7 @@ level_from k words w walk pass settles valid =
     ∙ ap₂ ◌&&◌ (ap (λ (b : Bool). settle_passes (rules k) b w.held) (no_override k) ∙ settles) (ap₂ ◌&&◌ (defaults_pass k) valid))
 
 command_passes : (k : Subcommand) (choices : List Choice) (image : Text) (words : List Text) → MayFollow k words → ArePlain choices image words → list_all (has_option k) choices ≡ true
-    → HasRequired k choices
+    → HasAll k choices
     → level_passes (shape k) [] nothing_held (choice_words choices ++ image ∷ words) false ≡ true
 command_passes k choices image words may plain has chosen =
     let end = ends_command k choices image words may plain has in
@@ -239,40 +172,6 @@ command_passes k choices image words may plain has chosen =
     ∙ (ap (λ rows. is_valid (shape k) rows false) (finished_plain k choices image words) ∙ valid))
 
 -- ---- the subcommand
-
-abbrev pub top_rules : List Rule
-top_rules = (built the_app).top.rules
-
-abbrev pub names : Names
-names = names_of (built the_app)
-
--- the name of a command
-abbrev pub name_of : Subcommand → Text
-name_of running = codes "run"
-name_of tracing = codes "trace"
-name_of telling = codes "contexts"
-name_of caching = codes "cache"
-name_of replaying = codes "replay"
-
--- the walk stopped at the command, with these words after it
-abbrev at_command : Subcommand → List Text → Walk
-at_command k words = record (walk_from nothing_held) { stopped = Some (name_of k, words) }
-
-stops_at : (k : Subcommand) → walked top_rules names (walk_from nothing_held) (name_of k) ≡ at_command k []
-unfolding the_app top_app run_app demo_app trace_app cache_app replay_app contexts_app clap_on_literals
-stops_at running = refl
-stops_at tracing = refl
-stops_at telling = refl
-stops_at caching = refl
-stops_at replaying = refl
-
-turn_at : (k : Subcommand) → turn_passes (built the_app).top names (walk_from nothing_held) (name_of k) ≡ true
-unfolding the_app top_app run_app demo_app trace_app cache_app replay_app contexts_app clap_on_literals
-turn_at running = refl
-turn_at tracing = refl
-turn_at telling = refl
-turn_at caching = refl
-turn_at replaying = refl
 
 stays_at : (k : Subcommand) (rest before : List Text) → fold (walked top_rules names) (at_command k before) rest ≡ at_command k (before ++ rest)
 unfolding walked
@@ -292,31 +191,14 @@ unfolding walk_passes
 top_passes k rest =
     ap₂ ◌&&◌ (turn_at k) (ap (λ w. walk_passes (built the_app).top names w rest) (stops_at k) ∙ passes_at k rest [])
 
-enters_command : (k : Subcommand) (rest : List Text) → entered (built the_app) (Some (name_of k, rest)) ≡ Some (name_of k, rows_after (rules k) [] rest)
-unfolding the_app top_app run_app demo_app trace_app cache_app replay_app contexts_app clap_on_literals
-enters_command running rest = refl
-enters_command tracing rest = refl
-enters_command telling rest = refl
-enters_command caching rest = refl
-enters_command replaying rest = refl
-
 -- what holds after the walk of the top command, by what was met and whether it has matches
 abbrev pub top_ends : Walk → Bool → Bool
 top_ends w has_subcommand = settle_passes top_rules (built the_app).top.args_override_self w.held
     && (list_all default_passes top_rules && is_valid (built the_app).top (finished top_rules w.held) has_subcommand)
 
 top_valid : (k : Subcommand) (rest : List Text) → top_ends (at_command k rest) true ≡ true
-unfolding the_app top_app run_app demo_app trace_app cache_app replay_app contexts_app clap_on_literals
+unfolding the_app top_app guest_app demo_app replay_app clap_on_literals
 top_valid k rest = refl
-
-enters_passes : (k : Subcommand) (rest : List Text) → level_passes (shape k) [] nothing_held rest false ≡ true
-    → entered_passes (built the_app) (Some (name_of k, rest)) ≡ true
-unfolding the_app top_app run_app demo_app trace_app cache_app replay_app contexts_app clap_on_literals
-enters_passes running rest h = h
-enters_passes tracing rest h = h
-enters_passes telling rest h = h
-enters_passes caching rest h = h
-enters_passes replaying rest h = h
 
 built_takes_command : (k : Subcommand) (rest : List Text) → level_passes (shape k) [] nothing_held rest false ≡ true
     → built_takes (built the_app) nothing_held (name_of k ∷ rest) ≡ true
@@ -328,15 +210,15 @@ built_takes_command k rest h =
     ∙ (ap (λ (o : Option (Text × List Row)). top_ends (at_command k rest) (is_some o)) (enters_command k rest) ∙ top_valid k rest)))
 
 pub after_program : (program : Text) (words : List Text) → argument_words the_app (program ∷ words) ≡ words
-unfolding the_app top_app run_app demo_app trace_app cache_app replay_app contexts_app
+unfolding the_app top_app guest_app demo_app replay_app
 after_program program words = refl
 
 -- the words of a whole command line
 abbrev pub command_words : Subcommand → Text → List Choice → Text → List Text → List Text
-command_words k program choices image words = program ∷ name_of k ∷ (choice_words choices ++ image ∷ words)
+command_words k program choices image words = named_words (name_of k) program choices image words
 
 plain_taken : (k : Subcommand) (program : Text) (choices : List Choice) (image : Text) (words : List Text) → MayFollow k words → ArePlain choices image words
-    → list_all (has_option k) choices ≡ true → HasRequired k choices → takes the_app (command_words k program choices image words) ≡ true
+    → list_all (has_option k) choices ≡ true → HasAll k choices → takes the_app (command_words k program choices image words) ≡ true
 plain_taken k program choices image words may plain has chosen =
     let rest = choice_words choices ++ image ∷ words in
     ap₂ ◌&&◌ the_app_is_simple
@@ -344,16 +226,7 @@ plain_taken k program choices image words may plain has chosen =
     ∙ built_takes_command k rest (command_passes k choices image words may plain has chosen))
 
 pub plain_words : PlainWordsAreTaken
-plain_words program choices image words plain of_run chosen = plain_taken running program choices image words (inl tt) plain of_run chosen
-
-pub plain_trace : PlainTraceIsTaken
-plain_trace program choices image words plain of_trace chosen = plain_taken tracing program choices image words (inl tt) plain of_trace chosen
-
-pub plain_contexts : PlainContextsIsTaken
-plain_contexts program choices image words plain of_contexts chosen = plain_taken telling program choices image words (inl tt) plain of_contexts chosen
-
-pub plain_cache : PlainCacheIsTaken
-plain_cache program choices image words plain of_cache s w l o = plain_taken caching program choices image words (inl tt) plain of_cache (s, w, l, o)
+plain_words command program choices image words plain has chosen = plain_taken (of_guest command) program choices image words (inl tt) plain has chosen
 
 pub plain_replay : PlainReplayIsTaken
 plain_replay program choices trace plain of_replay chosen = plain_taken replaying program choices trace [] (inr refl) plain of_replay chosen

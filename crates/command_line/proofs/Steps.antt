@@ -1,19 +1,22 @@
 -- The walk of `clap` over the words of a command that has options, word by word.
-use Rattle.std.proofs.Common.{◌≡◌, ◌<◌, ◌^◌, ℕ, Bool, true, false, refl, ◌&&◌, ap, ap₂, ◌∙◌, List, [], ◌∷◌, ◌++◌, Option, Some, None, codes, unwrap_or, arith, nat_eq, nat_le, length}
+use Rattle.std.proofs.Common.{◌≡◌, ◌<◌, ◌^◌, ℕ, Bool, true, false, refl, sym, cond, ◌&&◌, ap, ap₂, ◌∙◌, List, [], ◌∷◌, ◌++◌, Option, Some, None, codes, unwrap_or, arith, nat_eq, nat_le, length}
 use Rattle.std.proofs.lemmas.Bool.Decides.{nat_tests}
-use Rattle.std.specs.Prelude.{slice_get}
+use Rattle.std.specs.Prelude.{drop, fold, slice_get, take}
+use Rattle.std.proofs.lemmas.Bool.{and_parts}
+use Rattle.std.proofs.lemmas.List.{append-nil}
 use Rattle.std.specs.List.{list_all}
 use Rattle.std.specs.Str.{bytes_eq}
 use Rattle.std.proofs.Math.Bool.{and-false, and-true}
 use Rattle.clap.specs.Lexer.{long_of, short_of, usize_max}
-use Rattle.clap.specs.Simple.{new_shape}
-use Rattle.clap.specs.Takes.{settle_passes, turn_passes, walk_passes}
-use Rattle.clap.specs.Walk.{Waiting, Walk, has_row, idle, option, positional, settled_rows, walked}
+use Rattle.clap.specs.Simple.{entered, names_of, new_shape}
+use Rattle.clap.specs.Takes.{default_passes, entered_passes, is_given, is_valid, level_passes, settle_passes, turn_passes, walk_passes}
+use Rattle.clap.specs.Walk.{Names, Waiting, Walk, default_rows, has_row, idle, nothing_held, option, positional, reading_by, rows_after, settled_rows, walk_from, walked, with_default}
 use Rattle.clap.specs.Words.{Row, Rule, Shape, Text, built}
 use Rattle.clap.proofs.OnLiterals.{clap_on_literals}
-use Rattle.command_line.specs.App.{the_app, top_app, run_app, demo_app, trace_app, cache_app, replay_app, contexts_app}
-use Rattle.command_line.specs.Plain.{Choice, is_of_cache, is_of_contexts, is_of_replay, is_of_run, is_of_trace, is_plain_word, stats}
-use Rattle.command_line.proofs.Rows.{choice_row, new_row, new_row_kept, plain_row}
+use Rattle.command_line.specs.App.{the_app, top_app, guest_app, demo_app, replay_app}
+use Rattle.command_line.specs.Plain.{Choice, GuestCommand, budget, caching, id_of, is_of, is_of_replay, is_plain_word, line, quantum, recording, report, required, running, schedule, sets, stamps, stats, stdin, telling, tracing, ways, words_of}
+use Rattle.command_line.specs.Plain as plain
+use Rattle.command_line.proofs.Rows.{choice_row, if_unset, new_row, new_row_kept, plain_row, unset_rows}
 
 -- the commands as `clap` builds them
 abbrev pub run_shape : Shape
@@ -34,40 +37,58 @@ replay_shape = unwrap_or (slice_get (built the_app).subs 4) (new_shape [])
 abbrev pub contexts_shape : Shape
 contexts_shape = unwrap_or (slice_get (built the_app).subs 5) (new_shape [])
 
+-- the commands that run a guest
+abbrev pub guest_shape : GuestCommand → Shape
+guest_shape running = run_shape
+guest_shape tracing = trace_shape
+guest_shape caching = cache_shape
+guest_shape telling = contexts_shape
+
+-- what all of them have, and what one has beside
+abbrev pub shared_rules : List Rule
+shared_rules = trace_shape.rules
+
+abbrev pub own_rules : GuestCommand → List Rule
+own_rules g = drop 7 (guest_shape g).rules
+
 -- The commands that have options.
 pub data Subcommand : Type 0 where
-  running : Subcommand
-  tracing : Subcommand
-  caching : Subcommand
+  of_guest : GuestCommand → Subcommand
   replaying : Subcommand
-  telling : Subcommand
+
+-- its name
+abbrev pub name_of : Subcommand → Text
+name_of (of_guest g) = plain.name_of g
+name_of replaying = codes "replay"
 
 -- it runs a guest: its image and further words follow the options
 abbrev pub RunsGuest : Subcommand → Type 0
+RunsGuest (of_guest g) = Unit {0}
 RunsGuest replaying = ⊥
-RunsGuest k = Unit {0}
 
 -- the argument of the path that follows the options
 abbrev pub path_id : Subcommand → Text
+path_id (of_guest g) = codes "image"
 path_id replaying = codes "trace"
-path_id k = codes "image"
 
+-- a command that runs a guest is told by its name and by what it has beside
 abbrev pub shape : Subcommand → Shape
-shape running = run_shape
-shape tracing = trace_shape
-shape telling = contexts_shape
-shape caching = cache_shape
+shape (of_guest g) = record trace_shape { name = plain.name_of g; rules = shared_rules ++ own_rules g }
 shape replaying = replay_shape
 
 abbrev pub rules : Subcommand → List Rule
 rules k = (shape k).rules
 
+pub shape_is : (g : GuestCommand) → guest_shape g ≡ shape (of_guest g)
+unfolding the_app top_app guest_app demo_app replay_app clap_on_literals
+shape_is running = refl
+shape_is tracing = refl
+shape_is caching = refl
+shape_is telling = refl
+
 -- the option is one of the command
 abbrev pub has_option : Subcommand → Choice → Bool
-has_option running c = is_of_run c
-has_option tracing c = is_of_trace c
-has_option telling c = is_of_contexts c
-has_option caching c = is_of_cache c
+has_option (of_guest g) c = is_of g c
 has_option replaying c = is_of_replay c
 
 -- an argument whose values are being read
@@ -127,158 +148,49 @@ pub record TakesValue (k : Subcommand) (flag id : Text) : Type 0 where
   pub settles : (rows : List Row) (word : Text) → has_row id rows ≡ false
       → Settles k rows (Some (id, word ∷ [])) (rows ++ plain_row id (word ∷ []) ∷ [])
 
-pub takes_stdin : (k : Subcommand) → RunsGuest k → TakesValue k (codes "--stdin") (codes "stdin")
-unfolding the_app top_app run_app demo_app trace_app cache_app replay_app contexts_app clap_on_literals
-takes_stdin running guest = record {
+pub takes_stdin : (g : GuestCommand) → TakesValue (of_guest g) (codes "--stdin") (codes "stdin")
+unfolding the_app top_app guest_app demo_app replay_app clap_on_literals
+takes_stdin g = record {
   flag_word = λ rows p. refl;
   flag_turn = λ rows p. and-true _;
   value_word = λ rows word h. rw (h.no_dashes, h.no_long, h.no_short) refl;
   value_turn = λ rows word h. rw (h.no_dashes, h.no_long, h.no_short) refl;
   settles = λ rows word h. record { rows_are = new_row (codes "stdin") (word ∷ []) rows h; passes = rw h refl };
 }
-takes_stdin tracing guest = record {
-  flag_word = λ rows p. refl;
-  flag_turn = λ rows p. and-true _;
-  value_word = λ rows word h. rw (h.no_dashes, h.no_long, h.no_short) refl;
-  value_turn = λ rows word h. rw (h.no_dashes, h.no_long, h.no_short) refl;
-  settles = λ rows word h. record { rows_are = new_row (codes "stdin") (word ∷ []) rows h; passes = rw h refl };
-}
-takes_stdin telling guest = record {
-  flag_word = λ rows p. refl;
-  flag_turn = λ rows p. and-true _;
-  value_word = λ rows word h. rw (h.no_dashes, h.no_long, h.no_short) refl;
-  value_turn = λ rows word h. rw (h.no_dashes, h.no_long, h.no_short) refl;
-  settles = λ rows word h. record { rows_are = new_row (codes "stdin") (word ∷ []) rows h; passes = rw h refl };
-}
-takes_stdin caching guest = record {
-  flag_word = λ rows p. refl;
-  flag_turn = λ rows p. and-true _;
-  value_word = λ rows word h. rw (h.no_dashes, h.no_long, h.no_short) refl;
-  value_turn = λ rows word h. rw (h.no_dashes, h.no_long, h.no_short) refl;
-  settles = λ rows word h. record { rows_are = new_row (codes "stdin") (word ∷ []) rows h; passes = rw h refl };
-}
-takes_stdin replaying guest = absurd guest
 
-pub takes_quantum : (k : Subcommand) → RunsGuest k → TakesValue k (codes "--quantum") (codes "quantum")
-unfolding the_app top_app run_app demo_app trace_app cache_app replay_app contexts_app clap_on_literals
-takes_quantum running guest = record {
+pub takes_quantum : (g : GuestCommand) → TakesValue (of_guest g) (codes "--quantum") (codes "quantum")
+unfolding the_app top_app guest_app demo_app replay_app clap_on_literals
+takes_quantum g = record {
   flag_word = λ rows p. refl;
   flag_turn = λ rows p. and-true _;
   value_word = λ rows word h. rw (h.no_dashes, h.no_long, h.no_short) refl;
   value_turn = λ rows word h. rw (h.no_dashes, h.no_long, h.no_short) refl;
   settles = λ rows word h. record { rows_are = new_row (codes "quantum") (word ∷ []) rows h; passes = rw h refl };
 }
-takes_quantum tracing guest = record {
-  flag_word = λ rows p. refl;
-  flag_turn = λ rows p. and-true _;
-  value_word = λ rows word h. rw (h.no_dashes, h.no_long, h.no_short) refl;
-  value_turn = λ rows word h. rw (h.no_dashes, h.no_long, h.no_short) refl;
-  settles = λ rows word h. record { rows_are = new_row (codes "quantum") (word ∷ []) rows h; passes = rw h refl };
-}
-takes_quantum telling guest = record {
-  flag_word = λ rows p. refl;
-  flag_turn = λ rows p. and-true _;
-  value_word = λ rows word h. rw (h.no_dashes, h.no_long, h.no_short) refl;
-  value_turn = λ rows word h. rw (h.no_dashes, h.no_long, h.no_short) refl;
-  settles = λ rows word h. record { rows_are = new_row (codes "quantum") (word ∷ []) rows h; passes = rw h refl };
-}
-takes_quantum caching guest = record {
-  flag_word = λ rows p. refl;
-  flag_turn = λ rows p. and-true _;
-  value_word = λ rows word h. rw (h.no_dashes, h.no_long, h.no_short) refl;
-  value_turn = λ rows word h. rw (h.no_dashes, h.no_long, h.no_short) refl;
-  settles = λ rows word h. record { rows_are = new_row (codes "quantum") (word ∷ []) rows h; passes = rw h refl };
-}
-takes_quantum replaying guest = absurd guest
 
-pub takes_schedule : (k : Subcommand) → RunsGuest k → TakesValue k (codes "--schedule") (codes "schedule")
-unfolding the_app top_app run_app demo_app trace_app cache_app replay_app contexts_app clap_on_literals
-takes_schedule running guest = record {
+pub takes_schedule : (g : GuestCommand) → TakesValue (of_guest g) (codes "--schedule") (codes "schedule")
+unfolding the_app top_app guest_app demo_app replay_app clap_on_literals
+takes_schedule g = record {
   flag_word = λ rows p. refl;
   flag_turn = λ rows p. and-true _;
   value_word = λ rows word h. rw (h.no_dashes, h.no_long, h.no_short) refl;
   value_turn = λ rows word h. rw (h.no_dashes, h.no_long, h.no_short) refl;
   settles = λ rows word h. record { rows_are = new_row (codes "schedule") (word ∷ []) rows h; passes = rw h refl };
 }
-takes_schedule tracing guest = record {
-  flag_word = λ rows p. refl;
-  flag_turn = λ rows p. and-true _;
-  value_word = λ rows word h. rw (h.no_dashes, h.no_long, h.no_short) refl;
-  value_turn = λ rows word h. rw (h.no_dashes, h.no_long, h.no_short) refl;
-  settles = λ rows word h. record { rows_are = new_row (codes "schedule") (word ∷ []) rows h; passes = rw h refl };
-}
-takes_schedule telling guest = record {
-  flag_word = λ rows p. refl;
-  flag_turn = λ rows p. and-true _;
-  value_word = λ rows word h. rw (h.no_dashes, h.no_long, h.no_short) refl;
-  value_turn = λ rows word h. rw (h.no_dashes, h.no_long, h.no_short) refl;
-  settles = λ rows word h. record { rows_are = new_row (codes "schedule") (word ∷ []) rows h; passes = rw h refl };
-}
-takes_schedule caching guest = record {
-  flag_word = λ rows p. refl;
-  flag_turn = λ rows p. and-true _;
-  value_word = λ rows word h. rw (h.no_dashes, h.no_long, h.no_short) refl;
-  value_turn = λ rows word h. rw (h.no_dashes, h.no_long, h.no_short) refl;
-  settles = λ rows word h. record { rows_are = new_row (codes "schedule") (word ∷ []) rows h; passes = rw h refl };
-}
-takes_schedule replaying guest = absurd guest
 
-pub takes_budget : (k : Subcommand) → RunsGuest k → TakesValue k (codes "--budget") (codes "budget")
-unfolding the_app top_app run_app demo_app trace_app cache_app replay_app contexts_app clap_on_literals
-takes_budget running guest = record {
+pub takes_budget : (g : GuestCommand) → TakesValue (of_guest g) (codes "--budget") (codes "budget")
+unfolding the_app top_app guest_app demo_app replay_app clap_on_literals
+takes_budget g = record {
   flag_word = λ rows p. refl;
   flag_turn = λ rows p. and-true _;
   value_word = λ rows word h. rw (h.no_dashes, h.no_long, h.no_short) refl;
   value_turn = λ rows word h. rw (h.no_dashes, h.no_long, h.no_short) refl;
   settles = λ rows word h. record { rows_are = new_row (codes "budget") (word ∷ []) rows h; passes = rw h refl };
 }
-takes_budget tracing guest = record {
-  flag_word = λ rows p. refl;
-  flag_turn = λ rows p. and-true _;
-  value_word = λ rows word h. rw (h.no_dashes, h.no_long, h.no_short) refl;
-  value_turn = λ rows word h. rw (h.no_dashes, h.no_long, h.no_short) refl;
-  settles = λ rows word h. record { rows_are = new_row (codes "budget") (word ∷ []) rows h; passes = rw h refl };
-}
-takes_budget telling guest = record {
-  flag_word = λ rows p. refl;
-  flag_turn = λ rows p. and-true _;
-  value_word = λ rows word h. rw (h.no_dashes, h.no_long, h.no_short) refl;
-  value_turn = λ rows word h. rw (h.no_dashes, h.no_long, h.no_short) refl;
-  settles = λ rows word h. record { rows_are = new_row (codes "budget") (word ∷ []) rows h; passes = rw h refl };
-}
-takes_budget caching guest = record {
-  flag_word = λ rows p. refl;
-  flag_turn = λ rows p. and-true _;
-  value_word = λ rows word h. rw (h.no_dashes, h.no_long, h.no_short) refl;
-  value_turn = λ rows word h. rw (h.no_dashes, h.no_long, h.no_short) refl;
-  settles = λ rows word h. record { rows_are = new_row (codes "budget") (word ∷ []) rows h; passes = rw h refl };
-}
-takes_budget replaying guest = absurd guest
 
 pub takes_output : (k : Subcommand) → TakesValue k (codes "-o") (codes "output")
-unfolding the_app top_app run_app demo_app trace_app cache_app replay_app contexts_app clap_on_literals
-takes_output running = record {
-  flag_word = λ rows p. refl;
-  flag_turn = λ rows p. and-true _;
-  value_word = λ rows word h. rw (h.no_dashes, h.no_long, h.no_short) refl;
-  value_turn = λ rows word h. rw (h.no_dashes, h.no_long, h.no_short) refl;
-  settles = λ rows word h. record { rows_are = new_row (codes "output") (word ∷ []) rows h; passes = rw h refl };
-}
-takes_output tracing = record {
-  flag_word = λ rows p. refl;
-  flag_turn = λ rows p. and-true _;
-  value_word = λ rows word h. rw (h.no_dashes, h.no_long, h.no_short) refl;
-  value_turn = λ rows word h. rw (h.no_dashes, h.no_long, h.no_short) refl;
-  settles = λ rows word h. record { rows_are = new_row (codes "output") (word ∷ []) rows h; passes = rw h refl };
-}
-takes_output telling = record {
-  flag_word = λ rows p. refl;
-  flag_turn = λ rows p. and-true _;
-  value_word = λ rows word h. rw (h.no_dashes, h.no_long, h.no_short) refl;
-  value_turn = λ rows word h. rw (h.no_dashes, h.no_long, h.no_short) refl;
-  settles = λ rows word h. record { rows_are = new_row (codes "output") (word ∷ []) rows h; passes = rw h refl };
-}
-takes_output caching = record {
+unfolding the_app top_app guest_app demo_app replay_app clap_on_literals
+takes_output (of_guest g) = record {
   flag_word = λ rows p. refl;
   flag_turn = λ rows p. and-true _;
   value_word = λ rows word h. rw (h.no_dashes, h.no_long, h.no_short) refl;
@@ -293,9 +205,9 @@ takes_output replaying = record {
   settles = λ rows word h. record { rows_are = new_row (codes "output") (word ∷ []) rows h; passes = rw h refl };
 }
 
-pub takes_recording : TakesValue running (codes "--record") (codes "record")
-unfolding the_app top_app run_app demo_app trace_app cache_app replay_app contexts_app clap_on_literals
-takes_recording = record {
+pub run_takes_recording : TakesValue (of_guest running) (codes "--record") (codes "record")
+unfolding the_app top_app guest_app demo_app replay_app clap_on_literals
+run_takes_recording = record {
   flag_word = λ rows p. refl;
   flag_turn = λ rows p. and-true _;
   value_word = λ rows word h. rw (h.no_dashes, h.no_long, h.no_short) refl;
@@ -303,9 +215,9 @@ takes_recording = record {
   settles = λ rows word h. record { rows_are = new_row (codes "record") (word ∷ []) rows h; passes = rw h refl };
 }
 
-pub takes_stamps : TakesValue running (codes "--stamps") (codes "stamps")
-unfolding the_app top_app run_app demo_app trace_app cache_app replay_app contexts_app clap_on_literals
-takes_stamps = record {
+pub run_takes_stamps : TakesValue (of_guest running) (codes "--stamps") (codes "stamps")
+unfolding the_app top_app guest_app demo_app replay_app clap_on_literals
+run_takes_stamps = record {
   flag_word = λ rows p. refl;
   flag_turn = λ rows p. and-true _;
   value_word = λ rows word h. rw (h.no_dashes, h.no_long, h.no_short) refl;
@@ -314,7 +226,7 @@ takes_stamps = record {
 }
 
 pub replay_takes_stamps : TakesValue replaying (codes "--stamps") (codes "stamps")
-unfolding the_app top_app run_app demo_app trace_app cache_app replay_app contexts_app clap_on_literals
+unfolding the_app top_app guest_app demo_app replay_app clap_on_literals
 replay_takes_stamps = record {
   flag_word = λ rows p. refl;
   flag_turn = λ rows p. and-true _;
@@ -323,8 +235,8 @@ replay_takes_stamps = record {
   settles = λ rows word h. record { rows_are = new_row (codes "stamps") (word ∷ []) rows h; passes = rw h refl };
 }
 
-pub contexts_takes_stamps : TakesValue telling (codes "--stamps") (codes "stamps")
-unfolding the_app top_app run_app demo_app trace_app cache_app replay_app contexts_app clap_on_literals
+pub contexts_takes_stamps : TakesValue (of_guest telling) (codes "--stamps") (codes "stamps")
+unfolding the_app top_app guest_app demo_app replay_app clap_on_literals
 contexts_takes_stamps = record {
   flag_word = λ rows p. refl;
   flag_turn = λ rows p. and-true _;
@@ -333,9 +245,9 @@ contexts_takes_stamps = record {
   settles = λ rows word h. record { rows_are = new_row (codes "stamps") (word ∷ []) rows h; passes = rw h refl };
 }
 
-pub takes_sets : TakesValue caching (codes "--sets") (codes "sets")
-unfolding the_app top_app run_app demo_app trace_app cache_app replay_app contexts_app clap_on_literals
-takes_sets = record {
+pub cache_takes_sets : TakesValue (of_guest caching) (codes "--sets") (codes "sets")
+unfolding the_app top_app guest_app demo_app replay_app clap_on_literals
+cache_takes_sets = record {
   flag_word = λ rows p. refl;
   flag_turn = λ rows p. and-true _;
   value_word = λ rows word h. rw (h.no_dashes, h.no_long, h.no_short) refl;
@@ -343,9 +255,9 @@ takes_sets = record {
   settles = λ rows word h. record { rows_are = new_row (codes "sets") (word ∷ []) rows h; passes = rw h refl };
 }
 
-pub takes_ways : TakesValue caching (codes "--ways") (codes "ways")
-unfolding the_app top_app run_app demo_app trace_app cache_app replay_app contexts_app clap_on_literals
-takes_ways = record {
+pub cache_takes_ways : TakesValue (of_guest caching) (codes "--ways") (codes "ways")
+unfolding the_app top_app guest_app demo_app replay_app clap_on_literals
+cache_takes_ways = record {
   flag_word = λ rows p. refl;
   flag_turn = λ rows p. and-true _;
   value_word = λ rows word h. rw (h.no_dashes, h.no_long, h.no_short) refl;
@@ -353,9 +265,9 @@ takes_ways = record {
   settles = λ rows word h. record { rows_are = new_row (codes "ways") (word ∷ []) rows h; passes = rw h refl };
 }
 
-pub takes_line : TakesValue caching (codes "--line") (codes "line")
-unfolding the_app top_app run_app demo_app trace_app cache_app replay_app contexts_app clap_on_literals
-takes_line = record {
+pub cache_takes_line : TakesValue (of_guest caching) (codes "--line") (codes "line")
+unfolding the_app top_app guest_app demo_app replay_app clap_on_literals
+cache_takes_line = record {
   flag_word = λ rows p. refl;
   flag_turn = λ rows p. and-true _;
   value_word = λ rows word h. rw (h.no_dashes, h.no_long, h.no_short) refl;
@@ -372,57 +284,97 @@ pub record TakesStats (k : Subcommand) : Type 0 where
   pub flag_turn : (rows : List Row) (p : Pending) → has_row (codes "stats") (settled_rows (rules k) p rows) ≡ false
       → turn k rows p idle 1 (codes "--stats") ≡ may_settle k rows p
 
-pub run_takes_stats : TakesStats running
-unfolding the_app top_app run_app demo_app trace_app cache_app replay_app contexts_app clap_on_literals
+pub run_takes_stats : TakesStats (of_guest running)
+unfolding the_app top_app guest_app demo_app replay_app clap_on_literals
 run_takes_stats = record {
-  flag_word = λ rows p h. ap (λ (all : List Row). stand all None idle 1) (new_row (codes "stats") (codes "true" ∷ []) (settled_rows (rules running) p rows) h);
+  flag_word = λ rows p h. ap (λ (all : List Row). stand all None idle 1) (new_row (codes "stats") (codes "true" ∷ []) (settled_rows (rules (of_guest running)) p rows) h);
   flag_turn = λ rows p h. rw h (and-true _ ∙ and-true _);
 }
 
 pub replay_takes_stats : TakesStats replaying
-unfolding the_app top_app run_app demo_app trace_app cache_app replay_app contexts_app clap_on_literals
+unfolding the_app top_app guest_app demo_app replay_app clap_on_literals
 replay_takes_stats = record {
   flag_word = λ rows p h. ap (λ (all : List Row). stand all None idle 1) (new_row (codes "stats") (codes "true" ∷ []) (settled_rows (rules replaying) p rows) h);
   flag_turn = λ rows p h. rw h (and-true _ ∙ and-true _);
 }
 
+-- ---- all options
+
+-- the flag of an option
+abbrev flag_of : Choice → Text
+flag_of c = unwrap_or (slice_get (words_of c) 0) []
+
+-- the command takes the option
+abbrev pub TakesChoice : Subcommand → Choice → Type 0
+TakesChoice k stats = TakesStats k
+TakesChoice k c = TakesValue k (flag_of c) (id_of c)
+
+no_option : {A : Type 0} → false ≡ true → A
+no_option has = absurd (cc has)
+
+pub takes_choice : (k : Subcommand) (c : Choice) → has_option k c ≡ true → TakesChoice k c
+takes_choice (of_guest g) (stdin v) has = takes_stdin g
+takes_choice replaying (stdin v) has = no_option has
+takes_choice (of_guest g) (quantum v) has = takes_quantum g
+takes_choice replaying (quantum v) has = no_option has
+takes_choice (of_guest g) (schedule v) has = takes_schedule g
+takes_choice replaying (schedule v) has = no_option has
+takes_choice (of_guest g) (budget v) has = takes_budget g
+takes_choice replaying (budget v) has = no_option has
+takes_choice k (report v) has = takes_output k
+takes_choice (of_guest running) (recording v) has = run_takes_recording
+takes_choice (of_guest running) (stamps v) has = run_takes_stamps
+takes_choice (of_guest running) stats has = run_takes_stats
+takes_choice (of_guest running) (sets v) has = no_option has
+takes_choice (of_guest running) (ways v) has = no_option has
+takes_choice (of_guest running) (line v) has = no_option has
+takes_choice (of_guest tracing) (recording v) has = no_option has
+takes_choice (of_guest tracing) (stamps v) has = no_option has
+takes_choice (of_guest tracing) stats has = no_option has
+takes_choice (of_guest tracing) (sets v) has = no_option has
+takes_choice (of_guest tracing) (ways v) has = no_option has
+takes_choice (of_guest tracing) (line v) has = no_option has
+takes_choice (of_guest caching) (recording v) has = no_option has
+takes_choice (of_guest caching) (stamps v) has = no_option has
+takes_choice (of_guest caching) stats has = no_option has
+takes_choice (of_guest caching) (sets v) has = cache_takes_sets
+takes_choice (of_guest caching) (ways v) has = cache_takes_ways
+takes_choice (of_guest caching) (line v) has = cache_takes_line
+takes_choice (of_guest telling) (recording v) has = no_option has
+takes_choice (of_guest telling) (stamps v) has = contexts_takes_stamps
+takes_choice (of_guest telling) stats has = no_option has
+takes_choice (of_guest telling) (sets v) has = no_option has
+takes_choice (of_guest telling) (ways v) has = no_option has
+takes_choice (of_guest telling) (line v) has = no_option has
+takes_choice replaying (recording v) has = no_option has
+takes_choice replaying (stamps v) has = replay_takes_stamps
+takes_choice replaying stats has = replay_takes_stats
+takes_choice replaying (sets v) has = no_option has
+takes_choice replaying (ways v) has = no_option has
+takes_choice replaying (line v) has = no_option has
+
 -- ---- the image, or the trace
 
 pub path_word : (k : Subcommand) (rows : List Row) (p : Pending) (word : Text) → IsNoFlag word
     → walked (rules k) [] (stand rows p idle 1) word ≡ stand (settled_rows (rules k) p rows) (Some (path_id k, word ∷ [])) idle 2
-unfolding the_app top_app run_app demo_app trace_app cache_app replay_app contexts_app clap_on_literals
-path_word running rows None word h = rw (h.no_dashes, h.no_long, h.no_short) refl
-path_word running rows (Some q) word h = rw (h.no_dashes, h.no_long, h.no_short, and-false (bytes_eq q.0 (codes "image"))) refl
-path_word tracing rows None word h = rw (h.no_dashes, h.no_long, h.no_short) refl
-path_word tracing rows (Some q) word h = rw (h.no_dashes, h.no_long, h.no_short, and-false (bytes_eq q.0 (codes "image"))) refl
-path_word telling rows None word h = rw (h.no_dashes, h.no_long, h.no_short) refl
-path_word telling rows (Some q) word h = rw (h.no_dashes, h.no_long, h.no_short, and-false (bytes_eq q.0 (codes "image"))) refl
-path_word caching rows None word h = rw (h.no_dashes, h.no_long, h.no_short) refl
-path_word caching rows (Some q) word h = rw (h.no_dashes, h.no_long, h.no_short, and-false (bytes_eq q.0 (codes "image"))) refl
+unfolding the_app top_app guest_app demo_app replay_app clap_on_literals
+path_word (of_guest g) rows None word h = rw (h.no_dashes, h.no_long, h.no_short) refl
+path_word (of_guest g) rows (Some q) word h = rw (h.no_dashes, h.no_long, h.no_short, and-false (bytes_eq q.0 (codes "image"))) refl
 path_word replaying rows None word h = rw (h.no_dashes, h.no_long, h.no_short) refl
 path_word replaying rows (Some q) word h = rw (h.no_dashes, h.no_long, h.no_short, and-false (bytes_eq q.0 (codes "trace"))) refl
 
 pub path_turn : (k : Subcommand) (rows : List Row) (p : Pending) (word : Text) → IsNoFlag word
     → turn k rows p idle 1 word ≡ may_settle k rows p
-unfolding the_app top_app run_app demo_app trace_app cache_app replay_app contexts_app clap_on_literals
-path_turn running rows None word h = rw (h.no_dashes, h.no_long, h.no_short) refl
-path_turn running rows (Some q) word h = rw (h.no_dashes, h.no_long, h.no_short, and-false (bytes_eq q.0 (codes "image"))) refl
-path_turn tracing rows None word h = rw (h.no_dashes, h.no_long, h.no_short) refl
-path_turn tracing rows (Some q) word h = rw (h.no_dashes, h.no_long, h.no_short, and-false (bytes_eq q.0 (codes "image"))) refl
-path_turn telling rows None word h = rw (h.no_dashes, h.no_long, h.no_short) refl
-path_turn telling rows (Some q) word h = rw (h.no_dashes, h.no_long, h.no_short, and-false (bytes_eq q.0 (codes "image"))) refl
-path_turn caching rows None word h = rw (h.no_dashes, h.no_long, h.no_short) refl
-path_turn caching rows (Some q) word h = rw (h.no_dashes, h.no_long, h.no_short, and-false (bytes_eq q.0 (codes "image"))) refl
+unfolding the_app top_app guest_app demo_app replay_app clap_on_literals
+path_turn (of_guest g) rows None word h = rw (h.no_dashes, h.no_long, h.no_short) refl
+path_turn (of_guest g) rows (Some q) word h = rw (h.no_dashes, h.no_long, h.no_short, and-false (bytes_eq q.0 (codes "image"))) refl
 path_turn replaying rows None word h = rw (h.no_dashes, h.no_long, h.no_short) refl
 path_turn replaying rows (Some q) word h = rw (h.no_dashes, h.no_long, h.no_short, and-false (bytes_eq q.0 (codes "trace"))) refl
 
 pub path_settles : (k : Subcommand) (rows : List Row) (path : Text) → has_row (path_id k) rows ≡ false
     → Settles k rows (Some (path_id k, path ∷ [])) (rows ++ plain_row (path_id k) (path ∷ []) ∷ [])
-unfolding the_app top_app run_app demo_app trace_app cache_app replay_app contexts_app clap_on_literals
-path_settles running rows path h = record { rows_are = new_row (codes "image") (path ∷ []) rows h; passes = rw h refl }
-path_settles tracing rows path h = record { rows_are = new_row (codes "image") (path ∷ []) rows h; passes = rw h refl }
-path_settles telling rows path h = record { rows_are = new_row (codes "image") (path ∷ []) rows h; passes = rw h refl }
-path_settles caching rows path h = record { rows_are = new_row (codes "image") (path ∷ []) rows h; passes = rw h refl }
+unfolding the_app top_app guest_app demo_app replay_app clap_on_literals
+path_settles (of_guest g) rows path h = record { rows_are = new_row (codes "image") (path ∷ []) rows h; passes = rw h refl }
 path_settles replaying rows path h = record { rows_are = new_row (codes "trace") (path ∷ []) rows h; passes = rw h refl }
 
 -- ---- the further words
@@ -430,62 +382,173 @@ path_settles replaying rows path h = record { rows_are = new_row (codes "trace")
 pub first_word : (k : Subcommand) → RunsGuest k → (rows : List Row) (image word : Text) → IsNoFlag word
     → walked (rules k) [] (stand rows (Some (path_id k, image ∷ [])) idle 2) word
     ≡ stand (settled_rows (rules k) (Some (path_id k, image ∷ [])) rows) (Some (codes "word", word ∷ [])) positional 2
-unfolding the_app top_app run_app demo_app trace_app cache_app replay_app contexts_app clap_on_literals
-first_word running guest rows image word h = rw (h.no_dashes, h.no_long, h.no_short) refl
-first_word tracing guest rows image word h = rw (h.no_dashes, h.no_long, h.no_short) refl
-first_word telling guest rows image word h = rw (h.no_dashes, h.no_long, h.no_short) refl
-first_word caching guest rows image word h = rw (h.no_dashes, h.no_long, h.no_short) refl
+unfolding the_app top_app guest_app demo_app replay_app clap_on_literals
+first_word (of_guest g) guest rows image word h = rw (h.no_dashes, h.no_long, h.no_short) refl
 first_word replaying guest rows image word h = absurd guest
 
 pub first_turn : (k : Subcommand) → RunsGuest k → (rows : List Row) (image word : Text) → IsNoFlag word
     → turn k rows (Some (path_id k, image ∷ [])) idle 2 word ≡ may_settle k rows (Some (path_id k, image ∷ []))
-unfolding the_app top_app run_app demo_app trace_app cache_app replay_app contexts_app clap_on_literals
-first_turn running guest rows image word h = rw (h.no_dashes, h.no_long, h.no_short) refl
-first_turn tracing guest rows image word h = rw (h.no_dashes, h.no_long, h.no_short) refl
-first_turn telling guest rows image word h = rw (h.no_dashes, h.no_long, h.no_short) refl
-first_turn caching guest rows image word h = rw (h.no_dashes, h.no_long, h.no_short) refl
+unfolding the_app top_app guest_app demo_app replay_app clap_on_literals
+first_turn (of_guest g) guest rows image word h = rw (h.no_dashes, h.no_long, h.no_short) refl
 first_turn replaying guest rows image word h = absurd guest
 
 pub further_word : (k : Subcommand) → RunsGuest k → (rows : List Row) (words : List Text) (word : Text) → IsNoFlag word
     → walked (rules k) [] (stand rows (Some (codes "word", words)) positional 2) word
     ≡ stand rows (Some (codes "word", words ++ word ∷ [])) positional 2
-unfolding the_app top_app run_app demo_app trace_app cache_app replay_app contexts_app clap_on_literals
-further_word running guest rows words word h = rw (h.no_dashes, h.no_long, h.no_short) refl
-further_word tracing guest rows words word h = rw (h.no_dashes, h.no_long, h.no_short) refl
-further_word telling guest rows words word h = rw (h.no_dashes, h.no_long, h.no_short) refl
-further_word caching guest rows words word h = rw (h.no_dashes, h.no_long, h.no_short) refl
+unfolding the_app top_app guest_app demo_app replay_app clap_on_literals
+further_word (of_guest g) guest rows words word h = rw (h.no_dashes, h.no_long, h.no_short) refl
 further_word replaying guest rows words word h = absurd guest
 
 pub further_turn : (k : Subcommand) → RunsGuest k → (rows : List Row) (words : List Text) (word : Text) → IsNoFlag word
     → turn k rows (Some (codes "word", words)) positional 2 word ≡ true
-unfolding the_app top_app run_app demo_app trace_app cache_app replay_app contexts_app clap_on_literals
-further_turn running guest rows words word h = rw (h.no_dashes, h.no_long, h.no_short) refl
-further_turn tracing guest rows words word h = rw (h.no_dashes, h.no_long, h.no_short) refl
-further_turn telling guest rows words word h = rw (h.no_dashes, h.no_long, h.no_short) refl
-further_turn caching guest rows words word h = rw (h.no_dashes, h.no_long, h.no_short) refl
+unfolding the_app top_app guest_app demo_app replay_app clap_on_literals
+further_turn (of_guest g) guest rows words word h = rw (h.no_dashes, h.no_long, h.no_short) refl
 further_turn replaying guest rows words word h = absurd guest
 
 pub words_settle : (k : Subcommand) → RunsGuest k → (rows : List Row) (word : Text) (words : List Text) → has_row (codes "word") rows ≡ false
     → length (word ∷ words) < 2 ^ 64
     → Settles k rows (Some (codes "word", word ∷ words)) (rows ++ plain_row (codes "word") (word ∷ words) ∷ [])
-unfolding the_app top_app run_app demo_app trace_app cache_app replay_app contexts_app clap_on_literals
-words_settle running guest rows word words h lt =
-    let few : nat_le (length (word ∷ words)) usize_max ≡ true = grind (arith, nat_tests) in
-    let some : nat_le 0 (length (word ∷ words)) ≡ true = grind (arith, nat_tests) in
-    record { rows_are = new_row_kept (codes "word") (word ∷ words) rows h; passes = rw (some, few) (all_true words) }
-words_settle tracing guest rows word words h lt =
-    let few : nat_le (length (word ∷ words)) usize_max ≡ true = grind (arith, nat_tests) in
-    let some : nat_le 0 (length (word ∷ words)) ≡ true = grind (arith, nat_tests) in
-    record { rows_are = new_row_kept (codes "word") (word ∷ words) rows h; passes = rw (some, few) (all_true words) }
-words_settle telling guest rows word words h lt =
-    let few : nat_le (length (word ∷ words)) usize_max ≡ true = grind (arith, nat_tests) in
-    let some : nat_le 0 (length (word ∷ words)) ≡ true = grind (arith, nat_tests) in
-    record { rows_are = new_row_kept (codes "word") (word ∷ words) rows h; passes = rw (some, few) (all_true words) }
-words_settle caching guest rows word words h lt =
+unfolding the_app top_app guest_app demo_app replay_app clap_on_literals
+words_settle (of_guest g) guest rows word words h lt =
     let few : nat_le (length (word ∷ words)) usize_max ≡ true = grind (arith, nat_tests) in
     let some : nat_le 0 (length (word ∷ words)) ≡ true = grind (arith, nat_tests) in
     record { rows_are = new_row_kept (codes "word") (word ∷ words) rows h; passes = rw (some, few) (all_true words) }
 words_settle replaying guest rows word words h lt = absurd guest
+
+-- ---- defaults, and what is required
+
+abbrev pub NoDefaults : List Rule → Type 0
+NoDefaults [] = Unit {0}
+NoDefaults (a ∷ rest) = (a.defaults ≡ []) × NoDefaults rest
+
+if_none : (b : Bool) (a : Rule) (rows : List Row) → a.defaults ≡ [] → cond b rows (default_rows a.id (reading_by a) a.defaults rows) ≡ rows
+if_none true a rows e = refl
+if_none false a rows e = rw e refl
+
+pub no_defaults : (as_rules : List Rule) (rows : List Row) → NoDefaults as_rules → fold with_default rows as_rules ≡ rows
+no_defaults [] rows h = refl
+no_defaults (a ∷ rest) rows h =
+    ap (λ x. fold with_default x rest) (if_none (has_row a.id rows) a rows h.0) ∙ no_defaults rest rows h.1
+
+-- only `--stats` has a default
+finished_shared : (rest : List Rule) (rows : List Row) → fold with_default rows (shared_rules ++ rest) ≡ fold with_default rows rest
+unfolding the_app top_app guest_app demo_app replay_app clap_on_literals
+finished_shared rest rows = ap (λ x. fold with_default x rest) (no_defaults shared_rules rows (refl, (refl, (refl, (refl, (refl, (refl, (refl, tt))))))))
+
+-- the command has `--stats`
+abbrev pub has_stats : Subcommand → Bool
+has_stats (of_guest running) = true
+has_stats (of_guest tracing) = false
+has_stats (of_guest caching) = false
+has_stats (of_guest telling) = false
+has_stats replaying = true
+
+-- the row that is added where the command has the option and it is not given
+abbrev pub added_rows : Bool → Bool → List Row
+added_rows has given = cond has (unset_rows given) []
+
+finished_own : (g : GuestCommand) (rows : List Row) → fold with_default rows (own_rules g) ≡ rows ++ added_rows (has_stats (of_guest g)) (has_row (codes "stats") rows)
+unfolding the_app top_app guest_app demo_app replay_app clap_on_literals
+finished_own running rows =
+    ap (λ x. fold with_default x (drop 2 (own_rules running))) (no_defaults (take 2 (own_rules running)) rows (refl, (refl, tt)))
+    ∙ if_unset (has_row (codes "stats") rows) rows refl
+finished_own tracing rows = sym (append-nil rows)
+finished_own caching rows = no_defaults (own_rules caching) rows (refl, (refl, (refl, tt))) ∙ sym (append-nil rows)
+finished_own telling rows = no_defaults (own_rules telling) rows (refl, tt) ∙ sym (append-nil rows)
+
+pub finished_rows : (k : Subcommand) (rows : List Row) → fold with_default rows (rules k) ≡ rows ++ added_rows (has_stats k) (has_row (codes "stats") rows)
+unfolding the_app top_app guest_app demo_app replay_app clap_on_literals
+finished_rows (of_guest g) rows = finished_shared (own_rules g) rows ∙ finished_own g rows
+finished_rows replaying rows =
+    ap (λ x. fold with_default x (drop 1 (rules replaying))) (no_defaults (take 1 (rules replaying)) rows (refl, tt))
+    ∙ (no_defaults (drop 2 (rules replaying)) (fold with_default rows (take 1 (drop 1 (rules replaying)))) (refl, (refl, tt))
+    ∙ if_unset (has_row (codes "stats") rows) rows refl)
+
+two_needed : (rows : List Row) → (is_given (codes "image") rows && (is_given (codes "output") rows && true)) ≡ true → (is_given (codes "output") rows && (is_given (codes "image") rows && true)) ≡ true
+two_needed rows h =
+    let i = and_parts (is_given (codes "image") rows) _ h in
+    let o = and_parts (is_given (codes "output") rows) true i.1 in
+    rw (o.0, i.0) refl
+
+-- what a command has to have: the path, and the options that it requires
+abbrev pub needed : Subcommand → List Text
+needed (of_guest g) = codes "image" ∷ required g
+needed replaying = codes "trace" ∷ codes "output" ∷ []
+
+pub valid_given : (k : Subcommand) (rows : List Row) → list_all (λ id. is_given id rows) (needed k) ≡ true → is_valid (shape k) rows false ≡ true
+unfolding the_app top_app guest_app demo_app replay_app clap_on_literals
+valid_given (of_guest running) rows h = two_needed rows h
+valid_given (of_guest tracing) rows h = two_needed rows h
+valid_given (of_guest caching) rows h =
+    let i = and_parts (is_given (codes "image") rows) _ h in
+    let s = and_parts (is_given (codes "sets") rows) _ i.1 in
+    let w = and_parts (is_given (codes "ways") rows) _ s.1 in
+    let l = and_parts (is_given (codes "line") rows) _ w.1 in
+    let o = and_parts (is_given (codes "output") rows) true l.1 in
+    rw (o.0, i.0, s.0, w.0, l.0) refl
+valid_given (of_guest telling) rows h = two_needed rows h
+valid_given replaying rows h =
+    let t = and_parts (is_given (codes "trace") rows) _ h in
+    let o = and_parts (is_given (codes "output") rows) true t.1 in
+    rw (o.0, t.0) refl
+
+pub no_override : (k : Subcommand) → (shape k).args_override_self ≡ false
+unfolding the_app top_app guest_app demo_app replay_app
+no_override (of_guest g) = refl
+no_override replaying = refl
+
+pub defaults_pass : (k : Subcommand) → list_all default_passes (rules k) ≡ true
+unfolding the_app top_app guest_app demo_app replay_app clap_on_literals
+defaults_pass (of_guest running) = refl
+defaults_pass (of_guest tracing) = refl
+defaults_pass (of_guest caching) = refl
+defaults_pass (of_guest telling) = refl
+defaults_pass replaying = refl
+
+-- ---- the name of a command
+
+abbrev pub top_rules : List Rule
+top_rules = (built the_app).top.rules
+
+abbrev pub names : Names
+names = names_of (built the_app)
+
+-- the walk stopped at the command, with these words after it
+abbrev pub at_command : Subcommand → List Text → Walk
+at_command k words = record (walk_from nothing_held) { stopped = Some (name_of k, words) }
+
+pub stops_at : (k : Subcommand) → walked top_rules names (walk_from nothing_held) (name_of k) ≡ at_command k []
+unfolding the_app top_app guest_app demo_app replay_app clap_on_literals
+stops_at (of_guest running) = refl
+stops_at (of_guest tracing) = refl
+stops_at (of_guest caching) = refl
+stops_at (of_guest telling) = refl
+stops_at replaying = refl
+
+pub turn_at : (k : Subcommand) → turn_passes (built the_app).top names (walk_from nothing_held) (name_of k) ≡ true
+unfolding the_app top_app guest_app demo_app replay_app clap_on_literals
+turn_at (of_guest running) = refl
+turn_at (of_guest tracing) = refl
+turn_at (of_guest caching) = refl
+turn_at (of_guest telling) = refl
+turn_at replaying = refl
+
+pub enters_command : (k : Subcommand) (rest : List Text) → entered (built the_app) (Some (name_of k, rest)) ≡ Some (name_of k, rows_after (rules k) [] rest)
+unfolding the_app top_app guest_app demo_app replay_app clap_on_literals
+enters_command (of_guest running) rest = refl
+enters_command (of_guest tracing) rest = refl
+enters_command (of_guest caching) rest = refl
+enters_command (of_guest telling) rest = refl
+enters_command replaying rest = refl
+
+pub enters_passes : (k : Subcommand) (rest : List Text) → level_passes (shape k) [] nothing_held rest false ≡ true
+    → entered_passes (built the_app) (Some (name_of k, rest)) ≡ true
+unfolding the_app top_app guest_app demo_app replay_app clap_on_literals
+enters_passes (of_guest running) rest h = h
+enters_passes (of_guest tracing) rest h = h
+enters_passes (of_guest caching) rest h = h
+enters_passes (of_guest telling) rest h = h
+enters_passes replaying rest h = h
 
 -- ---- one word of a walk
 

@@ -2,25 +2,27 @@
 use Rattle.std.proofs.Common.{◌≡◌, Bool, true, false, refl, ap, ap₂, subst, sym, ◌∙◌, ◌&&◌, ◌⊎◌, inl, inr, List, [], ◌∷◌, ◌++◌, Option, Some, None, is_some, codes, cond}
 use Rattle.std.specs.Prelude.{ℕ, find, fold, option_and_then, option_map, slice_get}
 use Rattle.std.specs.List.{list_all}
+use Rattle.std.proofs.lemmas.List.{append-nil}
 use Rattle.std.specs.Option.{option_map_or}
 use Rattle.clap.proofs.OnLiterals.{clap_on_literals}
 use Rattle.clap.proofs.WalkLemmas.{both}
 use Rattle.clap.specs.Simple.{App, Shape, argument_words, entered, is_simple, label_of, names_of, rows_at}
 use Rattle.clap.specs.Takes.{built_takes, default_passes, entered_passes, is_given, is_valid, level_passes, settle_passes, walk_passes}
 use Rattle.clap.specs.Walk.{answers_to, finished, has_row, nothing_held, rows_after, settled, walk, walk_from, with_default}
-use Rattle.cache_lines.specs.Shapes.{Form}
 use Rattle.stamps.specs.declared.width.StampBits.{StampBits}
 use Rattle.clap.specs.Words.{Row, Rule, Text, built, first_of, subcommand_of, takes}
 use Rattle.clap.specs.Facts.{explicit_source}
 use Rattle.std.specs.Str.{bytes_eq}
-use Rattle.command_line.specs.App.{the_app, top_app, run_app, demo_app, trace_app, cache_app, replay_app, contexts_app}
-use Rattle.command_line.specs.Options.{Cache, CacheOptions, Contexts, ContextsOptions, Demo, GuestOptions, Replay, ReplayOptions, Run, RunOptions, Trace, TraceOptions, bits_of, budget_of, cache_of_rows, cache_with, contexts_of_rows, contexts_with, demo_of, demo_of_rows, guest_of_rows, guest_with, options_of_rows, options_with, quantum_of, replay_of_rows, replay_with, shape_of_rows, shape_said, trace_of_rows, trace_with}
-use Rattle.command_line.specs.Taken.{FailsByNumber, HasBadCache, HasBadDemo, HasBadNumber, HasBadSteps, HasBadWidth, TakenWordsFailByNumbers}
+use Rattle.command_line.specs.App.{the_app, top_app, guest_app, demo_app, replay_app}
+use Rattle.command_line.specs.Options.{Analysis, Demo, GuestOptions, Replay, ReplayOptions, analysis_of_rows, bits_of, budget_of, demo_of, demo_of_rows, guest_asked_with, guest_of_rows, guest_with, quantum_of, replay_of_rows, replay_with, run_with, shape_of_rows, shape_said}
+use Rattle.command_line.specs.Plain.{GuestCommand, caching, running, telling, tracing}
+use Rattle.command_line.specs.Plain as plain
+use Rattle.command_line.specs.Taken.{FailsByNumber, HasBadDemo, HasBadNumber, HasBadSteps, HasBadWidth, IsFound, TakenWordsFailByNumbers}
 use Rattle.command_line.proofs.Filled.{AllKeep, IsKept, filled_same, is_appended, is_filled, is_flag, is_own, is_set, kept_keeps, row_for, settle_keeps, walk_keeps}
-use Rattle.command_line.proofs.PlainWords.{finished_cache, finished_contexts, finished_replay, finished_rows, finished_trace, no_defaults}
+use Rattle.command_line.proofs.PlainOptions.{asked_by_name}
 use Rattle.command_line.proofs.Refusals.{asked_is, read_of}
 use Rattle.command_line.proofs.Rows.{unset_rows}
-use Rattle.command_line.proofs.Steps.{cache_shape, caching, contexts_shape, demo_shape, replay_shape, replaying, rules, run_shape, running, telling, trace_shape, tracing}
+use Rattle.command_line.proofs.Steps.{Subcommand, added_rows, demo_shape, finished_rows, has_stats, no_defaults, of_guest, own_rules, replay_shape, replaying, rules, shape}
 
 -- what a search among these can find
 abbrev FoundIn : List Shape → Option Shape → Type 0
@@ -69,37 +71,25 @@ enters_one a None p q = let no : false ≡ true = q in cc
 enters_one a (Some met) p q =
     enters_any a.subs (find (λ u. answers_to met.0 (label_of u)) a.subs) met.1 (found_in (λ u. answers_to met.0 (label_of u)) a.subs) p q
 
-subs_are : (built the_app).subs ≡ run_shape ∷ demo_shape ∷ trace_shape ∷ cache_shape ∷ replay_shape ∷ contexts_shape ∷ []
-unfolding the_app top_app run_app demo_app trace_app cache_app replay_app contexts_app clap_on_literals
+-- the subcommands, in their order
+abbrev subcommands : List Shape
+subcommands = shape (of_guest running) ∷ demo_shape ∷ shape (of_guest tracing) ∷ shape (of_guest caching) ∷ replay_shape ∷ shape (of_guest telling) ∷ []
+
+subs_are : (built the_app).subs ≡ subcommands
+unfolding the_app top_app guest_app demo_app replay_app clap_on_literals
 subs_are = refl
 
-run_is_named : run_shape.name ≡ codes "run"
-unfolding the_app top_app run_app demo_app trace_app cache_app replay_app contexts_app clap_on_literals
-run_is_named = refl
-
-trace_is_named : trace_shape.name ≡ codes "trace"
-unfolding the_app top_app run_app demo_app trace_app cache_app replay_app contexts_app clap_on_literals
-trace_is_named = refl
-
-cache_is_named : cache_shape.name ≡ codes "cache"
-unfolding the_app top_app run_app demo_app trace_app cache_app replay_app contexts_app clap_on_literals
-cache_is_named = refl
-
 replay_is_named : replay_shape.name ≡ codes "replay"
-unfolding the_app top_app run_app demo_app trace_app cache_app replay_app contexts_app clap_on_literals
+unfolding the_app top_app guest_app demo_app replay_app clap_on_literals
 replay_is_named = refl
 
-contexts_is_named : contexts_shape.name ≡ codes "contexts"
-unfolding the_app top_app run_app demo_app trace_app cache_app replay_app contexts_app clap_on_literals
-contexts_is_named = refl
-
 demo_is_named : demo_shape.name ≡ codes "demo"
-unfolding the_app top_app run_app demo_app trace_app cache_app replay_app contexts_app clap_on_literals
+unfolding the_app top_app guest_app demo_app replay_app clap_on_literals
 demo_is_named = refl
 
 -- the subcommand has to be there
 top_requires : (rows : List Row) (has : Bool) → is_valid (built the_app).top rows has ≡ true → has ≡ true
-unfolding the_app top_app run_app demo_app trace_app cache_app replay_app contexts_app clap_on_literals
+unfolding the_app top_app guest_app demo_app replay_app clap_on_literals
 top_requires rows true h = refl
 top_requires rows false h = let no : false ≡ true = h in cc
 
@@ -109,38 +99,33 @@ two_given true false h = let no : false ≡ true = h in cc
 two_given false i h = let no : false ≡ true = h in cc
 
 -- and `-o` and the image
-run_requires : (rows : List Row) → is_valid run_shape rows false ≡ true → (is_given (codes "output") rows ≡ true) × (is_given (codes "image") rows ≡ true)
-unfolding the_app top_app run_app demo_app trace_app cache_app replay_app contexts_app clap_on_literals
-run_requires rows h = two_given (is_given (codes "output") rows) (is_given (codes "image") rows) h
-
-trace_requires : (rows : List Row) → is_valid trace_shape rows false ≡ true → (is_given (codes "output") rows ≡ true) × (is_given (codes "image") rows ≡ true)
-unfolding the_app top_app run_app demo_app trace_app cache_app replay_app contexts_app clap_on_literals
-trace_requires rows h = two_given (is_given (codes "output") rows) (is_given (codes "image") rows) h
-
-contexts_requires : (rows : List Row) → is_valid contexts_shape rows false ≡ true → (is_given (codes "output") rows ≡ true) × (is_given (codes "image") rows ≡ true)
-unfolding the_app top_app run_app demo_app trace_app cache_app replay_app contexts_app clap_on_literals
-contexts_requires rows h = two_given (is_given (codes "output") rows) (is_given (codes "image") rows) h
+guest_requires : (g : GuestCommand) (rows : List Row) → is_valid (shape (of_guest g)) rows false ≡ true
+    → (is_given (codes "output") rows ≡ true) × (is_given (codes "image") rows ≡ true)
+unfolding the_app top_app guest_app demo_app replay_app clap_on_literals
+guest_requires running rows h = two_given (is_given (codes "output") rows) (is_given (codes "image") rows) h
+guest_requires tracing rows h = two_given (is_given (codes "output") rows) (is_given (codes "image") rows) h
+guest_requires caching rows h =
+    let first = both (is_given (codes "output") rows) _ h in
+    (first.0, (both (is_given (codes "image") rows) _ first.1).0)
+guest_requires telling rows h = two_given (is_given (codes "output") rows) (is_given (codes "image") rows) h
 
 -- `replay` the trace
 replay_requires : (rows : List Row) → is_valid replay_shape rows false ≡ true → (is_given (codes "output") rows ≡ true) × (is_given (codes "trace") rows ≡ true)
-unfolding the_app top_app run_app demo_app trace_app cache_app replay_app contexts_app clap_on_literals
+unfolding the_app top_app guest_app demo_app replay_app clap_on_literals
 replay_requires rows h = two_given (is_given (codes "output") rows) (is_given (codes "trace") rows) h
 
 -- `cache` the shape too
-five_given : (s w l o i : Bool) → (s && (w && (l && (o && (i && true))))) ≡ true → (s ≡ true) × (w ≡ true) × (l ≡ true) × (o ≡ true) × (i ≡ true)
-five_given s w l o i h =
-    let first = both s (w && (l && (o && (i && true)))) h in
-    let second = both w (l && (o && (i && true))) first.1 in
-    let third = both l (o && (i && true)) second.1 in
-    let rest = two_given o i third.1 in
-    (first.0, second.0, third.0, rest.0, rest.1)
+shape_given : (o i s w l : Bool) → (o && (i && (s && (w && (l && true))))) ≡ true → (s ≡ true) × (w ≡ true) × (l ≡ true)
+shape_given o i s w l h =
+    let third = both s (w && (l && true)) (both i _ (both o _ h).1).1 in
+    let rest = two_given w l third.1 in
+    (third.0, rest.0, rest.1)
 
-cache_requires : (rows : List Row) → is_valid cache_shape rows false ≡ true
+cache_requires : (rows : List Row) → is_valid (shape (of_guest caching)) rows false ≡ true
     → (is_given (codes "sets") rows ≡ true) × (is_given (codes "ways") rows ≡ true) × (is_given (codes "line") rows ≡ true)
-    × (is_given (codes "output") rows ≡ true) × (is_given (codes "image") rows ≡ true)
-unfolding the_app top_app run_app demo_app trace_app cache_app replay_app contexts_app clap_on_literals
+unfolding the_app top_app guest_app demo_app replay_app clap_on_literals
 cache_requires rows h =
-    five_given (is_given (codes "sets") rows) (is_given (codes "ways") rows) (is_given (codes "line") rows) (is_given (codes "output") rows) (is_given (codes "image") rows) h
+    shape_given (is_given (codes "output") rows) (is_given (codes "image") rows) (is_given (codes "sets") rows) (is_given (codes "ways") rows) (is_given (codes "line") rows) h
 
 one_given : (n : Bool) → (n && true) ≡ true → n ≡ true
 one_given true h = refl
@@ -148,12 +133,12 @@ one_given false h = let no : false ≡ true = h in cc
 
 -- `demo` its number
 demo_requires : (rows : List Row) → is_valid demo_shape rows false ≡ true → is_given (codes "number") rows ≡ true
-unfolding the_app top_app run_app demo_app trace_app cache_app replay_app contexts_app clap_on_literals
+unfolding the_app top_app guest_app demo_app replay_app clap_on_literals
 demo_requires rows h = one_given (is_given (codes "number") rows) h
 
 -- words that are taken enter a subcommand
 taken_enters : (words : List Text) → takes the_app words ≡ true
-    → EntersOne (run_shape ∷ demo_shape ∷ trace_shape ∷ cache_shape ∷ replay_shape ∷ contexts_shape ∷ []) (subcommand_of the_app words)
+    → EntersOne subcommands (subcommand_of the_app words)
 taken_enters words h =
     let ws = argument_words the_app words in
     let top = (built the_app).top in
@@ -179,96 +164,45 @@ all_keep : (id : Text) (c : List Rule) → bytes_eq id id ≡ true → AreKept i
 all_keep id [] same k = tt
 all_keep id (a ∷ rest) same k = (kept_keeps id a same k.0, all_keep id rest same k.1)
 
-output_keeps : AllKeep (codes "output") (rules running)
-unfolding the_app top_app run_app demo_app trace_app cache_app replay_app contexts_app clap_on_literals
-output_keeps = all_keep (codes "output") (rules running) refl (
-  is_set refl refl,
-  (
-    is_set refl refl,
-    (
-      is_set refl refl,
-      (
-        is_set refl refl,
-        (
-          is_set refl refl,
-          (is_set refl refl, (is_flag refl refl, (is_own refl refl refl, (is_set refl refl, (is_appended refl refl, tt))))),
-        ),
-      ),
-    ),
-  ),
-)
+-- what a command has beside leaves `-o` and the image
+own_kept : (g : GuestCommand) → AreKept (codes "output") (own_rules g) × AreKept (codes "image") (own_rules g)
+unfolding the_app top_app guest_app demo_app replay_app clap_on_literals
+own_kept running = ((is_set refl refl, (is_set refl refl, (is_flag refl refl, tt))), (is_set refl refl, (is_set refl refl, (is_flag refl refl, tt))))
+own_kept tracing = (tt, tt)
+own_kept caching = ((is_set refl refl, (is_set refl refl, (is_set refl refl, tt))), (is_set refl refl, (is_set refl refl, (is_set refl refl, tt))))
+own_kept telling = ((is_set refl refl, tt), (is_set refl refl, tt))
 
-image_keeps : AllKeep (codes "image") (rules running)
-unfolding the_app top_app run_app demo_app trace_app cache_app replay_app contexts_app clap_on_literals
-image_keeps = all_keep (codes "image") (rules running) refl (
-  is_set refl refl,
-  (
-    is_set refl refl,
-    (
-      is_set refl refl,
-      (
-        is_set refl refl,
-        (
-          is_set refl refl,
-          (is_set refl refl, (is_flag refl refl, (is_set refl refl, (is_own refl refl refl, (is_appended refl refl, tt))))),
-        ),
-      ),
-    ),
-  ),
-)
+output_keeps : (g : GuestCommand) → AllKeep (codes "output") (rules (of_guest g))
+unfolding the_app top_app guest_app demo_app replay_app clap_on_literals
+output_keeps g = all_keep (codes "output") (rules (of_guest g)) refl (is_set refl refl, (is_set refl refl, (is_set refl refl, (is_set refl refl, (is_own refl refl refl, (is_set refl refl, (is_appended refl refl, (own_kept g).0)))))))
 
-trace_output_keeps : AllKeep (codes "output") (rules tracing)
-unfolding the_app top_app run_app demo_app trace_app cache_app replay_app contexts_app clap_on_literals
-trace_output_keeps = all_keep (codes "output") (rules tracing) refl (
-  is_set refl refl,
-  (is_set refl refl, (is_set refl refl, (is_set refl refl, (is_own refl refl refl, (is_set refl refl, (is_appended refl refl, tt)))))),
-)
+image_keeps : (g : GuestCommand) → AllKeep (codes "image") (rules (of_guest g))
+unfolding the_app top_app guest_app demo_app replay_app clap_on_literals
+image_keeps g = all_keep (codes "image") (rules (of_guest g)) refl (is_set refl refl, (is_set refl refl, (is_set refl refl, (is_set refl refl, (is_set refl refl, (is_own refl refl refl, (is_appended refl refl, (own_kept g).1)))))))
 
-trace_image_keeps : AllKeep (codes "image") (rules tracing)
-unfolding the_app top_app run_app demo_app trace_app cache_app replay_app contexts_app clap_on_literals
-trace_image_keeps = all_keep (codes "image") (rules tracing) refl (
-  is_set refl refl,
-  (is_set refl refl, (is_set refl refl, (is_set refl refl, (is_set refl refl, (is_own refl refl refl, (is_appended refl refl, tt)))))),
-)
+-- the numbers of a cache
+sets_keeps : AllKeep (codes "sets") (rules (of_guest caching))
+unfolding the_app top_app guest_app demo_app replay_app clap_on_literals
+sets_keeps = all_keep (codes "sets") (rules (of_guest caching)) refl (is_set refl refl, (is_set refl refl, (is_set refl refl, (is_set refl refl, (is_set refl refl, (is_set refl refl, (is_appended refl refl, (is_own refl refl refl, (is_set refl refl, (is_set refl refl, tt))))))))))
 
-contexts_output_keeps : AllKeep (codes "output") (rules telling)
-unfolding the_app top_app run_app demo_app trace_app cache_app replay_app contexts_app clap_on_literals
-contexts_output_keeps = all_keep (codes "output") (rules telling) refl (is_set refl refl, (is_set refl refl, (is_set refl refl, (is_set refl refl, (is_set refl refl, (is_own refl refl refl, (is_set refl refl, (is_appended refl refl, tt))))))))
+ways_keeps : AllKeep (codes "ways") (rules (of_guest caching))
+unfolding the_app top_app guest_app demo_app replay_app clap_on_literals
+ways_keeps = all_keep (codes "ways") (rules (of_guest caching)) refl (is_set refl refl, (is_set refl refl, (is_set refl refl, (is_set refl refl, (is_set refl refl, (is_set refl refl, (is_appended refl refl, (is_set refl refl, (is_own refl refl refl, (is_set refl refl, tt))))))))))
 
-contexts_image_keeps : AllKeep (codes "image") (rules telling)
-unfolding the_app top_app run_app demo_app trace_app cache_app replay_app contexts_app clap_on_literals
-contexts_image_keeps = all_keep (codes "image") (rules telling) refl (is_set refl refl, (is_set refl refl, (is_set refl refl, (is_set refl refl, (is_set refl refl, (is_set refl refl, (is_own refl refl refl, (is_appended refl refl, tt))))))))
-
-cache_sets_keeps : AllKeep (codes "sets") (rules caching)
-unfolding the_app top_app run_app demo_app trace_app cache_app replay_app contexts_app clap_on_literals
-cache_sets_keeps = all_keep (codes "sets") (rules caching) refl (is_set refl refl, (is_set refl refl, (is_set refl refl, (is_set refl refl, (is_own refl refl refl, (is_set refl refl, (is_set refl refl, (is_set refl refl, (is_set refl refl, (is_appended refl refl, tt))))))))))
-
-cache_ways_keeps : AllKeep (codes "ways") (rules caching)
-unfolding the_app top_app run_app demo_app trace_app cache_app replay_app contexts_app clap_on_literals
-cache_ways_keeps = all_keep (codes "ways") (rules caching) refl (is_set refl refl, (is_set refl refl, (is_set refl refl, (is_set refl refl, (is_set refl refl, (is_own refl refl refl, (is_set refl refl, (is_set refl refl, (is_set refl refl, (is_appended refl refl, tt))))))))))
-
-cache_line_keeps : AllKeep (codes "line") (rules caching)
-unfolding the_app top_app run_app demo_app trace_app cache_app replay_app contexts_app clap_on_literals
-cache_line_keeps = all_keep (codes "line") (rules caching) refl (is_set refl refl, (is_set refl refl, (is_set refl refl, (is_set refl refl, (is_set refl refl, (is_set refl refl, (is_own refl refl refl, (is_set refl refl, (is_set refl refl, (is_appended refl refl, tt))))))))))
-
-cache_output_keeps : AllKeep (codes "output") (rules caching)
-unfolding the_app top_app run_app demo_app trace_app cache_app replay_app contexts_app clap_on_literals
-cache_output_keeps = all_keep (codes "output") (rules caching) refl (is_set refl refl, (is_set refl refl, (is_set refl refl, (is_set refl refl, (is_set refl refl, (is_set refl refl, (is_set refl refl, (is_own refl refl refl, (is_set refl refl, (is_appended refl refl, tt))))))))))
-
-cache_image_keeps : AllKeep (codes "image") (rules caching)
-unfolding the_app top_app run_app demo_app trace_app cache_app replay_app contexts_app clap_on_literals
-cache_image_keeps = all_keep (codes "image") (rules caching) refl (is_set refl refl, (is_set refl refl, (is_set refl refl, (is_set refl refl, (is_set refl refl, (is_set refl refl, (is_set refl refl, (is_set refl refl, (is_own refl refl refl, (is_appended refl refl, tt))))))))))
+line_keeps : AllKeep (codes "line") (rules (of_guest caching))
+unfolding the_app top_app guest_app demo_app replay_app clap_on_literals
+line_keeps = all_keep (codes "line") (rules (of_guest caching)) refl (is_set refl refl, (is_set refl refl, (is_set refl refl, (is_set refl refl, (is_set refl refl, (is_set refl refl, (is_appended refl refl, (is_set refl refl, (is_set refl refl, (is_own refl refl refl, tt))))))))))
 
 replay_output_keeps : AllKeep (codes "output") (rules replaying)
-unfolding the_app top_app run_app demo_app trace_app cache_app replay_app contexts_app clap_on_literals
+unfolding the_app top_app guest_app demo_app replay_app clap_on_literals
 replay_output_keeps = all_keep (codes "output") (rules replaying) refl (is_set refl refl, (is_flag refl refl, (is_own refl refl refl, (is_set refl refl, tt))))
 
 replay_trace_keeps : AllKeep (codes "trace") (rules replaying)
-unfolding the_app top_app run_app demo_app trace_app cache_app replay_app contexts_app clap_on_literals
+unfolding the_app top_app guest_app demo_app replay_app clap_on_literals
 replay_trace_keeps = all_keep (codes "trace") (rules replaying) refl (is_set refl refl, (is_flag refl refl, (is_set refl refl, (is_own refl refl refl, tt))))
 
 number_keeps : AllKeep (codes "number") demo_shape.rules
-unfolding the_app top_app run_app demo_app trace_app cache_app replay_app contexts_app clap_on_literals
+unfolding the_app top_app guest_app demo_app replay_app clap_on_literals
 number_keeps = all_keep (codes "number") demo_shape.rules refl (is_own refl refl refl, tt)
 
 -- a row that is given and filled has a first value
@@ -287,17 +221,8 @@ abbrev DefaultsKeep : Text → Shape → Type 0
 DefaultsKeep id s = (rows : List Row) → row_for id (fold with_default rows s.rules) ≡ row_for id rows
 
 demo_defaults : (id : Text) → DefaultsKeep id demo_shape
-unfolding the_app top_app run_app demo_app trace_app cache_app replay_app contexts_app clap_on_literals
+unfolding the_app top_app guest_app demo_app replay_app clap_on_literals
 demo_defaults id rows = ap (row_for id) (no_defaults demo_shape.rules rows (refl, tt))
-
-trace_defaults : (id : Text) → DefaultsKeep id trace_shape
-trace_defaults id rows = ap (row_for id) (finished_trace rows)
-
-contexts_defaults : (id : Text) → DefaultsKeep id contexts_shape
-contexts_defaults id rows = ap (row_for id) (finished_contexts rows)
-
-cache_defaults : (id : Text) → DefaultsKeep id cache_shape
-cache_defaults id rows = ap (row_for id) (finished_cache rows)
 
 unset_elsewhere : (id : Text) (given : Bool) (rows : List Row) → bytes_eq (codes "stats") id ≡ false
     → row_for id (rows ++ unset_rows given) ≡ row_for id rows
@@ -305,11 +230,13 @@ unset_elsewhere id true [] apart = refl
 unset_elsewhere id false [] apart = rw apart refl
 unset_elsewhere id given (r ∷ rs) apart = ap (λ (o : Option Row). cond (bytes_eq r.id id) (Some r) o) (unset_elsewhere id given rs apart)
 
-run_defaults : (id : Text) → bytes_eq (codes "stats") id ≡ false → DefaultsKeep id run_shape
-run_defaults id apart rows = ap (row_for id) (finished_rows rows) ∙ unset_elsewhere id (has_row (codes "stats") rows) rows apart
+added_elsewhere : (id : Text) (has given : Bool) (rows : List Row) → bytes_eq (codes "stats") id ≡ false
+    → row_for id (rows ++ added_rows has given) ≡ row_for id rows
+added_elsewhere id true given rows apart = unset_elsewhere id given rows apart
+added_elsewhere id false given rows apart = ap (row_for id) (append-nil rows)
 
-replay_defaults : (id : Text) → bytes_eq (codes "stats") id ≡ false → DefaultsKeep id replay_shape
-replay_defaults id apart rows = ap (row_for id) (finished_replay rows) ∙ unset_elsewhere id (has_row (codes "stats") rows) rows apart
+defaults : (k : Subcommand) (id : Text) → bytes_eq (codes "stats") id ≡ false → DefaultsKeep id (shape k)
+defaults k id apart rows = ap (row_for id) (finished_rows k rows) ∙ added_elsewhere id (has_stats k) (has_row (codes "stats") rows) rows apart
 
 -- what a pass of a subcommand leaves
 rows_filled : (s : Shape) (id : Text) (rest : List Text) → DefaultsKeep id s → AllKeep id s.rules
@@ -341,52 +268,23 @@ bad_guest rows image i none =
     go (Some q) None h = inr refl
     go (Some q) (Some b) h = cc
 
-bad_number : (rows : List Row) (report image : Text) → first_of (codes "output") rows ≡ Some report → first_of (codes "image") rows ≡ Some image
-    → options_of_rows rows ≡ None → HasBadNumber rows
-bad_number rows report image r i none =
-    go (guest_of_rows rows) (bits_of (first_of (codes "stamps") rows)) refl refl
-    (sym (ap (λ x. options_with rows (guest_of_rows rows) x (bits_of (first_of (codes "stamps") rows))) r) ∙ none)
+-- the guest or what the command has beside is missing
+part_missing : (guest : Option GuestOptions) (output : Option Text) (path : Text) (analysis : Option Analysis) → output ≡ Some path → guest_asked_with guest output analysis ≡ None
+    → (guest ≡ None) ⊎ (analysis ≡ None)
+part_missing guest output path analysis is none = go guest analysis (sym (ap (λ o. guest_asked_with guest o analysis) is) ∙ none)
   where
-    go : (g : Option GuestOptions) (n : Option StampBits) → guest_of_rows rows ≡ g → bits_of (first_of (codes "stamps") rows) ≡ n
-        → options_with rows g (Some report) n ≡ None → HasBadNumber rows
-    go None n g_is n_is h = inl (bad_guest rows image i g_is)
-    go (Some g) None g_is n_is h = inr n_is
-    go (Some g) (Some n) g_is n_is h = cc
+    go : (g : Option GuestOptions) (a : Option Analysis) → guest_asked_with g (Some path) a ≡ None → (g ≡ None) ⊎ (a ≡ None)
+    go None a h = inl refl
+    go (Some g) None h = inr refl
+    go (Some g) (Some a) h = cc
 
-bad_contexts : (rows : List Row) (report image : Text) → first_of (codes "output") rows ≡ Some report → first_of (codes "image") rows ≡ Some image
-    → contexts_of_rows rows ≡ None → HasBadNumber rows
-bad_contexts rows report image r i none =
-    go (guest_of_rows rows) (bits_of (first_of (codes "stamps") rows)) refl refl
-    (sym (ap (λ x. contexts_with (guest_of_rows rows) x (bits_of (first_of (codes "stamps") rows))) r) ∙ none)
-  where
-    go : (g : Option GuestOptions) (n : Option StampBits) → guest_of_rows rows ≡ g → bits_of (first_of (codes "stamps") rows) ≡ n
-        → contexts_with g (Some report) n ≡ None → HasBadNumber rows
-    go None n g_is n_is h = inl (bad_guest rows image i g_is)
-    go (Some g) None g_is n_is h = inr n_is
-    go (Some g) (Some n) g_is n_is h = cc
+run_missing : (rows : List Row) (width : Option StampBits) → run_with rows width ≡ None → width ≡ None
+run_missing rows None h = refl
+run_missing rows (Some width) h = cc
 
-bad_steps : (rows : List Row) (path image : Text) → first_of (codes "output") rows ≡ Some path → first_of (codes "image") rows ≡ Some image
-    → trace_of_rows rows ≡ None → HasBadSteps rows
-bad_steps rows path image r i none =
-    go (guest_of_rows rows) refl (sym (ap (λ x. trace_with (guest_of_rows rows) x) r) ∙ none)
-  where
-    go : (g : Option GuestOptions) → guest_of_rows rows ≡ g → trace_with g (Some path) ≡ None → HasBadSteps rows
-    go None g_is h = bad_guest rows image i g_is
-    go (Some g) g_is h = cc
-
-bad_cache : (rows : List Row) (path image sets ways line : Text) → first_of (codes "output") rows ≡ Some path → first_of (codes "image") rows ≡ Some image
-    → first_of (codes "sets") rows ≡ Some sets → first_of (codes "ways") rows ≡ Some ways → first_of (codes "line") rows ≡ Some line
-    → cache_of_rows rows ≡ None → HasBadCache rows
-bad_cache rows path image sets ways line r i s w l none =
-    go (guest_of_rows rows) (shape_of_rows rows) refl refl (sym (ap (λ x. cache_with (guest_of_rows rows) (shape_of_rows rows) x) r) ∙ none)
-  where
-    said : shape_of_rows rows ≡ shape_said (Some sets) (Some ways) (Some line)
-    said = ap₂ (λ a b. shape_said a b (first_of (codes "line") rows)) s w ∙ ap (shape_said (Some sets) (Some ways)) l
-
-    go : (g : Option GuestOptions) (f : Option Form) → guest_of_rows rows ≡ g → shape_of_rows rows ≡ f → cache_with g f (Some path) ≡ None → HasBadCache rows
-    go None f g_is f_is h = inl (bad_guest rows image i g_is)
-    go (Some g) None g_is f_is h = inr (sets, ways, line, s, w, l, sym said ∙ f_is)
-    go (Some g) (Some f) g_is f_is h = cc
+none_mapped : {A : Type 0} (f : A → Analysis) (o : Option A) → option_map f o ≡ None → o ≡ None
+none_mapped f None h = refl
+none_mapped f (Some x) h = cc
 
 bad_width : (rows : List Row) (path trace : Text) → first_of (codes "output") rows ≡ Some path → first_of (codes "trace") rows ≡ Some trace
     → replay_of_rows rows ≡ None → HasBadWidth rows
@@ -398,22 +296,6 @@ bad_width rows path trace r t none =
     go None n_is h = n_is
     go (Some n) n_is h = cc
 
-no_run : (o : Option RunOptions) → option_map Run o ≡ None → o ≡ None
-no_run None h = refl
-no_run (Some x) h = cc
-
-no_trace : (o : Option TraceOptions) → option_map Trace o ≡ None → o ≡ None
-no_trace None h = refl
-no_trace (Some x) h = cc
-
-no_contexts : (o : Option ContextsOptions) → option_map Contexts o ≡ None → o ≡ None
-no_contexts None h = refl
-no_contexts (Some x) h = cc
-
-no_cache : (o : Option CacheOptions) → option_map Cache o ≡ None → o ≡ None
-no_cache None h = refl
-no_cache (Some x) h = cc
-
 no_replay : (o : Option ReplayOptions) → option_map Replay o ≡ None → o ≡ None
 no_replay None h = refl
 no_replay (Some x) h = cc
@@ -422,48 +304,43 @@ no_demo : (o : Option ℕ) → option_map Demo o ≡ None → o ≡ None
 no_demo None h = refl
 no_demo (Some x) h = cc
 
-run_fails : (found : Option (Text × List Row)) → Enters run_shape found → read_of found ≡ None
-    → (rows : List Row) × (found ≡ Some (codes "run", rows)) × HasBadNumber rows
-run_fails found enters none =
-    let rows = rows_after (rules running) [] enters.rest in
-    let found_is : found ≡ Some (codes "run", rows) = enters.found_is ∙ ap (λ (name : Text). Some (name, rows)) run_is_named in
-    let needs = run_requires rows (rows_valid run_shape enters.rest enters.passes) in
-    let report = first_there (row_for (codes "output") rows) needs.0 (rows_filled run_shape (codes "output") enters.rest (run_defaults (codes "output") refl) output_keeps enters.passes) in
-    let image = first_there (row_for (codes "image") rows) needs.1 (rows_filled run_shape (codes "image") enters.rest (run_defaults (codes "image") refl) image_keeps enters.passes) in
-    (rows, found_is, bad_number rows report.0 image.0 report.1 image.1 (no_run (options_of_rows rows) (sym (ap read_of found_is) ∙ none)))
+-- what a command has beside fails by its numbers
+own_fails : (g : GuestCommand) (rest : List Text) → level_passes (shape (of_guest g)) [] nothing_held rest false ≡ true
+    → analysis_of_rows (plain.name_of g) (rows_after (rules (of_guest g)) [] rest) ≡ None → HasBadNumber g (rows_after (rules (of_guest g)) [] rest)
+own_fails running rest passes none = run_missing (rows_after (rules (of_guest running)) [] rest) _ none
+own_fails tracing rest passes none = absurd (cc none)
+own_fails caching rest passes none =
+    let k = of_guest caching in
+    let rows = rows_after (rules k) [] rest in
+    let needs = cache_requires rows (rows_valid (shape k) rest passes) in
+    let sets = first_there (row_for (codes "sets") rows) needs.0 (rows_filled (shape k) (codes "sets") rest (defaults k (codes "sets") refl) sets_keeps passes) in
+    let ways = first_there (row_for (codes "ways") rows) needs.1 (rows_filled (shape k) (codes "ways") rest (defaults k (codes "ways") refl) ways_keeps passes) in
+    let line = first_there (row_for (codes "line") rows) needs.2 (rows_filled (shape k) (codes "line") rest (defaults k (codes "line") refl) line_keeps passes) in
+    let said : shape_of_rows rows ≡ shape_said (Some sets.0) (Some ways.0) (Some line.0) =
+    ap₂ (λ a b. shape_said a b (first_of (codes "line") rows)) sets.1 ways.1 ∙ ap (shape_said (Some sets.0) (Some ways.0)) line.1 in
+    (sets.0, ways.0, line.0, sets.1, ways.1, line.1, sym said ∙ none_mapped Analysis.Cache (shape_of_rows rows) none)
+own_fails telling rest passes none = none_mapped Analysis.Contexts _ none
 
-trace_fails : (found : Option (Text × List Row)) → Enters trace_shape found → read_of found ≡ None
-    → (rows : List Row) × (found ≡ Some (codes "trace", rows)) × HasBadSteps rows
-trace_fails found enters none =
-    let rows = rows_after (rules tracing) [] enters.rest in
-    let found_is : found ≡ Some (codes "trace", rows) = enters.found_is ∙ ap (λ (name : Text). Some (name, rows)) trace_is_named in
-    let needs = trace_requires rows (rows_valid trace_shape enters.rest enters.passes) in
-    let path = first_there (row_for (codes "output") rows) needs.0 (rows_filled trace_shape (codes "output") enters.rest (trace_defaults (codes "output")) trace_output_keeps enters.passes) in
-    let image = first_there (row_for (codes "image") rows) needs.1 (rows_filled trace_shape (codes "image") enters.rest (trace_defaults (codes "image")) trace_image_keeps enters.passes) in
-    (rows, found_is, bad_steps rows path.0 image.0 path.1 image.1 (no_trace (trace_of_rows rows) (sym (ap read_of found_is) ∙ none)))
-
-contexts_fails : (found : Option (Text × List Row)) → Enters contexts_shape found → read_of found ≡ None
-    → (rows : List Row) × (found ≡ Some (codes "contexts", rows)) × HasBadNumber rows
-contexts_fails found enters none =
-    let rows = rows_after (rules telling) [] enters.rest in
-    let found_is : found ≡ Some (codes "contexts", rows) = enters.found_is ∙ ap (λ (name : Text). Some (name, rows)) contexts_is_named in
-    let needs = contexts_requires rows (rows_valid contexts_shape enters.rest enters.passes) in
-    let report = first_there (row_for (codes "output") rows) needs.0 (rows_filled contexts_shape (codes "output") enters.rest (contexts_defaults (codes "output")) contexts_output_keeps enters.passes) in
-    let image = first_there (row_for (codes "image") rows) needs.1 (rows_filled contexts_shape (codes "image") enters.rest (contexts_defaults (codes "image")) contexts_image_keeps enters.passes) in
-    (rows, found_is, bad_contexts rows report.0 image.0 report.1 image.1 (no_contexts (contexts_of_rows rows) (sym (ap read_of found_is) ∙ none)))
-
-cache_fails : (found : Option (Text × List Row)) → Enters cache_shape found → read_of found ≡ None
-    → (rows : List Row) × (found ≡ Some (codes "cache", rows)) × HasBadCache rows
-cache_fails found enters none =
-    let rows = rows_after (rules caching) [] enters.rest in
-    let found_is : found ≡ Some (codes "cache", rows) = enters.found_is ∙ ap (λ (name : Text). Some (name, rows)) cache_is_named in
-    let needs = cache_requires rows (rows_valid cache_shape enters.rest enters.passes) in
-    let sets = first_there (row_for (codes "sets") rows) needs.0 (rows_filled cache_shape (codes "sets") enters.rest (cache_defaults (codes "sets")) cache_sets_keeps enters.passes) in
-    let ways = first_there (row_for (codes "ways") rows) needs.1 (rows_filled cache_shape (codes "ways") enters.rest (cache_defaults (codes "ways")) cache_ways_keeps enters.passes) in
-    let line = first_there (row_for (codes "line") rows) needs.2 (rows_filled cache_shape (codes "line") enters.rest (cache_defaults (codes "line")) cache_line_keeps enters.passes) in
-    let path = first_there (row_for (codes "output") rows) needs.3 (rows_filled cache_shape (codes "output") enters.rest (cache_defaults (codes "output")) cache_output_keeps enters.passes) in
-    let image = first_there (row_for (codes "image") rows) needs.4 (rows_filled cache_shape (codes "image") enters.rest (cache_defaults (codes "image")) cache_image_keeps enters.passes) in
-    (rows, found_is, bad_cache rows path.0 image.0 sets.0 ways.0 line.0 path.1 image.1 sets.1 ways.1 line.1 (no_cache (cache_of_rows rows) (sym (ap read_of found_is) ∙ none)))
+guest_fails : (g : GuestCommand) (found : Option (Text × List Row)) → Enters (shape (of_guest g)) found → read_of found ≡ None
+    → IsFound found (plain.name_of g) (λ rows. HasBadSteps rows ⊎ HasBadNumber g rows)
+guest_fails g found enters none =
+    let k = of_guest g in
+    let rows = rows_after (rules k) [] enters.rest in
+    let needs = guest_requires g rows (rows_valid (shape k) enters.rest enters.passes) in
+    let output = first_there (row_for (codes "output") rows) needs.0 (rows_filled (shape k) (codes "output") enters.rest (defaults k (codes "output") refl) (output_keeps g) enters.passes) in
+    let image = first_there (row_for (codes "image") rows) needs.1 (rows_filled (shape k) (codes "image") enters.rest (defaults k (codes "image") refl) (image_keeps g) enters.passes) in (
+      rows,
+      enters.found_is,
+      by rows image.0 image.1 (own_fails g enters.rest enters.passes)
+          (part_missing (guest_of_rows rows) (first_of (codes "output") rows) output.0 (analysis_of_rows (plain.name_of g) rows) output.1
+          (sym (asked_by_name g rows) ∙ sym (ap read_of enters.found_is) ∙ none)),
+    )
+  where
+    by : (rows : List Row) (image : Text) → first_of (codes "image") rows ≡ Some image
+        → (analysis_of_rows (plain.name_of g) rows ≡ None → HasBadNumber g rows)
+        → (guest_of_rows rows ≡ None) ⊎ (analysis_of_rows (plain.name_of g) rows ≡ None) → HasBadSteps rows ⊎ HasBadNumber g rows
+    by rows image is own (inl guest) = inl (bad_guest rows image is guest)
+    by rows image is own (inr analysis) = inr (own analysis)
 
 replay_fails : (found : Option (Text × List Row)) → Enters replay_shape found → read_of found ≡ None
     → (rows : List Row) × (found ≡ Some (codes "replay", rows)) × HasBadWidth rows
@@ -471,8 +348,8 @@ replay_fails found enters none =
     let rows = rows_after (rules replaying) [] enters.rest in
     let found_is : found ≡ Some (codes "replay", rows) = enters.found_is ∙ ap (λ (name : Text). Some (name, rows)) replay_is_named in
     let needs = replay_requires rows (rows_valid replay_shape enters.rest enters.passes) in
-    let path = first_there (row_for (codes "output") rows) needs.0 (rows_filled replay_shape (codes "output") enters.rest (replay_defaults (codes "output") refl) replay_output_keeps enters.passes) in
-    let trace = first_there (row_for (codes "trace") rows) needs.1 (rows_filled replay_shape (codes "trace") enters.rest (replay_defaults (codes "trace") refl) replay_trace_keeps enters.passes) in
+    let path = first_there (row_for (codes "output") rows) needs.0 (rows_filled replay_shape (codes "output") enters.rest (defaults replaying (codes "output") refl) replay_output_keeps enters.passes) in
+    let trace = first_there (row_for (codes "trace") rows) needs.1 (rows_filled replay_shape (codes "trace") enters.rest (defaults replaying (codes "trace") refl) replay_trace_keeps enters.passes) in
     (rows, found_is, bad_width rows path.0 trace.0 path.1 trace.1 (no_replay (replay_of_rows rows) (sym (ap read_of found_is) ∙ none)))
 
 demo_fails : (found : Option (Text × List Row)) → Enters demo_shape found → read_of found ≡ None
@@ -494,11 +371,11 @@ fails_by_numbers words taken zeros none = go (taken_enters words taken)
     read_none : read_of found ≡ None
     read_none = sym (asked_is words zeros) ∙ none
 
-    go : EntersOne (run_shape ∷ demo_shape ∷ trace_shape ∷ cache_shape ∷ replay_shape ∷ contexts_shape ∷ []) found → FailsByNumber found
-    go (inl enters) = inl (run_fails found enters read_none)
-    go (inr (inl enters)) = inr (inr (inr (inr (inr (demo_fails found enters read_none)))))
-    go (inr (inr (inl enters))) = inr (inl (trace_fails found enters read_none))
-    go (inr (inr (inr (inl enters)))) = inr (inr (inl (cache_fails found enters read_none)))
-    go (inr (inr (inr (inr (inl enters))))) = inr (inr (inr (inl (replay_fails found enters read_none))))
-    go (inr (inr (inr (inr (inr (inl enters)))))) = inr (inr (inr (inr (inl (contexts_fails found enters read_none)))))
+    go : EntersOne subcommands found → FailsByNumber found
+    go (inl enters) = inl (running, guest_fails running found enters read_none)
+    go (inr (inl enters)) = inr (inr (demo_fails found enters read_none))
+    go (inr (inr (inl enters))) = inl (tracing, guest_fails tracing found enters read_none)
+    go (inr (inr (inr (inl enters)))) = inl (caching, guest_fails caching found enters read_none)
+    go (inr (inr (inr (inr (inl enters))))) = inr (inl (replay_fails found enters read_none))
+    go (inr (inr (inr (inr (inr (inl enters)))))) = inl (telling, guest_fails telling found enters read_none)
     go (inr (inr (inr (inr (inr (inr none')))))) = absurd none'

@@ -31,36 +31,32 @@ word_rule = record (new_rule (codes "word")) {
   range = Some (record { start_inclusive = 0; end_inclusive = usize_max });
 }
 
--- `run` with its options, the image and the further words
-unfoldable pub run_app : App
-run_app = with_rule (with_rule (with_rule (with_rule (with_rule (with_rule (with_rule (with_rule (with_rule (with_rule
-    (new_app (codes "run")) (value_rule (codes "stdin"))) (value_rule (codes "quantum"))) (value_rule (codes "schedule")))
-    (value_rule (codes "record"))) (value_rule (codes "budget"))) (value_rule (codes "stamps"))) (flag_rule (codes "stats")))
-    output_rule) (required_rule (codes "image"))) word_rule
-
--- `trace` with its options, the image and the further words
-unfoldable pub trace_app : App
-trace_app = with_rule (with_rule (with_rule (with_rule (with_rule (with_rule (with_rule
-    (new_app (codes "trace")) (value_rule (codes "stdin"))) (value_rule (codes "quantum"))) (value_rule (codes "schedule")))
+-- A command of this name that runs a guest: how the guest is run, where the result is stored, the image and the further words.
+unfoldable pub guest_app : Text → App
+guest_app name = with_rule (with_rule (with_rule (with_rule (with_rule (with_rule (with_rule
+    (new_app name) (value_rule (codes "stdin"))) (value_rule (codes "quantum"))) (value_rule (codes "schedule")))
     (value_rule (codes "budget"))) output_rule) (required_rule (codes "image"))) word_rule
 
--- `cache` with its options, the image and the further words
-unfoldable pub cache_app : App
-cache_app = with_rule (with_rule (with_rule (with_rule (with_rule (with_rule (with_rule (with_rule (with_rule (with_rule
-    (new_app (codes "cache")) (value_rule (codes "stdin"))) (value_rule (codes "quantum"))) (value_rule (codes "schedule")))
-    (value_rule (codes "budget"))) (required_option (codes "sets"))) (required_option (codes "ways")))
-    (required_option (codes "line"))) output_rule) (required_rule (codes "image"))) word_rule
+-- `run`, with what it has beside
+abbrev pub run_app : App
+run_app = with_rule (with_rule (with_rule (guest_app (codes "run")) (value_rule (codes "record"))) (value_rule (codes "stamps"))) (flag_rule (codes "stats"))
+
+-- `trace`, which has nothing beside
+abbrev pub trace_app : App
+trace_app = guest_app (codes "trace")
+
+-- `cache`, with its shape
+abbrev pub cache_app : App
+cache_app = with_rule (with_rule (with_rule (guest_app (codes "cache")) (required_option (codes "sets"))) (required_option (codes "ways"))) (required_option (codes "line"))
+
+-- `contexts`, with the width of stamps
+abbrev pub contexts_app : App
+contexts_app = with_rule (guest_app (codes "contexts")) (value_rule (codes "stamps"))
 
 -- `replay` with its options and the trace
 unfoldable pub replay_app : App
 replay_app = with_rule (with_rule (with_rule (with_rule (new_app (codes "replay")) (value_rule (codes "stamps"))) (flag_rule (codes "stats")))
     output_rule) (required_rule (codes "trace"))
-
--- `contexts` with its options, the image and the further words
-unfoldable pub contexts_app : App
-contexts_app = with_rule (with_rule (with_rule (with_rule (with_rule (with_rule (with_rule (with_rule
-    (new_app (codes "contexts")) (value_rule (codes "stdin"))) (value_rule (codes "quantum"))) (value_rule (codes "schedule")))
-    (value_rule (codes "budget"))) (value_rule (codes "stamps"))) output_rule) (required_rule (codes "image"))) word_rule
 
 -- `demo` with its number
 unfoldable pub demo_app : App

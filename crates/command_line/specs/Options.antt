@@ -24,12 +24,8 @@ pub record GuestOptions : Type 0 where
   pub image : List ℕ
   pub words : List (List ℕ)
 
--- What `run` is asked.
+-- What `run` is asked beside.
 pub record RunOptions : Type 0 where
-  -- how the guest is run
-  pub guest : GuestOptions
-  -- the path of the report
-  pub report : List ℕ
   -- the path of a recording to write
   pub recording : Option (List ℕ)
   -- the width of stamps
@@ -37,30 +33,13 @@ pub record RunOptions : Type 0 where
   -- whether the number of renumberings is to be put
   pub stats : Bool
 
--- What `trace` is asked.
-pub record TraceOptions : Type 0 where
-  -- how the guest is run
-  pub guest : GuestOptions
-  -- the path of the trace
-  pub trace : List ℕ
-
--- What `cache` is asked.
-pub record CacheOptions : Type 0 where
-  -- how the guest is run
-  pub guest : GuestOptions
-  -- the shape of the cache
-  pub shape : Form
-  -- the path of the report
-  pub report : List ℕ
-
--- What `contexts` is asked.
-pub record ContextsOptions : Type 0 where
-  -- how the guest is run
-  pub guest : GuestOptions
-  -- the path of the report and the contexts
-  pub report : List ℕ
-  -- the width of stamps
-  pub bits : StampBits
+-- What is made of a guest's run, by what a command has beside how its guest is run: the report of `run`, the trace, the misses of
+-- a cache of this shape, or the report with its calling contexts by stamps of this width.
+pub data Analysis : Type 0 where
+  Run : RunOptions → Analysis
+  Trace : Analysis
+  Cache : Form → Analysis
+  Contexts : StampBits → Analysis
 
 -- What `replay` is asked.
 pub record ReplayOptions : Type 0 where
@@ -161,32 +140,6 @@ guest_of_rows rows = guest_with rows
     (budget_of (first_of (codes "budget") rows))
     (first_of (codes "image") rows)
 
--- the options of `run` with these of the guest, this path and this width, where all are there; the rest is read of the rows
-abbrev pub options_with : List Row → Option GuestOptions → Option (List ℕ) → Option StampBits → Option RunOptions
-options_with rows (Some guest) (Some report) (Some bits) = Some (record {
-  guest = guest;
-  report = report;
-  recording = first_of (codes "record") rows;
-  bits = bits;
-  stats = has_flag (codes "stats") rows;
-})
-options_with rows _ _ _ = None
-
--- the options of `run` that `clap`'s matches say
-abbrev pub options_of_rows : List Row → Option RunOptions
-options_of_rows rows = options_with rows (guest_of_rows rows)
-    (first_of (codes "output") rows)
-    (bits_of (first_of (codes "stamps") rows))
-
--- the options of `trace` with these of the guest and this path, where both are there
-abbrev pub trace_with : Option GuestOptions → Option (List ℕ) → Option TraceOptions
-trace_with (Some guest) (Some trace) = Some (record { guest = guest; trace = trace })
-trace_with _ _ = None
-
--- the options of `trace` that `clap`'s matches say
-abbrev pub trace_of_rows : List Row → Option TraceOptions
-trace_of_rows rows = trace_with (guest_of_rows rows) (first_of (codes "output") rows)
-
 -- the number that a text says, 1 to the greatest
 abbrev pub number_to : ℕ → Option (List ℕ) → Option ℕ
 number_to greatest text = option_and_then (number_between 1 greatest) text
@@ -204,23 +157,19 @@ shape_said sets ways line = shape_with (number_to SETS sets) (number_to WAYS way
 abbrev pub shape_of_rows : List Row → Option Form
 shape_of_rows rows = shape_said (first_of (codes "sets") rows) (first_of (codes "ways") rows) (first_of (codes "line") rows)
 
--- the options of `cache` with these of the guest, this shape and this path, where all are there
-abbrev pub cache_with : Option GuestOptions → Option Form → Option (List ℕ) → Option CacheOptions
-cache_with (Some guest) (Some shape) (Some report) = Some (record { guest = guest; shape = shape; report = report })
-cache_with _ _ _ = None
+-- what `run` is asked beside, with this width, where that is there; the rest is read of the rows
+abbrev pub run_with : List Row → Option StampBits → Option Analysis
+run_with rows (Some bits) = Some (Run (record { recording = first_of (codes "record") rows; bits = bits; stats = has_flag (codes "stats") rows }))
+run_with rows None = None
 
--- the options of `cache` that `clap`'s matches say
-abbrev pub cache_of_rows : List Row → Option CacheOptions
-cache_of_rows rows = cache_with (guest_of_rows rows) (shape_of_rows rows) (first_of (codes "output") rows)
-
--- the options of `contexts` with these of the guest, this path and this width, where all are there
-abbrev pub contexts_with : Option GuestOptions → Option (List ℕ) → Option StampBits → Option ContextsOptions
-contexts_with (Some guest) (Some report) (Some bits) = Some (record { guest = guest; report = report; bits = bits })
-contexts_with _ _ _ = None
-
--- the options of `contexts` that `clap`'s matches say
-abbrev pub contexts_of_rows : List Row → Option ContextsOptions
-contexts_of_rows rows = contexts_with (guest_of_rows rows) (first_of (codes "output") rows) (bits_of (first_of (codes "stamps") rows))
+-- what the command of this name makes of its guest's run, by `clap`'s matches
+abbrev pub analysis_of_rows : List ℕ → List Row → Option Analysis
+analysis_of_rows name rows =
+    if bytes_eq name (codes "run") then run_with rows (bits_of (first_of (codes "stamps") rows))
+    else if bytes_eq name (codes "trace") then Some Trace
+    else if bytes_eq name (codes "cache") then option_map Cache (shape_of_rows rows)
+    else if bytes_eq name (codes "contexts") then option_map Contexts (bits_of (first_of (codes "stamps") rows))
+    else None
 
 -- the options of `replay` with this trace, this path and this width, where all are there; the rest is read of the rows
 abbrev pub replay_with : List Row → Option (List ℕ) → Option (List ℕ) → Option StampBits → Option ReplayOptions
@@ -243,26 +192,28 @@ demo_of_rows rows = option_and_then demo_of (first_of (codes "number") rows)
 
 -- ---- the words
 
--- What the words ask for: a run, the trace of a run, the cache misses of a run, the calling contexts of a run, the report of a
--- stored trace, or the demo of a number.
+-- What the words ask for: a guest's run, with the path of what is stored of it and what is made of it, the report of a stored
+-- trace, or the demo of a number.
 pub data Asked : Type 0 where
-  Run : RunOptions → Asked
-  Trace : TraceOptions → Asked
-  Cache : CacheOptions → Asked
-  Contexts : ContextsOptions → Asked
+  Guest : GuestOptions → List ℕ → Analysis → Asked
   Replay : ReplayOptions → Asked
   Demo : ℕ → Asked
+
+-- the run of this guest, with this path and analysis, where all are there
+abbrev pub guest_asked_with : Option GuestOptions → Option (List ℕ) → Option Analysis → Option Asked
+guest_asked_with (Some guest) (Some output) (Some analysis) = Some (Guest guest output analysis)
+guest_asked_with _ _ _ = None
+
+-- what a command that runs a guest asks for, by its name and its matches
+abbrev pub guest_asked_of_rows : List ℕ → List Row → Option Asked
+guest_asked_of_rows name rows = guest_asked_with (guest_of_rows rows) (first_of (codes "output") rows) (analysis_of_rows name rows)
 
 -- what a subcommand asks for, by its name and its matches
 abbrev pub asked_of_rows : List ℕ → List Row → Option Asked
 asked_of_rows name rows =
-    if bytes_eq name (codes "run") then option_map Run (options_of_rows rows)
-    else if bytes_eq name (codes "trace") then option_map Trace (trace_of_rows rows)
-    else if bytes_eq name (codes "cache") then option_map Cache (cache_of_rows rows)
-    else if bytes_eq name (codes "contexts") then option_map Contexts (contexts_of_rows rows)
-    else if bytes_eq name (codes "replay") then option_map Replay (replay_of_rows rows)
+    if bytes_eq name (codes "replay") then option_map Replay (replay_of_rows rows)
     else if bytes_eq name (codes "demo") then option_map Demo (demo_of_rows rows)
-    else None
+    else guest_asked_of_rows name rows
 
 abbrev pub has_zero : List ℕ → Bool
 has_zero word = list_any (λ byte. byte == 0) word

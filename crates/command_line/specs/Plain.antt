@@ -1,13 +1,26 @@
 -- Plain words of the commands, and what is read of them.
-use Rattle.std.specs.Prelude.{◌≡◌, ◌<◌, ◌^◌, ◌==◌, ◌⊎◌, ℕ, Bool, true, false, not, length, if◌then◌else◌, List, [], ◌∷◌, ◌++◌, Option, Some, None, codes}
+use Rattle.std.specs.Prelude.{◌≡◌, ◌<◌, ◌^◌, ◌==◌, ◌⊎◌, ℕ, Bool, true, false, not, length, if◌then◌else◌, List, [], ◌∷◌, ◌++◌, Option, Some, None, option_map, codes}
 use Rattle.std.specs.List.{list_all, list_any}
 use Rattle.std.specs.Option.{option_map_or}
 use Rattle.std.specs.Str.{bytes_eq}
-use Rattle.cache_lines.specs.Shapes.{Form}
 use Rattle.stamps.specs.declared.width.StampBits.{StampBits}
 use Rattle.clap.specs.Words.{Text, takes}
 use Rattle.command_line.specs.App.{the_app}
-use Rattle.command_line.specs.Options.{Asked, GuestOptions, asked_of, bits_of, budget_of, demo_of, has_zero, quantum_of, shape_said}
+use Rattle.command_line.specs.Options.{Analysis, Asked, GuestOptions, asked_of, bits_of, budget_of, demo_of, has_zero, quantum_of, shape_said}
+
+-- The commands that run a guest.
+pub data GuestCommand : Type 0 where
+  running : GuestCommand
+  tracing : GuestCommand
+  caching : GuestCommand
+  telling : GuestCommand
+
+-- its name
+abbrev pub name_of : GuestCommand → Text
+name_of running = codes "run"
+name_of tracing = codes "trace"
+name_of caching = codes "cache"
+name_of telling = codes "contexts"
 
 -- an option of a command that runs a guest, with its value where it takes one
 pub data Choice : Type 0 where
@@ -69,25 +82,18 @@ abbrev pub choice_words : List Choice → List Text
 choice_words [] = []
 choice_words (c ∷ cs) = words_of c ++ choice_words cs
 
--- the words of a whole command line: the program's name, `run`, the options, the image and the further words
-abbrev pub run_words : Text → List Choice → Text → List Text → List Text
-run_words program choices image words = program ∷ codes "run" ∷ (choice_words choices ++ image ∷ words)
+-- the words of a whole command line: the program's name, that of the command, the options, the path behind them and the further
+-- words
+abbrev pub named_words : Text → Text → List Choice → Text → List Text → List Text
+named_words name program choices path words = program ∷ name ∷ (choice_words choices ++ path ∷ words)
 
--- the same of `trace`
-abbrev pub trace_words : Text → List Choice → Text → List Text → List Text
-trace_words program choices image words = program ∷ codes "trace" ∷ (choice_words choices ++ image ∷ words)
-
--- and of `cache`
-abbrev pub cache_words : Text → List Choice → Text → List Text → List Text
-cache_words program choices image words = program ∷ codes "cache" ∷ (choice_words choices ++ image ∷ words)
-
--- and of `contexts`
-abbrev pub contexts_words : Text → List Choice → Text → List Text → List Text
-contexts_words program choices image words = program ∷ codes "contexts" ∷ (choice_words choices ++ image ∷ words)
+-- those of a command that runs a guest, with its image
+abbrev pub guest_words : GuestCommand → Text → List Choice → Text → List Text → List Text
+guest_words command = named_words (name_of command)
 
 -- and of `replay`, with the trace behind the options
 abbrev pub replay_words : Text → List Choice → Text → List Text
-replay_words program choices trace = program ∷ codes "replay" ∷ (choice_words choices ++ trace ∷ [])
+replay_words program choices trace = named_words (codes "replay") program choices trace []
 
 -- the option says how a guest is run, or where the result is stored
 abbrev pub is_of_all : Choice → Bool
@@ -98,28 +104,16 @@ is_of_all (budget v) = true
 is_of_all (report v) = true
 is_of_all _ = false
 
--- the option is one of `run`
-abbrev pub is_of_run : Choice → Bool
-is_of_run (recording v) = true
-is_of_run (stamps v) = true
-is_of_run stats = true
-is_of_run c = is_of_all c
-
--- the option is one of `trace`
-abbrev pub is_of_trace : Choice → Bool
-is_of_trace c = is_of_all c
-
--- the option is one of `cache`
-abbrev pub is_of_cache : Choice → Bool
-is_of_cache (sets v) = true
-is_of_cache (ways v) = true
-is_of_cache (line v) = true
-is_of_cache c = is_of_all c
-
--- the option is one of `contexts`
-abbrev pub is_of_contexts : Choice → Bool
-is_of_contexts (stamps v) = true
-is_of_contexts c = is_of_all c
+-- the option is one of the command
+abbrev pub is_of : GuestCommand → Choice → Bool
+is_of running (recording v) = true
+is_of running (stamps v) = true
+is_of running stats = true
+is_of caching (sets v) = true
+is_of caching (ways v) = true
+is_of caching (line v) = true
+is_of telling (stamps v) = true
+is_of command c = is_of_all c
 
 -- the option is one of `replay`
 abbrev pub is_of_replay : Choice → Bool
@@ -155,11 +149,21 @@ pub record ArePlain (choices : List Choice) (image : Text) (words : List Text) :
   -- as many as a list in memory can have
   pub few : length words < 2 ^ 64
 
--- Plain words are taken, where each option is one of `run` and the report's path is among them.
+-- the options that the command has to have
+abbrev pub required : GuestCommand → List Text
+required caching = codes "sets" ∷ codes "ways" ∷ codes "line" ∷ codes "output" ∷ []
+required command = codes "output" ∷ []
+
+-- they are among the choices
+abbrev pub HasRequired : GuestCommand → List Choice → Type 0
+HasRequired command choices = list_all (λ id. is_chosen id choices) (required command) ≡ true
+
+-- Plain words of a command that runs a guest are taken, where each option is one of the command and those that it has to have are
+-- among them.
 abbrev pub PlainWordsAreTaken : Type 0
-PlainWordsAreTaken = (program : Text) (choices : List Choice) (image : Text) (words : List Text)
-    → ArePlain choices image words → list_all is_of_run choices ≡ true → is_chosen (codes "output") choices ≡ true
-    → takes the_app (run_words program choices image words) ≡ true
+PlainWordsAreTaken = (command : GuestCommand) (program : Text) (choices : List Choice) (image : Text) (words : List Text)
+    → ArePlain choices image words → list_all (is_of command) choices ≡ true → HasRequired command choices
+    → takes the_app (guest_words command program choices image words) ≡ true
 
 -- the value that the choices give an argument
 abbrev pub given : Text → List Choice → Option Text
@@ -177,85 +181,29 @@ guest_given choices turn_steps run_steps image words = record {
   words = words;
 }
 
--- The options of plain words are the values in the words, the defaults of the numbers that are left out, and whether
--- `--stats` is among the words.
+-- what the choices ask `run` beside, with this width
+abbrev pub run_given : List Choice → StampBits → Analysis
+run_given choices width =
+    Analysis.Run (record { recording = given (codes "record") choices; bits = width; stats = is_chosen (codes "stats") choices })
+
+-- what the command makes of its guest's run, by the choices: the values in the words, the width of 32 bits where none is given, and
+-- whether `--stats` is among the words
+abbrev pub analysis_given : GuestCommand → List Choice → Option Analysis
+analysis_given running choices = option_map (run_given choices) (bits_of (given (codes "stamps") choices))
+analysis_given tracing choices = Some Analysis.Trace
+analysis_given caching choices =
+    option_map Analysis.Cache (shape_said (given (codes "sets") choices) (given (codes "ways") choices) (given (codes "line") choices))
+analysis_given telling choices = option_map Analysis.Contexts (bits_of (given (codes "stamps") choices))
+
+-- The options of plain words are the values in the words, and the defaults of the numbers that are left out.
 abbrev pub PlainOptionsAreRead : Type 0
-PlainOptionsAreRead = (program : Text) (choices : List Choice) (image : Text) (words : List Text)
-    → ArePlain choices image words → list_all is_of_run choices ≡ true → list_any has_zero (run_words program choices image words) ≡ false
-    → (report_path : Text) (turn_steps run_steps : ℕ) (width : StampBits) → given (codes "output") choices ≡ Some report_path
+PlainOptionsAreRead = (command : GuestCommand) (program : Text) (choices : List Choice) (image : Text) (words : List Text)
+    → ArePlain choices image words → list_all (is_of command) choices ≡ true → list_any has_zero (guest_words command program choices image words) ≡ false
+    → (output : Text) (turn_steps run_steps : ℕ) (analysis : Analysis) → given (codes "output") choices ≡ Some output
     → quantum_of (given (codes "quantum") choices) ≡ Some turn_steps
     → budget_of (given (codes "budget") choices) ≡ Some run_steps
-    → bits_of (given (codes "stamps") choices) ≡ Some width
-    → asked_of (run_words program choices image words) ≡ Some (Asked.Run (record {
-      guest = guest_given choices turn_steps run_steps image words;
-      report = report_path;
-      recording = given (codes "record") choices;
-      bits = width;
-      stats = is_chosen (codes "stats") choices;
-    }))
-
--- ---- `trace`
--- Plain words are taken, where each option is one of `trace` and the path of the trace is among them.
-abbrev pub PlainTraceIsTaken : Type 0
-PlainTraceIsTaken = (program : Text) (choices : List Choice) (image : Text) (words : List Text)
-    → ArePlain choices image words → list_all is_of_trace choices ≡ true → is_chosen (codes "output") choices ≡ true
-    → takes the_app (trace_words program choices image words) ≡ true
-
--- The options are the values in the words, and the defaults of the numbers that are left out.
-abbrev pub PlainTraceIsRead : Type 0
-PlainTraceIsRead = (program : Text) (choices : List Choice) (image : Text) (words : List Text)
-    → ArePlain choices image words → list_all is_of_trace choices ≡ true → list_any has_zero (trace_words program choices image words) ≡ false
-    → (trace_path : Text) (turn_steps run_steps : ℕ) → given (codes "output") choices ≡ Some trace_path
-    → quantum_of (given (codes "quantum") choices) ≡ Some turn_steps
-    → budget_of (given (codes "budget") choices) ≡ Some run_steps
-    → asked_of (trace_words program choices image words) ≡ Some (Asked.Trace (record {
-      guest = guest_given choices turn_steps run_steps image words;
-      trace = trace_path;
-    }))
-
--- ---- `cache`
--- Plain words are taken, where each option is one of `cache`, and the shape of the cache and the path of the report are among
--- them.
-abbrev pub PlainCacheIsTaken : Type 0
-PlainCacheIsTaken = (program : Text) (choices : List Choice) (image : Text) (words : List Text)
-    → ArePlain choices image words → list_all is_of_cache choices ≡ true
-    → is_chosen (codes "sets") choices ≡ true → is_chosen (codes "ways") choices ≡ true → is_chosen (codes "line") choices ≡ true
-    → is_chosen (codes "output") choices ≡ true → takes the_app (cache_words program choices image words) ≡ true
-
--- The options are the values in the words, and the defaults of the numbers that are left out.
-abbrev pub PlainCacheIsRead : Type 0
-PlainCacheIsRead = (program : Text) (choices : List Choice) (image : Text) (words : List Text)
-    → ArePlain choices image words → list_all is_of_cache choices ≡ true → list_any has_zero (cache_words program choices image words) ≡ false
-    → (report_path : Text) (shape : Form) (turn_steps run_steps : ℕ) → given (codes "output") choices ≡ Some report_path
-    → shape_said (given (codes "sets") choices) (given (codes "ways") choices) (given (codes "line") choices) ≡ Some shape
-    → quantum_of (given (codes "quantum") choices) ≡ Some turn_steps
-    → budget_of (given (codes "budget") choices) ≡ Some run_steps
-    → asked_of (cache_words program choices image words) ≡ Some (Asked.Cache (record {
-      guest = guest_given choices turn_steps run_steps image words;
-      shape = shape;
-      report = report_path;
-    }))
-
--- ---- `contexts`
--- Plain words are taken, where each option is one of `contexts` and the path of the report is among them.
-abbrev pub PlainContextsIsTaken : Type 0
-PlainContextsIsTaken = (program : Text) (choices : List Choice) (image : Text) (words : List Text)
-    → ArePlain choices image words → list_all is_of_contexts choices ≡ true → is_chosen (codes "output") choices ≡ true
-    → takes the_app (contexts_words program choices image words) ≡ true
-
--- The options are the values in the words, and the defaults of the numbers that are left out.
-abbrev pub PlainContextsIsRead : Type 0
-PlainContextsIsRead = (program : Text) (choices : List Choice) (image : Text) (words : List Text)
-    → ArePlain choices image words → list_all is_of_contexts choices ≡ true → list_any has_zero (contexts_words program choices image words) ≡ false
-    → (report_path : Text) (turn_steps run_steps : ℕ) (width : StampBits) → given (codes "output") choices ≡ Some report_path
-    → quantum_of (given (codes "quantum") choices) ≡ Some turn_steps
-    → budget_of (given (codes "budget") choices) ≡ Some run_steps
-    → bits_of (given (codes "stamps") choices) ≡ Some width
-    → asked_of (contexts_words program choices image words) ≡ Some (Asked.Contexts (record {
-      guest = guest_given choices turn_steps run_steps image words;
-      report = report_path;
-      bits = width;
-    }))
+    → analysis_given command choices ≡ Some analysis
+    → asked_of (guest_words command program choices image words) ≡ Some (Asked.Guest (guest_given choices turn_steps run_steps image words) output analysis)
 
 -- ---- `replay`
 -- Plain words are taken, where each option is one of `replay` and the path of the report is among them.
@@ -301,25 +249,15 @@ GiveBadSteps choices = (quantum_of (given (codes "quantum") choices) ≡ None) �
 abbrev pub GiveBadWidth : List Choice → Type 0
 GiveBadWidth choices = bits_of (given (codes "stamps") choices) ≡ None
 
--- a number of `run` or `contexts` is out of its form or range
-abbrev pub GiveBadNumber : List Choice → Type 0
-GiveBadNumber choices = GiveBadSteps choices ⊎ GiveBadWidth choices
-
--- the numbers of a cache are not all given, in their form and range, or no cache has the shape
-abbrev pub GiveNoShape : List Choice → Type 0
-GiveNoShape choices = shape_said (given (codes "sets") choices) (given (codes "ways") choices) (given (codes "line") choices) ≡ None
-
--- plain words of a command, with options of its own, ask for nothing where these fail so
-abbrev pub AreRefused : (Text → List Choice → Text → List Text → List Text) → (Choice → Bool) → (List Choice → Type 0) → Type 0
-AreRefused command_words is_of_command Fail = (program : Text) (choices : List Choice) (image : Text) (words : List Text)
-    → ArePlain choices image words → list_all is_of_command choices ≡ true → Fail choices → asked_of (command_words program choices image words) ≡ None
+-- what the command has beside is out of its form or range, or the numbers of a cache make no shape
+abbrev pub GiveBadNumber : GuestCommand → List Choice → Type 0
+GiveBadNumber command choices = analysis_given command choices ≡ None
 
 -- Plain words ask for nothing where a number is out of its form or range, or where the numbers of a cache make no shape.
 pub record PlainNumbersAreRefused : Type 0 where
-  pub run : AreRefused run_words is_of_run GiveBadNumber
-  pub trace : AreRefused trace_words is_of_trace GiveBadSteps
-  pub cache : AreRefused cache_words is_of_cache (λ choices. GiveBadSteps choices ⊎ GiveNoShape choices)
-  pub contexts : AreRefused contexts_words is_of_contexts GiveBadNumber
+  pub guest : (command : GuestCommand) (program : Text) (choices : List Choice) (image : Text) (words : List Text)
+      → ArePlain choices image words → list_all (is_of command) choices ≡ true → GiveBadSteps choices ⊎ GiveBadNumber command choices
+      → asked_of (guest_words command program choices image words) ≡ None
   pub replay : (program : Text) (choices : List Choice) (trace : Text) → ArePlain choices trace []
       → list_all is_of_replay choices ≡ true → GiveBadWidth choices → asked_of (replay_words program choices trace) ≡ None
   pub demo : (program number : Text) → is_plain_word number ≡ true → demo_of number ≡ None → asked_of (demo_words program number) ≡ None

@@ -1,14 +1,14 @@
 -- What a command that was read asks.
 use Rattle.std.specs.Prelude.{◌≤◌, map, option_map}
 use Rattle.guest_words.specs.declared.limits.TheConstants.{DEMO_ROUTINES, QUANTUM_STEPS, RUN_STEPS}
-use Rattle.command_line.specs.Options.{Asked, CacheOptions, ContextsOptions, GuestOptions, ReplayOptions, RunOptions, TraceOptions}
+use Rattle.command_line.specs.Options.{Analysis, Asked, GuestOptions, ReplayOptions, RunOptions}
 use Rattle.command_line.specs.declared.commands.Command.{Command}
 use Rattle.command_line.specs.declared.guest_options.GuestOptions as declared
-use Rattle.command_line.specs.declared.run_command.RunCommand.{RunCommand}
-use Rattle.command_line.specs.declared.cache_command.CacheCommand.{CacheCommand}
-use Rattle.command_line.specs.declared.contexts_command.ContextsCommand.{ContextsCommand}
+use Rattle.command_line.specs.declared.guest_command.GuestCommand.{GuestCommand}
+use Rattle.command_line.specs.declared.analysis.Analysis as declared_analysis
+use Rattle.command_line.specs.declared.analysis.Analysis.TheVariants as analysis
+use Rattle.command_line.specs.declared.analysis.RunOptions as declared_run
 use Rattle.command_line.specs.declared.replay_command.ReplayCommand.{ReplayCommand}
-use Rattle.command_line.specs.declared.trace_command.TraceCommand.{TraceCommand}
 
 -- what a command says of its guest
 abbrev pub guest_in : declared.GuestOptions → GuestOptions
@@ -21,27 +21,20 @@ guest_in guest = record {
   words = map (λ word. word.now) guest.words.items;
 }
 
--- what a command `run` says
-abbrev pub options_in : RunCommand → RunOptions
-options_in command = record {
-  guest = guest_in command.guest;
-  report = command.report.now;
-  recording = option_map (λ path. path.now) command.recording;
-  bits = command.bits;
-  stats = command.stats;
-}
+-- what `run` is asked beside
+abbrev pub run_in : declared_run.RunOptions → RunOptions
+run_in options = record { recording = option_map (λ path. path.now) options.recording; bits = options.bits; stats = options.stats }
 
--- what a command `trace` says
-abbrev pub trace_in : TraceCommand → TraceOptions
-trace_in command = record { guest = guest_in command.guest; trace = command.trace.now }
+-- what a command makes of its guest's run
+abbrev pub analysis_in : declared_analysis.Analysis → Analysis
+analysis_in (analysis.Run options) = Analysis.Run (run_in options)
+analysis_in analysis.Trace = Analysis.Trace
+analysis_in (analysis.Cache shape) = Analysis.Cache shape
+analysis_in (analysis.Contexts bits) = Analysis.Contexts bits
 
--- what a command `cache` says
-abbrev pub cache_in : CacheCommand → CacheOptions
-cache_in command = record { guest = guest_in command.guest; shape = command.shape; report = command.report.now }
-
--- what a command `contexts` says
-abbrev pub contexts_in : ContextsCommand → ContextsOptions
-contexts_in command = record { guest = guest_in command.guest; report = command.report.now; bits = command.bits }
+-- what a command that runs a guest asks for
+abbrev pub guest_asked_in : GuestCommand → Asked
+guest_asked_in command = Asked.Guest (guest_in command.guest) command.output.now (analysis_in command.analysis)
 
 -- what a command `replay` says
 abbrev pub replay_in : ReplayCommand → ReplayOptions
@@ -49,10 +42,7 @@ replay_in command = record { trace = command.trace.now; report = command.report.
 
 -- what a command asks for
 abbrev pub asked_in : Command → Asked
-asked_in (Command.Run run) = Asked.Run (options_in run)
-asked_in (Command.Trace trace) = Asked.Trace (trace_in trace)
-asked_in (Command.Cache cache) = Asked.Cache (cache_in cache)
-asked_in (Command.Contexts contexts) = Asked.Contexts (contexts_in contexts)
+asked_in (Command.Guest command) = guest_asked_in command
 asked_in (Command.Replay replay) = Asked.Replay (replay_in replay)
 asked_in (Command.Demo number) = Asked.Demo number
 
@@ -65,9 +55,6 @@ pub record AreInRange (guest : GuestOptions) : Type 0 where
 
 -- The numbers of a command are in their ranges.
 abbrev pub IsInRange : Command → Type 0
-IsInRange (Command.Run run) = AreInRange (guest_in run.guest)
-IsInRange (Command.Trace trace) = AreInRange (guest_in trace.guest)
-IsInRange (Command.Cache cache) = AreInRange (guest_in cache.guest)
-IsInRange (Command.Contexts contexts) = AreInRange (guest_in contexts.guest)
+IsInRange (Command.Guest command) = AreInRange (guest_in command.guest)
 IsInRange (Command.Replay replay) = Unit {0}
 IsInRange (Command.Demo number) = (1 ≤ number) × (number ≤ DEMO_ROUTINES)

@@ -3,6 +3,7 @@ use Rattle.std.specs.Prelude.{◌≡◌, ◌⊎◌, true, false, List, Option, S
 use Rattle.std.specs.List.{list_any}
 use Rattle.clap.specs.Words.{Row, Text, first_of, subcommand_of, takes}
 use Rattle.command_line.specs.App.{the_app}
+use Rattle.command_line.specs.Plain.{GuestCommand, caching, name_of, running, telling, tracing}
 use Rattle.command_line.specs.Options.{asked_of, bits_of, budget_of, demo_of, has_zero, quantum_of, shape_said}
 
 -- a number of a guest is out of its form or range
@@ -13,15 +14,17 @@ HasBadSteps rows = (quantum_of (first_of (codes "quantum") rows) ≡ None) ⊎ (
 abbrev pub HasBadWidth : List Row → Type 0
 HasBadWidth rows = bits_of (first_of (codes "stamps") rows) ≡ None
 
--- a number of `run` or `contexts` is out of its form or range
-abbrev pub HasBadNumber : List Row → Type 0
-HasBadNumber rows = HasBadSteps rows ⊎ HasBadWidth rows
+-- the numbers of a cache are there, and one is out of its form or range, or they make no shape
+abbrev pub HasNoShape : List Row → Type 0
+HasNoShape rows = (sets : Text) × (ways : Text) × (line : Text) × (first_of (codes "sets") rows ≡ Some sets) × (first_of (codes "ways") rows ≡ Some ways)
+    × (first_of (codes "line") rows ≡ Some line) × (shape_said (Some sets) (Some ways) (Some line) ≡ None)
 
--- a number of `cache` is out of its form or range, or those of the cache make no shape
-abbrev pub HasBadCache : List Row → Type 0
-HasBadCache rows = HasBadSteps rows
-    ⊎ ((sets : Text) × (ways : Text) × (line : Text) × (first_of (codes "sets") rows ≡ Some sets) × (first_of (codes "ways") rows ≡ Some ways)
-    × (first_of (codes "line") rows ≡ Some line) × (shape_said (Some sets) (Some ways) (Some line) ≡ None))
+-- a number that the command has beside is so
+abbrev pub HasBadNumber : GuestCommand → List Row → Type 0
+HasBadNumber running rows = HasBadWidth rows
+HasBadNumber tracing rows = ⊥
+HasBadNumber caching rows = HasNoShape rows
+HasBadNumber telling rows = HasBadWidth rows
 
 -- the number of `demo` is there, and out of its form or range
 abbrev pub HasBadDemo : List Row → Type 0
@@ -33,10 +36,9 @@ IsFound found name Has = (rows : List Row) × (found ≡ Some (name, rows)) × H
 
 -- a subcommand was found that has a bad number
 abbrev pub FailsByNumber : Option (Text × List Row) → Type 0
-FailsByNumber found = IsFound found (codes "run") HasBadNumber
-    ⊎ (IsFound found (codes "trace") HasBadSteps
-    ⊎ (IsFound found (codes "cache") HasBadCache
-    ⊎ (IsFound found (codes "replay") HasBadWidth ⊎ (IsFound found (codes "contexts") HasBadNumber ⊎ IsFound found (codes "demo") HasBadDemo))))
+FailsByNumber found =
+    ((command : GuestCommand) × IsFound found (name_of command) (λ rows. HasBadSteps rows ⊎ HasBadNumber command rows))
+    ⊎ (IsFound found (codes "replay") HasBadWidth ⊎ IsFound found (codes "demo") HasBadDemo)
 
 -- Words that are taken and have no zero byte are refused only for a number: the subcommand is there, with what it needs.
 abbrev pub TakenWordsFailByNumbers : Type 0

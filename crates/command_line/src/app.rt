@@ -2,7 +2,7 @@
 ghost use Rattle.std.specs.Prelude.{◌≡◌, IfOk, false};
 ghost use Rattle.clap.specs.Words.{app_of, rule_of};
 ghost use Rattle.clap.specs.declared.builder.command.Command.TheViews.{out-Command};
-ghost use Rattle.command_line.specs.App.{the_app, top_app, run_app, demo_app, trace_app, cache_app, replay_app, contexts_app, flag_rule, output_rule, required_option, required_rule, value_rule, word_rule};
+ghost use Rattle.command_line.specs.App.{the_app, top_app, guest_app, run_app, demo_app, trace_app, cache_app, replay_app, contexts_app, flag_rule, output_rule, required_option, required_rule, value_rule, word_rule};
 
 use clap::{Arg, ArgAction, Command};
 use std::alloc::{AllocError, Global};
@@ -63,55 +63,49 @@ fn further_words<'a>(alloc: Global) -> Arg<'a>
         .num_args(0..)
 }
 
-// `run`, with its options, the image and the further words.
+// A command of this name that runs a guest: how the guest is run, where the result is stored, the image and the further words.
+fn guest_subcommand<'a>(alloc: Global, name: &'a str) -> Result<Command<'a>, AllocError>
+    ensures app { IfOk result (λ c. app_of c ≡ guest_app name.entry.now) }
+    ensures local { IfOk result (λ c. (out-Command c).has_globals ≡ false) }
+{
+    Command::new(alloc, name)
+        .arg(value_option(alloc, "stdin"))?
+        .arg(value_option(alloc, "quantum"))?
+        .arg(value_option(alloc, "schedule"))?
+        .arg(value_option(alloc, "budget"))?
+        .arg(output_option(alloc))?
+        .arg(required_value(alloc, "image"))?
+        .arg(further_words(alloc))
+}
+
+// `run`, with what it has beside.
 fn run_subcommand<'a>(alloc: Global) -> Result<Command<'a>, AllocError>
     ensures app { IfOk result (λ c. app_of c ≡ run_app) }
     ensures local { IfOk result (λ c. (out-Command c).has_globals ≡ false) }
 {
-    Command::new(alloc, "run")
-        .arg(value_option(alloc, "stdin"))?
-        .arg(value_option(alloc, "quantum"))?
-        .arg(value_option(alloc, "schedule"))?
+    guest_subcommand(alloc, "run")?
         .arg(value_option(alloc, "record"))?
-        .arg(value_option(alloc, "budget"))?
         .arg(value_option(alloc, "stamps"))?
-        .arg(flag(alloc, "stats"))?
-        .arg(output_option(alloc))?
-        .arg(required_value(alloc, "image"))?
-        .arg(further_words(alloc))
+        .arg(flag(alloc, "stats"))
 }
 
-// `trace`, with its options, the image and the further words.
-fn trace_subcommand<'a>(alloc: Global) -> Result<Command<'a>, AllocError>
-    ensures app { IfOk result (λ c. app_of c ≡ trace_app) }
-    ensures local { IfOk result (λ c. (out-Command c).has_globals ≡ false) }
-{
-    Command::new(alloc, "trace")
-        .arg(value_option(alloc, "stdin"))?
-        .arg(value_option(alloc, "quantum"))?
-        .arg(value_option(alloc, "schedule"))?
-        .arg(value_option(alloc, "budget"))?
-        .arg(output_option(alloc))?
-        .arg(required_value(alloc, "image"))?
-        .arg(further_words(alloc))
-}
-
-// `cache`, with its options, the image and the further words.
+// `cache`, with its shape.
 fn cache_subcommand<'a>(alloc: Global) -> Result<Command<'a>, AllocError>
     ensures app { IfOk result (λ c. app_of c ≡ cache_app) }
     ensures local { IfOk result (λ c. (out-Command c).has_globals ≡ false) }
 {
-    Command::new(alloc, "cache")
-        .arg(value_option(alloc, "stdin"))?
-        .arg(value_option(alloc, "quantum"))?
-        .arg(value_option(alloc, "schedule"))?
-        .arg(value_option(alloc, "budget"))?
+    guest_subcommand(alloc, "cache")?
         .arg(required_option(alloc, "sets"))?
         .arg(required_option(alloc, "ways"))?
-        .arg(required_option(alloc, "line"))?
-        .arg(output_option(alloc))?
-        .arg(required_value(alloc, "image"))?
-        .arg(further_words(alloc))
+        .arg(required_option(alloc, "line"))
+}
+
+// `contexts`, with the width of stamps.
+fn contexts_subcommand<'a>(alloc: Global) -> Result<Command<'a>, AllocError>
+    ensures app { IfOk result (λ c. app_of c ≡ contexts_app) }
+    ensures local { IfOk result (λ c. (out-Command c).has_globals ≡ false) }
+{
+    guest_subcommand(alloc, "contexts")?.arg(value_option(alloc, "stamps"))
 }
 
 // `replay`, with its options and the trace.
@@ -124,22 +118,6 @@ fn replay_subcommand<'a>(alloc: Global) -> Result<Command<'a>, AllocError>
         .arg(flag(alloc, "stats"))?
         .arg(output_option(alloc))?
         .arg(required_value(alloc, "trace"))
-}
-
-// `contexts`, with its options, the image and the further words.
-fn contexts_subcommand<'a>(alloc: Global) -> Result<Command<'a>, AllocError>
-    ensures app { IfOk result (λ c. app_of c ≡ contexts_app) }
-    ensures local { IfOk result (λ c. (out-Command c).has_globals ≡ false) }
-{
-    Command::new(alloc, "contexts")
-        .arg(value_option(alloc, "stdin"))?
-        .arg(value_option(alloc, "quantum"))?
-        .arg(value_option(alloc, "schedule"))?
-        .arg(value_option(alloc, "budget"))?
-        .arg(value_option(alloc, "stamps"))?
-        .arg(output_option(alloc))?
-        .arg(required_value(alloc, "image"))?
-        .arg(further_words(alloc))
 }
 
 // `demo`, with its number.
@@ -171,7 +149,7 @@ pub(crate) fn whole_command<'a>(alloc: Global) -> Result<Command<'a>, AllocError
     top_command(alloc)
         .subcommand(run_subcommand(alloc)?)?
         .subcommand(demo_subcommand(alloc)?)?
-        .subcommand(trace_subcommand(alloc)?)?
+        .subcommand(guest_subcommand(alloc, "trace")?)?
         .subcommand(cache_subcommand(alloc)?)?
         .subcommand(replay_subcommand(alloc)?)?
         .subcommand(contexts_subcommand(alloc)?)

@@ -6,13 +6,10 @@ ghost use Rattle.command_line.specs.Options.{AsksFor, asked_of_rows, demo_of_row
 ghost use Rattle.command_line.specs.Read.{IsInRange, asked_in};
 ghost use Rattle.command_line.specs.declared.commands.CommandError.TheVariants.{Memory, Refused};
 
-use crate::cache_command::{CacheCommand, cache_of_matches};
-use crate::contexts_command::{ContextsCommand, contexts_of_matches};
+use crate::guest_command::{GuestCommand, guest_command_of_matches};
 use crate::matches::{matches_of_words, subcommand_of, text_of};
 use crate::numbers::number_between;
 use crate::replay_command::{ReplayCommand, replay_of_matches};
-use crate::run_command::{RunCommand, run_of_matches};
-use crate::trace_command::{TraceCommand, trace_of_matches};
 use clap::ArgMatches;
 use clap::error::ErrorKind;
 use guest_words::limits::DEMO_ROUTINES;
@@ -47,14 +44,8 @@ impl From<AllocError> for CommandError {
 /// What the words ask for: `asked_in` says it.
 #[derive(Drop)]
 pub enum Command<'a> {
-    /// A guest's run.
-    Run(RunCommand<'a>),
-    /// The trace of a guest's run.
-    Trace(TraceCommand<'a>),
-    /// The cache misses of a guest's run.
-    Cache(CacheCommand<'a>),
-    /// The calling contexts of a guest's run.
-    Contexts(ContextsCommand<'a>),
+    /// A guest's run, and what is made of it.
+    Guest(GuestCommand<'a>),
     /// The report of a stored trace.
     Replay(ReplayCommand<'a>),
     /// The demo of a number.
@@ -96,18 +87,6 @@ fn command_of<'a>(
         → asked_of_rows name.now (rows_of (found_of matches.now)) ≡ None) }
     ensures ranges { IfOk result (λ command. IsInRange command) }
 {
-    if name == "run" {
-        return Ok(Command::Run(run_of_matches(alloc, matches)?));
-    }
-    if name == "trace" {
-        return Ok(Command::Trace(trace_of_matches(alloc, matches)?));
-    }
-    if name == "cache" {
-        return Ok(Command::Cache(cache_of_matches(alloc, matches)?));
-    }
-    if name == "contexts" {
-        return Ok(Command::Contexts(contexts_of_matches(alloc, matches)?));
-    }
     if name == "replay" {
         let command = replay_of_matches(matches).ok_or(CommandError::Refused)?;
         return Ok(Command::Replay(command));
@@ -116,7 +95,7 @@ fn command_of<'a>(
         let number = demo_of_matches(matches).ok_or(CommandError::Refused)?;
         return Ok(Command::Demo(number));
     }
-    Err(CommandError::Refused)
+    Ok(Command::Guest(guest_command_of_matches(alloc, name, matches)?))
 }
 
 /// Reads the words of the command line, the program's name first.

@@ -1,9 +1,9 @@
 //! Laws of the words, each the contract of a function with no body.
-ghost use Rattle.command_line.specs.Plain.{PlainCacheIsRead, PlainCacheIsTaken, PlainContextsIsRead, PlainContextsIsTaken, PlainDemoIsRead, PlainDemoIsTaken, PlainNumbersAreRefused, PlainOptionsAreRead, PlainReplayIsRead, PlainReplayIsTaken, PlainTraceIsRead, PlainTraceIsTaken, PlainWordsAreTaken};
+ghost use Rattle.command_line.specs.Plain.{PlainDemoIsRead, PlainDemoIsTaken, PlainNumbersAreRefused, PlainOptionsAreRead, PlainReplayIsRead, PlainReplayIsTaken, PlainWordsAreTaken};
 ghost use Rattle.command_line.specs.Taken.{TakenWordsFailByNumbers};
 
-/// Plain words are taken: any program name, each option at most once and `-o` among them, in any order, then the image and
-/// any further words.
+/// Plain words of a command that runs a guest are taken: any program name, options that the command has, each at most once and
+/// those that it has to have among them, in any order, then the image and any further words.
 pub fn plain_words_are_taken()
     ensures { PlainWordsAreTaken }
 {}
@@ -11,39 +11,6 @@ pub fn plain_words_are_taken()
 /// What is read of plain words: the values in the words, and the defaults for what is left out.
 pub fn plain_options_are_read()
     ensures { PlainOptionsAreRead }
-{}
-
-/// Plain words of `trace` are taken: options that it has, each at most once and `-o` among them, then the image and any
-/// further words.
-pub fn plain_traces_are_taken()
-    ensures { PlainTraceIsTaken }
-{}
-
-/// What is read of them: the values in the words, and the defaults for what is left out.
-pub fn plain_traces_are_read()
-    ensures { PlainTraceIsRead }
-{}
-
-/// Plain words of `cache` are taken: options that it has, each at most once and `--sets`, `--ways`, `--line` and `-o` among
-/// them, then the image and any further words.
-pub fn plain_caches_are_taken()
-    ensures { PlainCacheIsTaken }
-{}
-
-/// What is read of them: the values in the words, and the defaults for what is left out.
-pub fn plain_caches_are_read()
-    ensures { PlainCacheIsRead }
-{}
-
-/// Plain words of `contexts` are taken: options that it has, each at most once and `-o` among them, then the image and any
-/// further words.
-pub fn plain_contexts_are_taken()
-    ensures { PlainContextsIsTaken }
-{}
-
-/// What is read of them: the values in the words, and the defaults for what is left out.
-pub fn plain_contexts_are_read()
-    ensures { PlainContextsIsRead }
 {}
 
 /// Plain words of `replay` are taken: options that it has, each at most once and `-o` among them, then the trace.

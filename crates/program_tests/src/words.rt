@@ -1,5 +1,5 @@
 //! The words of command lines.
-use command_line::{Command, CommandError, RunCommand, read_command};
+use command_line::{Analysis, Command, CommandError, GuestCommand, read_command};
 use stamps::StampBits;
 use std::alloc::{AllocError, Global};
 use std::test::Fail;
@@ -16,12 +16,7 @@ fn words_of(alloc: Global, line: &str) -> Result<Vec<String>, AllocError> {
 // The numbers that words ask for, the quantum and the budget or that of `demo`, where they are of the form.
 fn numbers_of(alloc: Global, words: &[String]) -> Result<Option<(u64, u64)>, AllocError> {
     match read_command(alloc, words) {
-        Ok(Command::Run(command)) => Ok(Some((command.guest.quantum, command.guest.budget))),
-        Ok(Command::Trace(command)) => Ok(Some((command.guest.quantum, command.guest.budget))),
-        Ok(Command::Cache(command)) => Ok(Some((command.guest.quantum, command.guest.budget))),
-        Ok(Command::Contexts(command)) => {
-            Ok(Some((command.guest.quantum, command.guest.budget)))
-        }
+        Ok(Command::Guest(command)) => Ok(Some((command.guest.quantum, command.guest.budget))),
         Ok(Command::Replay(_)) => Ok(Some((0, 0))),
         Ok(Command::Demo(number)) => Ok(Some((0, u64::from(number)))),
         Err(CommandError::Refused) => Ok(None),
@@ -29,10 +24,26 @@ fn numbers_of(alloc: Global, words: &[String]) -> Result<Option<(u64, u64)>, All
     }
 }
 
-// The run that was asked for.
-fn run_of<'a>(read: Result<Command<'a>, CommandError>) -> Option<RunCommand<'a>> {
+// The command that was asked for, which runs a guest.
+fn guest_of<'a>(read: Result<Command<'a>, CommandError>) -> Option<GuestCommand<'a>> {
     match read {
-        Ok(Command::Run(command)) => Some(command),
+        Ok(Command::Guest(command)) => Some(command),
+        _ => None,
+    }
+}
+
+// The width of stamps and whether statistics are asked for, of `run`.
+fn stamps_of(analysis: &Analysis<'_>) -> Option<(StampBits, bool)> {
+    match analysis {
+        Analysis::Run(options) => Some((options.bits, options.stats)),
+        _ => None,
+    }
+}
+
+// The path of the recording, of `run`.
+fn recording_of<'a>(analysis: &Analysis<'a>) -> Option<&'a str> {
+    match analysis {
+        Analysis::Run(options) => options.recording,
         _ => None,
     }
 }
@@ -147,8 +158,8 @@ fn stamps_and_stats_are_read(rt: HostRuntime) -> Result<(), Fail> {
         ),
     ] {
         let words = words_of(rt.alloc(), line)?;
-        let command = run_of(read_command(rt.alloc(), &words)).expect(&rt, "words of a run");
-        assert_eq!(rt; (command.bits, command.stats), read);
+        let command = guest_of(read_command(rt.alloc(), &words)).expect(&rt, "words of a run");
+        assert_eq!(rt; stamps_of(&command.analysis), Some(read));
     }
     Ok(())
 }
@@ -158,13 +169,11 @@ fn a_command_has_arguments_and_inputs(rt: HostRuntime) -> Result<(), Fail> {
     let alloc = rt.alloc();
     let line = "aprof run --schedule s -o r --record t --stdin i img b =a a b =b";
     let words = words_of(alloc, line)?;
-    let command = run_of(read_command(alloc, &words)).expect(&rt, "words of a run");
+    let command = guest_of(read_command(alloc, &words)).expect(&rt, "words of a run");
     let guest = &command.guest;
-    assert_eq!(rt; (command.report, guest.image), ("r", "img"));
-    assert_eq!(rt;
-        (guest.stdin, guest.schedule, command.recording),
-        (Some("i"), Some("s"), Some("t"))
-    );
+    assert_eq!(rt; (command.output, guest.image), ("r", "img"));
+    assert_eq!(rt; (guest.stdin, guest.schedule), (Some("i"), Some("s")));
+    assert_eq!(rt; recording_of(&command.analysis), Some("t"));
     assert_eq!(rt; guest.inputs(alloc)?.as_slice(), ["b", "a"].as_slice());
     let arguments = guest.arguments(alloc)?;
     assert_eq!(rt; arguments.len(), 6);

@@ -22,7 +22,7 @@ summary-requires c =
     let image = c.in_ok-image.image in
     let seen = observed_from (is_within (greatest B32)) options c.in_ok-schedule.schedule image.entry (start image (arguments options) c.in_ok-inputs.inputs c.new-2.result.items) in
     let light = light_observed (is_within (greatest B32)) options c.in_ok-schedule.schedule image c.in_ok-inputs.inputs c.new-2.result.items (omega (arith, budget)) in
-    subst (λ (r : Reported). FitsTotals r.routines) (sym (c.in_ok-report.ensures (greatest B32) seen.past c.in_ok-run.ensures.1.totals)) (FitsTotals-past image.names seen.past light)
+    subst (λ (r : Reported). FitsTotals r.routines) (sym (c.in_ok-report.ensures (greatest B32) seen.past c.in_ok-run.ensures.2.totals)) (FitsTotals-past image.names seen.past light)
 
 pub returns-clause-summary : goal.returns-clause-summary
 returns-clause-summary c =
@@ -30,7 +30,7 @@ returns-clause-summary c =
     let image = c.in_ok-image.image in
     let is = c.in_ok-image.ensures.image ∙ ap image_of c.as_slice.ensures.value in
     let seen = observed_from (is_within (greatest B32)) options c.in_ok-schedule.schedule image.entry (start image (arguments options) c.in_ok-inputs.inputs c.new-2.result.items) in
-    let whole = c.in_ok-run.ensures.1 in
+    let whole = c.in_ok-run.ensures.2 in
     record {
       file = c.in_ok-file.file.items;
       is_demo = c.in_ok-file.ensures.file;

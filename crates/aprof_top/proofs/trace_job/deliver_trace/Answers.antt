@@ -1,26 +1,24 @@
-use Rattle.std.proofs.Common.{List, ℕ, ap, subst, sym, ◌∙◌}
-use Rattle.std.specs.Prelude.{MatchOption, ◌≡◌, ◌≤◌, ◌<◌, length}
-use Rattle.std.proofs.lemmas.Result.{err_from_is_err_and}
-use Rattle.command_line.specs.Read.{trace_in}
+use Rattle.std.proofs.Common.{◌≤◌, ◌<◌, List, ℕ, length, ap, subst, ◌∙◌}
+use Rattle.std.specs.Prelude.{◌≡◌, MatchOption}
+use Rattle.command_line.specs.Options.Analysis.{Trace}
 use Rattle.run_trace.specs.declared.run_trace.TheConstants.{TRACE_BYTES}
 use Rattle.trace_file.specs.TraceText.{trace_text}
-use Rattle.aprof_top.specs.Jobs.{AreTexts}
-use Rattle.aprof_top.specs.Traces.{names_begun}
-use Rattle.aprof_top.proofs.Recorded.{unstored}
+use Rattle.aprof_top.specs.Jobs.{AreTexts, desk}
+use Rattle.aprof_top.specs.Outcome.{left_of}
+use Rattle.aprof_top.specs.Traces.{is_storable, names_begun, trace_of}
+use Rattle.aprof_top.proofs.Recorded.{either_left, storable, stored_left}
 use Rattle.aprof_top.proofs.trace_job.deliver_trace.Goals as goal
 
-pub returns-in_err-store : goal.returns-in_err-store
-returns-in_err-store g c = λ seen finish text err.
-    let p = err_from_is_err_and c.from_residual-in_err-store.result c.from_residual-in_err-store.ensures.1 in
-    let options = trace_in c.args.command.now in
+pub returns : goal.returns
+returns g c = λ seen finish text err.
+    let path = c.args.path.now in
     let image = c.args.image.now in
-    let old = g.F.Files.state c.args.files.now in
-    let new = g.F.Files.state c.store.new.self in
     let texts = subst (λ found. AreTexts found seen.past) c.in-Some.is text in
     let whole = subst (λ found. MatchOption found (TRACE_BYTES < length (trace_text seen.past (names_begun image seen.past) c.args.run.finish))
     (λ bytes. (bytes.items ≡ trace_text seen.past (names_begun image seen.past) c.args.run.finish) × (length bytes.items ≤ TRACE_BYTES))) c.in-Some-2.is (c.in_ok-bytes.ensures seen.past texts) in
-    let value = c.as_slice.ensures.value in
-    rw (p.1, p.2) (unstored options image seen c.as_slice.result.now
-    (value ∙ whole.0 ∙ ap (trace_text seen.past (names_begun image seen.past)) finish)
-    (subst (λ (bytes : List ℕ). length bytes ≤ TRACE_BYTES) (sym value) whole.1)
-    c.in_err-store.field-0.0 old new err c.in_err-store.ensures.ends)
+    let is = whole.0 ∙ ap (trace_text seen.past (names_begun image seen.past)) finish in
+    let short = storable (trace_of image seen) (subst (λ (bytes : List ℕ). length bytes ≤ TRACE_BYTES) is whole.1) in
+    stored_left seen (left_of path Trace image seen) path c.as_slice.result.now
+    (either_left (is_storable (trace_of image seen)) path (trace_of image seen) c.as_slice.result.now short (c.as_slice.ensures.value ∙ is))
+    (desk (g.F.Files.state c.args.files.now) err) (desk (g.F.Files.state c.store_result.new.files) err) c.store_result.result
+    (c.store_result.ensures seen finish err)

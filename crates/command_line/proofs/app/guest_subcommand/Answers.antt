@@ -1,11 +1,11 @@
 use Rattle.std.proofs.Common.{ap₂, ◌∙◌, ◌||◌}
 use Rattle.std.proofs.lemmas.Result.{IfOk-weaker}
 use Rattle.clap.specs.Words.{with_rule}
-use Rattle.command_line.specs.App.{trace_app}
-use Rattle.command_line.proofs.app.trace_subcommand.Goals as goal
+use Rattle.command_line.specs.App.{guest_app}
+use Rattle.command_line.proofs.app.guest_subcommand.Goals as goal
 
 pub returns-clause-app : goal.returns-clause-app
-unfolding trace_app
+unfolding guest_app
 returns-clause-app c =
     let one = c.in_ok-arg.ensures.shape c.value_option.ensures.local ∙ ap₂ with_rule c.new.ensures.app c.value_option.ensures.rule in
     let two = c.in_ok-arg-2.ensures.shape c.value_option-2.ensures.local ∙ ap₂ with_rule one c.value_option-2.ensures.rule in
