@@ -22,7 +22,7 @@ name_of tracing = codes "trace"
 name_of caching = codes "cache"
 name_of telling = codes "contexts"
 
--- an option of a command that runs a guest, with its value where it takes one
+-- an option of a command that runs a guest or of `replay`, with its value where it takes one
 pub data Choice : Type 0 where
   stdin : Text → Choice
   quantum : Text → Choice
