@@ -19,11 +19,11 @@ use Rattle.aprof_top.specs.declared.ending.Verdict.TheVariants.{Summarized, TooL
 use Rattle.run_profile.specs.Profile.{AreTotalsOf}
 use Rattle.aprof_top.specs.declared.delivery.Store.{Store}
 use Rattle.aprof_top.specs.declared.profiled_run.ProfiledRun.{ProfiledRun}
-use Rattle.aprof_top.specs.declared.contexts_run.ContextsRun.{ContextsRun}
+use Rattle.aprof_top.specs.declared.contexts_job.ContextsRun.{ContextsRun}
 use Rattle.context_profile.specs.Kept.{IsPastNumbers}
 use Rattle.context_profile.specs.Kept as contexts
 use Rattle.context_profile.specs.declared.profile.ContextTotals.{ContextTotals}
-use Rattle.aprof_top.specs.declared.traced_run.TracedRun.{TracedRun}
+use Rattle.aprof_top.specs.declared.trace_job.TracedRun.{TracedRun}
 use Rattle.cache_lines.specs.Shapes.{Form}
 use Rattle.cache_profile.specs.ReportText.{Reported}
 use Rattle.elf_image.specs.Image.{Executable}

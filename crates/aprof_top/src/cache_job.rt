@@ -1,25 +1,115 @@
 //! The command `cache`: a guest's output, and the report of its cache misses.
-ghost use Rattle.std.specs.Prelude.{◌≡◌};
+ghost use Rattle.std.specs.Prelude.{◌≡◌, true, List, map, IfOk};
 ghost use Rattle.command_line.specs.Options.Analysis.{Cache};
 ghost use Rattle.command_line.specs.Read.{AreInRange, guest_in};
 ghost use Rattle.cache_lines.specs.Shapes.{Form};
 ghost use Rattle.elf_image.specs.Image.{Executable};
 ghost use Rattle.guest_run.specs.Profiled.{Profiled};
 ghost use Rattle.host_io.specs.Sink.{SinkState};
-ghost use Rattle.aprof_top.specs.CacheMisses.{misses_of};
-ghost use Rattle.aprof_top.specs.Jobs.{JobRuns, RunIsStored, desk, ending_by};
+ghost use Rattle.aprof_top.specs.CacheMisses.{misses_of, named_misses};
+ghost use Rattle.aprof_top.specs.Jobs.{JobRuns, RunIsStored, desk, ending_by, ImageIsRun, IsMissed};
 ghost use Rattle.aprof_top.specs.Outcome.{analysed, job_of};
 ghost use Rattle.aprof_top.specs.Outside.{outside};
+ghost use Rattle.trace_model.specs.declared.event_kinds.Event.{Event};
+ghost use Rattle.command_line.specs.Options.{arguments};
+ghost use Rattle.guest_machine.specs.Setup.{setup_refusal};
+ghost use Rattle.guest_machine.specs.Start.{start};
+ghost use Rattle.guest_run.specs.Output.{sinks};
+ghost use Rattle.cache_profile.specs.Profile.{StandsFor};
+ghost use Rattle.aprof_top.specs.Run.{observed_from};
 
 use crate::delivery::store_result;
 use crate::ending::{Ending, Verdict};
-use crate::missed_run::count_misses;
+use crate::guest_job::{GuestFiles, run_image};
 use crate::preparation::Prepared;
 use cache_lines::Shape;
-use cache_profile::{CacheReport, write_cache_report};
+use cache_profile::{CacheProfile, CacheReport, ReportedMisses, Shaped, write_cache_report};
 use command_line::GuestOptions;
+use elf_image::Image;
+use guest_words::Finish;
 use host_io::{Files, Sink};
-use std::alloc::Global;
+use std::alloc::{AllocError, Global};
+use std::marker::Brand;
+
+// The routines of a profile, with their names.
+fn named_misses<K: Shaped>(
+    alloc: Global,
+    image: &Image,
+    profile: &CacheProfile<K>,
+) -> Result<Vec<ReportedMisses>, AllocError>
+    ensures { IfOk result (λ routines. routines.items
+        ≡ map (named_misses image.now) profile.now.routines) }
+{
+    let mut routines = Vec::new(alloc);
+    for i in 0..profile.routines() {
+        let counts = profile.routine(i);
+        let name = image.name_of(alloc, counts.entry)?;
+        routines.push(ReportedMisses { counts, name })?;
+    }
+    Ok(routines)
+}
+
+// The report of a profile of a run that ended so.
+fn report_of<K: Shaped>(
+    alloc: Global,
+    image: &Image,
+    profile: &CacheProfile<K>,
+    finish: Finish,
+) -> Result<CacheReport, AllocError>
+    ensures { IfOk result (λ report. (past : List Event) → StandsFor K.shape profile.now past
+        → report ≡ misses_of K.shape image.now finish past) }
+{
+    let routines = named_misses(alloc, image, profile)?;
+    Ok(CacheReport {
+        finish,
+        steps: profile.steps(),
+        routines,
+    })
+}
+
+// Runs an executable, and counts its misses of a cache whose shape `K` carries.
+fn misses_by<K: Shaped, O: Sink, E: Sink>(
+    alloc: Global,
+    shape: Shape,
+    options: &GuestOptions<'_>,
+    image: &Image,
+    files: GuestFiles,
+    out: &mut O,
+    err: &mut E,
+) -> Result<CacheReport, Ending>
+    requires range { AreInRange (guest_in options.now) }
+    requires shape { shape ≡ K.shape }
+    ensures { ImageIsRun (IsMissed K.shape image.now)
+        (setup_refusal image.now (arguments (guest_in options.now)))
+        (observed_from (λ _. true) (guest_in options.now) files.schedule image.now.entry
+        (start image.now (arguments (guest_in options.now)) files.inputs files.stdin.items))
+        (sinks (O.state out.old) (E.state err.old)) (sinks (O.state out.new) (E.state err.new)) result }
+{
+    let mut profile = CacheProfile::<K>::new(alloc, shape)?;
+    let ended = run_image(alloc, options, image, files, &mut profile, out, err)?;
+    let report = report_of(alloc, image, &profile, ended.finish)?;
+    Ok(report)
+}
+
+// Runs an executable, and counts its misses of a cache of the shape.
+fn count_misses<O: Sink, E: Sink>(
+    alloc: Global,
+    shape: Shape,
+    options: &GuestOptions<'_>,
+    image: &Image,
+    files: GuestFiles,
+    out: &mut O,
+    err: &mut E,
+) -> Result<CacheReport, Ending>
+    requires { AreInRange (guest_in options.now) }
+    ensures { ImageIsRun (IsMissed shape image.now)
+        (setup_refusal image.now (arguments (guest_in options.now)))
+        (observed_from (λ _. true) (guest_in options.now) files.schedule image.now.entry
+        (start image.now (arguments (guest_in options.now)) files.inputs files.stdin.items))
+        (sinks (O.state out.old) (E.state err.old)) (sinks (O.state out.new) (E.state err.new)) result }
+{
+    misses_by::<Brand, O, E>(alloc, shape, options, image, files, out, err)
+}
 
 // Stores the report of a run's cache misses.
 fn deliver_misses<F: Files>(

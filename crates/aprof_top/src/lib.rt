@@ -4,7 +4,6 @@
 
 mod cache_job;
 mod contexts_job;
-mod contexts_run;
 mod delivery;
 mod demo;
 mod ending;
@@ -13,7 +12,6 @@ mod guest_job;
 mod laws;
 mod loaded;
 mod loads;
-mod missed_run;
 mod preparation;
 mod profiled_run;
 mod replay_job;
@@ -25,7 +23,6 @@ mod texts;
 mod top;
 mod trace_job;
 mod trace_names;
-mod traced_run;
 
 pub use laws::{
     a_command_has_one_outcome, contexts_begin_with_the_report, runs_are_bounded, traces_replay,

@@ -9,7 +9,7 @@ use Rattle.stamps.specs.Widths.{greatest}
 use Rattle.trace_model.specs.Depth.{is_within}
 use Rattle.aprof_top.specs.Run.{observed_from}
 use Rattle.aprof_top.proofs.Runs.{formed_observed}
-use Rattle.aprof_top.proofs.traced_run.trace_image.Goals as goal
+use Rattle.aprof_top.proofs.trace_job.trace_image.Goals as goal
 
 pub into_text-requires : goal.into_text-requires
 into_text-requires g c =

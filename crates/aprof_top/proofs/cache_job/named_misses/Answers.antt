@@ -1,6 +1,6 @@
 use Rattle.std.proofs.Common.{◌∙◌, ap, ap₂, sym, ◌++◌, ◌∷◌, []}
 use Rattle.aprof_top.proofs.Reports.{misses-more}
-use Rattle.aprof_top.proofs.missed_run.named_misses.Goals as goal
+use Rattle.aprof_top.proofs.cache_job.named_misses.Goals as goal
 
 pub loop-i-preserved : goal.loop-i-preserved
 loop-i-preserved g c =

@@ -5,7 +5,7 @@ use Rattle.command_line.specs.Options.{arguments}
 use Rattle.command_line.specs.Read.{guest_in}
 use Rattle.guest_machine.specs.Start.{start}
 use Rattle.aprof_top.specs.Run.{observed_from}
-use Rattle.aprof_top.proofs.missed_run.misses_by.Goals as goal
+use Rattle.aprof_top.proofs.cache_job.misses_by.Goals as goal
 
 pub returns-in_err-report : goal.returns-in_err-report
 returns-in_err-report g c =

@@ -7,7 +7,7 @@ use Rattle.guest_machine.specs.Start.{start}
 use Rattle.trace_model.specs.Depth.{is_within}
 use Rattle.aprof_top.specs.Run.{observed_from}
 use Rattle.aprof_top.proofs.Runs.{formed_observed, light_observed}
-use Rattle.aprof_top.proofs.contexts_run.contexts_by.Goals as goal
+use Rattle.aprof_top.proofs.contexts_job.contexts_by.Goals as goal
 
 pub into_totals-requires : goal.into_totals-requires
 into_totals-requires g c =
