@@ -1,5 +1,8 @@
 -- How the run of a guest ends, and what is made of it.
-use Rattle.std.specs.Prelude.{◌≡◌, ◌⊎◌, ℕ, List, [], take, Option, Some, None, Result, Ok, Err}
+use Rattle.std.specs.Prelude.{◌≡◌, ◌⊎◌, ℕ, Bool, List, [], take, Option, Some, None, Result, Ok, Err}
+use Rattle.command_line.specs.Options.{GuestOptions, arguments}
+use Rattle.guest_machine.specs.Setup.{setup_refusal}
+use Rattle.guest_machine.specs.Start.{start}
 use Rattle.guest_machine.specs.declared.setup.SetupError.{SetupError}
 use Rattle.guest_run.specs.declared.run.Ended.{Ended}
 use Rattle.guest_run.specs.declared.run_error.Channel.TheVariants as channel
@@ -37,6 +40,8 @@ use Rattle.aprof_top.specs.Loads.{Loaded}
 use Rattle.aprof_top.specs.Outcome.{IsRun, Job, Outcome}
 use Rattle.aprof_top.specs.Outside.{Outside, with_stores}
 use Rattle.aprof_top.specs.Preparing.{ArePrepared}
+use Rattle.aprof_top.specs.Run.{observed_from}
+use Rattle.aprof_top.specs.declared.guest_job.GuestFiles.{GuestFiles}
 use Rattle.aprof_top.specs.declared.preparation.Prepared.{Prepared}
 use Rattle.aprof_top.specs.Verdicts.{IsOfRun}
 
@@ -68,6 +73,12 @@ ImageRuns Stands setup run before observer after (Err e) = RunStops setup run be
 abbrev pub ImageIsRun : {A : Type 0} → (A → Profiled → Type 0) → Option SetupError → Profiled → Sinks → Sinks → Result A Ending → Type 0
 ImageIsRun IsMade setup run before after (Ok made) = (setup ≡ None) × (after ≡ with_output run.moves before) × IsMade made run
 ImageIsRun IsMade setup run before after (Err e) = RunStops setup run before after e
+
+-- the same of an executable with the words of its command and what its guest finds beside it, observed as far as its trace fits
+abbrev pub GuestIsRun : {A : Type 0} → (A → Profiled → Type 0) → (List Event → Bool) → GuestOptions → Executable → GuestFiles → Sinks → Sinks → Result A Ending → Type 0
+GuestIsRun IsMade fits options image files =
+    ImageIsRun IsMade (setup_refusal image (arguments options))
+    (observed_from fits options files.schedule image.entry (start image (arguments options) files.inputs files.stdin.items))
 
 -- These are the totals of a run, by stamps up to the greatest, its recording and its end.
 pub record IsProfiled (most : ℕ) (profiled : ProfiledRun) (run : Profiled) : Type 0 where

@@ -7,16 +7,12 @@ ghost use Rattle.elf_image.specs.Image.{Executable};
 ghost use Rattle.guest_run.specs.Profiled.{Profiled};
 ghost use Rattle.host_io.specs.Sink.{SinkState};
 ghost use Rattle.aprof_top.specs.CacheMisses.{misses_of, named_misses};
-ghost use Rattle.aprof_top.specs.Jobs.{JobRuns, RunIsStored, desk, ending_by, ImageIsRun, IsMissed};
+ghost use Rattle.aprof_top.specs.Jobs.{GuestIsRun, IsMissed, JobRuns, RunIsStored, desk, ending_by};
 ghost use Rattle.aprof_top.specs.Outcome.{analysed, job_of};
 ghost use Rattle.aprof_top.specs.Outside.{outside};
 ghost use Rattle.trace_model.specs.declared.event_kinds.Event.{Event};
-ghost use Rattle.command_line.specs.Options.{arguments};
-ghost use Rattle.guest_machine.specs.Setup.{setup_refusal};
-ghost use Rattle.guest_machine.specs.Start.{start};
 ghost use Rattle.guest_run.specs.Output.{sinks};
 ghost use Rattle.cache_profile.specs.Profile.{StandsFor};
-ghost use Rattle.aprof_top.specs.Run.{observed_from};
 
 use crate::delivery::store_result;
 use crate::ending::{Ending, Verdict};
@@ -79,10 +75,8 @@ fn misses_by<K: Shaped, O: Sink, E: Sink>(
 ) -> Result<CacheReport, Ending>
     requires range { AreInRange (guest_in options.now) }
     requires shape { shape ≡ K.shape }
-    ensures { ImageIsRun (IsMissed K.shape image.now)
-        (setup_refusal image.now (arguments (guest_in options.now)))
-        (observed_from (λ _. true) (guest_in options.now) files.schedule image.now.entry
-        (start image.now (arguments (guest_in options.now)) files.inputs files.stdin.items))
+    ensures { GuestIsRun (IsMissed K.shape image.now) (λ _. true)
+        (guest_in options.now) image.now files
         (sinks (O.state out.old) (E.state err.old)) (sinks (O.state out.new) (E.state err.new)) result }
 {
     let mut profile = CacheProfile::<K>::new(alloc, shape)?;
@@ -102,10 +96,8 @@ fn count_misses<O: Sink, E: Sink>(
     err: &mut E,
 ) -> Result<CacheReport, Ending>
     requires { AreInRange (guest_in options.now) }
-    ensures { ImageIsRun (IsMissed shape image.now)
-        (setup_refusal image.now (arguments (guest_in options.now)))
-        (observed_from (λ _. true) (guest_in options.now) files.schedule image.now.entry
-        (start image.now (arguments (guest_in options.now)) files.inputs files.stdin.items))
+    ensures { GuestIsRun (IsMissed shape image.now) (λ _. true)
+        (guest_in options.now) image.now files
         (sinks (O.state out.old) (E.state err.old)) (sinks (O.state out.new) (E.state err.new)) result }
 {
     misses_by::<Brand, O, E>(alloc, shape, options, image, files, out, err)

@@ -8,16 +8,12 @@ ghost use Rattle.host_io.specs.Sink.{SinkState};
 ghost use Rattle.stamps.specs.declared.width.StampBits.{StampBits};
 ghost use Rattle.trace_model.specs.declared.event_kinds.Event.{Event};
 ghost use Rattle.aprof_top.specs.ContextReports.{can_be_numbered, contexts_report};
-ghost use Rattle.aprof_top.specs.Jobs.{HaveContexts, JobRuns, RunIsStored, desk, ending_by, HasContexts, ImageIsRun};
+ghost use Rattle.aprof_top.specs.Jobs.{GuestIsRun, HasContexts, HaveContexts, JobRuns, RunIsStored, desk, ending_by};
 ghost use Rattle.aprof_top.specs.Outcome.{analysed, job_of};
 ghost use Rattle.aprof_top.specs.Outside.{outside};
 ghost use Rattle.stamps.specs.Widths.{greatest};
 ghost use Rattle.trace_model.specs.Depth.{is_within};
-ghost use Rattle.command_line.specs.Options.{arguments};
-ghost use Rattle.guest_machine.specs.Setup.{setup_refusal};
-ghost use Rattle.guest_machine.specs.Start.{start};
 ghost use Rattle.guest_run.specs.Output.{sinks};
-ghost use Rattle.aprof_top.specs.Run.{observed_from};
 
 use crate::delivery::store_result;
 use crate::ending::{Ending, Verdict};
@@ -53,9 +49,8 @@ fn contexts_by<S: Lanes, O: Sink, E: Sink>(
 ) -> Result<ContextsRun, Ending>
     requires range { AreInRange (guest_in options.now) }
     requires stamps { 6 ≤ S.MAX }
-    ensures { ImageIsRun (HasContexts S.MAX) (setup_refusal image.now (arguments (guest_in options.now)))
-        (observed_from (is_within S.MAX) (guest_in options.now) files.schedule image.now.entry
-        (start image.now (arguments (guest_in options.now)) files.inputs files.stdin.items))
+    ensures { GuestIsRun (HasContexts S.MAX) (is_within S.MAX)
+        (guest_in options.now) image.now files
         (sinks (O.state out.old) (E.state err.old)) (sinks (O.state out.new) (E.state err.new)) result }
 {
     let mut profile = ContextProfile::<S>::new(alloc)?;
@@ -78,10 +73,8 @@ fn contexts_of_run<O: Sink, E: Sink>(
     err: &mut E,
 ) -> Result<ContextsRun, Ending>
     requires { AreInRange (guest_in options.now) }
-    ensures { ImageIsRun (HasContexts (greatest bits))
-        (setup_refusal image.now (arguments (guest_in options.now)))
-        (observed_from (is_within (greatest bits)) (guest_in options.now) files.schedule image.now.entry
-        (start image.now (arguments (guest_in options.now)) files.inputs files.stdin.items))
+    ensures { GuestIsRun (HasContexts (greatest bits)) (is_within (greatest bits))
+        (guest_in options.now) image.now files
         (sinks (O.state out.old) (E.state err.old)) (sinks (O.state out.new) (E.state err.new)) result }
 {
     match bits {

@@ -2,13 +2,9 @@
 ghost use Rattle.std.specs.Prelude.{◌≤◌};
 ghost use Rattle.stamps.specs.Widths.{greatest};
 ghost use Rattle.trace_model.specs.Depth.{is_within};
-ghost use Rattle.command_line.specs.Options.{arguments};
 ghost use Rattle.command_line.specs.Read.{AreInRange, guest_in};
-ghost use Rattle.guest_machine.specs.Setup.{setup_refusal};
-ghost use Rattle.guest_machine.specs.Start.{start};
 ghost use Rattle.guest_run.specs.Output.{sinks};
-ghost use Rattle.aprof_top.specs.Jobs.{ImageIsRun, IsProfiled};
-ghost use Rattle.aprof_top.specs.Run.{observed_from};
+ghost use Rattle.aprof_top.specs.Jobs.{GuestIsRun, IsProfiled};
 
 use crate::ending::Ending;
 use crate::guest_job::{GuestFiles, run_image};
@@ -39,9 +35,8 @@ fn profile_by<S: Lanes, O: Sink, E: Sink>(
 ) -> Result<ProfiledRun, Ending>
     requires range { AreInRange (guest_in options.now) }
     requires stamps { 6 ≤ S.MAX }
-    ensures { ImageIsRun (IsProfiled S.MAX) (setup_refusal image.now (arguments (guest_in options.now)))
-        (observed_from (is_within S.MAX) (guest_in options.now) files.schedule image.now.entry
-        (start image.now (arguments (guest_in options.now)) files.inputs files.stdin.items))
+    ensures { GuestIsRun (IsProfiled S.MAX) (is_within S.MAX)
+        (guest_in options.now) image.now files
         (sinks (O.state out.old) (E.state err.old)) (sinks (O.state out.new) (E.state err.new)) result }
 {
     let mut profile = Profile::<S>::new(alloc)?;
@@ -61,10 +56,8 @@ pub(crate) fn profile_image<O: Sink, E: Sink>(
     err: &mut E,
 ) -> Result<ProfiledRun, Ending>
     requires { AreInRange (guest_in options.now) }
-    ensures { ImageIsRun (IsProfiled (greatest bits))
-        (setup_refusal image.now (arguments (guest_in options.now)))
-        (observed_from (is_within (greatest bits)) (guest_in options.now) files.schedule image.now.entry
-        (start image.now (arguments (guest_in options.now)) files.inputs files.stdin.items))
+    ensures { GuestIsRun (IsProfiled (greatest bits)) (is_within (greatest bits))
+        (guest_in options.now) image.now files
         (sinks (O.state out.old) (E.state err.old)) (sinks (O.state out.new) (E.state err.new)) result }
 {
     match bits {

@@ -8,18 +8,14 @@ ghost use Rattle.host_io.specs.Sink.{SinkState};
 ghost use Rattle.run_trace.specs.declared.run_trace.TheConstants.{TRACE_BYTES};
 ghost use Rattle.trace_file.specs.TraceText.{trace_text};
 ghost use Rattle.trace_model.specs.declared.event_kinds.Event.{Event};
-ghost use Rattle.aprof_top.specs.Jobs.{AreTexts, JobRuns, RunIsStored, desk, ending_by, ImageIsRun, IsTraced};
+ghost use Rattle.aprof_top.specs.Jobs.{AreTexts, GuestIsRun, IsTraced, JobRuns, RunIsStored, desk, ending_by};
 ghost use Rattle.aprof_top.specs.Outcome.{analysed, job_of};
 ghost use Rattle.aprof_top.specs.Outside.{outside};
 ghost use Rattle.aprof_top.specs.Traces.{named_entries, names_begun};
 ghost use Rattle.stamps.specs.declared.width.StampBits.TheVariants.{B32};
 ghost use Rattle.stamps.specs.Widths.{greatest};
 ghost use Rattle.trace_model.specs.Depth.{is_within};
-ghost use Rattle.command_line.specs.Options.{arguments};
-ghost use Rattle.guest_machine.specs.Setup.{setup_refusal};
-ghost use Rattle.guest_machine.specs.Start.{start};
 ghost use Rattle.guest_run.specs.Output.{sinks};
-ghost use Rattle.aprof_top.specs.Run.{observed_from};
 
 use crate::delivery::store_result;
 use crate::ending::{Ending, Verdict};
@@ -50,9 +46,8 @@ fn trace_image<O: Sink, E: Sink>(
     err: &mut E,
 ) -> Result<TracedRun, Ending>
     requires { AreInRange (guest_in options.now) }
-    ensures { ImageIsRun IsTraced (setup_refusal image.now (arguments (guest_in options.now)))
-        (observed_from (is_within (greatest B32)) (guest_in options.now) files.schedule image.now.entry
-        (start image.now (arguments (guest_in options.now)) files.inputs files.stdin.items))
+    ensures { GuestIsRun IsTraced (is_within (greatest B32))
+        (guest_in options.now) image.now files
         (sinks (O.state out.old) (E.state err.old)) (sinks (O.state out.new) (E.state err.new)) result }
 {
     let mut trace = RunTrace::new(alloc)?;

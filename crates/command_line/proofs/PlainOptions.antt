@@ -14,17 +14,8 @@ use Rattle.command_line.proofs.Rows.{IsNoChoice, choice_row, choice_rows, image_
 
 -- a choice of this argument has a value, where that is not `stats`
 has_value : (id : Text) (c : Choice) → bytes_eq (codes "stats") id ≡ false → bytes_eq (id_of c) id ≡ true → Some (row_value c) ≡ value_of c
-has_value id (stdin v) apart same = refl
-has_value id (quantum v) apart same = refl
-has_value id (schedule v) apart same = refl
-has_value id (recording v) apart same = refl
-has_value id (budget v) apart same = refl
-has_value id (stamps v) apart same = refl
 has_value id stats apart same = let no : false ≡ true = sym apart ∙ same in cc
-has_value id (report v) apart same = refl
-has_value id (sets v) apart same = refl
-has_value id (ways v) apart same = refl
-has_value id (line v) apart same = refl
+has_value id _ apart same = refl
 
 -- the value of an option, where the rows after those of the options have none
 first_given : (id : Text) (cs : List Choice) (rest : List Row) → bytes_eq (codes "stats") id ≡ false → first_of id rest ≡ None
@@ -41,17 +32,8 @@ first_given id (c ∷ cs) rest apart h = go (bytes_eq (id_of c) id) refl (first_
 flag_given : (cs : List Choice) (rest : List Row) → has_flag (codes "stats") rest ≡ false
     → has_flag (codes "stats") (choice_rows cs ++ rest) ≡ is_chosen (codes "stats") cs
 flag_given [] rest h = h
-flag_given (stdin v ∷ cs) rest h = flag_given cs rest h
-flag_given (quantum v ∷ cs) rest h = flag_given cs rest h
-flag_given (schedule v ∷ cs) rest h = flag_given cs rest h
-flag_given (recording v ∷ cs) rest h = flag_given cs rest h
-flag_given (budget v ∷ cs) rest h = flag_given cs rest h
-flag_given (stamps v ∷ cs) rest h = flag_given cs rest h
 flag_given (stats ∷ cs) rest h = refl
-flag_given (report v ∷ cs) rest h = flag_given cs rest h
-flag_given (sets v ∷ cs) rest h = flag_given cs rest h
-flag_given (ways v ∷ cs) rest h = flag_given cs rest h
-flag_given (line v ∷ cs) rest h = flag_given cs rest h
+flag_given (_ ∷ cs) rest h = flag_given cs rest h
 
 -- what no option is of is read of the rows after theirs
 first_after : (id : Text) (cs : List Choice) (rest : List Row) → IsNoChoice id → first_of id (choice_rows cs ++ rest) ≡ first_of id rest
@@ -183,9 +165,7 @@ analysis_read telling choices image words =
 -- what a command that runs a guest asks for by its rows
 pub asked_by_name : (g : GuestCommand) (rows : List Row) → asked_of_rows (plain.name_of g) rows ≡ guest_asked_of_rows (plain.name_of g) rows
 asked_by_name running rows = refl
-asked_by_name tracing rows = refl
-asked_by_name caching rows = refl
-asked_by_name telling rows = refl
+asked_by_name _ rows = refl
 
 pub plain_options : PlainOptionsAreRead
 plain_options g program choices image words plain' has zeros output turn_steps run_steps analysis o q b is =

@@ -14,7 +14,7 @@ use Rattle.clap.specs.Walk.{Walk, finished, has_row, idle, nothing_held, rows_af
 use Rattle.clap.specs.Words.{Row, Text, built, subcommand_of, takes}
 use Rattle.clap.proofs.OnLiterals.{clap_on_literals}
 use Rattle.command_line.specs.App.{the_app, top_app, guest_app, demo_app, replay_app}
-use Rattle.command_line.specs.Plain.{ArePlain, Choice, HasRequired, PlainReplayIsTaken, PlainWordsAreTaken, budget, choice_words, id_of, is_chosen, line, named_words, quantum, recording, report, required, schedule, sets, stamps, stats, stdin, ways}
+use Rattle.command_line.specs.Plain.{ArePlain, Choice, HasRequired, PlainReplayIsTaken, PlainWordsAreTaken, choice_words, id_of, is_chosen, named_words, required, stats}
 use Rattle.command_line.proofs.Choices.{MayFollow, ends_command}
 use Rattle.command_line.proofs.Fixed.{the_app_is_simple}
 use Rattle.command_line.proofs.Rows.{choice_rows, image_is_none, made_rows, plain_rows, tail_rows, trace_is_none, unset_rows, IsNoChoice}
@@ -24,17 +24,8 @@ use Rattle.command_line.proofs.Steps.{Subcommand, added_rows, at_command, defaul
 
 chosen_stats : (cs : List Choice) → has_row (codes "stats") (choice_rows cs) ≡ is_chosen (codes "stats") cs
 chosen_stats [] = refl
-chosen_stats (stdin v ∷ cs) = chosen_stats cs
-chosen_stats (quantum v ∷ cs) = chosen_stats cs
-chosen_stats (schedule v ∷ cs) = chosen_stats cs
-chosen_stats (recording v ∷ cs) = chosen_stats cs
-chosen_stats (budget v ∷ cs) = chosen_stats cs
-chosen_stats (stamps v ∷ cs) = chosen_stats cs
 chosen_stats (stats ∷ cs) = refl
-chosen_stats (report v ∷ cs) = chosen_stats cs
-chosen_stats (sets v ∷ cs) = chosen_stats cs
-chosen_stats (ways v ∷ cs) = chosen_stats cs
-chosen_stats (line v ∷ cs) = chosen_stats cs
+chosen_stats (_ ∷ cs) = chosen_stats cs
 
 no_stats_tail : (k : Subcommand) (path : Text) (words : List Text) → has_row (codes "stats") (tail_rows (path_id k) path words) ≡ false
 no_stats_tail (of_guest g) path [] = refl

@@ -7,7 +7,7 @@ use Rattle.clap.specs.Walk.{at_row, has_row, more_values, reading_by, with_value
 use Rattle.clap.specs.Words.{Row, Text}
 use Rattle.clap.specs.declared.parser.matches.ValueSource.TheVariants.{CommandLine, DefaultValue}
 use Rattle.command_line.specs.App.{word_rule}
-use Rattle.command_line.specs.Plain.{Choice, budget, id_of, is_chosen, line, quantum, recording, report, schedule, sets, stamps, stats, stdin, value_of, ways}
+use Rattle.command_line.specs.Plain.{Choice, id_of, is_chosen, stdin, value_of}
 
 -- the row of an argument that the words give these values
 abbrev pub plain_row : Text → List Text → Row
@@ -91,42 +91,15 @@ IsNoChoice id = (c : Choice) → bytes_eq (id_of c) id ≡ false
 
 pub image_is_none : IsNoChoice (codes "image")
 image_is_none (stdin v) = refl
-image_is_none (quantum v) = refl
-image_is_none (schedule v) = refl
-image_is_none (recording v) = refl
-image_is_none (budget v) = refl
-image_is_none (stamps v) = refl
-image_is_none stats = refl
-image_is_none (report v) = refl
-image_is_none (sets v) = refl
-image_is_none (ways v) = refl
-image_is_none (line v) = refl
+image_is_none _ = refl
 
 pub trace_is_none : IsNoChoice (codes "trace")
 trace_is_none (stdin v) = refl
-trace_is_none (quantum v) = refl
-trace_is_none (schedule v) = refl
-trace_is_none (recording v) = refl
-trace_is_none (budget v) = refl
-trace_is_none (stamps v) = refl
-trace_is_none stats = refl
-trace_is_none (report v) = refl
-trace_is_none (sets v) = refl
-trace_is_none (ways v) = refl
-trace_is_none (line v) = refl
+trace_is_none _ = refl
 
 pub word_is_none : IsNoChoice (codes "word")
 word_is_none (stdin v) = refl
-word_is_none (quantum v) = refl
-word_is_none (schedule v) = refl
-word_is_none (recording v) = refl
-word_is_none (budget v) = refl
-word_is_none (stamps v) = refl
-word_is_none stats = refl
-word_is_none (report v) = refl
-word_is_none (sets v) = refl
-word_is_none (ways v) = refl
-word_is_none (line v) = refl
+word_is_none _ = refl
 
 pub no_choice_row : (id : Text) (cs : List Choice) → IsNoChoice id → has_row id (choice_rows cs) ≡ false
 no_choice_row id [] h = refl

@@ -3,17 +3,20 @@ use Rattle.std.proofs.Common.{◌≡◌, ◌<◌, ◌^◌, ℕ, Bool, true, fals
 use Rattle.std.proofs.lemmas.Bool.Decides.{nat_tests}
 use Rattle.std.specs.Prelude.{drop, fold, slice_get, take}
 use Rattle.std.proofs.lemmas.Bool.{and_parts}
+use Rattle.std.proofs.lemmas.Slice.Eq.{bytes_eq-Decides}
 use Rattle.std.proofs.lemmas.List.{append-nil}
 use Rattle.std.specs.List.{list_all}
 use Rattle.std.specs.Str.{bytes_eq}
 use Rattle.std.proofs.Math.Bool.{and-false, and-true}
 use Rattle.clap.specs.Lexer.{long_of, short_of, usize_max}
 use Rattle.clap.specs.Simple.{entered, names_of, new_shape}
-use Rattle.clap.specs.Takes.{default_passes, entered_passes, is_given, is_valid, level_passes, settle_passes, turn_passes, walk_passes}
-use Rattle.clap.specs.Walk.{Names, Waiting, Walk, default_rows, has_row, idle, nothing_held, option, positional, reading_by, rows_after, settled_rows, walk_from, walked, with_default}
+use Rattle.clap.specs.Facts.{unwrap_or_range}
+use Rattle.clap.specs.Takes.{default_passes, entered_passes, is_given, is_valid, level_passes, settle_passes, turn_passes, value_passes, walk_passes}
+use Rattle.clap.specs.Walk.{Names, Waiting, Walk, action_of, arg_by_id, default_rows, has_row, idle, most_values, nothing_held, option, positional, reading_by, rows_after, settled_rows, walk_from, walked, with_default}
 use Rattle.clap.specs.Words.{Row, Rule, Shape, Text, built}
+use Rattle.clap.specs.declared.builder.ArgAction.TheVariants.{Set}
 use Rattle.clap.proofs.OnLiterals.{clap_on_literals}
-use Rattle.command_line.specs.App.{the_app, top_app, guest_app, demo_app, replay_app}
+use Rattle.command_line.specs.App.{the_app, top_app, guest_app, demo_app, replay_app, word_rule}
 use Rattle.command_line.specs.Plain.{Choice, GuestCommand, budget, caching, id_of, is_of, is_of_replay, is_plain_word, line, quantum, recording, report, required, running, schedule, sets, stamps, stats, stdin, telling, tracing, ways, words_of}
 use Rattle.command_line.specs.Plain as plain
 use Rattle.command_line.proofs.Rows.{choice_row, if_unset, new_row, new_row_kept, plain_row, unset_rows}
@@ -82,9 +85,7 @@ rules k = (shape k).rules
 pub shape_is : (g : GuestCommand) → guest_shape g ≡ shape (of_guest g)
 unfolding the_app top_app guest_app demo_app replay_app clap_on_literals
 shape_is running = refl
-shape_is tracing = refl
-shape_is caching = refl
-shape_is telling = refl
+shape_is _ = refl
 
 -- the option is one of the command
 abbrev pub has_option : Subcommand → Choice → Bool
@@ -137,6 +138,32 @@ all_true (w ∷ ws) = all_true ws
 
 -- ---- an option and its value
 
+-- an argument that takes one value, any text
+pub data TakesOne (id : Text) (a : Rule) : Type 0 where
+  takes_one : a.id ≡ id → action_of a ≡ Set → (unwrap_or_range a.range).start_inclusive ≡ 1 → most_values a ≡ 1
+      → reading_by a ≡ reading_by word_rule → ((word : Text) → value_passes a word ≡ true) → TakesOne id a
+
+-- its value is that word, where there is none yet
+one_settles : (k : Subcommand) (id : Text) (a : Rule) → arg_by_id (rules k) id ≡ Some a → TakesOne id a → (rows : List Row) (word : Text)
+    → has_row id rows ≡ false → Settles k rows (Some (id, word ∷ [])) (rows ++ plain_row id (word ∷ []) ∷ [])
+one_settles k id a found (takes_one own set least most reads passes) rows word none =
+    let free : has_row a.id rows ≡ false = ap (λ (t : Text). has_row t rows) own ∙ none in
+    record {
+      rows_are = rw (found, set, own, reads) (new_row id (word ∷ []) rows none);
+      passes = rw (found, least, most, set, free, passes word) refl;
+    }
+
+-- while it waits for its value
+one_word : (k : Subcommand) (id : Text) (a : Rule) → arg_by_id (rules k) id ≡ Some a → TakesOne id a → (rows : List Row) (word : Text) → IsNoFlag word
+    → walked (rules k) [] (stand rows (Some (id, [])) (option id) 1) word ≡ stand rows (Some (id, word ∷ [])) idle 1
+unfolding clap_on_literals
+one_word k id a found (takes_one own set least most reads passes) rows word h =
+    let same : bytes_eq id a.id ≡ true = (bytes_eq-Decides id a.id).1 (sym own) in
+    rw (h.no_dashes, h.no_long, h.no_short, found, same, most) refl
+
+one_turn : (k : Subcommand) (id : Text) (rows : List Row) (word : Text) → IsNoFlag word → turn k rows (Some (id, [])) (option id) 1 word ≡ true
+one_turn k id rows word h = rw (h.no_dashes, h.no_long, h.no_short) refl
+
 -- This flag is that of an option with one value.
 pub record TakesValue (k : Subcommand) (flag id : Text) : Type 0 where
   pub flag_word : (rows : List Row) (p : Pending)
@@ -148,132 +175,66 @@ pub record TakesValue (k : Subcommand) (flag id : Text) : Type 0 where
   pub settles : (rows : List Row) (word : Text) → has_row id rows ≡ false
       → Settles k rows (Some (id, word ∷ [])) (rows ++ plain_row id (word ∷ []) ∷ [])
 
+-- An argument that takes one value is read so where its flag is.
+takes_value : (k : Subcommand) (flag id : Text) (a : Rule) → arg_by_id (rules k) id ≡ Some a → TakesOne id a
+    → ((rows : List Row) (p : Pending) → walked (rules k) [] (stand rows p idle 1) flag ≡ stand (settled_rows (rules k) p rows) (Some (id, [])) (option id) 1)
+    → ((rows : List Row) (p : Pending) → turn k rows p idle 1 flag ≡ may_settle k rows p) → TakesValue k flag id
+takes_value k flag id a found one flag_word flag_turn = record {
+  flag_word = flag_word;
+  flag_turn = flag_turn;
+  value_word = one_word k id a found one;
+  value_turn = one_turn k id;
+  settles = one_settles k id a found one;
+}
+
 pub takes_stdin : (g : GuestCommand) → TakesValue (of_guest g) (codes "--stdin") (codes "stdin")
 unfolding the_app top_app guest_app demo_app replay_app clap_on_literals
-takes_stdin g = record {
-  flag_word = λ rows p. refl;
-  flag_turn = λ rows p. and-true _;
-  value_word = λ rows word h. rw (h.no_dashes, h.no_long, h.no_short) refl;
-  value_turn = λ rows word h. rw (h.no_dashes, h.no_long, h.no_short) refl;
-  settles = λ rows word h. record { rows_are = new_row (codes "stdin") (word ∷ []) rows h; passes = rw h refl };
-}
+takes_stdin g = takes_value (of_guest g) (codes "--stdin") (codes "stdin") _ refl (takes_one refl refl refl refl refl (λ word. refl)) (λ rows p. refl) (λ rows p. and-true _)
 
 pub takes_quantum : (g : GuestCommand) → TakesValue (of_guest g) (codes "--quantum") (codes "quantum")
 unfolding the_app top_app guest_app demo_app replay_app clap_on_literals
-takes_quantum g = record {
-  flag_word = λ rows p. refl;
-  flag_turn = λ rows p. and-true _;
-  value_word = λ rows word h. rw (h.no_dashes, h.no_long, h.no_short) refl;
-  value_turn = λ rows word h. rw (h.no_dashes, h.no_long, h.no_short) refl;
-  settles = λ rows word h. record { rows_are = new_row (codes "quantum") (word ∷ []) rows h; passes = rw h refl };
-}
+takes_quantum g = takes_value (of_guest g) (codes "--quantum") (codes "quantum") _ refl (takes_one refl refl refl refl refl (λ word. refl)) (λ rows p. refl) (λ rows p. and-true _)
 
 pub takes_schedule : (g : GuestCommand) → TakesValue (of_guest g) (codes "--schedule") (codes "schedule")
 unfolding the_app top_app guest_app demo_app replay_app clap_on_literals
-takes_schedule g = record {
-  flag_word = λ rows p. refl;
-  flag_turn = λ rows p. and-true _;
-  value_word = λ rows word h. rw (h.no_dashes, h.no_long, h.no_short) refl;
-  value_turn = λ rows word h. rw (h.no_dashes, h.no_long, h.no_short) refl;
-  settles = λ rows word h. record { rows_are = new_row (codes "schedule") (word ∷ []) rows h; passes = rw h refl };
-}
+takes_schedule g = takes_value (of_guest g) (codes "--schedule") (codes "schedule") _ refl (takes_one refl refl refl refl refl (λ word. refl)) (λ rows p. refl) (λ rows p. and-true _)
 
 pub takes_budget : (g : GuestCommand) → TakesValue (of_guest g) (codes "--budget") (codes "budget")
 unfolding the_app top_app guest_app demo_app replay_app clap_on_literals
-takes_budget g = record {
-  flag_word = λ rows p. refl;
-  flag_turn = λ rows p. and-true _;
-  value_word = λ rows word h. rw (h.no_dashes, h.no_long, h.no_short) refl;
-  value_turn = λ rows word h. rw (h.no_dashes, h.no_long, h.no_short) refl;
-  settles = λ rows word h. record { rows_are = new_row (codes "budget") (word ∷ []) rows h; passes = rw h refl };
-}
+takes_budget g = takes_value (of_guest g) (codes "--budget") (codes "budget") _ refl (takes_one refl refl refl refl refl (λ word. refl)) (λ rows p. refl) (λ rows p. and-true _)
 
 pub takes_output : (k : Subcommand) → TakesValue k (codes "-o") (codes "output")
 unfolding the_app top_app guest_app demo_app replay_app clap_on_literals
-takes_output (of_guest g) = record {
-  flag_word = λ rows p. refl;
-  flag_turn = λ rows p. and-true _;
-  value_word = λ rows word h. rw (h.no_dashes, h.no_long, h.no_short) refl;
-  value_turn = λ rows word h. rw (h.no_dashes, h.no_long, h.no_short) refl;
-  settles = λ rows word h. record { rows_are = new_row (codes "output") (word ∷ []) rows h; passes = rw h refl };
-}
-takes_output replaying = record {
-  flag_word = λ rows p. refl;
-  flag_turn = λ rows p. and-true _;
-  value_word = λ rows word h. rw (h.no_dashes, h.no_long, h.no_short) refl;
-  value_turn = λ rows word h. rw (h.no_dashes, h.no_long, h.no_short) refl;
-  settles = λ rows word h. record { rows_are = new_row (codes "output") (word ∷ []) rows h; passes = rw h refl };
-}
+takes_output (of_guest g) = takes_value (of_guest g) (codes "-o") (codes "output") _ refl (takes_one refl refl refl refl refl (λ word. refl)) (λ rows p. refl) (λ rows p. and-true _)
+takes_output replaying = takes_value replaying (codes "-o") (codes "output") _ refl (takes_one refl refl refl refl refl (λ word. refl)) (λ rows p. refl) (λ rows p. and-true _)
 
 pub run_takes_recording : TakesValue (of_guest running) (codes "--record") (codes "record")
 unfolding the_app top_app guest_app demo_app replay_app clap_on_literals
-run_takes_recording = record {
-  flag_word = λ rows p. refl;
-  flag_turn = λ rows p. and-true _;
-  value_word = λ rows word h. rw (h.no_dashes, h.no_long, h.no_short) refl;
-  value_turn = λ rows word h. rw (h.no_dashes, h.no_long, h.no_short) refl;
-  settles = λ rows word h. record { rows_are = new_row (codes "record") (word ∷ []) rows h; passes = rw h refl };
-}
+run_takes_recording = takes_value (of_guest running) (codes "--record") (codes "record") _ refl (takes_one refl refl refl refl refl (λ word. refl)) (λ rows p. refl) (λ rows p. and-true _)
 
 pub run_takes_stamps : TakesValue (of_guest running) (codes "--stamps") (codes "stamps")
 unfolding the_app top_app guest_app demo_app replay_app clap_on_literals
-run_takes_stamps = record {
-  flag_word = λ rows p. refl;
-  flag_turn = λ rows p. and-true _;
-  value_word = λ rows word h. rw (h.no_dashes, h.no_long, h.no_short) refl;
-  value_turn = λ rows word h. rw (h.no_dashes, h.no_long, h.no_short) refl;
-  settles = λ rows word h. record { rows_are = new_row (codes "stamps") (word ∷ []) rows h; passes = rw h refl };
-}
+run_takes_stamps = takes_value (of_guest running) (codes "--stamps") (codes "stamps") _ refl (takes_one refl refl refl refl refl (λ word. refl)) (λ rows p. refl) (λ rows p. and-true _)
 
 pub replay_takes_stamps : TakesValue replaying (codes "--stamps") (codes "stamps")
 unfolding the_app top_app guest_app demo_app replay_app clap_on_literals
-replay_takes_stamps = record {
-  flag_word = λ rows p. refl;
-  flag_turn = λ rows p. and-true _;
-  value_word = λ rows word h. rw (h.no_dashes, h.no_long, h.no_short) refl;
-  value_turn = λ rows word h. rw (h.no_dashes, h.no_long, h.no_short) refl;
-  settles = λ rows word h. record { rows_are = new_row (codes "stamps") (word ∷ []) rows h; passes = rw h refl };
-}
+replay_takes_stamps = takes_value replaying (codes "--stamps") (codes "stamps") _ refl (takes_one refl refl refl refl refl (λ word. refl)) (λ rows p. refl) (λ rows p. and-true _)
 
 pub contexts_takes_stamps : TakesValue (of_guest telling) (codes "--stamps") (codes "stamps")
 unfolding the_app top_app guest_app demo_app replay_app clap_on_literals
-contexts_takes_stamps = record {
-  flag_word = λ rows p. refl;
-  flag_turn = λ rows p. and-true _;
-  value_word = λ rows word h. rw (h.no_dashes, h.no_long, h.no_short) refl;
-  value_turn = λ rows word h. rw (h.no_dashes, h.no_long, h.no_short) refl;
-  settles = λ rows word h. record { rows_are = new_row (codes "stamps") (word ∷ []) rows h; passes = rw h refl };
-}
+contexts_takes_stamps = takes_value (of_guest telling) (codes "--stamps") (codes "stamps") _ refl (takes_one refl refl refl refl refl (λ word. refl)) (λ rows p. refl) (λ rows p. and-true _)
 
 pub cache_takes_sets : TakesValue (of_guest caching) (codes "--sets") (codes "sets")
 unfolding the_app top_app guest_app demo_app replay_app clap_on_literals
-cache_takes_sets = record {
-  flag_word = λ rows p. refl;
-  flag_turn = λ rows p. and-true _;
-  value_word = λ rows word h. rw (h.no_dashes, h.no_long, h.no_short) refl;
-  value_turn = λ rows word h. rw (h.no_dashes, h.no_long, h.no_short) refl;
-  settles = λ rows word h. record { rows_are = new_row (codes "sets") (word ∷ []) rows h; passes = rw h refl };
-}
+cache_takes_sets = takes_value (of_guest caching) (codes "--sets") (codes "sets") _ refl (takes_one refl refl refl refl refl (λ word. refl)) (λ rows p. refl) (λ rows p. and-true _)
 
 pub cache_takes_ways : TakesValue (of_guest caching) (codes "--ways") (codes "ways")
 unfolding the_app top_app guest_app demo_app replay_app clap_on_literals
-cache_takes_ways = record {
-  flag_word = λ rows p. refl;
-  flag_turn = λ rows p. and-true _;
-  value_word = λ rows word h. rw (h.no_dashes, h.no_long, h.no_short) refl;
-  value_turn = λ rows word h. rw (h.no_dashes, h.no_long, h.no_short) refl;
-  settles = λ rows word h. record { rows_are = new_row (codes "ways") (word ∷ []) rows h; passes = rw h refl };
-}
+cache_takes_ways = takes_value (of_guest caching) (codes "--ways") (codes "ways") _ refl (takes_one refl refl refl refl refl (λ word. refl)) (λ rows p. refl) (λ rows p. and-true _)
 
 pub cache_takes_line : TakesValue (of_guest caching) (codes "--line") (codes "line")
 unfolding the_app top_app guest_app demo_app replay_app clap_on_literals
-cache_takes_line = record {
-  flag_word = λ rows p. refl;
-  flag_turn = λ rows p. and-true _;
-  value_word = λ rows word h. rw (h.no_dashes, h.no_long, h.no_short) refl;
-  value_turn = λ rows word h. rw (h.no_dashes, h.no_long, h.no_short) refl;
-  settles = λ rows word h. record { rows_are = new_row (codes "line") (word ∷ []) rows h; passes = rw h refl };
-}
+cache_takes_line = takes_value (of_guest caching) (codes "--line") (codes "line") _ refl (takes_one refl refl refl refl refl (λ word. refl)) (λ rows p. refl) (λ rows p. and-true _)
 
 -- ---- the option without a value
 
@@ -314,44 +275,24 @@ no_option has = absurd (cc has)
 
 pub takes_choice : (k : Subcommand) (c : Choice) → has_option k c ≡ true → TakesChoice k c
 takes_choice (of_guest g) (stdin v) has = takes_stdin g
-takes_choice replaying (stdin v) has = no_option has
 takes_choice (of_guest g) (quantum v) has = takes_quantum g
-takes_choice replaying (quantum v) has = no_option has
 takes_choice (of_guest g) (schedule v) has = takes_schedule g
-takes_choice replaying (schedule v) has = no_option has
 takes_choice (of_guest g) (budget v) has = takes_budget g
-takes_choice replaying (budget v) has = no_option has
 takes_choice k (report v) has = takes_output k
 takes_choice (of_guest running) (recording v) has = run_takes_recording
 takes_choice (of_guest running) (stamps v) has = run_takes_stamps
 takes_choice (of_guest running) stats has = run_takes_stats
-takes_choice (of_guest running) (sets v) has = no_option has
-takes_choice (of_guest running) (ways v) has = no_option has
-takes_choice (of_guest running) (line v) has = no_option has
-takes_choice (of_guest tracing) (recording v) has = no_option has
-takes_choice (of_guest tracing) (stamps v) has = no_option has
-takes_choice (of_guest tracing) stats has = no_option has
-takes_choice (of_guest tracing) (sets v) has = no_option has
-takes_choice (of_guest tracing) (ways v) has = no_option has
-takes_choice (of_guest tracing) (line v) has = no_option has
-takes_choice (of_guest caching) (recording v) has = no_option has
-takes_choice (of_guest caching) (stamps v) has = no_option has
-takes_choice (of_guest caching) stats has = no_option has
+takes_choice (of_guest running) _ has = no_option has
+takes_choice (of_guest tracing) _ has = no_option has
 takes_choice (of_guest caching) (sets v) has = cache_takes_sets
 takes_choice (of_guest caching) (ways v) has = cache_takes_ways
 takes_choice (of_guest caching) (line v) has = cache_takes_line
-takes_choice (of_guest telling) (recording v) has = no_option has
+takes_choice (of_guest caching) _ has = no_option has
 takes_choice (of_guest telling) (stamps v) has = contexts_takes_stamps
-takes_choice (of_guest telling) stats has = no_option has
-takes_choice (of_guest telling) (sets v) has = no_option has
-takes_choice (of_guest telling) (ways v) has = no_option has
-takes_choice (of_guest telling) (line v) has = no_option has
-takes_choice replaying (recording v) has = no_option has
+takes_choice (of_guest telling) _ has = no_option has
 takes_choice replaying (stamps v) has = replay_takes_stamps
 takes_choice replaying stats has = replay_takes_stats
-takes_choice replaying (sets v) has = no_option has
-takes_choice replaying (ways v) has = no_option has
-takes_choice replaying (line v) has = no_option has
+takes_choice replaying _ has = no_option has
 
 -- ---- the image, or the trace
 
@@ -374,8 +315,8 @@ path_turn replaying rows (Some q) word h = rw (h.no_dashes, h.no_long, h.no_shor
 pub path_settles : (k : Subcommand) (rows : List Row) (path : Text) → has_row (path_id k) rows ≡ false
     → Settles k rows (Some (path_id k, path ∷ [])) (rows ++ plain_row (path_id k) (path ∷ []) ∷ [])
 unfolding the_app top_app guest_app demo_app replay_app clap_on_literals
-path_settles (of_guest g) rows path h = record { rows_are = new_row (codes "image") (path ∷ []) rows h; passes = rw h refl }
-path_settles replaying rows path h = record { rows_are = new_row (codes "trace") (path ∷ []) rows h; passes = rw h refl }
+path_settles (of_guest g) rows path h = one_settles (of_guest g) (codes "image") _ refl (takes_one refl refl refl refl refl (λ word. refl)) rows path h
+path_settles replaying rows path h = one_settles replaying (codes "trace") _ refl (takes_one refl refl refl refl refl (λ word. refl)) rows path h
 
 -- ---- the further words
 
@@ -438,9 +379,7 @@ finished_shared rest rows = ap (λ x. fold with_default x rest) (no_defaults sha
 -- the command has `--stats`
 abbrev pub has_stats : Subcommand → Bool
 has_stats (of_guest running) = true
-has_stats (of_guest tracing) = false
-has_stats (of_guest caching) = false
-has_stats (of_guest telling) = false
+has_stats (of_guest _) = false
 has_stats replaying = true
 
 -- the row that is added where the command has the option and it is not given
@@ -477,8 +416,6 @@ needed replaying = codes "trace" ∷ codes "output" ∷ []
 
 pub valid_given : (k : Subcommand) (rows : List Row) → list_all (λ id. is_given id rows) (needed k) ≡ true → is_valid (shape k) rows false ≡ true
 unfolding the_app top_app guest_app demo_app replay_app clap_on_literals
-valid_given (of_guest running) rows h = two_needed rows h
-valid_given (of_guest tracing) rows h = two_needed rows h
 valid_given (of_guest caching) rows h =
     let i = and_parts (is_given (codes "image") rows) _ h in
     let s = and_parts (is_given (codes "sets") rows) _ i.1 in
@@ -486,7 +423,7 @@ valid_given (of_guest caching) rows h =
     let l = and_parts (is_given (codes "line") rows) _ w.1 in
     let o = and_parts (is_given (codes "output") rows) true l.1 in
     rw (o.0, i.0, s.0, w.0, l.0) refl
-valid_given (of_guest telling) rows h = two_needed rows h
+valid_given (of_guest _) rows h = two_needed rows h
 valid_given replaying rows h =
     let t = and_parts (is_given (codes "trace") rows) _ h in
     let o = and_parts (is_given (codes "output") rows) true t.1 in
@@ -500,10 +437,7 @@ no_override replaying = refl
 pub defaults_pass : (k : Subcommand) → list_all default_passes (rules k) ≡ true
 unfolding the_app top_app guest_app demo_app replay_app clap_on_literals
 defaults_pass (of_guest running) = refl
-defaults_pass (of_guest tracing) = refl
-defaults_pass (of_guest caching) = refl
-defaults_pass (of_guest telling) = refl
-defaults_pass replaying = refl
+defaults_pass _ = refl
 
 -- ---- the name of a command
 
@@ -520,35 +454,23 @@ at_command k words = record (walk_from nothing_held) { stopped = Some (name_of k
 pub stops_at : (k : Subcommand) → walked top_rules names (walk_from nothing_held) (name_of k) ≡ at_command k []
 unfolding the_app top_app guest_app demo_app replay_app clap_on_literals
 stops_at (of_guest running) = refl
-stops_at (of_guest tracing) = refl
-stops_at (of_guest caching) = refl
-stops_at (of_guest telling) = refl
-stops_at replaying = refl
+stops_at _ = refl
 
 pub turn_at : (k : Subcommand) → turn_passes (built the_app).top names (walk_from nothing_held) (name_of k) ≡ true
 unfolding the_app top_app guest_app demo_app replay_app clap_on_literals
 turn_at (of_guest running) = refl
-turn_at (of_guest tracing) = refl
-turn_at (of_guest caching) = refl
-turn_at (of_guest telling) = refl
-turn_at replaying = refl
+turn_at _ = refl
 
 pub enters_command : (k : Subcommand) (rest : List Text) → entered (built the_app) (Some (name_of k, rest)) ≡ Some (name_of k, rows_after (rules k) [] rest)
 unfolding the_app top_app guest_app demo_app replay_app clap_on_literals
 enters_command (of_guest running) rest = refl
-enters_command (of_guest tracing) rest = refl
-enters_command (of_guest caching) rest = refl
-enters_command (of_guest telling) rest = refl
-enters_command replaying rest = refl
+enters_command _ rest = refl
 
 pub enters_passes : (k : Subcommand) (rest : List Text) → level_passes (shape k) [] nothing_held rest false ≡ true
     → entered_passes (built the_app) (Some (name_of k, rest)) ≡ true
 unfolding the_app top_app guest_app demo_app replay_app clap_on_literals
 enters_passes (of_guest running) rest h = h
-enters_passes (of_guest tracing) rest h = h
-enters_passes (of_guest caching) rest h = h
-enters_passes (of_guest telling) rest h = h
-enters_passes replaying rest h = h
+enters_passes _ rest h = h
 
 -- ---- one word of a walk
 

@@ -102,12 +102,10 @@ two_given false i h = let no : false ≡ true = h in cc
 guest_requires : (g : GuestCommand) (rows : List Row) → is_valid (shape (of_guest g)) rows false ≡ true
     → (is_given (codes "output") rows ≡ true) × (is_given (codes "image") rows ≡ true)
 unfolding the_app top_app guest_app demo_app replay_app clap_on_literals
-guest_requires running rows h = two_given (is_given (codes "output") rows) (is_given (codes "image") rows) h
-guest_requires tracing rows h = two_given (is_given (codes "output") rows) (is_given (codes "image") rows) h
 guest_requires caching rows h =
     let first = both (is_given (codes "output") rows) _ h in
     (first.0, (both (is_given (codes "image") rows) _ first.1).0)
-guest_requires telling rows h = two_given (is_given (codes "output") rows) (is_given (codes "image") rows) h
+guest_requires _ rows h = two_given (is_given (codes "output") rows) (is_given (codes "image") rows) h
 
 -- `replay` the trace
 replay_requires : (rows : List Row) → is_valid replay_shape rows false ≡ true → (is_given (codes "output") rows ≡ true) × (is_given (codes "trace") rows ≡ true)

@@ -1,12 +1,11 @@
 -- The contexts of a run with one event more.
-use Rattle.std.proofs.Common.{◌≡◌, ◌∙◌, ℕ, ◌+◌, ◌*◌, ◌≤◌, false, true, List, [], ◌∷◌, ◌++◌, None, Some, ap, subst, sym, arith}
+use Rattle.std.proofs.Common.{◌≡◌, ◌∙◌, ℕ, ◌+◌, false, true, List, [], ◌∷◌, ◌++◌, None, Some, ap, subst, sym, arith}
 use Rattle.std.specs.Prelude.{not}
 use Rattle.std.specs.Option.{option_to_list}
 use Rattle.trace_model.specs.declared.event_kinds.Event.{Event}
 use Rattle.trace_model.specs.declared.slow_profile.Done.{Done}
-use Rattle.trace_model.specs.Depth.{is_within, pending}
+use Rattle.trace_model.specs.Depth.{is_within}
 use Rattle.trace_model.specs.Profile.{ended, steps}
-use Rattle.trace_model.proofs.Cut.{within_is_of_each}
 use Rattle.run_profile.proofs.Profiles.{does_not_fit, one_more}
 use Rattle.shadow_core.proofs.Applied.{deep_does_not_fit}
 use Rattle.shadow_core.specs.Applying.{IsTaken, is_too_deep}
@@ -55,7 +54,3 @@ settled most k past p none = subst (HasTree k.tree) (sym (p.all ∙ ap (λ n. op
 -- what does not fit is too deep
 pub is_deep : (most : ℕ) (e : Event) (k : Kept) (past : List Event) → AreContextsOf most k past → is_within most (e ∷ past) ≡ false → is_too_deep most e past ≡ true
 is_deep most e k past p is = deep_does_not_fit most e (table_of_state k.stamps) past p.stands ∙ ap not is
-
--- the open activations are few
-pub few_open : (most : ℕ) (k : Kept) (past : List Event) → AreContextsOf most k past → 3 * (pending past + 1) ≤ most
-few_open most k past p = (within_is_of_each past most).0 p.stands.within 0

@@ -1,9 +1,8 @@
 //! The contexts of a run that goes on.
-ghost use Rattle.std.specs.Prelude.{◌≡◌, ◌≤◌, [], ◌∷◌, List, nat_lt, false, IfOk, IsOk, MatchOption, None, Ok, OnErr, OnOk};
+ghost use Rattle.std.specs.Prelude.{◌≡◌, ◌≤◌, [], ◌∷◌, List, false, IfOk, IsOk, MatchOption, None, Ok, OnErr, OnOk};
 ghost use Rattle.trace_model.specs.declared.event_kinds.Event.{Event};
 ghost use Rattle.trace_model.specs.declared.observer.Observed.{Observed};
-ghost use Rattle.trace_model.specs.Depth.{count_begun, is_within};
-ghost use Rattle.shadow_core.specs.Applying.{is_too_deep};
+ghost use Rattle.trace_model.specs.Depth.{is_within};
 ghost use Rattle.trace_model.specs.Observing.{MayTake, Observes, StandsAsBefore};
 ghost use Rattle.trace_model.specs.Profile.{ended};
 ghost use Rattle.context_profile.specs.Kept.{AreContextsOf, AreOfLight, AreTotalsOf, HasTree, IsPastNumbers, MayGrow};
@@ -67,14 +66,6 @@ fn grow(tree: &mut Option<Tree>, e: Event, ends: &[Done]) -> Result<(), AllocErr
     }
 }
 
-// Whether the event begins an activation.
-#[inline(always)]
-fn begins(e: &Event) -> bool
-    ensures { result ≡ nat_lt 0 (count_begun e.now) }
-{
-    matches!(*e, Event::Start { .. } | Event::Call { .. })
-}
-
 impl<S: Lanes> ContextProfile<S> {
     /// No event so far.
     pub fn new(alloc: Global) -> Result<ContextProfile<S>, AllocError>
@@ -107,16 +98,6 @@ impl<S: Lanes> ContextProfile<S> {
             self.next = None;
         }
         Ok(())
-    }
-
-    // Whether the event begins an activation too many.
-    #[inline(always)]
-    fn is_too_deep(&self, e: &Event) -> bool
-        requires { (past : List Event) × AreContextsOf S.MAX self.now past }
-        ensures { (past : List Event) → AreContextsOf S.MAX self.now past
-            → result ≡ is_too_deep S.MAX e.now past }
-    {
-        begins(e) && u64::from(S::MAX) < 3 * (self.profiler.pending() + 2)
     }
 
     /// What the run comes to with its contexts; `None` where they are more than can be numbered, which wants no memory.
@@ -169,7 +150,7 @@ impl<S: Lanes> Observer for ContextProfile<S> {
         ensures too_deep { (past : List Event) → AreContextsOf S.MAX self.old past
             → is_within S.MAX (e ∷ past) ≡ false → result ≡ Ok Observed.Refused }
     {
-        if self.is_too_deep(&e) {
+        if self.profiler.is_too_deep(&e) {
             return Ok(Observed::Refused);
         }
         self.settle()?;

@@ -77,7 +77,7 @@ read_is_lawful c =
     lawful_fills c (advanced file (arg c 0) n c.kernel) n (arg c 1) (read_bytes c)
     (advanced_steady file (arg c 0) n c.kernel) (advanced_able file (arg c 0) n c.kernel c.tid) all.1.0)
 
-min_few : (n : ℕ) → min n 65536 ≤ 65536
+pub min_few : (n : ℕ) → min n 65536 ≤ 65536
 min_few n = omega arith
 
 pub write_is_lawful : (c : Call) → number c ≡ 64 → IsLawful c (write c)

@@ -1,6 +1,6 @@
 -- The calls on files in parts are lawful.
 use Rattle.std.proofs.Common.{◌≡◌, ℕ, zero, suc, ◌≤◌, ◌+◌, ◌*◌, true, false, List, [], ◌∷◌, ◌++◌, length, length-append, take, drop, arith, refl, ap, ◌∙◌}
-use Rattle.std.specs.Prelude.{not, nat_lt, min}
+use Rattle.std.specs.Prelude.{not, nat_lt}
 use Rattle.std.proofs.lemmas.Bool.{and_parts, not-false}
 use Rattle.std.proofs.lemmas.Bool.Decides.{nat_tests}
 use Rattle.std.proofs.lemmas.List.{length-take}
@@ -16,7 +16,7 @@ use Rattle.guest_calls.specs.Kernel.{descriptor}
 use Rattle.guest_calls.specs.Lawful.{AreCopies, IsLawful}
 use Rattle.guest_calls.specs.Results.{Call, Guest, arg, fill_event, filled, number, read_event, reads, returns, ◌▷◌}
 use Rattle.guest_calls.specs.Vectors.{all_in_reach, filled_parts, parts, parts_at, read_events, readv, readv_bytes, readv_effect, readv_parts, readv_tests, total, writev, writev_count, writev_effect, writev_parts, writev_tests}
-use Rattle.guest_calls.proofs.FileCalls.{advanced_able, advanced_steady}
+use Rattle.guest_calls.proofs.FileCalls.{advanced_able, advanced_steady, min_few}
 use Rattle.guest_calls.proofs.Lawful.{AreFailed, AreFair, IsKept, calm_lawful, copies_append, fill_copies, fill_few, fill_weight, filled_kept, kept, lawful_by, lawful_unless, read_copies, read_few, read_weight}
 use Rattle.guest_calls.proofs.PartLists.{length_carried, total_carried}
 use Rattle.guest_calls.proofs.Reach.{readable_end, writable_end}
@@ -135,9 +135,6 @@ readv_is_lawful c =
     (few_of (arg c 2) all.1.0) (length_carried n (parts c) ∙ length_parts c.memory (arg c 1) (arg c 2)) refl
     (filled_copies c.memory c.tid (readv_parts c) (readv_bytes c) read
     (not-false (all_in_reach (can_write c.memory) (readv_parts c)) all.1.1.1.1.0) (table_copies c all.1.1.0))))
-
-min_few : (n : ℕ) → min n 65536 ≤ 65536
-min_few n = omega arith
 
 pub writev_is_lawful : (c : Call) → number c ≡ 66 → IsLawful c (writev c)
 writev_is_lawful c is =

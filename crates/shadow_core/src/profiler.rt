@@ -389,9 +389,9 @@ impl<S: Lanes> Profiler<S> {
         u64::from(S::MAX) < 3 * (self.threads.frame_count() as u64 + 2)
     }
 
-    // Whether the event begins an activation too many.
+    /// Whether the event begins an activation too many, so that `apply` would refuse it.
     #[inline(always)]
-    fn is_too_deep(&self, e: &Event) -> bool
+    pub fn is_too_deep(&self, e: &Event) -> bool
         requires { MayTake (StandsFor S.MAX) self.now e.now }
         ensures { (past : List Event) → StandsFor S.MAX self.now past
             → result ≡ is_too_deep S.MAX e.now past }

@@ -28,27 +28,27 @@ returns-in-Err-TooDeep-clause-observed g c = λ past kept.
     (λ shallow. absurd (let no = c.in-Err-TooDeep.ensures.not_deep past p.stands shallow in cc))
 
 pub is_too_deep-requires : goal.is_too_deep-requires
-is_too_deep-requires g c = (c.requires.past, c.requires.now)
+is_too_deep-requires g c = record { past = c.requires.past; now = c.requires.now.stands; formed = c.requires.formed }
 
 pub returns-then-is_too_deep-clause-observed : goal.returns-then-is_too_deep-clause-observed
 returns-then-is_too_deep-clause-observed g c = λ past kept.
-    let deep = c.is_too_deep.ensures past kept in
+    let deep = c.is_too_deep.ensures past kept.stands in
     (kept, does_not_fit g.S.Stamp.MAX c.args.e c.args.self.now.stamps past kept.stands (λ shallow. absurd (let so = c.if-is_too_deep.true in cc)))
 
 pub returns-in_err-settle-clause-too_deep : goal.returns-in_err-settle-clause-too_deep
 returns-in_err-settle-clause-too_deep g c = λ past kept out.
-    let deep = c.is_too_deep.ensures past kept ∙ is_deep g.S.Stamp.MAX c.args.e _ past kept out in
+    let deep = c.is_too_deep.ensures past kept.stands ∙ is_deep g.S.Stamp.MAX c.args.e _ past kept out in
     let no = c.if-is_too_deep.false in
     absurd (cc)
 
 pub returns-in-Ok-clause-too_deep : goal.returns-in-Ok-clause-too_deep
 returns-in-Ok-clause-too_deep g c = λ past kept out.
-    let deep = c.is_too_deep.ensures past kept ∙ is_deep g.S.Stamp.MAX c.args.e _ past kept out in
+    let deep = c.is_too_deep.ensures past kept.stands ∙ is_deep g.S.Stamp.MAX c.args.e _ past kept out in
     let no = c.if-is_too_deep.false in
     absurd (cc)
 
 pub returns-in-Err-Memory-clause-too_deep : goal.returns-in-Err-Memory-clause-too_deep
 returns-in-Err-Memory-clause-too_deep g c = λ past kept out.
-    let deep = c.is_too_deep.ensures past kept ∙ is_deep g.S.Stamp.MAX c.args.e _ past kept out in
+    let deep = c.is_too_deep.ensures past kept.stands ∙ is_deep g.S.Stamp.MAX c.args.e _ past kept out in
     let no = c.if-is_too_deep.false in
     absurd (cc)
