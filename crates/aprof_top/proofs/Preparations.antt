@@ -21,24 +21,7 @@ module _ (options : GuestOptions) (old new : FilesState) (files : List (List ℕ
   -- the image was not taken
   pub image_refused : (e : ElfError) → (e ≢ elf.Memory → first_refusal (loaded_of options files).image ≡ Some e) → Ends (of_image e)
   image_refused elf.Memory refused = inl all.are.same
-  image_refused elf.Short refused = inr (record { files = files; loaded = all; refused = refused (λ e. absurd (cc)) })
-  image_refused elf.Magic refused = inr (record { files = files; loaded = all; refused = refused (λ e. absurd (cc)) })
-  image_refused elf.Class refused = inr (record { files = files; loaded = all; refused = refused (λ e. absurd (cc)) })
-  image_refused elf.ByteOrder refused = inr (record { files = files; loaded = all; refused = refused (λ e. absurd (cc)) })
-  image_refused elf.Version refused = inr (record { files = files; loaded = all; refused = refused (λ e. absurd (cc)) })
-  image_refused elf.FileKind refused = inr (record { files = files; loaded = all; refused = refused (λ e. absurd (cc)) })
-  image_refused elf.Machine refused = inr (record { files = files; loaded = all; refused = refused (λ e. absurd (cc)) })
-  image_refused elf.Flags refused = inr (record { files = files; loaded = all; refused = refused (λ e. absurd (cc)) })
-  image_refused elf.HeaderSize refused = inr (record { files = files; loaded = all; refused = refused (λ e. absurd (cc)) })
-  image_refused elf.HeaderTable refused = inr (record { files = files; loaded = all; refused = refused (λ e. absurd (cc)) })
-  image_refused elf.Interpreter refused = inr (record { files = files; loaded = all; refused = refused (λ e. absurd (cc)) })
-  image_refused elf.SegmentFile refused = inr (record { files = files; loaded = all; refused = refused (λ e. absurd (cc)) })
-  image_refused elf.SegmentSize refused = inr (record { files = files; loaded = all; refused = refused (λ e. absurd (cc)) })
-  image_refused elf.SegmentPlace refused = inr (record { files = files; loaded = all; refused = refused (λ e. absurd (cc)) })
-  image_refused elf.Overlap refused = inr (record { files = files; loaded = all; refused = refused (λ e. absurd (cc)) })
-  image_refused elf.NoLoad refused = inr (record { files = files; loaded = all; refused = refused (λ e. absurd (cc)) })
-  image_refused elf.Entry refused = inr (record { files = files; loaded = all; refused = refused (λ e. absurd (cc)) })
-  image_refused elf.Pages refused = inr (record { files = files; loaded = all; refused = refused (λ e. absurd (cc)) })
+  image_refused _ refused = inr (record { files = files; loaded = all; refused = refused (λ e. absurd (cc)) })
 
   -- the schedule was not taken
   pub schedule_refused : first_refusal (loaded_of options files).image ≡ None → (e : ScheduleError) → recordings.IsRefused (loaded_of options files).schedule e → Ends (of_schedule e)

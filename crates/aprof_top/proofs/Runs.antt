@@ -92,17 +92,7 @@ pub FilesRun-refused : (job : Job) (loaded : Loaded) (o : Outside) (e : declared
 FilesRun-refused job loaded o (ending.Decided (BadImage e)) refused =
     handed_refusal job loaded (BadImage e) o (subst (λ why. ByImage job loaded (refusal (BadImage e)) why) (sym refused) refl)
 FilesRun-refused job loaded o (ending.Decided (BadSchedule line)) (accepted, bad) = handed_refusal job loaded (BadSchedule line) o (IsRun-bad_line job loaded accepted line bad)
-FilesRun-refused job loaded o (ending.Decided BadCommand) refused = absurd refused
-FilesRun-refused job loaded o (ending.Decided (BadTrace why)) refused = absurd refused
-FilesRun-refused job loaded o (ending.Decided TooLarge) refused = absurd refused
-FilesRun-refused job loaded o (ending.Decided (Ran finish)) refused = absurd refused
-FilesRun-refused job loaded o (ending.Decided ResultTooLarge) refused = absurd refused
-FilesRun-refused job loaded o (ending.Decided Replayed) refused = absurd refused
-FilesRun-refused job loaded o (ending.Decided Summarized) refused = absurd refused
-FilesRun-refused job loaded o (ending.CannotRead source) refused = absurd refused
-FilesRun-refused job loaded o ending.CannotWrite refused = absurd refused
-FilesRun-refused job loaded o ending.CannotPut refused = absurd refused
-FilesRun-refused job loaded o ending.OutOfMemory refused = absurd refused
+FilesRun-refused job loaded o _ refused = absurd refused
 
 -- ---- the guest is run
 module _ (job : Job) (loaded : Loaded) (accepted : first_refusal loaded.image ≡ None) (turns : List Entry) (entries : AllByRecursion IsEntry turns)

@@ -75,23 +75,13 @@ module _ (P : ℕ → Type 0) where
   begun_all : (e : Event) (past : List Event) (t at : ℕ) → All P (begins (e ∷ past)) → All IsOfEntry (begun e t at)
   begun_all (Start tid entry) past t at all = begun_if (nat_eq tid t) _ (All-head P entry (begins past) all)
   begun_all (Call tid entry back) past t at all = begun_if (nat_eq tid t) _ (All-head P entry (begins past) all)
-  begun_all (Step tid) past t at all = All-nil IsOfEntry
-  begun_all (Read tid first count) past t at all = All-nil IsOfEntry
-  begun_all (Write tid first count) past t at all = All-nil IsOfEntry
-  begun_all (Fill first count) past t at all = All-nil IsOfEntry
-  begun_all (Ret tid target) past t at all = All-nil IsOfEntry
-  begun_all (End tid) past t at all = All-nil IsOfEntry
+  begun_all _ past t at all = All-nil IsOfEntry
 
   -- those of an earlier past are among them
   earlier : (e : Event) (past : List Event) → All P (begins (e ∷ past)) → All P (begins past)
   earlier (Start tid entry) past all = All-tail P entry (begins past) all
   earlier (Call tid entry back) past all = All-tail P entry (begins past) all
-  earlier (Step tid) past all = all
-  earlier (Read tid first count) past all = all
-  earlier (Write tid first count) past all = all
-  earlier (Fill first count) past all = all
-  earlier (Ret tid target) past all = all
-  earlier (End tid) past all = all
+  earlier _ past all = all
 
   open_all : (past : List Event) (t : ℕ) → All P (begins past) → All IsOfEntry (open_calls past t)
   open_all [] t all = All-nil IsOfEntry

@@ -194,33 +194,21 @@ names_fit image named (entry ∷ entries) low =
 
 kind_in_range : (kind : FaultKind) → (1 ≤ kind_number kind) × (kind_number kind ≤ 7)
 kind_in_range Illegal = (omega arith, omega arith)
-kind_in_range Fetch = (omega arith, omega arith)
-kind_in_range Load = (omega arith, omega arith)
-kind_in_range Store = (omega arith, omega arith)
-kind_in_range JumpAlign = (omega arith, omega arith)
-kind_in_range AtomicAlign = (omega arith, omega arith)
-kind_in_range Break = (omega arith, omega arith)
+kind_in_range _ = (omega arith, omega arith)
 
 finish_fits : (lines : ℕ) (f : Finish) → lines < 2 ^ 64 → IsEndInRange lines f → Fits (OfFinish f)
 finish_fits lines (ends.Exit status) few is = record { ranges = ((omega arith, omega (arith, is)), tt); content = tt }
 finish_fits lines (ends.Fault kind tid at) few is = record { ranges = (kind_in_range kind, (is.0, ((omega arith, omega (arith, is.1)), tt))); content = tt }
-finish_fits lines ends.Budget few is = record { ranges = tt; content = tt }
-finish_fits lines ends.Deadlock few is = record { ranges = tt; content = tt }
-finish_fits lines ends.Deep few is = record { ranges = tt; content = tt }
 finish_fits lines (ends.Schedule line) few is =
     record { ranges = ((omega arith, omega arith), ((omega arith, omega (arith, is.1, few)), tt)); content = is.0 }
+finish_fits lines _ few is = record { ranges = tt; content = tt }
 
 -- ---- the whole
 begun_low : (past : List Event) → AllByRecursion IsInRange past → All IsAddress (begins past)
 begun_low [] all = All-nil IsAddress
 begun_low (Start tid entry ∷ past) all = All-cons IsAddress entry (begins past) all.0.1 (begun_low past all.1)
 begun_low (Call tid entry back ∷ past) all = All-cons IsAddress entry (begins past) all.0.1 (begun_low past all.1)
-begun_low (Step tid ∷ past) all = begun_low past all.1
-begun_low (Read tid first count ∷ past) all = begun_low past all.1
-begun_low (Write tid first count ∷ past) all = begun_low past all.1
-begun_low (Fill first count ∷ past) all = begun_low past all.1
-begun_low (Ret tid target ∷ past) all = begun_low past all.1
-begun_low (End tid ∷ past) all = begun_low past all.1
+begun_low (_ ∷ past) all = begun_low past all.1
 
 pub records_fit : (file : List ℕ) (lines : ℕ) (run : Profiled) → lines < 2 ^ 64 → TellsInRange lines run
     → AllByRecursion Fits (whole_records run.past (names_begun (image_of file) run.past) run.finish)

@@ -133,9 +133,7 @@ abbrev pub StatsEnd : List ℕ → SinkState → SinkState → Result Unit Endin
 StatsEnd stats old new (Ok done) = new ≡ appended old stats
 StatsEnd stats old new (Err CannotPut) = FailsWithin stats old new
 StatsEnd stats old new (Err OutOfMemory) = new ≡ old
-StatsEnd stats old new (Err (Decided verdict)) = ⊥
-StatsEnd stats old new (Err (CannotRead source)) = ⊥
-StatsEnd stats old new (Err CannotWrite) = ⊥
+StatsEnd stats old new _ = ⊥
 
 -- All was stored, and the statistics were put so.
 pub record AreStored (outcome : Outcome) (old new : Desk) (Puts : SinkState → SinkState → Type 0) : Type 0 where
@@ -153,8 +151,7 @@ RunIsStored outcome old new (Ok verdict) = (outcome.verdict ≡ verdict) × AreS
 RunIsStored outcome old new (Err CannotWrite) = StopsAtStores old new (StoreFails outcome.stores)
 RunIsStored outcome old new (Err CannotPut) = AreStored outcome old new (FailsWithin outcome.stats)
 RunIsStored outcome old new (Err OutOfMemory) = StopsAtStores old new (λ before after. (count : ℕ) × (after ≡ with_stores (take count outcome.stores) before))
-RunIsStored outcome old new (Err (Decided verdict)) = ⊥
-RunIsStored outcome old new (Err (CannotRead source)) = ⊥
+RunIsStored outcome old new _ = ⊥
 
 -- The outcome of a run of these files is handed out so.
 pub record IsHandedOut (job : Job) (loaded : Loaded) (Delivered : Outcome → Type 0) : Type 0 where

@@ -9,8 +9,8 @@ use Rattle.aprof_top.specs.Loads.{Loaded, loaded_of, loaded_paths, shared_count,
 use Rattle.aprof_top.specs.Schedules.{Reads}
 use Rattle.aprof_top.specs.Schedules.Reading.{BadLine, Turns}
 use Rattle.aprof_top.specs.declared.ending.Ending.{Ending}
-use Rattle.aprof_top.specs.declared.ending.Ending.TheVariants.{Decided, CannotRead, CannotWrite, CannotPut, OutOfMemory}
-use Rattle.aprof_top.specs.declared.ending.Verdict.TheVariants.{BadCommand, BadImage, BadSchedule, BadTrace, TooLarge, Ran, Replayed, ResultTooLarge, Summarized}
+use Rattle.aprof_top.specs.declared.ending.Ending.TheVariants.{Decided}
+use Rattle.aprof_top.specs.declared.ending.Verdict.TheVariants.{BadImage, BadSchedule}
 use Rattle.aprof_top.specs.declared.preparation.Prepared as declared
 
 -- All files of a command were loaded, and no limit is passed: these.
@@ -22,17 +22,7 @@ pub record AreAll (options : GuestOptions) (files : List (List ℕ)) (old new : 
 abbrev pub Refuses : Loaded → Ending → Type 0
 Refuses loaded (Decided (BadImage e)) = first_refusal loaded.image ≡ Some e
 Refuses loaded (Decided (BadSchedule line)) = (first_refusal loaded.image ≡ None) × Reads loaded.schedule (BadLine line)
-Refuses loaded (Decided BadCommand) = ⊥
-Refuses loaded (Decided (BadTrace why)) = ⊥
-Refuses loaded (Decided TooLarge) = ⊥
-Refuses loaded (Decided (Ran finish)) = ⊥
-Refuses loaded (Decided ResultTooLarge) = ⊥
-Refuses loaded (Decided Replayed) = ⊥
-Refuses loaded (Decided Summarized) = ⊥
-Refuses loaded (CannotRead source) = ⊥
-Refuses loaded CannotWrite = ⊥
-Refuses loaded CannotPut = ⊥
-Refuses loaded OutOfMemory = ⊥
+Refuses loaded _ = ⊥
 
 -- The files were loaded, and one of them is refused.
 pub record AreRefused (options : GuestOptions) (old new : FilesState) (e : Ending) : Type 0 where

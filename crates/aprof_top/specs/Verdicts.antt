@@ -39,12 +39,8 @@ verdict_text Summarized = []
 
 -- a run came to it, or a trace was read
 abbrev pub IsOfRun : Verdict → Type 0
-IsOfRun BadCommand = ⊥
-IsOfRun (BadImage e) = ⊥
-IsOfRun (BadSchedule line) = ⊥
-IsOfRun (BadTrace why) = ⊥
-IsOfRun TooLarge = ⊥
 IsOfRun (Ran finish) = Unit {0}
 IsOfRun ResultTooLarge = Unit {0}
 IsOfRun Replayed = Unit {0}
 IsOfRun Summarized = Unit {0}
+IsOfRun _ = ⊥

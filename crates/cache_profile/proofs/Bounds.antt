@@ -47,22 +47,11 @@ length-accesses_of shape e past =
 event-le : (shape : Form) (e : Event) (past : List Event) → MayFollow e past → length (lines_accessed shape e) ≤ 2 ^ 30
 event-le shape (Read tid first count) past may = omega (arith, lines-le shape first count, may.1.1)
 event-le shape (Write tid first count) past may = omega (arith, lines-le shape first count, may.1.1)
-event-le shape (Step tid) past may = omega arith
-event-le shape (Fill first count) past may = omega arith
-event-le shape (Call tid entry back) past may = omega arith
-event-le shape (Ret tid target) past may = omega arith
-event-le shape (Start tid entry) past may = omega arith
-event-le shape (End tid) past may = omega arith
+event-le shape _ past may = omega arith
 
 some_weight : (e : Event) → 1 ≤ weight_of e
 some_weight (Step tid) = omega arith
-some_weight (Read tid first count) = omega arith
-some_weight (Write tid first count) = omega arith
-some_weight (Fill first count) = omega arith
-some_weight (Call tid entry back) = omega arith
-some_weight (Ret tid target) = omega arith
-some_weight (Start tid entry) = omega arith
-some_weight (End tid) = omega arith
+some_weight _ = omega arith
 
 -- an event has at most as many lines as the memory has words, and weighs at least one
 all-le : (shape : Form) (past : List Event) → IsWellFormed past → length (all_accesses shape past) ≤ 2 ^ 30 * weight past
@@ -102,13 +91,7 @@ have_room shape past formed = counts-fit (all_accesses shape past) (omega (arith
 steps-le : (past : List Event) → steps past ≤ weight past
 steps-le [] = omega arith
 steps-le (Step tid ∷ past) = omega (arith, steps-le past)
-steps-le (Read tid first count ∷ past) = omega (arith, steps-le past)
-steps-le (Write tid first count ∷ past) = omega (arith, steps-le past)
-steps-le (Fill first count ∷ past) = omega (arith, steps-le past)
-steps-le (Call tid entry back ∷ past) = omega (arith, steps-le past)
-steps-le (Ret tid target ∷ past) = omega (arith, steps-le past)
-steps-le (Start tid entry ∷ past) = omega (arith, steps-le past)
-steps-le (End tid ∷ past) = omega (arith, steps-le past)
+steps-le (_ ∷ past) = omega (arith, steps-le past)
 
 pub one_more_step : (e : Event) (past : List Event) → IsWellFormed (e ∷ past) → steps past + 1 < 2 ^ 64
 one_more_step e past formed = omega (arith, steps-le past, formed.1)

@@ -25,13 +25,7 @@ use Rattle.call_tracker.specs.CallStacks.{StandsFor, Stacks, call_of, calls_afte
 -- ---- the number of the open calls
 one-le-weight_of : (e : Event) → count_begun e ≤ weight_of e
 one-le-weight_of (Step _) = omega arith
-one-le-weight_of (Read _ _ count) = omega arith
-one-le-weight_of (Write _ _ _) = omega arith
-one-le-weight_of (Fill _ _) = omega arith
-one-le-weight_of (Call _ _ _) = omega arith
-one-le-weight_of (Ret _ _) = omega arith
-one-le-weight_of (Start _ _) = omega arith
-one-le-weight_of (End _) = omega arith
+one-le-weight_of _ = omega arith
 
 pub pending-le-weight : (past : List Event) → pending past ≤ weight past
 pending-le-weight [] = omega arith

@@ -420,9 +420,7 @@ stands-quiet kept past (Fill first count) is stands = record {
   threads_in = stands.threads_in;
 }
 stands-quiet kept past (Start tid entry) is stands = absurd (cc)
-stands-quiet kept past (Call tid entry back) is stands = absurd (cc)
-stands-quiet kept past (Ret tid target) is stands = absurd (cc)
-stands-quiet kept past (End tid) is stands = absurd (cc)
+stands-quiet kept past _ is stands = absurd (cc)
 
 -- a thread that starts has a number above all
 pub above_all : (kept : Kept) (past : List Event) (tid entry : ℕ) → MayFollow (Start tid entry) past → StandsFor kept past → All (λ n. n < tid) (numbers kept.threads)

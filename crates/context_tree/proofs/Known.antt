@@ -73,10 +73,6 @@ same_number n m is = grind (arith, nat_tests)
 
 pub open_known : (past : List Event) (t : ℕ) → AreKnown (contexts past) (open_calls past t)
 open_known [] t = λ k lt. absurd (omega (arith, lt))
-open_known (Step tid ∷ past) t = open_known past t
-open_known (Read tid first count ∷ past) t = open_known past t
-open_known (Write tid first count ∷ past) t = open_known past t
-open_known (Fill first count ∷ past) t = open_known past t
 open_known (Ret tid target ∷ past) t =
     dropped_known (contexts past) (count_ending (Ret tid target) t (backs (open_calls past t))) (open_calls past t) (open_known past t)
 open_known (End tid ∷ past) t =
@@ -89,6 +85,7 @@ open_known (Call tid entry back ∷ past) t =
     begun_known (contexts past) (context_of (open_calls (Call tid entry back ∷ past) tid)) (record { at = length past; entry = entry; back = Some back }) (open_calls past t) (nat_eq tid t)
     (λ is. ap (λ u. context_of (open_calls (Call tid entry back ∷ past) u)) (same_number tid t is) ∙ ap (λ b. context_of (cond b (record { at = length past; entry = entry; back = Some back } ∷ []) [] ++ open_calls past t)) is)
     (open_known past t)
+open_known (_ ∷ past) t = open_known past t
 
 -- ---- ended activations
 zip_first : (P : List ℕ → Type 0) (cs : List (List ℕ)) (ds : List Done) → All P cs → All (λ (x : List ℕ × Done). P x.0) (zip cs ds)

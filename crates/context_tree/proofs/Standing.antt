@@ -57,12 +57,6 @@ begun_more false a calls is = absurd (cc)
 
 pub have_places : (past : List Event) → HavePlaces (contexts past)
 have_places [] = record { places = []; stands = none_stand }
-have_places (Step tid ∷ past) = have_places past
-have_places (Read tid first count ∷ past) = have_places past
-have_places (Write tid first count ∷ past) = have_places past
-have_places (Fill first count ∷ past) = have_places past
-have_places (Ret tid target ∷ past) = have_places past
-have_places (End tid ∷ past) = have_places past
 have_places (Start tid entry ∷ past) =
     begun_places (contexts past) (context_of (open_calls (Start tid entry ∷ past) tid)) (context_of (open_calls past tid)) entry (have_places past)
     (calls_number (contexts past) (open_calls past tid) (open_known past tid))
@@ -71,3 +65,4 @@ have_places (Call tid entry back ∷ past) =
     begun_places (contexts past) (context_of (open_calls (Call tid entry back ∷ past) tid)) (context_of (open_calls past tid)) entry (have_places past)
     (calls_number (contexts past) (open_calls past tid) (open_known past tid))
     (begun_more (nat_eq tid tid) (record { at = length past; entry = entry; back = Some back }) (open_calls past tid) (own tid))
+have_places (_ ∷ past) = have_places past

@@ -48,13 +48,7 @@ small_done (e ∷ past) =
 begun-le-weight : (past : List Event) → begun_count past ≤ weight past
 begun-le-weight [] = omega arith
 begun-le-weight (Step tid ∷ past) = omega (arith, begun-le-weight past)
-begun-le-weight (Read tid first count ∷ past) = omega (arith, begun-le-weight past)
-begun-le-weight (Write tid first count ∷ past) = omega (arith, begun-le-weight past)
-begun-le-weight (Fill first count ∷ past) = omega (arith, begun-le-weight past)
-begun-le-weight (Call tid entry back ∷ past) = omega (arith, begun-le-weight past)
-begun-le-weight (Ret tid target ∷ past) = omega (arith, begun-le-weight past)
-begun-le-weight (Start tid entry ∷ past) = omega (arith, begun-le-weight past)
-begun-le-weight (End tid ∷ past) = omega (arith, begun-le-weight past)
+begun-le-weight (_ ∷ past) = omega (arith, begun-le-weight past)
 
 pub few_done : (past : List Event) → IsLight past → length (done past) < 2 ^ 62
 few_done past light = omega (arith, done-pending past, begun-le-weight past, light)

@@ -29,9 +29,7 @@ advanced_steady (InputFile input position) fd n k = record { threads = refl; las
 pub advanced_able : (d : Descriptor) (fd n : ℕ) (k : KernelState) (tid : ℕ) →
     can_run k tid ≡ true → can_run (advanced d fd n k) tid ≡ true
 advanced_able Closed fd n k tid can = can
-advanced_able StandardInput fd n k tid can = can
-advanced_able (Output channel) fd n k tid can = can
-advanced_able (InputFile input position) fd n k tid can = can
+advanced_able _ fd n k tid can = can
 
 path_fair : (c : Call) (path : ℕ) (o : Option ℕ) → o ≡ path_end c.memory path →
     option_map_or (λ at. not (can_read c.memory at 1)) o false ≡ false → is_none o ≡ false →

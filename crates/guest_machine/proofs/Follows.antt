@@ -66,9 +66,7 @@ IsOwn tid (Write t first count) = (t ≡ tid) × AreWords first count
 IsOwn tid (Fill first count) = AreWords first count
 IsOwn tid (Call t entry back) = t ≡ tid
 IsOwn tid (Ret t target) = t ≡ tid
-IsOwn tid (Step t) = ⊥
-IsOwn tid (Start t entry) = ⊥
-IsOwn tid (End t) = ⊥
+IsOwn tid _ = ⊥
 
 abbrev AreOwn : ℕ → List Event → Type 0
 AreOwn tid [] = Unit {0}
@@ -108,12 +106,7 @@ copies_own : (tid : ℕ) (events : List Event) → AreCopies tid events → AreO
 copies_own tid [] copies = tt
 copies_own tid (Read t first count ∷ events) copies = (copies.0, copies_own tid events copies.1)
 copies_own tid (Fill first count ∷ events) copies = (copies.0, copies_own tid events copies.1)
-copies_own tid (Write t first count ∷ events) copies = absurd copies.0
-copies_own tid (Call t entry back ∷ events) copies = absurd copies.0
-copies_own tid (Ret t target ∷ events) copies = absurd copies.0
-copies_own tid (Step t ∷ events) copies = absurd copies.0
-copies_own tid (Start t entry ∷ events) copies = absurd copies.0
-copies_own tid (End t ∷ events) copies = absurd copies.0
+copies_own tid (_ ∷ events) copies = absurd copies.0
 
 access_own : (tid : ℕ) (a : Access) → IsInMemory a → AreOwn tid (access_events tid a)
 access_own tid access.Nothing few = tt
@@ -245,9 +238,6 @@ born_live child t x = elim (cases_eq t child) [
 life_follows : (answer : Answer) (harts : List Hart) (tid : ℕ) (past : List Event) (old new : KernelState) →
     Lives past (tids_in harts) old.last_tid → is_live past tid ≡ true → GivesNumber answer old new →
     EachFollows (life_events answer harts tid) past × Lives (grown (life_events answer harts tid) past) (tids_after answer tid (tids_in harts)) new.last_tid
-life_follows (Back value) harts tid past old new before live given = (tt, subst (Lives past (tids_in harts)) (sym given) before)
-life_follows Yield harts tid past old new before live given = (tt, subst (Lives past (tids_in harts)) (sym given) before)
-life_follows Block harts tid past old new before live given = (tt, subst (Lives past (tids_in harts)) (sym given) before)
 life_follows ThreadEnd harts tid past old new before live given = (
   (live, tt),
   subst (Lives (End tid ∷ past) (filter (λ n. not (n == tid)) (tids_in harts))) (sym given) (record {
@@ -255,6 +245,7 @@ life_follows ThreadEnd harts tid past old new before live given = (
     greatest = before.greatest;
     rising = rises-filter (λ n. not (n == tid)) 0 (tids_in harts) old.last_tid before.rising;
   }),
+life_follows _ harts tid past old new before live given = (tt, subst (Lives past (tids_in harts)) (sym given) before)
 )
 life_follows (ProcessEnd status) harts tid past old new before live given =
     let all = ends_follow harts past 0 old.last_tid before.live before.rising in (

@@ -38,12 +38,8 @@ few_after (Born child registers) harts tid r old new given same few =
 
 last_after : (answer : Answer) (old new : KernelState) → GivesNumber answer old new → old.last_tid ≤ LAST_TID →
     new.last_tid ≤ LAST_TID
-last_after (Back value) old new given within = omega (arith, given, within)
-last_after Yield old new given within = omega (arith, given, within)
-last_after Block old new given within = omega (arith, given, within)
-last_after ThreadEnd old new given within = omega (arith, given, within)
-last_after (ProcessEnd status) old new given within = omega (arith, given, within)
 last_after (Born child registers) old new given within = omega (arith, given.0, given.1, number_left old given.2 within)
+last_after _ old new given within = omega (arith, given, within)
 
 effect_within : (m : MachineState) (tid : ℕ) (i : Instr) (given : Outcome × ExecState) →
     length m.harts ≡ length m.kernel.threads → IsWithinLimits m → IsWithinLimits (after_effect m tid i given).machine

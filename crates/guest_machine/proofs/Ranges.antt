@@ -80,8 +80,6 @@ atomic_address tid Sc rd at n c old =
 atomic_address tid op rd at n c old = checked_keeps IsAtAddress (can_read c.memory at 4 && can_write c.memory at 4) fault.Store c _ old (behind c.registers.pc)
 
 effect_address : (tid : ℕ) (i : Instr) (c : ExecState) → IsAtAddress c → IsAtAddress (effect tid i c).1
-effect_address tid (Lui rd imm) c old = behind c.registers.pc
-effect_address tid (Auipc rd imm) c old = behind c.registers.pc
 effect_address tid (Jal rd offset) c old =
     jumped_address (add_offset c.registers.pc offset) (written c.registers rd (next c.registers)) c.registers old (low_address _)
 effect_address tid (Jalr rd base offset) c old =
@@ -92,14 +90,11 @@ effect_address tid (Load kind rd base offset) c old =
     checked_keeps HasAddress (can_read c.memory (add_offset (x c base) offset) (byte_count (load_size kind))) fault.Load c.registers _ old (behind c.registers.pc)
 effect_address tid (Store kind from base offset) c old =
     checked_keeps IsAtAddress (can_write c.memory (add_offset (x c base) offset) (byte_count (store_size kind))) fault.Store c _ old (behind c.registers.pc)
-effect_address tid (Immediate op rd left imm) c old = behind c.registers.pc
-effect_address tid (Register op rd left right) c old = behind c.registers.pc
 effect_address tid (Atomic op rd base from order) c old =
     checked_keeps IsAtAddress (nat_eq (x c base % 4) 0) fault.AtomicAlign c _ old (atomic_address tid op rd (x c base) (x c from) c old)
-effect_address tid Fence c old = behind c.registers.pc
-effect_address tid FenceI c old = behind c.registers.pc
 effect_address tid Ecall c old = old
 effect_address tid Ebreak c old = old
+effect_address tid _ c old = behind c.registers.pc
 
 -- ---- events
 pub tells-append : (xs ys : List Event) → AllByRecursion TellsAddresses xs → AllByRecursion TellsAddresses ys → AllByRecursion TellsAddresses (xs ++ ys)
@@ -122,32 +117,21 @@ copies_tell : (tid : ℕ) (copies : List Event) → AreCopies tid copies → All
 copies_tell tid [] are = tt
 copies_tell tid (events.Read t first count ∷ copies) are = (tt, copies_tell tid copies are.1)
 copies_tell tid (events.Fill first count ∷ copies) are = (tt, copies_tell tid copies are.1)
-copies_tell tid (events.Write t first count ∷ copies) are = absurd are.0
-copies_tell tid (events.Call t entry back ∷ copies) are = absurd are.0
-copies_tell tid (events.Ret t target ∷ copies) are = absurd are.0
-copies_tell tid (events.Step t ∷ copies) are = absurd are.0
-copies_tell tid (events.Start t entry ∷ copies) are = absurd are.0
-copies_tell tid (events.End t ∷ copies) are = absurd are.0
+copies_tell tid (_ ∷ copies) are = absurd are.0
 
 ends_tell : (harts : List Hart) → AllByRecursion TellsAddresses (map (λ (h : Hart). events.End h.0) harts)
 ends_tell [] = tt
 ends_tell (h ∷ harts) = (tt, ends_tell harts)
 
 life_tells : (answer : Answer) (harts : List Hart) (tid pc : ℕ) → BeginsBehind pc answer → AllByRecursion TellsAddresses (life_events answer harts tid)
-life_tells (Back value) harts tid pc begins = tt
-life_tells Yield harts tid pc begins = tt
-life_tells Block harts tid pc begins = tt
 life_tells ThreadEnd harts tid pc begins = (tt, tt)
 life_tells (ProcessEnd status) harts tid pc begins = ends_tell harts
 life_tells (Born child registers) harts tid pc begins = (subst IsAddress (sym begins) (behind pc), tt)
+life_tells _ harts tid pc begins = tt
 
 answer_told : (answer : Answer) → EndsWithByte answer → IsToldInRange (stepped_by answer)
-answer_told (Back value) byte = tt
-answer_told Yield byte = tt
-answer_told Block byte = tt
-answer_told ThreadEnd byte = tt
 answer_told (ProcessEnd status) byte = byte
-answer_told (Born child registers) byte = tt
+answer_told _ byte = tt
 
 -- ---- a step
 no_pc : IsAddress 0

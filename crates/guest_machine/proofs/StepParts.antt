@@ -35,13 +35,7 @@ use Rattle.guest_machine.specs.Step.{access_events, after_effect, call_of, exec_
 pub steps-append : (xs ys : List Event) → steps (xs ++ ys) ≡ steps xs + steps ys
 steps-append [] ys = omega arith
 steps-append (Step tid ∷ xs) ys = omega (arith, steps-append xs ys)
-steps-append (Read tid first count ∷ xs) ys = steps-append xs ys
-steps-append (Write tid first count ∷ xs) ys = steps-append xs ys
-steps-append (Fill first count ∷ xs) ys = steps-append xs ys
-steps-append (Call tid entry back ∷ xs) ys = steps-append xs ys
-steps-append (Ret tid target ∷ xs) ys = steps-append xs ys
-steps-append (Start tid entry ∷ xs) ys = steps-append xs ys
-steps-append (End tid ∷ xs) ys = steps-append xs ys
+steps-append (_ ∷ xs) ys = steps-append xs ys
 
 -- Events of a step beside its own: none is a step, and they are at most so many and read at most so many words.
 record AreFew (events : List Event) (most words : ℕ) : Type 0 where
@@ -61,12 +55,7 @@ copies_stepless : (tid : ℕ) (events : List Event) → AreCopies tid events →
 copies_stepless tid [] copies = refl
 copies_stepless tid (Read t first count ∷ events) copies = copies_stepless tid events copies.1
 copies_stepless tid (Fill first count ∷ events) copies = copies_stepless tid events copies.1
-copies_stepless tid (Step t ∷ events) copies = absurd copies.0
-copies_stepless tid (Write t first count ∷ events) copies = absurd copies.0
-copies_stepless tid (Call t entry back ∷ events) copies = absurd copies.0
-copies_stepless tid (Ret t target ∷ events) copies = absurd copies.0
-copies_stepless tid (Start t entry ∷ events) copies = absurd copies.0
-copies_stepless tid (End t ∷ events) copies = absurd copies.0
+copies_stepless tid (_ ∷ events) copies = absurd copies.0
 
 -- events of which each weighs one and a word more for each that it reads are some where a word is read
 fewer_words : (events : List Event) (n : ℕ) → length events + sum_by count_read events ≤ n + 1 → sum_by count_read events ≤ n
@@ -86,18 +75,14 @@ call_few m tid =
 
 -- ---- the other events of a step
 access_few : (tid : ℕ) (a : Access) → IsInMemory a → AreFew (access_events tid a) 2 2
-access_few tid access.Nothing inside = record { stepless = refl; few = omega arith; reads = omega arith }
 access_few tid (access.Read first count) inside =
     let words = sum_by-cons count_read (Read tid first count) [] in
     record { stepless = refl; few = omega arith; reads = omega (arith, words, inside.1) }
-access_few tid (access.Write first count) inside = record { stepless = refl; few = omega arith; reads = omega arith }
-access_few tid (access.Both word) inside = record { stepless = refl; few = omega arith; reads = omega arith }
+access_few tid _ inside = record { stepless = refl; few = omega arith; reads = omega arith }
 
 jump_few : (kind : JumpKind) (tid target back : ℕ) → AreFew (jump_events kind tid target back) 2 0
 jump_few Nothing tid target back = record { stepless = refl; few = omega arith; reads = omega arith }
-jump_few Push tid target back = record { stepless = refl; few = omega arith; reads = omega arith }
-jump_few Pop tid target back = record { stepless = refl; few = omega arith; reads = omega arith }
-jump_few PopPush tid target back = record { stepless = refl; few = omega arith; reads = omega arith }
+jump_few _ tid target back = record { stepless = refl; few = omega arith; reads = omega arith }
 
 ends_few : (harts : List Hart) → AreFew (map (λ (h : Hart). End h.0) harts) (length harts) 0
 ends_few [] = record { stepless = refl; few = omega arith; reads = omega arith }
@@ -107,24 +92,16 @@ ends_few (h ∷ harts) =
     record { stepless = rest.stepless; few = omega (arith, rest.few); reads = omega (arith, words, rest.reads) }
 
 life_few : (answer : Answer) (harts : List Hart) (tid : ℕ) → AreFew (life_events answer harts tid) (length harts + 1) 0
-life_few (Back value) harts tid = record { stepless = refl; few = omega arith; reads = omega arith }
-life_few Yield harts tid = record { stepless = refl; few = omega arith; reads = omega arith }
-life_few Block harts tid = record { stepless = refl; few = omega arith; reads = omega arith }
-life_few ThreadEnd harts tid = record { stepless = refl; few = omega arith; reads = omega arith }
 life_few (ProcessEnd status) harts tid =
     let ends = ends_few harts in
     record { stepless = ends.stepless; few = omega (arith, ends.few); reads = ends.reads }
-life_few (Born child registers) harts tid = record { stepless = refl; few = omega arith; reads = omega arith }
+life_few _ harts tid = record { stepless = refl; few = omega arith; reads = omega arith }
 
 -- ---- a step
 -- one where the step faulted
 abbrev pub faulted : Stepped → ℕ
 faulted (Faulted kind at) = 1
-faulted Went = 0
-faulted Yielded = 0
-faulted Blocked = 0
-faulted Ended = 0
-faulted (Finished status) = 0
+faulted _ = 0
 
 -- The events are none, of a fault; or the thread's step and few others, by how many threads live.
 abbrev IsStepWith : ℕ → ℕ → List Event → Stepped → Type 0
@@ -140,11 +117,7 @@ few_weaker events n m k l are more words = record {
 
 call_goes : (answer : Answer) → faulted (stepped_by answer) ≡ 0
 call_goes (Back value) = refl
-call_goes Yield = refl
-call_goes Block = refl
-call_goes ThreadEnd = refl
-call_goes (ProcessEnd status) = refl
-call_goes (Born child registers) = refl
+call_goes _ = refl
 
 effect_part : (m : MachineState) (tid : ℕ) (i : Instr) (given : Outcome × ExecState) → AccessesMemory given.0 →
     IsStepWith tid (length m.harts) (after_effect m tid i given).events (after_effect m tid i given).outcome

@@ -45,20 +45,13 @@ no_access true kind old new jump = tt
 no_access false kind old new jump = tt
 
 effect_alone : (tid : ℕ) (i : Instr) (c : ExecState) → IsAloneIn (effect tid i c).0 (kind_of i)
-effect_alone tid (Lui rd imm) c = tt
-effect_alone tid (Auipc rd imm) c = tt
 effect_alone tid (Jal rd offset) c = no_access _ _ _ _ (kind_of (Jal rd offset))
 effect_alone tid (Jalr rd base offset) c = no_access _ _ _ _ (kind_of (Jalr rd base offset))
 effect_alone tid (Branch test left right offset) c = no_jump (effect tid (Branch test left right offset) c).0
 effect_alone tid (Load kind rd base offset) c = no_jump (effect tid (Load kind rd base offset) c).0
 effect_alone tid (Store kind from base offset) c = no_jump (effect tid (Store kind from base offset) c).0
-effect_alone tid (Immediate op rd left imm) c = tt
-effect_alone tid (Register op rd left right) c = tt
 effect_alone tid (Atomic op rd base from order) c = no_jump (effect tid (Atomic op rd base from order) c).0
-effect_alone tid Fence c = tt
-effect_alone tid FenceI c = tt
-effect_alone tid Ecall c = tt
-effect_alone tid Ebreak c = tt
+effect_alone tid _ c = tt
 
 pub is_alone : (tid : ℕ) (i : Instr) (old new : ExecState) (accessed : Access) → (Went accessed, new) ≡ effect tid i old → IsAlone accessed (kind_of i)
 is_alone tid i old new accessed e = subst (λ (p : Outcome × ExecState). IsAloneIn p.0 (kind_of i)) (sym e) (effect_alone tid i old)

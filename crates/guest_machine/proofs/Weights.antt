@@ -48,16 +48,12 @@ life_weight (Born child registers) harts tid r =
     omega (arith, one, harts_kept harts tid (resumed r child))
 
 access_weight : (tid : ℕ) (a : Access) → IsInMemory a → weight (access_events tid a) ≤ 3
-access_weight tid access.Nothing few = omega arith
 access_weight tid (access.Read first count) few = omega (arith, few.1)
-access_weight tid (access.Write first count) few = omega arith
-access_weight tid (access.Both word) few = omega arith
+access_weight tid _ few = omega arith
 
 jump_weight : (kind : JumpKind) (tid target back : ℕ) → weight (jump_events kind tid target back) ≤ 2
 jump_weight Nothing tid target back = omega arith
-jump_weight Push tid target back = omega arith
-jump_weight Pop tid target back = omega arith
-jump_weight PopPush tid target back = omega arith
+jump_weight _ tid target back = omega arith
 
 effect_weight : (m : MachineState) (tid : ℕ) (i : Instr) (given : Outcome × ExecState) → AccessesMemory given.0 →
     weight (after_effect m tid i given).events + length (after_effect m tid i given).machine.harts ≤ 65540 + length m.harts

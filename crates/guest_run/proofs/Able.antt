@@ -18,11 +18,8 @@ use Rattle.guest_machine.specs.Step.{after_effect, call_of, exec_state_of, execu
 -- the turn goes on by these answers alone
 went_goes_on : (answer : Answer) → stepped_by answer ≡ Went → goes_on answer ≡ true
 went_goes_on (Back value) went = refl
-went_goes_on Yield went = absurd (cc)
-went_goes_on Block went = absurd (cc)
-went_goes_on ThreadEnd went = absurd (cc)
-went_goes_on (ProcessEnd status) went = absurd (cc)
 went_goes_on (Born child registers) went = refl
+went_goes_on _ went = absurd (cc)
 
 effect_able : (m : MachineState) (tid : ℕ) (i : Instr) (given : Outcome × ExecState) → can_run m tid ≡ true →
     (after_effect m tid i given).outcome ≡ Went → can_run (after_effect m tid i given).machine tid ≡ true

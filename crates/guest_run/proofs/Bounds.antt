@@ -93,12 +93,9 @@ spends {State} machine never turns budget state =
 -- a step ends a run by an exit or a fault alone
 status-not : (never : Finish) → ((status : ℕ) → never ≡ Exit status → ⊥) → ((kind : FaultKind) (tid at : ℕ) → never ≡ Fault kind tid at → ⊥) →
     (tid : ℕ) (outcome : Stepped) → turn_status_of tid outcome ≡ Ends never → ⊥
-status-not never no_exit no_fault tid Went e = cc
-status-not never no_exit no_fault tid Yielded e = cc
-status-not never no_exit no_fault tid Blocked e = cc
-status-not never no_exit no_fault tid Ended e = cc
 status-not never no_exit no_fault tid (Finished status) e = no_exit status (let is : never ≡ Exit status = cc in is)
 status-not never no_exit no_fault tid (Faulted kind at) e = no_fault kind tid at (let is : never ≡ Fault kind tid at = cc in is)
+status-not never no_exit no_fault tid _ e = cc
 
 pub spends_budget : SpendsBudget guest
 spends_budget = spends guest (λ m tid e. status-not Budget (λ status e. absurd (cc)) (λ kind tid at e. absurd (cc)) tid (step m tid).outcome e)

@@ -32,20 +32,13 @@ steps-reverse (x ∷ xs) =
 
 -- ---- runs
 ends_faulted : (tid : ℕ) (outcome : Stepped) (finish : Finish) → turn_status_of tid outcome ≡ Ends finish → faults finish ≡ faulted outcome
-ends_faulted tid Went finish e = absurd (cc)
-ends_faulted tid Yielded finish e = absurd (cc)
-ends_faulted tid Blocked finish e = absurd (cc)
-ends_faulted tid Ended finish e = absurd (cc)
 ends_faulted tid (Finished status) finish e = let same : Exit status ≡ finish = cc in ap faults (sym same)
 ends_faulted tid (Faulted kind at) finish e = let same : Fault kind tid at ≡ finish = cc in ap faults (sym same)
+ends_faulted tid _ finish e = absurd (cc)
 
 goes_faulted : (tid : ℕ) (outcome : Stepped) → ((finish : Finish) → turn_status_of tid outcome ≡ Ends finish → ⊥) → faulted outcome ≡ 0
-goes_faulted tid Went goes = refl
-goes_faulted tid Yielded goes = refl
-goes_faulted tid Blocked goes = refl
-goes_faulted tid Ended goes = refl
-goes_faulted tid (Finished status) goes = refl
 goes_faulted tid (Faulted kind at) goes = absurd (goes (Fault kind tid at) refl)
+goes_faulted tid _ goes = refl
 
 abbrev moved_steps : ℕ → WrittenRun → Type 0
 moved_steps fuel run = steps (events_of run.moves) + faults run.finish ≡ length run.moves

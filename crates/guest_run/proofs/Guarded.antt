@@ -62,11 +62,7 @@ chosen_able at able = by at.left able
 
 pub goes_went : (tid : ℕ) (outcome : Stepped) → turn_status_of tid outcome ≡ GoesOn → outcome ≡ Went
 goes_went tid Went e = refl
-goes_went tid Yielded e = absurd (cc)
-goes_went tid Blocked e = absurd (cc)
-goes_went tid Ended e = absurd (cc)
-goes_went tid (Finished status) e = absurd (cc)
-goes_went tid (Faulted kind at) e = absurd (cc)
+goes_went tid _ e = absurd (cc)
 
 -- A fact of the moves of every run from a past on, by a step of a thread that can run, where something is kept of the machine
 -- and the past, also where threads are woken.

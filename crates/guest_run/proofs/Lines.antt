@@ -36,23 +36,15 @@ finish_of fits past whole Holds deep own = by (fits (past_after past (events_of 
     by false = deep
 
 abbrev pub IsCounted : ℕ → Finish → Type 0
-IsCounted most (Exit status) = Unit {0}
-IsCounted most (Fault kind tid at) = Unit {0}
-IsCounted most Budget = Unit {0}
-IsCounted most Deadlock = Unit {0}
-IsCounted most Deep = Unit {0}
 IsCounted most (Schedule line) = (1 ≤ line) × (line ≤ most)
+IsCounted most _ = Unit {0}
 
 pub counted_line : (most : ℕ) (f : Finish) → IsCounted most f → (line : ℕ) → f ≡ Schedule line → 1 ≤ line
 counted_line most f is line same = (subst (IsCounted most) same is).0
 
 counted_more : (most more : ℕ) (f : Finish) → most ≤ more → IsCounted most f → IsCounted more f
-counted_more most more (Exit status) below is = tt
-counted_more most more (Fault kind tid at) below is = tt
-counted_more most more Budget below is = tt
-counted_more most more Deadlock below is = tt
-counted_more most more Deep below is = tt
 counted_more most more (Schedule line) below is = (is.0, omega (arith, below, is.1))
+counted_more most more _ below is = tt
 
 -- ---- turns
 -- the turn says no line but that of the next entry
@@ -101,12 +93,9 @@ chosen_counted at some = by at.left
 
 -- a step of the guest ends the run by no line
 step_counted : (most tid : ℕ) (outcome : Stepped) (finish : Finish) → turn_status_of tid outcome ≡ Ends finish → IsCounted most finish
-step_counted most tid Went finish is = absurd (cc)
-step_counted most tid Yielded finish is = absurd (cc)
-step_counted most tid Blocked finish is = absurd (cc)
-step_counted most tid Ended finish is = absurd (cc)
 step_counted most tid (Finished status) finish is = subst (IsCounted most) (ends_same (Exit status) finish is) tt
 step_counted most tid (Faulted kind at) finish is = subst (IsCounted most) (ends_same (Fault kind tid at) finish is) tt
+step_counted most tid _ finish is = absurd (cc)
 
 -- so does the rest of a run, whatever position it goes on from
 abbrev RestIsCounted : ℕ → Type 0

@@ -118,12 +118,9 @@ IsMachineEnd (Fault kind tid at) = IsThread tid × IsAddress at
 IsMachineEnd finish = Unit {0}
 
 step_ends : (tid : ℕ) (outcome : Stepped) (finish : Finish) → IsThread tid → IsToldInRange outcome → turn_status_of tid outcome ≡ Ends finish → IsMachineEnd finish
-step_ends tid Went finish thread told is = absurd (cc)
-step_ends tid Yielded finish thread told is = absurd (cc)
-step_ends tid Blocked finish thread told is = absurd (cc)
-step_ends tid Ended finish thread told is = absurd (cc)
 step_ends tid (Finished status) finish thread told is = subst IsMachineEnd (ends_same (Exit status) finish is) told
 step_ends tid (Faulted kind at) finish thread told is = subst IsMachineEnd (ends_same (Fault kind tid at) finish is) (thread, told)
+step_ends tid _ finish thread told is = absurd (cc)
 
 -- where no one moves next the run ends by neither
 abbrev StopsWell : Chosen MachineState → Type 0
@@ -179,9 +176,7 @@ both_ends : (lines : ℕ) (f : Finish) → IsMachineEnd f → IsCounted lines f 
 both_ends lines (Exit status) machine counted = machine
 both_ends lines (Fault kind tid at) machine counted = machine
 both_ends lines (Schedule line) machine counted = counted
-both_ends lines Budget machine counted = tt
-both_ends lines Deadlock machine counted = tt
-both_ends lines Deep machine counted = tt
+both_ends lines _ machine counted = tt
 
 start_addresses : (image : Executable) (arguments : List (List ℕ)) (inputs : List Input) (stdin : List ℕ) → IsAddress image.entry →
     HaveAddresses (start image arguments inputs stdin).harts

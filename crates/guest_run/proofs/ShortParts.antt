@@ -27,13 +27,7 @@ HasShortParts past = All IsShort (parts past)
 -- ---- a move is one part
 not_step : (e : Event) (events : List Event) → steps (e ∷ events) ≡ 0 → (is_step e ≡ false) × (steps events ≡ 0)
 not_step (Step tid) events none = absurd (omega (arith, none))
-not_step (Read tid first count) events none = (refl, none)
-not_step (Write tid first count) events none = (refl, none)
-not_step (Fill first count) events none = (refl, none)
-not_step (Call tid entry back) events none = (refl, none)
-not_step (Ret tid target) events none = (refl, none)
-not_step (Start tid entry) events none = (refl, none)
-not_step (End tid) events none = (refl, none)
+not_step _ events none = (refl, none)
 
 -- events that are no steps belong to the newest part
 more_parts : (events past part : List Event) (older : List (List Event)) → steps events ≡ 0 → parts past ≡ part ∷ older →

@@ -20,11 +20,7 @@ scheduler quantum schedule = record { quantum = quantum; last = 0; line = 1; ent
 -- the run did not end at an entry of its schedule
 abbrev pub IsNoMismatch : Finish → Type 0
 IsNoMismatch (Schedule line) = ⊥
-IsNoMismatch (Exit status) = Unit {0}
-IsNoMismatch (Fault kind tid at) = Unit {0}
-IsNoMismatch Budget = Unit {0}
-IsNoMismatch Deadlock = Unit {0}
-IsNoMismatch Deep = Unit {0}
+IsNoMismatch _ = Unit {0}
 
 -- A run is the same under the schedule that is its own recording, and under any quantum, as the recording has all its
 -- turns; unless it ended at an entry of its schedule.
@@ -96,11 +92,7 @@ EndsDeepExactly =
 -- the move that faults
 abbrev pub faults : Finish → ℕ
 faults (Fault kind tid at) = 1
-faults (Exit status) = 0
-faults Budget = 0
-faults Deadlock = 0
-faults Deep = 0
-faults (Schedule line) = 0
+faults _ = 0
 
 -- A run of the guest has a step for each move, but for the one that faults.
 abbrev pub CountsSteps : Type 0

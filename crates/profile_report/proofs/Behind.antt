@@ -147,11 +147,9 @@ allowed number state bytes errors.Memory l fits text may rise why = refl
 
 -- Only want of memory refuses a report that is over.
 pub allowed_rest : (number : ℕ) (state : ParseState) (rest : List ℕ) (e : ReportError) (r : Reported) → state ≡ Over r → rest ≡ [] → RefusesRest number state rest e → e ≡ errors.Memory
-allowed_rest number state rest errors.Version r over none why = absurd why
 allowed_rest number state rest (errors.Line n) r over none why = absurd (why.2 none)
-allowed_rest number state rest (errors.Order n) r over none why = absurd why
 allowed_rest number state rest errors.Short r over none why = absurd (false≢true (sym why ∙ ap is_over over))
-allowed_rest number state rest errors.Memory r over none why = absurd why
+allowed_rest number state rest _ r over none why = absurd why
 
 -- a report that is over is one
 pub over_one : (q r : Reported) → Over q ≡ Over r → q ≡ r

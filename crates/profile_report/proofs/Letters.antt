@@ -76,11 +76,7 @@ version_first Two = (_, refl)
 -- each end begins with the same letter
 end_first : (f : Finish) → (rest : List ℕ) × (end_line f ≡ 101 ∷ rest)
 end_first (Exit s) = (_, refl)
-end_first (Fault k t a) = (_, refl)
-end_first Budget = (_, refl)
-end_first Deadlock = (_, refl)
-end_first Deep = (_, refl)
-end_first (Schedule s) = (_, refl)
+end_first _ = (_, refl)
 
 begins : (l : Line) → FitsLine l → letter_of (get_or (line_text l) 0 0) ≡ letter l
 begins (First One) fits = refl

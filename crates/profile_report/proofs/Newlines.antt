@@ -67,12 +67,7 @@ point p fits =
 
 pub kind_small : (k : FaultKind) → kind_number k < 2 ^ 128
 kind_small Illegal = omega arith
-kind_small Fetch = omega arith
-kind_small Load = omega arith
-kind_small Store = omega arith
-kind_small JumpAlign = omega arith
-kind_small AtomicAlign = omega arith
-kind_small Break = omega arith
+kind_small _ = omega arith
 
 pub line_lacks : (l : Line) → FitsLine l → lacks 10 (line_text l) ≡ true
 line_lacks (First One) fits = refl

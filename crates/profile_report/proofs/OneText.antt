@@ -80,12 +80,7 @@ kind_at n = cond (eqb n 1) Illegal (cond (eqb n 2) Fetch (cond (eqb n 3) Load (c
 
 kind_back : (k : FaultKind) → kind_at (kind_number k) ≡ k
 kind_back Illegal = refl
-kind_back Fetch = refl
-kind_back Load = refl
-kind_back Store = refl
-kind_back JumpAlign = refl
-kind_back AtomicAlign = refl
-kind_back Break = refl
+kind_back _ = refl
 
 kind_same : (j k : FaultKind) → kind_number j ≡ kind_number k → j ≡ k
 kind_same j k is = sym (kind_back j) ∙ ap kind_at is ∙ kind_back k
@@ -106,11 +101,7 @@ end_form_of xs =
 
 end_form_is : (f : Finish) → end_form_of (end_line f) ≡ end_form f
 end_form_is (Exit s) = refl
-end_form_is (Fault k t a) = refl
-end_form_is Budget = refl
-end_form_is Deadlock = refl
-end_form_is Deep = refl
-end_form_is (Schedule l) = refl
+end_form_is _ = refl
 
 abbrev End_of : ℕ → Finish → Type 0
 End_of n f =
@@ -123,10 +114,8 @@ End_of n f =
 end_of : (f : Finish) → End_of (end_form f) f
 end_of (Exit s) = (s, refl)
 end_of (Fault k t a) = (k, t, a, refl)
-end_of Budget = refl
-end_of Deadlock = refl
-end_of Deep = refl
 end_of (Schedule l) = (l, refl)
+end_of _ = refl
 
 ends_alike : (f g : Finish) → end_line f ≡ end_line g → End_of (end_form f) g
 ends_alike f g is = subst (λ n. End_of n g) (sym (end_form_is g) ∙ ap end_form_of (sym is) ∙ end_form_is f) (end_of g)

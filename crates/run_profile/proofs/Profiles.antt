@@ -25,24 +25,12 @@ use Rattle.run_profile.specs.Profile.{IsOfLight, IsProfileOf, Kept}
 pub steps-le-weight : (past : List Event) → steps past ≤ weight past
 steps-le-weight [] = omega arith
 steps-le-weight (Step tid ∷ past) = omega (arith, steps-le-weight past)
-steps-le-weight (Read tid first count ∷ past) = omega (arith, steps-le-weight past)
-steps-le-weight (Write tid first count ∷ past) = omega (arith, steps-le-weight past)
-steps-le-weight (Fill first count ∷ past) = omega (arith, steps-le-weight past)
-steps-le-weight (Call tid entry back ∷ past) = omega (arith, steps-le-weight past)
-steps-le-weight (Ret tid target ∷ past) = omega (arith, steps-le-weight past)
-steps-le-weight (Start tid entry ∷ past) = omega (arith, steps-le-weight past)
-steps-le-weight (End tid ∷ past) = omega (arith, steps-le-weight past)
+steps-le-weight (_ ∷ past) = omega (arith, steps-le-weight past)
 
 -- the steps of one event more
 pub one_more : (e : Event) (past : List Event) → steps (e ∷ past) ≡ steps past + steps (e ∷ [])
 one_more (Step tid) past = omega arith
-one_more (Read tid first count) past = omega arith
-one_more (Write tid first count) past = omega arith
-one_more (Fill first count) past = omega arith
-one_more (Call tid entry back) past = omega arith
-one_more (Ret tid target) past = omega arith
-one_more (Start tid entry) past = omega arith
-one_more (End tid) past = omega arith
+one_more _ past = omega arith
 
 pub few_steps : (n more : ℕ) (e : Event) (past : List Event) → IsLight (e ∷ past) → n ≡ steps past → more ≡ steps (e ∷ []) → n + more < 2 ^ 64
 few_steps n more e past light is adds = omega (arith, steps-le-weight (e ∷ past), one_more e past, light, is, adds)

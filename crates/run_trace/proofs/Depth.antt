@@ -9,14 +9,9 @@ use Rattle.trace_model.proofs.Cut.{within_is_of_each}
 use Rattle.run_trace.specs.Entries.{entry_begun}
 
 none_begun : (e : Event) → is_some (entry_begun e) ≡ false → count_begun e ≡ 0
-none_begun (Step tid) none = omega arith
-none_begun (Read tid first count) none = omega arith
-none_begun (Write tid first count) none = omega arith
-none_begun (Fill first count) none = omega arith
-none_begun (Ret tid target) none = omega arith
-none_begun (End tid) none = omega arith
 none_begun (Call tid entry back) none = absurd (cc)
 none_begun (Start tid entry) none = absurd (cc)
+none_begun _ none = omega arith
 
 pub still_within : (most : ℕ) (e : Event) (past : List Event) → is_some (entry_begun e) ≡ false → is_within most past ≡ true → is_within most (e ∷ past) ≡ true
 still_within most e past none is =

@@ -110,20 +110,15 @@ atomic_at_lawful tid Maxu rd at n c = modified_lawful tid Maxu rd at n c
 
 -- each instruction but ECALL
 pub effect_lawful : (tid : ℕ) (i : Instr) (c : ExecState) → (i ≡ Ecall → ⊥) → IsLawful tid c (effect tid i c)
-effect_lawful tid (Lui rd imm) c other = went_lawful tid c _ _ refl refl (next_aligned c.registers.pc)
-effect_lawful tid (Auipc rd imm) c other = went_lawful tid c _ _ refl refl (next_aligned c.registers.pc)
 effect_lawful tid (Jal rd offset) c other = registers_lawful tid _ _ c _ _ (λ is even. target_aligned _ is)
 effect_lawful tid (Jalr rd base offset) c other = registers_lawful tid _ _ c _ _ (λ is even. target_aligned _ is)
 effect_lawful tid (Branch test left right offset) c other = search branched_lawful
 effect_lawful tid (Load kind rd base offset) c other = registers_lawful tid _ _ c _ _ (λ _. next_aligned c.registers.pc)
 effect_lawful tid (Store kind from base offset) c other = search (checked_lawful, stored_behind)
-effect_lawful tid (Immediate op rd left imm) c other = went_lawful tid c _ _ refl refl (next_aligned c.registers.pc)
-effect_lawful tid (Register op rd left right) c other = went_lawful tid c _ _ refl refl (next_aligned c.registers.pc)
 effect_lawful tid (Atomic op rd base from order) c other = search (checked_lawful, atomic_at_lawful)
-effect_lawful tid Fence c other = went_lawful tid c _ _ refl refl (next_aligned c.registers.pc)
-effect_lawful tid FenceI c other = went_lawful tid c _ _ refl refl (next_aligned c.registers.pc)
 effect_lawful tid Ecall c other = absurd (other refl)
 effect_lawful tid Ebreak c other = fault_lawful tid fault.Break c
+effect_lawful tid _ c other = went_lawful tid c _ _ refl refl (next_aligned c.registers.pc)
 
 pub effect_kept : RefusalsChangeNothing
 effect_kept tid Ecall c = refl

@@ -121,8 +121,6 @@ atomic_accesses tid Maxu rd at n c = modified_accesses tid Maxu rd at n c
 
 -- each instruction accesses few words of memory
 pub effect_accesses : AccessesFewWords
-effect_accesses tid (Lui rd imm) c = tt
-effect_accesses tid (Auipc rd imm) c = tt
 effect_accesses tid (Jal rd offset) c = jumped_accesses (add_offset c.registers.pc offset) (written c.registers rd (next c.registers)) c.registers
 effect_accesses tid (Jalr rd base offset) c = jumped_accesses (add_offset (x c base) offset / 2 * 2) (written c.registers rd (next c.registers)) c.registers
 effect_accesses tid (Branch test left right offset) c = branched_accesses (is_taken test (x c left) (x c right)) (add_offset c.registers.pc offset) c.registers
@@ -132,11 +130,6 @@ effect_accesses tid (Load kind rd base offset) c =
 effect_accesses tid (Store kind from base offset) c =
     let at = add_offset (x c base) offset in
     checked_accesses (can_write c.memory at (byte_count (store_size kind))) fault.Store c _ (λ reach. words_written c.memory at (store_size kind) reach)
-effect_accesses tid (Immediate op rd left imm) c = tt
-effect_accesses tid (Register op rd left right) c = tt
 effect_accesses tid (Atomic op rd base from order) c =
     checked_accesses (nat_eq (x c base % 4) 0) fault.AtomicAlign c _ (λ even. atomic_accesses tid op rd (x c base) (x c from) c)
-effect_accesses tid Fence c = tt
-effect_accesses tid FenceI c = tt
-effect_accesses tid Ecall c = tt
-effect_accesses tid Ebreak c = tt
+effect_accesses tid _ c = tt

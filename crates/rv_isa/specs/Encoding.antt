@@ -37,12 +37,7 @@ abbrev pub IsOperand : ImmOp → ℤ → Type 0
 IsOperand Slli z = IsAmount z
 IsOperand Srli z = IsAmount z
 IsOperand Srai z = IsAmount z
-IsOperand Addi z = IsImmediate z
-IsOperand Slti z = IsImmediate z
-IsOperand Sltiu z = IsImmediate z
-IsOperand Xori z = IsImmediate z
-IsOperand Ori z = IsImmediate z
-IsOperand Andi z = IsImmediate z
+IsOperand _ z = IsImmediate z
 
 -- LR has no value register: its field is x0
 abbrev pub IsValueOf : AtomicOp → ℕ → Type 0

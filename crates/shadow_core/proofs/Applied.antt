@@ -40,12 +40,7 @@ not_below m k = grind arith
 turned : (e : Event) (m k : ℕ) → (nat_lt 0 (count_begun e) && nat_lt m k) ≡ not (nat_eq (count_begun e) 0 || nat_le k m)
 turned (Start t entry) m k = not_below m k
 turned (Call t entry back) m k = not_below m k
-turned (Step t) m k = refl
-turned (Read t first count) m k = refl
-turned (Write t first count) m k = refl
-turned (Fill first count) m k = refl
-turned (Ret t target) m k = refl
-turned (End t) m k = refl
+turned _ m k = refl
 
 pub deep_does_not_fit : DeepDoesNotFit
 deep_does_not_fit most e table past s =
@@ -63,13 +58,7 @@ deep_by_frames most e s past stands =
 -- an event with a tick records nothing
 records_as_before : (tick : Table → Table) (e : Event) (table : Table) → finished e (table_at tick e table) ≡ finished e table
 records_as_before tick (Start t entry) table = refl
-records_as_before tick (Call t entry back) table = refl
-records_as_before tick (Step t) table = refl
-records_as_before tick (Read t first count) table = refl
-records_as_before tick (Write t first count) table = refl
-records_as_before tick (Fill first count) table = refl
-records_as_before tick (Ret t target) table = refl
-records_as_before tick (End t) table = refl
+records_as_before tick _ table = refl
 
 pub taken : (most : ℕ) (e : Event) (past : List Event) (old new : State) (before after : List Done) → MayTake (StandsFor most) old e → StandsFor most old past →
     is_too_deep most e past ≡ false → table_of_state new ≡ table_after (bounded_tick most) e (table_of_state old) → after ≡ before ++ finished e (table_of_state old) →

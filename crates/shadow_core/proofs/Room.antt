@@ -62,12 +62,7 @@ fits_by_frames most e table past s = ap (λ b. leb (3 * (pending (e ∷ past) + 
         ≡ (eqb (count_begun e) 0 || leb (3 * (length (all_starts table.threads) + 2)) most)
     by (Start t entry) = more _ (omega arith)
     by (Call t entry back) = more _ (omega arith)
-    by (Step t) = fewer _ (omega arith)
-    by (Read t first count) = fewer _ (omega arith)
-    by (Write t first count) = fewer _ (omega arith)
-    by (Fill first count) = fewer _ (omega arith)
-    by (Ret t target) = fewer _ (omega arith)
-    by (End t) = fewer _ (omega arith)
+    by _ = fewer _ (omega arith)
 
 -- ---- how great sums are
 -- both are numbers, at most so great

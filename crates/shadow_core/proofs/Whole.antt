@@ -212,11 +212,7 @@ numbers_after (Start t entry) table past may s =
     )
 numbers_after (End t) table past may s = (rising_without table.threads t s.rising, All-numbers-without (IsStarted past) table.threads t s.started)
 numbers_after (Fill first count) table past may s = (s.rising, s.started)
-numbers_after (Step t) table past may s = kept (IsStarted past) table.threads t _ (s.rising, s.started)
-numbers_after (Read t first count) table past may s = kept (IsStarted past) table.threads t _ (s.rising, s.started)
-numbers_after (Write t first count) table past may s = kept (IsStarted past) table.threads t _ (s.rising, s.started)
-numbers_after (Call t entry back) table past may s = kept (IsStarted past) table.threads t _ (s.rising, s.started)
-numbers_after (Ret t target) table past may s = kept (IsStarted past) table.threads t _ (s.rising, s.started)
+numbers_after _ table past may s = kept (IsStarted past) table.threads _ _ (s.rising, s.started)
 
 last_after : (e : Event) (table : Table) (past : List Event) → table.last ≡ last_step past → (event_after e table).last ≡ last_step (e ∷ past)
 last_after (Step t) table past is = refl

@@ -173,21 +173,8 @@ begun_line bytes stops = by (two_in _ _ stops.text.0 stops.text.1)
 
 -- the form is that of a line, or not
 line_or_plain : (f : Form) → (f ≡ Schedule) ⊎ IsPlain f
-line_or_plain Step = inr tt
-line_or_plain Read = inr tt
-line_or_plain Write = inr tt
-line_or_plain Fill = inr tt
-line_or_plain Call = inr tt
-line_or_plain Ret = inr tt
-line_or_plain Start = inr tt
-line_or_plain End = inr tt
-line_or_plain Named = inr tt
-line_or_plain Exit = inr tt
-line_or_plain Fault = inr tt
-line_or_plain Budget = inr tt
-line_or_plain Deadlock = inr tt
-line_or_plain Deep = inr tt
 line_or_plain Schedule = inl refl
+line_or_plain _ = inr tt
 
 pub numbers_stop : (f : Form) (bytes : List ℕ) (stop : Stop) → Stops (AreNumbers (ranges f)) bytes stop → Stops (IsBody f) bytes stop
 numbers_stop f bytes Begun stops = elim (line_or_plain f) [
@@ -199,38 +186,18 @@ numbers_stop f bytes (Memory entry) stops = tt
 
 -- ---- what stops behind the numbers
 name_form : (r : Record) → form r ≡ Named → (e : ℕ) × (n : List ℕ) × (r ≡ OfName e n)
-name_form (OfEvent (events.Step t)) is = cc
-name_form (OfEvent (events.Read t f n)) is = cc
-name_form (OfEvent (events.Write t f n)) is = cc
-name_form (OfEvent (events.Fill f n)) is = cc
-name_form (OfEvent (events.Call t e b)) is = cc
-name_form (OfEvent (events.Ret t g)) is = cc
-name_form (OfEvent (events.Start t e)) is = cc
-name_form (OfEvent (events.End t)) is = cc
 name_form (OfName e n) is = (e, n, refl)
+name_form (OfEvent (events.Step t)) is = cc
+name_form (OfEvent _) is = cc
 name_form (OfFinish (ends.Exit s)) is = cc
-name_form (OfFinish (ends.Fault k t a)) is = cc
-name_form (OfFinish ends.Budget) is = cc
-name_form (OfFinish ends.Deadlock) is = cc
-name_form (OfFinish ends.Deep) is = cc
-name_form (OfFinish (ends.Schedule l)) is = cc
+name_form (OfFinish _) is = cc
 
 line_form : (r : Record) → form r ≡ Schedule → (l : ℕ) × (r ≡ OfFinish (ends.Schedule l))
-line_form (OfEvent (events.Step t)) is = cc
-line_form (OfEvent (events.Read t f n)) is = cc
-line_form (OfEvent (events.Write t f n)) is = cc
-line_form (OfEvent (events.Fill f n)) is = cc
-line_form (OfEvent (events.Call t e b)) is = cc
-line_form (OfEvent (events.Ret t g)) is = cc
-line_form (OfEvent (events.Start t e)) is = cc
-line_form (OfEvent (events.End t)) is = cc
-line_form (OfName e n) is = cc
-line_form (OfFinish (ends.Exit s)) is = cc
-line_form (OfFinish (ends.Fault k t a)) is = cc
-line_form (OfFinish ends.Budget) is = cc
-line_form (OfFinish ends.Deadlock) is = cc
-line_form (OfFinish ends.Deep) is = cc
 line_form (OfFinish (ends.Schedule l)) is = (l, refl)
+line_form (OfFinish _) is = cc
+line_form (OfName e n) is = cc
+line_form (OfEvent (events.Step t)) is = cc
+line_form (OfEvent _) is = cc
 
 zero_half : (n : ℕ) → n ≤ 2 ^ 32 - 1 → 0 ≡ n % 256 → 0 ≡ n / 256 % 256 → 0 ≡ n / 65536 % 256 → 0 ≡ n / 16777216 % 256 → n ≡ 0
 zero_half n low a b c d = omega arith

@@ -7,20 +7,7 @@ use Rattle.trace_file.specs.Pieces.{IsBegun, IsHead}
 
 some : (f : Form) (rest : List ℕ) → 1 ≤ length (head f ++ rest)
 some Step rest = omega arith
-some Read rest = omega arith
-some Write rest = omega arith
-some Fill rest = omega arith
-some Call rest = omega arith
-some Ret rest = omega arith
-some Start rest = omega arith
-some End rest = omega arith
-some Named rest = omega arith
-some Exit rest = omega arith
-some Fault rest = omega arith
-some Budget rest = omega arith
-some Deadlock rest = omega arith
-some Deep rest = omega arith
-some Schedule rest = omega arith
+some _ rest = omega arith
 
 pub begun_empty : (bytes : List ℕ) → length bytes ≡ 0 → IsBegun IsHead bytes
 begun_empty [] none = record {
@@ -33,21 +20,13 @@ begun_empty (a ∷ bytes) none = absurd (omega arith)
 
 -- a head that begins with 10 has two bytes
 two : (f : Form) (rest : List ℕ) → get_or (head f ++ rest) 0 0 ≡ 10 → 2 ≤ length (head f ++ rest)
-two Step rest is = absurd (omega arith)
-two Read rest is = absurd (omega arith)
-two Write rest is = absurd (omega arith)
-two Fill rest is = absurd (omega arith)
-two Call rest is = absurd (omega arith)
-two Ret rest is = absurd (omega arith)
-two Start rest is = absurd (omega arith)
-two End rest is = absurd (omega arith)
-two Named rest is = absurd (omega arith)
 two Exit rest is = omega arith
 two Fault rest is = omega arith
 two Budget rest is = omega arith
 two Deadlock rest is = omega arith
 two Deep rest is = omega arith
 two Schedule rest is = omega arith
+two _ rest is = absurd (omega arith)
 
 pub begun_ten : (bytes : List ℕ) → length bytes ≡ 1 → get_or bytes 0 0 ≡ 10 → IsBegun IsHead bytes
 begun_ten [] one is = absurd (omega arith)
@@ -92,20 +71,7 @@ read (a ∷ rest) = if nat_eq a 10 then end rest else short a rest
 
 read_back : (f : Form) (rest : List ℕ) → read (head f ++ rest) ≡ Some (f, rest)
 read_back Step rest = refl
-read_back Read rest = refl
-read_back Write rest = refl
-read_back Fill rest = refl
-read_back Call rest = refl
-read_back Ret rest = refl
-read_back Start rest = refl
-read_back End rest = refl
-read_back Named rest = refl
-read_back Exit rest = refl
-read_back Fault rest = refl
-read_back Budget rest = refl
-read_back Deadlock rest = refl
-read_back Deep rest = refl
-read_back Schedule rest = refl
+read_back _ rest = refl
 
 abbrev first : Option (Form × List ℕ) → Form
 first None = Step

@@ -11,20 +11,10 @@ use Rattle.trace_file.specs.Pieces.{IsBegun, IsRecord}
 record_length : (r : Record) → Fits r → length (record_bytes r) ≤ 1033
 unfolding number_bytes
 record_length (OfEvent (events.Step tid)) fits = omega arith
-record_length (OfEvent (events.Read tid first count)) fits = omega arith
-record_length (OfEvent (events.Write tid first count)) fits = omega arith
-record_length (OfEvent (events.Fill first count)) fits = omega arith
-record_length (OfEvent (events.Call tid entry back)) fits = omega arith
-record_length (OfEvent (events.Ret tid target)) fits = omega arith
-record_length (OfEvent (events.Start tid entry)) fits = omega arith
-record_length (OfEvent (events.End tid)) fits = omega arith
+record_length (OfEvent _) fits = omega arith
 record_length (OfName entry name) fits = let most : length name ≤ 1024 = fits.ranges.1.0.1 in omega arith
 record_length (OfFinish (ends.Exit status)) fits = omega arith
-record_length (OfFinish (ends.Fault kind tid at)) fits = omega arith
-record_length (OfFinish ends.Budget) fits = omega arith
-record_length (OfFinish ends.Deadlock) fits = omega arith
-record_length (OfFinish ends.Deep) fits = omega arith
-record_length (OfFinish (ends.Schedule line)) fits = omega arith
+record_length (OfFinish _) fits = omega arith
 
 some : (xs : List ℕ) → xs ≢ [] → 1 ≤ length xs
 some [] full = absurd (full refl)

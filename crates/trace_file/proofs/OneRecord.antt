@@ -30,12 +30,7 @@ kind_at n =
 
 kind_back : (k : FaultKind) → kind_at (kind_number k) ≡ k
 kind_back Illegal = refl
-kind_back Fetch = refl
-kind_back Load = refl
-kind_back Store = refl
-kind_back JumpAlign = refl
-kind_back AtomicAlign = refl
-kind_back Break = refl
+kind_back _ = refl
 
 made_back : Form → List ℕ → List ℕ → Record
 made_back Step ns name = OfEvent (events.Step (get_or ns 0 0))
@@ -57,20 +52,11 @@ made_back Schedule ns name = OfFinish (ends.Schedule (get_or ns 0 0 + 2 ^ 32 * g
 back : (r : Record) → made_back (form r) (numbers r) (name_bytes r) ≡ r
 unfolding made_back
 back (OfEvent (events.Step t)) = refl
-back (OfEvent (events.Read t f n)) = refl
-back (OfEvent (events.Write t f n)) = refl
-back (OfEvent (events.Fill f n)) = refl
-back (OfEvent (events.Call t e b)) = refl
-back (OfEvent (events.Ret t g)) = refl
-back (OfEvent (events.Start t e)) = refl
-back (OfEvent (events.End t)) = refl
+back (OfEvent _) = refl
 back (OfName e n) = refl
-back (OfFinish (ends.Exit s)) = refl
-back (OfFinish ends.Budget) = refl
-back (OfFinish ends.Deadlock) = refl
-back (OfFinish ends.Deep) = refl
 back (OfFinish (ends.Fault k t a)) = ap (λ q. OfFinish (ends.Fault q t a)) (kind_back k)
 back (OfFinish (ends.Schedule l)) = let whole : l % 2 ^ 32 + 2 ^ 32 * (l / 2 ^ 32) ≡ l = omega arith in ap (λ n. OfFinish (ends.Schedule n)) whole
+back (OfFinish _) = refl
 
 -- how many bytes of a name
 abbrev name_length : Form → List ℕ → ℕ
@@ -79,20 +65,10 @@ name_length f ns = 0
 
 long_name : (r : Record) → length (name_bytes r) ≡ name_length (form r) (numbers r)
 long_name (OfEvent (events.Step t)) = refl
-long_name (OfEvent (events.Read t f n)) = refl
-long_name (OfEvent (events.Write t f n)) = refl
-long_name (OfEvent (events.Fill f n)) = refl
-long_name (OfEvent (events.Call t e b)) = refl
-long_name (OfEvent (events.Ret t g)) = refl
-long_name (OfEvent (events.Start t e)) = refl
-long_name (OfEvent (events.End t)) = refl
+long_name (OfEvent _) = refl
 long_name (OfName e n) = refl
 long_name (OfFinish (ends.Exit s)) = refl
-long_name (OfFinish ends.Budget) = refl
-long_name (OfFinish ends.Deadlock) = refl
-long_name (OfFinish ends.Deep) = refl
-long_name (OfFinish (ends.Fault k t a)) = refl
-long_name (OfFinish (ends.Schedule l)) = refl
+long_name (OfFinish _) = refl
 
 small : (f : Form) → AllByRecursion (λ (q : Range). q.most < 2 ^ 32) (ranges f)
 small Step = (omega arith, tt)

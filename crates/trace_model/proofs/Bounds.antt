@@ -31,14 +31,8 @@ if_any true n xs e = omega arith
 if_any false n xs e = omega arith
 
 length-words_read : (e : Event) (t : ℕ) → length (words_read e t) + 1 ≤ weight_of e
-length-words_read (Step a) t = omega arith
 length-words_read (Read a first count) t = omega (arith, if_any (eqb a t) count (range_with_len first count) (length-range_with_len first count))
-length-words_read (Write a first count) t = omega arith
-length-words_read (Fill first count) t = omega arith
-length-words_read (Call a entry back) t = omega arith
-length-words_read (Ret a target) t = omega arith
-length-words_read (Start a entry) t = omega arith
-length-words_read (End a) t = omega arith
+length-words_read _ t = omega arith
 
 pub pairs-le-weight : (test : List Event → ℕ → Bool) (inside : List Event) (t : ℕ) → count_pairs test inside t ≤ weight inside
 pairs-le-weight test [] t = omega arith
@@ -51,13 +45,7 @@ one_or_none false = omega arith
 
 steps_run-le : (e : Event) (t : ℕ) → steps_run e t ≤ weight_of e
 steps_run-le (Step a) t = one_or_none (eqb a t)
-steps_run-le (Read a first count) t = omega arith
-steps_run-le (Write a first count) t = omega arith
-steps_run-le (Fill first count) t = omega arith
-steps_run-le (Call a entry back) t = omega arith
-steps_run-le (Ret a target) t = omega arith
-steps_run-le (Start a entry) t = omega arith
-steps_run-le (End a) t = omega arith
+steps_run-le _ t = omega arith
 
 pub cost-le-weight : (inside : List Event) (t : ℕ) → cost inside t ≤ weight inside
 cost-le-weight [] t = omega arith

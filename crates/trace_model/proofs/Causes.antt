@@ -50,23 +50,15 @@ one_if b = cond b 1 0
 one_cause : (within : Bool) (last : Touch) →
     one_if (counted Plain within last) + one_if (counted OtherThread within last) + one_if (counted Kernel within last) ≡ one_if (not (within && not (is_foreign last)))
 one_cause true Untouched = refl
-one_cause true ByItself = refl
-one_cause true ByOther = refl
-one_cause true ByKernel = refl
+one_cause true _ = refl
 one_cause false Untouched = refl
-one_cause false ByItself = refl
-one_cause false ByOther = refl
-one_cause false ByKernel = refl
+one_cause false _ = refl
 
 plain_is_bare : (within : Bool) (last : Touch) → one_if (counted Plain within last) ≤ one_if (not within)
 plain_is_bare true Untouched = omega arith
-plain_is_bare true ByItself = omega arith
-plain_is_bare true ByOther = omega arith
-plain_is_bare true ByKernel = omega arith
+plain_is_bare true _ = omega arith
 plain_is_bare false Untouched = omega arith
-plain_is_bare false ByItself = omega arith
-plain_is_bare false ByOther = omega arith
-plain_is_bare false ByKernel = omega arith
+plain_is_bare false _ = omega arith
 
 bare_is_unknown : (within : Bool) (last : Touch) → one_if (not within) ≤ one_if (not (within && not (is_foreign last)))
 bare_is_unknown true last = omega arith

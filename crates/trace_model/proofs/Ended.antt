@@ -63,14 +63,9 @@ one_before true n a h = All-cons (IsBefore n) a [] h (All-nil (IsBefore n))
 one_before false n a h = All-nil (IsBefore n)
 
 begun_here : (e : Event) (t at : ℕ) → All (IsBefore (at + 1)) (begun e t at)
-begun_here (Step a) t at = All-nil (IsBefore (at + 1))
-begun_here (Read a first count) t at = All-nil (IsBefore (at + 1))
-begun_here (Write a first count) t at = All-nil (IsBefore (at + 1))
-begun_here (Fill first count) t at = All-nil (IsBefore (at + 1))
 begun_here (Call a entry back) t at = one_before (eqb a t) (at + 1) (record { at = at; entry = entry; back = Some back }) (omega arith)
-begun_here (Ret a target) t at = All-nil (IsBefore (at + 1))
 begun_here (Start a entry) t at = one_before (eqb a t) (at + 1) (record { at = at; entry = entry; back = None }) (omega arith)
-begun_here (End a) t at = All-nil (IsBefore (at + 1))
+begun_here _ t at = All-nil (IsBefore (at + 1))
 
 -- each open activation began at an event of the past
 pub open_calls_begun : (past : List Event) (t : ℕ) → All (IsBefore (length past)) (open_calls past t)

@@ -175,12 +175,7 @@ begun_here false n x a is c = absurd (omega (arith, c.1))
 begun_if : (n : ℕ) (a : Activation) (e : Event) (t : ℕ) → Contains (begun e t n) a → a.at ≡ n
 begun_if n a (Call b entry back) t c = begun_here (eqb b t) n (record { at = n; entry = entry; back = Some back }) a refl c
 begun_if n a (Start b entry) t c = begun_here (eqb b t) n (record { at = n; entry = entry; back = None }) a refl c
-begun_if n a (Step b) t c = absurd (omega (arith, c.1))
-begun_if n a (Read b first count) t c = absurd (omega (arith, c.1))
-begun_if n a (Write b first count) t c = absurd (omega (arith, c.1))
-begun_if n a (Fill first count) t c = absurd (omega (arith, c.1))
-begun_if n a (Ret b target) t c = absurd (omega (arith, c.1))
-begun_if n a (End b) t c = absurd (omega (arith, c.1))
+begun_if n a _ t c = absurd (omega (arith, c.1))
 
 ending_stood : (e : Event) (past : List Event) (t : ℕ) (a : Activation) → Contains (ending_calls e past t) a → Contains (open_calls past t) a
 ending_stood e past t a c =
@@ -217,11 +212,7 @@ of_thread (End b) past t a c =
       | inr other ↦ absurd (none_ends (End b) past t a (ap (λ y. take (cond y (length (backs (open_calls past t))) 0) (open_calls past t)) (ne_eqb b t other)) c)
     ]
 of_thread (Step b) past t a c = absurd (omega (arith, c.1))
-of_thread (Read b first count) past t a c = absurd (omega (arith, c.1))
-of_thread (Write b first count) past t a c = absurd (omega (arith, c.1))
-of_thread (Fill first count) past t a c = absurd (omega (arith, c.1))
-of_thread (Call b entry back) past t a c = absurd (omega (arith, c.1))
-of_thread (Start b entry) past t a c = absurd (omega (arith, c.1))
+of_thread _ past t a c = absurd (omega (arith, c.1))
 
 ending_old : (e : Event) (past : List Event) (x : Ending) → x.at < length past → IsEnding past x → IsEnding (e ∷ past) x
 ending_old e past x h is = record {

@@ -59,12 +59,7 @@ front_if false a calls first h = h
 front : (e : Event) (t n : ℕ) (calls : List Activation) → All (λ a. a.at < n) calls → Later IsAfter calls → Later IsAfter (begun e t n ++ calls)
 front (Call a entry back) t n calls first h = front_if (eqb a t) (record { at = n; entry = entry; back = Some back }) calls first h
 front (Start a entry) t n calls first h = front_if (eqb a t) (record { at = n; entry = entry; back = None }) calls first h
-front (Step a) t n calls first h = h
-front (Read a first' count) t n calls first h = h
-front (Write a first' count) t n calls first h = h
-front (Fill first' count) t n calls first h = h
-front (Ret a target) t n calls first h = h
-front (End a) t n calls first h = h
+front _ t n calls first h = h
 
 -- the innermost began last
 pub innermost_last : (past : List Event) (t : ℕ) → Later IsAfter (open_calls past t)
@@ -171,10 +166,6 @@ after_call past t entry back =
     ap (λ b. map at_of (cond b (record { at = length past; entry = entry; back = Some back } ∷ []) [] ++ open_calls past t)) (eq-eqb t t refl)
 
 after_other : (e : Event) (past : List Event) (t : ℕ) → ¬ IsBeginOrEnd e t → open_positions (e ∷ past) t ≡ open_positions past t
-after_other (Step a) past t fails = refl
-after_other (Read a first count) past t fails = refl
-after_other (Write a first count) past t fails = refl
-after_other (Fill first count) past t fails = refl
 after_other (Call a entry back) past t fails =
     ap (λ b. map at_of (cond b (record { at = length past; entry = entry; back = Some back } ∷ []) [] ++ open_calls past t)) (ne_eqb a t fails)
 after_other (Start a entry) past t fails =
@@ -183,6 +174,7 @@ after_other (Ret a target) past t fails =
     ap (λ b. map at_of (drop (cond b (count_returned target (backs (open_calls past t))) 0) (open_calls past t))) (ne_eqb a t fails)
 after_other (End a) past t fails =
     ap (λ b. map at_of (drop (cond b (length (backs (open_calls past t))) 0) (open_calls past t))) (ne_eqb a t fails)
+after_other _ past t fails = refl
 
 pub by_positions : OpenActivationsArePositions
 by_positions = record {

@@ -12,23 +12,11 @@ use Rattle.trace_model.specs.WellFormed.{weight, weight_of}
 
 weight_is : (e : Event) → weight_of e ≡ 1 + count_read e
 weight_is (Step a) = refl
-weight_is (Read a first count) = refl
-weight_is (Write a first count) = refl
-weight_is (Fill first count) = refl
-weight_is (Call a entry back) = refl
-weight_is (Ret a target) = refl
-weight_is (Start a entry) = refl
-weight_is (End a) = refl
+weight_is _ = refl
 
 steps_more : (e : Event) (past : List Event) → steps (e ∷ past) ≡ steps past + cond (is_step e) 1 0
 steps_more (Step a) past = refl
-steps_more (Read a first count) past = omega arith
-steps_more (Write a first count) past = omega arith
-steps_more (Fill first count) past = omega arith
-steps_more (Call a entry back) past = omega arith
-steps_more (Ret a target) past = omega arith
-steps_more (Start a entry) past = omega arith
-steps_more (End a) past = omega arith
+steps_more _ past = omega arith
 
 pub part_weight : (part : List Event) → weight part ≡ length part + sum_by count_read part
 part_weight [] = refl
