@@ -176,10 +176,10 @@ pub record TakesValue (k : Subcommand) (flag id : Text) : Type 0 where
       → Settles k rows (Some (id, word ∷ [])) (rows ++ plain_row id (word ∷ []) ∷ [])
 
 -- An argument that takes one value is read so where its flag is.
-takes_value : (k : Subcommand) (flag id : Text) (a : Rule) → arg_by_id (rules k) id ≡ Some a → TakesOne id a
+takes_value : {k : Subcommand} {flag id : Text} {a : Rule} → arg_by_id (rules k) id ≡ Some a → TakesOne id a
     → ((rows : List Row) (p : Pending) → walked (rules k) [] (stand rows p idle 1) flag ≡ stand (settled_rows (rules k) p rows) (Some (id, [])) (option id) 1)
     → ((rows : List Row) (p : Pending) → turn k rows p idle 1 flag ≡ may_settle k rows p) → TakesValue k flag id
-takes_value k flag id a found one flag_word flag_turn = record {
+takes_value {k} {flag} {id} {a} found one flag_word flag_turn = record {
   flag_word = flag_word;
   flag_turn = flag_turn;
   value_word = one_word k id a found one;
@@ -189,52 +189,52 @@ takes_value k flag id a found one flag_word flag_turn = record {
 
 pub takes_stdin : (g : GuestCommand) → TakesValue (of_guest g) (codes "--stdin") (codes "stdin")
 unfolding the_app top_app guest_app demo_app replay_app clap_on_literals
-takes_stdin g = takes_value (of_guest g) (codes "--stdin") (codes "stdin") _ refl (takes_one refl refl refl refl refl (λ word. refl)) (λ rows p. refl) (λ rows p. and-true _)
+takes_stdin g = takes_value refl (takes_one refl refl refl refl refl (λ word. refl)) (λ rows p. refl) (λ rows p. and-true _)
 
 pub takes_quantum : (g : GuestCommand) → TakesValue (of_guest g) (codes "--quantum") (codes "quantum")
 unfolding the_app top_app guest_app demo_app replay_app clap_on_literals
-takes_quantum g = takes_value (of_guest g) (codes "--quantum") (codes "quantum") _ refl (takes_one refl refl refl refl refl (λ word. refl)) (λ rows p. refl) (λ rows p. and-true _)
+takes_quantum g = takes_value refl (takes_one refl refl refl refl refl (λ word. refl)) (λ rows p. refl) (λ rows p. and-true _)
 
 pub takes_schedule : (g : GuestCommand) → TakesValue (of_guest g) (codes "--schedule") (codes "schedule")
 unfolding the_app top_app guest_app demo_app replay_app clap_on_literals
-takes_schedule g = takes_value (of_guest g) (codes "--schedule") (codes "schedule") _ refl (takes_one refl refl refl refl refl (λ word. refl)) (λ rows p. refl) (λ rows p. and-true _)
+takes_schedule g = takes_value refl (takes_one refl refl refl refl refl (λ word. refl)) (λ rows p. refl) (λ rows p. and-true _)
 
 pub takes_budget : (g : GuestCommand) → TakesValue (of_guest g) (codes "--budget") (codes "budget")
 unfolding the_app top_app guest_app demo_app replay_app clap_on_literals
-takes_budget g = takes_value (of_guest g) (codes "--budget") (codes "budget") _ refl (takes_one refl refl refl refl refl (λ word. refl)) (λ rows p. refl) (λ rows p. and-true _)
+takes_budget g = takes_value refl (takes_one refl refl refl refl refl (λ word. refl)) (λ rows p. refl) (λ rows p. and-true _)
 
 pub takes_output : (k : Subcommand) → TakesValue k (codes "-o") (codes "output")
 unfolding the_app top_app guest_app demo_app replay_app clap_on_literals
-takes_output (of_guest g) = takes_value (of_guest g) (codes "-o") (codes "output") _ refl (takes_one refl refl refl refl refl (λ word. refl)) (λ rows p. refl) (λ rows p. and-true _)
-takes_output replaying = takes_value replaying (codes "-o") (codes "output") _ refl (takes_one refl refl refl refl refl (λ word. refl)) (λ rows p. refl) (λ rows p. and-true _)
+takes_output (of_guest g) = takes_value refl (takes_one refl refl refl refl refl (λ word. refl)) (λ rows p. refl) (λ rows p. and-true _)
+takes_output replaying = takes_value refl (takes_one refl refl refl refl refl (λ word. refl)) (λ rows p. refl) (λ rows p. and-true _)
 
 pub run_takes_recording : TakesValue (of_guest running) (codes "--record") (codes "record")
 unfolding the_app top_app guest_app demo_app replay_app clap_on_literals
-run_takes_recording = takes_value (of_guest running) (codes "--record") (codes "record") _ refl (takes_one refl refl refl refl refl (λ word. refl)) (λ rows p. refl) (λ rows p. and-true _)
+run_takes_recording = takes_value refl (takes_one refl refl refl refl refl (λ word. refl)) (λ rows p. refl) (λ rows p. and-true _)
 
 pub run_takes_stamps : TakesValue (of_guest running) (codes "--stamps") (codes "stamps")
 unfolding the_app top_app guest_app demo_app replay_app clap_on_literals
-run_takes_stamps = takes_value (of_guest running) (codes "--stamps") (codes "stamps") _ refl (takes_one refl refl refl refl refl (λ word. refl)) (λ rows p. refl) (λ rows p. and-true _)
+run_takes_stamps = takes_value refl (takes_one refl refl refl refl refl (λ word. refl)) (λ rows p. refl) (λ rows p. and-true _)
 
 pub replay_takes_stamps : TakesValue replaying (codes "--stamps") (codes "stamps")
 unfolding the_app top_app guest_app demo_app replay_app clap_on_literals
-replay_takes_stamps = takes_value replaying (codes "--stamps") (codes "stamps") _ refl (takes_one refl refl refl refl refl (λ word. refl)) (λ rows p. refl) (λ rows p. and-true _)
+replay_takes_stamps = takes_value refl (takes_one refl refl refl refl refl (λ word. refl)) (λ rows p. refl) (λ rows p. and-true _)
 
 pub contexts_takes_stamps : TakesValue (of_guest telling) (codes "--stamps") (codes "stamps")
 unfolding the_app top_app guest_app demo_app replay_app clap_on_literals
-contexts_takes_stamps = takes_value (of_guest telling) (codes "--stamps") (codes "stamps") _ refl (takes_one refl refl refl refl refl (λ word. refl)) (λ rows p. refl) (λ rows p. and-true _)
+contexts_takes_stamps = takes_value refl (takes_one refl refl refl refl refl (λ word. refl)) (λ rows p. refl) (λ rows p. and-true _)
 
 pub cache_takes_sets : TakesValue (of_guest caching) (codes "--sets") (codes "sets")
 unfolding the_app top_app guest_app demo_app replay_app clap_on_literals
-cache_takes_sets = takes_value (of_guest caching) (codes "--sets") (codes "sets") _ refl (takes_one refl refl refl refl refl (λ word. refl)) (λ rows p. refl) (λ rows p. and-true _)
+cache_takes_sets = takes_value refl (takes_one refl refl refl refl refl (λ word. refl)) (λ rows p. refl) (λ rows p. and-true _)
 
 pub cache_takes_ways : TakesValue (of_guest caching) (codes "--ways") (codes "ways")
 unfolding the_app top_app guest_app demo_app replay_app clap_on_literals
-cache_takes_ways = takes_value (of_guest caching) (codes "--ways") (codes "ways") _ refl (takes_one refl refl refl refl refl (λ word. refl)) (λ rows p. refl) (λ rows p. and-true _)
+cache_takes_ways = takes_value refl (takes_one refl refl refl refl refl (λ word. refl)) (λ rows p. refl) (λ rows p. and-true _)
 
 pub cache_takes_line : TakesValue (of_guest caching) (codes "--line") (codes "line")
 unfolding the_app top_app guest_app demo_app replay_app clap_on_literals
-cache_takes_line = takes_value (of_guest caching) (codes "--line") (codes "line") _ refl (takes_one refl refl refl refl refl (λ word. refl)) (λ rows p. refl) (λ rows p. and-true _)
+cache_takes_line = takes_value refl (takes_one refl refl refl refl refl (λ word. refl)) (λ rows p. refl) (λ rows p. and-true _)
 
 -- ---- the option without a value
 

@@ -88,27 +88,29 @@ two_fair tid xs ys one two light also copies more = record {
 
 -- ---- the thread goes on, or waits
 abbrev pub Stays : Answer → Type 0
+Stays (Back value) = Unit {0}
+Stays Yield = Unit {0}
+Stays Block = Unit {0}
 Stays answer = ⊥
-Stays _ = Unit {0}
 
 stays_tids : (answer : Answer) (tid : ℕ) (ts : List ℕ) → Stays answer → tids_after answer tid ts ≡ ts
-stays_tids ThreadEnd tid ts stays = absurd stays
-stays_tids (ProcessEnd s) tid ts stays = absurd stays
-stays_tids (Born child registers) tid ts stays = absurd stays
-stays_tids _ tid ts stays = refl
+stays_tids (Back value) tid ts stays = refl
+stays_tids Yield tid ts stays = refl
+stays_tids Block tid ts stays = refl
+stays_tids _ tid ts stays = absurd stays
 
 stays_begins : (pc : ℕ) (answer : Answer) → Stays answer → BeginsBehind pc answer × EndsWithByte answer
-stays_begins pc ThreadEnd stays = absurd stays
-stays_begins pc (ProcessEnd s) stays = absurd stays
-stays_begins pc (Born child registers) stays = absurd stays
-stays_begins pc _ stays = (tt, tt)
+stays_begins pc (Back value) stays = (tt, tt)
+stays_begins pc Yield stays = (tt, tt)
+stays_begins pc Block stays = (tt, tt)
+stays_begins pc _ stays = absurd stays
 
 stays_number : (answer : Answer) (old new : KernelState) → Stays answer →
     new.last_tid ≡ old.last_tid → GivesNumber answer old new
-stays_number ThreadEnd old new stays last = absurd stays
-stays_number (ProcessEnd s) old new stays last = absurd stays
-stays_number (Born child registers) old new stays last = absurd stays
-stays_number _ old new stays last = last
+stays_number (Back value) old new stays last = last
+stays_number Yield old new stays last = last
+stays_number Block old new stays last = last
+stays_number _ old new stays last = absurd stays
 
 pub any_thread : (threads : List Thread) (tid : ℕ) →
     list_any (λ t. t.tid == tid) threads ≡ list_any (λ n. n == tid) (map (λ t. t.tid) threads)

@@ -124,6 +124,9 @@ shift_code Srai = 0x20
 shift_code op = 0
 
 abbrev register_code : RegOp → ℕ
+register_code reg.Add = 0
+register_code reg.Sub = 0
+register_code reg.Mul = 0
 register_code reg.Sll = 1
 register_code reg.Mulh = 1
 register_code reg.Slt = 2
@@ -139,13 +142,19 @@ register_code reg.Or = 6
 register_code reg.Rem = 6
 register_code reg.And = 7
 register_code reg.Remu = 7
-register_code _ = 0
 
 abbrev group_code : RegOp → ℕ
 group_code reg.Sub = 0x20
 group_code reg.Sra = 0x20
+group_code reg.Mul = 1
+group_code reg.Mulh = 1
+group_code reg.Mulhsu = 1
+group_code reg.Mulhu = 1
+group_code reg.Div = 1
+group_code reg.Divu = 1
+group_code reg.Rem = 1
+group_code reg.Remu = 1
 group_code op = 0
-group_code _ = 1
 
 abbrev atomic_code : AtomicOp → ℕ
 atomic_code amo.Lr = 2
