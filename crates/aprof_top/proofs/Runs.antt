@@ -26,7 +26,7 @@ use Rattle.thread_sched.specs.ScheduleText.{IsBadLine, IsEntry, IsText}
 use Rattle.aprof_top.specs.declared.ending.Ending as declared
 use Rattle.aprof_top.specs.declared.ending.Ending.TheVariants as ending
 use Rattle.aprof_top.specs.declared.ending.Verdict.{Verdict}
-use Rattle.aprof_top.specs.declared.ending.Verdict.TheVariants.{BadCommand, BadImage, BadSchedule, BadTrace, TooLarge, Ran, Replayed, ResultTooLarge, Summarized}
+use Rattle.aprof_top.specs.declared.ending.Verdict.TheVariants.{BadImage, BadSchedule, TooLarge}
 use Rattle.aprof_top.specs.Preparing.{Refuses}
 use Rattle.aprof_top.specs.Jobs.{FilesRun, IsRefused, RunIsStored, RunStops, desk, ending_by}
 use Rattle.aprof_top.specs.Delivery.{FailsWithin, PutsOutput}

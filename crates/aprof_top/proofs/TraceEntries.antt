@@ -13,7 +13,7 @@ use Rattle.profile_report.specs.Reported.{ReportedRoutine}
 use Rattle.run_trace.specs.Entries.{entries_begun, entry_begun}
 use Rattle.trace_model.specs.declared.activations.Activation.{Activation}
 use Rattle.trace_model.specs.declared.event_kinds.Event.{Event}
-use Rattle.trace_model.specs.declared.event_kinds.Event.TheVariants.{Step, Read, Write, Fill, Call, Ret, Start, End}
+use Rattle.trace_model.specs.declared.event_kinds.Event.TheVariants.{Call, Start}
 use Rattle.trace_model.specs.declared.slow_profile.Done.{Done}
 use Rattle.trace_model.specs.Activations.{backs, begun, count_ending, ending_calls, open_calls}
 use Rattle.trace_model.specs.Cut.{cut}

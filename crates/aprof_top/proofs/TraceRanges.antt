@@ -9,7 +9,7 @@ use Rattle.std.proofs.lemmas.List.{map-append, reverse-append}
 use Rattle.std.proofs.lemmas.List.Elements.{All-cons, All-filter, All-head, All-nil, All-tail}
 use Rattle.guest_words.specs.Names.{is_dash, is_name, is_visible}
 use Rattle.guest_words.specs.declared.endings.FaultKind.{FaultKind}
-use Rattle.guest_words.specs.declared.endings.FaultKind.TheVariants.{Illegal, Fetch, Load, Store, JumpAlign, AtomicAlign, Break}
+use Rattle.guest_words.specs.declared.endings.FaultKind.TheVariants.{Illegal}
 use Rattle.guest_words.specs.declared.endings.Finish.{Finish}
 use Rattle.guest_words.specs.declared.endings.Finish.TheVariants as ends
 use Rattle.guest_words.specs.declared.limits.TheConstants.{NAME_BYTES}

@@ -5,7 +5,7 @@ use Rattle.std.proofs.lemmas.List.{length-map}
 use Rattle.std.proofs.lemmas.List.FromFn.{length-range_with_len}
 use Rattle.std.proofs.lemmas.List.Sums.{count_by-le-length, length-filter}
 use Rattle.trace_model.specs.declared.event_kinds.Event.{Event}
-use Rattle.trace_model.specs.declared.event_kinds.Event.TheVariants.{Step, Read, Write, Fill, Call, Ret, Start, End}
+use Rattle.trace_model.specs.declared.event_kinds.Event.TheVariants.{Step, Read, Write}
 use Rattle.trace_model.specs.Events.{thread_of}
 use Rattle.trace_model.specs.Profile.{steps}
 use Rattle.trace_model.specs.WellFormed.{IsLight, IsWellFormed, MayFollow, weight, weight_of}

@@ -10,7 +10,7 @@ use Rattle.std.proofs.lemmas.List.Elements.{All-push, All-weaker, All-same}
 use Rattle.guest_words.specs.ByThread.{numbers, value_of, with_value, without_thread}
 use Rattle.guest_words.proofs.ThreadTables.{All-numbers-without, numbers-with, value_of-above, value_of-pushed, value_of-with, value_of-without}
 use Rattle.trace_model.specs.declared.event_kinds.Event.{Event}
-use Rattle.trace_model.specs.declared.event_kinds.Event.TheVariants.{Step, Read, Write, Fill, Call, Ret, Start, End}
+use Rattle.trace_model.specs.declared.event_kinds.Event.TheVariants.{Step, Call, Ret, Start, End}
 use Rattle.trace_model.specs.declared.activations.Activation.{Activation}
 use Rattle.trace_model.specs.Events.{thread_of}
 use Rattle.trace_model.specs.Activations.{count_returned, is_back, open_calls}

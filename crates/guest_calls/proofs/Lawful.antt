@@ -12,7 +12,7 @@ use Rattle.trace_model.specs.declared.event_kinds.Event.{Event}
 use Rattle.trace_model.specs.WellFormed.{AreWords, weight}
 use Rattle.trace_model.proofs.Bounds.{weight-append}
 use Rattle.guest_calls.specs.declared.answer.Answer.{Answer}
-use Rattle.guest_calls.specs.declared.answer.Answer.TheVariants.{Back, Yield, Block, ThreadEnd, ProcessEnd, Born}
+use Rattle.guest_calls.specs.declared.answer.Answer.TheVariants.{Back, Yield, Block}
 use Rattle.guest_calls.specs.declared.thread.Thread.{Thread}
 use Rattle.guest_calls.specs.Kernel.{KernelState, can_run, lives}
 use Rattle.guest_calls.specs.Lawful.{AreCopies, BeginsBehind, EndsWithByte, GivesNumber, IsLawful, goes_on, tids, tids_after}

@@ -238,6 +238,9 @@ born_live child t x = elim (cases_eq t child) [
 life_follows : (answer : Answer) (harts : List Hart) (tid : ℕ) (past : List Event) (old new : KernelState) →
     Lives past (tids_in harts) old.last_tid → is_live past tid ≡ true → GivesNumber answer old new →
     EachFollows (life_events answer harts tid) past × Lives (grown (life_events answer harts tid) past) (tids_after answer tid (tids_in harts)) new.last_tid
+life_follows (Back value) harts tid past old new before live given = (tt, subst (Lives past (tids_in harts)) (sym given) before)
+life_follows Yield harts tid past old new before live given = (tt, subst (Lives past (tids_in harts)) (sym given) before)
+life_follows Block harts tid past old new before live given = (tt, subst (Lives past (tids_in harts)) (sym given) before)
 life_follows ThreadEnd harts tid past old new before live given = (
   (live, tt),
   subst (Lives (End tid ∷ past) (filter (λ n. not (n == tid)) (tids_in harts))) (sym given) (record {
@@ -245,7 +248,6 @@ life_follows ThreadEnd harts tid past old new before live given = (
     greatest = before.greatest;
     rising = rises-filter (λ n. not (n == tid)) 0 (tids_in harts) old.last_tid before.rising;
   }),
-life_follows _ harts tid past old new before live given = (tt, subst (Lives past (tids_in harts)) (sym given) before)
 )
 life_follows (ProcessEnd status) harts tid past old new before live given =
     let all = ends_follow harts past 0 old.last_tid before.live before.rising in (

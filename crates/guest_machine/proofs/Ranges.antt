@@ -9,7 +9,7 @@ use Rattle.guest_memory.specs.Reserved.{holds, without_thread}
 use Rattle.rv_isa.specs.declared.instruction.AtomicOp.{AtomicOp}
 use Rattle.rv_isa.specs.declared.instruction.AtomicOp.TheVariants.{Lr, Sc}
 use Rattle.rv_isa.specs.declared.instruction.Instr.{Instr}
-use Rattle.rv_isa.specs.declared.instruction.Instr.TheVariants.{Lui, Auipc, Jal, Jalr, Branch, Load, Store, Immediate, Register, Atomic, Fence, FenceI, Ecall, Ebreak}
+use Rattle.rv_isa.specs.declared.instruction.Instr.TheVariants.{Jal, Jalr, Branch, Load, Store, Atomic, Ecall, Ebreak}
 use Rattle.rv_exec.specs.Accesses.{can_read, can_write, load_size, store_size}
 use Rattle.rv_exec.specs.Effects.{ExecState, atomic_at, branched, checked, effect, jumped, next, store_where, written, x}
 use Rattle.rv_exec.specs.Operations.{add_offset, is_taken, low_32_bits}
@@ -25,7 +25,7 @@ use Rattle.trace_model.specs.declared.event_kinds.Event.{Event}
 use Rattle.trace_model.specs.declared.event_kinds.Event.TheVariants as events
 use Rattle.virtual_clock.specs.declared.deadline.Deadline.{Deadline}
 use Rattle.guest_calls.specs.declared.answer.Answer.{Answer}
-use Rattle.guest_calls.specs.declared.answer.Answer.TheVariants.{Back, Yield, Block, ThreadEnd, ProcessEnd, Born}
+use Rattle.guest_calls.specs.declared.answer.Answer.TheVariants.{ThreadEnd, ProcessEnd, Born}
 use Rattle.guest_calls.specs.Lawful.{AreCopies}
 use Rattle.guest_calls.specs.Table.{call}
 use Rattle.guest_calls.specs.Waking.{next_due}

@@ -14,7 +14,7 @@ use Rattle.rv_exec.specs.declared.outcome.Outcome.{Outcome}
 use Rattle.rv_exec.specs.declared.outcome.Outcome.TheVariants as outcome
 use Rattle.call_tracker.specs.Links.{kind_of}
 use Rattle.call_tracker.specs.declared.jumps.JumpKind.{JumpKind}
-use Rattle.call_tracker.specs.declared.jumps.JumpKind.TheVariants.{Nothing, Push, Pop, PopPush}
+use Rattle.call_tracker.specs.declared.jumps.JumpKind.TheVariants.{Nothing}
 use Rattle.trace_model.specs.declared.event_kinds.Event.TheVariants.{End}
 use Rattle.trace_model.specs.WellFormed.{weight}
 use Rattle.guest_calls.specs.declared.answer.Answer.{Answer}

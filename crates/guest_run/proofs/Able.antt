@@ -7,7 +7,7 @@ use Rattle.rv_exec.specs.Effects.{ExecState, effect}
 use Rattle.rv_exec.specs.declared.outcome.Outcome.{Outcome}
 use Rattle.rv_exec.specs.declared.outcome.Outcome.TheVariants as outcome
 use Rattle.guest_calls.specs.declared.answer.Answer.{Answer}
-use Rattle.guest_calls.specs.declared.answer.Answer.TheVariants.{Back, Yield, Block, ThreadEnd, ProcessEnd, Born}
+use Rattle.guest_calls.specs.declared.answer.Answer.TheVariants.{Back, Born}
 use Rattle.guest_calls.specs.Lawful.{goes_on}
 use Rattle.guest_calls.specs.Table.{call}
 use Rattle.guest_calls.proofs.AllCalls.{every_call_is_lawful}

@@ -16,7 +16,7 @@ use Rattle.thread_sched.specs.declared.turns.Turn.{Turn}
 use Rattle.thread_sched.specs.declared.turns.Turn.TheVariants as turn
 use Rattle.thread_sched.specs.TurnRule.{SchedulerState, turn_of}
 use Rattle.guest_machine.specs.declared.stepped.Stepped.{Stepped}
-use Rattle.guest_machine.specs.declared.stepped.Stepped.TheVariants.{Went, Yielded, Blocked, Ended, Finished, Faulted}
+use Rattle.guest_machine.specs.declared.stepped.Stepped.TheVariants.{Finished, Faulted}
 use Rattle.guest_machine.specs.Machine.{MachineState}
 use Rattle.guest_machine.specs.Step.{step}
 use Rattle.guest_run.specs.declared.turn_status.TurnStatus.{TurnStatus}

@@ -18,7 +18,7 @@ use Rattle.guest_calls.specs.Kernel.{is_thread, ready}
 use Rattle.guest_calls.specs.declared.thread.Thread.{Thread}
 use Rattle.guest_calls.specs.Invariant.{RisesTo}
 use Rattle.guest_machine.specs.declared.stepped.Stepped.{Stepped}
-use Rattle.guest_machine.specs.declared.stepped.Stepped.TheVariants.{Went, Yielded, Blocked, Ended, Finished, Faulted}
+use Rattle.guest_machine.specs.declared.stepped.Stepped.TheVariants.{Went}
 use Rattle.guest_machine.specs.Laws.{IsWithinLimits, KeepsThreads, StandsFor}
 use Rattle.guest_machine.specs.Machine.{Hart, MachineState, can_run}
 use Rattle.guest_machine.specs.Start.{start}

@@ -3,9 +3,9 @@ use Rattle.std.proofs.Common.{◌≡◌, ℕ, zero, suc, ◌+◌, ◌≤◌, Boo
 use Rattle.std.specs.List.{list_any}
 use Rattle.std.specs.Prelude.{pred, ◌==◌}
 use Rattle.guest_words.specs.declared.endings.Finish.{Finish}
-use Rattle.guest_words.specs.declared.endings.Finish.TheVariants.{Exit, Fault, Budget, Deadlock, Deep, Schedule}
+use Rattle.guest_words.specs.declared.endings.Finish.TheVariants.{Exit, Fault, Deep, Schedule}
 use Rattle.guest_machine.specs.declared.stepped.Stepped.{Stepped}
-use Rattle.guest_machine.specs.declared.stepped.Stepped.TheVariants.{Went, Yielded, Blocked, Ended, Finished, Faulted}
+use Rattle.guest_machine.specs.declared.stepped.Stepped.TheVariants.{Finished, Faulted}
 use Rattle.guest_machine.specs.Machine.{MachineState}
 use Rattle.guest_run.specs.declared.turn_status.TurnStatus.{TurnStatus}
 use Rattle.guest_run.specs.declared.turn_status.TurnStatus.TheVariants.{GoesOn, TurnOver, Ends}

@@ -5,7 +5,7 @@ use Rattle.std.specs.List.{sum_by}
 use Rattle.std.proofs.lemmas.List.Elements.{All-cons, All-head, All-nil, All-tail}
 use Rattle.std.proofs.lemmas.List.Sums.{sum_by-cons}
 use Rattle.trace_model.specs.declared.event_kinds.Event.{Event}
-use Rattle.trace_model.specs.declared.event_kinds.Event.TheVariants.{Step, Read, Write, Fill, Call, Ret, Start, End}
+use Rattle.trace_model.specs.declared.event_kinds.Event.TheVariants.{Step, Start}
 use Rattle.trace_model.specs.Cut.{cut, past_after}
 use Rattle.trace_model.proofs.Cut.{past_after-append, past_after-cons}
 use Rattle.trace_model.specs.Parts.{IsShort, count_read, is_step, parts, with_event}

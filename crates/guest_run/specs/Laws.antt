@@ -2,7 +2,7 @@
 use Rattle.std.specs.Prelude.{◌≡◌, ◌↔◌, ℕ, ◌+◌, ◌≤◌, Bool, true, false, List, ◌++◌, length, reverse, sum_by}
 use Rattle.std.specs.List.{All}
 use Rattle.guest_words.specs.declared.endings.Finish.{Finish}
-use Rattle.guest_words.specs.declared.endings.Finish.TheVariants.{Exit, Fault, Budget, Deadlock, Deep, Schedule}
+use Rattle.guest_words.specs.declared.endings.Finish.TheVariants.{Fault, Budget, Deep, Schedule}
 use Rattle.trace_model.specs.declared.event_kinds.Event.{Event}
 use Rattle.trace_model.specs.Cut.{IsPrefixClosed, past_after}
 use Rattle.trace_model.specs.Profile.{steps}

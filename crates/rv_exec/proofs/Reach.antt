@@ -16,7 +16,7 @@ use Rattle.guest_memory.specs.Reserved.{holds, without_thread}
 use Rattle.guest_memory.proofs.Accesses.{refusal_each}
 use Rattle.rv_isa.specs.declared.instruction.AtomicOp.{AtomicOp}
 use Rattle.rv_isa.specs.declared.instruction.AtomicOp.TheVariants.{Lr, Sc, Swap, Add, Xor, And, Or, Min, Max, Minu, Maxu}
-use Rattle.rv_isa.specs.declared.instruction.Instr.TheVariants.{Lui, Auipc, Jal, Jalr, Branch, Load, Store, Immediate, Register, Atomic, Fence, FenceI, Ecall, Ebreak}
+use Rattle.rv_isa.specs.declared.instruction.Instr.TheVariants.{Jal, Jalr, Branch, Load, Store, Atomic}
 use Rattle.rv_exec.specs.declared.outcome.Access.TheVariants as access
 use Rattle.rv_exec.specs.declared.outcome.Outcome.{Outcome}
 use Rattle.rv_exec.specs.declared.outcome.Outcome.TheVariants as outcome

@@ -2,7 +2,7 @@
 -- section "Immediate Encoding Variants".
 use Rattle.std.specs.Prelude.{◌≡◌, ℕ, ◌%◌, ◌^◌, ◌<◌, ℤ, pos, neg_ℤ, ◌≤ℤ◌, unsigned_abs}
 use Rattle.rv_isa.specs.declared.instruction.ImmOp.{ImmOp}
-use Rattle.rv_isa.specs.declared.instruction.ImmOp.TheVariants.{Addi, Slti, Sltiu, Xori, Ori, Andi, Slli, Srli, Srai}
+use Rattle.rv_isa.specs.declared.instruction.ImmOp.TheVariants.{Slli, Srli, Srai}
 use Rattle.rv_isa.specs.declared.instruction.AtomicOp.{AtomicOp}
 use Rattle.rv_isa.specs.declared.instruction.AtomicOp.TheVariants.{Lr}
 use Rattle.rv_isa.specs.declared.instruction.Instr.{Instr}

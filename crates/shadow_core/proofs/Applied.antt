@@ -6,7 +6,7 @@ use Rattle.std.proofs.lemmas.List.{length-map, length-take-le}
 use Rattle.std.proofs.lemmas.Bool.Decides.{nat_tests}
 use Rattle.guest_words.specs.ByThread.{value_of}
 use Rattle.trace_model.specs.declared.event_kinds.Event.{Event}
-use Rattle.trace_model.specs.declared.event_kinds.Event.TheVariants.{Step, Read, Write, Fill, Call, Ret, Start, End}
+use Rattle.trace_model.specs.declared.event_kinds.Event.TheVariants.{Read, Write, Call, Ret, Start}
 use Rattle.trace_model.specs.declared.slow_profile.Done.{Done}
 use Rattle.std.specs.List.{position_or_len}
 use Rattle.trace_model.specs.declared.activations.Activation.{Activation}

@@ -8,7 +8,7 @@ use Rattle.std.proofs.lemmas.List.Elements.{All-nil, All-cons, All-contains, All
 use Rattle.guest_words.specs.ByThread.{IsRising, numbers, value_of}
 use Rattle.guest_words.proofs.ThreadTables.{All-numbers-without, rising_pushed, rising_without}
 use Rattle.trace_model.specs.declared.event_kinds.Event.{Event}
-use Rattle.trace_model.specs.declared.event_kinds.Event.TheVariants.{Step, Read, Write, Fill, Call, Ret, Start, End}
+use Rattle.trace_model.specs.declared.event_kinds.Event.TheVariants.{Step, Write, Fill, Ret, Start, End}
 use Rattle.trace_model.specs.declared.activations.Activation.{Activation}
 use Rattle.trace_model.specs.Events.{thread_of, covers}
 use Rattle.trace_model.specs.Activations.{open_calls, backs, count_ending}

@@ -5,7 +5,7 @@ use Rattle.std.proofs.lemmas.List.{reverse-append, take-append-drop}
 use Rattle.std.proofs.lemmas.List.Sums.{count_by-le-length, sum_by_push}
 use Rattle.std.proofs.lemmas.List.FromFn.{length-range_with_len}
 use Rattle.trace_model.specs.declared.event_kinds.Event.{Event}
-use Rattle.trace_model.specs.declared.event_kinds.Event.TheVariants.{Step, Read, Write, Fill, Call, Ret, Start, End}
+use Rattle.trace_model.specs.declared.event_kinds.Event.TheVariants.{Step, Read}
 use Rattle.trace_model.specs.Events.{words_read, steps_run}
 use Rattle.trace_model.specs.Sizes.{count_pairs, cost}
 use Rattle.trace_model.specs.WellFormed.{weight, weight_of}
