@@ -1,5 +1,6 @@
 -- What the run of a command's files comes to.
-use Rattle.std.proofs.Common.{◌≡◌, IfSome, Ok, arith, ℕ, Bool, List, [], length, Option, Some, None, Result, Err, ◌≤◌, ◌+◌, refl, sym, ap, ap₂, ◌∙◌, subst, inl, inr}
+use Rattle.std.proofs.Common.{◌≡◌, IfSome, Ok, arith, ℕ, Bool, List, [], length, Option, Some, None, Result, Err, ◌≤◌, ◌+◌, refl, sym, ap, ap₂, ◌∙◌, ◌⊎◌, subst, inl, inr}
+use Rattle.std.proofs.lemmas.List.{append-nil}
 use Rattle.std.specs.List.{AllByRecursion}
 use Rattle.std.proofs.Math.Seq.{take-length}
 use Rattle.guest_words.specs.declared.limits.TheConstants.{RUN_STEPS}
@@ -15,8 +16,9 @@ use Rattle.guest_machine.specs.Setup.{setup_refusal}
 use Rattle.guest_machine.specs.Start.{start}
 use Rattle.guest_run.specs.Laws.{scheduler}
 use Rattle.guest_run.specs.Output.{Sinks, with_output}
+use Rattle.guest_run.specs.RunEnds.{IsGivenUp}
 use Rattle.guest_run.specs.Profiled.{Profiled, first_past}
-use Rattle.guest_run.specs.Run.{bytes_on}
+use Rattle.guest_run.specs.Run.{Move, bytes_on}
 use Rattle.guest_run.proofs.Formed.{every_run_formed}
 use Rattle.guest_run.proofs.Weights.{every_run_light}
 use Rattle.host_io.specs.Files.{FilesState}
@@ -86,6 +88,11 @@ handed_refusal job loaded v o is_run = record {
   is_run = is_run;
   delivered = (refl, record { out = appended-nothing o.out; err = appended-nothing o.err ∙ appended-nothing (appended o.err []); stored = same_files o.files });
 }
+
+-- memory was wanting when a run had come to its end: all of its output was put
+pub stops_whole : (setup : Option SetupError) (moves : List Move) (before after : Sinks) → setup ≡ None → after ≡ with_output moves before
+    → (after ≡ before) ⊎ ((setup ≡ None) × IsGivenUp moves before after)
+stops_whole setup moves before after none output = inr (none, record { earlier = moves; later = []; are = append-nil moves; output = output })
 
 -- files that are refused are run by nothing
 pub FilesRun-refused : (job : Job) (loaded : Loaded) (o : Outside) (e : declared.Ending) → Refuses loaded e → FilesRun job loaded o o e
