@@ -1,0 +1,118 @@
+"""What the stored texts say, as values: points, routines, calling contexts, reports, and several reports as one profile."""
+from __future__ import annotations
+
+from dataclasses import dataclass, field
+
+
+@dataclass(frozen=True)
+class Parts:
+    """Who last wrote the words that a point's calls read, summed over its calls. `own + thread + kernel` is size times calls."""
+
+    own: int
+    thread: int
+    kernel: int
+    bare: int
+
+
+@dataclass(frozen=True)
+class Point:
+    """The calls of one size: how many, and the least, the greatest and the summed cost, in instructions."""
+
+    size: int
+    calls: int
+    least: int
+    most: int
+    cost: int
+    parts: Parts | None
+
+    @property
+    def mean(self) -> float:
+        return self.cost / self.calls
+
+
+@dataclass
+class Routine:
+    """A routine with its points, sizes rising. A routine whose calls had all not returned has no point."""
+
+    entry: int
+    name: str | None
+    points: list[Point] = field(default_factory=list)
+
+    @property
+    def label(self) -> str:
+        return self.name or f"{self.entry:08x}"
+
+    @property
+    def calls(self) -> int:
+        return sum(point.calls for point in self.points)
+
+    @property
+    def cost(self) -> int:
+        """Summed over all calls, those nested in a call of the same routine too."""
+        return sum(point.cost for point in self.points)
+
+
+@dataclass
+class Context:
+    """A chain of routines that call one another: the innermost one, its caller's context, and the points of its calls."""
+
+    routine: Routine
+    caller: Context | None
+    points: list[Point] = field(default_factory=list)
+    callees: list[Context] = field(default_factory=list)
+
+    @property
+    def calls(self) -> int:
+        return sum(point.calls for point in self.points)
+
+    @property
+    def cost(self) -> int:
+        """Of the calls that returned, with what they call."""
+        return sum(point.cost for point in self.points)
+
+
+@dataclass
+class Report:
+    """What `run`, `replay` or `contexts` stored. `roots` is None where the text has no contexts."""
+
+    path: str
+    end: str
+    steps: int
+    still_open: int
+    routines: list[Routine]
+    roots: list[Context] | None
+
+
+@dataclass(frozen=True)
+class CacheRoutine:
+    entry: int
+    name: str | None
+    accesses: int
+    misses: int
+
+
+@dataclass
+class CacheReport:
+    """What `cache` stored."""
+
+    path: str
+    end: str
+    steps: int
+    routines: list[CacheRoutine]
+
+
+@dataclass
+class Profile:
+    """One or several reports, as one longer run would have given them."""
+
+    reports: list[Report]
+    routines: list[Routine]
+    roots: list[Context] | None
+
+    @property
+    def steps(self) -> int:
+        return sum(report.steps for report in self.reports)
+
+    @property
+    def still_open(self) -> int:
+        return sum(report.still_open for report in self.reports)
