@@ -1,5 +1,5 @@
 -- From the loads and the run of a command to how it ends.
-use Rattle.std.proofs.Common.{◌∙◌, ◌≡◌, ◌⊎◌, ℕ, ◌<◌, Bool, true, false, cond, List, [], Some, None, Err, refl, sym, ap, subst, inl, inr, arith, length, slice_get}
+use Rattle.std.proofs.Common.{◌∙◌, ◌≡◌, ◌⊎◌, ℕ, ◌<◌, Bool, true, false, cond, List, [], ◌∷◌, Some, None, Err, refl, sym, ap, subst, inl, inr, arith, length, slice_get, append-nil}
 use Rattle.std.specs.Prelude.{nat_lt}
 use Rattle.std.specs.List.{list_any}
 use Rattle.std.proofs.lemmas.Bool.Decides.{nat_tests}
@@ -25,14 +25,15 @@ use Rattle.aprof_top.specs.Loading.{LoadsEnd}
 use Rattle.aprof_top.specs.Loads.{loaded_of, loaded_paths, passes_limit, shared_count}
 use Rattle.aprof_top.specs.Outcome.{Follows, IsDemo, IsOutcome, IsRun, Job, Outcome, job_of, refusal, stage}
 use Rattle.aprof_top.specs.Outcome.Stage.{Complete, Loading, PastLimit}
-use Rattle.aprof_top.specs.Outside.{AreFiles, Outside, outside}
+use Rattle.aprof_top.specs.Delivery.{FailsWithin}
+use Rattle.aprof_top.specs.Outside.{MetTooLong, Outside, outside}
 use Rattle.aprof_top.specs.Jobs.{FilesRun, summed}
 use Rattle.aprof_top.specs.Preparing.{AreAll, AreRefused}
 use Rattle.aprof_top.proofs.Runs.{FilesRun-refused}
 use Rattle.aprof_top.specs.Sources.{path_of}
 use Rattle.aprof_top.specs.Sources.Wanted.{Nothing}
 use Rattle.aprof_top.specs.Verdicts.{IsOfRun}
-use Rattle.aprof_top.proofs.Sinks.{appended-nothing, same_files, takes_none}
+use Rattle.aprof_top.proofs.Sinks.{appended-nothing}
 
 -- ---- where the loads stand
 stage_by : (options : GuestOptions) (files : List (List ℕ)) (past more : Bool) → passes_limit (shared_count options) files ≡ past → nat_lt (length files) (length (loaded_paths options)) ≡ more → stage options files ≡ cond past PastLimit (cond more Loading Complete)
@@ -57,7 +58,7 @@ complete_stage options files few all =
 
 -- ---- refusals
 -- a verdict that stores nothing was reached, and the sinks are untouched
-pub refused_by : (words : List (List ℕ)) (v : verdicts.Verdict) (files now : FilesState) (out err : SinkState) (found : Found words (outside files out err) (outside now out err)) → IsOutcome found.asked found.files (refusal v) → AreFiles files now → Reaches words (Decided v) (outside files out err) (outside now out err)
+pub refused_by : (words : List (List ℕ)) (v : verdicts.Verdict) (files now : FilesState) (out err : SinkState) (found : Found words (outside files out err) (outside now out err)) → IsOutcome found.asked found.files (refusal v) → (now ≡ files) ⊎ ((v ≡ verdict.TooLarge) × MetTooLong files now) → Reaches words (Decided v) (outside files out err) (outside now out err)
 refused_by words v files now out err found written unchanged = (
   record { found = found; outcome = refusal v; written = written },
   refl,
@@ -67,7 +68,7 @@ refused_by words v files now out err found written unchanged = (
 -- the words are refused
 Reaches-bad_command : (words : List (List ℕ)) (files : FilesState) (out err : SinkState) → AsksFor words None → Reaches words (Decided verdict.BadCommand) (outside files out err) (outside files out err)
 Reaches-bad_command words files out err asks =
-    refused_by words verdict.BadCommand files files out err (record { asked = None; asks = asks; files = []; held = tt; limit = inl tt }) refl (same_files files)
+    refused_by words verdict.BadCommand files files out err (record { asked = None; asks = asks; files = []; held = tt; limit = inl tt }) refl (inl refl)
 
 -- no command was made of the words
 pub Reaches-unread : (words : List (List ℕ)) (e : CommandError) (outside' : Outside) → (e ≡ command.Refused → AsksFor words None) → (e ≡ command.Memory → list_any has_zero words ≡ false) → Reaches words (end_of Nothing (of_command e)) outside' outside'
@@ -103,7 +104,11 @@ module _ (guest : GuestOptions) (path : List ℕ) (analysis : Analysis) (files l
       refused_by words why files loaded out err
       (record { asked = Some asked; asks = asks; files = passes.files; held = passes.held; limit = passes.limit })
       (subst (λ s. Follows job passes.files (refusal why) s) (sym (past_stage guest passes.files passes.many)) (ap refusal too_large))
-      passes.unchanged
+      (by passes.unchanged)
+    where
+      by : (loaded ≡ files) ⊎ MetTooLong files loaded → (loaded ≡ files) ⊎ ((why ≡ verdict.TooLarge) × MetTooLong files loaded)
+      by (inl same) = inl same
+      by (inr met) = inr (too_large, met)
   AskedEnds-unloaded ending.CannotWrite ends' words asks = absurd ends'
   AskedEnds-unloaded ending.CannotPut ends' words asks = absurd ends'
   AskedEnds-unloaded ending.OutOfMemory same words asks = record { no_zero = no_zero words asked asks; done = inl (ap (λ f. outside f out err) same) }
@@ -166,25 +171,29 @@ pub AskedEnds-put : (number : ℕ) (summary : List ℕ) (files : FilesState) (ou
     AskedEnds (Demo number) (outside files out err) (outside files new err) (ending.Decided verdict.Summarized)
 AskedEnds-put number summary files out new err is_demo gained =
     AskedEnds-shown number (summed summary) (outside files out err) (outside files new err) is_demo (ending.Decided verdict.Summarized) tt
-    (refl, record { out = gained; err = appended-nothing err ∙ appended-nothing (appended err []); stored = same_files files })
+    (refl, record { out = gained ∙ ap (appended out) (sym (append-nil summary)); err = appended-nothing err ∙ appended-nothing (appended err []); stored = inl refl })
 
 pub AskedEnds-unput : (number : ℕ) (summary : List ℕ) (files : FilesState) (out new err : SinkState) → IsDemo number (summed summary) → (e : PutError) →
     PutEnds summary out new (Err e) → 0 < length summary → AskedEnds (Demo number) (outside files out err) (outside files new err) (of_put e)
 AskedEnds-unput number summary files out new err is_demo refused.Failed fails some =
     AskedEnds-shown number (summed summary) (outside files out err) (outside files new err) is_demo ending.CannotWrite tt
     (inr (record {
-      out = record { some = some; faults = fails.faults; count = fails.front; gained = fails.gained };
-      err_count = 0;
-      err = takes_none [] err err refl;
+      earlier = [];
+      bytes = summary;
+      later = [];
+      are = refl;
+      out = subst (λ (s : SinkState). FailsWithin summary s new) (appended-nothing out) (record { some = some; faults = fails.faults; count = fails.front; gained = fails.gained });
+      err = appended-nothing err;
       files = refl;
     }))
 AskedEnds-unput number summary files out new err is_demo refused.Memory same some =
     AskedEnds-shown number (summed summary) (outside files out err) (outside files new err) is_demo ending.OutOfMemory tt
     (record {
-      out_count = 0;
-      out = takes_none summary out new same;
-      err_count = 0;
-      err = takes_none [] err err refl;
+      earlier = [];
+      later = (1, summary) ∷ [];
+      are = refl;
+      out = same ∙ appended-nothing out;
+      err = appended-nothing err;
       count = 0;
       files = refl;
       output_first = inr refl;

@@ -33,6 +33,5 @@ contexts_begin guest path options files bytes contexts ran is_contexts stored is
       more = contexts_text run.past (in_order (tree.contexts run.past));
       begins = text.0;
       verdict = ap (λ (o : Outcome). o.verdict) is ∙ sym (ap (λ (o : Outcome). o.verdict) ran_is);
-      out = ap (λ (o : Outcome). o.out) is ∙ sym (ap (λ (o : Outcome). o.out) ran_is);
-      err = ap (λ (o : Outcome). o.err) is ∙ sym (ap (λ (o : Outcome). o.err) ran_is);
+      output = ap (λ (o : Outcome). o.writes) is ∙ sym (ap (λ (o : Outcome). o.writes) ran_is);
     }

@@ -5,7 +5,6 @@ use Rattle.guest_machine.specs.Setup.{setup_refusal}
 use Rattle.guest_machine.specs.Start.{start}
 use Rattle.guest_run.specs.Output.{Sinks, sinks, with_output}
 use Rattle.guest_run.specs.Profiled.{Profiled}
-use Rattle.guest_run.specs.Run.{bytes_on}
 use Rattle.host_io.specs.Files.{FilesState}
 use Rattle.host_io.specs.Sink.{SinkState}
 use Rattle.trace_model.specs.declared.event_kinds.Event.{Event}
@@ -14,7 +13,7 @@ use Rattle.aprof_top.specs.declared.ending.Verdict.{Verdict}
 use Rattle.aprof_top.specs.declared.preparation.Prepared.{Prepared}
 use Rattle.aprof_top.specs.Jobs.{JobRuns, RunIsStored, RunStops, desk, ending_by}
 use Rattle.aprof_top.specs.Loads.{Loaded}
-use Rattle.aprof_top.specs.Outcome.{Job, Left, Outcome, analysed, follows_to, job_of, left_of, run_outcome}
+use Rattle.aprof_top.specs.Outcome.{Job, Left, Outcome, analysed, follows_to, job_of, left_of, run_outcome, writes_of}
 use Rattle.aprof_top.specs.Outside.{outside}
 use Rattle.aprof_top.specs.Preparing.{ArePrepared}
 use Rattle.aprof_top.specs.Run.{observed_from}
@@ -26,13 +25,9 @@ of_run : (seen : Profiled) (left : Option Left) → IsOfRun (run_outcome seen le
 of_run seen (Some left) = tt
 of_run seen None = tt
 
-out_is : (seen : Profiled) (left : Option Left) → (run_outcome seen left).out ≡ bytes_on 1 seen.moves
-out_is seen (Some left) = refl
-out_is seen None = refl
-
-err_is : (seen : Profiled) (left : Option Left) → (run_outcome seen left).err ≡ bytes_on 2 seen.moves
-err_is seen (Some left) = refl
-err_is seen None = refl
+writes_are : (seen : Profiled) (left : Option Left) → (run_outcome seen left).writes ≡ writes_of seen.moves
+writes_are seen (Some left) = refl
+writes_are seen None = refl
 
 -- what is observed of the run of a guest that was prepared
 abbrev pub seen_of : (List Event → Bool) → GuestOptions → Prepared → Profiled
@@ -63,7 +58,7 @@ module _ (guest : GuestOptions) (path : List ℕ) (analysis : Analysis) (prepare
       JobRuns job prepared (outside files out err) (outside files after.out after.err) e
   JobRuns-given_up e stops loaded are =
       FilesRun-given_up job loaded are.accepted prepared.files.schedule are.read.0 are.read.1 prepared.image are.image
-      seen outcome (left_is loaded are) (of_run seen left) (out_is seen left) (err_is seen left)
+      seen outcome (left_is loaded are) (of_run seen left) (writes_are seen left)
       files (sinks out err) after e stops
 
   -- its run came to its end, and what it leaves was stored so
@@ -73,5 +68,5 @@ module _ (guest : GuestOptions) (path : List ℕ) (analysis : Analysis) (prepare
       JobRuns job prepared (outside files out err) (outside stored after.out last) (ending_by result)
   JobRuns-stored begins whole stored last result stores loaded are =
       FilesRun-stored job loaded are.accepted prepared.files.schedule are.read.0 are.read.1 prepared.image are.image
-      seen outcome (left_is loaded are) (of_run seen left) (out_is seen left) (err_is seen left)
+      seen outcome (left_is loaded are) (of_run seen left) (writes_are seen left)
       files (sinks out err) after begins whole stored last result stores

@@ -1,6 +1,8 @@
 -- How the output and the files of a run are handed out, by how its run ended.
-use Rattle.std.proofs.Common.{◌≡◌, ℕ, ◌+◌, List, [], ◌∷◌, ◌++◌, length, length-append, take, drop, refl, sym, ap, subst, ◌∙◌, append_assoc, inr, arith}
+use Rattle.std.proofs.Common.{◌≡◌, ℕ, ◌<◌, Bool, true, false, List, [], ◌∷◌, ◌++◌, Option, Some, None, length, take, drop, refl, sym, ap, subst, ◌∙◌, append_assoc, inr, arith}
+use Rattle.std.specs.Prelude.{◌==◌}
 use Rattle.std.specs.Io.KnownBytes.{append_known}
+use Rattle.std.proofs.lemmas.Bool.Decides.{nat_tests}
 use Rattle.std.proofs.lemmas.List.{take-append-drop}
 use Rattle.host_io.specs.Files.{FilesState}
 use Rattle.host_io.specs.Sink.{SinkState, appended}
@@ -8,9 +10,9 @@ use Rattle.guest_run.specs.declared.run_error.Channel.TheVariants as channel
 use Rattle.guest_run.specs.Output.{FailsToPut, Sinks, with_output}
 use Rattle.guest_run.specs.Run.{Move, bytes_on, sent}
 use Rattle.guest_run.specs.RunEnds.{IsGivenUp, StopsAtPut}
-use Rattle.guest_run.proofs.Output.{appended-more, bytes_on-append}
-use Rattle.aprof_top.specs.Delivery.{FailsOnErr, FailsOnOut, FailsWithin, PutsOutput, StopsShort, TakesFirst}
-use Rattle.aprof_top.specs.Outcome.{Outcome}
+use Rattle.guest_run.proofs.Output.{appended-more}
+use Rattle.aprof_top.specs.Delivery.{FailsOnErr, FailsOnOut, FailsWithin, PutsOutput, StopsShort}
+use Rattle.aprof_top.specs.Outcome.{Outcome, Write, put_on, with_write, writes_of}
 use Rattle.aprof_top.specs.Outside.{outside}
 
 -- what bytes begin with is their first ones
@@ -18,65 +20,121 @@ pub first_of : (p q : List ℕ) → take (length p) (p ++ q) ≡ p
 first_of [] q = refl
 first_of (x ∷ p) q = ap (λ rest. x ∷ rest) (first_of p q)
 
--- the bytes of the first moves came to a sink
-takes_moves : (on : ℕ) (moves earlier later : List Move) → earlier ++ later ≡ moves → (old new : SinkState) → new ≡ appended old (bytes_on on earlier) →
-    TakesFirst (length (bytes_on on earlier)) (bytes_on on moves) old new
-takes_moves on moves earlier later are old new gained =
-    gained ∙ ap (appended old) (sym (ap (take (length (bytes_on on earlier))) (sym (ap (bytes_on on) are) ∙ bytes_on-append on earlier later) ∙ first_of (bytes_on on earlier) (bytes_on on later)))
+-- ---- writes and moves
+pub put_on-append : (on : ℕ) (writes more : List Write) → put_on on (writes ++ more) ≡ put_on on writes ++ put_on on more
+put_on-append on [] more = refl
+put_on-append on (write ∷ writes) more =
+    ap (λ bytes. sent on (Some write) ++ bytes) (put_on-append on writes more)
+    ∙ sym (append_assoc (sent on (Some write)) (put_on on writes) (put_on on more))
 
--- and then some of those of the next, whose put failed
-fails_within : (on : ℕ) (moves earlier later : List Move) (move : Move) → earlier ++ move ∷ later ≡ moves → (old new : SinkState) →
-    FailsToPut (sent on move.out) (appended old (bytes_on on earlier)) new → FailsWithin (bytes_on on moves) old new
-fails_within on moves earlier later move are old new fails =
-    let before = bytes_on on earlier in
-    let piece = sent on move.out in
-    let rest = bytes_on on later in
-    let some = take fails.failed.front piece in
-    let whole : before ++ (piece ++ rest) ≡ bytes_on on moves = sym (bytes_on-append on earlier (move ∷ later)) ∙ ap (bytes_on on) are in
-    let cut : (before ++ some) ++ (drop fails.failed.front piece ++ rest) ≡ bytes_on on moves =
-    append_assoc before some (drop fails.failed.front piece ++ rest)
-    ∙ ap (λ bytes. before ++ bytes) (sym (append_assoc some (drop fails.failed.front piece) rest) ∙ ap (λ bytes. bytes ++ rest) (take-append-drop fails.failed.front piece))
-    ∙ whole in
-    let long : length (bytes_on on moves) ≡ length before + length (piece ++ rest) = sym (ap length whole) ∙ length-append before (piece ++ rest) in
-    record {
-      some = omega (arith, long, length-append piece rest, fails.some);
-      faults = fails.failed.faults;
-      count = length (before ++ some);
-      gained = fails.failed.gained ∙ ap (λ (s : SinkState). s.bytes) (appended-more old before some)
-          ∙ ap (append_known old.bytes) (sym (ap (take (length (before ++ some))) (sym cut) ∙ first_of (before ++ some) (drop fails.failed.front piece ++ rest)));
-    }
+with_write-append : (out : Option Write) (writes more : List Write) → with_write out (writes ++ more) ≡ with_write out writes ++ more
+with_write-append None writes more = refl
+with_write-append (Some write) writes more = refl
 
-pub puts_all : (outcome : Outcome) (moves : List Move) → outcome.out ≡ bytes_on 1 moves → outcome.err ≡ bytes_on 2 moves → (files new : FilesState) (before after : Sinks) →
+writes_of-append : (moves more : List Move) → writes_of (moves ++ more) ≡ writes_of moves ++ writes_of more
+writes_of-append [] more = refl
+writes_of-append (move ∷ moves) more = ap (with_write move.out) (writes_of-append moves more) ∙ with_write-append move.out (writes_of moves) (writes_of more)
+
+-- what moves put on a channel is what their writes do
+pub put_is : (on : ℕ) (moves : List Move) → put_on on (writes_of moves) ≡ bytes_on on moves
+put_is on [] = refl
+put_is on (move ∷ moves) = by move.out
+  where
+    by : (out : Option Write) → put_on on (with_write out (writes_of moves)) ≡ sent on out ++ bytes_on on moves
+    by None = put_is on moves
+    by (Some write) = ap (λ bytes. sent on (Some write) ++ bytes) (put_is on moves)
+
+-- What a move puts on a channel is one write.
+record IsWrite (on : ℕ) (out : Option Write) : Type 0 where
+  bytes : List ℕ
+  is : out ≡ Some (on, bytes)
+  sent_is : sent on out ≡ bytes
+
+one_write : (on : ℕ) (out : Option Write) → 0 < length (sent on out) → IsWrite on out
+one_write on None some = absurd (omega (arith, some))
+one_write on (Some write) some = by (write.0 == on) refl
+  where
+    by : (test : Bool) → (write.0 == on) ≡ test → IsWrite on (Some write)
+    by true is = record { bytes = write.1; is = ap (λ channel. Some (channel, write.1)) (grind (arith, nat_tests, is)); sent_is = rw is refl }
+    by false is = absurd (let none : sent on (Some write) ≡ [] = rw is refl in let e = ap length none in omega (arith, some, e))
+
+-- the writes of moves before one, its own, and those of the moves behind it
+around : (on : ℕ) (moves earlier later : List Move) (move : Move) (bytes : List ℕ) → earlier ++ move ∷ later ≡ moves → move.out ≡ Some (on, bytes)
+    → writes_of earlier ++ (on, bytes) ∷ writes_of later ≡ writes_of moves
+around on moves earlier later move bytes are is =
+    ap (λ out. writes_of earlier ++ with_write out (writes_of later)) (sym is) ∙ sym (writes_of-append earlier (move ∷ later)) ∙ ap writes_of are
+
+-- a put of one write failed
+fails_within : (on : ℕ) (earlier : List Move) (out : Option Write) (old new : SinkState) (write : IsWrite on out) →
+    FailsToPut (sent on out) (appended old (bytes_on on earlier)) new → FailsWithin write.bytes (appended old (put_on on (writes_of earlier))) new
+fails_within on earlier out old new write fails =
+    subst (λ bytes. FailsWithin write.bytes (appended old bytes) new) (sym (put_is on earlier))
+    (subst (λ bytes. FailsWithin bytes (appended old (bytes_on on earlier)) new) write.sent_is
+    (record { some = fails.some; faults = fails.failed.faults; count = fails.failed.front; gained = fails.failed.gained }))
+
+pub puts_all : (outcome : Outcome) (moves : List Move) → outcome.writes ≡ writes_of moves → (files new : FilesState) (before after : Sinks) →
     after ≡ with_output moves before → PutsOutput outcome (outside files before.out before.err) (outside new after.out after.err)
-puts_all outcome moves out_is err_is files new before after is = record {
-  out = ap (λ (s : Sinks). s.out) is ∙ ap (appended before.out) (sym out_is);
-  err = ap (λ (s : Sinks). s.err) is ∙ ap (appended before.err) (sym err_is);
+puts_all outcome moves are files new before after is = record {
+  out = ap (λ (s : Sinks). s.out) is ∙ ap (appended before.out) (puts 1);
+  err = ap (λ (s : Sinks). s.err) is ∙ ap (appended before.err) (puts 2);
 }
+  where
+    puts : (on : ℕ) → bytes_on on moves ≡ put_on on outcome.writes
+    puts on = sym (put_is on moves) ∙ ap (put_on on) (sym are)
 
-module _ (outcome : Outcome) (moves : List Move) (out_is : outcome.out ≡ bytes_on 1 moves) (err_is : outcome.err ≡ bytes_on 2 moves) (files : FilesState) (before after : Sinks) where
+module _ (outcome : Outcome) (moves : List Move) (writes_are : outcome.writes ≡ writes_of moves) (files : FilesState) (before after : Sinks) where
   pub fails_on_out : StopsAtPut channel.Out moves before after → FailsOnOut outcome (outside files before.out before.err) (outside files after.out after.err)
-  fails_on_out stops = record {
-    out = subst (λ bytes. FailsWithin bytes before.out after.out) (sym out_is) (fails_within 1 moves stops.earlier stops.later stops.move stops.are before.out after.out stops.failed.0);
-    err_count = length (bytes_on 2 stops.earlier);
-    err = subst (λ bytes. TakesFirst (length (bytes_on 2 stops.earlier)) bytes before.err after.err) (sym err_is) (takes_moves 2 moves stops.earlier (stops.move ∷ stops.later) stops.are before.err after.err stops.failed.1);
-    files = refl;
-  }
+  fails_on_out stops =
+      let write = one_write 1 stops.move.out stops.failed.0.some in
+      record {
+        earlier = writes_of stops.earlier;
+        bytes = write.bytes;
+        later = writes_of stops.later;
+        are = around 1 moves stops.earlier stops.later stops.move write.bytes stops.are write.is ∙ sym writes_are;
+        out = fails_within 1 stops.earlier stops.move.out before.out after.out write stops.failed.0;
+        err = stops.failed.1 ∙ ap (appended before.err) (sym (put_is 2 stops.earlier));
+        files = refl;
+      }
 
   pub fails_on_err : StopsAtPut channel.Err moves before after → FailsOnErr outcome (outside files before.out before.err) (outside files after.out after.err)
-  fails_on_err stops = record {
-    out_count = length (bytes_on 1 stops.earlier);
-    out = subst (λ bytes. TakesFirst (length (bytes_on 1 stops.earlier)) bytes before.out after.out) (sym out_is) (takes_moves 1 moves stops.earlier (stops.move ∷ stops.later) stops.are before.out after.out stops.failed.1);
-    err = subst (λ bytes. FailsWithin bytes before.err after.err) (sym err_is) (fails_within 2 moves stops.earlier stops.later stops.move stops.are before.err after.err stops.failed.0);
-    files = refl;
-  }
+  fails_on_err stops =
+      let write = one_write 2 stops.move.out stops.failed.0.some in
+      record {
+        earlier = writes_of stops.earlier;
+        bytes = write.bytes;
+        later = writes_of stops.later;
+        are = around 2 moves stops.earlier stops.later stops.move write.bytes stops.are write.is ∙ sym writes_are;
+        out = stops.failed.1 ∙ ap (appended before.out) (sym (put_is 1 stops.earlier));
+        err = fails_within 2 stops.earlier stops.move.out before.err after.err write stops.failed.0;
+        files = refl;
+      }
 
   pub stops_short : IsGivenUp moves before after → StopsShort outcome (outside files before.out before.err) (outside files after.out after.err)
   stops_short gives = record {
-    out_count = length (bytes_on 1 gives.earlier);
-    out = subst (λ bytes. TakesFirst (length (bytes_on 1 gives.earlier)) bytes before.out after.out) (sym out_is) (takes_moves 1 moves gives.earlier gives.later gives.are before.out after.out (ap (λ (s : Sinks). s.out) gives.output));
-    err_count = length (bytes_on 2 gives.earlier);
-    err = subst (λ bytes. TakesFirst (length (bytes_on 2 gives.earlier)) bytes before.err after.err) (sym err_is) (takes_moves 2 moves gives.earlier gives.later gives.are before.err after.err (ap (λ (s : Sinks). s.err) gives.output));
+    earlier = writes_of gives.earlier;
+    later = writes_of gives.later;
+    are = sym (writes_of-append gives.earlier gives.later) ∙ ap writes_of gives.are ∙ sym writes_are;
+    out = ap (λ (s : Sinks). s.out) gives.output ∙ ap (appended before.out) (sym (put_is 1 gives.earlier));
+    err = ap (λ (s : Sinks). s.err) gives.output ∙ ap (appended before.err) (sym (put_is 2 gives.earlier));
     count = 0;
     files = refl;
     output_first = inr refl;
   }
+
+-- ---- the first of some writes
+-- what they put on a channel is a first part of what all put there
+pub first_put : (on : ℕ) (writes earlier later : List Write) → earlier ++ later ≡ writes → take (length (put_on on earlier)) (put_on on writes) ≡ put_on on earlier
+first_put on writes earlier later are =
+    ap (take (length (put_on on earlier))) (ap (put_on on) (sym are) ∙ put_on-append on earlier later) ∙ first_of (put_on on earlier) (put_on on later)
+
+-- and so it is with a first part of the next one
+pub first_put-more : (on count : ℕ) (writes earlier later : List Write) (bytes : List ℕ) → sent on (Some (on, bytes)) ≡ bytes → earlier ++ (on, bytes) ∷ later ≡ writes
+    → take (length (put_on on earlier ++ take count bytes)) (put_on on writes) ≡ put_on on earlier ++ take count bytes
+first_put-more on count writes earlier later bytes own are =
+    let front = put_on on earlier in
+    let some = take count bytes in
+    let rest = put_on on later in
+    let whole : put_on on writes ≡ (front ++ some) ++ (drop count bytes ++ rest) =
+    ap (put_on on) (sym are) ∙ put_on-append on earlier ((on, bytes) ∷ later) ∙ ap (λ b. front ++ (b ++ rest)) (own ∙ sym (take-append-drop count bytes))
+    ∙ ap (λ b. front ++ b) (append_assoc some (drop count bytes) rest) ∙ sym (append_assoc front some (drop count bytes ++ rest)) in
+    ap (take (length (front ++ some))) whole ∙ first_of (front ++ some) (drop count bytes ++ rest)

@@ -10,7 +10,7 @@ use Rattle.host_io.specs.Files.{Contents, FailsAt, FilesState, GivesFile, Holds,
 use Rattle.aprof_top.specs.Limits.{file_limit, inputs_limit}
 use Rattle.aprof_top.specs.Loading.{AreLoaded, FailsToLoad, IsLoading, PassesLimit}
 use Rattle.aprof_top.specs.Loads.{passes_limit, shared_length}
-use Rattle.aprof_top.specs.Outside.{AreFiles, AreHeld}
+use Rattle.aprof_top.specs.Outside.{AreHeld, MetTooLong}
 
 abbrev is_long : List ℕ → Bool
 is_long file = nat_lt file_limit (length file)
@@ -148,7 +148,7 @@ module _ (shared sum : ℕ) (paths files : List (List ℕ)) (path : List ℕ) (o
       held = held_now;
       limit = inl each_now;
       many = past_sum shared (files ++ file ∷ []) (subst (λ n. inputs_limit < n) total_now large);
-      unchanged = record { contents = ap (λ f. f.contents) same_now; failed_paths = ap (λ f. f.failed_paths) same_now; faults = ap (λ f. f.faults) same_now };
+      unchanged = inl same_now;
     }
 
   -- the load failed
@@ -164,38 +164,31 @@ module _ (shared sum : ℕ) (paths files : List (List ℕ)) (path : List ℕ) (o
   }
 
   -- a file is longer than the limit
-  PassesLimit-long : (file : List ℕ) → file_limit < length file → Holds old.contents path file → Rose old.oversized now.oversized → AreFiles old now → PassesLimit shared paths old now
-  PassesLimit-long file long held rose same = record {
+  PassesLimit-long : (file : List ℕ) → file_limit < length file → Holds old.contents path file → MetTooLong old now → PassesLimit shared paths old now
+  PassesLimit-long file long held met = record {
     files = files ++ file ∷ [];
     held = held_more old.contents paths files path file so_far.held next held;
-    limit = inr rose;
+    limit = inr met.oversized;
     many = past_long shared files file long;
-    unchanged = same;
+    unchanged = inr met;
   }
 
   -- the file that was met
   pub PassesLimit-met : now.contents ≡ mid.contents → ExceedsLimit path file_limit mid now → PassesLimit shared paths old now
   PassesLimit-met contents met = by old.contents refl longer
     where
-      rose : Rose old.oversized now.oversized
-      rose = subst (λ f. Rose f.oversized now.oversized) so_far.same met.oversized
-
-      same : AreFiles old now
-      same = record {
-        contents = contents ∙ ap (λ f. f.contents) so_far.same;
-        failed_paths = met.failed_paths ∙ ap (λ f. f.failed_paths) so_far.same;
-        faults = met.faults ∙ ap (λ f. f.faults) so_far.same;
-      }
+      too_long : MetTooLong old now
+      too_long = subst (λ f. MetTooLong f now) so_far.same (record { contents = contents; failed_paths = met.failed_paths; oversized = met.oversized })
 
       longer : HoldsMore old.contents path file_limit
       longer = subst (λ f. HoldsMore f.contents path file_limit) so_far.same met.longer
 
       by_file : (known : Contents) (o : Option (List ℕ)) → old.contents ≡ Some known → known path ≡ o → IsSomeAnd o (λ bytes. file_limit < length bytes) → PassesLimit shared paths old now
       by_file known None is there longer = absurd longer
-      by_file known (Some bytes) is there longer = PassesLimit-long bytes longer (subst (λ c. Holds c path bytes) (sym is) there) rose same
+      by_file known (Some bytes) is there longer = PassesLimit-long bytes longer (subst (λ c. Holds c path bytes) (sym is) there) too_long
 
       by : (c : Option Contents) → old.contents ≡ c → HoldsMore c path file_limit → PassesLimit shared paths old now
-      by None is longer = PassesLimit-long (long_file file_limit) (long_file-long file_limit) (subst (λ c. Holds c path (long_file file_limit)) (sym is) tt) rose same
+      by None is longer = PassesLimit-long (long_file file_limit) (long_file-long file_limit) (subst (λ c. Holds c path (long_file file_limit)) (sym is) tt) too_long
       by (Some known) is longer = by_file known (known path) is refl longer
 
 -- all were loaded

@@ -5,13 +5,14 @@ use Rattle.std.proofs.Math.Seq.{take-length}
 use Rattle.std.proofs.lemmas.List.{append-nil, take-append-drop}
 use Rattle.host_io.specs.Files.{FilesState, stored_in, with_path}
 use Rattle.host_io.specs.Sink.{SinkState, appended}
-use Rattle.aprof_top.specs.Delivery.{DoesAll, FailsAtStats, FailsAtStore, FailsOnErr, FailsOnOut, StopsShort}
+use Rattle.aprof_top.specs.Delivery.{DoesAll, FailsAtStats, FailsAtStore, FailsOnErr, FailsOnOut, FailsWithin, StopsShort}
 use Rattle.aprof_top.specs.Found.{Decision, Found}
 use Rattle.aprof_top.specs.LastText.{IsPut}
-use Rattle.aprof_top.specs.Outcome.{Outcome}
+use Rattle.aprof_top.specs.Outcome.{Outcome, Write, err_of, out_of, put_on}
 use Rattle.aprof_top.specs.Outside.{Outside, outside, with_stores}
 use Rattle.aprof_top.specs.Standing.{GainedPath, GotFirst, GotFirstThen, GotOutput, LeavesPart, LeavesText}
-use Rattle.aprof_top.proofs.Handed.{first_of}
+use Rattle.aprof_top.proofs.Handed.{first_of, first_put, first_put-more}
+use Rattle.aprof_top.proofs.Sinks.{done-contents}
 
 -- ---- what a sink gains
 pub gains_more : (known : Option (List ℕ)) (a b : List ℕ) → append_known (append_known known a) b ≡ append_known known (a ++ b)
@@ -97,34 +98,47 @@ module _ (words : List (List ℕ)) (before after : Outside) (mid : SinkState) wh
 
   module _ (outcome : Outcome) (text : List ℕ) (told : GotFirst text mid after.err) where
     -- all of the output came
-    pub output_came : after.out ≡ appended before.out outcome.out → (more : List ℕ) → mid.bytes ≡ append_known before.err.bytes (outcome.err ++ more) → GotOutput outcome before after
+    pub output_came : after.out ≡ appended before.out (out_of outcome) → (more : List ℕ) → mid.bytes ≡ append_known before.err.bytes ((err_of outcome) ++ more) → GotOutput outcome before after
     output_came out more err = record {
       out = ap (λ (s : SinkState). s.bytes) out;
       err = (
         more ++ take told.0 text,
-        told.1 ∙ ap (λ known. append_known known (take told.0 text)) err ∙ gains_more before.err.bytes (outcome.err ++ more) (take told.0 text)
-            ∙ ap (append_known before.err.bytes) (append_assoc outcome.err more (take told.0 text)),
+        told.1 ∙ ap (λ known. append_known known (take told.0 text)) err ∙ gains_more before.err.bytes ((err_of outcome) ++ more) (take told.0 text)
+            ∙ ap (append_known before.err.bytes) (append_assoc (err_of outcome) more (take told.0 text)),
       );
     }
 
-    whole_out : after.out ≡ appended before.out outcome.out → GotFirst outcome.out before.out after.out
-    whole_out out = (length outcome.out, ap (λ (s : SinkState). s.bytes) out ∙ ap (append_known before.out.bytes) (sym (take-length outcome.out)))
+    whole_out : after.out ≡ appended before.out (out_of outcome) → GotFirst (out_of outcome) before.out after.out
+    whole_out out = (length (out_of outcome), ap (λ (s : SinkState). s.bytes) out ∙ ap (append_known before.out.bytes) (sym (take-length (out_of outcome))))
 
     -- a first part of the output on `err`
-    part_of_err : (count : ℕ) → mid.bytes ≡ append_known before.err.bytes (take count outcome.err) → GotFirstThen (outcome.err ++ outcome.stats) text before.err after.err
+    part_of_err : (count : ℕ) → mid.bytes ≡ append_known before.err.bytes (take count (err_of outcome)) → GotFirstThen ((err_of outcome) ++ outcome.stats) text before.err after.err
     part_of_err count gained =
-        got_text (outcome.err ++ outcome.stats) text
-        (length (take count outcome.err), gained ∙ ap (append_known before.err.bytes) (sym (first_part count outcome.err outcome.stats))) told
+        got_text ((err_of outcome) ++ outcome.stats) text
+        (length (take count (err_of outcome)), gained ∙ ap (append_known before.err.bytes) (sym (first_part count (err_of outcome) outcome.stats))) told
 
     -- all of it, and a first part of the statistics
-    part_of_stats : (count : ℕ) → mid.bytes ≡ append_known before.err.bytes (outcome.err ++ take count outcome.stats) → GotFirstThen (outcome.err ++ outcome.stats) text before.err after.err
+    part_of_stats : (count : ℕ) → mid.bytes ≡ append_known before.err.bytes ((err_of outcome) ++ take count outcome.stats) → GotFirstThen ((err_of outcome) ++ outcome.stats) text before.err after.err
     part_of_stats count gained =
-        got_text (outcome.err ++ outcome.stats) text
-        (length (outcome.err ++ take count outcome.stats), gained ∙ ap (append_known before.err.bytes) (sym (second_part count outcome.err outcome.stats))) told
+        got_text ((err_of outcome) ++ outcome.stats) text
+        (length ((err_of outcome) ++ take count outcome.stats), gained ∙ ap (append_known before.err.bytes) (sym (second_part count (err_of outcome) outcome.stats))) told
 
     -- all of `err` is all of it with no statistics
-    pub err_whole : mid ≡ appended before.err outcome.err → mid.bytes ≡ append_known before.err.bytes (outcome.err ++ [])
-    err_whole err = ap (λ (s : SinkState). s.bytes) err ∙ ap (append_known before.err.bytes) (sym (append-nil outcome.err))
+    pub err_whole : mid ≡ appended before.err (err_of outcome) → mid.bytes ≡ append_known before.err.bytes ((err_of outcome) ++ [])
+    err_whole err = ap (λ (s : SinkState). s.bytes) err ∙ ap (append_known before.err.bytes) (sym (append-nil (err_of outcome)))
+
+    -- the first writes came to a sink
+    some_put : (on : ℕ) (old new : SinkState) (earlier later : List Write) → earlier ++ later ≡ outcome.writes → new ≡ appended old (put_on on earlier) → GotFirst (put_on on outcome.writes) old new
+    some_put on old new earlier later are gained =
+        (length (put_on on earlier), ap (λ (s : SinkState). s.bytes) gained ∙ ap (append_known old.bytes) (sym (first_put on outcome.writes earlier later are)))
+
+    -- and then some of the next one
+    some_and_more : (on : ℕ) (bytes : List ℕ) (old new : SinkState) (earlier : List Write) (piece : List ℕ) (fails : FailsWithin piece (appended old (put_on on earlier)) new)
+        → take (length (put_on on earlier ++ take fails.count piece)) bytes ≡ put_on on earlier ++ take fails.count piece → GotFirst bytes old new
+    some_and_more on bytes old new earlier piece fails first = (
+      length (put_on on earlier ++ take fails.count piece),
+      fails.gained ∙ gains_more old.bytes (put_on on earlier) (take fails.count piece) ∙ ap (append_known old.bytes) (sym first),
+    )
 
     pub part_at_store : FailsAtStore outcome before between → LeavesPart outcome text before after
     part_at_store fails = record {
@@ -140,51 +154,55 @@ module _ (words : List (List ℕ)) (before after : Outside) (mid : SinkState) wh
 
     pub part_on_out : FailsOnOut outcome before between → LeavesPart outcome text before after
     part_on_out fails = record {
-      out = (fails.out.count, fails.out.gained);
-      err = part_of_err fails.err_count (ap (λ (s : SinkState). s.bytes) fails.err);
+      out = some_and_more 1 (out_of outcome) before.out after.out fails.earlier fails.bytes fails.out (first_put-more 1 fails.out.count outcome.writes fails.earlier fails.later fails.bytes refl fails.are);
+      err = part_of_err (length (put_on 2 fails.earlier)) (some_put 2 before.err mid fails.earlier ((1, fails.bytes) ∷ fails.later) fails.are fails.err).1;
       files = inl (0, unstored fails.files);
       output_first = inr (unstored fails.files);
     }
 
     pub part_on_err : FailsOnErr outcome before between → LeavesPart outcome text before after
-    part_on_err fails = record {
-      out = (fails.out_count, ap (λ (s : SinkState). s.bytes) fails.out);
-      err = part_of_err fails.err.count fails.err.gained;
+    part_on_err fails =
+      let came = some_and_more 2 (err_of outcome) before.err mid fails.earlier fails.bytes fails.err (first_put-more 2 fails.err.count outcome.writes fails.earlier fails.later fails.bytes refl fails.are) in
+      record {
+      out = some_put 1 before.out after.out fails.earlier ((2, fails.bytes) ∷ fails.later) fails.are fails.out;
+      err = part_of_err came.0 came.1;
       files = inl (0, unstored fails.files);
       output_first = inr (unstored fails.files);
     }
 
     -- some of the statistics came
-    pub stats_came : (fails : FailsAtStats outcome before between) → mid.bytes ≡ append_known before.err.bytes (outcome.err ++ take fails.err.count outcome.stats)
-    stats_came fails = fails.err.gained ∙ gains_more before.err.bytes outcome.err (take fails.err.count outcome.stats)
+    pub stats_came : (fails : FailsAtStats outcome before between) → mid.bytes ≡ append_known before.err.bytes ((err_of outcome) ++ take fails.err.count outcome.stats)
+    stats_came fails = fails.err.gained ∙ gains_more before.err.bytes (err_of outcome) (take fails.err.count outcome.stats)
 
     pub part_at_stats : FailsAtStats outcome before between → LeavesPart outcome text before after
     part_at_stats fails = record {
       out = whole_out fails.out;
       err = part_of_stats fails.err.count (stats_came fails);
-      files = inl (length outcome.stores, fails.stored.contents ∙ ap (λ stores. (with_stores stores before.files).contents) (sym (take-length outcome.stores)));
+      files = inl (length outcome.stores, ap (λ (f : FilesState). f.contents) fails.files ∙ ap (λ stores. (with_stores stores before.files).contents) (sym (take-length outcome.stores)));
       output_first = inl (output_came fails.out (take fails.err.count outcome.stats) (stats_came fails));
     }
 
     pub part_done : DoesAll outcome before between → LeavesPart outcome text before after
     part_done does = record {
       out = whole_out does.out;
-      err = part_of_stats (length outcome.stats) (all_came ∙ ap (λ bytes. append_known before.err.bytes (outcome.err ++ bytes)) (sym (take-length outcome.stats)));
-      files = inl (length outcome.stores, does.stored.contents ∙ ap (λ stores. (with_stores stores before.files).contents) (sym (take-length outcome.stores)));
+      err = part_of_stats (length outcome.stats) (all_came ∙ ap (λ bytes. append_known before.err.bytes ((err_of outcome) ++ bytes)) (sym (take-length outcome.stats)));
+      files = inl (length outcome.stores, done-contents outcome before between does ∙ ap (λ stores. (with_stores stores before.files).contents) (sym (take-length outcome.stores)));
       output_first = inl (output_came does.out outcome.stats all_came);
     }
       where
-        all_came : mid.bytes ≡ append_known before.err.bytes (outcome.err ++ outcome.stats)
-        all_came = ap (λ (s : SinkState). s.bytes) does.err ∙ gains_more before.err.bytes outcome.err outcome.stats
+        all_came : mid.bytes ≡ append_known before.err.bytes ((err_of outcome) ++ outcome.stats)
+        all_came = ap (λ (s : SinkState). s.bytes) does.err ∙ gains_more before.err.bytes (err_of outcome) outcome.stats
 
     pub part_short : StopsShort outcome before between → LeavesPart outcome text before after
     part_short short = record {
-      out = (short.out_count, ap (λ (s : SinkState). s.bytes) short.out);
-      err = part_of_err short.err_count (ap (λ (s : SinkState). s.bytes) short.err);
+      out = some_put 1 before.out after.out short.earlier short.later short.are short.out;
+      err = part_of_err (length (put_on 2 short.earlier)) (some_put 2 before.err mid short.earlier short.later short.are short.err).1;
       files = inl (short.count, ap (λ (f : FilesState). f.contents) short.files);
       output_first = first short.output_first;
     }
       where
-        first : ((take short.out_count outcome.out ≡ outcome.out) × (take short.err_count outcome.err ≡ outcome.err)) ⊎ (short.count ≡ 0) → GotOutput outcome before after ⊎ (after.files.contents ≡ before.files.contents)
-        first (inl (out, err)) = inl (output_came (short.out ∙ ap (appended before.out) out) [] (err_whole (short.err ∙ ap (appended before.err) err)))
+        first : (short.later ≡ []) ⊎ (short.count ≡ 0) → GotOutput outcome before after ⊎ (after.files.contents ≡ before.files.contents)
+        first (inl none) =
+            let all : short.earlier ≡ outcome.writes = sym (append-nil short.earlier) ∙ ap (λ later. short.earlier ++ later) (sym none) ∙ short.are in
+            inl (output_came (short.out ∙ ap (λ writes. appended before.out (put_on 1 writes)) all) [] (err_whole (short.err ∙ ap (λ writes. appended before.err (put_on 2 writes)) all)))
         first (inr none) = inr (ap (λ (f : FilesState). f.contents) (short.files ∙ ap (λ count. with_stores (take count outcome.stores) before.files) none))

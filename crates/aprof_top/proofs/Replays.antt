@@ -23,13 +23,13 @@ use Rattle.aprof_top.specs.Ending.{AskedEnds, Delivers, of_store, of_trace}
 use Rattle.aprof_top.specs.Found.{Decision, Found}
 use Rattle.aprof_top.specs.Jobs.{RunIsStored, StatsEnd, StoresEnd, desk, ending_by}
 use Rattle.aprof_top.specs.Limits.{trace_limit}
-use Rattle.aprof_top.specs.Outcome.{ByLength, IsOfTrace, IsReplay, Outcome, refusal}
-use Rattle.aprof_top.specs.Outside.{AreFiles, Outside, outside, with_stores}
+use Rattle.aprof_top.specs.Outcome.{ByLength, IsOfTrace, IsReplay, Outcome, err_of, out_of, put_on, refusal}
+use Rattle.aprof_top.specs.Outside.{Outside, outside, with_stores}
 use Rattle.aprof_top.specs.Replaying.{TraceLoadEnds}
 use Rattle.aprof_top.specs.Verdicts.{IsOfRun}
 use Rattle.aprof_top.proofs.Commands.{refused_by}
 use Rattle.aprof_top.proofs.LoadSteps.{long_file, long_file-long}
-use Rattle.aprof_top.proofs.Sinks.{appended-nothing, same_files, takes_none}
+use Rattle.aprof_top.proofs.Sinks.{appended-nothing}
 
 -- a trace that is too long, and one that is not
 long_trace : (bytes : List ℕ) → trace_limit < length bytes → nat_lt trace_limit (length bytes) ≡ true
@@ -63,9 +63,6 @@ module _ (outcome : Outcome) (stores : List (List ℕ × List ℕ)) (are : store
 
   pub stats_done : (v : Verdict) → outcome.verdict ≡ v → new ≡ appended err outcome.stats → RunIsStored outcome (desk old err) (desk mid new) (Ok v)
   stats_done v same put = (same, record { stored = all_stored; stats = put })
-
-none_of : (xs : List ℕ) → xs ≡ [] → take 0 xs ≡ xs
-none_of xs none = sym none
 
 module _ (options : ReplayOptions) (files loaded : FilesState) (out err : SinkState) where
   abbrev before : Outside
@@ -115,7 +112,7 @@ module _ (options : ReplayOptions) (files loaded : FilesState) (out err : SinkSt
       let file = met_file met.longer in
       refused_by words why files loaded out err (longer_than words file.0 asks file.1 file.2 met)
       (subst (ByLength options file.0 (refusal why)) (sym (long_trace file.0 file.1)) (ap refusal too_large))
-      (record { contents = contents; failed_paths = met.failed_paths; faults = met.faults })
+      (inr (too_large, record { contents = contents; failed_paths = met.failed_paths; oversized = met.oversized }))
   AskedEnds-untraced ending.CannotWrite fails words asks = absurd fails
   AskedEnds-untraced ending.CannotPut fails words asks = absurd fails
   AskedEnds-untraced ending.OutOfMemory same words asks = record { no_zero = no_zero words (Replay options) asks; done = inl (ap (λ f. outside f out err) same) }
@@ -139,7 +136,7 @@ module _ (options : ReplayOptions) (files loaded : FilesState) (out err : SinkSt
     refused_trace past why refused no_memory words asks =
         refused_by words (BadTrace why) files loaded out err (found words between asks)
         (written (refusal (BadTrace why)) (inr (record { past = past; why = why; refused = refused; no_memory = no_memory; answered = refl })))
-        (subst (AreFiles files) (sym gives.same) (same_files files))
+        (inl gives.same)
 
     pub AskedEnds-refused : (past : List Event) (why : TraceError) → IsRefused bytes past why → AskedEnds (Replay options) before between (of_trace why)
     AskedEnds-refused past trace.Magic refused = refused_trace past trace.Magic refused (λ e. absurd (cc))
@@ -161,12 +158,12 @@ module _ (options : ReplayOptions) (files loaded : FilesState) (out err : SinkSt
       AskedEnds-handed after ending.OutOfMemory short words asks = record { no_zero = no_zero words (Replay options) asks; done = inr (decision words after asks, short) }
 
       -- by how it is stored: it has no output
-      module _ (no_out : outcome.out ≡ []) (no_err : outcome.err ≡ []) (new : FilesState) (last : SinkState) where
-        out_is : out ≡ appended out outcome.out
-        out_is = appended-nothing out ∙ ap (appended out) (sym no_out)
+      module _ (no_writes : outcome.writes ≡ []) (new : FilesState) (last : SinkState) where
+        out_is : out ≡ appended out (out_of outcome)
+        out_is = appended-nothing out ∙ ap (λ writes. appended out (put_on 1 writes)) (sym no_writes)
 
-        err_is : err ≡ appended err outcome.err
-        err_is = appended-nothing err ∙ ap (appended err) (sym no_err)
+        err_is : err ≡ appended err (err_of outcome)
+        err_is = appended-nothing err ∙ ap (λ writes. appended err (put_on 2 writes)) (sym no_writes)
 
         delivered : (result : Result Verdict declared.Ending) → RunIsStored outcome (desk files err) (desk new last) result → Delivers outcome before (outside new out last) (ending_by result)
         delivered (Ok v) (same, done) = (
@@ -174,23 +171,24 @@ module _ (options : ReplayOptions) (files loaded : FilesState) (out err : SinkSt
           record {
             out = out_is;
             err = done.stats ∙ ap (λ (s : SinkState). appended s outcome.stats) err_is;
-            stored = subst (λ f. AreFiles f new) done.stored (same_files new);
+            stored = inl done.stored;
           },
         )
         delivered (Err ending.CannotWrite) fails = inl (record { output = record { out = out_is; err = fails.err ∙ err_is }; stored = fails.stored })
         delivered (Err ending.CannotPut) fails = inr (record {
           out = out_is;
           err = subst (λ (s : SinkState). FailsWithin outcome.stats s last) err_is fails.stats;
-          stored = subst (λ f. AreFiles f new) fails.stored (same_files new);
+          files = fails.stored;
         })
         delivered (Err ending.OutOfMemory) fails = record {
-          out_count = 0;
-          out = takes_none outcome.out out out refl;
-          err_count = 0;
-          err = takes_none outcome.err err last fails.err;
+          earlier = [];
+          later = outcome.writes;
+          are = refl;
+          out = appended-nothing out;
+          err = fails.err ∙ appended-nothing err;
           count = fails.stored.0;
           files = fails.stored.1;
-          output_first = inl (none_of outcome.out no_out, none_of outcome.err no_err);
+          output_first = inl no_writes;
         }
         delivered (Err (ending.Decided v)) fails = absurd fails
         delivered (Err (ending.CannotRead source)) fails = absurd fails

@@ -2,7 +2,6 @@
 use Rattle.std.proofs.Common.{◌≡◌, IfSome, Ok, arith, ℕ, Bool, List, [], length, Option, Some, None, Result, Err, ◌≤◌, ◌+◌, refl, sym, ap, ap₂, ◌∙◌, ◌⊎◌, subst, inl, inr}
 use Rattle.std.proofs.lemmas.List.{append-nil}
 use Rattle.std.specs.List.{AllByRecursion}
-use Rattle.std.proofs.Math.Seq.{take-length}
 use Rattle.guest_words.specs.declared.limits.TheConstants.{RUN_STEPS}
 use Rattle.trace_model.specs.declared.event_kinds.Event.{Event}
 use Rattle.trace_model.specs.WellFormed.{IsLight, IsWellFormed}
@@ -18,7 +17,7 @@ use Rattle.guest_run.specs.Laws.{scheduler}
 use Rattle.guest_run.specs.Output.{Sinks, with_output}
 use Rattle.guest_run.specs.RunEnds.{IsGivenUp}
 use Rattle.guest_run.specs.Profiled.{Profiled, first_past}
-use Rattle.guest_run.specs.Run.{Move, bytes_on}
+use Rattle.guest_run.specs.Run.{Move}
 use Rattle.guest_run.proofs.Formed.{every_run_formed}
 use Rattle.guest_run.proofs.Weights.{every_run_light}
 use Rattle.host_io.specs.Files.{FilesState}
@@ -33,14 +32,14 @@ use Rattle.aprof_top.specs.Preparing.{Refuses}
 use Rattle.aprof_top.specs.Jobs.{FilesRun, IsRefused, RunIsStored, RunStops, desk, ending_by}
 use Rattle.aprof_top.specs.Delivery.{FailsWithin, PutsOutput}
 use Rattle.aprof_top.specs.Loads.{Loaded, with_inputs}
-use Rattle.aprof_top.specs.Outcome.{ByImage, IsRun, IsScheduled, Job, Outcome, begun_outcome, refusal}
-use Rattle.aprof_top.specs.Outside.{AreFiles, Outside, outside}
+use Rattle.aprof_top.specs.Outcome.{ByImage, IsRun, IsScheduled, Job, Outcome, begun_outcome, refusal, writes_of}
+use Rattle.aprof_top.specs.Outside.{Outside, outside}
 use Rattle.aprof_top.specs.Run.{first_state, observed_from}
 use Rattle.aprof_top.specs.Schedules.Reading.{BadLine, Turns}
 use Rattle.aprof_top.specs.Verdicts.{IsOfRun}
 use Rattle.guest_run.proofs.Lines.{IsCounted, observed_counted}
 use Rattle.aprof_top.proofs.Handed.{fails_on_err, fails_on_out, puts_all, stops_short}
-use Rattle.aprof_top.proofs.Sinks.{appended-nothing, same_files, takes_all}
+use Rattle.aprof_top.proofs.Sinks.{appended-nothing}
 
 module _ (job : Job) (loaded : Loaded) where
   module _ (accepted : first_refusal loaded.image ≡ None) where
@@ -86,7 +85,7 @@ handed_refusal : (job : Job) (loaded : Loaded) (v : Verdict) (o : Outside) → I
 handed_refusal job loaded v o is_run = record {
   outcome = refusal v;
   is_run = is_run;
-  delivered = (refl, record { out = appended-nothing o.out; err = appended-nothing o.err ∙ appended-nothing (appended o.err []); stored = same_files o.files });
+  delivered = (refl, record { out = appended-nothing o.out; err = appended-nothing o.err ∙ appended-nothing (appended o.err []); stored = inl refl });
 }
 
 -- memory was wanting when a run had come to its end: all of its output was put
@@ -104,7 +103,7 @@ FilesRun-refused job loaded o _ refused = absurd refused
 -- ---- the guest is run
 module _ (job : Job) (loaded : Loaded) (accepted : first_refusal loaded.image ≡ None) (turns : List Entry) (entries : AllByRecursion IsEntry turns)
     (text : IsText loaded.schedule turns) (image : Executable) (is : image ≡ image_of loaded.image) (seen : Profiled) (outcome : Outcome) (left : outcome ≡ job.leaves loaded turns)
-    (of_run : IsOfRun outcome.verdict) (out_is : outcome.out ≡ bytes_on 1 seen.moves) (err_is : outcome.err ≡ bytes_on 2 seen.moves)
+    (of_run : IsOfRun outcome.verdict) (writes_are : outcome.writes ≡ writes_of seen.moves)
     (files : FilesState) (before after : Sinks) where
   is_outcome : setup_refusal image (arguments job.guest) ≡ None → IsRun job loaded outcome
   is_outcome begins = IsRun-run job loaded accepted turns entries text image is begins outcome left
@@ -120,24 +119,24 @@ module _ (job : Job) (loaded : Loaded) (accepted : first_refusal loaded.image �
   FilesRun-given_up ending.CannotWrite (begins, stops) = record {
     outcome = outcome;
     is_run = is_outcome begins;
-    delivered = (of_run, inr (fails_on_out outcome seen.moves out_is err_is files before after stops));
+    delivered = (of_run, inr (fails_on_out outcome seen.moves writes_are files before after stops));
   }
   FilesRun-given_up ending.CannotPut (begins, stops) = record {
     outcome = outcome;
     is_run = is_outcome begins;
-    delivered = (of_run, inl (fails_on_err outcome seen.moves out_is err_is files before after stops));
+    delivered = (of_run, inl (fails_on_err outcome seen.moves writes_are files before after stops));
   }
   FilesRun-given_up ending.OutOfMemory (inl same) = inl (ap (λ (s : Sinks). outside files s.out s.err) same)
   FilesRun-given_up ending.OutOfMemory (inr (begins, gives)) = inr (record {
     outcome = outcome;
     is_run = is_outcome begins;
-    delivered = stops_short outcome seen.moves out_is err_is files before after gives;
+    delivered = stops_short outcome seen.moves writes_are files before after gives;
   })
 
   -- it came to its end, its files are stored, and its statistics are put
   module _ (begins : setup_refusal image (arguments job.guest) ≡ None) (whole : after ≡ with_output seen.moves before) (new : FilesState) (err : SinkState) where
     put : PutsOutput outcome (outside files before.out before.err) (outside new after.out after.err)
-    put = puts_all outcome seen.moves out_is err_is files new before after whole
+    put = puts_all outcome seen.moves writes_are files new before after whole
 
     pub FilesRun-stored : (result : Result Verdict declared.Ending) → RunIsStored outcome (desk files after.err) (desk new err) result →
         FilesRun job loaded (outside files before.out before.err) (outside new after.out err) (ending_by result)
@@ -149,7 +148,7 @@ module _ (job : Job) (loaded : Loaded) (accepted : first_refusal loaded.image �
         record {
           out = put.out;
           err = done.stats ∙ ap (λ (s : SinkState). appended s outcome.stats) put.err;
-          stored = subst (λ f. AreFiles f new) done.stored (same_files new);
+          stored = inl done.stored;
         },
       );
     }
@@ -166,7 +165,7 @@ module _ (job : Job) (loaded : Loaded) (accepted : first_refusal loaded.image �
         inr (record {
           out = put.out;
           err = subst (λ (s : SinkState). FailsWithin outcome.stats s err) put.err fails.stats;
-          stored = subst (λ f. AreFiles f new) fails.stored (same_files new);
+          files = fails.stored;
         }),
       );
     }
@@ -176,13 +175,14 @@ module _ (job : Job) (loaded : Loaded) (accepted : first_refusal loaded.image �
           outcome = outcome;
           is_run = is_outcome begins;
           delivered = record {
-            out_count = length outcome.out;
-            out = takes_all outcome.out before.out after.out put.out;
-            err_count = length outcome.err;
-            err = takes_all outcome.err before.err err put_err;
+            earlier = outcome.writes;
+            later = [];
+            are = append-nil outcome.writes;
+            out = put.out;
+            err = put_err;
             count = fails.stored.0;
             files = fails.stored.1;
-            output_first = inl (take-length outcome.out, take-length outcome.err);
+            output_first = inl refl;
           };
         })
     FilesRun-stored (Err (ending.Decided v)) fails = absurd fails

@@ -29,17 +29,17 @@ use Rattle.aprof_top.specs.Found.{Decision}
 use Rattle.aprof_top.specs.LastText.{IsMade, IsPut, LastText}
 use Rattle.aprof_top.specs.declared.ending.Verdict.{Verdict}
 use Rattle.aprof_top.specs.Loads.{Loaded, loaded_of}
-use Rattle.aprof_top.specs.Outcome.{ByImage, Follows, IsOutcome, Outcome, Stage, begun_outcome, recording_stores, scheduled_outcome, stage}
+use Rattle.aprof_top.specs.Outcome.{ByImage, Follows, IsOutcome, Outcome, Stage, begun_outcome, err_of, put_on, recording_stores, scheduled_outcome, stage}
 use Rattle.aprof_top.specs.Outcome.Stage.{PastLimit, Loading, Complete}
 use Rattle.aprof_top.specs.Outside.{Outside, outside, with_stores}
 use Rattle.aprof_top.specs.Schedules.{Reading}
 use Rattle.aprof_top.specs.Schedules.Reading.{Turns, BadLine}
 use Rattle.aprof_top.specs.Standing.{FailedAtStore, GainedPath, GotFirst, IsCalm, IsTold, IsUntouched, LacksStatistics, LeavesPart, LeavesText, Stands, StandsAfterAll, StandsAfterFault, StandsUnread}
 use Rattle.aprof_top.specs.Texts.{cannot_read_text, cannot_write_text, out_of_memory_text}
-use Rattle.aprof_top.specs.Verdicts.{IsOfRun, verdict_text}
+use Rattle.aprof_top.specs.Verdicts.{IsOfRun, verdict_status, verdict_text}
 use Rattle.aprof_top.proofs.Endings.{answers, cannot_read, err_rose, is_this, still}
 use Rattle.aprof_top.proofs.Parts.{decision_after, err_whole, found_after, gained_is, gains_more, no_gain, no_text, output_came, part_at_stats, part_at_store, part_done, part_on_err, part_on_out, part_short, put_part, stats_came, text_alone, with_stores-paths}
-use Rattle.aprof_top.proofs.Sinks.{appended-nothing, with_stores-faults}
+use Rattle.aprof_top.proofs.Sinks.{appended-nothing, done-contents, with_stores-faults}
 use Rattle.aprof_top.proofs.Statuses.{written_status}
 use Rattle.aprof_top.proofs.StoredRuns.{run_job}
 
@@ -172,17 +172,22 @@ module _ (words : List (List ℕ)) (status : ℕ) (before after : Outside) where
       by (inl same) = (0, ap (λ (s : SinkState). s.bytes) same)
       by (inr (some, fails)) = absurd (omega (arith, some))
 
+  -- how a call ends at status 4
+  abbrev AtFault : Type 0
+  AtFault = EndsBy words CannotWrite 4 before after ⊎ EndsBy words CannotPut 4 before after
+
   module _ (mid : SinkState) where
     abbrev between : Outside
     between = outside after.files after.out mid
 
     -- at status 4 a store failed
-    after_store : (decision : Decision words before between) → IsOfRun decision.outcome.verdict → GotFirst cannot_write_text mid after.err → FailsAtStore decision.outcome before between → StandsAfterFault words before after
-    after_store decision ran told fails =
+    after_store : AtFault → (decision : Decision words before between) → IsOfRun decision.outcome.verdict → GotFirst cannot_write_text mid after.err → FailsAtStore decision.outcome before between → StandsAfterFault words before after
+    after_store ends decision ran told fails =
         let outcome = decision.outcome in
         let came = output_came words before after mid outcome cannot_write_text told fails.output.out [] (err_whole words before after mid outcome cannot_write_text told fails.output.err) in
         let failed = failed_paths outcome.stores before.files after.files fails.stored in
         record {
+          ends = ends;
           decision = decision_after words before after mid decision;
           ran = ran;
           part = part_at_store words before after mid outcome cannot_write_text told fails;
@@ -197,10 +202,11 @@ module _ (words : List (List ℕ)) (status : ℕ) (before after : Outside) where
         }
 
     -- at status 4 a put failed, and no path is among those that failed
-    after_put : (decision : Decision words before between) → IsOfRun decision.outcome.verdict → LeavesPart decision.outcome cannot_write_text before after →
+    after_put : AtFault → (decision : Decision words before between) → IsOfRun decision.outcome.verdict → LeavesPart decision.outcome cannot_write_text before after →
         Rose before.out.faults after.out.faults ⊎ Rose before.err.faults after.err.faults → after.files.failed_paths ≡ before.files.failed_paths →
         (after.files.contents ≡ before.files.contents) ⊎ LacksStatistics decision.outcome before after → StandsAfterFault words before after
-    after_put decision ran part rose same lacks = record {
+    after_put ends decision ran part rose same lacks = record {
+      ends = ends;
       decision = decision_after words before after mid decision;
       ran = ran;
       part = part;
@@ -221,18 +227,24 @@ module _ (words : List (List ℕ)) (status : ℕ) (before after : Outside) where
   after_write : (ends : EndsBy words CannotWrite status before after) → status ≡ 4 → StandsAfterFault words before after
   after_write ends four = by ends.reached.fails
     where
+      at_fault : AtFault
+      at_fault = inl (subst (λ n. EndsBy words CannotWrite n before after) four ends)
+
       told : GotFirst cannot_write_text ends.err after.err
       told = fault_text CannotWrite ends.err ends.told four refl (inl refl)
 
       by : FailsAtStore ends.reached.decision.outcome before (outside after.files after.out ends.err) ⊎ FailsOnOut ends.reached.decision.outcome before (outside after.files after.out ends.err) → StandsAfterFault words before after
-      by (inl fails) = after_store ends.err ends.reached.decision ends.reached.ran told fails
+      by (inl fails) = after_store ends.err at_fault ends.reached.decision ends.reached.ran told fails
       by (inr fails) =
-          after_put ends.err ends.reached.decision ends.reached.ran (part_on_out words before after ends.err ends.reached.decision.outcome cannot_write_text told fails)
+          after_put ends.err at_fault ends.reached.decision ends.reached.ran (part_on_out words before after ends.err ends.reached.decision.outcome cannot_write_text told fails)
           (inl fails.out.faults) (paths_same before.files after.files fails.files) (inl (contents_same before.files after.files fails.files))
 
   after_put_on_err : (ends : EndsBy words CannotPut status before after) → status ≡ 4 → StandsAfterFault words before after
   after_put_on_err ends four = by ends.reached.fails
     where
+      at_fault : AtFault
+      at_fault = inr (subst (λ n. EndsBy words CannotPut n before after) four ends)
+
       told : GotFirst cannot_write_text ends.err after.err
       told = fault_text CannotPut ends.err ends.told four refl (inr refl)
 
@@ -245,16 +257,16 @@ module _ (words : List (List ℕ)) (status : ℕ) (before after : Outside) where
 
       by : FailsOnErr ends.reached.decision.outcome before (outside after.files after.out ends.err) ⊎ FailsAtStats ends.reached.decision.outcome before (outside after.files after.out ends.err) → StandsAfterFault words before after
       by (inl fails) =
-          after_put ends.err ends.reached.decision ends.reached.ran (part_on_err words before after ends.err ends.reached.decision.outcome cannot_write_text told fails)
+          after_put ends.err at_fault ends.reached.decision ends.reached.ran (part_on_err words before after ends.err ends.reached.decision.outcome cannot_write_text told fails)
           (inr (rose (inl fails))) (paths_same before.files after.files fails.files) (inl (contents_same before.files after.files fails.files))
       by (inr fails) =
-          after_put ends.err ends.reached.decision ends.reached.ran (part_at_stats words before after ends.err ends.reached.decision.outcome cannot_write_text told fails)
-          (inr (rose (inr fails))) (fails.stored.failed_paths ∙ with_stores-paths ends.reached.decision.outcome.stores before.files)
+          after_put ends.err at_fault ends.reached.decision ends.reached.ran (part_at_stats words before after ends.err ends.reached.decision.outcome cannot_write_text told fails)
+          (inr (rose (inr fails))) (ap (λ (f : FilesState). f.failed_paths) fails.files ∙ with_stores-paths ends.reached.decision.outcome.stores before.files)
           (inr (record {
             asked = fails.err.some;
             failed = rose (inr fails);
             output = output_came words before after ends.err ends.reached.decision.outcome cannot_write_text told fails.out (take fails.err.count ends.reached.decision.outcome.stats) (stats_came words before after ends.err ends.reached.decision.outcome cannot_write_text told fails);
-            files = fails.stored.contents;
+            files = ap (λ (f : FilesState). f.contents) fails.files;
           }))
 
   after_fault : (end : End) → EndsBy words end status before after → status ≡ 4 → StandsAfterFault words before after
@@ -349,25 +361,30 @@ module _ (words : List (List ℕ)) (status : ℕ) (before after : Outside) where
       by (inr (decision, short)) = record {
         files = ap (λ (f : FilesState). f.faults) short.files ∙ with_stores-faults (take short.count decision.outcome.stores) before.files;
         out = ap (λ (s : SinkState). s.faults) short.out;
-        err = text_calm (take short.err_count decision.outcome.err) short.err ends.told;
+        err = text_calm (put_on 2 short.earlier) short.err ends.told;
       }
 
   -- ---- the other statuses
-  after_all : (verdict : Verdict) → EndsBy words (Decided verdict) status before after → IsWritten status → StandsAfterAll words before after
+  after_all : (verdict : Verdict) → EndsBy words (Decided verdict) status before after → IsWritten status → StandsAfterAll words status before after
   after_all verdict ends written = record {
     decision = decision_after words before after ends.err ends.reached.0;
+    status_is = status_of ends.told;
     out = ap (λ (s : SinkState). s.bytes) ends.reached.2.out;
     err = record {
       count = text.0;
       gained = text.1 ∙ ap (λ known. append_known known (take text.0 (verdict_text verdict))) came
-          ∙ gains_more before.err.bytes (ends.reached.0.outcome.err ++ ends.reached.0.outcome.stats) (take text.0 (verdict_text verdict))
-          ∙ ap (λ v. append_known before.err.bytes ((ends.reached.0.outcome.err ++ ends.reached.0.outcome.stats) ++ take text.0 (verdict_text v))) (sym ends.reached.1);
+          ∙ gains_more before.err.bytes (err_of ends.reached.0.outcome ++ ends.reached.0.outcome.stats) (take text.0 (verdict_text verdict))
+          ∙ ap (λ v. append_known before.err.bytes ((err_of ends.reached.0.outcome ++ ends.reached.0.outcome.stats) ++ take text.0 (verdict_text v))) (sym ends.reached.1);
     };
-    files = ends.reached.2.stored.contents;
+    files = done-contents ends.reached.0.outcome before (outside after.files after.out ends.err) ends.reached.2;
   }
     where
-      came : ends.err.bytes ≡ append_known before.err.bytes (ends.reached.0.outcome.err ++ ends.reached.0.outcome.stats)
-      came = ap (λ (s : SinkState). s.bytes) ends.reached.2.err ∙ gains_more before.err.bytes ends.reached.0.outcome.err ends.reached.0.outcome.stats
+      status_of : LastText (Decided verdict) status ends.err after.err → status ≡ verdict_status ends.reached.0.outcome.verdict
+      status_of (inl tells) = tells.status_is ∙ ap verdict_status (sym ends.reached.1)
+      status_of (inr wants) = absurd (written.had_memory wants.status_is)
+
+      came : ends.err.bytes ≡ append_known before.err.bytes (err_of ends.reached.0.outcome ++ ends.reached.0.outcome.stats)
+      came = ap (λ (s : SinkState). s.bytes) ends.reached.2.err ∙ gains_more before.err.bytes (err_of ends.reached.0.outcome) ends.reached.0.outcome.stats
 
       text : GotFirst (end_text (Decided verdict)) ends.err after.err
       text = by ends.told
@@ -378,19 +395,19 @@ module _ (words : List (List ℕ)) (status : ℕ) (before after : Outside) where
 
   -- what `err` got before the last text, where no put on it failed
   grew : (end : End) (mid : SinkState) → (end ≡ CannotPut → ⊥) → Reaches words end before (outside after.files after.out mid) → (front : List ℕ) × (mid ≡ appended before.err front)
-  grew (Decided verdict) mid other (decision, same, does) = (decision.outcome.err ++ decision.outcome.stats, does.err ∙ appended-more before.err decision.outcome.err decision.outcome.stats)
+  grew (Decided verdict) mid other (decision, same, does) = (err_of decision.outcome ++ decision.outcome.stats, does.err ∙ appended-more before.err (err_of decision.outcome) decision.outcome.stats)
   grew (CannotRead path) mid other reached = ([], reached.err ∙ appended-nothing before.err)
   grew CannotWrite mid other reached = by reached.fails
     where
       by : FailsAtStore reached.decision.outcome before (outside after.files after.out mid) ⊎ FailsOnOut reached.decision.outcome before (outside after.files after.out mid) → (front : List ℕ) × (mid ≡ appended before.err front)
-      by (inl fails) = (reached.decision.outcome.err, fails.output.err)
-      by (inr fails) = (take fails.err_count reached.decision.outcome.err, fails.err)
+      by (inl fails) = (err_of reached.decision.outcome, fails.output.err)
+      by (inr fails) = (put_on 2 fails.earlier, fails.err)
   grew CannotPut mid other reached = absurd (other refl)
   grew OutOfMemory mid other reached = by reached.done
     where
       by : (outside after.files after.out mid ≡ before) ⊎ ((decision : Decision words before (outside after.files after.out mid)) × StopsShort decision.outcome before (outside after.files after.out mid)) → (front : List ℕ) × (mid ≡ appended before.err front)
       by (inl same) = ([], ap (λ (o : Outside). o.err) same ∙ appended-nothing before.err)
-      by (inr (decision, short)) = (take short.err_count decision.outcome.err, short.err)
+      by (inr (decision, short)) = (put_on 2 short.earlier, short.err)
 
   -- the last text came whole, where no put on `err` failed
   module _ (end : End) (ends : EndsBy words end status before after) (quiet : Rose before.err.faults after.err.faults → ⊥) where
@@ -432,6 +449,7 @@ module _ (words : List (List ℕ)) (status : ℕ) (before after : Outside) where
     where
       by : (path : List ℕ) × EndsBy words (CannotRead path) status before after → StandsUnread words before after
       by (path, ends') = record {
+        ends = (path, subst (λ n. EndsBy words (CannotRead path) n before after) two ends');
         found = found_after words before after ends'.err ends'.reached.found;
         undecided = ends'.reached.undecided;
         path = path;
@@ -450,6 +468,6 @@ module _ (words : List (List ℕ)) (status : ℕ) (before after : Outside) where
     all = λ written. (let done = answers words status before after end ends written in after_all done.0 done.1 written);
     unread = unread end ends;
     fault = after_fault end ends;
-    memory = λ ten. record { leaves = leaves end ends.err ends.reached (memory_text end ends.err ends.told ten); calm = calm end ends ten };
+    memory = λ ten. record { ends = (end, subst (λ n. EndsBy words end n before after) ten ends); leaves = leaves end ends.err ends.reached (memory_text end ends.err ends.told ten); calm = calm end ends ten };
     told = is_told end ends;
   }

@@ -1,22 +1,26 @@
 -- How an outcome is handed out to the sinks and the files.
-use Rattle.std.specs.Prelude.{◌≡◌, ◌⊎◌, ◌<◌, ℕ, List, length, take, slice_get, Some}
+use Rattle.std.specs.Prelude.{◌≡◌, ◌⊎◌, ◌<◌, ℕ, List, [], ◌∷◌, ◌++◌, length, take, slice_get, Some}
 use Rattle.std.specs.Io.KnownBytes.{append_known}
 use Rattle.host_io.specs.Faults.{Rose}
 use Rattle.host_io.specs.Files.{FilesState, FailsToPut}
 use Rattle.host_io.specs.Sink.{SinkState, appended}
-use Rattle.aprof_top.specs.Outcome.{Outcome}
-use Rattle.aprof_top.specs.Outside.{Outside, AreFiles, with_stores}
+use Rattle.aprof_top.specs.declared.ending.Verdict.TheVariants.{TooLarge}
+use Rattle.aprof_top.specs.Outcome.{Outcome, Write, err_of, out_of, put_on}
+use Rattle.aprof_top.specs.Outside.{MetTooLong, Outside, with_stores}
 
 -- All of the output was put.
 pub record PutsOutput (outcome : Outcome) (before after : Outside) : Type 0 where
-  pub out : after.out ≡ appended before.out outcome.out
-  pub err : after.err ≡ appended before.err outcome.err
+  pub out : after.out ≡ appended before.out (out_of outcome)
+  pub err : after.err ≡ appended before.err (err_of outcome)
 
--- All was put and stored: the output, the files, and then the statistics on `err`.
+-- All was put and stored: the output, the files, and then the statistics on `err`. No load and no store failed, but perhaps one
+-- that met a file that is too long.
 pub record DoesAll (outcome : Outcome) (before after : Outside) : Type 0 where
-  pub out : after.out ≡ appended before.out outcome.out
-  pub err : after.err ≡ appended (appended before.err outcome.err) outcome.stats
-  pub stored : AreFiles (with_stores outcome.stores before.files) after.files
+  pub out : after.out ≡ appended before.out (out_of outcome)
+  pub err : after.err ≡ appended (appended before.err (err_of outcome)) outcome.stats
+  pub stored :
+      (after.files ≡ with_stores outcome.stores before.files)
+      ⊎ ((outcome.verdict ≡ TooLarge) × MetTooLong (with_stores outcome.stores before.files) after.files)
 
 -- Of these stores the first were done, this many, and the next failed: what its path has is unknown.
 pub record StoreFails (stores : List (List ℕ × List ℕ)) (old new : FilesState) : Type 0 where
@@ -30,44 +34,48 @@ pub record FailsAtStore (outcome : Outcome) (before after : Outside) : Type 0 wh
   pub output : PutsOutput outcome before after
   pub stored : StoreFails outcome.stores before.files after.files
 
--- some of these bytes came to the sink, and then a put of them failed
+-- a put of these bytes failed, and some of them came to the sink
 pub record FailsWithin (bytes : List ℕ) (old new : SinkState) : Type 0 where
   pub some : 0 < length bytes
   pub faults : Rose old.faults new.faults
   pub count : ℕ
   pub gained : new.bytes ≡ append_known old.bytes (take count bytes)
 
--- this much of some bytes came to the sink
-abbrev pub TakesFirst : ℕ → List ℕ → SinkState → SinkState → Type 0
-TakesFirst count bytes old new = new ≡ appended old (take count bytes)
-
--- A put of the output on `out` failed: some of that on `err` came before, and nothing was stored.
+-- A write of the output on `out` failed, and that ended the run: all writes before it were put, none behind it was, and nothing
+-- was stored.
 pub record FailsOnOut (outcome : Outcome) (before after : Outside) : Type 0 where
-  pub out : FailsWithin outcome.out before.out after.out
-  pub err_count : ℕ
-  pub err : TakesFirst err_count outcome.err before.err after.err
+  pub earlier : List Write
+  pub bytes : List ℕ
+  pub later : List Write
+  pub are : earlier ++ (1, bytes) ∷ later ≡ outcome.writes
+  pub out : FailsWithin bytes (appended before.out (put_on 1 earlier)) after.out
+  pub err : after.err ≡ appended before.err (put_on 2 earlier)
   pub files : after.files ≡ before.files
 
--- A put of the output on `err` failed: some of that on `out` came before, and nothing was stored.
+-- The same of a write on `err`.
 pub record FailsOnErr (outcome : Outcome) (before after : Outside) : Type 0 where
-  pub out_count : ℕ
-  pub out : TakesFirst out_count outcome.out before.out after.out
-  pub err : FailsWithin outcome.err before.err after.err
+  pub earlier : List Write
+  pub bytes : List ℕ
+  pub later : List Write
+  pub are : earlier ++ (2, bytes) ∷ later ≡ outcome.writes
+  pub out : after.out ≡ appended before.out (put_on 1 earlier)
+  pub err : FailsWithin bytes (appended before.err (put_on 2 earlier)) after.err
   pub files : after.files ≡ before.files
 
 -- All of the output was put and all was stored, and the put of the statistics failed.
 pub record FailsAtStats (outcome : Outcome) (before after : Outside) : Type 0 where
-  pub out : after.out ≡ appended before.out outcome.out
-  pub err : FailsWithin outcome.stats (appended before.err outcome.err) after.err
-  pub stored : AreFiles (with_stores outcome.stores before.files) after.files
+  pub out : after.out ≡ appended before.out (out_of outcome)
+  pub err : FailsWithin outcome.stats (appended before.err (err_of outcome)) after.err
+  pub files : after.files ≡ with_stores outcome.stores before.files
 
--- A first part of an outcome was put and stored, without a failure, and no statistics; nothing was stored before all of the
--- output came.
+-- The first writes of an outcome were put, and its first files stored, without a failure, and no statistics; nothing was stored
+-- before all of the output came.
 pub record StopsShort (outcome : Outcome) (before after : Outside) : Type 0 where
-  pub out_count : ℕ
-  pub out : TakesFirst out_count outcome.out before.out after.out
-  pub err_count : ℕ
-  pub err : TakesFirst err_count outcome.err before.err after.err
+  pub earlier : List Write
+  pub later : List Write
+  pub are : earlier ++ later ≡ outcome.writes
+  pub out : after.out ≡ appended before.out (put_on 1 earlier)
+  pub err : after.err ≡ appended before.err (put_on 2 earlier)
   pub count : ℕ
   pub files : after.files ≡ with_stores (take count outcome.stores) before.files
-  pub output_first : ((take out_count outcome.out ≡ outcome.out) × (take err_count outcome.err ≡ outcome.err)) ⊎ (count ≡ 0)
+  pub output_first : (later ≡ []) ⊎ (count ≡ 0)

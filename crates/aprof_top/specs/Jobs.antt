@@ -180,4 +180,4 @@ JobRuns job prepared before after ending = (loaded : Loaded) → ArePrepared job
 
 -- the outcome of a demo with this summary
 abbrev pub summed : List ℕ → Outcome
-summed out = record { verdict = Summarized; out = out; err = []; stores = []; stats = [] }
+summed out = record { verdict = Summarized; writes = (1, out) ∷ []; stores = []; stats = [] }

@@ -69,8 +69,8 @@ TracesReplay =
     → IsOutcome (Some (Replay (replayed_from report options path))) (bytes ∷ []) replayed → SharesReport run replayed
 
 -- ---- the report with the calling contexts
--- The bytes begin with the report that the run stores last. Both commands have the same verdict, and the same output of the guest
--- on each channel; the line of `--stats` is no part of that.
+-- The bytes begin with the report that the run stores last. Both commands have the same verdict, and the same output of the guest,
+-- write by write; the line of `--stats` is no part of that.
 pub record BeginsWithReport (path bytes : List ℕ) (contexts run : Outcome) : Type 0 where
   pub earlier : List (List ℕ × List ℕ)
   pub report : List ℕ
@@ -78,8 +78,7 @@ pub record BeginsWithReport (path bytes : List ℕ) (contexts run : Outcome) : T
   pub more : List ℕ
   pub begins : bytes ≡ report ++ more
   pub verdict : contexts.verdict ≡ run.verdict
-  pub out : contexts.out ≡ run.out
-  pub err : contexts.err ≡ run.err
+  pub output : contexts.writes ≡ run.writes
 
 -- What `contexts` stores begins, byte for byte, with the report that `run` stores with the same options and files.
 abbrev pub ContextsBeginWithTheReport : Type 0

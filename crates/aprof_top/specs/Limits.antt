@@ -1,6 +1,6 @@
 -- How much is loaded at most.
 use Rattle.std.specs.Prelude.{ℕ}
-use Rattle.run_trace.specs.declared.run_trace.TheConstants.{TRACE_BYTES}
+use Rattle.guest_words.specs.declared.limits.TheConstants.{TRACE_BYTES}
 use Rattle.guest_words.specs.declared.limits.TheConstants.{FILE_BYTES, INPUT_BYTES}
 
 -- the greatest length of a file that is loaded

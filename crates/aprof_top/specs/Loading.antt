@@ -7,7 +7,7 @@ use Rattle.host_io.specs.Faults.{Rose}
 use Rattle.host_io.specs.Files.{FilesState, FailsAt}
 use Rattle.aprof_top.specs.Limits.{file_limit, inputs_limit}
 use Rattle.aprof_top.specs.Loads.{Loaded, loaded_of, loaded_paths, passes_limit, shared_count, shared_length, with_inputs}
-use Rattle.aprof_top.specs.Outside.{AreFiles, AreHeld}
+use Rattle.aprof_top.specs.Outside.{AreHeld, MetTooLong}
 use Rattle.aprof_top.specs.Sources.{path_of}
 use Rattle.aprof_top.specs.declared.ending.Ending.{Ending}
 use Rattle.aprof_top.specs.declared.loaded.Loaded as declared
@@ -49,7 +49,7 @@ pub record PassesLimit (shared : ℕ) (paths : List (List ℕ)) (old new : Files
   pub held : AreHeld old.contents paths files
   pub limit : AllByRecursion (λ file. length file ≤ file_limit) files ⊎ Rose old.oversized new.oversized
   pub many : passes_limit shared files ≡ true
-  pub unchanged : AreFiles old new
+  pub unchanged : (new ≡ old) ⊎ MetTooLong old new
 
 -- why the loads of a command end it
 abbrev pub LoadsEnd : GuestOptions → FilesState → FilesState → Ending → Type 0

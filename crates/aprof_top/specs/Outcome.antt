@@ -3,6 +3,7 @@ use Rattle.std.specs.Prelude.{◌≡◌, ◌≢◌, ◌⊎◌, ℕ, ◌^◌, Boo
 use Rattle.command_line.specs.Options.{Analysis, Asked, GuestOptions, ReplayOptions, RunOptions, arguments}
 use Rattle.command_line.specs.Options.Analysis.{Run, Trace, Cache, Contexts}
 use Rattle.command_line.specs.Options.Asked.{Guest, Replay, Demo}
+use Rattle.command_line.specs.declared.guest_options.TheConstants.{DEFAULT_BUDGET, DEFAULT_QUANTUM}
 use Rattle.elf_image.specs.declared.error.ElfError.{ElfError}
 use Rattle.elf_image.specs.Image.{Executable}
 use Rattle.elf_image.specs.Reading.{image_of}
@@ -10,7 +11,7 @@ use Rattle.elf_image.specs.Tests.{first_refusal}
 use Rattle.guest_machine.specs.declared.setup.SetupError.{SetupError}
 use Rattle.guest_machine.specs.Setup.{setup_refusal}
 use Rattle.guest_run.specs.Profiled.{Profiled}
-use Rattle.guest_run.specs.Run.{bytes_on, recording}
+use Rattle.guest_run.specs.Run.{Move, recording, sent}
 use Rattle.guest_words.specs.declared.endings.Finish.{Finish}
 use Rattle.guest_words.specs.declared.endings.Finish.TheVariants.{Deep}
 use Rattle.trace_file.specs.Reading.{IsRefused}
@@ -43,21 +44,47 @@ use Rattle.aprof_top.specs.Traces.{is_storable, trace_of}
 use Rattle.aprof_top.specs.Schedules.{Reading, Reads}
 use Rattle.aprof_top.specs.Schedules.Reading.{Turns, BadLine}
 
+-- ---- the output
+-- bytes that are put at once, and the channel: 1 is `out`, and 2 is `err`
+abbrev pub Write : Type 0
+Write = ℕ × List ℕ
+
+-- what one move writes, and then these
+abbrev pub with_write : Option Write → List Write → List Write
+with_write None writes = writes
+with_write (Some write) writes = write ∷ writes
+
+-- what moves write, in order
+abbrev pub writes_of : List Move → List Write
+writes_of [] = []
+writes_of (move ∷ moves) = with_write move.out (writes_of moves)
+
+-- the bytes that are put on a channel
+abbrev pub put_on : ℕ → List Write → List ℕ
+put_on channel [] = []
+put_on channel (write ∷ writes) = sent channel (Some write) ++ put_on channel writes
+
 -- What the written product answers.
 pub record Outcome : Type 0 where
   -- it has the status and the last text
   pub verdict : Verdict
-  -- the guest's output on its descriptors 1 and 2
-  pub out : List ℕ
-  pub err : List ℕ
+  -- the output, in order: what is put at once, and where
+  pub writes : List Write
   -- the files that are stored, in order: the path and the bytes of each
   pub stores : List (List ℕ × List ℕ)
   -- what is put on `err` then
   pub stats : List ℕ
 
+-- its output on each channel
+abbrev pub out_of : Outcome → List ℕ
+out_of outcome = put_on 1 outcome.writes
+
+abbrev pub err_of : Outcome → List ℕ
+err_of outcome = put_on 2 outcome.writes
+
 -- nothing is put or stored but the last text
 abbrev pub refusal : Verdict → Outcome
-refusal verdict = record { verdict = verdict; out = []; err = []; stores = []; stats = [] }
+refusal verdict = record { verdict = verdict; writes = []; stores = []; stats = [] }
 
 -- ---- the run
 -- the recording, where a path is given for it
@@ -100,15 +127,13 @@ left_of path (Contexts bits) image run = if can_be_numbered run.past then Some (
 abbrev pub run_outcome : Profiled → Option Left → Outcome
 run_outcome run (Some left) = record {
   verdict = Ran run.finish;
-  out = bytes_on 1 run.moves;
-  err = bytes_on 2 run.moves;
+  writes = writes_of run.moves;
   stores = left.stores;
   stats = left.stats;
 }
 run_outcome run None = record {
   verdict = ResultTooLarge;
-  out = bytes_on 1 run.moves;
-  err = bytes_on 2 run.moves;
+  writes = writes_of run.moves;
   stores = [];
   stats = [];
 }
@@ -199,8 +224,7 @@ replay_text bits names finish past = report_text (report_of names (told_finish b
 abbrev pub replay_outcome : ReplayOptions → Names → Finish → List Event → Outcome
 replay_outcome options names finish past = record {
   verdict = Replayed;
-  out = [];
-  err = [];
+  writes = [];
   stores = (options.report, replay_text options.bits names finish past) ∷ [];
   stats = stats_of options.stats (renumberings (greatest options.bits) (told_apart options.bits past));
 }
@@ -237,8 +261,8 @@ abbrev pub demo_options : GuestOptions
 demo_options = record {
   stdin = None;
   schedule = None;
-  quantum = 10000;
-  budget = 10 ^ 9;
+  quantum = DEFAULT_QUANTUM;
+  budget = DEFAULT_BUDGET;
   image = codes "demo";
   words = [];
 }
@@ -251,8 +275,7 @@ demo_files file = record { image = file; inputs = []; stdin = []; schedule = [] 
 abbrev pub demo_outcome : ℕ → Executable → Profiled → Outcome
 demo_outcome number image run = record {
   verdict = Summarized;
-  out = summary_text number (report_of image.names run.finish run.past);
-  err = [];
+  writes = (1, summary_text number (report_of image.names run.finish run.past)) ∷ [];
   stores = [];
   stats = [];
 }

@@ -9,12 +9,12 @@ use Rattle.host_io.specs.Files.{FailsAt, FilesState, Holds, with_file, with_path
 use Rattle.host_io.specs.Sink.{FailsToAppend, SinkState, appended}
 use Rattle.aprof_top.specs.Answers.{EndsBy, IsWritten}
 use Rattle.aprof_top.specs.Ends.{End, end_status, end_text}
-use Rattle.aprof_top.specs.Ends.End.{CannotPut, OutOfMemory}
+use Rattle.aprof_top.specs.Ends.End.{CannotPut, CannotRead, CannotWrite, OutOfMemory}
 use Rattle.aprof_top.specs.Found.{Decision, Found, paths_of}
-use Rattle.aprof_top.specs.Outcome.{IsUndecided, Outcome}
+use Rattle.aprof_top.specs.Outcome.{IsUndecided, Outcome, err_of, out_of}
 use Rattle.aprof_top.specs.Outside.{Outside, with_stores}
 use Rattle.aprof_top.specs.Texts.{cannot_read_text, cannot_write_text, out_of_memory_text}
-use Rattle.aprof_top.specs.Verdicts.{IsOfRun, verdict_text}
+use Rattle.aprof_top.specs.Verdicts.{IsOfRun, verdict_status, verdict_text}
 
 -- ---- what a sink got in the call, as far as it tells its bytes
 -- a first part of these bytes
@@ -42,8 +42,8 @@ EndsWith text old new = (front : List ℕ) × (new.bytes ≡ append_known old.by
 
 -- Both sinks got all of the output.
 pub record GotOutput (outcome : Outcome) (before after : Outside) : Type 0 where
-  pub out : after.out.bytes ≡ append_known before.out.bytes outcome.out
-  pub err : GotAllAndMore outcome.err before.err after.err
+  pub out : after.out.bytes ≡ append_known before.out.bytes (out_of outcome)
+  pub err : GotAllAndMore (err_of outcome) before.err after.err
 
 -- ---- what the files hold, as far as they are told
 -- what they held, with the first of these stores done
@@ -76,8 +76,8 @@ FailedAtStore stores old new =
 -- ---- what a call leaves that was cut off
 -- A first part of the outcome, and the last text or a first part of it.
 pub record LeavesPart (outcome : Outcome) (text : List ℕ) (before after : Outside) : Type 0 where
-  pub out : GotFirst outcome.out before.out after.out
-  pub err : GotFirstThen (outcome.err ++ outcome.stats) text before.err after.err
+  pub out : GotFirst (out_of outcome) before.out after.out
+  pub err : GotFirstThen (err_of outcome ++ outcome.stats) text before.err after.err
   pub files : HaveFirst outcome.stores before.files after.files ⊎ HaveFirstBut outcome.stores before.files after.files
   -- nothing was stored before all of the output came
   pub output_first : GotOutput outcome before after ⊎ (after.files.contents ≡ before.files.contents)
@@ -103,6 +103,8 @@ pub record IsCalm (text : List ℕ) (before after : Outside) : Type 0 where
 
 -- After status 2: the load of the next path failed, and nothing came but the last text or a first part of it.
 pub record StandsUnread (words : List (List ℕ)) (before after : Outside) : Type 0 where
+  -- how the call ended
+  pub ends : (path : List ℕ) × EndsBy words (CannotRead path) 2 before after
   pub found : Found words before after
   pub undecided : IsUndecided found.asked found.files
   pub path : List ℕ
@@ -112,6 +114,8 @@ pub record StandsUnread (words : List (List ℕ)) (before after : Outside) : Typ
 
 -- After status 4.
 pub record StandsAfterFault (words : List (List ℕ)) (before after : Outside) : Type 0 where
+  -- how the call ended
+  pub ends : EndsBy words CannotWrite 4 before after ⊎ EndsBy words CannotPut 4 before after
   pub decision : Decision words before after
   -- no refusal of the words, the image, the schedule, the trace or a length applied
   pub ran : IsOfRun decision.outcome.verdict
@@ -139,16 +143,19 @@ pub record StandsAfterFault (words : List (List ℕ)) (before after : Outside) :
 
 -- After status 10.
 pub record StandsAfterMemory (words : List (List ℕ)) (before after : Outside) : Type 0 where
+  -- how the call ended
+  pub ends : (end : End) × EndsBy words end 10 before after
   pub leaves : LeavesText out_of_memory_text before after
       ⊎ ((decision : Decision words before after) × LeavesPart decision.outcome out_of_memory_text before after)
   -- nothing failed but the put of the last text, or memory was wanting for the last text of another end
   pub calm : IsCalm out_of_memory_text before after ⊎ ((end : End) × EndsBy words end 10 before after × (end ≡ OutOfMemory → ⊥) × (0 < length (end_text end)))
 
--- After a status of the written product.
-pub record StandsAfterAll (words : List (List ℕ)) (before after : Outside) : Type 0 where
+-- After a status of the written product, which is that of the outcome's verdict.
+pub record StandsAfterAll (words : List (List ℕ)) (status : ℕ) (before after : Outside) : Type 0 where
   pub decision : Decision words before after
-  pub out : after.out.bytes ≡ append_known before.out.bytes decision.outcome.out
-  pub err : GotAllThen (decision.outcome.err ++ decision.outcome.stats) (verdict_text decision.outcome.verdict) before.err after.err
+  pub status_is : status ≡ verdict_status decision.outcome.verdict
+  pub out : after.out.bytes ≡ append_known before.out.bytes (out_of decision.outcome)
+  pub err : GotAllThen (err_of decision.outcome ++ decision.outcome.stats) (verdict_text decision.outcome.verdict) before.err after.err
   pub files : after.files.contents ≡ (with_stores decision.outcome.stores before.files).contents
 
 -- The last text came whole: it is that of this end, which the call had.
@@ -161,7 +168,7 @@ pub record IsTold (words : List (List ℕ)) (status : ℕ) (before after : Outsi
 
 -- What stands after a call with this status.
 pub record Stands (words : List (List ℕ)) (status : ℕ) (before after : Outside) : Type 0 where
-  pub all : IsWritten status → StandsAfterAll words before after
+  pub all : IsWritten status → StandsAfterAll words status before after
   pub unread : status ≡ 2 → StandsUnread words before after
   pub fault : status ≡ 4 → StandsAfterFault words before after
   pub memory : status ≡ 10 → StandsAfterMemory words before after

@@ -5,7 +5,7 @@ use Rattle.std.specs.Option.{option_map, option_to_list}
 use Rattle.elf_image.specs.Image.{Executable, name_of}
 use Rattle.guest_run.specs.Profiled.{Profiled}
 use Rattle.run_trace.specs.Entries.{entries_begun}
-use Rattle.run_trace.specs.declared.run_trace.TheConstants.{TRACE_BYTES}
+use Rattle.guest_words.specs.declared.limits.TheConstants.{TRACE_BYTES}
 use Rattle.trace_file.specs.TraceText.{Names, trace_text}
 use Rattle.trace_model.specs.declared.event_kinds.Event.{Event}
 

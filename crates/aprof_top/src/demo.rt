@@ -10,7 +10,7 @@ use crate::guest_job::GuestFiles;
 use crate::profiled_run::profile_image;
 use crate::report::report_of;
 use crate::summary::summary;
-use command_line::GuestOptions;
+use command_line::{DEFAULT_BUDGET, DEFAULT_QUANTUM, GuestOptions};
 use demo_guest::demo_image;
 use elf_image::read_image;
 use guest_calls::Inputs;
@@ -27,8 +27,8 @@ fn demo_guest(alloc: Global) -> GuestOptions<'static>
     GuestOptions {
         stdin: None,
         schedule: None,
-        quantum: 10_000,
-        budget: 1_000_000_000,
+        quantum: DEFAULT_QUANTUM,
+        budget: DEFAULT_BUDGET,
         image: "demo",
         words: Vec::new(alloc),
     }

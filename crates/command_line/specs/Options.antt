@@ -5,6 +5,7 @@ use Rattle.std.specs.Option.{option_map_or}
 use Rattle.std.specs.Str.{bytes_eq}
 use Rattle.std.specs.Str.Parse.{digits_value}
 use Rattle.guest_words.specs.declared.limits.TheConstants.{DEMO_ROUTINES, QUANTUM_STEPS, RUN_STEPS}
+use Rattle.command_line.specs.declared.guest_options.TheConstants.{DEFAULT_BUDGET, DEFAULT_QUANTUM}
 use Rattle.cache_lines.specs.Shapes.{Form, shape_of}
 use Rattle.cache_lines.specs.declared.shape.TheConstants.{LINE, SETS, WAYS}
 use Rattle.stamps.specs.declared.width.StampBits.{StampBits}
@@ -103,11 +104,11 @@ number_or usual least greatest (Some text) = number_between least greatest text
 
 -- the steps of a turn: 1 to `QUANTUM_STEPS`
 abbrev pub quantum_of : Option (List ℕ) → Option ℕ
-quantum_of = number_or 10000 1 QUANTUM_STEPS
+quantum_of = number_or DEFAULT_QUANTUM 1 QUANTUM_STEPS
 
 -- the steps of a run: 1 to `RUN_STEPS`
 abbrev pub budget_of : Option (List ℕ) → Option ℕ
-budget_of = number_or 1000000000 1 RUN_STEPS
+budget_of = number_or DEFAULT_BUDGET 1 RUN_STEPS
 
 -- the width of so many bits
 abbrev pub width_of : ℕ → Option StampBits

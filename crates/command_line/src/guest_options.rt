@@ -15,10 +15,10 @@ use guest_words::limits::{QUANTUM_STEPS, RUN_STEPS};
 use std::alloc::{AllocError, Global};
 
 /// The most steps of a turn, where the words don't say.
-const DEFAULT_QUANTUM: u64 = 10_000;
+pub const DEFAULT_QUANTUM: u64 = 10_000;
 
 /// The most steps of a run, where the words don't say.
-const DEFAULT_BUDGET: u64 = 1_000_000_000;
+pub const DEFAULT_BUDGET: u64 = 1_000_000_000;
 
 /// How a guest is run: what every command that runs one is asked. `guest_in` says its options.
 #[derive(Drop)]

@@ -17,7 +17,7 @@ mod replay_command;
 pub use analysis::{Analysis, RunOptions};
 pub use commands::{Command, CommandError, read_command};
 pub use guest_command::GuestCommand;
-pub use guest_options::GuestOptions;
+pub use guest_options::{DEFAULT_BUDGET, DEFAULT_QUANTUM, GuestOptions};
 pub use laws::{
     plain_demo_is_read, plain_demo_is_taken, plain_numbers_are_refused, plain_options_are_read,
     plain_replays_are_read, plain_replays_are_taken, plain_words_are_taken,

@@ -1,4 +1,6 @@
 //! The limits of the program. Each is named here once: what is refused beyond a limit cites its name, and so do the clauses.
+//! `limits_are_promised` says each in numbers.
+ghost use Rattle.guest_words.specs.Limits.{AreLimits};
 
 /// How many pages of 4096 bytes a guest can have mapped.
 pub const PAGES: u32 = 16384;
@@ -35,5 +37,13 @@ pub const FILE_BYTES: usize = 16_777_216;
 /// How many bytes a guest's input files and standard input can have together.
 pub const INPUT_BYTES: usize = 67_108_864;
 
+/// How many bytes a stored trace can have.
+pub const TRACE_BYTES: u64 = 67_108_864;
+
 /// How many routines the demo can have.
 pub const DEMO_ROUTINES: u32 = 40_000;
+
+/// The limits in numbers: what the program promises of them, whatever the definitions that cite their names.
+pub fn limits_are_promised()
+    ensures { AreLimits }
+{}

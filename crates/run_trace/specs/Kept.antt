@@ -10,7 +10,7 @@ use Rattle.trace_model.specs.declared.event_kinds.Event.{Event}
 use Rattle.trace_model.specs.Depth.{is_within}
 use Rattle.trace_model.specs.WellFormed.{IsWellFormed}
 use Rattle.run_trace.specs.Entries.{entries_begun}
-use Rattle.run_trace.specs.declared.run_trace.TheConstants.{TRACE_BYTES}
+use Rattle.guest_words.specs.declared.limits.TheConstants.{TRACE_BYTES}
 
 -- The text as far as it is written, and the newest event, if its record is still to come; the entries, rising, and one that is
 -- still to come among them.

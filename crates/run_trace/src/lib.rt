@@ -7,5 +7,5 @@ mod entries;
 mod run_trace;
 mod written;
 
-pub use run_trace::{RunTrace, TRACE_BYTES};
+pub use run_trace::RunTrace;
 pub use written::EventText;

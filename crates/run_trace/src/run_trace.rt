@@ -13,15 +13,11 @@ ghost use Rattle.run_trace.specs.Kept.{IsTooLong, IsTraceOf, IsTraceOfFormed, Is
 use crate::entries::entry_begun;
 use crate::written::{EventText, Written};
 use call_tracker::CallStacks;
+use guest_words::limits::TRACE_BYTES;
+use stamps::{StampBits, depth_limit};
 use std::alloc::{AllocError, Global};
 use std::marker::Model;
 use trace_model::{Event, Observed, Observer};
-
-/// How many bytes a stored trace can have.
-pub const TRACE_BYTES: u64 = 67_108_864;
-
-/// How many activations can be open that stamps of 32 bits tell apart.
-const OPEN_CALLS: u64 = 1_431_655_764;
 
 /// The trace of the events so far. Its text is dropped once it is longer than the limit.
 #[derive(Drop)]
@@ -54,7 +50,7 @@ impl RunTrace {
         ensures { (past : List Event) → IsTraceOf self.now past
             → is_within (greatest B32) (e.now ∷ past) ≡ not result }
     {
-        entry_begun(e).is_some() && self.stacks.pending() >= OPEN_CALLS
+        entry_begun(e).is_some() && self.stacks.pending() >= u64::from(depth_limit(StampBits::B32))
     }
 
     // Writes what is still to come, and drops a text that is too long, which wants no memory.

@@ -34,5 +34,5 @@ returns g c = λ out.
     c.in_ok-bytes.bytes.items c.in_ok-bytes.ensures
     (replay_outcome options replayed.names.items replayed.finish is.past)
     (record { past = is.past; names = replayed.names.items; finish = replayed.finish; trace = is.trace; answered = refl })
-    tt refl refl (g.F.Files.state c.deliver_replay.new.files) (g.E.Sink.state c.deliver_replay.new.err) c.deliver_replay.result
+    tt refl (g.F.Files.state c.deliver_replay.new.files) (g.E.Sink.state c.deliver_replay.new.err) c.deliver_replay.result
     (c.deliver_replay.ensures c.in_ok-bytes.bytes.items is)

@@ -1,7 +1,7 @@
 use Rattle.std.proofs.Common.{◌≤◌, ◌<◌, List, ℕ, length, ap, subst, ◌∙◌}
 use Rattle.std.specs.Prelude.{◌≡◌, MatchOption}
 use Rattle.command_line.specs.Options.Analysis.{Trace}
-use Rattle.run_trace.specs.declared.run_trace.TheConstants.{TRACE_BYTES}
+use Rattle.guest_words.specs.declared.limits.TheConstants.{TRACE_BYTES}
 use Rattle.trace_file.specs.TraceText.{trace_text}
 use Rattle.aprof_top.specs.Jobs.{AreTexts, desk}
 use Rattle.aprof_top.specs.Outcome.{left_of}
