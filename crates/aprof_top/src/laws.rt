@@ -1,8 +1,10 @@
 //! Laws on the written product, each the contract of a function that does nothing but call other laws.
 ghost use Rattle.aprof_top.specs.Laws.{ContextsBeginWithTheReport, OneOutcome, RunsAreBounded, TracesReplay, TwoRunsAgree};
+ghost use Rattle.aprof_top.specs.ProgramLimits.{AreProgramLimits};
 
 use demo_guest::a_demo_has_one_file;
 use guest_run::{recordings_are_schedules, runs_replay, runs_stay_within};
+use guest_words::limits::limits_are_promised;
 use trace_file::{a_text_is_of_one_trace, bytes_read_in_one_way};
 
 /// A command has at most one outcome over the files that it loads: one verdict, with the same output and the same files to
@@ -46,4 +48,11 @@ pub fn runs_are_bounded()
     ensures { RunsAreBounded }
 {
     runs_stay_within();
+}
+
+/// The limits of the program in numbers: what is promised of them, whatever the definitions that cite their names.
+pub fn program_limits_are_promised()
+    ensures { AreProgramLimits }
+{
+    limits_are_promised();
 }

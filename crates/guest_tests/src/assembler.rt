@@ -114,12 +114,15 @@ fn call(alloc: Global) -> Result<Code, AsmError>
     program.finish()
 }
 
-fn never_bound(alloc: Global) -> Result<Code, AsmError> {
+/// Jumps to a label that stands for no word, and before that, perhaps, to one that does.
+fn never_bound(alloc: Global, earlier: bool) -> Result<Code, AsmError> {
     let mut program = Builder::new(alloc)?;
-    let here = program.label()?;
+    if earlier {
+        let here = program.label()?;
+        program.bind(here)?;
+        program.jump(jal(x(0)), here)?;
+    }
     let there = program.label()?;
-    program.bind(here)?;
-    program.jump(jal(x(0)), here)?;
     program.jump(jal(x(0)), there)?;
     program.finish()
 }
@@ -148,7 +151,6 @@ fn branch_over(alloc: Global, words: u32) -> Result<Code, AsmError>
 
 fn emitted(alloc: Global, instruction: Instr) -> Result<Code, AsmError> {
     let mut program = Builder::new(alloc)?;
-    program.emit(Instr::Ecall)?;
     program.emit(instruction)?;
     program.finish()
 }
@@ -165,13 +167,14 @@ fn jumped(alloc: Global, instruction: Instr) -> Result<Code, AsmError> {
 fn each_refusal_has_its_place(rt: HostRuntime) {
     let alloc = rt.alloc();
     let answers = [
-        (never_bound(alloc), AsmError::Unbound { label: 1 }),
+        (never_bound(alloc, false), AsmError::Unbound { label: 0 }),
+        (never_bound(alloc, true), AsmError::Unbound { label: 1 }),
         (bound_twice(alloc), AsmError::Twice { label: 0 }),
         (branch_over(alloc, 1024), AsmError::Reach { at: 0 }),
         (branch_over(alloc, 1023), AsmError::Reach { at: 0 }),
         (
             emitted(alloc, addi(x(1), 2048)),
-            AsmError::Unencodable { at: 1 },
+            AsmError::Unencodable { at: 0 },
         ),
         (jumped(alloc, jalr(x(1))), AsmError::Unencodable { at: 0 }),
     ];

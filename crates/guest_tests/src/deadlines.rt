@@ -35,11 +35,11 @@ fn the_least_time_and_then_the_least_thread_is_due(rt: HostRuntime) -> Result<()
         (70, None, None),
     ];
     for (now, earliest, due) in rows {
-        assert_eq!(rt; deadlines.earliest(), earliest);
+        assert_eq!(rt; deadlines.earliest(), earliest, "at {now}");
         let seen = deadlines
             .due(now)
             .map(|(tid, answer)| (tid.number(), answer));
-        assert_eq!(rt; seen, due);
+        assert_eq!(rt; seen, due, "at {now}");
     }
     Ok(())
 }

@@ -17,8 +17,8 @@ fn ranges_of_words(rt: HostRuntime) {
         assert!(rt; bytes >= 1);
         assert!(rt; first as u64 + bytes as u64 <= 1 << 32);
         let (found, found_count) = words_over(first, bytes);
-        assert_eq!(rt; found.number(), word);
-        assert_eq!(rt; found_count, count);
+        assert_eq!(rt; found.number(), word, "{bytes} bytes at {first}");
+        assert_eq!(rt; found_count, count, "{bytes} bytes at {first}");
     }
     assert_eq!(rt; Word::of(7).number(), 1);
 }
@@ -28,7 +28,8 @@ fn threads_and_faults_have_numbers(rt: HostRuntime) {
     for (number, is_thread) in [(0u32, false), (1, true), (4194303, true), (4194304, false)] {
         assert_eq!(rt;
             Tid::new(number).map(|tid| tid.number()),
-            if is_thread { Some(number) } else { None }
+            if is_thread { Some(number) } else { None },
+            "thread {number}"
         );
     }
     assert_eq!(rt; Tid::FIRST.number(), 1);
@@ -57,7 +58,7 @@ fn a_list_of_threads_keeps_their_order(rt: HostRuntime) {
     assert_eq!(rt; ready.len(), 3);
     for (place, number, can) in [(0usize, 1u32, false), (1, 5, true), (2, 4194303, false)] {
         assert!(rt; place < ready.len());
-        assert_eq!(rt; ready.at(place), (Tid::new(number).unwrap(), can));
+        assert_eq!(rt; ready.at(place), (Tid::new(number).unwrap(), can), "place {place}");
     }
 }
 
@@ -67,7 +68,7 @@ fn a_name_is_visible_bytes_and_no_dash(rt: HostRuntime) -> Result<(), Fail> {
     let start = Name::new(alloc, b"_start")?;
     assert_eq!(rt; start.copy(alloc)?.bytes(), b"_start".as_slice());
     for bad in [b"-".as_slice(), b"", b"a b"] {
-        assert!(rt; matches!(Name::new(alloc, bad), Err(NameError::Bad)));
+        assert!(rt; matches!(Name::new(alloc, bad), Err(NameError::Bad)), "{bad:?}");
     }
     Ok(())
 }
@@ -87,7 +88,7 @@ fn words_are_cut_and_read(rt: HostRuntime) {
         (b"+7", None),
         (b"", None),
     ] {
-        assert_eq!(rt; decimal_number(word), number);
+        assert_eq!(rt; decimal_number(word), number, "{word:?}");
     }
     assert_eq!(rt; wide_decimal_number(b"18446744073709551616"), Some(1 << 64));
 }
@@ -100,7 +101,7 @@ fn numbers_are_read_before_a_space_and_written(rt: HostRuntime) -> Result<(), Fa
         (b"12", None),
         (b"012 x", None),
     ] {
-        assert_eq!(rt; first_number(words), found);
+        assert_eq!(rt; first_number(words), found, "{words:?}");
     }
     let mut text = Vec::from_slice(rt.alloc(), b"n ")?;
     push_decimal(&mut text, u128::MAX)?;

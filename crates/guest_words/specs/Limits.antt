@@ -1,6 +1,6 @@
 -- The limits of the program, in numbers.
 use Rattle.std.specs.Prelude.{◌≡◌, ◌^◌}
-use Rattle.guest_words.specs.declared.limits.TheConstants.{CALL_EVENTS, DEMO_ROUTINES, FILE_BYTES, INPUT_BYTES, LAST_TID, NAME_BYTES, PAGES, QUANTUM_STEPS, RUN_STEPS, STACK_PAGES, THREADS, TRACE_BYTES, TRACE_WEIGHT}
+use Rattle.guest_words.specs.declared.limits.TheConstants.{CALL_EVENTS, CONTEXTS, DEMO_ROUTINES, FILE_BYTES, INPUT_BYTES, LAST_TID, NAME_BYTES, PAGES, QUANTUM_STEPS, RUN_STEPS, STACK_PAGES, THREADS, TRACE_BYTES, TRACE_WEIGHT}
 
 -- Each limit that definitions cite by its name.
 pub record AreLimits : Type 0 where
@@ -22,5 +22,7 @@ pub record AreLimits : Type 0 where
   pub file_bytes : FILE_BYTES ≡ 16777216
   pub input_bytes : INPUT_BYTES ≡ 67108864
   pub trace_bytes : TRACE_BYTES ≡ 67108864
+  -- calling contexts of a run
+  pub contexts : CONTEXTS ≡ 4294967294
   -- routines of the demo
   pub demo_routines : DEMO_ROUTINES ≡ 40000

@@ -37,6 +37,9 @@ pub const FILE_BYTES: usize = 16_777_216;
 /// How many bytes a guest's input files and standard input can have together.
 pub const INPUT_BYTES: usize = 67_108_864;
 
+/// How many calling contexts a run can have: their numbers are those of 32 bits, without 0 and the last one.
+pub const CONTEXTS: usize = 4_294_967_294;
+
 /// How many bytes a stored trace can have.
 pub const TRACE_BYTES: u64 = 67_108_864;
 

@@ -36,7 +36,7 @@ update-same files path = λ i q. same_at files path q (bytes_eq path q) refl i
 
 failure_noted : (files : Contents) (old : FilesState) (path : List ℕ) → old.contents ≡ Some files → FailsToPut path old (with_failure path old)
 failure_noted files old path told = record {
-  failed = record { faults = omega arith; failed_paths = refl; oversized = refl };
+  failed = record { faults = omega arith; failed_paths = refl };
   left = files path;
   contents = told ∙ ap Some (update-same files path) ∙ ap (with_file path (files path)) (sym told);
 }

@@ -29,15 +29,15 @@ fn jumps_go_by_the_link_registers(rt: HostRuntime) -> Result<(), Fail> {
         (5, 5, JumpKind::Push),
     ];
     for (rd, base, wanted) in rows {
-        assert_eq!(rt; kind(jalr(&rt, rd, base)), wanted);
+        assert_eq!(rt; kind(jalr(&rt, rd, base)), wanted, "jalr x{rd}, x{base}");
     }
-    for (rd, wanted) in [
+    for (number, wanted) in [
         (0, JumpKind::Nothing),
         (1, JumpKind::Push),
         (5, JumpKind::Push),
     ] {
-        let rd = Reg::new(rd).expect(&rt, "a register");
-        assert_eq!(rt; kind(Instr::Jal { rd, offset: 8 }), wanted);
+        let rd = Reg::new(number).expect(&rt, "a register");
+        assert_eq!(rt; kind(Instr::Jal { rd, offset: 8 }), wanted, "jal x{number}");
     }
     assert_eq!(rt; kind(Instr::Ecall), JumpKind::Nothing);
     Ok(())

@@ -21,6 +21,16 @@ fn bytes(seed: u32, mask: u8) -> [u8; 1024] {
     column
 }
 
+fn halves(seed: u32, mask: u16) -> [u16; 1024] {
+    let mut number = seed;
+    let mut column = [0; 1024];
+    for i in 0..1024 {
+        number = next(number);
+        column[i] = (number >> 16) as u16 & mask;
+    }
+    column
+}
+
 fn words(seed: u32, mask: u32) -> [u32; 1024] {
     let mut number = seed;
     let mut column = [0; 1024];
@@ -53,10 +63,12 @@ fn finds_extremes<S: Lanes>(stamps: &[S]) -> bool {
 
 #[test]
 fn extremes_are_the_plain_ones(rt: HostRuntime) {
-    let (byte, word) = (bytes(1, 255), words(1, u32::MAX));
+    let (byte, half, word) = (bytes(1, 255), halves(1, u16::MAX), words(1, u32::MAX));
     for n in &LENGTHS {
         let n = (*n).min(1024);
-        assert!(rt; finds_extremes(&byte[..n]) && finds_extremes(&word[..n]));
+        assert!(rt; finds_extremes(&byte[..n]), "{n} of 8 bits");
+        assert!(rt; finds_extremes(&half[..n]), "{n} of 16 bits");
+        assert!(rt; finds_extremes(&word[..n]), "{n} of 32 bits");
     }
 }
 
@@ -85,12 +97,13 @@ fn finds_classes<S: Lanes>(stamps: &[S], starts: &[S], into: &mut [S]) -> bool
 
 #[test]
 fn classes_are_the_plain_ones(rt: HostRuntime) {
-    let (byte, word) = (bytes(2, 255), words(2, u32::MAX));
+    let (byte, half, word) = (bytes(2, 255), halves(2, u16::MAX), words(2, u32::MAX));
     for n in &LENGTHS {
         let n = (*n).min(1024);
-        let (mut byte_classes, mut word_classes) = ([0; 1024], [0; 1024]);
-        assert!(rt; finds_classes(&byte[..n], &byte[20..25], &mut byte_classes[..n]));
-        assert!(rt; finds_classes(&word[..n], &word[20..25], &mut word_classes[..n]));
+        let (mut in_bytes, mut in_halves, mut in_words) = ([0; 1024], [0; 1024], [0; 1024]);
+        assert!(rt; finds_classes(&byte[..n], &byte[20..25], &mut in_bytes[..n]), "{n} of 8 bits");
+        assert!(rt; finds_classes(&half[..n], &half[20..25], &mut in_halves[..n]), "{n} of 16 bits");
+        assert!(rt; finds_classes(&word[..n], &word[20..25], &mut in_words[..n]), "{n} of 32 bits");
     }
 }
 
@@ -148,10 +161,11 @@ fn renews<S: Lanes>(
 #[test]
 fn renewals_are_the_plain_ones(rt: HostRuntime) {
     let byte = (bytes(4, 3), bytes(5, 3), bytes(6, 3), bytes(7, 3));
+    let half = (halves(4, 3), halves(5, 3), halves(6, 3), halves(7, 3));
     let word = (words(4, 3), words(5, 3), words(6, 3), words(7, 3));
     for n in &LENGTHS {
         let n = (*n).min(1024);
-        let (mut byte_stamps, mut word_stamps) = ([0; 1024], [0; 1024]);
+        let (mut byte_stamps, mut half_stamps, mut word_stamps) = ([0; 1024], [0; 1024], [0; 1024]);
         assert!(rt;
             renews(
                 &byte.0[..n],
@@ -159,7 +173,18 @@ fn renewals_are_the_plain_ones(rt: HostRuntime) {
                 &byte.2[..n],
                 &byte.3[..n],
                 &mut byte_stamps[..n]
-            )
+            ),
+            "{n} of 8 bits"
+        );
+        assert!(rt;
+            renews(
+                &half.0[..n],
+                &half.1[..n],
+                &half.2[..n],
+                &half.3[..n],
+                &mut half_stamps[..n]
+            ),
+            "{n} of 16 bits"
         );
         assert!(rt;
             renews(
@@ -168,7 +193,8 @@ fn renewals_are_the_plain_ones(rt: HostRuntime) {
                 &word.2[..n],
                 &word.3[..n],
                 &mut word_stamps[..n]
-            )
+            ),
+            "{n} of 32 bits"
         );
     }
 }
@@ -219,11 +245,12 @@ fn reads<S: Lanes>(own: &[S], write: &[S], marks: &[u8], start: S, now: S, after
 #[test]
 fn reads_are_the_plain_ones(rt: HostRuntime) {
     let byte = (bytes(8, 3), bytes(9, 3), bytes(10, 1));
+    let half = (halves(8, 3), halves(9, 3));
     let word = (words(8, 3), words(9, 3));
     for n in &LENGTHS {
         let n = (*n).min(1024);
         for start in 1..4 {
-            let (mut byte_after, mut word_after) = (byte.0, word.0);
+            let (mut byte_after, mut half_after, mut word_after) = (byte.0, half.0, word.0);
             assert!(rt;
                 reads(
                     &byte.0[..n],
@@ -232,7 +259,19 @@ fn reads_are_the_plain_ones(rt: HostRuntime) {
                     start as u8,
                     9,
                     &mut byte_after[..n]
-                )
+                ),
+                "{n} of 8 bits from {start}"
+            );
+            assert!(rt;
+                reads(
+                    &half.0[..n],
+                    &half.1[..n],
+                    &byte.2[..n],
+                    start as u16,
+                    9,
+                    &mut half_after[..n]
+                ),
+                "{n} of 16 bits from {start}"
             );
             assert!(rt;
                 reads(
@@ -242,7 +281,8 @@ fn reads_are_the_plain_ones(rt: HostRuntime) {
                     start,
                     9,
                     &mut word_after[..n]
-                )
+                ),
+                "{n} of 32 bits from {start}"
             );
         }
     }

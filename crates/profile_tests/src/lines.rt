@@ -16,7 +16,7 @@ fn the_least_recently_used_line_is_dropped(rt: HostRuntime) -> Result<(), Fail> 
         (1, true),
     ];
     for (line, misses) in rows {
-        assert_eq!(rt; cache.access(line), misses);
+        assert_eq!(rt; cache.access(line), misses, "line {line}");
     }
     Ok(())
 }
@@ -36,7 +36,8 @@ fn shapes_have_their_forms(rt: HostRuntime) -> Result<(), Fail> {
         (1, 1, 8192, false),
     ];
     for (sets, ways, line, taken) in rows {
-        assert_eq!(rt; Shape::new(sets, ways, line).is_some(), taken);
+        let shape = Shape::new(sets, ways, line);
+        assert_eq!(rt; shape.is_some(), taken, "{sets} {ways} {line}");
     }
     Ok(())
 }

@@ -9,7 +9,7 @@ fn each_width_has_its_limit(rt: HostRuntime) {
         (StampBits::B32, 1_431_655_764),
     ];
     for (bits, limit) in &rows {
-        assert_eq!(rt; depth_limit(*bits), *limit);
+        assert_eq!(rt; depth_limit(*bits), *limit, "{bits:?}");
     }
 }
 

@@ -26,6 +26,8 @@ pub struct Outcome {
     pub ended: u64,
     pub too_deep: u64,
     pub renumbered: u64,
+    /// How many pages of access stamps the thread had, where one alone ran.
+    pub pages: Option<usize>,
     pub difference: Option<(u64, Difference)>,
 }
 
@@ -37,6 +39,7 @@ impl Outcome {
         ended: 0,
         too_deep: 0,
         renumbered: 0,
+        pages: None,
         difference: None,
     };
 }
@@ -65,11 +68,14 @@ impl fmt::Display for Outcome {
         let (deep, renumbered) = (self.too_deep, self.renumbered);
         write!(
             f,
-            "{traces} traces ({deep} too deep), {events} events, {ended} activations, {renumbered} renumberings: "
+            "{traces} traces ({deep} too deep), {events} events, {ended} activations, {renumbered} renumberings"
         )?;
+        if let Some(pages) = self.pages {
+            write!(f, ", {pages} pages of access stamps")?;
+        }
         match &self.difference {
-            None => write!(f, "as by the definition"),
-            Some((seed, difference)) => write!(f, "the trace of seed {seed} differs: {difference}"),
+            None => write!(f, ": as by the definition"),
+            Some((seed, difference)) => write!(f, ": the trace of seed {seed} differs: {difference}"),
         }
     }
 }

@@ -35,8 +35,10 @@ pub fn try_rounds<S: Lanes>(
     for _ in 0..count {
         offer_all(&mut trial, round)?;
     }
+    let pages = trial.access_pages(tid);
     trial.offer(Event::End { tid })?;
     let mut outcome = Outcome::NONE;
     add_trial(alloc, &trial, 0, false, &mut outcome)?;
+    outcome.pages = Some(pages);
     Ok(outcome)
 }

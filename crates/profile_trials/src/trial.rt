@@ -3,6 +3,7 @@ ghost use Rattle.std.specs.Prelude.{◌≡◌, ◌≤◌, IfOk, OnOk};
 ghost use Rattle.profile_trials.specs.Trial.{IsTrial};
 
 use crate::outcome::Difference;
+use guest_words::Tid;
 use shadow_core::{ApplyError, Profiler};
 use stamp_lanes::Lanes;
 use std::alloc::{AllocError, Global};
@@ -68,6 +69,11 @@ impl<S: Lanes> Trial<S> {
             kept: Events::new(alloc)?,
             done: Vec::new(alloc),
         })
+    }
+
+    /// How many pages of stamps the thread's accesses have.
+    pub fn access_pages(&self, tid: Tid) -> usize {
+        self.profiler.access_pages(tid)
     }
 
     /// Takes the event, if it may follow and is not too deep.

@@ -1,7 +1,7 @@
 //! The top call over files and sinks in memory.
 use crate::failures::{FAILED_PUTS, FAILED_REPLAYS, FAILURES, Failing, NOWHERE, TRACE};
 use crate::worked::{Guest, Left, NOTHING, PLAIN, THREADED, THREADED_LEFT};
-use crate::worked_code::{BOTH_OUTPUTS, FILE_HEADER, OUTPUTS_IN_TURNS, SEGMENT};
+use crate::worked_code::{FILE_HEADER, OUTPUTS_IN_TURNS, SEGMENT, THREADED_PROGRAM};
 use aprof_top::aprof;
 use host_io::{MemoryFiles, MemorySink};
 use std::alloc::{AllocError, Global};
@@ -42,8 +42,8 @@ fn call(
     }
     let mut files = MemoryFiles::new(alloc)?;
     files.add("img", image)?;
-    files.add("s", b"0123456789abcdef")?;
-    files.add("in.txt", b"hello\n")?;
+    files.add("s", b"s")?;
+    files.add("in.txt", b"i")?;
     files.add("c", schedule)?;
     files.fail_at(failing.file)?;
     let mut out = MemorySink::new(alloc)?;
@@ -157,19 +157,18 @@ fn command_lines_are_refused(rt: HostRuntime) -> Result<(), Fail> {
 #[test]
 fn each_failure_of_the_outside_is_told(rt: HostRuntime) -> Result<(), Fail> {
     let guest = Guest {
-        code: BOTH_OUTPUTS,
+        code: THREADED_PROGRAM,
         options: &[
-            "--schedule",
-            "c",
             "--stdin",
             "s",
+            "--schedule",
+            "c",
             "--record",
             "k",
             "--stats",
         ],
-        words: &["in.txt", "=plain", "in.txt"],
-        schedule: "1 90\n",
-        ..PLAIN
+        words: &["in.txt"],
+        schedule: "1 32\n2 14\n1 16\n",
     };
     for failure in FAILURES {
         let seen = call_guest(rt.alloc(), &guest, failure.failing)?;

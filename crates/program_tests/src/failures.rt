@@ -1,5 +1,5 @@
 //! Failures of the outside, and what a call leaves then.
-use crate::worked::{Left, NOTHING};
+use crate::worked::{Left, NOTHING, THREADED_LEFT};
 
 /// The load or store that fails, and the puts that do, each by its number among its like. No call has the number `NEVER`.
 #[derive(Clone, Copy)]
@@ -25,19 +25,14 @@ pub(crate) const NOWHERE: Failing = Failing {
     err: NEVER,
 };
 
-// Where nothing fails. Of the text of each put the report counts one word.
+// What the threaded program leaves where nothing fails, with its statistics.
 const WHOLE: Left = Left {
-    status: 0,
-    out: "out\n",
-    err: "err\naprof: renumberings 0\n",
-    report: Some(
-        "aprof 2\nend exit 0\nsteps 12\nopen 0\nroutine 00010054 -\n2 1 12 12 12 2 0 0 2\ndone 1\n",
-    ),
-    recording: Some("1 12\n"),
+    err: "aprof: renumberings 0\n",
+    ..THREADED_LEFT
 };
 
-/// All loads come before the first put, in order, the puts before the first store, and the recording is stored before the
-/// report; then the statistics are put. A put that fails gets half of its text through.
+/// The failures of one command that loads four files, puts the threaded program's output, stores its recording and then its
+/// report, and puts its statistics. A put that fails gets half of its text through.
 pub(crate) const FAILURES: &[Failure] = &[
     Failure {
         name: "nothing",
@@ -81,31 +76,11 @@ pub(crate) const FAILURES: &[Failure] = &[
         },
     },
     Failure {
-        name: "the put on out",
-        failing: Failing { out: 0, ..NOWHERE },
-        left: Left {
-            status: 4,
-            out: "ou",
-            err: "aprof: cannot write\n",
-            ..NOTHING
-        },
-    },
-    Failure {
-        name: "the put on err",
-        failing: Failing { err: 0, ..NOWHERE },
-        left: Left {
-            status: 4,
-            out: "out\n",
-            err: "er",
-            ..NOTHING
-        },
-    },
-    Failure {
         name: "the store of the recording",
         failing: Failing { file: 4, ..NOWHERE },
         left: Left {
             status: 4,
-            err: "err\naprof: cannot write\n",
+            err: "aprof: cannot write\n",
             report: None,
             recording: None,
             ..WHOLE
@@ -116,17 +91,27 @@ pub(crate) const FAILURES: &[Failure] = &[
         failing: Failing { file: 5, ..NOWHERE },
         left: Left {
             status: 4,
-            err: "err\naprof: cannot write\n",
+            err: "aprof: cannot write\n",
             report: None,
             ..WHOLE
         },
     },
     Failure {
-        name: "the put of the statistics",
-        failing: Failing { err: 1, ..NOWHERE },
+        name: "the put on out, behind one byte",
+        failing: Failing { out: 0, ..NOWHERE },
         left: Left {
             status: 4,
-            err: "err\naprof: renu",
+            out: "o",
+            err: "aprof: cannot write\n",
+            ..NOTHING
+        },
+    },
+    Failure {
+        name: "the put of the statistics",
+        failing: Failing { err: 0, ..NOWHERE },
+        left: Left {
+            status: 4,
+            err: "aprof: renu",
             ..WHOLE
         },
     },
@@ -152,7 +137,7 @@ pub(crate) const FAILURES: &[Failure] = &[
         },
         left: Left {
             status: 4,
-            out: "ou",
+            out: "o",
             err: "aprof: can",
             ..NOTHING
         },
@@ -161,12 +146,12 @@ pub(crate) const FAILURES: &[Failure] = &[
         name: "the store of the report, and the put of the last text",
         failing: Failing {
             file: 5,
-            err: 1,
+            err: 0,
             ..NOWHERE
         },
         left: Left {
             status: 4,
-            err: "err\naprof: can",
+            err: "aprof: can",
             report: None,
             ..WHOLE
         },

@@ -83,7 +83,7 @@ fn words_of_the_form_are_taken(rt: HostRuntime) -> Result<(), Fail> {
         ("aprof demo 40000", (0, 40_000)),
     ] {
         let words = words_of(rt.alloc(), line)?;
-        assert_eq!(rt; numbers_of(rt.alloc(), &words)?, Some(numbers));
+        assert_eq!(rt; numbers_of(rt.alloc(), &words)?, Some(numbers), "{line}");
     }
     Ok(())
 }
@@ -142,7 +142,7 @@ fn other_words_are_refused(rt: HostRuntime) -> Result<(), Fail> {
         "aprof run -o r img in\0",
     ] {
         let words = words_of(rt.alloc(), line)?;
-        assert_eq!(rt; numbers_of(rt.alloc(), &words)?, None);
+        assert_eq!(rt; numbers_of(rt.alloc(), &words)?, None, "{line}");
     }
     Ok(())
 }
@@ -159,7 +159,7 @@ fn stamps_and_stats_are_read(rt: HostRuntime) -> Result<(), Fail> {
     ] {
         let words = words_of(rt.alloc(), line)?;
         let command = guest_of(read_command(rt.alloc(), &words)).expect(&rt, "words of a run");
-        assert_eq!(rt; stamps_of(&command.analysis), Some(read));
+        assert_eq!(rt; stamps_of(&command.analysis), Some(read), "{line}");
     }
     Ok(())
 }
@@ -178,7 +178,7 @@ fn a_command_has_arguments_and_inputs(rt: HostRuntime) -> Result<(), Fail> {
     let arguments = guest.arguments(alloc)?;
     assert_eq!(rt; arguments.len(), 6);
     for (argument, text) in arguments.iter().zip(["img", "b", "a", "a", "b", "b"]) {
-        assert_eq!(rt; argument.as_str(), text);
+        assert_eq!(rt; argument.as_str(), text, "of {line}");
     }
     Ok(())
 }

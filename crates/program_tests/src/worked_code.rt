@@ -101,25 +101,7 @@ pub(crate) const THREADED_PROGRAM: &[u32] = &[
     0x0000_0073, // ecall
 ];
 
-/// Writes a text to its output, and another to its error output.
-pub(crate) const BOTH_OUTPUTS: &[u32] = &[
-    0x0001_05b7, // lui x11,16
-    0x0845_8593, // addi x11,x11,132
-    0x0010_0513, // addi x10,x0,1
-    0x0040_0613, // addi x12,x0,4
-    0x0400_0893, // addi x17,x0,64
-    0x0000_0073, // ecall
-    0x0045_8593, // addi x11,x11,4
-    0x0020_0513, // addi x10,x0,2
-    0x0000_0073, // ecall
-    0x0000_0513, // addi x10,x0,0
-    0x05d0_0893, // addi x17,x0,93
-    0x0000_0073, // ecall
-    0x0a74_756f, // "out\n"
-    0x0a72_7265, // "err\n"
-];
-
-/// Writes the one text and the other in turns, three times and two times.
+/// Writes a text to its output and another to its error output, in turns, three times and two times.
 pub(crate) const OUTPUTS_IN_TURNS: &[u32] = &[
     0x0001_05b7, // lui x11,16
     0x0a85_8593, // addi x11,x11,168

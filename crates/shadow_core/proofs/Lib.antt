@@ -34,3 +34,4 @@ pub mod Begun
 pub mod Started
 pub mod Popped
 pub mod Ended
+pub mod SamePages

@@ -8,6 +8,8 @@ use Rattle.trace_model.specs.declared.slow_profile.Done.{Done}
 use Rattle.trace_model.specs.Depth.{count_begun, is_within, pending}
 use Rattle.trace_model.specs.Events.{covers}
 use Rattle.trace_model.specs.Profile.{ended}
+use Rattle.shadow_pages.specs.Pages as pages
+use Rattle.stamp_renumber.specs.Threads.{pages_of}
 use Rattle.shadow_core.specs.Table.{Table}
 use Rattle.shadow_core.specs.Records.{finished}
 use Rattle.shadow_core.specs.Stands.{Stands}
@@ -28,6 +30,14 @@ pub record IsTaken (most : ℕ) (e : Event) (past : List Event) (new : State) (b
   pub stands : StandsFor most new (e ∷ past)
   pub fits : is_within most (e ∷ past) ≡ true
   pub recorded : after ≡ before ++ ended e past
+
+-- ---- Pages.
+-- Pages of stamps hold the same words as before: of latest writes, of marks, and of the accesses of each thread. No page comes, and
+-- none goes.
+pub record HasSamePages (old new : State) : Type 0 where
+  pub writes : (w : ℕ) → pages.covers new.writes w ≡ pages.covers old.writes w
+  pub marks : (w : ℕ) → pages.covers new.marks w ≡ pages.covers old.marks w
+  pub accesses : (t w : ℕ) → pages.covers (pages_of new.live.threads t) w ≡ pages.covers (pages_of old.live.threads t) w
 
 -- ---- Events that need no memory.
 -- the stamps of a thread's accesses

@@ -28,6 +28,8 @@ pub(crate) fn cover<S: Stamp>(
     ensures stamps { (w : ℕ) → stamp_at writes.new.pages w ≡ stamp_at writes.old.pages w }
     ensures kinds { (w : ℕ) → stamp_at marks.new.pages w ≡ stamp_at marks.old.pages w }
     ensures covered { AreCovered writes.old.pages first count → IsOk result }
+    ensures same { AreCovered writes.old.pages first count
+        → (writes.new.pages ≡ writes.old.pages) × (marks.new.pages ≡ marks.old.pages) }
 {
     if count == 1 && writes.covers(first) {
         return Ok(());
@@ -52,6 +54,8 @@ fn cover_all<S: Stamp>(
     ensures stamps { (w : ℕ) → stamp_at writes.new.pages w ≡ stamp_at writes.old.pages w }
     ensures kinds { (w : ℕ) → stamp_at marks.new.pages w ≡ stamp_at marks.old.pages w }
     ensures covered { AreCovered writes.old.pages first count → IsOk result }
+    ensures same { AreCovered writes.old.pages first count
+        → (writes.new.pages ≡ writes.old.pages) × (marks.new.pages ≡ marks.old.pages) }
 {
     marks.reserve(first, count)?;
     writes.reserve(first, count)
@@ -73,6 +77,8 @@ pub(crate) fn cover_own<S: Lanes>(
         ≡ stamp_at (pages_of threads.old.threads tid) w }
     ensures ok { OnOk result (AreCovered (pages_of threads.new.threads tid) first count) }
     ensures covered { AreCovered (pages_of threads.old.threads tid) first count → IsOk result }
+    ensures same { AreCovered (pages_of threads.old.threads tid) first count
+        → pages_of threads.new.threads tid ≡ pages_of threads.old.threads tid }
 {
     if count == 1 && threads.shadow(tid).covers(first) {
         return Ok(());
@@ -97,6 +103,8 @@ fn cover_all_own<S: Lanes>(
         ≡ stamp_at (pages_of threads.old.threads tid) w }
     ensures ok { OnOk result (AreCovered (pages_of threads.new.threads tid) first count) }
     ensures covered { AreCovered (pages_of threads.old.threads tid) first count → IsOk result }
+    ensures same { AreCovered (pages_of threads.old.threads tid) first count
+        → pages_of threads.new.threads tid ≡ pages_of threads.old.threads tid }
 {
     threads.shadow_mut(tid).reserve(first, count)
 }

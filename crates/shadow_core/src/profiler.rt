@@ -9,7 +9,7 @@ ghost use Rattle.trace_model.specs.Observing.{MayTake};
 ghost use Rattle.shadow_pages.specs.Pages.{AreCovered};
 ghost use Rattle.stamp_renumber.specs.Threads.{all_starts, pages_of};
 ghost use Rattle.shadow_core.specs.declared.apply_error.ApplyError.TheVariants.{Memory, TooDeep};
-ghost use Rattle.shadow_core.specs.Applying.{IsTaken, NeedsNoMemory, is_too_deep};
+ghost use Rattle.shadow_core.specs.Applying.{HasSamePages, IsTaken, NeedsNoMemory, is_too_deep};
 ghost use Rattle.shadow_core.specs.Counting.{renumberings};
 ghost use Rattle.shadow_core.specs.Profiling.{StandsFor};
 ghost use Rattle.shadow_core.specs.State.{calls_of, table_of_state};
@@ -120,11 +120,23 @@ impl<S: Lanes> Profiler<S> {
         self.renumbered
     }
 
+    /// How many pages of stamps the accesses of a thread have, each with the stamps of 1024 words. A thread that doesn't live has
+    /// none.
+    pub fn access_pages(&self, tid: Tid) -> usize
+        ensures { result ≡ length (pages_of self.now.live.threads tid) }
+    {
+        match self.calls.get(tid) {
+            Some(_) => self.threads.shadow(tid).pages(),
+            None => 0,
+        }
+    }
+
     // A step of a thread that lives.
     #[inline(always)]
     fn step(&mut self, tid: Tid)
         requires { MayTake (StandsFor S.MAX) self.old (Step tid) }
-        ensures { table_of_state self.new ≡ table_after (bounded_tick S.MAX) (Step tid)
+        ensures pages { HasSamePages self.old self.new }
+        ensures table { table_of_state self.new ≡ table_after (bounded_tick S.MAX) (Step tid)
             (table_of_state self.old) }
     {
         if is_running(self.last, tid) {
@@ -139,7 +151,8 @@ impl<S: Lanes> Profiler<S> {
     fn step_on(&mut self, tid: Tid)
         requires may { MayTake (StandsFor S.MAX) self.old (Step tid) }
         requires runs { self.old.last ≡ Some tid }
-        ensures { table_of_state self.new ≡ table_after (bounded_tick S.MAX) (Step tid)
+        ensures pages { HasSamePages self.old self.new }
+        ensures table { table_of_state self.new ≡ table_after (bounded_tick S.MAX) (Step tid)
             (table_of_state self.old) }
     {
         self.calls.get_mut(tid).unwrap().add_step();
@@ -151,7 +164,8 @@ impl<S: Lanes> Profiler<S> {
     #[inline(never)]
     fn step_first(&mut self, tid: Tid)
         requires { MayTake (StandsFor S.MAX) self.old (Step tid) }
-        ensures { table_of_state self.new ≡ table_after (bounded_tick S.MAX) (Step tid)
+        ensures pages { HasSamePages self.old self.new }
+        ensures table { table_of_state self.new ≡ table_after (bounded_tick S.MAX) (Step tid)
             (table_of_state self.old) }
     {
         advance(
@@ -175,6 +189,7 @@ impl<S: Lanes> Profiler<S> {
             ≡ table_after (bounded_tick S.MAX) (Fill first count) (table_of_state self.old)) }
         ensures refused { OnErr result (table_of_state self.new ≡ table_of_state self.old) }
         ensures no_memory { AreCovered self.old.writes first count → IsOk result }
+        ensures pages { AreCovered self.old.writes first count → HasSamePages self.old self.new }
     {
         cover(&mut self.writes, &mut self.marks, first, count)?;
         advance(
@@ -199,6 +214,8 @@ impl<S: Lanes> Profiler<S> {
         ensures refused { OnErr result (table_of_state self.new ≡ table_of_state self.old) }
         ensures no_memory { AreCovered (pages_of self.old.live.threads tid) first count
             → AreCovered self.old.writes first count → IsOk result }
+        ensures pages { AreCovered (pages_of self.old.live.threads tid) first count
+            → AreCovered self.old.writes first count → HasSamePages self.old self.new }
     {
         if count == 1
             && is_written(
@@ -225,6 +242,8 @@ impl<S: Lanes> Profiler<S> {
         ensures refused { OnErr result (table_of_state self.new ≡ table_of_state self.old) }
         ensures no_memory { AreCovered (pages_of self.old.live.threads tid) first count
             → AreCovered self.old.writes first count → IsOk result }
+        ensures pages { AreCovered (pages_of self.old.live.threads tid) first count
+            → AreCovered self.old.writes first count → HasSamePages self.old self.new }
     {
         cover_own(&mut self.threads, tid, first, count)?;
         cover(&mut self.writes, &mut self.marks, first, count)?;
@@ -305,6 +324,7 @@ impl<S: Lanes> Profiler<S> {
         ensures no_memory { vec_len done.old + count_returned target
             (map (λ (c : OpenCall). c.back) (calls_of self.old.calls tid).list)
             ≤ vec_capacity done.old → IsOk result }
+        ensures pages { HasSamePages self.old self.new }
     {
         let ended = self.calls.get(tid).unwrap().ending(target);
         done.reserve(ended)?;
@@ -345,6 +365,8 @@ impl<S: Lanes> Profiler<S> {
         ensures refused { OnErr result (table_of_state self.new ≡ table_of_state self.old) }
         ensures no_memory { AreCovered (pages_of self.old.live.threads tid) first count
             → IsOk result }
+        ensures pages { AreCovered (pages_of self.old.live.threads tid) first count
+            → HasSamePages self.old self.new }
     {
         if count == 1 && is_fresh(&self.threads, tid, first, self.counter) {
             self.weight += 2;
@@ -362,6 +384,8 @@ impl<S: Lanes> Profiler<S> {
         ensures refused { OnErr result (table_of_state self.new ≡ table_of_state self.old) }
         ensures no_memory { AreCovered (pages_of self.old.live.threads tid) first count
             → IsOk result }
+        ensures pages { AreCovered (pages_of self.old.live.threads tid) first count
+            → HasSamePages self.old self.new }
     {
         cover_own(&mut self.threads, tid, first, count)?;
         let now = S::from_number(self.counter);
@@ -411,6 +435,8 @@ impl<S: Lanes> Profiler<S> {
         ensures kept { OnErr result (done.new.items ≡ done.old.items) }
         ensures no_memory { NeedsNoMemory e (table_of_state self.old) (vec_len done.old)
             (vec_capacity done.old) → IsOk result }
+        ensures pages { NeedsNoMemory e (table_of_state self.old) (vec_len done.old)
+            (vec_capacity done.old) → HasSamePages self.old self.new }
     {
         match e {
             Event::Step { tid } => {
@@ -428,8 +454,8 @@ impl<S: Lanes> Profiler<S> {
     }
 
     /// Takes the next event of the trace, and adds to the list what is recorded of the activations that it ends, the
-    /// innermost first. An event that begins an activation too many is refused before any memory is wanted. After a refusal
-    /// all is as before. No event is kept.
+    /// innermost first. An event that begins an activation too many is refused before any memory is allocated. After a refusal
+    /// all is as before. Where no memory is needed no page of stamps comes: no event is kept.
     #[inline(always)]
     pub fn apply(&mut self, e: Event, done: &mut Vec<Done>) -> Result<(), ApplyError>
         requires { MayTake (StandsFor S.MAX) self.old e }
@@ -447,6 +473,8 @@ impl<S: Lanes> Profiler<S> {
         ensures kept { OnErr result (done.new.items ≡ done.old.items) }
         ensures no_memory { NeedsNoMemory e (table_of_state self.old) (vec_len done.old)
             (vec_capacity done.old) → IsOk result }
+        ensures pages { NeedsNoMemory e (table_of_state self.old) (vec_len done.old)
+            (vec_capacity done.old) → HasSamePages self.old self.new }
     {
         if self.is_too_deep(&e) {
             return Err(ApplyError::TooDeep {

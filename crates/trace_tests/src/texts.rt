@@ -97,7 +97,8 @@ fn other_bytes_are_refused(rt: HostRuntime) -> Result<(), Fail> {
         ),
     ] {
         let mut events = Events::new(rt.alloc())?;
-        assert_eq!(rt; read(rt.alloc(), bytes, &mut events).err(), Some(error));
+        let refused = read(rt.alloc(), bytes, &mut events).err();
+        assert_eq!(rt; refused, Some(error), "{bytes:?}");
         assert!(rt; events.list().is_empty() == (error != TraceError::Short));
     }
     assert_eq!(rt; TraceError::Short.number(), Some(4));

@@ -2,6 +2,8 @@
 use anyhow::{Context, Result};
 use demo_guest::demo_image;
 use elf_image::{Image, read_image};
+use guest_calls::Inputs;
+use guest_machine::Machine;
 use guest_words::limits::DEMO_ROUTINES;
 use std::alloc::Global;
 
@@ -75,6 +77,23 @@ impl Images {
                 self.image = Some(image);
                 Ok(text)
             }
+        }
+    }
+
+    /// Whether a guest of the image can begin whose one argument has so many bytes with its zero byte, or why not.
+    pub fn begin(&self, alloc: Global, row: &str) -> Result<String> {
+        let bytes: u32 = row.parse()?;
+        let mut argument = String::new(alloc);
+        for _ in 1..bytes {
+            argument.push('x')?;
+        }
+        let mut arguments = Vec::new(alloc);
+        arguments.push(argument)?;
+        let image = self.image.as_ref().context("no image")?;
+        let (inputs, stdin) = (Inputs::new(alloc)?, Vec::new(alloc));
+        match Machine::new(alloc, image, arguments.as_slice(), inputs, stdin) {
+            Ok(_) => Ok(String::from_str(alloc, "it begins")?),
+            Err(refusal) => Ok(format!(in alloc; "{refusal:?}")?),
         }
     }
 

@@ -12,6 +12,10 @@
 //!     demo ROUTINES                       the file is the demo's
 //!     image LENGTH AT=BYTE ..             so much of the file, with other bytes at these places, as an image
 //!     name AT                             the name there, in the last image
+//!     machine BYTES                       whether a guest of it can begin whose argument has so many bytes, its last one 0
+//!     memory                              a new memory
+//!     map PAGE COUNT                      whether the pages can be mapped
+//!     load AT                             whether a word can be loaded
 //!
 //! Other lines are given again as they are. Numbers are hexadecimal, but for threads, the numbers of calls and places in files.
 #![tactic(auto)]
@@ -19,6 +23,7 @@
 mod calls;
 mod images;
 mod instructions;
+mod memory;
 mod reports;
 mod schedules;
 mod words;
@@ -32,6 +37,7 @@ use std::alloc::Global;
 // What the rows work on.
 #[derive(Drop)]
 struct Rows {
+    pages: GuestMemory,
     memory: GuestMemory,
     guest: Guest,
     images: Images,
@@ -40,7 +46,8 @@ struct Rows {
 impl Rows {
     fn new(alloc: Global) -> Result<Rows> {
         Ok(Rows {
-            memory: instructions::five_pages(alloc)?,
+            pages: instructions::five_pages(alloc)?,
+            memory: GuestMemory::new(alloc)?,
             guest: Guest::new(alloc)?,
             images: Images::new(alloc),
         })
@@ -51,7 +58,7 @@ impl Rows {
         let answer = if kind == "word" {
             words::answer(alloc, row)?
         } else if kind == "instruction" {
-            instructions::answer(alloc, &mut self.memory, row)?
+            instructions::answer(alloc, &mut self.pages, row)?
         } else if kind == "call" {
             calls::answer(alloc, &mut self.guest, row)?
         } else if kind == "wake" {
@@ -68,6 +75,12 @@ impl Rows {
             self.images.read(alloc, row)?
         } else if kind == "name" {
             self.images.name(alloc, row)?
+        } else if kind == "machine" {
+            self.images.begin(alloc, row)?
+        } else if kind == "map" {
+            memory::map(alloc, &mut self.memory, row)?
+        } else if kind == "load" {
+            memory::load(alloc, &self.memory, row)?
         } else {
             return Ok(None);
         };
@@ -78,6 +91,9 @@ impl Rows {
     fn line(&mut self, alloc: Global, line: &str) -> Result<Option<String>> {
         if line == "guest" {
             self.guest = Guest::new(alloc)?;
+        }
+        if line == "memory" {
+            self.memory = GuestMemory::new(alloc)?;
         }
         match line.split_once(' ') {
             Some((kind, row)) => self.answer(alloc, kind, row),

@@ -42,8 +42,8 @@ invariant_of-self g c =
     let whole = whole_after g.S.Stamp.MAX c.is_switch.result _ _ c.args.tid c.add_step.new.self c.self.invariant c.advance.ensures in
     record { same = whole.same; marked = whole.marked }
 
-pub returns : goal.returns
-returns g c =
+pub returns-clause-table : goal.returns-clause-table
+returns-clause-table g c =
     let may = subst (λ (k : State). MayTake (StandsFor g.S.Stamp.MAX) k (Step c.args.tid)) (sym c.self.view_is) c.requires in
     stepped g.S.Stamp.MAX c.args.tid c.is_switch.result _ c.unwrap.result.now c.add_step.new.self _ may c.self.invariant
     (sym c.get_mut.ensures.found ∙ ap option_copied_mut c.unwrap.ensures) c.is_switch.ensures c.advance.ensures c.add_step.ensures

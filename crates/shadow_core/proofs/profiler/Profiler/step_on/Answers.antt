@@ -25,7 +25,7 @@ invariant_of-self g c = record {
   marked = c.self.invariant.marked;
 }
 
-pub returns : goal.returns
-returns g c =
+pub returns-clause-table : goal.returns-clause-table
+returns-clause-table g c =
     stepped_on g.S.Stamp.MAX c.args.tid _ _ c.unwrap.result.now c.add_step.new.self _ c.self.view_is c.requires.may c.self.invariant
     (sym c.get_mut.ensures.found ∙ ap option_copied_mut c.unwrap.ensures) c.requires.runs c.add_step.ensures (omega arith)

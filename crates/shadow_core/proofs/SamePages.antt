@@ -1,0 +1,58 @@
+-- The words that pages hold after an event.
+use Rattle.std.proofs.Common.{◌≡◌, ℕ, Bool, true, false, cond, List, Option, Some, None, refl, sym, ap, ◌∙◌, arith}
+use Rattle.std.specs.Prelude.{is_some, ◌==◌}
+use Rattle.std.specs.Option.{option_map_or}
+use Rattle.std.proofs.lemmas.Bool.Decides.{nat_tests}
+use Rattle.guest_words.specs.ByThread.{value_of, with_value}
+use Rattle.guest_words.proofs.ThreadTables.{value_of-with}
+use Rattle.shadow_stack.specs.Frames.{Frame}
+use Rattle.shadow_pages.specs.Pages.{Page, covers}
+use Rattle.stamp_renumber.specs.Threads.{Live, Stamped, pages_of, stamped}
+use Rattle.shadow_core.specs.Profiling.{Clock, IsAdvanced}
+use Rattle.shadow_core.specs.Reading.{IsChanged}
+use Rattle.shadow_core.proofs.Profiled.{there_too}
+
+-- the threads' pages hold the same words
+abbrev pub AlikeIn : List (ℕ × Stamped) → List (ℕ × Stamped) → Type 0
+AlikeIn old new = (t w : ℕ) → covers (pages_of new t) w ≡ covers (pages_of old t) w
+
+-- one thread has other pages, which hold the same words
+pub with_alike : (xs : List (ℕ × Stamped)) (t : ℕ) (new : Stamped) → is_some (value_of xs t) ≡ true → ((w : ℕ) → covers new.pages w ≡ covers (pages_of xs t) w)
+    → AlikeIn xs (with_value xs t new)
+with_alike xs t new lives alike u w = found (value_of xs t) refl lives
+  where
+    shown : Option Stamped → Bool
+    shown o = covers (option_map_or (λ (s : Stamped). s.pages) o []) w
+
+    found : (o : Option Stamped) → value_of xs t ≡ o → is_some o ≡ true → covers (pages_of (with_value xs t new) u) w ≡ covers (pages_of xs u) w
+    found None here some = absurd (cc)
+    found (Some was) here some = ap shown (value_of-with xs t new was here u) ∙ by (t == u) refl
+      where
+        by : (b : Bool) → (t == u) ≡ b → shown (cond b (Some new) (value_of xs u)) ≡ shown (value_of xs u)
+        by true is = alike w ∙ ap (λ v. shown (value_of xs v)) (let e : t ≡ u = grind (arith, nat_tests, is) in e)
+        by false is = refl
+
+-- a thread changed, whose pages hold the same words
+pub changed_alike : (old new : Live) (t : ℕ) (frames : List Frame) (pages : List Page) → is_some (value_of old.threads t) ≡ true → IsChanged old new t frames pages
+    → ((w : ℕ) → covers pages w ≡ covers (pages_of old.threads t) w) → AlikeIn old.threads new.threads
+changed_alike old new t frames pages lives changed alike u w =
+    ap (λ xs. covers (pages_of xs u) w) changed.threads ∙ with_alike old.threads t (stamped new.threads t frames pages) lives alike u w
+
+-- the counter ticked
+pub advanced_alike : (most : ℕ) (ticks : Bool) (old new : Clock) → IsAdvanced most ticks old new → AlikeIn old.live.threads new.live.threads
+advanced_alike most ticks old new advanced t w = found (value_of old.live.threads t) refl
+  where
+    shown : Option Stamped → Bool
+    shown o = covers (option_map_or (λ (s : Stamped). s.pages) o []) w
+
+    none : (o : Option Stamped) → value_of new.live.threads t ≡ o → value_of old.live.threads t ≡ None → value_of new.live.threads t ≡ None
+    none None there here = there
+    none (Some is) there here =
+        let was = there_too new.live.threads old.live.threads (sym advanced.same) t (ap is_some there) in
+        absurd (let e = sym was.1 ∙ here in cc e)
+
+    found : (o : Option Stamped) → value_of old.live.threads t ≡ o → covers (pages_of new.live.threads t) w ≡ covers (pages_of old.live.threads t) w
+    found None here = ap shown (none (value_of new.live.threads t) refl here) ∙ sym (ap shown here)
+    found (Some was) here =
+        let is = advanced.each t was here in
+        ap shown is.1 ∙ is.2.covered w ∙ sym (ap shown here)
