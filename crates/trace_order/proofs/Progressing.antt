@@ -1,6 +1,9 @@
 -- What the progress tells of a past.
 use Rattle.std.proofs.Common.{◌≡◌, ◌↔◌, ℕ, ◌+◌, ◌<◌, ◌≤◌, Bool, true, false, List, ◌∷◌, All, refl, sym, ap, ◌∙◌, subst, arith}
+use Rattle.std.specs.Prelude.{Option, Some, None}
+use Rattle.std.specs.Option.{option_map_or}
 use Rattle.trace_model.specs.declared.event_kinds.Event.{Event}
+use Rattle.trace_model.specs.Events.{thread_of}
 use Rattle.trace_model.specs.declared.event_kinds.Event.TheVariants.{Step, Read, Write, Fill, Call, Ret, Start, End}
 use Rattle.trace_model.specs.WellFormed.{IsWellFormed, MayFollow, is_live, weight_of}
 use Rattle.trace_order.specs.Order.{is_start}
@@ -21,6 +24,14 @@ pub allowed : (e : Event) (lives : Bool) (p : ProgressState) (past : List Event)
 allowed e lives p past of is =
     let fits = follows e lives p past of is in
     (λ h. (fits.0 h.0, omega (arith, of.weight, h.1), of.formed), λ h. (fits.1 h.0, omega (arith, of.weight, h.1)))
+
+-- whoever keeps the live threads
+of_one_same : (live also : ℕ → Bool) → ((t : ℕ) → live t ≡ also t) → (o : Option ℕ) → option_map_or live o false ≡ option_map_or also o false
+of_one_same live also same None = refl
+of_one_same live also same (Some t) = same t
+
+pub allowed_by : (e : Event) (live : ℕ → Bool) (p : ProgressState) (past : List Event) → IsProgressOf p past → ((t : ℕ) → live t ≡ is_live past t) → IsAllowed e (is_of_one live e) p ↔ IsWellFormed (e ∷ past)
+allowed_by e live p past of same = allowed e (is_of_one live e) p past of (of_one_same live (is_live past) same (thread_of e))
 
 -- and goes on with it
 pub passes : (e : Event) (p : ProgressState) (past : List Event) → IsProgressOf p past → IsWellFormed (e ∷ past) → IsProgressOf (passed e p) (e ∷ past)
