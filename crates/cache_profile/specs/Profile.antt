@@ -1,9 +1,10 @@
 -- The misses of a run that goes on.
-use Rattle.std.specs.Prelude.{◌≡◌, ℕ, Bool, true, false, List}
+use Rattle.std.specs.Prelude.{◌≡◌, ℕ, Bool, true, false, List, is_some}
+use Rattle.guest_words.specs.ByThread.{value_of}
 use Rattle.trace_model.specs.declared.event_kinds.Event.{Event}
-use Rattle.trace_model.specs.declared.event_kinds.Event.TheVariants.{Fill, Step}
+use Rattle.trace_model.specs.declared.event_kinds.Event.TheVariants.{Fill, Read, Step, Write}
 use Rattle.trace_model.specs.Profile.{steps}
-use Rattle.trace_model.specs.WellFormed.{AreWords, IsWellFormed}
+use Rattle.trace_order.specs.Progress.{IsAllowed, IsProgressOf, ProgressState, is_of_one}
 use Rattle.call_tracker.specs.CallStacks.{Stacks}
 use Rattle.call_tracker.specs.CallStacks as calls
 use Rattle.cache_lines.specs.Held.{Held}
@@ -13,20 +14,23 @@ use Rattle.cache_profile.specs.declared.routines.RoutineMisses.{RoutineMisses}
 use Rattle.cache_profile.specs.ByRoutine.{all_accesses, by_routine}
 use Rattle.cache_profile.specs.LineAccesses.{line_accesses}
 
--- What is kept of a run: the cache, the open calls, what the accesses come to by routine, and how many steps there were.
+-- What is kept of a run: the cache, the open calls, what the accesses come to by routine, and how many steps there were;
+-- and what tells with the threads that have calls which event may come next.
 pub record Kept : Type 0 where
   pub cache : Held
   pub calls : Stacks
   pub routines : List RoutineMisses
   pub steps : ℕ
+  pub progress : ProgressState
 
--- It is that of this past, for a cache of the shape.
+-- It is that of this past, which is one that a run can have, for a cache of the shape.
 pub record StandsFor (shape : Form) (kept : Kept) (past : List Event) : Type 0 where
   pub shape_is : kept.cache.shape ≡ shape
   pub cache : lines.StandsFor kept.cache (line_accesses shape past)
   pub calls : calls.StandsFor kept.calls past
   pub routines : kept.routines ≡ by_routine (all_accesses shape past)
   pub steps_are : kept.steps ≡ steps past
+  pub progress_is : IsProgressOf kept.progress past
 
 -- the event is a step or a fill
 abbrev pub is_step_or_fill : Event → Bool
@@ -34,9 +38,22 @@ is_step_or_fill (Step _) = true
 is_step_or_fill (Fill _ _) = true
 is_step_or_fill _ = false
 
--- It is that of some well-formed past, and there are such words.
-pub record MayAccess (shape : Form) (kept : Kept) (first count : ℕ) : Type 0 where
+-- the event neither accesses words nor is a step
+abbrev pub IsOther : Event → Type 0
+IsOther (Read _ _ _) = ⊥
+IsOther (Write _ _ _) = ⊥
+IsOther (Step _) = ⊥
+IsOther e = Unit {0}
+
+-- the thread is one of those whose calls are kept
+abbrev pub lives : Kept → ℕ → Bool
+lives kept t = is_some (value_of kept.calls.threads t)
+
+-- The event may come next, as what is kept shows: what it shows is so of all pasts for which that stands.
+abbrev pub MayCome : Kept → Event → Type 0
+MayCome kept e = IsAllowed e (is_of_one (lives kept) e) kept.progress
+
+-- It is that of some past.
+pub record IsOfSome (shape : Form) (kept : Kept) : Type 0 where
   pub past : List Event
   pub now : StandsFor shape kept past
-  pub formed : IsWellFormed past
-  pub words : AreWords first count

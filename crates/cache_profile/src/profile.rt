@@ -1,11 +1,14 @@
 //! The misses of a run that goes on.
-ghost use Rattle.std.specs.Prelude.{◌≡◌, ◌<◌, [], ◌∷◌, List, true, length, slice_get, IfOk, IsOk, OnErr, OnOk};
+ghost use Rattle.std.specs.Prelude.{◌≡◌, ◌↔◌, ◌⊎◌, ◌<◌, [], ◌∷◌, List, true, length, slice_get, IfOk, IsOk, IsTrue, OnErr, OnOk};
 ghost use Rattle.trace_model.specs.declared.event_kinds.Event.{Event};
-ghost use Rattle.trace_model.specs.declared.event_kinds.Event.TheVariants.{Read, Write};
-ghost use Rattle.trace_model.specs.Observing.{MayTake, Observes, StandsAsBefore};
+ghost use Rattle.trace_model.specs.declared.event_kinds.Event.TheVariants.{Read, Step, Write};
+ghost use Rattle.trace_model.specs.Depth.{count_begun};
+ghost use Rattle.trace_model.specs.Observing.{Observes, StandsAsBefore};
+ghost use Rattle.trace_model.specs.WellFormed.{IsWellFormed};
+ghost use Rattle.trace_order.specs.Progress.{is_of_one};
 ghost use Rattle.call_tracker.specs.CallStacks.{StandsFor as CallsOf};
 ghost use Rattle.cache_profile.specs.ByRoutine.{innermost};
-ghost use Rattle.cache_profile.specs.Profile.{MayAccess, StandsFor, is_step_or_fill};
+ghost use Rattle.cache_profile.specs.Profile.{IsOther, MayCome, StandsFor, is_step_or_fill, lives};
 
 use crate::RoutineMisses;
 use crate::lines::access_words;
@@ -16,6 +19,7 @@ use guest_words::{Addr, Tid, Word};
 use std::alloc::{AllocError, Global};
 use std::marker::{Brand, Model, PhantomData};
 use trace_model::{Event, Observed, Observer};
+use trace_order::{Progress, thread_of};
 
 /// The shape of a cache, carried by a type: what is known of an observer after a run is its type and its past.
 pub trait Shaped {
@@ -38,15 +42,30 @@ pub struct CacheProfile<K: Shaped> {
     // Where the routine of the last access stands.
     last: usize,
     steps: u64,
+    progress: Progress,
     of: PhantomData<K>,
 }
 
 impl<K: Shaped> Model for CacheProfile<K> {
-    ghost use Rattle.cache_profile.specs.Profile.{Kept};
+    ghost use Rattle.cache_profile.specs.Profile.{IsOfSome, Kept};
 
     ghost Value = { Kept };
 
-    ghost view = { λ p. record { cache = p.cache; calls = p.calls; routines = p.routines.items; steps = p.steps } };
+    ghost view = { λ p. record {
+      cache = p.cache;
+      calls = p.calls;
+      routines = p.routines.items;
+      steps = p.steps;
+      progress = p.progress;
+    } };
+
+    ghost invariant = { λ p. ∥ IsOfSome K.shape (record {
+      cache = p.cache;
+      calls = p.calls;
+      routines = p.routines.items;
+      steps = p.steps;
+      progress = p.progress;
+    }) ∥₁ };
 }
 
 /// The entry of the routine that runs in the thread: that of its innermost open call.
@@ -71,6 +90,7 @@ impl<K: Shaped> CacheProfile<K> {
             routines: Vec::new(alloc),
             last: 0,
             steps: 0,
+            progress: Progress::new(),
             of: PhantomData,
         })
     }
@@ -97,13 +117,37 @@ impl<K: Shaped> CacheProfile<K> {
         self.steps
     }
 
-    // The access of these words by the thread.
-    fn access(&mut self, tid: Tid, first: Word, count: u32) -> Result<(), AllocError>
-        requires { MayAccess K.shape self.old first count }
-        ensures read { (past : List Event) → StandsFor K.shape self.old past
-            → OnOk result (StandsFor K.shape self.new (Read tid first count ∷ past)) }
-        ensures write { (past : List Event) → StandsFor K.shape self.old past
-            → OnOk result (StandsFor K.shape self.new (Write tid first count ∷ past)) }
+    // Whether the event is of a thread that lives.
+    fn lives_of(&self, e: &Event) -> bool
+        ensures { result ≡ is_of_one (lives self.now) e.now }
+    {
+        match thread_of(e) {
+            Some(tid) => self.calls.lives(tid),
+            None => false,
+        }
+    }
+
+    /// Whether the event may come next: with it the past is still one that a run can have.
+    pub fn may_follow(&self, e: &Event) -> bool
+        ensures shown { IsTrue result ↔ MayCome self.now e.now }
+        ensures stands { (past : List Event) → StandsFor K.shape self.now past
+            → IsTrue result ↔ IsWellFormed (e.now ∷ past) }
+    {
+        self.progress.allows(e, self.lives_of(e))
+    }
+
+    // An event that accesses these words by the thread.
+    fn access(
+        &mut self,
+        e: &Event,
+        tid: Tid,
+        first: Word,
+        count: u32,
+    ) -> Result<(), AllocError>
+        requires may { MayCome self.old e.now }
+        requires accesses { (e.now ≡ Read tid first count) ⊎ (e.now ≡ Write tid first count) }
+        ensures stands { (past : List Event) → StandsFor K.shape self.old past
+            → OnOk result (StandsFor K.shape self.new (e.now ∷ past)) }
         ensures refused { OnErr result (self.new ≡ self.old) }
     {
         self.routines.reserve(1)?;
@@ -116,6 +160,31 @@ impl<K: Shaped> CacheProfile<K> {
             event.accesses,
             event.misses,
         );
+        self.progress.pass(e);
+        Ok(())
+    }
+
+    // A step of a thread.
+    fn step(&mut self, tid: Tid)
+        requires { MayCome self.old (Step tid) }
+        ensures { (past : List Event) → StandsFor K.shape self.old past
+            → StandsFor K.shape self.new (Step tid ∷ past) }
+    {
+        self.steps += 1;
+        self.progress.pass(&Event::Step { tid });
+    }
+
+    // Any other event.
+    fn pass(&mut self, e: &Event) -> Result<(), AllocError>
+        requires may { MayCome self.old e.now }
+        requires other { IsOther e.now }
+        ensures stands { (past : List Event) → StandsFor K.shape self.old past
+            → OnOk result (StandsFor K.shape self.new (e.now ∷ past)) }
+        ensures refused { OnErr result (self.new ≡ self.old) }
+        ensures no_memory { count_begun e.now ≡ 0 → IsOk result }
+    {
+        self.calls.apply(*e)?;
+        self.progress.pass(e);
         Ok(())
     }
 }
@@ -130,21 +199,18 @@ impl<K: Shaped> Observer for CacheProfile<K> {
 
     ghost fits_closed = { λ profile e past fits. refl };
 
-    // It takes every event. Steps and fills want no memory.
+    // It takes every event that may come next. Steps and fills need no memory.
     fn observe(&mut self, e: Event) -> Result<Observed, AllocError>
-        requires { MayTake (StandsFor K.shape) self.old e }
+        requires { MayCome self.old e }
         ensures observed { IfOk result (Observes (StandsFor K.shape) (λ past. true) e self.old self.new) }
         ensures refused { OnErr result (StandsAsBefore (StandsFor K.shape) self.old self.new) }
         ensures no_memory { is_step_or_fill e ≡ true → IsOk result }
     {
         match e {
-            Event::Read { tid, first, count } => self.access(tid, first, count)?,
-            Event::Write { tid, first, count } => self.access(tid, first, count)?,
-            Event::Fill { .. } => {}
-            Event::Step { .. } => self.steps += 1,
-            _ => {
-                self.calls.apply(e)?;
-            }
+            Event::Read { tid, first, count } => self.access(&e, tid, first, count)?,
+            Event::Write { tid, first, count } => self.access(&e, tid, first, count)?,
+            Event::Step { tid } => self.step(tid),
+            _ => self.pass(&e)?,
         }
         Ok(Observed::Taken)
     }

@@ -1,7 +1,7 @@
 -- The open calls of the threads as they are kept, the outermost first, and as they are seen, the innermost first.
-use Rattle.std.proofs.Common.{◌≡◌, ℕ, ◌-◌, ◌≤◌, true, List, [], ◌∷◌, ◌++◌, length, take, drop, map, reverse, Option, Some, None, refl, ap, sym, ◌∙◌, MutBor}
+use Rattle.std.proofs.Common.{◌≡◌, ℕ, ◌-◌, ◌≤◌, true, List, [], ◌∷◌, ◌++◌, length, take, drop, map, reverse, Option, Some, None, refl, ap, sym, ◌∙◌, Bor, MutBor}
 use Rattle.std.specs.Prelude.{is_some, slice_get}
-use Rattle.std.specs.Option.{IsSome, option_copied_mut, option_map, option_map_or}
+use Rattle.std.specs.Option.{IsSome, option_copied, option_copied_mut, option_map, option_map_or}
 use Rattle.std.proofs.lemmas.List.{reverse-append}
 use Rattle.guest_words.specs.ByThread.{value_of, with_value}
 use Rattle.guest_words.proofs.ThreadTables as tables
@@ -27,6 +27,10 @@ module _ (xs : List (ℕ × CallStack)) (stacks : Stacks) (is : seen xs ≡ stac
       let none : is_some (value_of stacks.threads t) ≡ is_some (option_map inward None) = ap is_some (value_seen ∙ ap (option_map inward) (sym found)) in
       absurd (cc)
   kept (Some c) found lives = refl
+
+  pub lives_kept : (r : Option (Bor CallStack)) → option_copied r ≡ value_of xs t → is_some r ≡ is_some (value_of stacks.threads t)
+  lives_kept None found = sym (ap is_some (value_seen ∙ ap (option_map inward) (sym found)))
+  lives_kept (Some c) found = sym (ap is_some (value_seen ∙ ap (option_map inward) (sym found)))
 
   pub calls_kept : (c : CallStack) → value_of xs t ≡ Some c → calls_of stacks t ≡ inward c
   calls_kept c here = ap (λ (o : Option (List OpenCall)). option_map_or (λ calls. calls) o []) (value_seen ∙ ap (option_map inward) here)

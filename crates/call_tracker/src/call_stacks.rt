@@ -7,6 +7,7 @@ ghost use Rattle.trace_model.specs.Activations.{count_returned, open_calls};
 ghost use Rattle.trace_model.specs.Depth.{count_begun, count_ended, pending};
 ghost use Rattle.trace_model.specs.Events.{thread_of};
 ghost use Rattle.trace_model.specs.Observing.{MayTake};
+ghost use Rattle.trace_model.specs.WellFormed.{is_live};
 ghost use Rattle.call_tracker.specs.Calls.{backs};
 ghost use Rattle.call_tracker.specs.CallStacks.{StandsFor, call_of, calls_of};
 
@@ -66,9 +67,18 @@ impl CallStacks {
         self.threads.get(tid)?.top()
     }
 
+    /// Whether the thread lives.
+    pub fn lives(&self, tid: Tid) -> bool
+        ensures value { result ≡ is_some (value_of self.now.threads tid) }
+        ensures stands { (past : List Event) → StandsFor self.now past
+            → result ≡ is_live past tid }
+    {
+        self.threads.get(tid).is_some()
+    }
+
     /// Takes one more event, and says how many calls it ended. Only an event that begins a call takes memory.
     pub fn apply(&mut self, e: Event) -> Result<usize, AllocError>
-        requires { MayTake StandsFor self.old e }
+        requires { ∥ MayTake StandsFor self.old e ∥₁ }
         ensures stands { (past : List Event) → StandsFor self.old past
             → OnOk result (StandsFor self.new (e ∷ past)) }
         ensures ended { (past : List Event) → StandsFor self.old past

@@ -94,6 +94,25 @@ module _ {K A : Type 0} (p : K → A → Bool) (f : A → ℕ) (ks : List K) whe
       one true us = sum_by-cons f x us
       one false us = omega arith
 
+-- ---- the activations of a context are of the routine of its last entry
+module _ (entry : ℕ) where
+  last_of : (front : List ℕ) (x : ℕ) → is_of entry (front ++ x ∷ []) ≡ (x == entry)
+  last_of [] x = refl
+  last_of (a ∷ []) x = refl
+  last_of (a ∷ b ∷ front) x = last_of (b ∷ front) x
+
+  pub members_named : (all : List (List ℕ × Done)) (c : List ℕ) → All EndsIn all → All (λ d. (d.entry == entry) ≡ is_of entry c) (members_of all c)
+  members_named [] c ends = All-nil (λ (d : Done). (d.entry == entry) ≡ is_of entry c)
+  members_named (x ∷ xs) c ends = by (same c x.0) refl (members_named xs c (All-tail EndsIn x xs ends))
+    where
+      by : (b : Bool) → same c x.0 ≡ b → All (λ d. (d.entry == entry) ≡ is_of entry c) (members_of xs c) →
+          All (λ d. (d.entry == entry) ≡ is_of entry c) (map (λ (y : List ℕ × Done). y.1) (cond b (x ∷ filter (λ (y : List ℕ × Done). same c y.0) xs) (filter (λ (y : List ℕ × Done). same c y.0) xs)))
+      by false other rest = rest
+      by true told rest =
+          let there : c ≡ x.0 = told_text c x.0 true (sym told) in
+          let end = All-head EndsIn x xs ends in
+          All-cons (λ (d : Done). (d.entry == entry) ≡ is_of entry c) x.1 (members_of xs c) (sym (last_of end.front x.1.entry) ∙ sym (ap (is_of entry) (there ∙ end.is))) rest
+
 -- ---- the number of a point that is a sum over its activations
 module _ (m : Point → ℕ) (of : Done → ℕ) (adds : (size : ℕ) (ds : List Done) → m (point_of size ds) ≡ sum_by of ds) where
   of_points : (ms : List Done) → sum_by m (points_from ms) ≡ sum_by of ms
@@ -143,30 +162,13 @@ module _ (m : Point → ℕ) (of : Done → ℕ) (adds : (size : ℕ) (ds : List
         ∙ sum_parts (λ k (d : Done). d.entry == k) own (rising (map (λ (d : Done). d.entry) all)) all (one_key (λ (d : Done). d.entry) all)
 
     -- by context
-    last_of : (front : List ℕ) (x : ℕ) → is_of entry (front ++ x ∷ []) ≡ (x == entry)
-    last_of [] x = refl
-    last_of (a ∷ []) x = refl
-    last_of (a ∷ b ∷ front) x = last_of (b ∷ front) x
-
-    members_named : (all : List (List ℕ × Done)) (c : List ℕ) → All EndsIn all → All (λ d. (d.entry == entry) ≡ is_of entry c) (members_of all c)
-    members_named [] c ends = All-nil (λ (d : Done). (d.entry == entry) ≡ is_of entry c)
-    members_named (x ∷ xs) c ends = by (same c x.0) refl (members_named xs c (All-tail EndsIn x xs ends))
-      where
-        by : (b : Bool) → same c x.0 ≡ b → All (λ d. (d.entry == entry) ≡ is_of entry c) (members_of xs c) →
-            All (λ d. (d.entry == entry) ≡ is_of entry c) (map (λ (y : List ℕ × Done). y.1) (cond b (x ∷ filter (λ (y : List ℕ × Done). same c y.0) xs) (filter (λ (y : List ℕ × Done). same c y.0) xs)))
-        by false other rest = rest
-        by true told rest =
-            let there : c ≡ x.0 = told_text c x.0 true (sym told) in
-            let end = All-head EndsIn x xs ends in
-            All-cons (λ (d : Done). (d.entry == entry) ≡ is_of entry c) x.1 (members_of xs c) (sym (last_of end.front x.1.entry) ∙ sym (ap (is_of entry) (there ∙ end.is))) rest
-
     of_contexts : (past : List Event) → sum_by m (context_points past entry) ≡ sum_by (λ (d : Done). cond (d.entry == entry) (of d) 0) (done past)
     of_contexts past =
         let have = have_places past in
         sum_chosen m (points_in past) (is_of entry) (contexts past)
         ∙ sum_all (λ c. cond (is_of entry c) (sum_by m (points_in past c)) 0) (λ c. sum_by (λ (x : List ℕ × Done). own x.1) (filter (λ (x : List ℕ × Done). same c x.0) (done_in_context past)))
         (λ c. ap (λ n. cond (is_of entry c) n 0) (of_points (members_of (done_in_context past) c))
-        ∙ weighed (is_of entry c) (members_of (done_in_context past) c) (members_named (done_in_context past) c (all_end past))
+        ∙ weighed (is_of entry c) (members_of (done_in_context past) c) (members_named entry (done_in_context past) c (all_end past))
         ∙ sum_mapped own (λ (x : List ℕ × Done). x.1) (filter (λ (x : List ℕ × Done). same c x.0) (done_in_context past))) (contexts past)
         ∙ sum_parts (λ c (x : List ℕ × Done). same c x.0) (λ (x : List ℕ × Done). own x.1) (contexts past) (done_in_context past) (one_context past have.places have.stands)
         ∙ sym (sum_mapped own (λ (x : List ℕ × Done). x.1) (done_in_context past))

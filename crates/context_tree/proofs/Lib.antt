@@ -13,4 +13,5 @@ pub mod Sorting
 pub mod InOrder
 pub mod Standing
 pub mod AddingUp
+pub mod SizeBySize
 mod Places

@@ -12,6 +12,7 @@ use Rattle.cost_points.specs.Contents.{contents_of}
 use Rattle.cost_points.specs.Keys.{grouped, insert_rising, rising}
 use Rattle.cost_points.specs.Points.{Routine, greatest_of, least_of, point_of, routine_of, split_of}
 use Rattle.cost_points.proofs.Rising.{insert_comm}
+use Rattle.context_tree.specs.Points.{points_from}
 
 -- ---- two neighbours change places
 rising_swap : (ks : List ℕ) (x y : ℕ) (ls : List ℕ) → rising (ks ++ x ∷ y ∷ ls) ≡ rising (ks ++ y ∷ x ∷ ls)
@@ -102,8 +103,11 @@ point_swap size xs x y ys =
     ∙ costs_swap size (map (λ (d : Done). d.cost) xs) x.cost y.cost (map (λ (d : Done). d.cost) ys) (split_of (xs ++ y ∷ x ∷ ys))
     ∙ ap (λ costs. point_with size costs (split_of (xs ++ y ∷ x ∷ ys))) (sym (map-append (λ (d : Done). d.cost) xs (y ∷ x ∷ ys)))
 
+sized_swap : (xs : List Done) (x y : Done) (ys : List Done) → points_from (xs ++ x ∷ y ∷ ys) ≡ points_from (xs ++ y ∷ x ∷ ys)
+sized_swap xs x y ys = grouped_swap (λ (d : Done). d.size) point_of point_swap xs x y ys
+
 routine_swap : (entry : ℕ) (xs : List Done) (x y : Done) (ys : List Done) → routine_of entry (xs ++ x ∷ y ∷ ys) ≡ routine_of entry (xs ++ y ∷ x ∷ ys)
-routine_swap entry xs x y ys = ap (λ (ps : List Point). record { entry = entry; points = ps }) (grouped_swap (λ (d : Done). d.size) point_of point_swap xs x y ys)
+routine_swap entry xs x y ys = ap (λ (ps : List Point). record { entry = entry; points = ps }) (sized_swap xs x y ys)
 
 contents_swap : (xs : List Done) (x y : Done) (ys : List Done) → contents_of (xs ++ x ∷ y ∷ ys) ≡ contents_of (xs ++ y ∷ x ∷ ys)
 contents_swap xs x y ys =
@@ -112,15 +116,22 @@ contents_swap xs x y ys =
 -- ---- lists that come to the same, among whatever others
 pub record AreAlike (xs ys : List Done) : Type 0 where
   pub among : (front back : List Done) → contents_of (front ++ (xs ++ back)) ≡ contents_of (front ++ (ys ++ back))
+  pub sizes : (front back : List Done) → points_from (front ++ (xs ++ back)) ≡ points_from (front ++ (ys ++ back))
 
 alike : (xs : List Done) → AreAlike xs xs
-alike xs = record { among = λ front back. refl }
+alike xs = record { among = λ front back. refl; sizes = λ front back. refl }
 
 alike_same : (xs ys : List Done) → xs ≡ ys → AreAlike xs ys
-alike_same xs ys is = record { among = λ front back. ap (λ zs. contents_of (front ++ (zs ++ back))) is }
+alike_same xs ys is = record {
+  among = λ front back. ap (λ zs. contents_of (front ++ (zs ++ back))) is;
+  sizes = λ front back. ap (λ zs. points_from (front ++ (zs ++ back))) is;
+}
 
 alike_then : (xs ys zs : List Done) → AreAlike xs ys → AreAlike ys zs → AreAlike xs zs
-alike_then xs ys zs one two = record { among = λ front back. one.among front back ∙ two.among front back }
+alike_then xs ys zs one two = record {
+  among = λ front back. one.among front back ∙ two.among front back;
+  sizes = λ front back. one.sizes front back ∙ two.sizes front back;
+}
 
 alike_after : (us xs ys : List Done) → AreAlike xs ys → AreAlike (us ++ xs) (us ++ ys)
 alike_after us xs ys are = record {
@@ -128,10 +139,14 @@ alike_after us xs ys are = record {
       ap (λ zs. contents_of (front ++ zs)) (append_assoc us xs back) ∙ ap contents_of (sym (append_assoc front us (xs ++ back)))
       ∙ are.among (front ++ us) back
       ∙ ap contents_of (append_assoc front us (ys ++ back)) ∙ ap (λ zs. contents_of (front ++ zs)) (sym (append_assoc us ys back));
+  sizes = λ front back.
+      ap (λ zs. points_from (front ++ zs)) (append_assoc us xs back) ∙ ap points_from (sym (append_assoc front us (xs ++ back)))
+      ∙ are.sizes (front ++ us) back
+      ∙ ap points_from (append_assoc front us (ys ++ back)) ∙ ap (λ zs. points_from (front ++ zs)) (sym (append_assoc us ys back));
 }
 
 alike_swap : (x y : Done) (zs : List Done) → AreAlike (x ∷ y ∷ zs) (y ∷ x ∷ zs)
-alike_swap x y zs = record { among = λ front back. contents_swap front x y (zs ++ back) }
+alike_swap x y zs = record { among = λ front back. contents_swap front x y (zs ++ back); sizes = λ front back. sized_swap front x y (zs ++ back) }
 
 -- one of them comes to the front
 to_front : (us : List Done) (x : Done) (xs : List Done) → AreAlike (us ++ x ∷ xs) (x ∷ (us ++ xs))

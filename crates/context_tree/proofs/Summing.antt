@@ -120,6 +120,17 @@ by_size ms front =
     ∙ parts.among front []
     ∙ ap (λ ds. contents_of (front ++ ds)) (append-nil (map (λ (d : Done). d) ms) ∙ map-id ms)
 
+-- and so do their points
+pub sized_by_size : (ms front : List Done) → points_from (front ++ flat_map (λ k. having (λ (d : Done). d.size) k ms) (rising (map (λ (d : Done). d.size) ms))) ≡ points_from (front ++ ms)
+sized_by_size ms front =
+    let parts : AreAlike (flat_map (λ k. map (λ (d : Done). d) (filter (λ (d : Done). d.size == k) ms)) (rising (map size_of ms))) (map (λ (d : Done). d) ms) =
+    by_parts (λ k (d : Done). d.size == k) (λ (d : Done). d) (rising (map size_of ms)) ms (one_size ms)
+    in
+    ap (λ ds. points_from (front ++ ds)) (flat_all (λ k. having size_of k ms) (λ k. map (λ (d : Done). d) (filter (λ (d : Done). d.size == k) ms)) (rising (map size_of ms)) (λ k. sym (map-id (filter (λ (d : Done). d.size == k) ms)))
+    ∙ sym (append-nil (flat_map (λ k. map (λ (d : Done). d) (filter (λ (d : Done). d.size == k) ms)) (rising (map size_of ms)))))
+    ∙ parts.sizes front []
+    ∙ ap (λ ds. points_from (front ++ ds)) (append-nil (map (λ (d : Done). d) ms) ∙ map-id ms)
+
 -- ---- a routine's points are added one by one
 pub points_are : (ms : List Done) → points_from ms ≡ map (λ k. point_of k (having (λ (d : Done). d.size) k ms)) (rising (map (λ (d : Done). d.size) ms))
 points_are ms = grouped_is size_of point_of ms

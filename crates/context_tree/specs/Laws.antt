@@ -1,12 +1,14 @@
 -- What is so of the calling contexts of every run, with no word of a tree.
 use Rattle.std.specs.Prelude.{◌≡◌, ℕ, ◌==◌, Bool, false, List, [], ◌∷◌, filter, map}
-use Rattle.std.specs.List.{All, count_by, flat_map, sum_by}
+use Rattle.std.specs.List.{All, count_by, flat_map, fold, sum_by}
 use Rattle.std.specs.Option.{option_map_or}
 use Rattle.trace_model.specs.declared.event_kinds.Event.{Event}
 use Rattle.trace_model.specs.Profile.{done}
 use Rattle.cost_points.specs.declared.point.Point.{Point}
 use Rattle.cost_points.specs.declared.point.Split.{Split}
 use Rattle.cost_points.specs.Contents.{contents_of}
+use Rattle.cost_points.specs.Keys.{put}
+use Rattle.cost_points.specs.Merging.{merged}
 use Rattle.cost_points.specs.Points.{points}
 use Rattle.context_tree.specs.Contexts.{contexts, same}
 use Rattle.context_tree.specs.Points.{done_in_context, members_of, points_in}
@@ -46,3 +48,12 @@ pub record AddUp (some others : List Point) : Type 0 where
   pub thread : part_sum (λ s. s.thread) some ≡ part_sum (λ s. s.thread) others
   pub kernel : part_sum (λ s. s.kernel) some ≡ part_sum (λ s. s.kernel) others
   pub bare : part_sum (λ s. s.bare) some ≡ part_sum (λ s. s.bare) others
+
+-- points with one more, sizes rising: the one of its size takes it in, and where there is none it is a new one
+abbrev pub with_more : List Point → Point → List Point
+with_more ps p = put (λ q. q.size) p.size (λ q. merged q p) p ps
+
+-- Points put together, one for each size: calls, sums and parts of those of the size add up, the least is the least of theirs,
+-- and the most the greatest.
+abbrev pub together : List Point → List Point
+together ps = fold with_more [] ps

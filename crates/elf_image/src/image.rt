@@ -1,5 +1,5 @@
 //! An executable that can be run, and its segments.
-ghost use Rattle.std.specs.Prelude.{◌≡◌, map, IfOk};
+ghost use Rattle.std.specs.Prelude.{◌≡◌, map, None, IfOk, IsOk};
 ghost use Rattle.elf_image.specs.Fields.{IsFilled};
 ghost use Rattle.elf_image.specs.Image.{IsSound, name_of, page_count};
 
@@ -138,9 +138,10 @@ impl Image {
         self.pages
     }
 
-    /// The name of the routine at an address, if it has one.
+    /// The name of the routine at an address, if it has one. Only a name takes memory.
     pub fn name_of(&self, alloc: Global, at: Addr) -> Result<Option<Name>, AllocError>
-        ensures { IfOk result (λ name. name ≡ name_of self.now at) }
+        ensures name { IfOk result (λ name. name ≡ name_of self.now at) }
+        ensures no_memory { name_of self.now at ≡ None → IsOk result }
     {
         self.symbols.name_of(alloc, at)
     }

@@ -1,5 +1,5 @@
 //! The symbols that name addresses, without a copy of each name.
-ghost use Rattle.std.specs.Prelude.{◌≡◌, ◌<◌, ◌==◌, None, All, AllPairs, IfOk, MatchOption, length, map, slice_get};
+ghost use Rattle.std.specs.Prelude.{◌≡◌, ◌<◌, ◌==◌, None, All, AllPairs, IfOk, IsOk, MatchOption, length, map, slice_get};
 ghost use Rattle.std.specs.List.{find};
 ghost use Rattle.elf_image.specs.Image.{name_beside};
 ghost use Rattle.elf_image.specs.Places.{IsNamed, placed};
@@ -71,11 +71,13 @@ impl SymbolNames {
         SymbolNames { strings, places }
     }
 
-    /// The name of the symbol of this value, where the values rise.
+    /// The name of the symbol of this value, where the values rise. Only a name takes memory.
     pub(crate) fn name_of(&self, alloc: Global, value: Addr) -> Result<Option<Name>, AllocError>
         requires { AllPairs (λ s t. s.value < t.value) self.now }
-        ensures { IfOk result (λ name. name
+        ensures name { IfOk result (λ name. name
             ≡ name_beside (map (λ s. (s.value, s.name)) self.now) value) }
+        ensures no_memory { name_beside (map (λ s. (s.value, s.name)) self.now) value ≡ None
+            → IsOk result }
     {
         let Some(index) = search(&self.places, value) else {
             return Ok(None);

@@ -5,6 +5,7 @@ use Rattle.guest_words.specs.declared.limits.TheConstants.{TRACE_WEIGHT}
 use Rattle.trace_model.specs.declared.event_kinds.Event.{Event}
 use Rattle.trace_model.specs.declared.event_kinds.Event.TheVariants.{Start}
 use Rattle.trace_model.specs.WellFormed.{is_live, last_step, greatest_start, weight, IsWellFormed}
+use Rattle.trace_order.specs.Progress.{IsAllowed, ProgressState, is_of_one}
 
 -- the live threads by rising number, the thread of the last step, the greatest number that started, and the weight
 pub record OrderState : Type 0 where
@@ -30,6 +31,14 @@ pub record IsOrderOf (o : OrderState) (past : List Event) : Type 0 where
   pub greatest : o.greatest ≡ greatest_start past
   pub weight : o.weight ≡ weight past
   pub formed : IsWellFormed past
+
+-- all but the live threads
+abbrev pub progress_of : OrderState → ProgressState
+progress_of o = record { last = o.last; greatest = o.greatest; weight = o.weight }
+
+-- The event may come next, as the state shows: what it shows is so of all pasts whose order it is.
+abbrev pub MayCome : OrderState → Event → Type 0
+MayCome o e = IsAllowed e (is_of_one (is_among o.live) e) (progress_of o)
 
 -- a thread starts
 abbrev pub is_start : Event → Bool

@@ -3,5 +3,7 @@
 #![tactic(auto)]
 
 mod order;
+mod progress;
 
 pub use order::Order;
+pub use progress::{Progress, thread_of};

@@ -1,13 +1,14 @@
 //! What tells which event may come next.
-ghost use Rattle.std.specs.Prelude.{◌≡◌, ◌↔◌, ◌+◌, ◌<◌, ◌≤◌, ◌^◌, ◌++◌, ◌∷◌, ◌&&◌, [], ℕ, List, true, false, not, nat_eq, length, slice_index, MatchOption, All, AllPairs, Some, IfOk, IsOk, IsTrue, OnErr, OnOk};
+ghost use Rattle.std.specs.Prelude.{◌≡◌, ◌↔◌, ◌+◌, ◌<◌, ◌≤◌, ◌++◌, ◌∷◌, ◌&&◌, [], ℕ, List, true, false, not, nat_eq, length, slice_index, MatchOption, All, AllPairs, IfOk, IsOk, IsTrue, OnErr, OnOk};
 ghost use Rattle.guest_words.specs.declared.limits.TheConstants.{TRACE_WEIGHT};
 ghost use Rattle.trace_model.specs.declared.event_kinds.Event.{Event};
-ghost use Rattle.trace_model.specs.Observing.{MayTake};
-ghost use Rattle.trace_model.specs.WellFormed.{AreWords, IsWellFormed, MayFollow, weight_of};
-ghost use Rattle.trace_order.specs.Order.{IsOrderOf, is_among, is_start};
+ghost use Rattle.trace_model.specs.WellFormed.{IsWellFormed, weight_of};
+ghost use Rattle.trace_order.specs.Order.{IsOrderOf, MayCome, is_among, is_start, progress_of};
+ghost use Rattle.trace_order.specs.Progress.{is_of_one, passed};
 
-use guest_words::limits::TRACE_WEIGHT;
-use guest_words::{Tid, Word};
+use crate::Progress;
+use crate::progress::thread_of;
+use guest_words::{Addr, Tid};
 use std::alloc::{AllocError, Global};
 use std::marker::Model;
 use trace_model::Event;
@@ -17,9 +18,7 @@ use trace_model::Event;
 #[derive(Drop)]
 pub struct Order {
     live: Vec<Tid>,
-    last: Option<Tid>,
-    greatest: u32,
-    weight: u64,
+    progress: Progress,
 }
 
 impl Model for Order {
@@ -29,16 +28,16 @@ impl Model for Order {
 
     ghost view = { λ o. record {
       live = o.live.items;
-      last = o.last;
-      greatest = o.greatest;
-      weight = o.weight;
+      last = o.progress.last;
+      greatest = o.progress.greatest;
+      weight = o.progress.weight;
     } };
 
     ghost invariant = { λ o. IsInOrder (record {
       live = o.live.items;
-      last = o.last;
-      greatest = o.greatest;
-      weight = o.weight;
+      last = o.progress.last;
+      greatest = o.progress.greatest;
+      weight = o.progress.weight;
     }) };
 }
 
@@ -65,24 +64,6 @@ fn remove(threads: &mut Vec<Tid>, tid: Tid)
     }
 }
 
-/// Whether there is at least one word, and all are words of the guest's memory.
-fn are_words(first: Word, count: u32) -> bool
-    ensures { IsTrue result ↔ AreWords first count }
-{
-    1 <= count && count <= (1 << 30) - first.number()
-}
-
-/// One for the event, and one for each word that it reads.
-fn weight_of(e: &Event) -> u64
-    ensures value { result ≡ weight_of e.now }
-    ensures range { result ≤ 2 ^ 32 }
-{
-    match *e {
-        Event::Read { count, .. } => 1 + u64::from(count),
-        _ => 1,
-    }
-}
-
 impl Order {
     /// No event so far.
     pub fn new(alloc: Global) -> Result<Order, AllocError>
@@ -90,9 +71,7 @@ impl Order {
     {
         Ok(Order {
             live: Vec::new(alloc),
-            last: None,
-            greatest: 0,
-            weight: 0,
+            progress: Progress::new(),
         })
     }
 
@@ -103,49 +82,27 @@ impl Order {
         find(&self.live, tid).is_some()
     }
 
-    // Whether the thread lives, and the last instruction is its own.
-    fn runs(&self, tid: Tid) -> bool
-        ensures { IsTrue result ↔ ((is_among self.now.live tid ≡ true)
-            × (self.now.last ≡ Some tid)) }
+    // Whether the event is of a thread that lives.
+    fn lives_of(&self, e: &Event) -> bool
+        ensures { result ≡ is_of_one (is_among self.now.live) e.now }
     {
-        self.last == Some(tid) && self.lives(tid)
-    }
-
-    // Whether the event may come next, whatever its weight.
-    fn comes_next(&self, e: &Event) -> bool
-        ensures { (past : List Event) → IsOrderOf self.now past
-            → IsTrue result ↔ MayFollow e.now past }
-    {
-        match *e {
-            Event::Step { tid } | Event::End { tid } => self.lives(tid),
-            Event::Read { tid, first, count } | Event::Write { tid, first, count } => {
-                self.runs(tid) && are_words(first, count)
-            }
-            Event::Fill { first, count } => are_words(first, count),
-            Event::Call { tid, .. } | Event::Ret { tid, .. } => self.runs(tid),
-            Event::Start { tid, .. } => self.greatest < tid.number(),
+        match thread_of(e) {
+            Some(tid) => self.lives(tid),
+            None => false,
         }
     }
 
     /// Whether the event may come next: with it the past is still one that a run can have.
     pub fn may_follow(&self, e: &Event) -> bool
-        ensures { (past : List Event) → IsOrderOf self.now past
+        ensures shown { IsTrue result ↔ MayCome self.now e.now }
+        ensures stands { (past : List Event) → IsOrderOf self.now past
             → IsTrue result ↔ IsWellFormed (e.now ∷ past) }
     {
-        self.comes_next(e) && self.weight + weight_of(e) < TRACE_WEIGHT
-    }
-
-    // A step of the thread.
-    fn step(&mut self, tid: Tid)
-        requires { self.old.weight + 1 < TRACE_WEIGHT }
-        ensures { self.new ≡ record self.old { last = Some tid; weight = self.old.weight + 1 } }
-    {
-        self.last = Some(tid);
-        self.weight += 1;
+        self.progress.allows(e, self.lives_of(e))
     }
 
     // A thread starts.
-    fn start(&mut self, tid: Tid) -> Result<(), AllocError>
+    fn start(&mut self, tid: Tid, entry: Addr) -> Result<(), AllocError>
         requires light { self.old.weight + 1 < TRACE_WEIGHT }
         requires above { self.old.greatest < tid }
         ensures ok { OnOk result (self.new ≡ record {
@@ -157,8 +114,7 @@ impl Order {
         ensures err { OnErr result (self.new ≡ self.old) }
     {
         self.live.push(tid)?;
-        self.greatest = tid.number();
-        self.weight += 1;
+        self.progress.pass(&Event::Start { tid, entry });
         Ok(())
     }
 
@@ -174,31 +130,29 @@ impl Order {
         } }
     {
         remove(&mut self.live, tid);
-        self.weight += 1;
+        self.progress.pass(&Event::End { tid });
     }
 
     // Any other event.
     fn pass(&mut self, e: &Event)
-        requires { self.old.weight + weight_of e.now < TRACE_WEIGHT }
-        ensures { self.new ≡ record self.old { weight = self.old.weight + weight_of e.now } }
+        requires light { self.old.weight + weight_of e.now < TRACE_WEIGHT }
+        requires other { is_start e.now ≡ false }
+        ensures live { self.new.live ≡ self.old.live }
+        ensures progress { progress_of self.new ≡ passed e.now (progress_of self.old) }
     {
-        self.weight += weight_of(e);
+        self.progress.pass(e);
     }
 
-    /// Takes the next event. Only a start may want memory; where there is none, all is as before.
+    /// Takes the next event. Only a start may need memory; where there is none, all is as before.
     pub fn add(&mut self, e: Event) -> Result<(), AllocError>
-        requires { MayTake IsOrderOf self.old e }
+        requires { MayCome self.old e }
         ensures added { (past : List Event) → IsOrderOf self.old past
             → OnOk result (IsOrderOf self.new (e ∷ past)) }
         ensures refused { OnErr result (self.new ≡ self.old) }
         ensures no_memory { is_start e ≡ false → IsOk result }
     {
         match e {
-            Event::Step { tid } => {
-                self.step(tid);
-                Ok(())
-            }
-            Event::Start { tid, .. } => self.start(tid),
+            Event::Start { tid, entry } => self.start(tid, entry),
             Event::End { tid } => {
                 self.end(tid);
                 Ok(())
