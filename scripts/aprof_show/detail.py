@@ -9,7 +9,7 @@ from aprof_show.growth import Growth, factor_of, slope_between
 from aprof_show.model import Point
 from aprof_show.rows import Row
 from aprof_show.table import growth_text, projected, share_text
-from aprof_show.terminal import Column, factor_text, percent, plural, short, table
+from aprof_show.terminal import Column, about, factor_text, percent, plural, short, table
 
 
 def detail(row: Row, room: int, place: str | None = None) -> list[str]:
@@ -33,9 +33,9 @@ def growth_lines(row: Row, growth: Growth) -> list[str]:
     most = row.routine.points[-1].size
     return [
         f"growth {growth_text(growth).strip()}, {growth.guess}{weak}",
-        f"all sizes {whole}, the largest {top}, less the least size {least_size(row)} and its cost {net}",
-        f"at size {short(2 * most)} a call would cost about {short(projected(row, 2))}, "
-        f"at {short(10 * most)} about {short(projected(row, 10))}",
+        f"over all sizes {whole}, over the largest {top}, beyond the least size ({least_size(row)}) and its cost {net}",
+        f"a call of size {short(2 * most)} would cost about {about(projected(row, 2))}, "
+        f"one of {short(10 * most)} about {about(projected(row, 10))}",
     ]
 
 

@@ -52,7 +52,7 @@ class Growth:
         for bound, text in GUESSES:
             if self.exponent < bound:
                 return text
-        return "steeper than n³"
+        return "steeper than n^3"
 
 
 GUESSES = (
@@ -60,10 +60,10 @@ GUESSES = (
     (0.85, "less than linear"),
     (1.1, "about linear"),
     (1.3, "about n log n"),
-    (1.75, "between n log n and n²"),
-    (2.25, "about n²"),
-    (2.75, "between n² and n³"),
-    (3.3, "about n³"),
+    (1.75, "between n log n and n^2"),
+    (2.25, "about n^2"),
+    (2.75, "between n^2 and n^3"),
+    (3.3, "about n^3"),
 )
 
 
@@ -147,7 +147,7 @@ def fitted_slope(spots: Sequence[Spot]) -> float | None:
         return None
     fits = [line_through(shifted) for shifted in with_fixed_parts(windows)]
     best = min(error for error, _ in fits)
-    return next(slope for error, slope in fits if error <= 1.05 * best + 0.02)
+    return next(slope for error, slope in fits if error <= 1.05 * best + 0.005)
 
 
 def spread_spots(spots: Sequence[Spot]) -> list[Spot]:

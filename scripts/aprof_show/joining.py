@@ -67,23 +67,22 @@ def add_up(one: Point, other: Point) -> Point:
 
 
 def of_one_image(reports: Sequence[Report]) -> bool:
-    """Whether no address has two names, and no name two addresses but where one report has it at both already."""
+    """Whether no address has two names, and names that several reports have are at one address. A few may be at several: static
+    functions of one name."""
     names: dict[int, str | None] = {}
-    addresses: dict[str, int] = {}
-    twice = {name for report in reports for name in names_twice(report.routines)}
+    places: dict[str, list[set[int]]] = {}
     for report in reports:
+        mine: dict[str, set[int]] = {}
         for routine in report.routines:
             if names.setdefault(routine.entry, routine.name) != routine.name:
                 return False
-            if routine.name and routine.name not in twice:
-                if addresses.setdefault(routine.name, routine.entry) != routine.entry:
-                    return False
-    return True
-
-
-def names_twice(routines: Iterable[Routine]) -> set[str]:
-    counts = Counter(routine.name for routine in routines if routine.name)
-    return {name for name, count in counts.items() if count > 1}
+            if routine.name:
+                mine.setdefault(routine.name, set()).add(routine.entry)
+        for name, entries in mine.items():
+            places.setdefault(name, []).append(entries)
+    shared = [sets for sets in places.values() if len(sets) > 1]
+    differing = sum(not set.intersection(*sets) for sets in shared)
+    return 4 * differing <= len(shared) - differing
 
 
 def keys_of(reports: Sequence[Report]) -> dict[Routine, Key]:

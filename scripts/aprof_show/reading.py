@@ -83,7 +83,8 @@ def read_report(lines: Lines, version: int) -> Report:
     still_open = lines.number_of("open")
     routines = read_routines(lines, version)
     roots = None
-    if version == 2 and not lines.at_end() and lines.next() == "contexts 1":
+    if version == 2 and not lines.at_end() and lines.lines[lines.number] == "contexts 1":
+        lines.next()
         known = {routine.entry: routine for routine in routines}
         roots, contexts = read_contexts(lines, known)
         check_sums(lines, known, contexts)

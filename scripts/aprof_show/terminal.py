@@ -33,16 +33,16 @@ class Column:
 
 
 def table(columns: Sequence[Column], room: int) -> list[str]:
-    """The lines of a table. The last column is of names, which are cut in the middle where the room isn't enough."""
-    widths = [max(len(text) for text in (column.heading, *column.cells)) for column in columns[:-1]]
-    rest = max(room - sum(widths) - len(widths), 16)
+    """The lines of a table. Texts of the last column are cut in the middle where the room isn't enough."""
+    widths = [max(len(text) for text in (column.heading, *column.cells)) for column in columns]
+    rest = max(room - sum(widths[:-1]) - len(widths) + 1, 16)
     lines = []
     for row in range(-1, len(columns[0].cells)):
         texts = [column.heading if row < 0 else column.cells[row] for column in columns]
         aligned = [
             text.ljust(wide) if column.left else text.rjust(wide) for column, wide, text in zip(columns, widths, texts)
         ]
-        lines.append(" ".join([*aligned, cut(texts[-1], rest)]).rstrip())
+        lines.append(" ".join([*aligned[:-1], cut(aligned[-1].rstrip(), rest)]).rstrip())
     return lines
 
 
@@ -62,6 +62,11 @@ def short(number: float) -> str:
         if number >= unit:
             return f"{number / unit:.1f}{name}" if number < 1e21 else f"{number:.0e}"
     return str(round(number))
+
+
+def about(number: float) -> str:
+    """A number in two digits that count."""
+    return short(float(f"{number:.2g}"))
 
 
 def percent(share: float) -> str:

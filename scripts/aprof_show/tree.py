@@ -110,24 +110,34 @@ def callers_of(routine: Routine, roots: Sequence[Context], costs: dict[Context, 
     """The routine, under it its callers, under these theirs: each with the calls of the routine by that way. Costs are those of
     calls that are not nested in another call of it."""
     top = Node(routine)
+    outer: dict[Context, Context | None] = {}
     for context, is_outermost in outermost(roots):
-        if context.routine is not routine:
-            continue
-        link: Context | None = context
-        node = top
-        while True:
-            node.total += costs[context].total if is_outermost else 0
-            node.calls += context.calls
-            node.points = add_points(node.points, context.points)
-            node.open = node.open or costs[context].open
-            link = link.caller if link else None
-            while link and link.routine is node.routine:
-                link = link.caller
-                node.recursive = True
-            if link is None:
-                break
-            node = node.below.setdefault(link.routine, Node(link.routine))
+        caller = context.caller
+        outer[context] = outer[caller] if caller and caller.routine is context.routine else caller
+        if context.routine is routine:
+            add_callers(top, context, costs[context], is_outermost, outer)
     return top
+
+
+def add_callers(
+    top: Node, context: Context, cost: Cost, is_outermost: bool, outer: dict[Context, Context | None]
+) -> None:
+    """Adds the calls of a context to the lines of its callers, up to the outermost one or one that comes a second time. `outer` has
+    the next link that is of another routine."""
+    node, link = top, context
+    seen: set[Routine] = set()
+    while True:
+        node.total += cost.total if is_outermost else 0
+        node.calls += context.calls
+        node.points = add_points(node.points, context.points)
+        node.open = node.open or cost.open
+        node.recursive = node.recursive or outer[link] is not link.caller
+        seen.add(node.routine)
+        above = outer[link]
+        if above is None or above.routine in seen:
+            return
+        link = above
+        node = node.below.setdefault(link.routine, Node(link.routine))
 
 
 def callers_text(profile: Profile, roots: Sequence[Context], routine: Routine, least: float, room: int) -> list[str]:
