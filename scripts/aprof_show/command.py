@@ -44,7 +44,9 @@ class Refused(Exception):
 
 def parser() -> argparse.ArgumentParser:
     form = argparse.RawDescriptionHelpFormatter
-    result = argparse.ArgumentParser(prog="show", description=HELP, epilog=NOTES, formatter_class=form, allow_abbrev=False)
+    result = argparse.ArgumentParser(
+        prog="show", usage="show [options] REPORT... [ROUTINE]", description=HELP, epilog=NOTES, formatter_class=form, allow_abbrev=False
+    )
     add = result.add_argument
     add("words", metavar="REPORT | ROUTINE", nargs="*", help="a file, or a routine's name or address")
     add("--routine", metavar="NAME", action="append", default=[], help="this routine alone; may be repeated")
@@ -98,7 +100,7 @@ def main(arguments: Sequence[str] | None = None) -> int:
     if isinstance(sys.stdout, io.TextIOWrapper):
         sys.stdout.reconfigure(errors="replace")
     try:
-        status = run(parser().parse_args(arguments))
+        status = run(parser().parse_intermixed_args(arguments))
         sys.stdout.flush()
         return status
     except (Refused, BadReport, BadImage, CannotJoin) as error:
@@ -121,8 +123,9 @@ def run(options: argparse.Namespace) -> int:
     if isinstance(reports[0], CacheReport):
         print_lines(cache_text(joined_caches(reports), choice_of(options), width()))
         return 0
+    lines = name_by_image(reports, options.image) if options.image else {}
     profile = joined(reports)
-    lines = describe(profile, options)
+    demangle(profile.routines)
     rows = rows_of(profile)
     if options.against is not None:
         return compare(options, profile, rows, names)
@@ -149,14 +152,12 @@ def joined_caches(reports: Sequence[Report | CacheReport]) -> CacheReport:
     return join_caches(caches)
 
 
-def describe(profile: Profile, options: argparse.Namespace) -> dict[int, str]:
-    """Names the routines as well as it can be done, and gives their files and lines."""
-    lines: dict[int, str] = {}
-    if options.image:
-        name_routines(profile.routines, read_symbols(options.image))
-        lines = lines_of_image(options.image, (routine.entry for routine in profile.routines))
-    demangle(profile.routines)
-    return lines
+def name_by_image(reports: Sequence[Report | CacheReport], image: str) -> dict[int, str]:
+    """Names what has no name, and gives files and lines."""
+    symbols = read_symbols(image)
+    routines = [routine for report in reports if isinstance(report, Report) for routine in report.routines]
+    name_routines(routines, symbols, image)
+    return lines_of_image(image, (routine.entry for routine in routines))
 
 
 def choice_of(options: argparse.Namespace) -> Choice:
@@ -240,8 +241,8 @@ def write_page(path: str, profile: Profile, lines: dict[int, str]) -> None:
 
 def compare(options: argparse.Namespace, new: Profile, new_rows: Sequence[Row], names: Sequence[str]) -> int:
     old = joined([read_file(options.against)])
-    describe(old, options)
-    old_rows: Sequence[Row] = rows_of(old)
+    demangle(old.routines)
+    old_rows = rows_of(old)
     print_lines(against_text(old_rows, new_rows, (old.steps, new.steps), choice_of(options), width()))
     return judge(new_rows, options, names) if options.fail_above is not None else 0
 

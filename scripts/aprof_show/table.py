@@ -9,7 +9,7 @@ from aprof_show.costs import chain_of, chain_text, costs_of, open_ends
 from aprof_show.growth import Growth
 from aprof_show.model import Profile, Routine
 from aprof_show.rows import Row, ordered
-from aprof_show.terminal import Column, factor_text, percent, plural, short, table
+from aprof_show.terminal import Column, cut, factor_text, percent, plural, short, table
 
 WIDE = 112
 """From so many columns on the table has the greatest cost and what it would be at larger sizes."""
@@ -148,9 +148,9 @@ def folded_line(rows: Sequence[Row]) -> str:
     else:
         inner = [row for row in rows if row.routine.name and "start" not in row.routine.name]
         most = max(inner or rows, key=lambda row: row.share)
-        share = f"largest: {most.routine.label} {percent(most.share)}"
+        share = f"largest: {cut(most.routine.label, 24)} {percent(most.share)}"
     steep_text = f"; {steep} superlinear" if steep else ""
-    return f"and {plural(len(rows), 'routine')} of the C library ({share}{steep_text}): --library"
+    return f"and {plural(len(rows), 'C library routine')} ({share}{steep_text}): --library"
 
 
 def hidden_line(rows: Sequence[Row]) -> str:
