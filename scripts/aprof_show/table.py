@@ -15,6 +15,17 @@ WIDE = 112
 """From so many columns on the table has the greatest cost and what it would be at larger sizes."""
 
 
+FAULTS = (
+    "no instruction of RV32IMA",
+    "no code there",
+    "no readable byte",
+    "no writable byte",
+    "a jump to an address that is not aligned",
+    "an atomic operation that is not aligned",
+    "EBREAK",
+)
+
+
 @dataclass(frozen=True)
 class Choice:
     """Which rows to list: at least `least` of all steps, or superlinear; at most `top`."""
@@ -54,9 +65,16 @@ def summary(profile: Profile, rows: Sequence[Row], choice: Choice, room: int) ->
 def head(profile: Profile) -> list[str]:
     ends = Counter(report.end for report in profile.reports)
     texts = [f"end {end}" + (f" ({count})" if len(ends) > 1 else "") for end, count in ends.most_common()]
+    faults = [fault_line(report.end) for report in profile.reports if report.end.startswith("fault")]
     reports = f"{len(profile.reports)} reports, " if len(profile.reports) > 1 else ""
     still_open = f"{profile.still_open} still open"
-    return [f"{reports}{profile.steps} steps, {', '.join(texts)}, {still_open}"]
+    return [f"{reports}{profile.steps} steps, {', '.join(texts)}, {still_open}", *faults]
+
+
+def fault_line(end: str) -> str:
+    """In words what `fault KIND THREAD ADDRESS` says."""
+    _, kind, thread, address = end.split()
+    return f"the fault: {FAULTS[int(kind) - 1]}, thread {thread}, at {address}"
 
 
 def open_lines(profile: Profile) -> list[str]:

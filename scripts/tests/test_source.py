@@ -63,7 +63,7 @@ class Lines(unittest.TestCase):
             subprocess.run([*CLANG, "-o", image, source], check=True, capture_output=True)
             entries = {name: address for address, name in read_symbols(str(image))}
             lines = lines_of_image(str(image), entries.values())
-        self.assertEqual(lines, {entries["f"]: f"{source}:2", entries["_start"]: f"{source}:6"})
+        self.assertEqual(lines, {entries["f"]: f"{source}:1", entries["_start"]: f"{source}:5"})
 
     def test_without_lines(self) -> None:
         self.assertEqual(lines_of_image(str(WORDS), [0x12318]), {})
