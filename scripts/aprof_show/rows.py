@@ -13,7 +13,7 @@ from aprof_show.model import Profile, Routine
 ORDERS = ("growth", "share", "self", "name")
 
 
-@dataclass(frozen=True)
+@dataclass(frozen=True, eq=False)
 class Row:
     """Shares are parts of all steps. `exact` is false where calls nested in one another may have been counted each."""
 
@@ -83,12 +83,13 @@ def ordered(rows: Sequence[Row], by: str | None) -> list[Row]:
 
 
 def by_weight(rows: Sequence[Row]) -> list[Row]:
-    """By weight; of those within a third of the first the innermost before its callers: the one with the most self cost, or,
-    where that isn't known, with the least cost. Routines of one size are last."""
+    """By weight; of those near the first the innermost before its callers: the one with the most self cost, or, where that isn't
+    known, with the least cost. Routines of one size are last."""
     left = sorted((row for row in rows if row.growth), key=lambda row: -row.weight)
     order: list[Row] = []
     while left:
-        group = [row for row in left if row.weight >= left[0].weight * 2 / 3]
+        near = 2 / 3 if left[0].own is None else 1 / 3
+        group = [row for row in left if row.weight >= left[0].weight * near]
         left = left[len(group) :]
         order += sorted(group, key=lambda row: (row.uncertain, -(row.own or 0.0), row.share, -row.routine.entry))
     return order + sorted((row for row in rows if not row.growth), key=lambda row: (-row.share, row.routine.entry))
