@@ -88,7 +88,7 @@ def by_weight(rows: Sequence[Row]) -> list[Row]:
     left = sorted((row for row in rows if row.growth), key=lambda row: -row.weight)
     order: list[Row] = []
     while left:
-        near = 2 / 3 if left[0].own is None else 1 / 3
+        near = 1 / 3 if left[0].superlinear and left[0].own is not None else 2 / 3
         group = [row for row in left if row.weight >= left[0].weight * near]
         left = left[len(group) :]
         order += sorted(group, key=lambda row: (row.uncertain, -(row.own or 0.0), row.share, -row.routine.entry))
