@@ -41,7 +41,7 @@ class Choice:
             return True
         least = 0.01 if self.least is None else self.least
         surely = row.superlinear and not row.uncertain
-        return row.share >= least or self.least is None and (surely or row.superlinear and row.weight >= least)
+        return row.share >= least or self.least is None and (surely or row.superlinear and row.projected_share >= least)
 
 
 def summary(profile: Profile, rows: Sequence[Row], choice: Choice, room: int) -> list[str]:

@@ -37,8 +37,8 @@ def row_of(profile: Profile, name: str) -> Row:
 
 class Order(unittest.TestCase):
     def test_growth_and_share(self) -> None:
-        """A little quadratic routine is before a linear one with much more, and a tiny one is behind it."""
-        profile = profile_of({"linear": lambda n: 400 * n, "square": lambda n: n * n, "tiny": lambda n: n * n // 30})
+        """A little quadratic routine is before a linear one with much more, and one that will never cost anything is behind it."""
+        profile = profile_of({"linear": lambda n: 400 * n, "square": lambda n: n * n, "tiny": lambda n: n * n // 400})
         self.assertEqual(order(profile), ["square", "linear", "tiny", "main"])
 
     def test_the_inner_routine_first(self) -> None:
