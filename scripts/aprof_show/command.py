@@ -56,7 +56,7 @@ def run(options: argparse.Namespace) -> int:
         raise Refused(f"{missing}; `show --help` tells more")
     reports = read_all(paths)
     if isinstance(reports[0], CacheReport):
-        print_lines(cache_text(joined_caches(reports), choice_of(options), width()))
+        print_lines(caches_text(reports, options))
         return 0
     lines = name_by_image(reports, options.image) if options.image else {}
     profile = joined(reports)
@@ -82,11 +82,16 @@ def joined(reports: Sequence[Report | CacheReport]) -> Profile:
     return join(profiles)
 
 
-def joined_caches(reports: Sequence[Report | CacheReport]) -> CacheReport:
+def caches_text(reports: Sequence[Report | CacheReport], options: argparse.Namespace) -> list[str]:
     caches = [report for report in reports if isinstance(report, CacheReport)]
     if len(caches) < len(reports):
         raise CannotJoin("reports of `aprof cache` can't be joined with others")
-    return join_caches(caches)
+    cache = join_caches(caches)
+    routines = [Routine(routine.entry, routine.name) for routine in cache.routines]
+    if options.image:
+        name_routines(routines, read_symbols(options.image), options.image)
+    demangle(routines)
+    return cache_text(cache, choice_of(options), width(), {routine.entry: routine.label for routine in routines})
 
 
 def name_by_image(reports: Sequence[Report | CacheReport], image: str) -> dict[int, str]:

@@ -6,8 +6,8 @@ calls, with what they call), `share` and `self_share` (of all steps; null withou
 null where there is but one size other than 0, and else has `factor` (times the cost where the size doubles), `exponent`, the
 exponents `whole`, `top`, `net` and `fit`, and `weak`, the reason why it is uncertain or null. A point has `size`, `calls`,
 `least`, `most`, `cost`, and `own`, `thread`, `kernel` and `bare`, null in a report of version 1. `contexts`, null without them,
-each stand behind their callers: `routine` and `caller` are places in `routines` and `contexts`, `caller` null for the outermost;
-`total` and `self` are instructions, and the least that is sure where `open` is true.
+stand behind their callers: `routine` and `caller` are places in `routines` and `contexts`, `caller` null for the outermost
+ones; `total` and `self` are instructions, and the least that is sure where `open` is true.
 """
 from __future__ import annotations
 

@@ -112,8 +112,8 @@ def slope_between(first: Spot, last: Spot) -> float:
 
 
 def greatest_by_window(spots: Sequence[Spot], a_doubling: int) -> list[Spot]:
-    """The spot of the greatest cost of each window, sizes rising. Windows are counted down from the largest size, `a_doubling` in a
-    doubling."""
+    """The spot of the greatest cost of each window, sizes rising. Windows are counted down from the largest size, `a_doubling`
+    in a doubling."""
     largest = max(size for size, _ in spots)
     windows: dict[int, Spot] = {}
     for spot in spots:

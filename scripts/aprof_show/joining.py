@@ -129,11 +129,14 @@ def join_contexts(reports: Sequence[Report], joined: dict[Routine, Routine]) -> 
 
 
 def join_caches(reports: Sequence[CacheReport]) -> CacheReport:
-    """Accesses and misses added up, by name, and by address where there is none."""
-    sums: dict[str | int, CacheRoutine] = {}
+    """Accesses and misses added up, by name (routines of one name by their order), and by address where there is none."""
+    sums: dict[tuple[str | int, int], CacheRoutine] = {}
     for report in reports:
+        seen: Counter[str | int] = Counter()
         for routine in report.routines:
-            key = routine.name or routine.entry
+            name = routine.name or routine.entry
+            key = name, seen[name]
+            seen[name] += 1
             there = sums.get(key, CacheRoutine(routine.entry, routine.name, 0, 0))
             sums[key] = CacheRoutine(
                 there.entry, there.name, there.accesses + routine.accesses, there.misses + routine.misses

@@ -24,8 +24,8 @@ def library_routines(reports: Sequence[Report], routines: Sequence[Routine]) -> 
 
 
 def last_of_library(routines: Sequence[Routine], names: frozenset[str]) -> list[tuple[int, str | None]]:
-    """The routines behind the last one that isn't the library's: a program's own objects are linked before it. A routine without a
-    name among them, such as the start of a thread, is the library's too."""
+    """The routines behind the last one that isn't the library's: a program's own objects are linked before it. A routine
+    without a name among them, such as the start of a thread, is the library's too."""
     places: list[tuple[int, str | None]] = []
     for routine in sorted(routines, key=lambda routine: -routine.entry):
         if routine.name is not None and routine.name not in names:

@@ -31,7 +31,12 @@ report or image."""
 def parser() -> argparse.ArgumentParser:
     form = argparse.RawDescriptionHelpFormatter
     result = argparse.ArgumentParser(
-        prog="show", usage="show [options] REPORT... [ROUTINE]", description=HELP, epilog=NOTES, formatter_class=form, allow_abbrev=False
+        prog="show",
+        usage="show [options] REPORT... [ROUTINE]",
+        description=HELP,
+        epilog=NOTES,
+        formatter_class=form,
+        allow_abbrev=False,
     )
     add = result.add_argument
     add("words", metavar="REPORT | ROUTINE", nargs="*", help="a file, or a routine's name or address")

@@ -28,8 +28,8 @@ class Row:
 
     @property
     def weight(self) -> float:
-        """What to look at first: about what it will cost beyond n log n at ten times the size, as a part of all steps, and a little of
-        its share today. What is uncertain counts a tenth, and the less the closer its sizes are."""
+        """What to look at first: about what it will cost beyond n log n at ten times the size, as a part of all steps, and a
+        little of its share today. What is uncertain counts a tenth, and the less the closer its sizes are."""
         if self.growth is None:
             return 0.0
         excess = max(min(self.growth.exponent, 6.0) - math.log2(SUPERLINEAR), 0.0)
@@ -89,8 +89,8 @@ def ordered(rows: Sequence[Row], by: str | None) -> list[Row]:
 
 
 def by_weight(rows: Sequence[Row]) -> list[Row]:
-    """By weight; of those near the first the innermost before its callers: the one with the most self cost, or, where that isn't
-    known, with the least cost. Routines of one size are last."""
+    """By weight; of those near the first the innermost before its callers: the one with the most self cost, or, where that
+    isn't known, with the least cost. Routines of one size are last."""
     left = sorted((row for row in rows if row.growth), key=lambda row: -row.weight)
     order: list[Row] = []
     while left:

@@ -15,8 +15,8 @@ OPEN = "[open at the end]"
 
 
 def folded(profile: Profile, roots: Sequence[Context]) -> Iterator[str]:
-    """A line `outer;inner COST` for each chain with its own cost; a routine that calls itself is in it once. The sum is the steps of
-    the run."""
+    """A line `outer;inner COST` for each chain with its own cost; a routine that calls itself is in it once. The sum is the
+    steps of the run."""
     costs = costs_of(roots)
     below = [("", node) for node in reversed(tree_of(roots, costs).values())]
     while below:

@@ -139,8 +139,8 @@ def growth_text(growth: Growth | None) -> str:
 
 
 def share_text(row: Row) -> str:
-    """With a `+` where a call was open at the end, whose cost isn't known; `<=100%` where the calls nested in one another, which a
-    plain report doesn't tell apart, pass all steps."""
+    """With a `+` where a call was open at the end, whose cost isn't known; `<=100%` where the calls nested in one another,
+    which a plain report doesn't tell apart, pass all steps."""
     return percent(row.share) + "+" * row.open if row.exact else "<=100%"
 
 

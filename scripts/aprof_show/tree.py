@@ -17,8 +17,8 @@ DEEPEST = 24
 
 @dataclass(eq=False)
 class Node:
-    """Contexts that are shown in one line. Direct recursion is one line: a call of a routine by itself adds its own cost and its
-    callees to the line of the outer call."""
+    """Contexts that are shown in one line. Direct recursion is one line: a call of a routine by itself adds its own cost and
+    its callees to the line of the outer call."""
 
     routine: Routine
     total: int = 0
@@ -117,8 +117,8 @@ def indented(line: Line) -> str:
 
 
 def callers_of(routine: Routine, roots: Sequence[Context], costs: dict[Context, Cost]) -> Node:
-    """The routine, under it its callers, under these theirs: each with the calls of the routine by that way. A routine is in a way
-    once, where it comes first from below. Costs are those of calls that are not nested in another call of the routine."""
+    """The routine, under it its callers, under these theirs: each with the calls of the routine by that way. A routine is in
+    a way once, where it comes first from below. Costs are those of calls that are not nested in another call of the routine."""
     top = Node(routine)
     ways: dict[Context, tuple[Routine, ...]] = {}
     same: dict[tuple[Routine, ...], tuple[Routine, ...]] = {}

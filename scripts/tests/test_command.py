@@ -86,13 +86,15 @@ class Statuses(unittest.TestCase):
     def test_the_launcher(self) -> None:
         """From any folder, without a terminal, with a wide one in the environment."""
         for words, status in (([str(ROOT / BUBBLE)], 0), (["nope"], 2), ([str(ROOT / BUBBLE), "--fail-above", "2"], 1)):
-            done = subprocess.run([ROOT / "show", *words], capture_output=True, text=True, cwd="/", env=os.environ | {"COLUMNS": "200"})
+            environment = os.environ | {"COLUMNS": "200"}
+            done = subprocess.run([ROOT / "show", *words], capture_output=True, text=True, cwd="/", env=environment)
             self.assertEqual((done.returncode, "Traceback" in done.stderr), (status, False))
             self.assertLessEqual(max(map(len, done.stdout.splitlines()), default=0), 80)
 
     def test_a_reader_that_stops(self) -> None:
         done = subprocess.run(f"{ROOT}/show --csv {WORDS} | head -n 1", shell=True, capture_output=True, text=True, cwd=ROOT)
-        self.assertEqual((done.stdout, done.stderr), ("routine,entry,size,calls,least,most,cost,own,thread,kernel,bare\n", ""))
+        self.assertEqual(done.stdout, "routine,entry,size,calls,least,most,cost,own,thread,kernel,bare\n")
+        self.assertEqual(done.stderr, "")
 
 
 class Output(unittest.TestCase):
@@ -101,7 +103,8 @@ class Output(unittest.TestCase):
             path = Path(folder, "report")
             name = "std::" + "long_name" * 12 + "::end"
             path.write_text(Run([Call(name, 5, 10)], {name: 0x10000}).text())
-            for words in ([str(path)], [WORDS], [WORDS, "--all", "--library"], [ROUTINES, "insertion_sort", "--plot"], [CACHE]):
+            all_rows, one_routine = [WORDS, "--all", "--library"], [ROUTINES, "insertion_sort", "--plot"]
+            for words in ([str(path)], [WORDS], all_rows, one_routine, [CACHE]):
                 text = show(*words)
                 self.assertLessEqual(max(len(line) for line in text.splitlines() if " at 0" not in line), 80, text)
             self.assertIn("std::long_name", show(str(path)))

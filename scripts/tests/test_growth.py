@@ -97,7 +97,8 @@ class FewPoints(unittest.TestCase):
 
     def test_odd_costs(self) -> None:
         """Costs that fall, that are all the same or that jump give a number all the same."""
-        for spots in ([(1, 9), (2, 8), (3, 1)], [(5, 7), (50, 7), (500, 7), (5000, 7)], [(1, 0), (2, 0)], [(2**63, 1), (2**64 - 1, 2**64)]):
+        falling, level = [(1, 9), (2, 8), (3, 1)], [(5, 7), (50, 7), (500, 7), (5000, 7)]
+        for spots in (falling, level, [(1, 0), (2, 0)], [(2**63, 1), (2**64 - 1, 2**64)]):
             with self.subTest(spots=spots):
                 growth = growth_of([Point(size, 1, cost, cost, cost, None) for size, cost in spots])
                 assert growth

@@ -75,9 +75,9 @@ class Keys(unittest.TestCase):
 
     def test_without_names(self) -> None:
         call = Call("main", calls=[Call("leaf")])
-        self.assertEqual(self.labels(Run([call], ADDRESSES, False), Run([call], ADDRESSES, False)), {"00010000": 2, "00010100": 2})
-        some = Run([call], ADDRESSES, False)
-        self.assertEqual(len(self.joined(some, Run([call], ADDRESSES))), 4)
+        stripped = Run([call], ADDRESSES, False)
+        self.assertEqual(self.labels(stripped, stripped), {"00010000": 2, "00010100": 2})
+        self.assertEqual(len(self.joined(stripped, Run([call], ADDRESSES))), 4)
 
     def test_a_report_without_parts(self) -> None:
         call = Call("main", 3)

@@ -84,7 +84,8 @@ class Reading(unittest.TestCase):
     def test_good_texts(self) -> None:
         for text, kind in ((GOOD, Report), (WITH, Report), (CACHE, CacheReport)):
             self.assertIsInstance(read_text(text.replace("|", "\n")), kind)
-        old = read_text(GOOD.replace("aprof 2", "aprof 1").replace(" 2 0 0 2", "").replace(" 1 2 1 2", "").replace("|", "\n"))
+        first = GOOD.replace("aprof 2", "aprof 1").replace(" 2 0 0 2", "").replace(" 1 2 1 2", "")
+        old = read_text(first.replace("|", "\n"))
         assert isinstance(old, Report)
         self.assertIsNone(old.routines[0].points[0].parts)
 
@@ -97,7 +98,7 @@ class Reading(unittest.TestCase):
 
     def test_stored_reports(self) -> None:
         paths = [*ROOT.glob("rows/*/report"), *ROOT.glob("examples/*/report*.txt"), *ROOT.glob("examples/matrix/*e.txt")]
-        texts = [path for path in paths if path.read_bytes().startswith(b"aprof ") and b"trace" not in path.read_bytes()[:12]]
+        texts = [path for path in paths if path.read_bytes()[:7] in (b"aprof 2", b"aprof c")]
         self.assertGreater(len(texts), 40)
         for path in texts:
             with self.subTest(path=Path(path).parent.name):

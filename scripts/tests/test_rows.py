@@ -21,7 +21,8 @@ def profile_of(curves: dict[str, Callable[[int], int]], rest: int = 0, contexts:
         outer, _, inner = name.partition("/")
         for size in SIZES:
             cost = max(curve(size), 1)
-            calls.append(Call(outer, size, max(cost // 10, 1), [Call(inner, size, cost)]) if inner else Call(outer, size, cost))
+            plain, nested = Call(outer, size, cost), Call(outer, size, max(cost // 10, 1), [Call(inner, size, cost)])
+            calls.append(nested if inner else plain)
     names = ["main", *{part: None for name in curves for part in name.split("/")}]
     addresses = {name: 0x10000 + 16 * place for place, name in enumerate(names)}
     return join([report_of(Run([Call("main", 9, rest + 1, calls)], addresses).text(contexts))])

@@ -44,7 +44,8 @@ class Names(unittest.TestCase):
 
     @unittest.skipUnless(any(shutil.which(command[0]) for command in DEMANGLERS), "no c++filt (binutils or llvm)")
     def test_names_of_other_languages(self) -> None:
-        routines = [Routine(place, name) for place, name in enumerate(("_ZN5store3getEi", "main", "_RNvCs1234_7mycrate3foo", "_Zbad"))]
+        names = ("_ZN5store3getEi", "main", "_RNvCs1234_7mycrate3foo", "_Zbad")
+        routines = [Routine(place, name) for place, name in enumerate(names)]
         demangle(routines)
         self.assertEqual(routines[0].label, "store::get(int)")
         self.assertEqual(routines[1].label, "main")
