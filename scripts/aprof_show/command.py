@@ -38,6 +38,8 @@ def main(arguments: Sequence[str] | None = None) -> int:
         return status
     except (Refused, BadReport, BadImage, CannotJoin) as error:
         print(f"show: {error}", file=sys.stderr)
+    except KeyboardInterrupt:
+        return 130
     except BrokenPipeError:
         os.dup2(os.open(os.devnull, os.O_WRONLY), sys.stdout.fileno())
         return 0
@@ -117,7 +119,7 @@ def show(
     elif options.csv:
         print(csv_text(profile))
     elif options.open:
-        print_lines(open_lines(profile) or ["all calls had returned"])
+        print_lines(open_lines(profile, width()) or ["all calls had returned"])
     elif options.tree or options.callers or options.folded or options.callgrind:
         show_contexts(options, profile, roots_of(profile), lines)
     elif names:

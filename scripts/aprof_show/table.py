@@ -4,6 +4,7 @@ from __future__ import annotations
 from collections import Counter
 from collections.abc import Sequence
 from dataclasses import dataclass
+from textwrap import wrap
 
 from aprof_show.costs import chain_of, chain_text, costs_of, open_ends
 from aprof_show.growth import Growth
@@ -50,7 +51,7 @@ def summary(profile: Profile, rows: Sequence[Row], choice: Choice, room: int) ->
     others = [row for row in rows if not row.library or choice.library]
     listed = ordered([row for row in others if choice.has(row)], choice.by)[: choice.top]
     hidden = len(others) - len(listed)
-    lines = head(profile) + open_lines(profile)
+    lines = head(profile) + open_lines(profile, room)
     if listed:
         lines += table(columns_of(listed, room), room)
     if any(row.growth and row.growth.weak for row in listed):
@@ -77,14 +78,15 @@ def fault_line(end: str) -> str:
     return f"the fault: {FAULTS[int(kind) - 1]}, thread {thread}, at {address}"
 
 
-def open_lines(profile: Profile) -> list[str]:
+def open_lines(profile: Profile, room: int) -> list[str]:
     """Where the program was as the run ended."""
     if not profile.still_open:
         return []
     if profile.roots is None:
         return [f"{plural(profile.still_open, 'call')} had not returned; `aprof contexts` stores which"]
     ends = open_ends(profile.roots, costs_of(profile.roots))
-    lines = [f"open at the end: {chain_text(context)}" for context in ends[:8]]
+    chains = [f"open at the end: {chain_text(context)}" for context in ends[:8]]
+    lines = [line for chain in chains for line in wrap(chain, room, subsequent_indent="    ", break_long_words=False)]
     if len(ends) > 8:
         lines.append(f"and {len(ends) - 8} more chains")
     if any(not link.routine.name and not link.routine.shown for context in ends for link in chain_of(context)):

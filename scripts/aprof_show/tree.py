@@ -99,7 +99,7 @@ def tree_text(profile: Profile, roots: Sequence[Context], least: float, room: in
         Column("CALLS", [short(line.node.calls) for line in lines]),
         Column(" ROUTINE", [" " + indented(line) for line in lines], left=True),
     ]
-    return [*head(profile), *open_lines(profile), *table(columns, room), *notes(lines, f"{percent(least)} of the steps")]
+    return [*head(profile), *open_lines(profile, room), *table(columns, room), *notes(lines, f"{percent(least)} of the steps")]
 
 
 def notes(lines: Sequence[Line], least: str) -> list[str]:

@@ -80,13 +80,13 @@ class OpenAtTheEnd(unittest.TestCase):
     def test_chain(self) -> None:
         profile = profile_of(SPINNING, end="budget")
         spin = f"{ADDRESSES['spin']:08x}"
-        self.assertEqual(open_lines(profile)[0], f"open at the end: {ADDRESSES['main']:08x} > parse > {spin}")
-        self.assertIn("--image IMAGE names", open_lines(profile)[1])
+        self.assertEqual(open_lines(profile, 80)[0], f"open at the end: {ADDRESSES['main']:08x} > parse > {spin}")
+        self.assertIn("--image IMAGE names", open_lines(profile, 80)[1])
 
     def test_more_than_are_sure(self) -> None:
         """A second thread in the same routines is open too, and only the number tells."""
         profile = profile_of(SPINNING, SPINNING, end="deadlock")
-        self.assertEqual(open_lines(profile)[-1], "and 3 more calls, where earlier calls had returned")
+        self.assertEqual(open_lines(profile, 80)[-1], "and 3 more calls, where earlier calls had returned")
 
     def test_long_chains(self) -> None:
         profile = deep(["main"] + ["parse"] * 30_000 + ["leaf"], returned=False)
@@ -96,9 +96,19 @@ class OpenAtTheEnd(unittest.TestCase):
         self.assertLess(len("\n".join(tree_text(profile, roots, 0.01, 80))), 2000)
         self.assertEqual(len(list(folded(profile, roots))), 1)
 
+    def test_lines_are_wrapped(self) -> None:
+        names = [f"a_routine_with_a_long_name_{number}" for number in range(9)]
+        chain = Call(names[-1], open=True)
+        for name in reversed(names[:-1]):
+            chain = Call(name, calls=[Call(name), chain])
+        run = Run([chain, *map(Call, names)], {name: 0x10000 + 16 * place for place, name in enumerate(names)}, end="budget")
+        lines = open_lines(join([report_of(run.text(contexts=True))]), 80)
+        self.assertLessEqual(max(map(len, lines)), 80)
+        self.assertIn(names[-1], lines[4])
+
     def test_plain_report(self) -> None:
         profile = join([report_of(Run([SPINNING], ADDRESSES, end="budget").text())])
-        self.assertEqual(open_lines(profile), ["3 calls had not returned; `aprof contexts` stores which"])
+        self.assertEqual(open_lines(profile, 80), ["3 calls had not returned; `aprof contexts` stores which"])
 
 
 class Trees(unittest.TestCase):
