@@ -73,7 +73,7 @@ def factor_of(exponent: float) -> float:
 
 def growth_of(points: Sequence[Point]) -> Growth | None:
     """The growth of the greatest cost, or None where there is but one size other than 0."""
-    spots = [(float(point.size), float(max(point.most, 1))) for point in points if point.size > 0]
+    spots = list({float(point.size): float(max(point.most, 1)) for point in points if point.size > 0}.items())
     if len(spots) < 2:
         return None
     used = without_smallest(spots)
@@ -174,6 +174,7 @@ def line_through(spots: Sequence[Spot]) -> tuple[float, float]:
     count = len(spots)
     middle = sum(x for x, _ in spots) / count
     height = sum(y for _, y in spots) / count
-    slope = sum((x - middle) * (y - height) for x, y in spots) / sum((x - middle) ** 2 for x, _ in spots)
+    width = sum((x - middle) ** 2 for x, _ in spots)
+    slope = sum((x - middle) * (y - height) for x, y in spots) / width if width else 0.0
     error = sum((y - height - slope * (x - middle)) ** 2 for x, y in spots) / count
     return math.sqrt(error), slope

@@ -98,7 +98,8 @@ class FewPoints(unittest.TestCase):
     def test_odd_costs(self) -> None:
         """Costs that fall, that are all the same or that jump give a number all the same."""
         falling, level = [(1, 9), (2, 8), (3, 1)], [(5, 7), (50, 7), (500, 7), (5000, 7)]
-        for spots in (falling, level, [(1, 0), (2, 0)], [(2**63, 1), (2**64 - 1, 2**64)]):
+        close = [(2**60 + 1000 * n, n + 1) for n in range(6)]
+        for spots in (falling, level, close, [(1, 0), (2, 0)], [(2**63, 1), (2**64 - 1, 2**64)]):
             with self.subTest(spots=spots):
                 growth = growth_of([Point(size, 1, cost, cost, cost, None) for size, cost in spots])
                 assert growth
