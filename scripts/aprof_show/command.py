@@ -1,0 +1,196 @@
+"""What `show` does for a command line."""
+from __future__ import annotations
+
+import argparse
+import io
+import os
+import sys
+from collections.abc import Sequence
+from difflib import get_close_matches
+
+from aprof_show.against import above, above_text, against_text
+from aprof_show.cache import cache_text
+from aprof_show.data import csv_text, json_text
+from aprof_show.detail import detail
+from aprof_show.joining import CannotJoin, join, join_caches
+from aprof_show.model import CacheReport, Context, Profile, Report, Routine
+from aprof_show.options import choice_of, parser
+from aprof_show.plot import plot
+from aprof_show.reading import BadReport, read_file
+from aprof_show.rows import Row, rows_of
+from aprof_show.source import BadImage, demangle, lines_of_image, name_routines, read_symbols
+from aprof_show.stacks import callgrind, folded
+from aprof_show.table import open_lines, summary
+from aprof_show.terminal import width
+from aprof_show.tree import callers_text, tree_text
+
+class Refused(Exception):
+    """The command can't be carried out."""
+
+
+def main(arguments: Sequence[str] | None = None) -> int:
+    """The exit status."""
+    if isinstance(sys.stdout, io.TextIOWrapper):
+        sys.stdout.reconfigure(errors="replace")
+    try:
+        status = run(parser().parse_intermixed_args(arguments))
+        sys.stdout.flush()
+        return status
+    except (Refused, BadReport, BadImage, CannotJoin) as error:
+        print(f"show: {error}", file=sys.stderr)
+    except KeyboardInterrupt:
+        return 130
+    except BrokenPipeError:
+        os.dup2(os.open(os.devnull, os.O_WRONLY), sys.stdout.fileno())
+        return 0
+    except OSError as error:
+        print(f"show: {error.filename}: {error.strerror}", file=sys.stderr)
+    return 2
+
+
+def run(options: argparse.Namespace) -> int:
+    paths = [word for word in options.words if os.path.exists(word)]
+    names = [word for word in options.words if not os.path.exists(word)] + options.routine
+    if options.plot and not names:
+        raise Refused("--plot wants a routine")
+    if not paths:
+        missing = f"no file {names[0]}" if names else "a report is wanted"
+        raise Refused(f"{missing}; `show --help` tells more")
+    reports = read_all(paths)
+    if isinstance(reports[0], CacheReport):
+        print_lines(caches_text(reports, options))
+        return 0
+    lines = name_by_image(reports, options.image) if options.image else {}
+    profile = joined(reports)
+    demangle(profile.routines)
+    rows = rows_of(profile)
+    if options.by == "self":
+        roots_of(profile)
+    if options.against is not None:
+        return compare(options, profile, rows, names)
+    if options.fail_above is not None:
+        return judge(rows, options, names)
+    return show(options, profile, rows, names, lines)
+
+
+def read_all(paths: Sequence[str]) -> list[Report | CacheReport]:
+    return [read_file(path) for path in paths]
+
+
+def joined(reports: Sequence[Report | CacheReport]) -> Profile:
+    profiles = [report for report in reports if isinstance(report, Report)]
+    if len(profiles) < len(reports):
+        raise CannotJoin("reports of `aprof cache` can't be joined with others")
+    return join(profiles)
+
+
+def caches_text(reports: Sequence[Report | CacheReport], options: argparse.Namespace) -> list[str]:
+    caches = [report for report in reports if isinstance(report, CacheReport)]
+    if len(caches) < len(reports):
+        raise CannotJoin("reports of `aprof cache` can't be joined with others")
+    cache = join_caches(caches)
+    routines = [Routine(routine.entry, routine.name) for routine in cache.routines]
+    if options.image:
+        name_routines(routines, read_symbols(options.image), options.image)
+    demangle(routines)
+    return cache_text(cache, choice_of(options), width(), {routine.entry: routine.label for routine in routines})
+
+
+def name_by_image(reports: Sequence[Report | CacheReport], image: str) -> dict[int, str]:
+    """Names what has no name, and gives files and lines."""
+    symbols = read_symbols(image)
+    routines = [routine for report in reports if isinstance(report, Report) for routine in report.routines]
+    name_routines(routines, symbols, image)
+    return lines_of_image(image, (routine.entry for routine in routines))
+
+
+def print_lines(lines: Sequence[str]) -> None:
+    for line in lines:
+        print(line)
+
+
+def show(
+    options: argparse.Namespace, profile: Profile, rows: Sequence[Row], names: Sequence[str], lines: dict[int, str]
+) -> int:
+    if options.page is not None:
+        write_page(options.page, profile, lines)
+    elif options.json:
+        print(json_text(profile, rows))
+    elif options.csv:
+        print(csv_text(profile))
+    elif options.open:
+        print_lines(open_lines(profile, width()) or ["all calls had returned"])
+    elif options.tree or options.callers or options.folded or options.callgrind:
+        show_contexts(options, profile, roots_of(profile), lines)
+    elif names:
+        for name in names:
+            for row in called(rows, name):
+                print_lines(detail(row, width(), lines.get(row.routine.entry)))
+                print_lines(plot(row.routine, width()) if options.plot else [])
+    else:
+        print_lines(summary(profile, rows, choice_of(options), width()))
+    return 0
+
+
+def roots_of(profile: Profile) -> list[Context]:
+    if profile.roots is None:
+        raise Refused("this needs calling contexts, which `aprof contexts` stores in place of `aprof run`")
+    return profile.roots
+
+
+def show_contexts(
+    options: argparse.Namespace, profile: Profile, roots: list[Context], lines: dict[int, str]
+) -> None:
+    least = 0.01 if options.min is None else options.min
+    least = 0.0 if options.all else least
+    if options.folded:
+        print_lines(list(folded(profile, roots)))
+    elif options.callgrind:
+        print_lines(list(callgrind(profile, roots, options.image, lines)))
+    elif options.tree:
+        print_lines(tree_text(profile, roots, least, width()))
+    else:
+        for routine in named(profile.routines, options.callers):
+            print_lines(callers_text(profile, roots, routine, least, width()))
+
+
+def named(routines: Sequence[Routine], name: str) -> list[Routine]:
+    found = [routine for routine in routines if routine.is_called(name)]
+    if not found:
+        near = get_close_matches(name, [routine.label for routine in routines], 1)
+        raise Refused(f"no file and no routine called {name}" + (f"; there is {near[0]}" if near else ""))
+    return found
+
+
+def called(rows: Sequence[Row], name: str) -> list[Row]:
+    wanted = set(named([row.routine for row in rows], name))
+    return [row for row in rows if row.routine in wanted]
+
+
+def write_page(path: str, profile: Profile, lines: dict[int, str]) -> None:
+    try:
+        from aprof_show import page  # type: ignore[attr-defined]
+    except ImportError as error:
+        raise Refused("the page is not there yet") from error
+    try:
+        page.write_page(path, profile, lines or None)
+    except page.MissingPackage as error:
+        raise Refused(str(error)) from error
+
+
+def compare(options: argparse.Namespace, new: Profile, new_rows: Sequence[Row], names: Sequence[str]) -> int:
+    old = joined([read_file(options.against)])
+    demangle(old.routines)
+    old_rows = rows_of(old)
+    print_lines(against_text(old_rows, new_rows, (old.steps, new.steps), choice_of(options), width()))
+    return judge(new_rows, options, names) if options.fail_above is not None else 0
+
+
+def judge(rows: Sequence[Row], options: argparse.Namespace, names: Sequence[str]) -> int:
+    for name in names:
+        called(rows, name)
+    found = above(rows, options.fail_above, names, choice_of(options))
+    print_lines(above_text(found, options.fail_above))
+    return 1 if found else 0
+
+
