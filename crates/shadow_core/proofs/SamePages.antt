@@ -1,15 +1,17 @@
 -- The words that pages hold after an event.
-use Rattle.std.proofs.Common.{◌≡◌, ℕ, Bool, true, false, cond, List, Option, Some, None, refl, sym, ap, ◌∙◌, arith}
+use Rattle.std.proofs.Common.{◌≡◌, ℕ, Bool, true, false, cond, List, [], Option, Some, None, refl, sym, ap, subst, ◌∙◌, arith}
 use Rattle.std.specs.Prelude.{is_some, ◌==◌}
 use Rattle.std.specs.Option.{option_map_or}
 use Rattle.std.proofs.lemmas.Bool.Decides.{nat_tests}
-use Rattle.guest_words.specs.ByThread.{value_of, with_value}
+use Rattle.guest_words.specs.ByThread.{numbers, value_of, with_value}
 use Rattle.guest_words.proofs.ThreadTables.{value_of-with}
 use Rattle.shadow_stack.specs.Frames.{Frame}
 use Rattle.shadow_pages.specs.Pages.{Page, covers}
 use Rattle.stamp_renumber.specs.Threads.{Live, Stamped, pages_of, stamped}
+use Rattle.shadow_core.specs.Applying.{HasSamePages}
 use Rattle.shadow_core.specs.Profiling.{Clock, IsAdvanced}
 use Rattle.shadow_core.specs.Reading.{IsChanged}
+use Rattle.shadow_core.specs.State.{State}
 use Rattle.shadow_core.proofs.Profiled.{there_too}
 
 -- the threads' pages hold the same words
@@ -38,6 +40,14 @@ pub changed_alike : (old new : Live) (t : ℕ) (frames : List Frame) (pages : Li
 changed_alike old new t frames pages lives changed alike u w =
     ap (λ xs. covers (pages_of xs u) w) changed.threads ∙ with_alike old.threads t (stamped new.threads t frames pages) lives alike u w
 
+-- a thread that is not in one of two lists of the same threads is not in the other
+pub none_by : {A B : Type 0} (old : List (ℕ × A)) (new : List (ℕ × B)) → numbers new ≡ numbers old → (t : ℕ) → value_of old t ≡ None → value_of new t ≡ None
+none_by {A} {B} old new same t here = by (value_of new t) refl
+  where
+    by : (o : Option B) → value_of new t ≡ o → value_of new t ≡ None
+    by None there = there
+    by (Some is) there = absurd (let was = there_too new old (sym same) t (ap is_some there) in let e = sym was.1 ∙ here in cc e)
+
 -- the counter ticked
 pub advanced_alike : (most : ℕ) (ticks : Bool) (old new : Clock) → IsAdvanced most ticks old new → AlikeIn old.live.threads new.live.threads
 advanced_alike most ticks old new advanced t w = found (value_of old.live.threads t) refl
@@ -45,14 +55,12 @@ advanced_alike most ticks old new advanced t w = found (value_of old.live.thread
     shown : Option Stamped → Bool
     shown o = covers (option_map_or (λ (s : Stamped). s.pages) o []) w
 
-    none : (o : Option Stamped) → value_of new.live.threads t ≡ o → value_of old.live.threads t ≡ None → value_of new.live.threads t ≡ None
-    none None there here = there
-    none (Some is) there here =
-        let was = there_too new.live.threads old.live.threads (sym advanced.same) t (ap is_some there) in
-        absurd (let e = sym was.1 ∙ here in cc e)
-
     found : (o : Option Stamped) → value_of old.live.threads t ≡ o → covers (pages_of new.live.threads t) w ≡ covers (pages_of old.live.threads t) w
-    found None here = ap shown (none (value_of new.live.threads t) refl here) ∙ sym (ap shown here)
+    found None here = ap shown (none_by old.live.threads new.live.threads advanced.same t here) ∙ sym (ap shown here)
     found (Some was) here =
         let is = advanced.each t was here in
         ap shown is.1 ∙ is.2.covered w ∙ sym (ap shown here)
+
+-- the state before, as it is viewed
+pub seen_same : {old was new : State} → old ≡ was → HasSamePages old new → HasSamePages was new
+seen_same {new = new} is same = subst (λ (k : State). HasSamePages k new) is same

@@ -1,11 +1,12 @@
-use Rattle.std.proofs.Common.{◌≡◌, ◌∙◌, ℕ, ap, cond}
+use Rattle.std.proofs.Common.{◌≡◌, ◌∙◌, ℕ, ap, cond, subst, sym, true}
 use Rattle.trace_model.specs.declared.event_kinds.Event.TheVariants.{Fill}
-use Rattle.shadow_pages.specs.Pages.{in_range, stamp_at}
+use Rattle.shadow_pages.specs.Pages.{AreCovered, covers, in_range, stamp_at}
 use Rattle.shadow_core.specs.Renewal.{bounded_tick}
 use Rattle.shadow_core.specs.State.{State, table_of_state}
 use Rattle.shadow_core.specs.Ticks.{table_after}
 use Rattle.shadow_core.proofs.Accessed.{filled}
 use Rattle.shadow_core.proofs.Profiled.{advance_here}
+use Rattle.shadow_core.proofs.SamePages.{advanced_alike, seen_same}
 use Rattle.shadow_core.proofs.profiler.Profiler.fill.Goals as goal
 
 pub advance-requires-clause-within : goal.advance-requires-clause-within
@@ -32,3 +33,12 @@ returns-clause-table g c =
     (λ w. c.fill.ensures.writes.stamps w ∙ ap (λ (n : ℕ). cond (in_range first count w) n (stamp_at c.advance.new.writes.pages w)) number)
     c.fill.ensures.marks.stamps
     ∙ ap (λ (k : State). table_after (bounded_tick g.S.Stamp.MAX) (Fill first count) (table_of_state k)) c.self.view_is
+
+pub returns-clause-pages : goal.returns-clause-pages
+returns-clause-pages g c = λ all.
+    let same = c.cover.ensures.same (subst (λ (k : State). AreCovered k.writes c.args.first c.args.count) (sym c.self.view_is) all) in
+    seen_same c.self.view_is (record {
+      writes = λ w. c.fill.ensures.writes.covered w ∙ c.advance.ensures.covered w ∙ ap (λ ps. covers ps w) same.0;
+      marks = λ w. c.fill.ensures.marks.covered w ∙ ap (λ ps. covers ps w) same.1;
+      accesses = advanced_alike g.S.Stamp.MAX true _ _ c.advance.ensures;
+    })

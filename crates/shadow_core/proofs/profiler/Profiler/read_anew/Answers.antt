@@ -1,14 +1,16 @@
-use Rattle.std.proofs.Common.{◌≡◌, ◌≤◌, ◌∙◌, ap, sym, arith}
+use Rattle.std.proofs.Common.{◌≡◌, ◌≤◌, ◌∙◌, ap, refl, subst, sym, arith}
 use Rattle.std.specs.Option.{option_copied_mut}
 use Rattle.trace_model.specs.declared.event_kinds.Event.TheVariants.{Read}
-use Rattle.shadow_pages.specs.Pages.{stamp_at}
+use Rattle.shadow_pages.specs.Pages.{AreCovered, covers, stamp_at}
 use Rattle.stamp_lanes.specs.Plain.{is_by_kernel, is_by_thread}
 use Rattle.stamp_renumber.specs.Threads.{pages_of}
-use Rattle.shadow_core.specs.State.{table_of_state}
+use Rattle.shadow_core.specs.State.{State, table_of_state}
 use Rattle.shadow_core.proofs.Accessed.{own_room, whole_changed}
 use Rattle.shadow_core.proofs.PartReads.{count_few}
 use Rattle.shadow_core.proofs.Profiled.{advance_here, alive_here, found, lives_here, on_err}
 use Rattle.shadow_core.proofs.ReadEvents.{found_fits, may_read_there, read_whole, whole_read}
+use Rattle.shadow_core.proofs.Reading.{lives_changed}
+use Rattle.shadow_core.proofs.SamePages.{changed_alike, seen_same}
 use Rattle.shadow_core.proofs.profiler.Profiler.read_anew.Goals as goal
 
 pub cover_own-requires-clause-lives : goal.cover_own-requires-clause-lives
@@ -86,3 +88,21 @@ returns-clause-table g c =
     read_whole g.S.Stamp.MAX c.args.tid c.args.first c.args.count _ _ c.cover_own.new.threads c.self.view_is c.requires c.self.invariant c.in_ok-cover_own.ensures.changed c.in_ok-cover_own.ensures.stamps
     c.read-found.new.threads c.read-found.result.thread c.read-found.result.kernel _ c.read-found.ensures.read c.unwrap-calls.result.now c.add_found.new.self _
     (sym c.get_mut.ensures.found ∙ ap option_copied_mut c.unwrap-calls.ensures) number c.read-found.ensures.thread c.read-found.ensures.kernel c.add_found.ensures (omega (arith, c.from.ensures))
+
+pub returns-clause-pages : goal.returns-clause-pages
+returns-clause-pages g c = λ own.
+    let t = c.args.tid in
+    let a = alive_here g.S.Stamp.MAX (Read t c.args.first c.args.count) t _ _ c.self.view_is c.requires c.self.invariant c.requires.formed.0.0.0 in
+    let lives = lives_here _ t a in
+    let old = c.self.inside.threads in
+    let mid = c.cover_own.new.threads in
+    let roomy = c.in_ok-cover_own.ensures.changed in
+    let kept = c.in_ok-cover_own.ensures.same (subst (λ (k : State). AreCovered (pages_of k.live.threads t) c.args.first c.args.count) (sym c.self.view_is) own) in
+    let read = c.read-found.ensures.read in
+    seen_same c.self.view_is (record {
+      writes = λ w. refl;
+      marks = λ w. refl;
+      accesses = λ u w.
+          changed_alike mid c.read-found.new.threads t _ _ (lives_changed old mid t _ _ lives roomy) read.changed read.covered u w
+          ∙ changed_alike old mid t _ _ lives roomy (λ v. ap (λ ps. covers ps v) kept) u w;
+    })

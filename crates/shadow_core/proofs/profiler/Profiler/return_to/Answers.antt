@@ -1,4 +1,4 @@
-use Rattle.std.proofs.Common.{◌≡◌, ◌∙◌, ◌++◌, Some, [], Option, ap, arith, length, map, sym}
+use Rattle.std.proofs.Common.{◌≡◌, ◌∙◌, ◌++◌, Some, [], Option, ap, arith, length, map, refl, subst, sym}
 use Rattle.std.specs.Prelude.{is_some}
 use Rattle.std.specs.Option.{option_copied, option_copied_mut, option_map_or}
 use Rattle.guest_words.specs.ByThread.{value_of}
@@ -11,6 +11,9 @@ use Rattle.shadow_core.specs.Table.{OpenCall, no_counts}
 use Rattle.shadow_core.specs.Ticks.{table_after}
 use Rattle.shadow_core.proofs.Ended.{found_there, may_end, recorded, returned, whole_returned}
 use Rattle.shadow_core.proofs.Profiled.{alive_here}
+use Rattle.shadow_pages.specs.Pages.{covers}
+use Rattle.stamp_renumber.specs.Threads.{pages_of}
+use Rattle.shadow_core.proofs.SamePages.{with_alike, seen_same}
 use Rattle.shadow_core.proofs.profiler.Profiler.return_to.Goals as goal
 
 pub unwrap-requires : goal.unwrap-requires
@@ -97,3 +100,14 @@ returns-in_err-reserve-clause-no_memory g c = λ fits.
     ap (λ (o : Option Calls). option_map_or (λ (k : Calls). k) o (record { list = []; counts = no_counts })) one in
     let same = ap (λ (k : Calls). count_returned c.args.target (map (λ (o : OpenCall). o.back) k.list)) own in
     absurd (omega (arith, fits, c.in_err-reserve.ensures.full, c.ending-ended.ensures.count, same))
+
+pub returns-clause-pages : goal.returns-clause-pages
+returns-clause-pages g c =
+    let t = c.args.tid in
+    let two : value_of c.self.inside.calls.list t ≡ Some c.unwrap-calls.result.now = sym c.get_mut.ensures.found ∙ ap option_copied_mut c.unwrap-calls.ensures in
+    let may = may_end g.S.Stamp.MAX t (Ret t c.args.target) _ _ c.unwrap-calls.result.now c.self.view_is c.requires c.self.invariant c.requires.formed.0.0 two in
+    seen_same c.self.view_is (record {
+      writes = λ w. refl;
+      marks = λ w. refl;
+      accesses = λ u w. ap (λ xs. covers (pages_of xs u) w) c.end_calls.ensures.threads ∙ with_alike c.self.inside.threads.threads t _ (ap is_some may.has.stamps) (λ v. refl) u w;
+    })

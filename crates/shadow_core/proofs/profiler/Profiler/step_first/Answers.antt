@@ -1,4 +1,4 @@
-use Rattle.std.proofs.Common.{◌∙◌, ap, sym, subst}
+use Rattle.std.proofs.Common.{◌∙◌, ap, refl, sym, subst}
 use Rattle.std.specs.Option.{option_copied_mut}
 use Rattle.trace_model.specs.declared.event_kinds.Event.TheVariants.{Step}
 use Rattle.trace_model.specs.Observing.{MayTake}
@@ -7,6 +7,7 @@ use Rattle.shadow_core.specs.Renewal.{bounded_tick}
 use Rattle.shadow_core.specs.Ticks.{table_after}
 use Rattle.shadow_core.specs.Profiling.{StandsFor}
 use Rattle.shadow_core.proofs.Profiled.{may_advance, alive_for_step, found, step_fits, stepped, whole_after}
+use Rattle.shadow_core.proofs.SamePages.{advanced_alike, seen_same}
 use Rattle.shadow_core.proofs.profiler.Profiler.step_first.Goals as goal
 
 pub advance-requires-clause-within : goal.advance-requires-clause-within
@@ -48,3 +49,10 @@ returns-clause-table g c =
     stepped g.S.Stamp.MAX c.args.tid c.is_switch.result _ c.unwrap.result.now c.add_step.new.self _ may c.self.invariant
     (sym c.get_mut.ensures.found ∙ ap option_copied_mut c.unwrap.ensures) c.is_switch.ensures c.advance.ensures c.add_step.ensures
     ∙ ap (λ (k : State). table_after (bounded_tick g.S.Stamp.MAX) (Step c.args.tid) (table_of_state k)) c.self.view_is
+
+pub returns-clause-pages : goal.returns-clause-pages
+returns-clause-pages g c = seen_same c.self.view_is (record {
+  writes = c.advance.ensures.covered;
+  marks = λ w. refl;
+  accesses = advanced_alike g.S.Stamp.MAX c.is_switch.result _ _ c.advance.ensures;
+})

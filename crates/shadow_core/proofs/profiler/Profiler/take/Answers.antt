@@ -21,3 +21,16 @@ returns-in-Ret-clause-no_memory g c = λ needs.
     let r = c.in-Ret in
     c.return_to.ensures.no_memory
     (returned_fits g.S.Stamp.MAX r.tid r.target (vec_len c.args.done.now) (vec_capacity c.args.done.now) c.args.e c.args.self.now r.is c.requires needs)
+
+pub returns-in-Read-clause-pages : goal.returns-in-Read-clause-pages
+returns-in-Read-clause-pages g c = λ needs.
+    let r = c.in-Read in
+    c.read.ensures.pages (read_covered c.args.self.now c.args.e r.tid r.first r.count (vec_len c.args.done.now) (vec_capacity c.args.done.now) r.is needs)
+
+pub returns-in-Write-clause-pages : goal.returns-in-Write-clause-pages
+returns-in-Write-clause-pages g c = λ needs.
+    let w = c.in-Write in
+    let held = vec_len c.args.done.now in
+    let capacity = vec_capacity c.args.done.now in
+    c.write.ensures.pages (own_written c.args.self.now c.args.e w.tid w.first w.count held capacity w.is needs)
+    (all_written c.args.self.now c.args.e w.tid w.first w.count held capacity w.is needs)

@@ -1,12 +1,14 @@
-use Rattle.std.proofs.Common.{◌≡◌, ◌∙◌, ℕ, ap, cond, sym}
+use Rattle.std.proofs.Common.{◌≡◌, ◌∙◌, ℕ, ap, cond, subst, sym}
 use Rattle.trace_model.specs.declared.event_kinds.Event.TheVariants.{Write}
-use Rattle.shadow_pages.specs.Pages.{in_range, stamp_at}
+use Rattle.shadow_pages.specs.Pages.{AreCovered, covers, in_range, stamp_at}
 use Rattle.stamp_renumber.specs.Threads.{pages_of}
 use Rattle.shadow_core.specs.Renewal.{bounded_tick}
 use Rattle.shadow_core.specs.State.{State, table_of_state}
 use Rattle.shadow_core.specs.Ticks.{table_after}
 use Rattle.shadow_core.proofs.Accessed.{all_room, own_room, whole_changed, written}
 use Rattle.shadow_core.proofs.Profiled.{advance_here, alive_here, lives_here, on_err}
+use Rattle.shadow_core.proofs.Reading.{lives_changed}
+use Rattle.shadow_core.proofs.SamePages.{changed_alike, seen_same}
 use Rattle.shadow_core.proofs.profiler.Profiler.write_anew.Goals as goal
 
 pub cover_own-requires-clause-lives : goal.cover_own-requires-clause-lives
@@ -68,3 +70,23 @@ returns-clause-table g c =
     (λ w. c.write.ensures.writes.stamps w ∙ ap (λ (n : ℕ). cond (in_range first count w) n (stamp_at c.cover.new.writes.pages w)) number)
     c.write.ensures.marks.stamps
     ∙ ap (λ (k : State). table_after (bounded_tick g.S.Stamp.MAX) (Write t first count) (table_of_state k)) c.self.view_is
+
+pub returns-clause-pages : goal.returns-clause-pages
+returns-clause-pages g c = λ own all.
+    let first = c.args.first in
+    let count = c.args.count in
+    let t = c.args.tid in
+    let a = alive_here g.S.Stamp.MAX (Write t first count) t _ _ c.self.view_is c.requires c.self.invariant c.requires.formed.0.0.0 in
+    let lives = lives_here _ t a in
+    let old = c.self.inside.threads in
+    let mid = c.cover_own.new.threads in
+    let roomy = c.in_ok-cover_own.ensures.changed in
+    let kept = c.in_ok-cover_own.ensures.same (subst (λ (k : State). AreCovered (pages_of k.live.threads t) first count) (sym c.self.view_is) own) in
+    let same = c.in_ok-cover.ensures.same (subst (λ (k : State). AreCovered k.writes first count) (sym c.self.view_is) all) in
+    seen_same c.self.view_is (record {
+      writes = λ w. c.write.ensures.writes.covered w ∙ ap (λ ps. covers ps w) same.0;
+      marks = λ w. c.write.ensures.marks.covered w ∙ ap (λ ps. covers ps w) same.1;
+      accesses = λ u w.
+          changed_alike mid c.write.new.threads t _ _ (lives_changed old mid t _ _ lives roomy) c.write.ensures.changed c.write.ensures.access.covered u w
+          ∙ changed_alike old mid t _ _ lives roomy (λ v. ap (λ ps. covers ps v) kept) u w;
+    })
