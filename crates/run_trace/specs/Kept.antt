@@ -5,7 +5,7 @@ use Rattle.cost_points.specs.Keys.{insert_rising}
 use Rattle.call_tracker.specs.CallStacks.{StandsFor, Stacks}
 use Rattle.stamps.specs.declared.width.StampBits.TheVariants.{B32}
 use Rattle.stamps.specs.Widths.{greatest}
-use Rattle.trace_file.specs.TraceText.{IsTextOf, event_records, text_of}
+use Rattle.trace_file.specs.TraceText.{IsTextOf, Writing, event_records, text_of}
 use Rattle.trace_model.specs.declared.event_kinds.Event.{Event}
 use Rattle.trace_model.specs.Depth.{is_within}
 use Rattle.trace_model.specs.WellFormed.{IsWellFormed}
@@ -15,7 +15,7 @@ use Rattle.guest_words.specs.declared.limits.TheConstants.{TRACE_BYTES}
 -- The text as far as it is written, and the newest event, if its record is still to come; the entries, rising, and one that is
 -- still to come among them.
 pub record Written : Type 0 where
-  pub text : List ℕ
+  pub text : Writing
   pub next : Option Event
   pub entries : List ℕ
   pub entry : Option ℕ
@@ -66,7 +66,7 @@ pub record IsTraceOfFormed (kept : Kept) : Type 0 where
 -- nothing is still to come, and the text is no longer than the limit
 abbrev pub AreSettled : Option Written → Type 0
 AreSettled None = Unit {0}
-AreSettled (Some w) = (w.next ≡ None) × (w.entry ≡ None) × (length w.text ≤ TRACE_BYTES)
+AreSettled (Some w) = (w.next ≡ None) × (w.entry ≡ None) × (length w.text.text ≤ TRACE_BYTES)
 
 abbrev pub IsSettled : Kept → Type 0
 IsSettled kept = AreSettled kept.written

@@ -81,7 +81,7 @@ impl RunTrace {
         ensures text { IfOk result (λ found. (past : List Event) → IsTraceOf self past
             → MatchOption found (IsTooLong past) (λ text. IsTextOf text.writer past × (text.entries.keys ≡ entries_begun past))) }
         ensures within { IfOk result (λ found. IfSome found
-            (λ text. length text.writer ≤ TRACE_BYTES)) }
+            (λ text. length text.writer.text ≤ TRACE_BYTES)) }
         ensures no_memory { IsSettled self → IsOk result }
     {
         let mut trace = self;

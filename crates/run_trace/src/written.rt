@@ -100,7 +100,7 @@ impl Written {
 
     /// How long the text is so far.
     pub(crate) fn length(&self) -> u64
-        ensures { result ≡ length self.now.text }
+        ensures { result ≡ length self.now.text.text }
     {
         self.text.writer.length()
     }

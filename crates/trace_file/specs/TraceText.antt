@@ -4,6 +4,7 @@ use Rattle.std.specs.List.{flat_map, AllByRecursion}
 use Rattle.guest_words.specs.declared.endings.Finish.{Finish}
 use Rattle.trace_model.specs.declared.event_kinds.Event.{Event}
 use Rattle.trace_model.specs.WellFormed.{IsWellFormed}
+use Rattle.trace_order.specs.Order.{IsOrderOf, OrderState}
 use Rattle.trace_file.specs.declared.records.Record.{Record}
 use Rattle.trace_file.specs.declared.records.Record.TheVariants.{OfEvent, OfName, OfFinish}
 use Rattle.trace_file.specs.Records.{Fits, record_bytes}
@@ -69,7 +70,13 @@ pub record IsTrace (bytes : List ℕ) (past : List Event) (names : Names) (f : F
   pub told : IsTold (whole past names f)
   pub text : bytes ≡ trace_text past names f
 
+-- What is kept of a text that is being written: its bytes, and the order of its events.
+pub record Writing : Type 0 where
+  pub text : List ℕ
+  pub order : OrderState
+
 -- The bytes are the line and the records of these events.
-pub record IsTextOf (bytes : List ℕ) (past : List Event) : Type 0 where
+pub record IsTextOf (w : Writing) (past : List Event) : Type 0 where
   pub fits : AllByRecursion Fits (event_records past)
-  pub text : bytes ≡ text_of (event_records past)
+  pub text : w.text ≡ text_of (event_records past)
+  pub order : IsOrderOf w.order past

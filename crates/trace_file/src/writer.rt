@@ -1,10 +1,11 @@
 //! Writing a trace.
-ghost use Rattle.std.specs.Prelude.{◌≡◌, ◌≤◌, ◌++◌, ◌∷◌, [], ℕ, List, length, OnErr, OnOk, IfOk};
+ghost use Rattle.std.specs.Prelude.{◌≡◌, ◌↔◌, ◌≤◌, ◌++◌, ◌∷◌, [], ℕ, List, true, length, OnErr, OnOk, IfOk, IsTrue};
 ghost use Rattle.std.specs.List.{flat_map, AllByRecursion};
 ghost use Rattle.guest_words.specs.declared.endings.Finish.TheVariants as ends;
 ghost use Rattle.trace_model.specs.declared.event_kinds.Event.{Event};
-ghost use Rattle.trace_model.specs.Observing.{MayTake};
+ghost use Rattle.trace_model.specs.Observing.{Observes, StandsAsBefore};
 ghost use Rattle.trace_model.specs.WellFormed.{IsWellFormed};
+ghost use Rattle.trace_order.specs.Order.{MayCome};
 ghost use Rattle.trace_file.specs.declared.records.Record.TheVariants.{OfEvent, OfName, OfFinish};
 ghost use Rattle.trace_file.specs.Records.{Fits, joined, kind_number, number_bytes, record_bytes};
 ghost use Rattle.trace_file.specs.Kept.{KeepsOn};
@@ -15,20 +16,22 @@ use guest_words::{Addr, FaultKind, Finish, Name};
 use std::alloc::{AllocError, Global};
 use std::marker::Model;
 use trace_model::{Event, Observed, Observer};
+use trace_order::Order;
 
-/// The text of a trace as far as it is written: the line that it begins with, and the records of the events so far.
-/// Contracts see its bytes.
+/// The text of a trace as far as it is written: the line that it begins with, and the records of the events so far. It knows
+/// their order, so it tells itself which event may come next.
 #[derive(Drop)]
 pub struct TraceWriter {
     text: Vec<u8>,
+    order: Order,
 }
 
 impl Model for TraceWriter {
-    ghost use Rattle.std.specs.Prelude.{ℕ, List};
+    ghost use Rattle.trace_file.specs.TraceText.{Writing};
 
-    ghost Value = { List ℕ };
+    ghost Value = { Writing };
 
-    ghost view = { λ w. w.text.items };
+    ghost view = { λ w. record { text = w.text.items; order = w.order } };
 }
 
 /// Appends a number.
@@ -181,22 +184,39 @@ impl TraceWriter {
     {
         Ok(TraceWriter {
             text: Vec::from_slice(alloc, &MAGIC)?,
+            order: Order::new(alloc)?,
         })
+    }
+
+    /// Whether the event may come next: with it the past is still one that a run can have.
+    pub fn may_follow(&self, e: &Event) -> bool
+        ensures shown { IsTrue result ↔ MayCome self.now.order e.now }
+        ensures stands { (past : List Event) → IsTextOf self.now past
+            → IsTrue result ↔ IsWellFormed (e.now ∷ past) }
+    {
+        self.order.may_follow(e)
     }
 
     /// Writes the next event. A refusal changes nothing.
     pub fn push(&mut self, e: Event) -> Result<(), AllocError>
-        requires { MayTake IsTextOf self.old e }
+        requires { MayCome self.old.order e }
         ensures added { (past : List Event) → IsTextOf self.old past
             → OnOk result (IsTextOf self.new (e ∷ past)) }
         ensures refused { OnErr result (self.new ≡ self.old) }
     {
-        push_event(&mut self.text, e)
+        let before = self.text.len();
+        let event = &e;
+        push_event(&mut self.text, *event)?;
+        let added = self.order.add(*event);
+        if added.is_err() {
+            self.text.truncate(before);
+        }
+        added
     }
 
     /// How many bytes the text has so far: those of the line, and of the records of the events.
     pub fn length(&self) -> u64
-        ensures { result ≡ length self.now }
+        ensures { result ≡ length self.now.text }
     {
         self.text.len() as u64
     }
@@ -228,7 +248,11 @@ impl Observer for TraceWriter {
 
     ghost fits_closed = { λ w e past fits. refl };
 
-    fn observe(&mut self, e: Event) -> Result<Observed, AllocError> {
+    fn observe(&mut self, e: Event) -> Result<Observed, AllocError>
+        requires { MayCome self.old.order e }
+        ensures observed { IfOk result (Observes IsTextOf (λ past. true) e self.old self.new) }
+        ensures refused { OnErr result (StandsAsBefore IsTextOf self.old self.new) }
+    {
         self.push(e)?;
         Ok(Observed::Taken)
     }
