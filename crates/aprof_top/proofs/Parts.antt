@@ -162,13 +162,13 @@ module _ (words : List (List ℕ)) (before after : Outside) (mid : SinkState) wh
 
     pub part_on_err : FailsOnErr outcome before between → LeavesPart outcome text before after
     part_on_err fails =
-      let came = some_and_more 2 (err_of outcome) before.err mid fails.earlier fails.bytes fails.err (first_put-more 2 fails.err.count outcome.writes fails.earlier fails.later fails.bytes refl fails.are) in
-      record {
-      out = some_put 1 before.out after.out fails.earlier ((2, fails.bytes) ∷ fails.later) fails.are fails.out;
-      err = part_of_err came.0 came.1;
-      files = inl (0, unstored fails.files);
-      output_first = inr (unstored fails.files);
-    }
+        let came = some_and_more 2 (err_of outcome) before.err mid fails.earlier fails.bytes fails.err (first_put-more 2 fails.err.count outcome.writes fails.earlier fails.later fails.bytes refl fails.are) in
+        record {
+          out = some_put 1 before.out after.out fails.earlier ((2, fails.bytes) ∷ fails.later) fails.are fails.out;
+          err = part_of_err came.0 came.1;
+          files = inl (0, unstored fails.files);
+          output_first = inr (unstored fails.files);
+        }
 
     -- some of the statistics came
     pub stats_came : (fails : FailsAtStats outcome before between) → mid.bytes ≡ append_known before.err.bytes ((err_of outcome) ++ take fails.err.count outcome.stats)

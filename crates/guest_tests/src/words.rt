@@ -58,7 +58,11 @@ fn a_list_of_threads_keeps_their_order(rt: HostRuntime) {
     assert_eq!(rt; ready.len(), 3);
     for (place, number, can) in [(0usize, 1u32, false), (1, 5, true), (2, 4194303, false)] {
         assert!(rt; place < ready.len());
-        assert_eq!(rt; ready.at(place), (Tid::new(number).unwrap(), can), "place {place}");
+        assert_eq!(rt;
+            ready.at(place),
+            (Tid::new(number).unwrap(), can),
+            "place {place}"
+        );
     }
 }
 
@@ -68,7 +72,10 @@ fn a_name_is_visible_bytes_and_no_dash(rt: HostRuntime) -> Result<(), Fail> {
     let start = Name::new(alloc, b"_start")?;
     assert_eq!(rt; start.copy(alloc)?.bytes(), b"_start".as_slice());
     for bad in [b"-".as_slice(), b"", b"a b"] {
-        assert!(rt; matches!(Name::new(alloc, bad), Err(NameError::Bad)), "{bad:?}");
+        assert!(rt;
+            matches!(Name::new(alloc, bad), Err(NameError::Bad)),
+            "{bad:?}"
+        );
     }
     Ok(())
 }

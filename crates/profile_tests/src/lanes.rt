@@ -101,9 +101,18 @@ fn classes_are_the_plain_ones(rt: HostRuntime) {
     for n in &LENGTHS {
         let n = (*n).min(1024);
         let (mut in_bytes, mut in_halves, mut in_words) = ([0; 1024], [0; 1024], [0; 1024]);
-        assert!(rt; finds_classes(&byte[..n], &byte[20..25], &mut in_bytes[..n]), "{n} of 8 bits");
-        assert!(rt; finds_classes(&half[..n], &half[20..25], &mut in_halves[..n]), "{n} of 16 bits");
-        assert!(rt; finds_classes(&word[..n], &word[20..25], &mut in_words[..n]), "{n} of 32 bits");
+        assert!(rt;
+            finds_classes(&byte[..n], &byte[20..25], &mut in_bytes[..n]),
+            "{n} of 8 bits"
+        );
+        assert!(rt;
+            finds_classes(&half[..n], &half[20..25], &mut in_halves[..n]),
+            "{n} of 16 bits"
+        );
+        assert!(rt;
+            finds_classes(&word[..n], &word[20..25], &mut in_words[..n]),
+            "{n} of 32 bits"
+        );
     }
 }
 

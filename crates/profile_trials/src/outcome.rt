@@ -75,7 +75,10 @@ impl fmt::Display for Outcome {
         }
         match &self.difference {
             None => write!(f, ": as by the definition"),
-            Some((seed, difference)) => write!(f, ": the trace of seed {seed} differs: {difference}"),
+            Some((seed, difference)) => write!(
+                f,
+                ": the trace of seed {seed} differs: {difference}"
+            ),
         }
     }
 }

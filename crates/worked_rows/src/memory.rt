@@ -15,7 +15,10 @@ fn text_of<T>(alloc: Global, answer: Result<T, MemError>) -> Result<String> {
 /// Maps so many pages that can be read, from a page on, or says why not.
 pub fn map(alloc: Global, memory: &mut GuestMemory, row: &str) -> Result<String> {
     let (page, count) = row.split_once(' ').context("no count")?;
-    let (page, count) = (u32::from_str_radix(page, 16)?, u32::from_str_radix(count, 16)?);
+    let (page, count) = (
+        u32::from_str_radix(page, 16)?,
+        u32::from_str_radix(count, 16)?,
+    );
     if page > 0x8_0000 || count > 0x8_0000 || !memory.is_free(page, count) {
         return Ok(String::from_str(alloc, "not free")?);
     }
