@@ -50,9 +50,12 @@ const guideNames = {
         ctx.textBaseline = "middle";
         ctx.fillText(name, area.right + 4, above);
       } else {
-        ctx.textAlign = "center";
-        ctx.textBaseline = "bottom";
-        ctx.fillText(name, x.getPixelForValue(last.x), area.top - 3);
+        // at its top; but within, where the unit of the axis stands there
+        const at = x.getPixelForValue(last.x);
+        const within = at < area.left + 60;
+        ctx.textAlign = within ? "left" : "center";
+        ctx.textBaseline = within ? "top" : "bottom";
+        ctx.fillText(name, within ? at + 6 : at, area.top + (within ? 4 : -3));
       }
     }
     ctx.restore();

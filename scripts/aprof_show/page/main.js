@@ -48,9 +48,8 @@ function follow() {
 function chooseRow(event) {
   const row = event.target.closest("tbody tr");
   if (!row) return;
-  const beside = getComputedStyle(byId("detail")).position !== "static" || innerWidth > 860;
   if (!event.target.closest("a")) location.hash = linkOf(routines[row.dataset.index]);
-  if (!beside) byId("detail").scrollIntoView();
+  if (matchMedia("(max-width: 980px)").matches) byId("detail").scrollIntoView();
 }
 
 function watch() {

@@ -107,13 +107,12 @@ function onKey(event) {
 
 function watchPointer() {
   const plots = byId("plots");
-  let waiting = false;
+  let latest = null;
   plots.addEventListener("pointermove", (event) => {
-    if (waiting) return;
-    waiting = true;
-    requestAnimationFrame(() => { waiting = false; mark(meant(event)); });
+    if (!latest) requestAnimationFrame(() => { if (latest) mark(meant(latest)); latest = null; });
+    latest = event;
   });
-  plots.addEventListener("pointerleave", () => mark(document.activeElement === plots ? chosenPoint : null));
+  plots.addEventListener("pointerleave", () => { latest = null; mark(null); });
   plots.addEventListener("click", (event) => { const i = meant(event); if (i !== null) moveGuides(i); });
   plots.addEventListener("keydown", onKey);
   plots.addEventListener("blur", () => mark(null));
