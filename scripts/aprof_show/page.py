@@ -16,6 +16,7 @@ SCRIPTS = ("format.js", "data.js", "points.js", "axes.js", "charts.js", "pointer
            "contexts.js", "tree.js", "main.js")
 
 Json = dict[str, Any]
+Cost = tuple[int, int, bool]
 
 
 class MissingPackage(Exception):
@@ -56,20 +57,17 @@ def _profile(profile: Profile, lines: dict[int, str]) -> Json:
         if id(context.routine) not in places:
             places[id(context.routine)] = len(routines)
             routines.append(context.routine)
-    steps = max(profile.steps, 1)
-    rows = [_routine(routine, lines.get(routine.entry), routine.cost / steps) for routine in routines]
+    costs = _costs(contexts)
+    rows = [_routine(routine, lines.get(routine.entry), routine.cost, profile.steps) for routine in routines]
     if profile.roots is not None:
-        own, outer = _costs_of_routines(contexts, places)
-        for place, row in enumerate(rows):
-            row["self"], row["share"] = own[place] / steps, outer[place] / steps
-    for row in rows:
-        row["cheap"] = row["share"] < 0.01 and not row["steep"] and row["calls"] > 0
+        for routine, (total, own, is_open) in zip(routines, _costs_of_routines(contexts, costs, places)):
+            rows[places[id(routine)]] = _routine(routine, lines.get(routine.entry), total, profile.steps, own, is_open)
     return {
         "reports": [_report(report) for report in profile.reports],
         "steps": profile.steps,
         "open": profile.still_open,
         "routines": rows,
-        "contexts": None if profile.roots is None else _tree(contexts, places),
+        "contexts": None if profile.roots is None else _tree(contexts, costs, places),
         "callers": _callers(contexts, places),
     }
 
@@ -78,14 +76,21 @@ def _report(report: Report) -> Json:
     return {"path": report.path, "end": report.end, "steps": report.steps, "open": report.still_open}
 
 
-def _routine(routine: Routine, line: str | None, share: float) -> Json:
+def _routine(
+    routine: Routine, line: str | None, total: int, steps: int, own: int | None = None, is_open: bool = False
+) -> Json:
+    growth = _growth(routine.points)
+    share = total / max(steps, 1)
     return {
         "name": routine.label,
         "entry": f"{routine.entry:08x}",
         "line": line,
-        **_growth(routine.points),
-        "share": share,
-        "self": None,
+        **growth,
+        "share": min(share, 1),
+        # at least so much where calls were open, at most where nested calls were counted each
+        "bound": "≥ " if is_open else "≤ " if share > 1 else "",
+        "self": None if own is None else own / max(steps, 1),
+        "cheap": share < 0.01 and not growth["steep"] and not is_open,
         "library": _is_library(routine),
         "calls": routine.calls,
         "points": _columns(routine.points),
@@ -121,25 +126,17 @@ def _contexts(roots: Iterable[Context]) -> Iterable[Context]:
         ahead.extend(reversed(context.callees))
 
 
-def _inclusive(contexts: list[Context]) -> dict[int, int]:
-    """What each context cost; where no call of it returned, what is known of those under it."""
-    costs: dict[int, int] = {}
-    for context in reversed(contexts):
-        costs[id(context)] = context.cost or sum(costs[id(callee)] for callee in context.callees)
-    return costs
-
-
-def _tree(contexts: list[Context], places: dict[int, int]) -> Json:
-    """A column for each fact; a context that did not return has no calls."""
-    costs = _inclusive(contexts)
+def _tree(contexts: list[Context], costs: dict[int, Cost], places: dict[int, int]) -> Json:
+    """A column for each fact, and the contexts that were open at the end."""
     numbers = {id(context): number for number, context in enumerate(contexts)}
     callers = [context.caller for context in contexts]
     return {
         "routine": [places[id(context.routine)] for context in contexts],
         "caller": [-1 if caller is None else numbers[id(caller)] for caller in callers],
         "calls": [context.calls for context in contexts],
-        "cost": [costs[id(context)] for context in contexts],
-        "self": [_own(context, costs) for context in contexts],
+        "cost": [costs[id(context)][0] for context in contexts],
+        "self": [costs[id(context)][1] for context in contexts],
+        "open": [number for number, context in enumerate(contexts) if costs[id(context)][2]],
         "growth": [_growth(context.points)["growth"] for context in contexts],
     }
 
@@ -182,20 +179,25 @@ def _is_library(routine: Routine) -> bool:
     return routine.name is not None and (routine.name in LIBC or routine.name.startswith("__"))
 
 
-def _own(context: Context, costs: dict[int, int]) -> int:
-    return max(context.cost - sum(costs[id(callee)] for callee in context.callees), 0)
+def _costs(contexts: list[Context]) -> dict[int, Cost]:
+    """Where calls of a context were open at the end its costs are the least that is sure."""
+    costs: dict[int, Cost] = {}
+    for context in reversed(contexts):
+        below = [costs[id(callee)] for callee in context.callees]
+        total = sum(cost[0] for cost in below)
+        is_open = not context.points or total > context.cost or any(cost[2] for cost in below)
+        costs[id(context)] = max(context.cost, total), max(context.cost - total, 0), is_open
+    return costs
 
 
-def _costs_of_routines(contexts: list[Context], places: dict[int, int]) -> tuple[list[int], list[int]]:
-    """What each routine costs itself, and in those of its calls that are in no other call of it."""
-    costs = _inclusive(contexts)
-    own, outer = [0] * len(places), [0] * len(places)
+def _costs_of_routines(contexts: list[Context], costs: dict[int, Cost], places: dict[int, int]) -> list[Cost]:
+    """Of each routine, counting what it calls only in those of its calls that are in no other call of it."""
+    sums: list[Cost] = [(0, 0, False)] * len(places)
     for context in contexts:
-        place = places[id(context.routine)]
-        own[place] += _own(context, costs)
+        total, own, is_open = costs[id(context)]
         above = context.caller
         while above is not None and above.routine is not context.routine:
             above = above.caller
-        if above is None:
-            outer[place] += context.cost
-    return own, outer
+        before = sums[places[id(context.routine)]]
+        sums[places[id(context.routine)]] = before[0] + (0 if above else total), before[1] + own, before[2] or is_open
+    return sums

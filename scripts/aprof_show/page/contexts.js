@@ -1,6 +1,9 @@
 // The calling contexts as nodes of two trees: down from the first routines, and up from one routine to its callers.
 const contexts = profile.contexts && { ...profile.contexts, length: profile.contexts.routine.length };
 
+const wasOpen = contexts && new Uint8Array(contexts.length);
+contexts?.open.forEach((i) => { wasOpen[i] = 1; });
+
 // the contexts under each context
 const under = contexts && (() => {
   const lists = Array.from({ length: contexts.length }, () => []);
@@ -12,10 +15,9 @@ const dearestFirst = (nodes) => nodes.sort((a, b) => b.cost - a.cost);
 
 // the node of a context, and those under it
 function nodeOf(i) {
-  const open = contexts.calls[i] === 0;
   return {
-    routine: routines[contexts.routine[i]], calls: contexts.calls[i], cost: contexts.cost[i], open,
-    self: open ? null : contexts.self[i], growth: contexts.growth[i], context: i,
+    routine: routines[contexts.routine[i]], calls: contexts.calls[i], cost: contexts.cost[i], open: wasOpen[i] === 1,
+    self: contexts.self[i], growth: contexts.growth[i], context: i,
     kids: () => dearestFirst(under[i].map(nodeOf)), leaf: under[i].length === 0,
   };
 }
@@ -55,8 +57,8 @@ function callerNode(routine, pairs, chosen, depth) {
   if (targets.length === 1) growth = contexts.growth[targets[0]];
   else if (depth === 1) growth = callGrowth.get(`${chosen.index} ${routine}`) ?? null;
   return {
-    routine: routines[routine], calls, cost: outerCost(targets), open: targets.some((i) => contexts.calls[i] === 0), growth,
-    self: targets.reduce((sum, i) => sum + (contexts.calls[i] ? contexts.self[i] : 0), 0),
+    routine: routines[routine], calls, cost: outerCost(targets), growth,
+    open: targets.some((i) => wasOpen[i]), self: targets.reduce((sum, i) => sum + contexts.self[i], 0),
     kids: () => callersOf(pairs, chosen, depth + 1), leaf: pairs.every(([, at]) => contexts.caller[at] < 0),
   };
 }
@@ -71,8 +73,8 @@ function callerRoot(routine) {
 // the chains that had not returned at the end: each from its innermost routine up
 function openChains() {
   const chains = [];
-  contexts.calls.forEach((calls, i) => {
-    if (calls || under[i].some((callee) => contexts.calls[callee] === 0)) return;
+  contexts.open.forEach((i) => {
+    if (under[i].some((callee) => wasOpen[callee])) return;
     const chain = [];
     for (let at = i; at >= 0; at = contexts.caller[at]) chain.push(routines[contexts.routine[at]].name);
     chains.push(chain.reverse());

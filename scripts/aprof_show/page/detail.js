@@ -4,7 +4,7 @@ let wantsLog = true;
 
 // what its growth says, as a sentence
 function verdictOf(routine) {
-  if (!routine.sizes) return "All its calls were still open at the end, so it has no points.";
+  if (!routine.sizes) return "All its calls were still open at the end, so it has no points, and what they cost is not known.";
   if (routine.growth === null) {
     return routine.sizes[0] === routine.sizes[1]
       ? "All its calls have one size, which says nothing of growth: give the run several inputs, or show several reports at once."
@@ -21,11 +21,15 @@ function aheadOf(routine) {
   return `${short(most[length - 1])} → ${short(most[length - 1] * routine.growth)}`;
 }
 
+// the greatest ratio between the costs of two calls of one size
+const spreadOf = (points) => points.most.reduce((spread, most, i) => Math.max(spread, points.least[i] ? most / points.least[i] : 1), 1);
+
 function factsOf(routine) {
-  const facts = [["growth", times(routine.growth), routine.steep ? "steep" : ""], ["share of all steps", routine.points[0].length ? `${percent(routine.share)} %` : MINUS]];
+  const facts = [["growth", times(routine.growth), routine.steep ? "steep" : ""], ["share of all steps", `${routine.bound}${percent(routine.share)} %`]];
   if (routine.self !== null) facts.push(["self", `${percent(routine.self)} %`]);
   facts.push(["calls", count(routine.calls)]);
   if (routine.sizes) facts.push([plural(routine.points[0].length, "size"), sizesText(routine)]);
+  if (spreadOf(figure.points) >= 1.05) facts.push(["spread at one size", times(spreadOf(figure.points))]);
   if (routine.growth !== null) facts.push(["greatest cost → at twice the size", aheadOf(routine)]);
   return facts;
 }

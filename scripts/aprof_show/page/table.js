@@ -10,7 +10,7 @@ const sizesText = (routine) => {
 
 const COLUMNS = [
   { key: "growth", name: "Growth", about: "how many times the cost grows where the size doubles", value: (r) => r.growth ?? -1, cell: growthCell },
-  { key: "share", name: "Share %", about: "its part of all steps, with what it calls", value: (r) => r.share, cell: (r) => partCell(r.calls ? r.share : null) },
+  { key: "share", name: "Share %", about: "its part of all steps, with what it calls", value: (r) => r.share, cell: (r) => partCell(r.share, r.bound) },
   { key: "self", name: "Self %", about: "its part of all steps without what it calls", value: (r) => r.self, cell: (r) => partCell(r.self), needs: profile.contexts !== null },
   { key: "calls", name: "Calls", about: "calls that returned", value: (r) => r.calls, cell: (r) => (r.calls ? document.createTextNode(short(r.calls)) : make("span", "faint", "open")) },
   { key: "sizes", name: "Sizes", about: "the least and the greatest input size, in words", value: (r) => (r.sizes ? r.sizes[1] : -1), cell: (r) => document.createTextNode(sizesText(r)) },
@@ -43,8 +43,8 @@ function growthCell(routine) {
   return cell;
 }
 
-function partCell(part) {
-  const cell = make("span", "part", percent(part));
+function partCell(part, bound = "") {
+  const cell = make("span", "part", `${bound.trim()}${percent(part)}`);
   if (part !== null) cell.style.setProperty("--width", `${Math.min(100, 100 * part).toFixed(1)}%`);
   return cell;
 }
