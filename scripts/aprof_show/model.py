@@ -30,17 +30,28 @@ class Point:
         return self.cost / self.calls
 
 
-@dataclass
+@dataclass(eq=False)
 class Routine:
-    """A routine with its points, sizes rising. A routine whose calls had all not returned has no point."""
+    """A routine with its points, sizes rising. A routine whose calls had all not returned has no point.
+
+    `shown` is the name as people write it (demangled, or from `--image`). `apart` tells apart what has the same label: the
+    address of a static function, or the report of a routine without a name.
+    """
 
     entry: int
     name: str | None
     points: list[Point] = field(default_factory=list)
+    shown: str | None = None
+    apart: str | None = None
 
     @property
     def label(self) -> str:
-        return self.name or f"{self.entry:08x}"
+        label = self.shown or self.name or f"{self.entry:08x}"
+        return f"{label} ({self.apart})" if self.apart else label
+
+    def is_called(self, word: str) -> bool:
+        """Whether a person may mean this routine by `word`: its name in any spelling, or its address."""
+        return word in (self.name, self.shown, self.label, f"{self.entry:08x}")
 
     @property
     def calls(self) -> int:
@@ -52,12 +63,12 @@ class Routine:
         return sum(point.cost for point in self.points)
 
 
-@dataclass
+@dataclass(eq=False)
 class Context:
     """A chain of routines that call one another: the innermost one, its caller's context, and the points of its calls."""
 
     routine: Routine
-    caller: Context | None
+    caller: Context | None = field(repr=False)
     points: list[Point] = field(default_factory=list)
     callees: list[Context] = field(default_factory=list)
 

@@ -1,0 +1,105 @@
+"""Two profiles of one program, before and after a change, and growths above a limit."""
+from __future__ import annotations
+
+from collections.abc import Sequence
+from dataclasses import dataclass
+
+from aprof_show.rows import Row
+from aprof_show.table import Choice, greatest_cost, growth_text, share_text
+from aprof_show.terminal import Column, factor_text, plural, short, table
+
+
+@dataclass(frozen=True)
+class Pair:
+    """A routine before and after; None where it isn't there."""
+
+    old: Row | None
+    new: Row | None
+
+    @property
+    def either(self) -> Row:
+        row = self.new or self.old
+        assert row
+        return row
+
+
+def paired(old: Sequence[Row], new: Sequence[Row]) -> list[Pair]:
+    """By name, routines of one name in their order. Routines without a name aren't paired: another image has other addresses."""
+    left = {key: row for key, row in keyed(old)}
+    pairs = [Pair(left.pop(key, None), row) for key, row in keyed(new)]
+    return pairs + [Pair(row, None) for row in left.values()]
+
+
+def keyed(rows: Sequence[Row]) -> list[tuple[tuple[object, ...], Row]]:
+    seen: dict[str, int] = {}
+    keys: list[tuple[tuple[object, ...], Row]] = []
+    for row in rows:
+        name = row.routine.name
+        if name is None:
+            keys.append(((id(row),), row))
+            continue
+        seen[name] = seen.get(name, 0) + 1
+        keys.append(((name, seen[name]), row))
+    return keys
+
+
+def change(pair: Pair, steps: tuple[int, int]) -> float:
+    """How much the weights differ, in instructions of the old runs: a growth that rose, or a cost that did, is a change."""
+    old = pair.old.weight * steps[0] + pair.old.share * steps[0] if pair.old else 0.0
+    new = pair.new.weight * steps[1] + pair.new.share * steps[1] if pair.new else 0.0
+    return abs(new - old)
+
+
+def against_text(
+    old: Sequence[Row], new: Sequence[Row], steps: tuple[int, int], choice: Choice, room: int
+) -> list[str]:
+    """Growth, share and greatest cost before and after, the largest change first. Routines that have not changed are left out."""
+    pairs = [pair for pair in paired(old, new) if choice.library or not pair.either.library]
+    listed = [pair for pair in pairs if choice.all or any(row and choice.has(row) for row in (pair.old, pair.new))]
+    changed = [pair for pair in listed if choice.all or differs(pair)]
+    changed.sort(key=lambda pair: -change(pair, steps))
+    lines = [f"{steps[0]} steps before, {steps[1]} after"]
+    if changed:
+        lines += table(columns_of(changed[: choice.top]), room)
+    same = len(listed) - len(changed)
+    if same:
+        lines.append(f"{plural(same, 'routine')} of the same growth, share and cost")
+    return lines
+
+
+def texts(row: Row | None) -> tuple[str, str, str]:
+    """Growth, share and greatest cost; `.` where the routine isn't there."""
+    if row is None:
+        return ". ", ".", "."
+    return growth_text(row.growth), share_text(row), short(greatest_cost(row.routine))
+
+
+def differs(pair: Pair) -> bool:
+    return texts(pair.old) != texts(pair.new)
+
+
+def columns_of(pairs: Sequence[Pair]) -> list[Column]:
+    before, after = [texts(pair.old) for pair in pairs], [texts(pair.new) for pair in pairs]
+    columns = []
+    for place, heading in enumerate(("GROWTH", "SHARE", "COST")):
+        columns.append(Column(heading, [row[place] for row in before]))
+        columns.append(Column("NOW", [row[place] for row in after]))
+    return columns + [Column(" ROUTINE", [f" {pair.either.routine.label}" for pair in pairs], left=True)]
+
+
+def above(rows: Sequence[Row], limit: float, named: Sequence[str], choice: Choice) -> list[Row]:
+    """The rows whose growth is above a limit. With names only those routines are looked at; without, those that the table would
+    tell of, and none whose growth is uncertain."""
+    found = [row for row in rows if row.growth and row.growth.factor > limit]
+    if named:
+        return [row for row in found if any(row.routine.is_called(name) for name in named)]
+    least = choice.least or 0.0
+    return [row for row in found if not row.uncertain and row.share >= least and (choice.library or not row.library)]
+
+
+def above_text(rows: Sequence[Row], limit: float) -> list[str]:
+    return [
+        f"{row.routine.label} grows {growth_text(row.growth).strip()}, above {factor_text(limit)}"
+        f" ({share_text(row)} of the steps)"
+        for row in rows
+    ]

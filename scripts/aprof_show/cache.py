@@ -1,0 +1,35 @@
+"""The table of what `aprof cache` stores."""
+from __future__ import annotations
+
+from aprof_show.model import CacheReport, CacheRoutine
+from aprof_show.table import Choice
+from aprof_show.terminal import Column, percent, plural, table
+
+
+def cache_text(report: CacheReport, choice: Choice, room: int) -> list[str]:
+    """Accesses, misses, and the rate of both, by misses. An access is the innermost routine's own."""
+    accesses = sum(routine.accesses for routine in report.routines)
+    misses = sum(routine.misses for routine in report.routines)
+    least = 0.01 if choice.least is None else choice.least
+    listed = [
+        routine
+        for routine in sorted(report.routines, key=lambda routine: (-routine.misses, -routine.accesses))
+        if choice.all or max(routine.misses / max(misses, 1), routine.accesses / max(accesses, 1)) >= least
+    ][: choice.top]
+    rate = percent(misses / accesses) if accesses else "-"
+    lines = [f"{report.steps} steps, end {report.end}, {accesses} accesses, {misses} misses ({rate})"]
+    if listed:
+        lines += table(columns_of(listed, misses), room)
+    if len(listed) < len(report.routines):
+        lines.append(f"and {plural(len(report.routines) - len(listed), 'routine')} below {percent(least)}: --all")
+    return lines
+
+
+def columns_of(routines: list[CacheRoutine], misses: int) -> list[Column]:
+    return [
+        Column("MISSES", [str(routine.misses) for routine in routines]),
+        Column("OF ALL", [percent(routine.misses / max(misses, 1)) for routine in routines]),
+        Column("ACCESSES", [str(routine.accesses) for routine in routines]),
+        Column("RATE", [percent(routine.misses / routine.accesses) for routine in routines]),
+        Column(" ROUTINE", [f" {routine.name or f'{routine.entry:08x}'}" for routine in routines], left=True),
+    ]

@@ -1,0 +1,256 @@
+"""The command line of `show`."""
+from __future__ import annotations
+
+import argparse
+import io
+import os
+import sys
+from collections.abc import Sequence
+
+from aprof_show.against import above, above_text, against_text
+from aprof_show.cache import cache_text
+from aprof_show.data import csv_text, json_text
+from aprof_show.detail import detail
+from aprof_show.joining import CannotJoin, join, join_caches
+from aprof_show.model import CacheReport, Context, Profile, Report, Routine
+from aprof_show.plot import plot
+from aprof_show.reading import BadReport, read_file
+from aprof_show.rows import ORDERS, Row, rows_of
+from aprof_show.source import BadImage, demangle, lines_of_image, name_routines, read_symbols
+from aprof_show.stacks import callgrind, folded
+from aprof_show.table import Choice, open_lines, summary
+from aprof_show.terminal import width
+from aprof_show.tree import callers_text, tree_text
+
+HELP = """Shows what `aprof run`, `replay`, `contexts` and `cache` store. Several reports are shown as one longer run.
+
+  show REPORT...                       the routines, what to look at first
+  show REPORT... ROUTINE               a routine by doublings of its size; --plot draws it
+  show --tree REPORT...                who calls whom, with the cost of each part (of `aprof contexts`)
+  show --against OLD NEW               what has changed, the largest change first
+  show --fail-above 2.5 REPORT...      status 1 where a growth is above 2.5
+  show --page FILE REPORT...           a page for a browser
+"""
+
+NOTES = """GROWTH is how many times the greatest cost of a call grows where its size doubles: near 2 is linear, near 4 quadratic,
+`-` where there is only one size other than 0. SHARE is the part of all steps that is spent in the routine and in what it calls, each
+step once; `<=100%%` where it recurses and only `aprof contexts` can tell. SELF is its own part. SPREAD is the greatest ratio of costs
+at one size. Status 0; 1 where --fail-above finds something; 2 for a bad command line, report or image."""
+
+
+class Refused(Exception):
+    """The command can't be carried out."""
+
+
+def parser() -> argparse.ArgumentParser:
+    form = argparse.RawDescriptionHelpFormatter
+    result = argparse.ArgumentParser(prog="show", description=HELP, epilog=NOTES, formatter_class=form, allow_abbrev=False)
+    add = result.add_argument
+    add("words", metavar="REPORT | ROUTINE", nargs="*", help="a file, or a routine's name or address")
+    add("--routine", metavar="NAME", action="append", default=[], help="this routine alone; may be repeated")
+    add("--all", action="store_true", help="all routines")
+    add("--min", metavar="PERCENT", type=share, help="routines of at least so much; without it 1, and all superlinear ones")
+    add("--top", metavar="N", type=number, help="at most N routines")
+    add("--by", choices=ORDERS, help="another order")
+    add("--library", action="store_true", help="routines of the C library too, each in its own line")
+    add("--image", metavar="IMAGE", help="the executable: for names, files and lines")
+    add("--against", metavar="OLD", help="compare with this earlier report")
+    add("--fail-above", metavar="FACTOR", type=factor, help="status 1 where a growth is above FACTOR and certain")
+    add("--plot", action="store_true", help="a chart of the routine")
+    what = result.add_mutually_exclusive_group()
+    for option, text in (
+        ("--tree", "the calling tree"),
+        ("--open", "the calls that had not returned at the end"),
+        ("--folded", "folded stacks, for flame graphs"),
+        ("--callgrind", "Callgrind's format, for callgrind_annotate and KCachegrind"),
+        ("--json", "all that is known, as JSON"),
+        ("--csv", "all points, as CSV"),
+    ):
+        what.add_argument(option, action="store_true", help=text)
+    what.add_argument("--callers", metavar="ROUTINE", help="who calls it, and what that costs")
+    what.add_argument("--page", metavar="FILE", help="writes a page for a browser")
+    return result
+
+
+def share(text: str) -> float:
+    value = float(text.rstrip("%"))
+    if not 0 <= value <= 100:
+        raise ValueError
+    return value / 100
+
+
+def factor(text: str) -> float:
+    value = float(text.lstrip("x"))
+    if not 0 < value < 1e6:
+        raise ValueError
+    return value
+
+
+def number(text: str) -> int:
+    value = int(text)
+    if value < 1:
+        raise ValueError
+    return value
+
+
+def main(arguments: Sequence[str] | None = None) -> int:
+    """The exit status."""
+    if isinstance(sys.stdout, io.TextIOWrapper):
+        sys.stdout.reconfigure(errors="replace")
+    try:
+        status = run(parser().parse_args(arguments))
+        sys.stdout.flush()
+        return status
+    except (Refused, BadReport, BadImage, CannotJoin) as error:
+        print(f"show: {error}", file=sys.stderr)
+    except BrokenPipeError:
+        os.dup2(os.open(os.devnull, os.O_WRONLY), sys.stdout.fileno())
+        return 0
+    except OSError as error:
+        print(f"show: {error.filename}: {error.strerror}", file=sys.stderr)
+    return 2
+
+
+def run(options: argparse.Namespace) -> int:
+    paths = [word for word in options.words if os.path.exists(word)]
+    names = [word for word in options.words if not os.path.exists(word)] + options.routine
+    if not paths:
+        missing = f"no file {names[0]}" if names else "a report is wanted"
+        raise Refused(f"{missing}; `show --help` tells more")
+    reports = read_all(paths)
+    if isinstance(reports[0], CacheReport):
+        print_lines(cache_text(joined_caches(reports), choice_of(options), width()))
+        return 0
+    profile = joined(reports)
+    lines = describe(profile, options)
+    rows = rows_of(profile)
+    if options.against is not None:
+        return compare(options, profile, rows, names)
+    if options.fail_above is not None:
+        return judge(rows, options, names)
+    return show(options, profile, rows, names, lines)
+
+
+def read_all(paths: Sequence[str]) -> list[Report | CacheReport]:
+    return [read_file(path) for path in paths]
+
+
+def joined(reports: Sequence[Report | CacheReport]) -> Profile:
+    profiles = [report for report in reports if isinstance(report, Report)]
+    if len(profiles) < len(reports):
+        raise CannotJoin("reports of `aprof cache` can't be joined with others")
+    return join(profiles)
+
+
+def joined_caches(reports: Sequence[Report | CacheReport]) -> CacheReport:
+    caches = [report for report in reports if isinstance(report, CacheReport)]
+    if len(caches) < len(reports):
+        raise CannotJoin("reports of `aprof cache` can't be joined with others")
+    return join_caches(caches)
+
+
+def describe(profile: Profile, options: argparse.Namespace) -> dict[int, str]:
+    """Names the routines as well as it can be done, and gives their files and lines."""
+    lines: dict[int, str] = {}
+    if options.image:
+        name_routines(profile.routines, read_symbols(options.image))
+        lines = lines_of_image(options.image, (routine.entry for routine in profile.routines))
+    demangle(profile.routines)
+    return lines
+
+
+def choice_of(options: argparse.Namespace) -> Choice:
+    return Choice(options.min, options.all, options.library, options.top, options.by)
+
+
+def print_lines(lines: Sequence[str]) -> None:
+    for line in lines:
+        print(line)
+
+
+def show(
+    options: argparse.Namespace, profile: Profile, rows: Sequence[Row], names: Sequence[str], lines: dict[int, str]
+) -> int:
+    if options.page is not None:
+        write_page(options.page, profile, lines)
+    elif options.json:
+        print(json_text(profile, rows))
+    elif options.csv:
+        print(csv_text(profile))
+    elif options.open:
+        print_lines(open_lines(profile) or ["all calls had returned"])
+    elif options.tree or options.callers or options.folded or options.callgrind:
+        show_contexts(options, profile, roots_of(profile), lines)
+    elif names:
+        for name in names:
+            for row in called(rows, name):
+                print_lines(detail(row, width(), lines.get(row.routine.entry)))
+                print_lines(plot(row.routine, width()) if options.plot else [])
+    else:
+        print_lines(summary(profile, rows, choice_of(options), width()))
+        if options.plot:
+            raise Refused("--plot wants a routine")
+    return 0
+
+
+def roots_of(profile: Profile) -> list[Context]:
+    if profile.roots is None:
+        raise Refused("this needs calling contexts, which `aprof contexts` stores in place of `aprof run`")
+    return profile.roots
+
+
+def show_contexts(
+    options: argparse.Namespace, profile: Profile, roots: list[Context], lines: dict[int, str]
+) -> None:
+    least = 0.01 if options.min is None else options.min
+    least = 0.0 if options.all else least
+    if options.folded:
+        print_lines(list(folded(profile, roots)))
+    elif options.callgrind:
+        print_lines(list(callgrind(profile, roots, options.image, lines)))
+    elif options.tree:
+        print_lines(tree_text(profile, roots, least, width()))
+    else:
+        for routine in named(profile.routines, options.callers):
+            print_lines(callers_text(profile, roots, routine, least, width()))
+
+
+def named(routines: Sequence[Routine], name: str) -> list[Routine]:
+    found = [routine for routine in routines if routine.is_called(name)]
+    if not found:
+        raise Refused(f"no file and no routine called {name}")
+    return found
+
+
+def called(rows: Sequence[Row], name: str) -> list[Row]:
+    wanted = set(named([row.routine for row in rows], name))
+    return [row for row in rows if row.routine in wanted]
+
+
+def write_page(path: str, profile: Profile, lines: dict[int, str]) -> None:
+    try:
+        from aprof_show import page  # type: ignore[attr-defined]
+    except ImportError as error:
+        raise Refused("the page is not there yet") from error
+    try:
+        page.write_page(path, profile, lines or None)
+    except page.MissingPackage as error:
+        raise Refused(str(error)) from error
+
+
+def compare(options: argparse.Namespace, new: Profile, new_rows: Sequence[Row], names: Sequence[str]) -> int:
+    old = joined([read_file(options.against)])
+    describe(old, options)
+    old_rows: Sequence[Row] = rows_of(old)
+    print_lines(against_text(old_rows, new_rows, (old.steps, new.steps), choice_of(options), width()))
+    return judge(new_rows, options, names) if options.fail_above is not None else 0
+
+
+def judge(rows: Sequence[Row], options: argparse.Namespace, names: Sequence[str]) -> int:
+    for name in names:
+        called(rows, name)
+    found = above(rows, options.fail_above, names, choice_of(options))
+    print_lines(above_text(found, options.fail_above))
+    return 1 if found else 0
+
+

@@ -1,0 +1,103 @@
+"""Costs by calling context: what a context costs with what it calls, its own part, and what was open at the end."""
+from __future__ import annotations
+
+from collections import Counter
+from collections.abc import Iterator, Sequence
+from dataclasses import dataclass
+
+from aprof_show.model import Context, Routine
+
+
+@dataclass
+class Cost:
+    """Instructions. Where a call of the context was `open` at the end, both numbers are the least that is sure."""
+
+    total: int
+    own: int
+    open: bool
+
+
+@dataclass
+class RoutineCost:
+    """Sums over a routine's contexts: `total` over those that have no other call of the routine above them."""
+
+    total: int = 0
+    own: int = 0
+    open: bool = False
+
+
+def contexts_of(roots: Sequence[Context]) -> Iterator[Context]:
+    """All contexts, each before those under it. There may be chains too deep for a recursion."""
+    below = list(reversed(roots))
+    while below:
+        context = below.pop()
+        yield context
+        below.extend(reversed(context.callees))
+
+
+def costs_of(roots: Sequence[Context]) -> dict[Context, Cost]:
+    """A context without points never returned, nor did those above it; nor did one whose callees cost more than itself."""
+    costs: dict[Context, Cost] = {}
+    for context in reversed(list(contexts_of(roots))):
+        below = [costs[callee] for callee in context.callees]
+        sum_below = sum(cost.total for cost in below)
+        is_open = not context.points or sum_below > context.cost or any(cost.open for cost in below)
+        costs[context] = Cost(max(context.cost, sum_below), max(context.cost - sum_below, 0), is_open)
+    return costs
+
+
+def outermost(roots: Sequence[Context]) -> Iterator[tuple[Context, bool]]:
+    """All contexts, each with whether no other call of its routine is above it."""
+    above: Counter[Routine] = Counter()
+    below: list[tuple[Context, bool]] = [(root, False) for root in reversed(roots)]
+    while below:
+        context, done = below.pop()
+        if done:
+            above[context.routine] -= 1
+            continue
+        yield context, above[context.routine] == 0
+        above[context.routine] += 1
+        below.append((context, True))
+        below.extend((callee, False) for callee in reversed(context.callees))
+
+
+def costs_by_routine(roots: Sequence[Context], costs: dict[Context, Cost]) -> dict[Routine, RoutineCost]:
+    sums: dict[Routine, RoutineCost] = {}
+    for context, is_outermost in outermost(roots):
+        routine = sums.setdefault(context.routine, RoutineCost())
+        routine.total += costs[context].total if is_outermost else 0
+        routine.own += costs[context].own
+        routine.open = routine.open or costs[context].open
+    return sums
+
+
+def chain_of(context: Context) -> list[Context]:
+    """The contexts from the outermost one down to this one."""
+    chain = [context]
+    while chain[-1].caller:
+        chain.append(chain[-1].caller)
+    return chain[::-1]
+
+
+def open_ends(roots: Sequence[Context], costs: dict[Context, Cost]) -> list[Context]:
+    """The innermost contexts that surely were open at the end."""
+    return [
+        context
+        for context in contexts_of(roots)
+        if costs[context].open and not any(costs[callee].open for callee in context.callees)
+    ]
+
+
+def chain_text(context: Context) -> str:
+    """`_start > main > spin`; direct recursions are counted, and a long chain is cut in the middle."""
+    links: list[tuple[str, int]] = []
+    for link in chain_of(context):
+        label = link.routine.label
+        if links and links[-1][0] == label:
+            links[-1] = label, links[-1][1] + 1
+        else:
+            links.append((label, 1))
+    texts = [label if times == 1 else f"{label} (x{times})" for label, times in links]
+    if len(texts) > 14:
+        texts[6:-6] = [f"... {len(texts) - 12} more ..."]
+    return " > ".join(texts)

@@ -1,0 +1,103 @@
+"""A profile as JSON and as CSV. Keys and columns keep their names and meanings; new ones may be added.
+
+JSON: `format` is "aprof-show 1"; `reports` are the files with their `path`, `end`, `steps` and `open`; `routines` have `entry`
+(eight hexadecimal digits), `name` (null where there is none), `label` (as `show` prints it), `library`, `calls`, `cost` (all
+calls, with what they call), `share` and `self_share` (of all steps; null without contexts), `growth` and `points`. `growth` is
+null where there is but one size other than 0, and else has `factor` (times the cost where the size doubles), `exponent`, the
+exponents `whole`, `top`, `net` and `fit`, and `weak`, the reason why it is uncertain or null. A point has `size`, `calls`,
+`least`, `most`, `cost`, and `own`, `thread`, `kernel` and `bare`, null in a report of version 1. `contexts`, null without them,
+each stand behind their callers: `routine` and `caller` are places in `routines` and `contexts`, `caller` null for the outermost;
+`total` and `self` are instructions, and the least that is sure where `open` is true.
+"""
+from __future__ import annotations
+
+import csv
+import io
+import json
+from collections.abc import Sequence
+
+from aprof_show.costs import contexts_of, costs_of
+from aprof_show.growth import Growth
+from aprof_show.model import Context, Point, Profile, Routine
+from aprof_show.rows import Row
+
+POINT_KEYS = ("size", "calls", "least", "most", "cost", "own", "thread", "kernel", "bare")
+
+
+def json_text(profile: Profile, rows: Sequence[Row]) -> str:
+    reports = [
+        {"path": report.path, "end": report.end, "steps": report.steps, "open": report.still_open}
+        for report in profile.reports
+    ]
+    routines = [routine_values(row) for row in rows]
+    contexts = context_values(profile.roots, [row.routine for row in rows]) if profile.roots is not None else None
+    value = {"format": "aprof-show 1", "reports": reports, "routines": routines, "contexts": contexts}
+    return json.dumps(value, indent=1, allow_nan=False)
+
+
+def routine_values(row: Row) -> dict[str, object]:
+    routine = row.routine
+    return {
+        "entry": f"{routine.entry:08x}",
+        "name": routine.name,
+        "label": routine.label,
+        "library": row.library,
+        "calls": routine.calls,
+        "cost": routine.cost,
+        "share": row.share,
+        "self_share": row.own,
+        "growth": growth_values(row.growth) if row.growth else None,
+        "points": [dict(zip(POINT_KEYS, point_values(point))) for point in routine.points],
+    }
+
+
+def growth_values(growth: Growth) -> dict[str, object]:
+    return {
+        "factor": growth.factor,
+        "exponent": growth.exponent,
+        "whole": growth.whole,
+        "top": growth.top,
+        "net": growth.net,
+        "fit": growth.fit,
+        "weak": growth.weak,
+    }
+
+
+def point_values(point: Point) -> list[int | None]:
+    parts = point.parts
+    foreign: list[int | None] = [None] * 4
+    if parts:
+        foreign = [parts.own, parts.thread, parts.kernel, parts.bare]
+    return [point.size, point.calls, point.least, point.most, point.cost, *foreign]
+
+
+def context_values(roots: Sequence[Context], routines: Sequence[Routine]) -> list[dict[str, object]]:
+    costs = costs_of(roots)
+    places = {routine: place for place, routine in enumerate(routines)}
+    numbers: dict[Context, int] = {}
+    values: list[dict[str, object]] = []
+    for context in contexts_of(roots):
+        numbers[context] = len(numbers)
+        values.append(
+            {
+                "routine": places[context.routine],
+                "caller": numbers[context.caller] if context.caller else None,
+                "calls": context.calls,
+                "total": costs[context].total,
+                "self": costs[context].own,
+                "open": costs[context].open,
+                "points": [dict(zip(POINT_KEYS, point_values(point))) for point in context.points],
+            }
+        )
+    return values
+
+
+def csv_text(profile: Profile) -> str:
+    """A line for each point of each routine, under a line of headings."""
+    text = io.StringIO()
+    writer = csv.writer(text, lineterminator="\n")
+    writer.writerow(("routine", "entry", *POINT_KEYS))
+    for routine in profile.routines:
+        for point in routine.points:
+            writer.writerow((routine.label, f"{routine.entry:08x}", *point_values(point)))
+    return text.getvalue().rstrip("\n")

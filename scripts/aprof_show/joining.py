@@ -1,0 +1,143 @@
+"""Joins reports to what one longer run would have stored: points of one size are added up.
+
+Routines are joined by name. Where the reports are of one image, routines of one name (static functions of several files) are
+told apart by their address, and routines without a name are joined by it; else the former are told apart by their order in
+each report, and the latter are kept apart.
+"""
+from __future__ import annotations
+
+from collections import Counter
+from collections.abc import Iterable, Sequence
+
+from aprof_show.model import CacheReport, CacheRoutine, Context, Parts, Point, Profile, Report, Routine
+
+Key = tuple[object, ...]
+
+
+class CannotJoin(Exception):
+    """Reports of different kinds."""
+
+
+def join(reports: Sequence[Report]) -> Profile:
+    if len(reports) == 1:
+        profile = Profile(list(reports), reports[0].routines, reports[0].roots)
+        tell_apart(profile.routines, {})
+        return profile
+    keys = keys_of(reports)
+    joined: dict[Key, Routine] = {}
+    sources: dict[Routine, set[str]] = {}
+    for report in reports:
+        for routine in report.routines:
+            new = joined.setdefault(keys[routine], Routine(routine.entry, routine.name))
+            new.points = add_points(new.points, routine.points)
+            sources.setdefault(new, set()).add(report.path)
+    tell_apart(list(joined.values()), sources)
+    roots = None
+    if all(report.roots is not None for report in reports):
+        roots = join_contexts(reports, {routine: joined[key] for routine, key in keys.items()})
+    return Profile(list(reports), list(joined.values()), roots)
+
+
+def add_points(some: Iterable[Point], others: Iterable[Point]) -> list[Point]:
+    by_size = {point.size: point for point in some}
+    for point in others:
+        there = by_size.get(point.size)
+        by_size[point.size] = add_up(there, point) if there else point
+    return [by_size[size] for size in sorted(by_size)]
+
+
+def add_up(one: Point, other: Point) -> Point:
+    """The point of the calls of both, which have one size."""
+    parts = None
+    if one.parts and other.parts:
+        parts = Parts(
+            one.parts.own + other.parts.own,
+            one.parts.thread + other.parts.thread,
+            one.parts.kernel + other.parts.kernel,
+            one.parts.bare + other.parts.bare,
+        )
+    return Point(
+        one.size,
+        one.calls + other.calls,
+        min(one.least, other.least),
+        max(one.most, other.most),
+        one.cost + other.cost,
+        parts,
+    )
+
+
+def of_one_image(reports: Sequence[Report]) -> bool:
+    """Whether no address has two names, and names that several reports have are at one address. A few may be at several: static
+    functions of one name."""
+    names: dict[int, str | None] = {}
+    places: dict[str, list[set[int]]] = {}
+    for report in reports:
+        mine: dict[str, set[int]] = {}
+        for routine in report.routines:
+            if names.setdefault(routine.entry, routine.name) != routine.name:
+                return False
+            if routine.name:
+                mine.setdefault(routine.name, set()).add(routine.entry)
+        for name, entries in mine.items():
+            places.setdefault(name, []).append(entries)
+    shared = [sets for sets in places.values() if len(sets) > 1]
+    differing = sum(not set.intersection(*sets) for sets in shared)
+    return 4 * differing <= len(shared) - differing
+
+
+def keys_of(reports: Sequence[Report]) -> dict[Routine, Key]:
+    """What is equal for two routines exactly where they are to be joined."""
+    keys: dict[Routine, Key] = {}
+    one_image = of_one_image(reports)
+    for place, report in enumerate(reports):
+        seen: Counter[str] = Counter()
+        for routine in report.routines:
+            if one_image:
+                keys[routine] = (routine.entry,)
+            elif routine.name is None:
+                keys[routine] = (place, routine.entry)
+            else:
+                keys[routine] = (routine.name, seen[routine.name])
+                seen[routine.name] += 1
+    return keys
+
+
+def tell_apart(routines: list[Routine], sources: dict[Routine, set[str]]) -> None:
+    """Gives routines that have the same label something behind it: their addresses, or the report of those without names."""
+    counts = Counter(routine.label for routine in routines)
+    for routine in routines:
+        if counts[routine.label] > 1:
+            routine.apart = f"{routine.entry:08x}" if routine.name else ", ".join(sorted(sources.get(routine, ())))
+
+
+def join_contexts(reports: Sequence[Report], joined: dict[Routine, Routine]) -> list[Context]:
+    """Contexts joined by their chains of joined routines, in the order in which they first come."""
+    roots: list[Context] = []
+    places: dict[tuple[Context | None, Routine], Context] = {}
+    for report in reports:
+        below: list[tuple[Context, Context | None]] = [(root, None) for root in reversed(report.roots or [])]
+        while below:
+            context, caller = below.pop()
+            routine = joined[context.routine]
+            new = places.get((caller, routine))
+            if new is None:
+                new = places[caller, routine] = Context(routine, caller)
+                (caller.callees if caller else roots).append(new)
+            new.points = add_points(new.points, context.points)
+            below.extend((callee, new) for callee in reversed(context.callees))
+    return roots
+
+
+def join_caches(reports: Sequence[CacheReport]) -> CacheReport:
+    """Accesses and misses added up, by name, and by address where there is none."""
+    sums: dict[str | int, CacheRoutine] = {}
+    for report in reports:
+        for routine in report.routines:
+            key = routine.name or routine.entry
+            there = sums.get(key, CacheRoutine(routine.entry, routine.name, 0, 0))
+            sums[key] = CacheRoutine(
+                there.entry, there.name, there.accesses + routine.accesses, there.misses + routine.misses
+            )
+    ends = {report.end for report in reports}
+    end = ends.pop() if len(ends) == 1 else "of several kinds"
+    return CacheReport(", ".join(report.path for report in reports), end, sum(r.steps for r in reports), list(sums.values()))

@@ -1,0 +1,94 @@
+"""A profile routine by routine: growth, share and self cost, and the order in which they are worth looking at."""
+from __future__ import annotations
+
+import math
+from collections.abc import Sequence
+from dataclasses import dataclass
+
+from aprof_show.costs import RoutineCost, costs_by_routine, costs_of
+from aprof_show.growth import Growth, growth_of
+from aprof_show.library import library_routines
+from aprof_show.model import Profile, Routine
+
+ORDERS = ("growth", "share", "self", "name")
+
+
+@dataclass(frozen=True)
+class Row:
+    """Shares are parts of all steps. `exact` is false where calls nested in one another may have been counted each."""
+
+    routine: Routine
+    growth: Growth | None
+    share: float
+    exact: bool
+    own: float | None
+    open: bool
+    spread: float
+    library: bool
+
+    @property
+    def weight(self) -> float:
+        """About the share at inputs ten times as large, were all else linear. What rests on few or close sizes counts less: the
+        excess over linear is taken as it was seen, not as it would go on."""
+        if self.growth is None:
+            return 0.0
+        excess = min(self.growth.exponent, 6.0) - 1
+        if self.growth.weak:
+            excess *= min(1.0, math.log2(self.growth.size_ratio) / 2)
+        return float(self.share * 10**excess * (0.7 if self.growth.weak else 1.0))
+
+    @property
+    def uncertain(self) -> bool:
+        return self.growth is None or self.growth.weak is not None
+
+    @property
+    def superlinear(self) -> bool:
+        return self.growth is not None and self.growth.superlinear
+
+
+def rows_of(profile: Profile) -> list[Row]:
+    costs: dict[Routine, RoutineCost] | None = None
+    if profile.roots is not None:
+        costs = costs_by_routine(profile.roots, costs_of(profile.roots))
+    library = library_routines(profile.reports, profile.routines)
+    return [row_of(routine, profile.steps, costs, routine in library) for routine in profile.routines]
+
+
+def row_of(routine: Routine, steps: int, costs: dict[Routine, RoutineCost] | None, library: bool) -> Row:
+    cost = costs.get(routine, RoutineCost()) if costs is not None else None
+    total = cost.total if cost else routine.cost
+    return Row(
+        routine=routine,
+        growth=growth_of(routine.points),
+        share=min(total / steps, 1.0) if steps else 0.0,
+        exact=total <= steps,
+        own=(cost.own / steps if steps else 0.0) if cost else None,
+        open=cost is not None and cost.open,
+        spread=max((point.most / point.least for point in routine.points if point.least), default=1.0),
+        library=library,
+    )
+
+
+def ordered(rows: Sequence[Row], by: str | None) -> list[Row]:
+    """By `by`, or else what to look at first."""
+    if by == "name":
+        return sorted(rows, key=lambda row: (row.routine.label.lower(), row.routine.entry))
+    if by == "growth":
+        return sorted(rows, key=lambda row: (-(row.growth.exponent if row.growth else -math.inf), -row.share))
+    if by == "self":
+        return sorted(rows, key=lambda row: (-(row.own or 0.0), -row.share))
+    if by == "share":
+        return sorted(rows, key=lambda row: -row.share)
+    return by_weight(rows)
+
+
+def by_weight(rows: Sequence[Row]) -> list[Row]:
+    """By weight; of those within a third of the first the innermost before its callers: the one with the most self cost, or,
+    where that isn't known, with the least cost. Routines of one size are last."""
+    left = sorted((row for row in rows if row.growth), key=lambda row: -row.weight)
+    order: list[Row] = []
+    while left:
+        group = [row for row in left if row.weight >= left[0].weight * 2 / 3]
+        left = left[len(group) :]
+        order += sorted(group, key=lambda row: (row.uncertain, -(row.own or 0.0), row.share, -row.routine.entry))
+    return order + sorted((row for row in rows if not row.growth), key=lambda row: (-row.share, row.routine.entry))

@@ -1,0 +1,84 @@
+"""Text for a terminal: its width, tables of aligned columns, and numbers that fit."""
+from __future__ import annotations
+
+import shutil
+import sys
+from collections.abc import Sequence
+from dataclasses import dataclass
+
+NARROWEST = 80
+
+
+def width() -> int:
+    """The columns of the terminal that standard output is, at least 80; 80 where it is none."""
+    return max(NARROWEST, shutil.get_terminal_size().columns) if sys.stdout.isatty() else NARROWEST
+
+
+def can_print(text: str) -> bool:
+    """Whether the encoding of standard output has the characters of a text."""
+    try:
+        text.encode(sys.stdout.encoding or "ascii")
+    except (UnicodeEncodeError, LookupError):
+        return False
+    return True
+
+
+@dataclass
+class Column:
+    """A column of a table: its heading over its cells, numbers at the right."""
+
+    heading: str
+    cells: list[str]
+    left: bool = False
+
+
+def table(columns: Sequence[Column], room: int) -> list[str]:
+    """The lines of a table. Texts of the last column are cut in the middle where the room isn't enough."""
+    widths = [max(len(text) for text in (column.heading, *column.cells)) for column in columns]
+    rest = max(room - sum(widths[:-1]) - len(widths) + 1, 16)
+    lines = []
+    for row in range(-1, len(columns[0].cells)):
+        texts = [column.heading if row < 0 else column.cells[row] for column in columns]
+        aligned = [
+            text.ljust(wide) if column.left else text.rjust(wide) for column, wide, text in zip(columns, widths, texts)
+        ]
+        lines.append(" ".join([*aligned[:-1], cut(aligned[-1].rstrip(), rest)]).rstrip())
+    return lines
+
+
+def cut(text: str, room: int) -> str:
+    """The text, or its begin and its end where it is too long."""
+    if len(text) <= room:
+        return text
+    kept = room - 3
+    return f"{text[: kept - kept // 2]}...{text[len(text) - kept // 2 :]}"
+
+
+def short(number: float) -> str:
+    """A number in at most seven characters; whole below ten millions."""
+    if number < 10_000_000:
+        return str(round(number))
+    for unit, name in ((1e18, "E"), (1e15, "P"), (1e12, "T"), (1e9, "G"), (1e6, "M")):
+        if number >= unit:
+            return f"{number / unit:.1f}{name}" if number < 1e21 else f"{number:.0e}"
+    return str(round(number))
+
+
+def about(number: float) -> str:
+    """A number in two digits that count."""
+    return short(float(f"{number:.2g}"))
+
+
+def percent(share: float) -> str:
+    return f"{100 * share:.1f}%"
+
+
+def plural(number: int, noun: str) -> str:
+    return f"{number} {noun}" if number == 1 else f"{number} {noun}s"
+
+
+def factor_text(factor: float) -> str:
+    """`x2.2`, `x84`, and `x>99` for what is out of all bounds."""
+    if factor > 99.5:
+        return "x>99"
+    return f"x{factor:.1f}" if factor < 9.95 else f"x{factor:.0f}"

@@ -1,0 +1,104 @@
+"""Growth of known curves: with noise, with a fixed part in the size, in the cost and in both, and from few points."""
+from __future__ import annotations
+
+import math
+import unittest
+from collections.abc import Callable
+
+from aprof_show.growth import growth_of
+from aprof_show.model import Point
+from tests.samples import points_of, stored
+
+DOUBLED = [60, 120, 240, 480, 960]
+MANY = list(range(10, 400, 3))
+FAR = [40, 4000]
+SMALL = [4, 8, 16, 32, 64]
+
+Curve = Callable[[int], float]
+LINEAR: Curve = lambda n: 10.0 * n
+LOG_LINEAR: Curve = lambda n: 5.0 * n * math.log2(n)
+SQUARE: Curve = lambda n: 3.0 * n * n
+CUBE: Curve = lambda n: float(n**3)
+EMERGING: Curve = lambda n: 200.0 * n + n * n
+TWO_POWER: Curve = lambda n: float(2.0 ** (n / 8))
+
+# curve, sizes, fixed size, fixed cost, and the least and the greatest factor that is right, without noise and with 20 %
+CURVES = [
+    ("n", LINEAR, DOUBLED, 0, 0, (1.98, 2.02), (1.7, 2.4)),
+    ("n", LINEAR, MANY, 0, 0, (1.98, 2.02), (1.7, 2.4)),
+    ("n", LINEAR, DOUBLED, 256, 0, (1.95, 2.05), (1.7, 4.0)),
+    ("n", LINEAR, DOUBLED, 0, 5000, (1.6, 2.05), (1.2, 2.1)),
+    ("n", LINEAR, DOUBLED, 256, 5000, (1.6, 2.05), (1.2, 2.2)),
+    ("n", LINEAR, FAR, 0, 0, (1.98, 2.02), (1.8, 2.2)),
+    ("n log n", LOG_LINEAR, DOUBLED, 0, 0, (2.15, 2.3), (1.8, 2.7)),
+    ("n log n", LOG_LINEAR, DOUBLED, 256, 0, (2.15, 2.35), (1.8, 3.5)),
+    ("n log n", LOG_LINEAR, DOUBLED, 0, 5000, (2.05, 2.3), (1.6, 2.4)),
+    ("n²", SQUARE, SMALL, 0, 0, (3.9, 4.1), (3.3, 4.5)),
+    ("n²", SQUARE, DOUBLED, 0, 0, (3.9, 4.1), (3.3, 4.5)),
+    ("n²", SQUARE, MANY, 0, 0, (3.9, 4.1), (3.3, 4.5)),
+    ("n²", SQUARE, DOUBLED, 256, 0, (3.7, 4.3), (3.0, 6.5)),
+    ("n²", SQUARE, DOUBLED, 0, 5000, (3.7, 4.1), (3.2, 4.3)),
+    ("n²", SQUARE, DOUBLED, 256, 5000, (3.7, 4.8), (3.0, 8.0)),
+    ("n²", SQUARE, FAR, 0, 0, (3.95, 4.05), (3.7, 4.3)),
+    ("n³", CUBE, DOUBLED, 0, 0, (7.8, 8.2), (6.5, 9.5)),
+    ("n³", CUBE, DOUBLED, 256, 5000, (7.4, 8.6), (6.5, 12.0)),
+    ("n + n²", EMERGING, DOUBLED, 0, 0, (2.9, 3.4), (2.5, 3.7)),
+    ("2^n", TWO_POWER, [20, 40, 80, 160], 0, 0, (30, 1e9), (30, 1e9)),
+]
+
+
+class KnownCurves(unittest.TestCase):
+    def test_curves(self) -> None:
+        for name, curve, sizes, fixed_size, fixed_cost, exact, noisy in CURVES:
+            spots = [(size + fixed_size, fixed_cost + curve(size)) for size in sizes]
+            for noise, bounds in ((0.0, exact), (0.2, noisy)):
+                for seed in range(1 if noise == 0 else 20):
+                    with self.subTest(name, sizes=sizes[:3], size=fixed_size, cost=fixed_cost, noise=noise, seed=seed):
+                        growth = growth_of(points_of(spots, noise, seed))
+                        assert growth
+                        self.assertGreaterEqual(growth.factor, bounds[0])
+                        self.assertLessEqual(growth.factor, bounds[1])
+
+    def test_words(self) -> None:
+        """sort_words is n log n, and its 256 fixed slots made it x3.7; free_words is linear, and was x2.5."""
+        routines = {routine.name: growth_of(routine.points) for routine in stored("examples/words/report.txt").routines}
+        for name, least, most in (("sort_words", 2.1, 2.3), ("free_words", 1.9, 2.3), ("qsort", 2.1, 2.3)):
+            growth = routines[name]
+            assert growth
+            self.assertTrue(least <= growth.factor <= most, f"{name} {growth}")
+
+    def test_rising_slope(self) -> None:
+        """A caller whose helper's calls become longer shows it at the top first."""
+        growth = growth_of(points_of([(n, 40 * n + n * n / 100) for n in (256, 512, 1024, 2048, 4096, 8192, 16384)]))
+        assert growth
+        self.assertGreater(growth.top, growth.whole + 0.2)
+        self.assertGreater(growth.factor, 3.0)
+
+
+class FewPoints(unittest.TestCase):
+    def test_one_size(self) -> None:
+        self.assertIsNone(growth_of([]))
+        self.assertIsNone(growth_of(points_of([(0, 9), (7, 9)])))
+
+    def test_weak(self) -> None:
+        cases = [
+            ([(7, 10), (8, 12)], "2 sizes"),
+            ([(1, 10), (1000, 12000)], "2 sizes"),
+            ([(31, 100), (40, 300), (65, 9000)], "3 sizes"),
+            ([(100, 1), (200, 2), (300, 3), (399, 4)], "sizes within a factor of 4"),
+            ([(100, 1), (200, 2), (300, 3), (400, 4)], None),
+            ([(0, 5), (100, 1), (200, 2), (400, 4)], "3 sizes"),
+        ]
+        for spots, weak in cases:
+            with self.subTest(spots=spots):
+                growth = growth_of(points_of(spots))
+                assert growth
+                self.assertEqual(growth.weak, weak)
+
+    def test_odd_costs(self) -> None:
+        """Costs that fall, that are all the same or that jump give a number all the same."""
+        for spots in ([(1, 9), (2, 8), (3, 1)], [(5, 7), (50, 7), (500, 7), (5000, 7)], [(1, 0), (2, 0)], [(2**63, 1), (2**64 - 1, 2**64)]):
+            with self.subTest(spots=spots):
+                growth = growth_of([Point(size, 1, cost, cost, cost, None) for size, cost in spots])
+                assert growth
+                self.assertTrue(math.isfinite(growth.factor))

@@ -1,0 +1,183 @@
+"""Self cost, the calling tree, callers, what was open at the end, and the exports for other tools."""
+from __future__ import annotations
+
+import random
+import shutil
+import subprocess
+import tempfile
+import unittest
+from pathlib import Path
+
+from aprof_show.costs import chain_text, contexts_of, costs_by_routine, costs_of, open_ends
+from aprof_show.joining import join
+from aprof_show.model import Context, Profile
+from aprof_show.stacks import callgrind, folded
+from aprof_show.table import open_lines
+from aprof_show.tree import callers_of, callers_text, tree_text
+from tests.samples import ADDRESSES, Call, Run, random_call, report_of
+
+PLAIN = Call("main", own=10, calls=[Call("parse", own=20, calls=[Call("leaf", own=30)]), Call("leaf", own=40)])
+RECURSIVE = Call("main", calls=[Call("parse", 3, 10, [Call("parse", 2, 10, [Call("parse", 1, 10), Call("leaf", 1, 5)])])])
+MUTUAL = Call("main", calls=[Call("parse", own=10, calls=[Call("leaf", own=10, calls=[Call("parse", own=10)])])])
+SPINNING = Call("main", own=10, calls=[
+    Call("parse", own=20), Call("parse", own=30, calls=[Call("leaf", own=5), Call("spin", own=900, open=True)]),
+])
+
+
+def profile_of(*threads: Call, end: str = "exit 0") -> Profile:
+    return join([report_of(Run(threads, ADDRESSES, end=end).text(contexts=True))])
+
+
+def roots_of(profile: Profile) -> list[Context]:
+    assert profile.roots is not None
+    return profile.roots
+
+
+def deep(chain: list[str], returned: bool) -> Profile:
+    """One chain of calls, of a step each, which all returned or none did."""
+    head = ["aprof 2", "end deep", f"steps {len(chain)}", f"open {0 if returned else len(chain)}"]
+    costs: dict[str, list[int]] = {}
+    lines = []
+    for level, name in enumerate(chain):
+        cost = len(chain) - level
+        costs.setdefault(name, []).append(cost)
+        lines += [f"context {level} {ADDRESSES[name]:08x}"] + [f"0 1 {cost} {cost} {cost} 0 0 0 0"] * returned
+    for name in sorted(costs if returned else (), key=lambda name: ADDRESSES[name]):
+        mine = costs[name]
+        head.append(f"routine {ADDRESSES[name]:08x} {name}")
+        head.append(f"0 {len(mine)} {min(mine)} {max(mine)} {sum(mine)} 0 0 0 0")
+    done = [f"done {len(costs) if returned else 0}", "contexts 1"]
+    return join([report_of("\n".join([*head, *done, *lines, f"done {len(chain)}"]) + "\n")])
+
+
+class Costs(unittest.TestCase):
+    def own(self, *threads: Call) -> dict[str, tuple[int, int, bool]]:
+        roots = roots_of(profile_of(*threads))
+        sums = costs_by_routine(roots, costs_of(roots))
+        return {routine.label: (cost.total, cost.own, cost.open) for routine, cost in sums.items()}
+
+    def test_plain(self) -> None:
+        self.assertEqual(self.own(PLAIN), {"main": (100, 10, False), "parse": (50, 20, False), "leaf": (70, 70, False)})
+
+    def test_recursion_counts_once(self) -> None:
+        self.assertEqual(self.own(RECURSIVE)["parse"], (35, 30, False))
+        self.assertEqual(self.own(MUTUAL)["parse"], (30, 20, False))
+
+    def test_own_costs_add_up_to_the_steps(self) -> None:
+        for seed in range(40):
+            profile = profile_of(*(random_call(random.Random(seed + place)) for place in range(3)))
+            self.assertEqual(sum(cost.own for cost in costs_of(roots_of(profile)).values()), profile.steps)
+
+    def test_open(self) -> None:
+        """What had not returned has the least cost that is sure, and none below zero."""
+        costs = self.own(SPINNING)
+        self.assertEqual(costs["parse"], (20, 15, True))
+        self.assertEqual(costs[f"{ADDRESSES['main']:08x}"], (20, 0, True))
+        self.assertEqual(costs[f"{ADDRESSES['spin']:08x}"], (0, 0, True))
+
+
+class OpenAtTheEnd(unittest.TestCase):
+    def test_chain(self) -> None:
+        profile = profile_of(SPINNING, end="budget")
+        spin = f"{ADDRESSES['spin']:08x}"
+        self.assertEqual(open_lines(profile), [f"open at the end: {ADDRESSES['main']:08x} > parse > {spin}"])
+
+    def test_more_than_are_sure(self) -> None:
+        """A second thread in the same routines is open too, and only the number tells."""
+        profile = profile_of(SPINNING, SPINNING, end="deadlock")
+        self.assertIn("3 more calls had not returned", open_lines(profile)[-1])
+
+    def test_long_chains(self) -> None:
+        profile = deep(["main"] + ["parse"] * 30_000 + ["leaf"], returned=False)
+        roots = roots_of(profile)
+        (end,) = open_ends(roots, costs_of(roots))
+        self.assertIn("(x30000)", chain_text(end))
+        self.assertLess(len("\n".join(tree_text(profile, roots, 0.01, 80))), 2000)
+        self.assertEqual(len(list(folded(profile, roots))), 1)
+
+    def test_plain_report(self) -> None:
+        profile = join([report_of(Run([SPINNING], ADDRESSES, end="budget").text())])
+        self.assertEqual(open_lines(profile), ["3 calls had not returned; `aprof contexts` stores which"])
+
+
+class Trees(unittest.TestCase):
+    def test_tree(self) -> None:
+        profile = profile_of(PLAIN)
+        self.assertEqual(tree_text(profile, roots_of(profile), 0.35, 80)[1:], [
+            " TOTAL  SELF CALLS  ROUTINE",
+            "100.0% 10.0%     1  main",
+            " 50.0% 20.0%     1    parse",
+            "                        (1 routine below 35.0%)",
+            " 40.0% 40.0%     1    leaf",
+        ])
+
+    def test_recursion_is_one_line(self) -> None:
+        profile = profile_of(RECURSIVE)
+        self.assertEqual(tree_text(profile, roots_of(profile), 0, 80)[2:], [
+            "100.0%  2.8%     1  main",
+            " 97.2% 83.3%     3    parse (recursive)",
+            " 13.9% 13.9%     1      leaf",
+        ])
+
+    def test_callers(self) -> None:
+        profile = profile_of(PLAIN)
+        leaf = next(routine for routine in profile.routines if routine.name == "leaf")
+        top = callers_of(leaf, roots_of(profile), costs_of(roots_of(profile)))
+        self.assertEqual((top.total, top.calls), (70, 2))
+        self.assertEqual({node.routine.label: node.total for node in top.below.values()}, {"parse": 30, "main": 40})
+        text = callers_text(profile, roots_of(profile), leaf, 0.01, 80)
+        self.assertEqual(text[1].split(), ["CALLS", "COST", "SHARE", "GROWTH", "CALLED", "BY"])
+        self.assertEqual([line.split()[-1] for line in text[2:]], ["leaf", "main", "parse", "main"])
+
+    def test_callers_of_deep_recursion(self) -> None:
+        """Direct and mutual recursion of some thousand levels takes no time that grows with its square."""
+        for links in (["parse"], ["parse", "look_up"]):
+            profile = deep(["main"] + links * 10_000 + ["leaf"], returned=True)
+            roots = roots_of(profile)
+            for routine in profile.routines:
+                self.assertTrue(callers_text(profile, roots, routine, 0.01, 80))
+            self.assertLess(len(tree_text(profile, roots, 0, 80)), 12)
+            self.assertEqual(sum(cost.own for cost in costs_of(roots).values()), profile.steps)
+
+
+class Exports(unittest.TestCase):
+    def profiles(self) -> list[Profile]:
+        some = [profile_of(PLAIN), profile_of(RECURSIVE), profile_of(MUTUAL), profile_of(SPINNING, end="budget")]
+        return some + [profile_of(*(random_call(random.Random(seed + place)) for place in range(3))) for seed in range(5)]
+
+    def test_folded_sums_to_the_steps(self) -> None:
+        for profile in self.profiles():
+            lines = list(folded(profile, roots_of(profile)))
+            self.assertEqual(sum(int(line.rsplit(" ", 1)[1]) for line in lines), profile.steps)
+            self.assertTrue(all(line.count(" ") == 1 for line in lines))
+        self.assertEqual(sorted(folded(profile_of(PLAIN), roots_of(profile_of(PLAIN)))), [
+            "main 10", "main;leaf 40", "main;parse 20", "main;parse;leaf 30",
+        ])
+
+    def test_what_was_open_is_under_its_chain(self) -> None:
+        profile = profile_of(SPINNING, end="budget")
+        main, spin = f"{ADDRESSES['main']:08x}", f"{ADDRESSES['spin']:08x}"
+        self.assertIn(f"{main};parse;{spin};[open_at_the_end] 945", list(folded(profile, roots_of(profile))))
+
+    @unittest.skipUnless(shutil.which("callgrind_annotate"), "no callgrind_annotate (valgrind)")
+    def test_callgrind_annotate(self) -> None:
+        """It opens the file, and its totals are those of the report, the own costs of routines too."""
+        for profile in self.profiles():
+            roots = roots_of(profile)
+            text = "\n".join(callgrind(profile, roots, "some image", {ADDRESSES["parse"]: "/src/parse.c:12"})) + "\n"
+            with tempfile.TemporaryDirectory() as folder:
+                path = Path(folder, "callgrind.out.1")
+                path.write_text(text, encoding="utf-8")
+                command = ["callgrind_annotate", "--threshold=100", "--tree=both", str(path)]
+                shown = subprocess.run(command, capture_output=True, text=True, check=True)
+            self.assertEqual(shown.stderr, "")
+            self.assertRegex(shown.stdout, rf"(?m)^\s*{profile.steps:,} .*PROGRAM TOTALS")
+            own = sum(cost.own for cost in costs_of(roots).values())
+            self.assertEqual("[open at the end]" in shown.stdout, own < profile.steps)
+            for routine, cost in costs_by_routine(roots, costs_of(roots)).items():
+                if cost.own:
+                    self.assertRegex(shown.stdout, rf"(?m)^\s*{cost.own:,} \(.*\*\s.*:{routine.name}")
+
+    def test_contexts(self) -> None:
+        profile = profile_of(PLAIN)
+        self.assertEqual([context.routine.name for context in contexts_of(roots_of(profile))], ["main", "parse", "leaf", "leaf"])
