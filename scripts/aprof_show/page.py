@@ -1,22 +1,31 @@
-"""One HTML file of a profile that needs no network: the routines, the charts of one of them, and the calling contexts."""
+"""One HTML file of a profile that needs no network: the routines, the charts of one of them, and the calling contexts.
+
+The sources are in page/, and the chart library is read from its Debian package.
+"""
 from __future__ import annotations
 
 import json
-import math
 import re
-from collections.abc import Iterable
+from collections import Counter
+from collections.abc import Sequence
 from pathlib import Path
 from typing import Any
 
-from .model import Context, Point, Profile, Report, Routine
+from aprof_show.costs import contexts_of, costs_of
+from aprof_show.growth import Growth, factor_of, growth_of
+from aprof_show.joining import add_points
+from aprof_show.model import Context, Point, Profile, Report, Routine
+from aprof_show.rows import Row, ordered, rows_of
 
 LIBRARY = Path("/usr/share/javascript/chart.js/chart.min.js")
 SOURCES = Path(__file__).parent / "page"
 SCRIPTS = ("format.js", "data.js", "points.js", "axes.js", "charts.js", "pointer.js", "detail.js", "table.js",
            "contexts.js", "tree.js", "main.js")
+CHEAP = 0.01
 
 Json = dict[str, Any]
-Cost = tuple[int, int, bool]
+Places = dict[Routine, int]
+"""Where the routines stand in the page's table."""
 
 
 class MissingPackage(Exception):
@@ -26,84 +35,81 @@ class MissingPackage(Exception):
 def write_page(path: str, profile: Profile, lines: dict[int, str] | None = None) -> None:
     """Writes the page; `lines` has the source line of a routine's entry where it is known."""
     parts = {
-        "style": _source("page.css"),
-        "library": _library(),
-        "profile": json.dumps(_profile(profile, lines or {}), separators=(",", ":")).replace("<", "\\u003c"),
-        "script": "".join(_source(name) for name in SCRIPTS),
+        "style": source_of("page.css"),
+        "library": library(),
+        # a name may have the end of a script in it
+        "profile": json.dumps(json_of(profile, lines or {}), separators=(",", ":")).replace("<", "\\u003c"),
+        "script": "".join(source_of(name) for name in SCRIPTS),
     }
     # in one pass, as what is set in may have such a mark itself
-    text = re.sub(r"@(style|library|profile|script)@", lambda found: parts[found[1]], _source("page.html"))
+    text = re.sub(r"@(style|library|profile|script)@", lambda found: parts[found[1]], source_of("page.html"))
     with open(path, "w", encoding="utf-8", newline="\n") as file:
         file.write(text)
 
 
-def _source(name: str) -> str:
+def source_of(name: str) -> str:
     return (SOURCES / name).read_text(encoding="utf-8")
 
 
-def _library() -> str:
+def library() -> str:
     try:
         return LIBRARY.read_text(encoding="utf-8").replace("</script", "<\\/script")
     except OSError as error:
-        raise MissingPackage(f"{LIBRARY} is missing: apt-get install libjs-chart.js") from error
+        raise MissingPackage(f"{LIBRARY} is missing, which is in the Debian package libjs-chart.js") from error
 
 
-def _profile(profile: Profile, lines: dict[int, str]) -> Json:
-    contexts = list(_contexts(profile.roots or []))
-    routines = list(profile.routines)
-    places = {id(routine): place for place, routine in enumerate(routines)}
-    for context in contexts:
-        # a routine whose calls had all not returned may have no line of its own
-        if id(context.routine) not in places:
-            places[id(context.routine)] = len(routines)
-            routines.append(context.routine)
-    costs = _costs(contexts)
-    rows = [_routine(routine, lines.get(routine.entry), routine.cost, profile.steps) for routine in routines]
-    if profile.roots is not None:
-        for routine, (total, own, is_open) in zip(routines, _costs_of_routines(contexts, costs, places)):
-            rows[places[id(routine)]] = _routine(routine, lines.get(routine.entry), total, profile.steps, own, is_open)
+def json_of(profile: Profile, lines: dict[int, str]) -> Json:
+    rows = ordered(rows_of(profile), None)
     return {
-        "reports": [_report(report) for report in profile.reports],
+        "reports": [report_json(report) for report in profile.reports],
         "steps": profile.steps,
         "open": profile.still_open,
-        "routines": rows,
-        "contexts": None if profile.roots is None else _tree(contexts, costs, places),
-        "callers": _callers(contexts, places),
+        "routines": [row_json(row, lines.get(row.routine.entry)) for row in rows],
+        "contexts": None if profile.roots is None else contexts_json(profile.roots, rows),
+        "callers": callers_json(profile.roots or [], places_of(rows)),
     }
 
 
-def _report(report: Report) -> Json:
+def places_of(rows: Sequence[Row]) -> Places:
+    return {row.routine: place for place, row in enumerate(rows)}
+
+
+def report_json(report: Report) -> Json:
     return {"path": report.path, "end": report.end, "steps": report.steps, "open": report.still_open}
 
 
-def _routine(
-    routine: Routine, line: str | None, total: int, steps: int, own: int | None = None, is_open: bool = False
-) -> Json:
-    growth = _growth(routine.points)
-    share = total / max(steps, 1)
+def row_json(row: Row, line: str | None) -> Json:
+    routine, growth = row.routine, row.growth
     return {
         "name": routine.label,
         "entry": f"{routine.entry:08x}",
         "line": line,
-        **growth,
-        "share": min(share, 1),
+        "growth": factor_json(growth),
+        "top": round(factor_of(growth.top), 3) if growth else None,
+        "guess": growth.guess if growth else None,
+        "weak": growth.weak if growth else None,
+        "steep": row.superlinear,
+        "share": row.share,
         # at least so much where calls were open, at most where nested calls were counted each
-        "bound": "≥ " if is_open else "≤ " if share > 1 else "",
-        "self": None if own is None else own / max(steps, 1),
-        "cheap": share < 0.01 and not growth["steep"] and not is_open,
-        "library": _is_library(routine),
+        "bound": "≥" if row.open else "" if row.exact else "≤",
+        "self": row.own,
+        "cheap": row.share < CHEAP and not row.superlinear and not row.open,
+        "library": row.library,
         "calls": routine.calls,
-        "points": _columns(routine.points),
+        "points": columns_of(routine.points),
     }
 
 
-def _columns(points: list[Point]) -> list[object]:
-    """Size, calls, cost, least, most, thread and kernel: a list each, a number where all are the same, or null."""
+def factor_json(growth: Growth | None) -> float | None:
+    return round(growth.factor, 3) if growth else None
+
+
+def columns_of(points: Sequence[Point]) -> list[Any]:
+    """Sizes, calls, costs, least, most, thread's and kernel's words: a list each, a number where all are the same, or null."""
     alone = all(point.calls == 1 for point in points)
     parts = [point.parts for point in points if point.parts]
     whole = len(parts) == len(points)
-    columns: list[list[int] | None] = [
-        [point.size for point in points],
+    columns = [
         [point.calls for point in points],
         [point.cost for point in points],
         None if alone else [point.least for point in points],
@@ -111,93 +117,41 @@ def _columns(points: list[Point]) -> list[object]:
         [part.thread for part in parts] if whole else None,
         [part.kernel for part in parts] if whole else None,
     ]
-    packed: list[object] = [columns[0]]
-    for column in columns[1:]:
-        packed.append(column[0] if column and len(set(column)) == 1 else column)
-    return packed
+    packed = [column[0] if column and len(set(column)) == 1 else column for column in columns]
+    return [[point.size for point in points], *packed]
 
 
-def _contexts(roots: Iterable[Context]) -> Iterable[Context]:
-    """Each context before those under it."""
-    ahead = list(roots)[::-1]
-    while ahead:
-        context = ahead.pop()
-        yield context
-        ahead.extend(reversed(context.callees))
+def contexts_json(roots: Sequence[Context], rows: Sequence[Row]) -> Json:
+    """A column for each fact, each context before those under it, and which of them were open at the end."""
+    costs = costs_of(roots)
+    contexts = list(contexts_of(roots))
+    numbers = {context: number for number, context in enumerate(contexts)}
+    places = places_of(rows)
+    times = Counter(context.routine for context in contexts)
 
+    def growth(context: Context) -> Growth | None:
+        known = times[context.routine] == 1
+        return rows[places[context.routine]].growth if known else growth_of(context.points)
 
-def _tree(contexts: list[Context], costs: dict[int, Cost], places: dict[int, int]) -> Json:
-    """A column for each fact, and the contexts that were open at the end."""
-    numbers = {id(context): number for number, context in enumerate(contexts)}
-    callers = [context.caller for context in contexts]
     return {
-        "routine": [places[id(context.routine)] for context in contexts],
-        "caller": [-1 if caller is None else numbers[id(caller)] for caller in callers],
+        "routine": [places[context.routine] for context in contexts],
+        "caller": [numbers[context.caller] if context.caller else -1 for context in contexts],
         "calls": [context.calls for context in contexts],
-        "cost": [costs[id(context)][0] for context in contexts],
-        "self": [costs[id(context)][1] for context in contexts],
-        "open": [number for number, context in enumerate(contexts) if costs[id(context)][2]],
-        "growth": [_growth(context.points)["growth"] for context in contexts],
+        "cost": [costs[context].total for context in contexts],
+        "self": [costs[context].own for context in contexts],
+        "growth": [factor_json(growth(context)) for context in contexts],
+        "open": [number for number, context in enumerate(contexts) if costs[context].open],
     }
 
 
-def _callers(contexts: list[Context], places: dict[int, int]) -> list[list[object]]:
-    """How each routine's cost grows in its calls from each of its callers: the routine, the caller and the growth."""
-    points: dict[tuple[int, int], list[Point]] = {}
-    for context in contexts:
-        if context.caller is not None:
-            pair = places[id(context.routine)], places[id(context.caller.routine)]
-            points.setdefault(pair, []).extend(context.points)
-    return [[*pair, _growth(sorted(all_points, key=lambda point: point.size))["growth"]] for pair, all_points in points.items()]
+def callers_json(roots: Sequence[Context], places: Places) -> list[list[Any]]:
+    """How a routine's cost grows in its calls from a caller that has several contexts: the routine, the caller and the growth."""
+    pairs: dict[tuple[int, int], list[Context]] = {}
+    for context in contexts_of(roots):
+        if context.caller:
+            pairs.setdefault((places[context.routine], places[context.caller.routine]), []).append(context)
+    return [[*pair, factor_json(growth_of(points_of(contexts)))] for pair, contexts in pairs.items() if len(contexts) > 1]
 
 
-# What follows stands in until growth.py and tree.py are there.
-
-
-def _growth(points: list[Point]) -> Json:
-    """How the greatest cost grows where the size doubles, over all sizes and over the largest, and why it may be noise."""
-    tops: dict[int, Point] = {}
-    for point in points:
-        power = point.size.bit_length()
-        if point.size >= 4 and point.most > 0 and (power not in tops or point.most > tops[power].most):
-            tops[power] = point
-    powers = sorted(tops)
-    if len(powers) < 2 or tops[powers[-1]].size < 1.5 * tops[powers[0]].size:
-        return {"growth": None, "top": None, "guess": "", "steep": False, "weak": None}
-    first, before, last = tops[powers[0]], tops[powers[max(len(powers) - 3, 0)]], tops[powers[-1]]
-    whole, top = [(last.most / point.most) ** (1 / math.log2(last.size / point.size)) for point in (first, before)]
-    near = "sizes within a factor of 4" if last.size < 4 * first.size else None
-    weak = f"{len(points)} sizes" if len(points) < 4 else near
-    guess = "about n²" if whole > 3.5 else "about n log n" if whole > 2.15 else "about linear" if whole > 1.7 else "less than linear"
-    return {"growth": round(whole, 3), "top": round(top, 3), "guess": guess, "steep": whole > 2.3, "weak": weak}
-
-
-LIBC = frozenset("malloc free calloc realloc memcpy memset memmove memcmp strlen strcmp strncmp printf vfprintf qsort".split())
-
-
-def _is_library(routine: Routine) -> bool:
-    return routine.name is not None and (routine.name in LIBC or routine.name.startswith("__"))
-
-
-def _costs(contexts: list[Context]) -> dict[int, Cost]:
-    """Where calls of a context were open at the end its costs are the least that is sure."""
-    costs: dict[int, Cost] = {}
-    for context in reversed(contexts):
-        below = [costs[id(callee)] for callee in context.callees]
-        total = sum(cost[0] for cost in below)
-        is_open = not context.points or total > context.cost or any(cost[2] for cost in below)
-        costs[id(context)] = max(context.cost, total), max(context.cost - total, 0), is_open
-    return costs
-
-
-def _costs_of_routines(contexts: list[Context], costs: dict[int, Cost], places: dict[int, int]) -> list[Cost]:
-    """Of each routine, counting what it calls only in those of its calls that are in no other call of it."""
-    sums: list[Cost] = [(0, 0, False)] * len(places)
-    for context in contexts:
-        total, own, is_open = costs[id(context)]
-        above = context.caller
-        while above is not None and above.routine is not context.routine:
-            above = above.caller
-        before = sums[places[id(context.routine)]]
-        sums[places[id(context.routine)]] = before[0] + (0 if above else total), before[1] + own, before[2] or is_open
-    return sums
+def points_of(contexts: Sequence[Context]) -> list[Point]:
+    return add_points([], (point for context in contexts for point in context.points))

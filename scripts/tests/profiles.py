@@ -11,7 +11,9 @@ Cost = Callable[[float], float]
 NOISE = random.Random(61)
 
 
-def points_of(sizes: Iterable[int], cost: Cost, calls: int = 3, noise: float = 0.05, thread: float = 0, kernel: float = 0) -> list[Point]:
+def points_of(
+    sizes: Iterable[int], cost: Cost, calls: int = 3, noise: float = 0.05, thread: float = 0, kernel: float = 0
+) -> list[Point]:
     """Points of a known curve, with calls that differ by `noise`, and parts of the input by other threads and the kernel."""
     points = []
     for size in sorted(set(sizes)):
@@ -62,6 +64,7 @@ class Made:
 
 def sample(end: str = "exit 0", contexts: bool = True) -> Profile:
     """A program with a quadratic routine, an n log n one, threads and the kernel; with `end` not exit 0, calls are open."""
+    NOISE.seed(61)
     made = Made()
     whole = end == "exit 0"
     sizes = over(16, 4096, 60)
@@ -85,8 +88,6 @@ def sample(end: str = "exit 0", contexts: bool = True) -> Profile:
         made.context("spin", main, [])
     thread = made.context("start", None, points_of([900], lambda n: 9.2e6, calls=1, noise=0))
     made.context("square_block", thread, points_of(over(32, 2048, 25), lambda n: 11 * n, thread=0.7, kernel=0.1))
-    order = ["add_posting", "build_index", "sort_words", "few", "_start", "main"]
-    made.routines.sort(key=lambda routine: order.index(routine.label) if routine.label in order else len(order))
     return made.profile("out/a", "out/b", end=end, still_open=0 if whole else 3, contexts=contexts)
 
 
@@ -109,7 +110,6 @@ def large(amount: int) -> Profile:
     made = Made()
     root = made.context("main", None, points_of([amount * 8], lambda n: 1e12, calls=1))
     made.context("scan", root, points_of(range(1, 5 * amount + 1, 5), lambda n: n * math.log2(n + 1), calls=2, noise=0.4, kernel=0.3))
-    made.routines.reverse()
     return made.profile("large.report")
 
 

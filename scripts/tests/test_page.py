@@ -21,7 +21,7 @@ HOVER_LIMIT = 0.5
 NAMES = "[...document.querySelectorAll('#routines tbody td.name')].map((cell) => cell.textContent)"
 TREE = "[...document.querySelectorAll('#tree tbody tr')].map((row) => [row.ariaLevel, row.querySelector('.label').textContent])"
 TIP = "[...document.querySelectorAll('#tip dd')].map((value) => value.textContent)"
-CANVAS = "document.querySelector('#cost').toDataURL()"
+CANVAS = "[...document.querySelector('#cost').toDataURL()].reduce((sum, letter) => (31 * sum + letter.charCodeAt(0)) | 0, 7)"
 
 
 def text_of(selector: str) -> str:
@@ -64,10 +64,17 @@ class Pages(unittest.TestCase):
 
     def open(self, profile: Profile, fragment: str = "") -> Path:
         path = Path(self.folder.name, f"{self.id().rsplit('.', 1)[1]}.html")
-        page.write_page(str(path), profile, {profile.routines[0].entry: "words.c:17"})
+        page.write_page(str(path), profile, {routine.entry: f"words.c:{routine.name}" for routine in profile.routines})
         self.browser.requests.clear()
         self.browser.open(path, fragment)
         return path
+
+    def open_sample(self, routine: str = "add_posting") -> list[Point]:
+        """The sample with this routine chosen, and its points."""
+        profile = profiles.sample()
+        self.open(profile, f"#routine={routine}")
+        [points] = [one.points for one in profile.routines if one.name == routine]
+        return points
 
     def ask(self, expression: str) -> object:
         return self.browser.ask(expression)
@@ -90,7 +97,7 @@ class Pages(unittest.TestCase):
     def test_the_first_routine_is_shown_with_what_is_known_of_it(self) -> None:
         self.open(profiles.sample())
         self.assertEqual(self.shown(), "add_posting")
-        self.assertIn("words.c:17", str(self.ask(text_of("#place"))))
+        self.assertIn("words.c:add_posting", str(self.ask(text_of("#place"))))
         self.assertIn("×", str(self.ask(text_of("#verdict"))))
         self.assertEqual(self.ask("document.querySelector('#routines tr[aria-current] .rate b').textContent.includes('superlinear')"), True)
 
@@ -142,8 +149,7 @@ class Pages(unittest.TestCase):
         self.assertEqual(self.shown(), "square_block")
 
     def test_hovering_tells_the_numbers_of_a_real_point(self) -> None:
-        profile = profiles.sample()
-        self.open(profile)
+        points = self.open_sample()
         x, y = self.browser.middle("#cost")
         told = set()
         for aside in (-220, -90, 0, 70, 150, 230):
@@ -151,7 +157,7 @@ class Pages(unittest.TestCase):
             numbers = self.ask(TIP)
             assert isinstance(numbers, list)
             size = int(re.sub(r"\D", "", numbers[0]))
-            [point] = [point for point in profile.routines[0].points if point.size == size]
+            [point] = [point for point in points if point.size == size]
             self.assertEqual(numbers, numbers_of(point))
             told.add(size)
         self.assertGreater(len(told), 4)
@@ -159,10 +165,8 @@ class Pages(unittest.TestCase):
         self.assertTrue(self.ask("document.querySelector('#tip').hidden"))
 
     def test_arrow_keys_read_the_points_out(self) -> None:
-        profile = profiles.sample()
-        self.open(profile)
+        points = self.open_sample()
         self.ask("document.querySelector('#plots').focus()")
-        points = profile.routines[0].points
         for key, point in (("ArrowRight", points[0]), ("ArrowRight", points[1]), ("End", points[-1]), ("ArrowLeft", points[-2])):
             self.browser.press(key)
             self.assertEqual(self.ask(TIP), numbers_of(point))
@@ -171,7 +175,7 @@ class Pages(unittest.TestCase):
         self.assertIn(f"at size {points[-2].size:,};", str(self.ask(text_of("#guides-note"))))
 
     def test_axes_and_series_change_by_a_click(self) -> None:
-        self.open(profiles.sample())
+        self.open_sample()
         log = self.ask(CANVAS)
         self.browser.click("#scale input[value=linear] + span")
         linear = self.ask(CANVAS)
@@ -185,7 +189,7 @@ class Pages(unittest.TestCase):
         self.assertEqual(self.ask(CANVAS), log)
 
     def test_a_click_on_a_point_moves_the_guides(self) -> None:
-        self.open(profiles.sample())
+        self.open_sample()
         before, note = self.ask(CANVAS), self.ask(text_of("#guides-note"))
         x, y = self.browser.middle("#cost")
         self.browser.click_at(x + 150, y)
@@ -206,7 +210,7 @@ class Pages(unittest.TestCase):
         self.assertIn("all its thread’s own", str(self.ask(text_of("#parts-note"))))
 
     def test_the_callers_are_a_tree_that_opens(self) -> None:
-        self.open(profiles.sample())
+        self.open_sample()
         whole = [["1", "add_posting"], ["2", "build_index"], ["3", "main"], ["4", "_start"]]
         self.assertEqual(self.ask(TREE), whole)
         self.browser.click("#tree tbody tr:nth-child(2) .twist")
@@ -248,7 +252,7 @@ class Pages(unittest.TestCase):
             self.assertIn(names[routine], str(self.ask(text_of("#tree tbody"))))
         self.assertNotIn("caught", str(self.ask("document.title")))
         self.assertEqual(self.ask("document.querySelectorAll('img, b b, td b b').length"), 0)
-        self.assertEqual(path.read_text().count("document.title='caught'"), 2)
+        self.assertNotIn("<script>document", path.read_text())
 
     def test_a_phone_has_no_scrolling_aside(self) -> None:
         for profile in (profiles.sample(), profiles.hostile(), profiles.sample("budget")):

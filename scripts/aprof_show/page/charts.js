@@ -133,7 +133,7 @@ function bars(id, points, x, look, axis, columns, options) {
 
 function callsChart(points, x, look) {
   const most = points.calls.reduce((a, b) => Math.max(a, b), 1);
-  const y = axisOver(figure.log ? 0.8 : 0, most, figure.log);
+  const y = axisOver(figure.log ? 0.8 : 0, figure.log ? Math.max(most, 1.3) : most, figure.log);
   const value = (from, to) => points.calls.subarray(from, to + 1).reduce((a, b) => Math.max(a, b));
   return bars("calls", points, x, look, y, [{ colour: look.guide, value }], { wanted: 2 });
 }

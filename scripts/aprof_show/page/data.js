@@ -5,6 +5,7 @@ const callGrowth = new Map(profile.callers.map(([routine, caller, growth]) => [`
 
 routines.forEach((routine, index) => {
   routine.index = index;
+  routine.guess = routine.guess?.replaceAll("^2", "²").replaceAll("^3", "³");
   const sizes = routine.points[0];
   routine.sizes = sizes.length ? [sizes[0], sizes[sizes.length - 1]] : null;
 });

@@ -6,13 +6,13 @@ let wantsLog = true;
 function verdictOf(routine) {
   if (!routine.sizes) return "All its calls were still open at the end, so it has no points, and what they cost is not known.";
   if (routine.growth === null) {
-    return routine.sizes[0] === routine.sizes[1]
-      ? "All its calls have one size, which says nothing of growth: give the run several inputs, or show several reports at once."
-      : "Its sizes are too few, or too near to one another, to tell how its cost grows.";
+    const sizes = routine.sizes[0] === routine.sizes[1] ? "one size" : "one size other than 0";
+    return `Its calls have ${sizes}, which says nothing of growth: give the run several inputs, or show several reports at once.`;
   }
   const top = routine.top !== null && Math.abs(routine.top - routine.growth) >= 0.15
     ? ` (${times(routine.top)} at the largest sizes)` : "";
-  return `Where its input doubles, its greatest cost grows ${times(routine.growth)}${top}: ${routine.guess}.`;
+  return `Where its input doubles, its greatest cost grows ${times(routine.growth)}${top}: ${routine.guess}.${
+    routine.weak ? ` That rests on ${routine.weak}, and is uncertain.` : ""}`;
 }
 
 // the greatest cost at the largest size, and what it comes to where that doubles
@@ -30,7 +30,7 @@ function factsOf(routine) {
   facts.push(["calls", count(routine.calls)]);
   if (routine.sizes) facts.push([plural(routine.points[0].length, "size"), sizesText(routine)]);
   if (spreadOf(figure.points) >= 1.05) facts.push(["spread at one size", times(spreadOf(figure.points))]);
-  if (routine.growth !== null) facts.push(["greatest cost → at twice the size", aheadOf(routine)]);
+  if (routine.growth !== null) facts.push(["greatest → at twice the size", aheadOf(routine)]);
   return facts;
 }
 
@@ -75,8 +75,6 @@ function showRoutine(routine) {
   byId("place").textContent = [routine.line, routine.entry === routine.name ? null : `at ${routine.entry}`,
     routine.library ? "C library" : null].filter(Boolean).join(" · ");
   byId("verdict").textContent = verdictOf(routine);
-  byId("weak").hidden = !routine.weak;
-  byId("weak").textContent = routine.weak ? `To be taken with care: ${routine.weak}.` : "";
   byId("facts").replaceChildren(...factsOf(routine).map(([name, text, look]) => make("div", "", make("dt", "", name), make("dd", look, text))));
   byId("figure").hidden = points.length === 0;
   byId("plots").setAttribute("aria-label", `Cost of ${routine.name} by size, ${plural(points.length, "point")}`);

@@ -30,7 +30,7 @@ function tellCounts() {
   const key = byId("key");
   const sample = (look, text) => make("span", "", make("span", `rate ${look}`, make("b", "", "×3.9")), ` ${text}`);
   if (routines.some(({ steep }) => steep)) key.append(sample("steep", "superlinear"));
-  if (routines.some(({ weak }) => weak)) key.append(sample("doubt", "few or near sizes: with care"));
+  if (routines.some(({ weak }) => weak)) key.append(sample("doubt", "uncertain: few sizes, or within a factor of 4"));
 }
 
 function follow() {

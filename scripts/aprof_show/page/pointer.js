@@ -49,7 +49,8 @@ function mark(i) {
   const at = left + (none ? x.left : x.getPixelForValue(figure.points.size[i]));
   byId("cross").style.left = `${at}px`;
   byId("cross").style.top = `${top + chart.chartArea.top}px`;
-  for (const { key } of none ? [] : SERIES.filter((one) => !figure.hidden.has(one.key))) {
+  const seen = none ? [] : SERIES.filter(({ key }) => !figure.hidden.has(key));
+  for (const { key } of figure.points.least[i] === figure.points.most[i] ? seen.slice(-1) : seen) {
     const spot = make("div", `spot ${key}`);
     spot.style.left = `${at}px`;
     spot.style.top = `${top + y.getPixelForValue(Math.max(figure.points[key][i], y.min))}px`;
