@@ -31,6 +31,7 @@ def over(first: int, last: int, amount: int) -> list[int]:
 
 
 def known_cost(context: Context) -> int:
+    """Of a context that returned its cost, else that of those under it."""
     return context.cost or sum(known_cost(callee) for callee in context.callees)
 
 
@@ -103,6 +104,19 @@ def hostile() -> Profile:
     for name in HOSTILE:
         made.context(name, root, points_of(over(4, 64, 5), lambda n: 100 * n))
     return made.profile("a<b>&.report", end="exit 1")
+
+
+def deep(depth: int) -> Profile:
+    """A routine that calls itself."""
+    made = Made()
+    context = made.context("main", None, points_of([4], lambda n: 1e7, calls=1))
+    descend = made.routine("descend")
+    for level in range(depth):
+        callee = Context(descend, context, points_of([depth - level], lambda n: 10 * n, calls=1, noise=0))
+        context.callees.append(callee)
+        context = callee
+        descend.points[:0] = callee.points
+    return made.profile("deep.report")
 
 
 def large(amount: int) -> Profile:

@@ -1,38 +1,18 @@
-"""The page of `show --page` in headless Chromium, as a person uses it."""
+"""The page of `show --page` in headless Chromium: its head, its table, and how it looks."""
 from __future__ import annotations
 
 import math
-import re
-import tempfile
 import time
 import unittest
 from pathlib import Path
 from unittest import mock
 
 from aprof_show import page
-from aprof_show.model import Point, Profile
+from aprof_show.model import Profile, Report
 from tests import profiles
-from tests.browser import CHROMIUM, Browser
+from tests.page_case import PageCase, text_of
 
-MISSING = [package for package, there in (("chromium", CHROMIUM), ("libjs-chart.js", page.LIBRARY.exists())) if not there]
-DRAW_LIMIT = 3.0
-"""Seconds in which the charts of 100,000 points are drawn, on a machine that does other things too."""
-HOVER_LIMIT = 0.5
 NAMES = "[...document.querySelectorAll('#routines tbody td.name')].map((cell) => cell.textContent)"
-TREE = "[...document.querySelectorAll('#tree tbody tr')].map((row) => [row.ariaLevel, row.querySelector('.label').textContent])"
-TIP = "[...document.querySelectorAll('#tip dd')].map((value) => value.textContent)"
-CANVAS = "[...document.querySelector('#cost').toDataURL()].reduce((sum, letter) => (31 * sum + letter.charCodeAt(0)) | 0, 7)"
-
-
-def text_of(selector: str) -> str:
-    return f"document.querySelector({selector!r}).textContent"
-
-
-def numbers_of(point: Point) -> list[str]:
-    """What the page tells of a point that is all its thread's own."""
-    mean = f"{int(point.mean + 0.5):,}" if point.mean >= 1000 or point.mean % 1 == 0 else f"{point.mean:.1f}"
-    costs = [f"{point.most:,}"] if point.least == point.most else [f"{point.least:,}", mean, f"{point.most:,}"]
-    return [f"{point.size:,} word{'' if point.size == 1 else 's'}", f"{point.calls:,}", *costs]
 
 
 class Files(unittest.TestCase):
@@ -43,45 +23,7 @@ class Files(unittest.TestCase):
         self.assertNotIn("\n", str(caught.exception))
 
 
-@unittest.skipIf(MISSING, f"left out, as these packages are missing: {', '.join(MISSING)}")
-class Pages(unittest.TestCase):
-    browser: Browser
-    folder: tempfile.TemporaryDirectory[str]
-
-    @classmethod
-    def setUpClass(cls) -> None:
-        cls.folder = tempfile.TemporaryDirectory(prefix="aprof-page-")
-        cls.browser = Browser()
-        cls.addClassCleanup(cls.folder.cleanup)
-        cls.addClassCleanup(cls.browser.__exit__, None, None, None)
-
-    def setUp(self) -> None:
-        self.browser.resize(1280, 1200)
-        self.browser.complaints.clear()
-
-    def tearDown(self) -> None:
-        self.assertEqual(self.browser.complaints, [])
-
-    def open(self, profile: Profile, fragment: str = "") -> Path:
-        path = Path(self.folder.name, f"{self.id().rsplit('.', 1)[1]}.html")
-        page.write_page(str(path), profile, {routine.entry: f"words.c:{routine.name}" for routine in profile.routines})
-        self.browser.requests.clear()
-        self.browser.open(path, fragment)
-        return path
-
-    def open_sample(self, routine: str = "add_posting") -> list[Point]:
-        """The sample with this routine chosen, and its points."""
-        profile = profiles.sample()
-        self.open(profile, f"#routine={routine}")
-        [points] = [one.points for one in profile.routines if one.name == routine]
-        return points
-
-    def ask(self, expression: str) -> object:
-        return self.browser.ask(expression)
-
-    def shown(self) -> object:
-        return self.ask(text_of("#name"))
-
+class Pages(PageCase):
     def test_nothing_is_asked_of_the_network(self) -> None:
         path = self.open(profiles.sample())
         self.browser.click("#scale input[value=linear] + span")
@@ -148,97 +90,9 @@ class Pages(unittest.TestCase):
         self.browser.open(path, "#routine=square_block")
         self.assertEqual(self.shown(), "square_block")
 
-    def test_hovering_tells_the_numbers_of_a_real_point(self) -> None:
-        points = self.open_sample()
-        x, y = self.browser.middle("#cost")
-        told = set()
-        for aside in (-220, -90, 0, 70, 150, 230):
-            self.browser.move(x + aside, y - aside / 3)
-            numbers = self.ask(TIP)
-            assert isinstance(numbers, list)
-            size = int(re.sub(r"\D", "", numbers[0]))
-            [point] = [point for point in points if point.size == size]
-            self.assertEqual(numbers, numbers_of(point))
-            told.add(size)
-        self.assertGreater(len(told), 4)
-        self.browser.move(5, 5)
-        self.assertTrue(self.ask("document.querySelector('#tip').hidden"))
-
-    def test_arrow_keys_read_the_points_out(self) -> None:
-        points = self.open_sample()
-        self.ask("document.querySelector('#plots').focus()")
-        for key, point in (("ArrowRight", points[0]), ("ArrowRight", points[1]), ("End", points[-1]), ("ArrowLeft", points[-2])):
-            self.browser.press(key)
-            self.assertEqual(self.ask(TIP), numbers_of(point))
-            self.assertIn(f"greatest {point.most:,}", str(self.ask(text_of("#said"))))
-        self.browser.press("Enter")
-        self.assertIn(f"at size {points[-2].size:,};", str(self.ask(text_of("#guides-note"))))
-
-    def test_axes_and_series_change_by_a_click(self) -> None:
-        self.open_sample()
-        log = self.ask(CANVAS)
-        self.browser.click("#scale input[value=linear] + span")
-        linear = self.ask(CANVAS)
-        self.assertNotEqual(log, linear)
-        self.browser.click("button.key.least")
-        self.assertEqual(self.ask("document.querySelector('button.key.least').ariaPressed"), "false")
-        self.assertNotEqual(self.ask(CANVAS), linear)
-        self.browser.click("button.key.least")
-        self.browser.click("#scale input[value=log] + span")
-        self.browser.move(5, 5)
-        self.assertEqual(self.ask(CANVAS), log)
-
-    def test_a_click_on_a_point_moves_the_guides(self) -> None:
-        self.open_sample()
-        before, note = self.ask(CANVAS), self.ask(text_of("#guides-note"))
-        x, y = self.browser.middle("#cost")
-        self.browser.click_at(x + 150, y)
-        self.assertNotEqual(self.ask(CANVAS), before)
-        self.assertNotEqual(self.ask(text_of("#guides-note")), note)
-
-    def test_the_parts_of_the_input_are_drawn_where_others_wrote_it(self) -> None:
-        path = self.open(profiles.sample(), "#routine=square_block")
-        self.assertFalse(self.ask("document.querySelector('#parts-block').hidden"))
-        self.browser.move(*self.browser.middle("#parts"))
-        numbers = self.ask(TIP)
-        assert isinstance(numbers, list)
-        own, thread, kernel = (float(number.rstrip(" %")) for number in numbers[-3:])
-        self.assertAlmostEqual(thread, 70, delta=2)
-        self.assertAlmostEqual(own + thread + kernel, 100, delta=0.2)
-        self.browser.open(path, "#routine=add_posting")
-        self.assertTrue(self.ask("document.querySelector('#parts-block').hidden"))
-        self.assertIn("all its thread’s own", str(self.ask(text_of("#parts-note"))))
-
-    def test_the_callers_are_a_tree_that_opens(self) -> None:
-        self.open_sample()
-        whole = [["1", "add_posting"], ["2", "build_index"], ["3", "main"], ["4", "_start"]]
-        self.assertEqual(self.ask(TREE), whole)
-        self.browser.click("#tree tbody tr:nth-child(2) .twist")
-        self.assertEqual(self.ask(TREE), whole[:2])
-        self.browser.press("ArrowRight")
-        self.assertEqual(self.ask(TREE), whole)
-        self.browser.press("ArrowUp")
-        self.browser.press("ArrowLeft")
-        self.assertEqual(self.ask(TREE), whole[:1])
-        self.browser.press("ArrowRight")
-        self.browser.click("#tree tbody tr:nth-child(2) .label")
-        self.assertEqual(self.shown(), "build_index")
-
-    def test_the_whole_calling_tree_tells_what_was_still_open(self) -> None:
-        self.open(profiles.sample("budget"), "#routine=spin")
-        self.assertIn("still open", str(self.ask(text_of("#verdict"))))
-        self.browser.click("#tree-kind input[value=all] + span")
-        rows = self.ask(TREE)
-        assert isinstance(rows, list)
-        self.assertEqual(rows[:2], [["1", "_start"], ["2", "main"]])
-        self.assertIn(["3", "spin"], rows)
-        spin = self.ask("[...document.querySelectorAll('#tree tbody tr')].find((row) => row.textContent.includes('spin')).textContent")
-        self.assertIn("still open", str(spin))
-
-    def test_without_contexts_there_is_no_self_cost_and_no_tree(self) -> None:
-        self.open(profiles.sample(contexts=False))
-        self.assertIsNone(self.ask("document.querySelector('#routines .self')"))
-        self.assertTrue(self.ask("document.querySelector('#trees').hidden"))
+    def test_a_report_without_routines_is_a_page_too(self) -> None:
+        self.open(Profile([Report("empty", "budget", 1000, 2, [], None)], [], None))
+        self.assertIn("no call has returned", str(self.ask(text_of("#summary"))))
 
     def test_names_are_never_html(self) -> None:
         path = self.open(profiles.hostile())
@@ -276,21 +130,6 @@ class Pages(unittest.TestCase):
                 for ground in ("paper", "tint"):
                     self.assertGreaterEqual(contrast(look[name], look[ground]), 4.5, f"{name} on {ground}, dark {dark}")
         self.assertNotEqual(*grounds)
-
-    def test_a_hundred_thousand_points_do_not_stall(self) -> None:
-        self.open(profiles.large(100_000))
-        for kind in ("linear", "log"):
-            self.browser.click(f"#scale input[value={kind}] + span")
-        draws = self.ask("performance.getEntriesByName('draw', 'measure').map((entry) => entry.duration / 1000)")
-        assert isinstance(draws, list)
-        self.assertEqual(len(draws), 3)
-        self.assertLess(max(draws), DRAW_LIMIT)
-        x, y = self.browser.middle("#cost")
-        start = time.monotonic()
-        for aside in range(10):
-            self.browser.move(x + 20 * aside, y)
-        self.assertLess((time.monotonic() - start) / 10, HOVER_LIMIT)
-        self.assertIn("words", str(self.ask(TIP)))
 
     def test_five_thousand_routines_can_be_sorted_and_reached(self) -> None:
         self.open(profiles.many(5000))

@@ -40,6 +40,7 @@ const guideNames = {
     ctx.fillStyle = colour;
     ctx.font = `${Chart.defaults.font.size}px ${Chart.defaults.font.family}`;
     let above = area.bottom;
+    let before = area.right - 2;
     for (const { name, line } of guides) {
       const inside = line.filter((spot) => spot.y <= y.max);
       const last = inside[inside.length - 1];
@@ -50,9 +51,11 @@ const guideNames = {
         ctx.textBaseline = "middle";
         ctx.fillText(name, area.right + 4, above);
       } else {
-        // at its top; but within, where the unit of the axis stands there
-        const at = x.getPixelForValue(last.x);
+        // at its top, left of the name before it; but within, where the unit of the axis stands there
+        const half = ctx.measureText(name).width / 2;
+        const at = Math.min(x.getPixelForValue(last.x), before - half);
         const within = at < area.left + 60;
+        before = at - half - 6;
         ctx.textAlign = within ? "left" : "center";
         ctx.textBaseline = within ? "top" : "bottom";
         ctx.fillText(name, within ? at + 6 : at, area.top + (within ? 4 : -3));

@@ -9,11 +9,12 @@ function tellHead() {
   const ends = [...new Set(reports.map(({ end }) => ended(end)))];
   const facts = [one ? "" : plural(reports.length, "run"), plural(profile.steps, "step"), ends.join(", "),
     profile.open ? `${plural(profile.open, "call")} still open` : "no call still open"];
-  byId("summary").textContent = facts.filter(Boolean).join(" · ");
   byId("runs").hidden = one;
   byId("runs").querySelector("tbody").append(...reports.map(({ path, end, steps, open }) => make("tr", "",
     make("td", "", path), make("td", "number", count(steps)), make("td", "", ended(end)), make("td", "number", count(open)))));
   const chains = contexts ? openChains() : [];
+  if (!routines.length) facts.push("no call has returned");
+  byId("summary").textContent = facts.filter(Boolean).join(" · ");
   byId("open").hidden = !chains.length;
   byId("open").textContent = chains.slice(0, 3).map((chain) => `Still open at the end: ${chain.join(" › ")}`).join("\n");
 }
@@ -40,6 +41,7 @@ function follow() {
     word = found && decodeURIComponent(found[1]);
   } catch { /* a link that is none */ }
   const routine = (word !== null && routineOf(word)) || table.rows[0] || routines[0];
+  byId("detail").hidden = !routine;
   if (!routine || routine === shown) return;
   showRoutine(routine);
   markRow();

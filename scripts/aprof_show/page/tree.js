@@ -23,6 +23,8 @@ function treeRow(node, level, place, of) {
 
 const levelOf = (row) => Number(row.getAttribute("aria-level"));
 
+const DEEPEST = 40; // so far rows open by themselves
+
 // opens a row; where there is one row under it, that too
 function openRow(row, wanted = null) {
   if (row.getAttribute("aria-expanded") !== "false") return;
@@ -30,8 +32,9 @@ function openRow(row, wanted = null) {
   const kids = row.node.kids();
   const rows = kids.map((kid, i) => treeRow(kid, levelOf(row) + 1, i + 1, kids.length));
   row.after(...rows);
+  if (levelOf(row) >= DEEPEST) return;
   if (wanted) rows.filter(({ node }) => wanted.has(node.context)).forEach((one) => openRow(one, wanted));
-  else if (rows.length === 1 && levelOf(row) < 40) openRow(rows[0]);
+  else if (rows.length === 1) openRow(rows[0]);
 }
 
 function closeRow(row) {
