@@ -1,4 +1,4 @@
-"""The command line of `show`."""
+"""What `show` does for a command line."""
 from __future__ import annotations
 
 import argparse
@@ -6,6 +6,7 @@ import io
 import os
 import sys
 from collections.abc import Sequence
+from difflib import get_close_matches
 
 from aprof_show.against import above, above_text, against_text
 from aprof_show.cache import cache_text
@@ -13,84 +14,18 @@ from aprof_show.data import csv_text, json_text
 from aprof_show.detail import detail
 from aprof_show.joining import CannotJoin, join, join_caches
 from aprof_show.model import CacheReport, Context, Profile, Report, Routine
+from aprof_show.options import choice_of, parser
 from aprof_show.plot import plot
 from aprof_show.reading import BadReport, read_file
-from aprof_show.rows import ORDERS, Row, rows_of
+from aprof_show.rows import Row, rows_of
 from aprof_show.source import BadImage, demangle, lines_of_image, name_routines, read_symbols
 from aprof_show.stacks import callgrind, folded
-from aprof_show.table import Choice, open_lines, summary
+from aprof_show.table import open_lines, summary
 from aprof_show.terminal import width
 from aprof_show.tree import callers_text, tree_text
 
-HELP = """Shows what `aprof run`, `replay`, `contexts` and `cache` store. Several reports are shown as one longer run.
-
-  show REPORT...                       the routines, what to look at first
-  show REPORT... ROUTINE               a routine by doublings of its size; --plot draws it
-  show --tree REPORT...                who calls whom, with the cost of each part (of `aprof contexts`)
-  show --against OLD NEW               what has changed, the largest change first
-  show --fail-above 2.5 REPORT...      status 1 where a growth is above 2.5
-  show --page FILE REPORT...           a page for a browser
-"""
-
-NOTES = """GROWTH is how many times the greatest cost of a call grows where its size doubles: near 2 is linear, near 4 quadratic,
-`-` where there is only one size other than 0. SHARE is the part of all steps that is spent in the routine and in what it calls, each
-step once; `<=100%%` where it recurses and only `aprof contexts` can tell. SELF is its own part. SPREAD is the greatest ratio of costs
-at one size. Status 0; 1 where --fail-above finds something; 2 for a bad command line, report or image."""
-
-
 class Refused(Exception):
     """The command can't be carried out."""
-
-
-def parser() -> argparse.ArgumentParser:
-    form = argparse.RawDescriptionHelpFormatter
-    result = argparse.ArgumentParser(prog="show", description=HELP, epilog=NOTES, formatter_class=form, allow_abbrev=False)
-    add = result.add_argument
-    add("words", metavar="REPORT | ROUTINE", nargs="*", help="a file, or a routine's name or address")
-    add("--routine", metavar="NAME", action="append", default=[], help="this routine alone; may be repeated")
-    add("--all", action="store_true", help="all routines")
-    add("--min", metavar="PERCENT", type=share, help="routines of at least so much; without it 1, and all superlinear ones")
-    add("--top", metavar="N", type=number, help="at most N routines")
-    add("--by", choices=ORDERS, help="another order")
-    add("--library", action="store_true", help="routines of the C library too, each in its own line")
-    add("--image", metavar="IMAGE", help="the executable: for names, files and lines")
-    add("--against", metavar="OLD", help="compare with this earlier report")
-    add("--fail-above", metavar="FACTOR", type=factor, help="status 1 where a growth is above FACTOR and certain")
-    add("--plot", action="store_true", help="a chart of the routine")
-    what = result.add_mutually_exclusive_group()
-    for option, text in (
-        ("--tree", "the calling tree"),
-        ("--open", "the calls that had not returned at the end"),
-        ("--folded", "folded stacks, for flame graphs"),
-        ("--callgrind", "Callgrind's format, for callgrind_annotate and KCachegrind"),
-        ("--json", "all that is known, as JSON"),
-        ("--csv", "all points, as CSV"),
-    ):
-        what.add_argument(option, action="store_true", help=text)
-    what.add_argument("--callers", metavar="ROUTINE", help="who calls it, and what that costs")
-    what.add_argument("--page", metavar="FILE", help="writes a page for a browser")
-    return result
-
-
-def share(text: str) -> float:
-    value = float(text.rstrip("%"))
-    if not 0 <= value <= 100:
-        raise ValueError
-    return value / 100
-
-
-def factor(text: str) -> float:
-    value = float(text.lstrip("x"))
-    if not 0 < value < 1e6:
-        raise ValueError
-    return value
-
-
-def number(text: str) -> int:
-    value = int(text)
-    if value < 1:
-        raise ValueError
-    return value
 
 
 def main(arguments: Sequence[str] | None = None) -> int:
@@ -98,7 +33,7 @@ def main(arguments: Sequence[str] | None = None) -> int:
     if isinstance(sys.stdout, io.TextIOWrapper):
         sys.stdout.reconfigure(errors="replace")
     try:
-        status = run(parser().parse_args(arguments))
+        status = run(parser().parse_intermixed_args(arguments))
         sys.stdout.flush()
         return status
     except (Refused, BadReport, BadImage, CannotJoin) as error:
@@ -114,6 +49,8 @@ def main(arguments: Sequence[str] | None = None) -> int:
 def run(options: argparse.Namespace) -> int:
     paths = [word for word in options.words if os.path.exists(word)]
     names = [word for word in options.words if not os.path.exists(word)] + options.routine
+    if options.plot and not names:
+        raise Refused("--plot wants a routine")
     if not paths:
         missing = f"no file {names[0]}" if names else "a report is wanted"
         raise Refused(f"{missing}; `show --help` tells more")
@@ -121,9 +58,12 @@ def run(options: argparse.Namespace) -> int:
     if isinstance(reports[0], CacheReport):
         print_lines(cache_text(joined_caches(reports), choice_of(options), width()))
         return 0
+    lines = name_by_image(reports, options.image) if options.image else {}
     profile = joined(reports)
-    lines = describe(profile, options)
+    demangle(profile.routines)
     rows = rows_of(profile)
+    if options.by == "self":
+        roots_of(profile)
     if options.against is not None:
         return compare(options, profile, rows, names)
     if options.fail_above is not None:
@@ -149,18 +89,12 @@ def joined_caches(reports: Sequence[Report | CacheReport]) -> CacheReport:
     return join_caches(caches)
 
 
-def describe(profile: Profile, options: argparse.Namespace) -> dict[int, str]:
-    """Names the routines as well as it can be done, and gives their files and lines."""
-    lines: dict[int, str] = {}
-    if options.image:
-        name_routines(profile.routines, read_symbols(options.image))
-        lines = lines_of_image(options.image, (routine.entry for routine in profile.routines))
-    demangle(profile.routines)
-    return lines
-
-
-def choice_of(options: argparse.Namespace) -> Choice:
-    return Choice(options.min, options.all, options.library, options.top, options.by)
+def name_by_image(reports: Sequence[Report | CacheReport], image: str) -> dict[int, str]:
+    """Names what has no name, and gives files and lines."""
+    symbols = read_symbols(image)
+    routines = [routine for report in reports if isinstance(report, Report) for routine in report.routines]
+    name_routines(routines, symbols, image)
+    return lines_of_image(image, (routine.entry for routine in routines))
 
 
 def print_lines(lines: Sequence[str]) -> None:
@@ -188,8 +122,6 @@ def show(
                 print_lines(plot(row.routine, width()) if options.plot else [])
     else:
         print_lines(summary(profile, rows, choice_of(options), width()))
-        if options.plot:
-            raise Refused("--plot wants a routine")
     return 0
 
 
@@ -218,7 +150,8 @@ def show_contexts(
 def named(routines: Sequence[Routine], name: str) -> list[Routine]:
     found = [routine for routine in routines if routine.is_called(name)]
     if not found:
-        raise Refused(f"no file and no routine called {name}")
+        near = get_close_matches(name, [routine.label for routine in routines], 1)
+        raise Refused(f"no file and no routine called {name}" + (f"; there is {near[0]}" if near else ""))
     return found
 
 
@@ -240,8 +173,8 @@ def write_page(path: str, profile: Profile, lines: dict[int, str]) -> None:
 
 def compare(options: argparse.Namespace, new: Profile, new_rows: Sequence[Row], names: Sequence[str]) -> int:
     old = joined([read_file(options.against)])
-    describe(old, options)
-    old_rows: Sequence[Row] = rows_of(old)
+    demangle(old.routines)
+    old_rows = rows_of(old)
     print_lines(against_text(old_rows, new_rows, (old.steps, new.steps), choice_of(options), width()))
     return judge(new_rows, options, names) if options.fail_above is not None else 0
 

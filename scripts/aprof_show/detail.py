@@ -33,7 +33,7 @@ def growth_lines(row: Row, growth: Growth) -> list[str]:
     most = row.routine.points[-1].size
     return [
         f"growth {growth_text(growth).strip()}, {growth.guess}{weak}",
-        f"over all sizes {whole}, over the largest {top}, beyond the least size ({least_size(row)}) and its cost {net}",
+        f"all sizes {whole}, the largest sizes {top}, net of the least (size {least_size(row)}) {net}",
         f"a call of size {short(2 * most)} would cost about {about(projected(row, 2))}, "
         f"one of {short(10 * most)} about {about(projected(row, 10))}",
     ]

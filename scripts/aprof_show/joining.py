@@ -28,7 +28,7 @@ def join(reports: Sequence[Report]) -> Profile:
     sources: dict[Routine, set[str]] = {}
     for report in reports:
         for routine in report.routines:
-            new = joined.setdefault(keys[routine], Routine(routine.entry, routine.name))
+            new = joined.setdefault(keys[routine], Routine(routine.entry, routine.name, shown=routine.shown))
             new.points = add_points(new.points, routine.points)
             sources.setdefault(new, set()).add(report.path)
     tell_apart(list(joined.values()), sources)

@@ -67,7 +67,7 @@ def read_file(path: str) -> Report | CacheReport:
         return read_report(lines, int(first[-1]))
     if first.startswith("aprof trace"):
         raise lines.bad("this is a trace; `aprof replay -o REPORT TRACE` makes a report of it")
-    raise lines.bad("not a report of aprof: the first line should be `aprof 2`")
+    raise lines.bad("not a report of aprof, whose first line is `aprof 2` (--routine NAME for a routine that is called as a file)")
 
 
 def read_head(lines: Lines) -> tuple[str, int]:

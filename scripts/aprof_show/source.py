@@ -1,6 +1,8 @@
 """What an executable and other programs tell of a routine: its name, its file and line, and its name as it was written."""
 from __future__ import annotations
 
+import json
+import re
 import shutil
 import struct
 import subprocess
@@ -49,14 +51,20 @@ def symbols_of(data: bytes) -> list[tuple[int, str]]:
     return [(value, best[value][1]) for value in sorted(best)]
 
 
-def name_routines(routines: Iterable[Routine], symbols: Sequence[tuple[int, str]]) -> None:
-    """Gives a routine without a name that of the symbol at its entry, or of the one below with the distance."""
+def name_routines(routines: Iterable[Routine], symbols: Sequence[tuple[int, str]], path: str) -> None:
+    """Gives a routine without a name that of the symbol at its entry, or of the one below with the distance. The names that there
+    are have to be the image's."""
     addresses = [address for address, _ in symbols]
     for routine in routines:
         place = bisect_right(addresses, routine.entry) - 1
-        if routine.name is None and place >= 0:
-            beyond = routine.entry - addresses[place]
-            routine.shown = symbols[place][1] + (f"+{beyond:#x}" if beyond else "")
+        at_it = place >= 0 and addresses[place] == routine.entry
+        if routine.name is not None:
+            if not at_it or symbols[place][1] != routine.name:
+                raise BadImage(f"{path} is not the image of this report: it has no {routine.name} at {routine.entry:08x}")
+        elif at_it:
+            routine.name = symbols[place][1]
+        elif place >= 0:
+            routine.shown = f"{symbols[place][1]}+{routine.entry - addresses[place]:#x}"
 
 
 def run(command: Sequence[str], text: str) -> str | None:
@@ -87,17 +95,27 @@ def demangle(routines: Iterable[Routine]) -> None:
 def lines_of_image(path: str, entries: Iterable[int]) -> dict[int, str]:
     """`file:line` of each entry that has one (`-g`), by one call of the first program that knows any."""
     wanted = sorted(set(entries))
-    if not wanted:
-        return {}
+    text = "".join(f"{entry:#x}\n" for entry in wanted)
+    known: dict[int, str] = {}
     for program in SYMBOLIZERS:
-        if program.startswith("llvm"):
-            command = [program, f"--obj={path}", "--functions=none", "--output-style=GNU", "--no-inlines"]
+        if program == "llvm-symbolizer":
+            places = places_of_llvm(run([program, f"--obj={path}", "--output-style=JSON", "--no-inlines"], text) or "")
         else:
-            command = [program, "-e", path]
-        text = run(command, "".join(f"{entry:#x}\n" for entry in wanted))
-        places = [line.split(" (discriminator")[0] for line in (text or "").splitlines() if line]
+            places = [line.split(" (discriminator")[0] for line in (run([program, "-e", path], text) or "").splitlines()]
         if len(places) == len(wanted):
-            known = {entry: place for entry, place in zip(wanted, places) if not place.startswith("?")}
-            if known:
-                return known
-    return {}
+            known = {entry: place for entry, place in zip(wanted, places) if re.fullmatch(r"[^?].*:[1-9][0-9]*", place)}
+        if known:
+            break
+    return known
+
+
+def places_of_llvm(text: str) -> list[str]:
+    """The file and the line where the routine begins, or else those of its first instruction."""
+    places = []
+    for line in text.splitlines():
+        symbol = (json.loads(line).get("Symbol") or [{}])[0]
+        if symbol.get("StartLine"):
+            places.append(f"{symbol.get('StartFileName') or symbol.get('FileName')}:{symbol['StartLine']}")
+        else:
+            places.append(f"{symbol.get('FileName')}:{symbol.get('Line')}")
+    return places

@@ -9,10 +9,21 @@ from aprof_show.costs import chain_of, chain_text, costs_of, open_ends
 from aprof_show.growth import Growth
 from aprof_show.model import Profile, Routine
 from aprof_show.rows import Row, ordered
-from aprof_show.terminal import Column, factor_text, percent, plural, short, table
+from aprof_show.terminal import Column, cut, factor_text, percent, plural, short, table
 
 WIDE = 112
 """From so many columns on the table has the greatest cost and what it would be at larger sizes."""
+
+
+FAULTS = (
+    "no instruction of RV32IMA",
+    "no code there",
+    "no readable byte",
+    "no writable byte",
+    "a jump to an address that is not aligned",
+    "an atomic operation that is not aligned",
+    "EBREAK",
+)
 
 
 @dataclass(frozen=True)
@@ -54,9 +65,16 @@ def summary(profile: Profile, rows: Sequence[Row], choice: Choice, room: int) ->
 def head(profile: Profile) -> list[str]:
     ends = Counter(report.end for report in profile.reports)
     texts = [f"end {end}" + (f" ({count})" if len(ends) > 1 else "") for end, count in ends.most_common()]
+    faults = [fault_line(report.end) for report in profile.reports if report.end.startswith("fault")]
     reports = f"{len(profile.reports)} reports, " if len(profile.reports) > 1 else ""
     still_open = f"{profile.still_open} still open"
-    return [f"{reports}{profile.steps} steps, {', '.join(texts)}, {still_open}"]
+    return [f"{reports}{profile.steps} steps, {', '.join(texts)}, {still_open}", *faults]
+
+
+def fault_line(end: str) -> str:
+    """In words what `fault KIND THREAD ADDRESS` says."""
+    _, kind, thread, address = end.split()
+    return f"the fault: {FAULTS[int(kind) - 1]}, thread {thread}, at {address}"
 
 
 def open_lines(profile: Profile) -> list[str]:
@@ -148,9 +166,9 @@ def folded_line(rows: Sequence[Row]) -> str:
     else:
         inner = [row for row in rows if row.routine.name and "start" not in row.routine.name]
         most = max(inner or rows, key=lambda row: row.share)
-        share = f"largest: {most.routine.label} {percent(most.share)}"
+        share = f"largest: {cut(most.routine.label, 24)} {percent(most.share)}"
     steep_text = f"; {steep} superlinear" if steep else ""
-    return f"and {plural(len(rows), 'routine')} of the C library ({share}{steep_text}): --library"
+    return f"and {plural(len(rows), 'C library routine')} ({share}{steep_text}): --library"
 
 
 def hidden_line(rows: Sequence[Row]) -> str:

@@ -1,0 +1,177 @@
+"""The command line: what it prints, its status, and what it says of mistakes."""
+from __future__ import annotations
+
+import csv
+import io
+import json
+import os
+import subprocess
+import tempfile
+import unittest
+from pathlib import Path
+
+from tests.samples import ADDRESSES, ROOT, Call, Run
+
+WORDS = "examples/words/report.txt"
+ROUTINES = "examples/routines/report.txt"
+BUBBLE = "examples/bubble/report.txt"
+CACHE = "examples/matrix/small.txt"
+CONTEXTS = "rows/two-ways-to-a-routine/report"
+
+# the words, the status, and a part of what standard error says
+MISTAKES: list[tuple[list[str], int, str]] = [
+    ([], 2, "show: a report is wanted; `show --help` tells more"),
+    (["nope"], 2, "show: no file nope"),
+    ([WORDS, "nope"], 2, "show: no file and no routine called nope"),
+    ([WORDS, "--routine", "nope"], 2, "show: no file and no routine called nope"),
+    ([WORDS, "--fail-above", "9", "nope"], 2, "show: no file and no routine called nope"),
+    (["--callers", "nope", CONTEXTS], 2, "show: no file and no routine called nope"),
+    (["rows"], 2, "show: rows: Is a directory"),
+    (["README.md"], 2, "show: README.md:1: not a report of aprof"),
+    ([WORDS, CACHE], 2, "show: reports of `aprof cache` can't be joined with others"),
+    ([CACHE, WORDS], 2, "show: reports of `aprof cache` can't be joined with others"),
+    (["--against", CACHE, WORDS], 2, "show: reports of `aprof cache` can't be joined with others"),
+    (["--tree", WORDS], 2, "show: this needs calling contexts, which `aprof contexts` stores"),
+    (["--folded", WORDS], 2, "show: this needs calling contexts"),
+    (["--tree", "--json", CONTEXTS], 2, "not allowed with argument"),
+    (["--min", "200", WORDS], 2, "argument --min: invalid share value: '200'"),
+    (["--top", "0", WORDS], 2, "argument --top: invalid number value: '0'"),
+    (["--fail-above", "x", WORDS], 2, "argument --fail-above: invalid factor value: 'x'"),
+    (["--image", "README.md", WORDS], 2, "show: README.md is no 32-bit little-endian ELF file"),
+    (["--image", "nope", WORDS], 2, "show: nope: No such file or directory"),
+    ([WORDS, "--plot"], 2, "show: --plot wants a routine"),
+]
+
+
+def show(*words: str, status: int = 0, **environment: str) -> str:
+    """Standard output, or standard error where the status is to be 2."""
+    done = subprocess.run([str(ROOT / "show"), *words], capture_output=True, text=True, cwd=ROOT, env=os.environ | environment)
+    assert done.returncode == status, (words, done)
+    assert "Traceback" not in done.stderr, done.stderr
+    return done.stderr if status == 2 else done.stdout
+
+
+class Statuses(unittest.TestCase):
+    def test_mistakes(self) -> None:
+        for words, status, what in MISTAKES:
+            with self.subTest(words=words):
+                self.assertIn(what, show(*words, status=status))
+
+    def test_fail_above(self) -> None:
+        cases: list[tuple[list[str], int, list[str]]] = [
+            ([BUBBLE, "--fail-above", "2.5"], 1, ["bubble_sort grows x4.0, above x2.5 (92.1% of the steps)"]),
+            ([BUBBLE, "--fail-above", "4.5"], 0, []),
+            ([BUBBLE, "--fail-above", "2.5", "--routine", "main"], 0, []),
+            ([BUBBLE, "--fail-above", "2.5", "--routine", "bubble_sort", "--routine", "main"], 1, ["bubble_sort"]),
+            ([WORDS, "--fail-above", "2.5"], 0, []),
+            ([WORDS, "--fail-above", "2.2", "--routine", "sort_words"], 1, ["sort_words grows x2.3~"]),
+            ([WORDS, "--fail-above", "2.5", "--library"], 1, ["printf_core grows x3.7"]),
+            ([WORDS, "--fail-above", "2.5", "--library", "--min", "2"], 0, []),
+        ]
+        for words, status, parts in cases:
+            with self.subTest(words=words):
+                text = show(*words, status=status)
+                self.assertEqual(bool(text), bool(parts))
+                for part in parts:
+                    self.assertIn(part, text)
+
+    def test_a_reader_that_stops(self) -> None:
+        done = subprocess.run(f"{ROOT}/show --csv {WORDS} | head -n 1", shell=True, capture_output=True, text=True, cwd=ROOT)
+        self.assertEqual((done.stdout, done.stderr), ("routine,entry,size,calls,least,most,cost,own,thread,kernel,bare\n", ""))
+
+
+class Output(unittest.TestCase):
+    def test_width(self) -> None:
+        with tempfile.TemporaryDirectory() as folder:
+            path = Path(folder, "report")
+            name = "std::" + "long_name" * 12 + "::end"
+            path.write_text(Run([Call(name, 5, 10)], {name: 0x10000}).text())
+            for words in ([str(path)], [WORDS], [WORDS, "--all", "--library"], [ROUTINES, "insertion_sort", "--plot"], [CACHE]):
+                text = show(*words, COLUMNS="200")
+                self.assertLessEqual(max(len(line) for line in text.splitlines() if " at 0" not in line), 80, text)
+            self.assertIn("std::long_name", show(str(path)))
+            self.assertIn("::end", show(str(path)))
+
+    def test_examples(self) -> None:
+        """The first line of each table is what to look at first."""
+        for example, first in (("bubble", "bubble_sort"), ("routines", "insertion_sort"), ("words", "count_file")):
+            lines = show(f"examples/{example}/report.txt").splitlines()
+            self.assertEqual(lines[2].split()[-1], first)
+
+    def test_choice_of_rows(self) -> None:
+        self.assertIn("C library routines (largest: qsort 47.1%", show(WORDS))
+        self.assertNotIn(" qsort\n", show(WORDS))
+        self.assertIn(" qsort\n", show(WORDS, "--library"))
+        self.assertEqual(len(show(WORDS, "--all", "--library", "--by", "name").splitlines()), 2 + 70 + 1)
+        self.assertEqual(show(WORDS, "--top", "1").count("x"), 1 + 1)
+        self.assertIn("and 7 routines of at most", show(WORDS, "--min", "99.99"))
+
+    def test_one_routine(self) -> None:
+        text = show(ROUTINES, "insertion_sort", "sum", "--plot")
+        for part in ("insertion_sort at ", "sum at ", "OWN THREAD KERNEL", "about linear", "greatest cost by size", "n²"):
+            self.assertIn(part, text)
+        self.assertEqual(show(ROUTINES, "sum"), show(ROUTINES, "--routine", "sum"))
+        self.assertTrue(show(ROUTINES, "sum", "--plot", PYTHONIOENCODING="ascii").isascii())
+
+    def test_several_reports(self) -> None:
+        text = show(WORDS, WORDS)
+        self.assertIn("2 reports, 3898180 steps, end exit 0, 0 still open", text)
+        self.assertIn("x1.9   99.5%    1.0    10      5 213-1751  count_file", text)
+
+    def test_recursion_in_a_plain_report(self) -> None:
+        call = Call("parse", 1, 10)
+        for size in range(2, 9):
+            call = Call("parse", size, 10, [call])
+        with tempfile.TemporaryDirectory() as folder:
+            path = Path(folder, "report")
+            run = Run([Call("main", calls=[call])], ADDRESSES)
+            path.write_text(run.text())
+            self.assertIn("<=100%", show(str(path)))
+            path.write_text(run.text(contexts=True))
+            self.assertIn("98.8% 98.8%", show(str(path)))
+
+    def test_without_names(self) -> None:
+        self.assertEqual(show(CONTEXTS).count("the image has no symbols"), 1)
+
+    def test_cache(self) -> None:
+        text = show(CACHE)
+        self.assertRegex(text, r"4096 +\d+\.\d% +4096 +100\.0%  sum_by_columns")
+        self.assertRegex(show(CACHE, CACHE), r"8192 +\d+\.\d% +8192 +100\.0%  sum_by_columns")
+
+
+class Data(unittest.TestCase):
+    def test_json(self) -> None:
+        value = json.loads(show("--json", CONTEXTS))
+        self.assertEqual(sorted(value), ["contexts", "format", "reports", "routines"])
+        self.assertEqual(value["format"], "aprof-show 1")
+        self.assertEqual([context["caller"] for context in value["contexts"]], [None, 0, 0, 2])
+        self.assertEqual(sum(context["self"] for context in value["contexts"]), 11)
+        plain = json.loads(show("--json", WORDS))
+        growth = {routine["name"]: routine["growth"] for routine in plain["routines"]}
+        self.assertAlmostEqual(growth["sort_words"]["factor"], 2 ** growth["sort_words"]["exponent"])
+        self.assertIsNone(growth["main"])
+        self.assertIsNone(plain["contexts"])
+
+    def test_csv(self) -> None:
+        rows = list(csv.DictReader(io.StringIO(show("--csv", WORDS))))
+        stored = [line for line in (ROOT / WORDS).read_text().splitlines() if line[0].isdigit()]
+        self.assertEqual([" ".join(list(row.values())[2:]) for row in rows], stored)
+
+
+class Against(unittest.TestCase):
+    def test_a_routine_that_became_quadratic(self) -> None:
+        def run(power: int) -> Run:
+            calls = [Call("parse", size, 50 * size) for size in (4, 8, 16, 32, 64)]
+            return Run([Call("main", 9, 20, calls + [Call("look_up", n, n**power) for n in (4, 8, 16, 32, 64)])], ADDRESSES)
+
+        with tempfile.TemporaryDirectory() as folder:
+            paths = [Path(folder, name) for name in ("old", "new")]
+            for power, path in enumerate(paths, 1):
+                path.write_text(run(power).text())
+            text = show("--against", *map(str, paths)).splitlines()
+            self.assertEqual(text[0], "6344 steps before, 11676 after")
+            self.assertEqual(text[1].split(), "GROWTH NOW SHARE NOW COST NOW ROUTINE".split())
+            self.assertEqual(text[2].split(), "x2.0 x4.0 2.0% 46.7% 64 4096 look_up".split())
+            same = show("--against", WORDS, WORDS)
+            self.assertIn("of the same growth, share and cost", same)
+            self.assertIn("look_up", show("--against", *map(str, paths), "--fail-above", "3", status=1))

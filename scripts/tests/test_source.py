@@ -1,0 +1,69 @@
+"""Names, files and lines that the executable has, and names as people write them."""
+from __future__ import annotations
+
+import shutil
+import subprocess
+import tempfile
+import unittest
+from pathlib import Path
+
+from aprof_show.model import Routine
+from aprof_show.source import DEMANGLERS, SYMBOLIZERS, BadImage, demangle, lines_of_image, name_routines, read_symbols
+from tests.samples import ROOT, stored
+
+WORDS = ROOT / "examples/words/words"
+CLANG = ["clang", "--target=riscv32", "-march=rv32ima", "-mabi=ilp32", "-nostdlib", "-static", "-fuse-ld=lld", "-g", "-O1"]
+
+
+class Names(unittest.TestCase):
+    def test_names_are_those_of_aprof(self) -> None:
+        """Of several symbols at one address it takes the one that aprof takes."""
+        symbols = read_symbols(str(WORDS))
+        routines = stored("examples/words/report.txt").routines
+        bare = [Routine(routine.entry, None) for routine in routines]
+        name_routines(bare, symbols, "words")
+        name_routines(routines, symbols, "words")
+        with self.assertRaisesRegex(BadImage, "bubble is not the image of this report: it has no main at 00011f74"):
+            name_routines(routines, read_symbols(str(ROOT / "examples/bubble/bubble")), "bubble")
+        self.assertEqual([routine.label for routine in bare], [routine.name for routine in routines])
+
+    def test_between_symbols(self) -> None:
+        main = next(address for address, name in read_symbols(str(WORDS)) if name == "main")
+        routine, low = Routine(main + 0x12, None), Routine(4, None)
+        name_routines([routine, low], read_symbols(str(WORDS)), "words")
+        self.assertEqual((routine.label, low.label), ("main+0x12", "00000004"))
+
+    def test_bad_images(self) -> None:
+        whole = WORDS.read_bytes()
+        with tempfile.TemporaryDirectory() as folder:
+            path = Path(folder, "image")
+            for data in (b"", b"\x7fELF", b"\x7fELF\x02\x01" + bytes(100), whole[:5000], whole[:60]):
+                path.write_bytes(data)
+                with self.assertRaises(BadImage):
+                    read_symbols(str(path))
+
+    @unittest.skipUnless(any(shutil.which(command[0]) for command in DEMANGLERS), "no c++filt (binutils or llvm)")
+    def test_names_of_other_languages(self) -> None:
+        routines = [Routine(place, name) for place, name in enumerate(("_ZN5store3getEi", "main", "_RNvCs1234_7mycrate3foo", "_Zbad"))]
+        demangle(routines)
+        self.assertEqual(routines[0].label, "store::get(int)")
+        self.assertEqual(routines[1].label, "main")
+        self.assertIn("mycrate", routines[2].label)
+        self.assertEqual(routines[3].label, "_Zbad")
+        self.assertTrue(routines[0].is_called("_ZN5store3getEi") and routines[0].is_called("store::get(int)"))
+
+
+@unittest.skipUnless(shutil.which("clang") and shutil.which("ld.lld"), "no clang and lld to build an image by")
+@unittest.skipUnless(any(shutil.which(program) for program in SYMBOLIZERS), "no llvm-symbolizer (llvm) and no addr2line")
+class Lines(unittest.TestCase):
+    def test_lines(self) -> None:
+        with tempfile.TemporaryDirectory() as folder:
+            source, image = Path(folder, "a.c"), Path(folder, "a")
+            source.write_text("int f(int x)\n{\n    return x * 3;\n}\nvoid _start(void)\n{\n    f(1);\n}\n")
+            subprocess.run([*CLANG, "-o", image, source], check=True, capture_output=True)
+            entries = {name: address for address, name in read_symbols(str(image))}
+            lines = lines_of_image(str(image), entries.values())
+        self.assertEqual(lines, {entries["f"]: f"{source}:1", entries["_start"]: f"{source}:5"})
+
+    def test_without_lines(self) -> None:
+        self.assertEqual(lines_of_image(str(WORDS), [0x12318]), {})
