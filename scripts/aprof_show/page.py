@@ -11,7 +11,7 @@ from collections.abc import Sequence
 from pathlib import Path
 from typing import Any
 
-from aprof_show.costs import contexts_of, costs_of
+from aprof_show.costs import chain_text, contexts_of, costs_of, open_ends
 from aprof_show.growth import Growth, factor_of, growth_of
 from aprof_show.joining import add_points
 from aprof_show.model import Context, Point, Profile, Report, Routine
@@ -65,6 +65,7 @@ def json_of(profile: Profile, lines: dict[int, str]) -> Json:
         "steps": profile.steps,
         "open": profile.still_open,
         "routines": [row_json(row, lines.get(row.routine.entry)) for row in rows],
+        "chains": chains_json(profile.roots or []),
         "contexts": None if profile.roots is None else contexts_json(profile.roots, rows),
         "callers": callers_json(profile.roots or [], places_of(rows)),
     }
@@ -142,6 +143,11 @@ def contexts_json(roots: Sequence[Context], rows: Sequence[Row]) -> Json:
         "growth": [factor_json(growth(context)) for context in contexts],
         "open": [number for number, context in enumerate(contexts) if costs[context].open],
     }
+
+
+def chains_json(roots: Sequence[Context]) -> list[str]:
+    """The calls that had not returned at the end."""
+    return [chain_text(context) for context in open_ends(roots, costs_of(roots))]
 
 
 def callers_json(roots: Sequence[Context], places: Places) -> list[list[Any]]:

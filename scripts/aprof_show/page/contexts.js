@@ -70,18 +70,6 @@ function callerRoot(routine) {
   return [{ ...node, growth: routine.growth }];
 }
 
-// the chains that had not returned at the end: each from its innermost routine up
-function openChains() {
-  const chains = [];
-  contexts.open.forEach((i) => {
-    if (under[i].some((callee) => wasOpen[callee])) return;
-    const chain = [];
-    for (let at = i; at >= 0; at = contexts.caller[at]) chain.push(routines[contexts.routine[at]].name);
-    chains.push(chain.reverse());
-  });
-  return chains;
-}
-
 // the contexts from a first routine down to the dearest context of a routine
 function wayTo(routine) {
   let dearest = null;

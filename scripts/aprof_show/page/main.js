@@ -12,11 +12,13 @@ function tellHead() {
   byId("runs").hidden = one;
   byId("runs").querySelector("tbody").append(...reports.map(({ path, end, steps, open }) => make("tr", "",
     make("td", "", path), make("td", "number", count(steps)), make("td", "", ended(end)), make("td", "number", count(open)))));
-  const chains = contexts ? openChains() : [];
+  const { chains } = profile;
   if (!routines.length) facts.push("no call has returned");
   byId("summary").textContent = facts.filter(Boolean).join(" · ");
   byId("open").hidden = !chains.length;
-  byId("open").textContent = chains.slice(0, 3).map((chain) => `Still open at the end: ${chain.join(" › ")}`).join("\n");
+  const told = chains.slice(0, 3).map((chain) => `Still open at the end: ${chain.replaceAll(" > ", " › ")}`);
+  if (chains.length > 3) told.push(`and ${count(chains.length - 3)} more`);
+  byId("open").textContent = told.join("\n");
 }
 
 function tellCounts() {

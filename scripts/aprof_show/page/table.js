@@ -91,10 +91,16 @@ function drawTable() {
   table.drawn = 0;
   drawMore(CHUNK);
   byId("rows").scrollTop = 0;
-  const rest = routines.length - table.rows.length;
-  byId("count").textContent = word || rest
-    ? `${count(table.rows.length)} of ${plural(routines.length, "routine")}${word ? ` with “${word}”` : ""}` : plural(routines.length, "routine");
+  tellListed(word);
   markRow();
+}
+
+function tellListed(word) {
+  const all = plural(routines.length, "routine");
+  const steep = routines.filter((r) => r.steep).length - table.rows.filter((r) => r.steep).length;
+  const hidden = steep && !word ? `, ${plural(steep, "superlinear one", "superlinear ones")} of the C library not among them` : "";
+  byId("count").textContent = table.rows.length === routines.length ? all
+    : `${count(table.rows.length)} of ${all}${word ? ` with “${word}”` : ""}${hidden}`;
 }
 
 // first the greatest, then the least, then again what to look at first
@@ -110,7 +116,7 @@ function makeHead() {
   for (const column of COLUMNS) {
     const button = make("button", "", column.name);
     button.type = "button";
-    button.title = column.about;
+    button.title = `${column.about ? `${column.about}; ` : ""}a third click brings back what to look at first`;
     button.addEventListener("click", () => sortBy(column));
     const head = make("th", `${column.key}${column.text ? "" : " number"}`, button);
     head.scope = "col";
