@@ -8,7 +8,7 @@ const PARTS = ["own", "thread", "kernel"];
 const figure = { points: null, log: true, anchor: null, hidden: new Set(), charts: [] };
 
 const narrow = () => byId("plots").clientWidth < 480;
-const gutter = () => (narrow() ? 50 : 62);
+const gutter = () => (narrow() ? 54 : 62);
 
 // lines from the least to the greatest cost of a point, or of the points of one column of pixels, under the points
 const bands = {

@@ -97,8 +97,9 @@ function drawTable() {
 
 function tellListed(word) {
   const all = plural(routines.length, "routine");
-  const steep = routines.filter((r) => r.steep).length - table.rows.filter((r) => r.steep).length;
-  const hidden = steep && !word ? `, ${plural(steep, "superlinear one", "superlinear ones")} of the C library not among them` : "";
+  const steep = (rows) => rows.filter((r) => r.steep && !r.weak).length;
+  const left = steep(routines) - steep(table.rows);
+  const hidden = left && !word ? `; not listed: ${count(left)} superlinear of the C library` : "";
   byId("count").textContent = table.rows.length === routines.length ? all
     : `${count(table.rows.length)} of ${all}${word ? ` with “${word}”` : ""}${hidden}`;
 }
