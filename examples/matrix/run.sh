@@ -1,5 +1,6 @@
 #!/usr/bin/env bash
-# Counts the guest's misses of a cache of 4 KiB and of one of 16 KiB, and compares the reports with small.txt and large.txt.
+# Counts the guest's misses of a cache of 4 KiB and of one of 16 KiB, and compares the reports with small.txt and large.txt,
+# and what `show` makes of the first.
 set -eu
 cd "$(dirname "$0")"
 mkdir -p out
@@ -7,3 +8,4 @@ mkdir -p out
 diff small.txt out/small.txt
 ../../aprof cache --sets 64 --ways 4 --line 64 -o out/large.txt matrix
 diff large.txt out/large.txt
+../../show out/small.txt | diff show.txt -

@@ -44,9 +44,9 @@ def keyed(rows: Sequence[Row]) -> list[tuple[tuple[object, ...], Row]]:
 
 
 def change(pair: Pair, steps: tuple[int, int]) -> float:
-    """How much the weights differ, in instructions of the old runs: a growth that rose, or a cost that did, is a change."""
-    old = pair.old.weight * steps[0] + pair.old.share * steps[0] if pair.old else 0.0
-    new = pair.new.weight * steps[1] + pair.new.share * steps[1] if pair.new else 0.0
+    """How much the cost differs, in instructions, today's and that at ten times the size: a growth that rose is a change too."""
+    old = (pair.old.weight + pair.old.share) * steps[0] if pair.old else 0.0
+    new = (pair.new.weight + pair.new.share) * steps[1] if pair.new else 0.0
     return abs(new - old)
 
 

@@ -16,7 +16,7 @@ def detail(row: Row, room: int, place: str | None = None) -> list[str]:
     """The growth of a routine in words, and a line for each doubling. `place` is its file and line."""
     routine = row.routine
     calls = f"{plural(routine.calls, 'call')}, {plural(len(routine.points), 'size')}"
-    own = f", {percent(row.own)} its own" if row.own is not None else ""
+    own = f", self {percent(row.own)}" if row.own is not None else ""
     lines = [f"{routine.label} at {routine.entry:08x}{f' in {place}' if place else ''}"]
     lines.append(f"{calls}, {share_text(row)} of the steps{own}")
     if not routine.points:

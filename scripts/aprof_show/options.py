@@ -6,7 +6,8 @@ import argparse
 from aprof_show.rows import ORDERS
 from aprof_show.table import Choice
 
-HELP = """Shows what `aprof run`, `replay`, `contexts` and `cache` store. Several reports are shown as one longer run.
+HELP = """Shows what `aprof run`, `replay`, `contexts` and `cache` store, and several reports as
+one longer run.
 
   show REPORT...                       the routines, what to look at first
   show REPORT... ROUTINE               a routine by doublings of its size; --plot draws it
@@ -16,10 +17,15 @@ HELP = """Shows what `aprof run`, `replay`, `contexts` and `cache` store. Severa
   show --page FILE REPORT...           a page for a browser
 """
 
-NOTES = """GROWTH is how many times the greatest cost of a call grows where its size doubles: near 2 is linear, near 4 quadratic,
-`-` where there is only one size other than 0. SHARE is the part of all steps that is spent in the routine and in what it calls, each
-step once; `<=100%%` where it recurses and only `aprof contexts` can tell. SELF is its own part. SPREAD is the greatest ratio of costs
-at one size. Status 0; 1 where --fail-above finds something; 2 for a bad command line, report or image."""
+NOTES = """GROWTH is how many times the greatest cost of a call grows where its size doubles:
+near 2 is linear, near 4 quadratic; `-` where there is but one size other than 0, and
+`~` behind it where it rests on less than 4 sizes or on sizes within a factor of 4.
+SHARE is the part of all steps that is spent in the routine and in what it calls,
+`<=100%` where it calls itself and only `aprof contexts` can tell. SELF is its own
+part. `+` is at least: a call had not returned. SPREAD is the greatest ratio of costs
+at one size. Status 0; 1 where --fail-above finds something (uncertain growths and
+routines of the C library count where they are named); 2 for a bad command line,
+report or image."""
 
 
 def parser() -> argparse.ArgumentParser:

@@ -6,14 +6,14 @@ from collections.abc import Sequence
 from dataclasses import dataclass
 
 from aprof_show.costs import RoutineCost, costs_by_routine, costs_of
-from aprof_show.growth import Growth, growth_of
+from aprof_show.growth import SUPERLINEAR, Growth, growth_of
 from aprof_show.library import library_routines
 from aprof_show.model import Profile, Routine
 
 ORDERS = ("growth", "share", "self", "name")
 
 
-@dataclass(frozen=True)
+@dataclass(frozen=True, eq=False)
 class Row:
     """Shares are parts of all steps. `exact` is false where calls nested in one another may have been counted each."""
 
@@ -28,14 +28,20 @@ class Row:
 
     @property
     def weight(self) -> float:
-        """About the share at inputs ten times as large, were all else linear. What rests on few or close sizes counts less: the
-        excess over linear is taken as it was seen, not as it would go on."""
+        """What to look at first: about what it will cost beyond n log n at ten times the size, as a part of all steps, and a little of
+        its share today. What is uncertain counts a tenth, and the less the closer its sizes are."""
         if self.growth is None:
             return 0.0
-        excess = min(self.growth.exponent, 6.0) - 1
+        excess = max(min(self.growth.exponent, 6.0) - math.log2(SUPERLINEAR), 0.0)
         if self.growth.weak:
-            excess *= min(1.0, math.log2(self.growth.size_ratio) / 2)
-        return float(self.share * 10**excess * (0.7 if self.growth.weak else 1.0))
+            excess = min(excess * min(1.0, math.log2(self.growth.size_ratio) / 2) ** 2, 0.5)
+        beyond = (10**excess - 1) * (0.1 if self.growth.weak else 1.0)
+        return float(self.share * (beyond + 0.02))
+
+    @property
+    def projected_share(self) -> float:
+        """The share at ten times the size, were all else linear."""
+        return float(self.share * 10 ** (min(self.growth.exponent, 6.0) - 1)) if self.growth else self.share
 
     @property
     def uncertain(self) -> bool:
@@ -83,12 +89,13 @@ def ordered(rows: Sequence[Row], by: str | None) -> list[Row]:
 
 
 def by_weight(rows: Sequence[Row]) -> list[Row]:
-    """By weight; of those within a third of the first the innermost before its callers: the one with the most self cost, or,
-    where that isn't known, with the least cost. Routines of one size are last."""
+    """By weight; of those near the first the innermost before its callers: the one with the most self cost, or, where that isn't
+    known, with the least cost. Routines of one size are last."""
     left = sorted((row for row in rows if row.growth), key=lambda row: -row.weight)
     order: list[Row] = []
     while left:
-        group = [row for row in left if row.weight >= left[0].weight * 2 / 3]
+        near = 0.9 if not left[0].superlinear else 2 / 3 if left[0].own is None else 1 / 4
+        group = [row for row in left if row.weight >= left[0].weight * near]
         left = left[len(group) :]
         order += sorted(group, key=lambda row: (row.uncertain, -(row.own or 0.0), row.share, -row.routine.entry))
     return order + sorted((row for row in rows if not row.growth), key=lambda row: (-row.share, row.routine.entry))

@@ -41,7 +41,7 @@ class Choice:
             return True
         least = 0.01 if self.least is None else self.least
         surely = row.superlinear and not row.uncertain
-        return row.share >= least or self.least is None and (surely or row.superlinear and row.weight >= least)
+        return row.share >= least or self.least is None and (surely or row.superlinear and row.projected_share >= least)
 
 
 def summary(profile: Profile, rows: Sequence[Row], choice: Choice, room: int) -> list[str]:
@@ -87,10 +87,12 @@ def open_lines(profile: Profile) -> list[str]:
     lines = [f"open at the end: {chain_text(context)}" for context in ends[:8]]
     if len(ends) > 8:
         lines.append(f"and {len(ends) - 8} more chains")
+    if any(not link.routine.name and not link.routine.shown for context in ends for link in chain_of(context)):
+        lines.append("--image IMAGE names the routines that never returned")
     sure = {link for context in ends for link in chain_of(context)}
     more = profile.still_open - len(sure)
     if more > 0:
-        lines.append(f"{plural(more, 'more call')} had not returned, of routines of which other calls had")
+        lines.append(f"and {plural(more, 'more call')}, where earlier calls had returned")
     return lines
 
 
@@ -137,8 +139,9 @@ def growth_text(growth: Growth | None) -> str:
 
 
 def share_text(row: Row) -> str:
-    """`<=100%` where the calls nested in one another, which a plain report doesn't tell apart, pass all steps."""
-    return percent(row.share) if row.exact else "<=100%"
+    """With a `+` where a call was open at the end, whose cost isn't known; `<=100%` where the calls nested in one another, which a
+    plain report doesn't tell apart, pass all steps."""
+    return percent(row.share) + "+" * row.open if row.exact else "<=100%"
 
 
 def short_ratio(ratio: float) -> str:

@@ -9,13 +9,13 @@ from aprof_show.growth import growth_of
 from aprof_show.joining import add_points
 from aprof_show.model import Context, Point, Profile, Routine
 from aprof_show.table import growth_text, head, open_lines
-from aprof_show.terminal import Column, percent, plural, short, table
+from aprof_show.terminal import Column, percent, short, table
 
 DEEPEST = 24
 """Lines further in than so many levels are not indented further; their level is told."""
 
 
-@dataclass
+@dataclass(eq=False)
 class Node:
     """Contexts that are shown in one line. Direct recursion is one line: a call of a routine by itself adds its own cost and its
     callees to the line of the outer call."""
@@ -23,20 +23,30 @@ class Node:
     routine: Routine
     total: int = 0
     own: int = 0
-    calls: int = 0
     open: bool = False
     recursive: bool = False
-    points: list[Point] = field(default_factory=list)
+    contexts: list[Context] = field(default_factory=list)
     below: dict[Routine, Node] = field(default_factory=dict)
+
+    @property
+    def calls(self) -> int:
+        return sum(context.calls for context in self.contexts)
+
+    def growth(self) -> str:
+        points: list[Point] = []
+        for context in self.contexts:
+            points = add_points(points, context.points)
+        return growth_text(growth_of(points))
 
 
 @dataclass(frozen=True)
 class Line:
-    """A node at its level in the tree; without one, how many routines were left out there."""
+    """A node at its level in the tree, and how many of those under it are left out; or all, where it comes a second time."""
 
     level: int
-    node: Node | None
-    left_out: int = 0
+    node: Node
+    left_out: int
+    again: bool
 
 
 def tree_of(roots: Sequence[Context], costs: dict[Context, Cost]) -> dict[Routine, Node]:
@@ -54,28 +64,23 @@ def tree_of(roots: Sequence[Context], costs: dict[Context, Cost]) -> dict[Routin
             node = siblings.setdefault(context.routine, Node(context.routine))
             node.total += cost.total
         node.own += cost.own
-        node.calls += context.calls
         node.open = node.open or cost.open
+        node.contexts.append(context)
         below.extend((callee, node) for callee in reversed(context.callees))
     return tops
 
 
 def lines_of(tops: Iterable[Node], least: float) -> list[Line]:
-    """The nodes of at least `least` instructions, the costly ones first, and what was left out. A routine that is above itself is
-    not followed again."""
+    """The nodes of at least `least` instructions, the costly ones first. A routine that is above itself is not followed again."""
     lines: list[Line] = []
-    below: list[tuple[Line, frozenset[Routine]]] = [(Line(0, node), frozenset()) for node in reversed(by_total(tops))]
+    below: list[tuple[int, Node, frozenset[Routine]]] = [(0, node, frozenset()) for node in reversed(by_total(tops))]
     while below:
-        line, above = below.pop()
-        lines.append(line)
-        if line.node is None or line.node.routine in above:
-            continue
-        callees = by_total(line.node.below.values())
-        kept = [node for node in callees if node.total >= least or node.open]
-        if len(kept) < len(callees):
-            below.append((Line(line.level + 1, None, len(callees) - len(kept)), above))
-        inside = above | {line.node.routine}
-        below.extend((Line(line.level + 1, node), inside) for node in reversed(kept))
+        level, node, above = below.pop()
+        again = node.routine in above
+        callees = [] if again else by_total(node.below.values())
+        kept = [callee for callee in callees if callee.total >= least or callee.open]
+        lines.append(Line(level, node, len(callees) - len(kept), again))
+        below.extend((level + 1, callee, above | {node.routine}) for callee in reversed(kept))
     return lines
 
 
@@ -87,57 +92,50 @@ def tree_text(profile: Profile, roots: Sequence[Context], least: float, room: in
     costs = costs_of(roots)
     lines = lines_of(tree_of(roots, costs).values(), least * profile.steps)
     steps = max(profile.steps, 1)
-    shown = [line for line in lines if line.node]
     columns = [
-        Column("TOTAL", [percent(line.node.total / steps) + "+" * line.node.open if line.node else "" for line in lines]),
-        Column("SELF", [percent(line.node.own / steps) + "+" * line.node.open if line.node else "" for line in lines]),
-        Column("CALLS", [short(line.node.calls) if line.node else "" for line in lines]),
-        Column(" ROUTINE", [" " + indented(line, least) for line in lines], left=True),
+        Column("TOTAL", [percent(line.node.total / steps) + "+" * line.node.open for line in lines]),
+        Column("SELF", [percent(line.node.own / steps) + "+" * line.node.open for line in lines]),
+        Column("GROWTH", [line.node.growth() for line in lines]),
+        Column("CALLS", [short(line.node.calls) for line in lines]),
+        Column(" ROUTINE", [" " + indented(line) for line in lines], left=True),
     ]
-    note = ["+ at least: a call of it had not returned"] if any(line.node and line.node.open for line in shown) else []
-    return [*head(profile), *open_lines(profile), *table(columns, room), *note]
+    return [*head(profile), *open_lines(profile), *table(columns, room), *notes(lines, f"{percent(least)} of the steps")]
 
 
-def indented(line: Line, least: float) -> str:
+def notes(lines: Sequence[Line], least: str) -> list[str]:
+    """What the signs in the lines mean, where there are any."""
+    left_out = [f"(+N) calls N more routines, each for less than {least}"] if any(line.left_out for line in lines) else []
+    uncertain = ["+ at least: a call had not returned"] if any(line.node.open for line in lines) else []
+    return left_out + uncertain
+
+
+def indented(line: Line) -> str:
     indent = "  " * min(line.level, DEEPEST) + (f"[{line.level}] " if line.level > DEEPEST else "")
-    if line.node is None:
-        return f"{indent}({plural(line.left_out, 'routine')} below {percent(least)})"
-    marks = " (recursive)" * line.node.recursive
-    return f"{indent}{line.node.routine.label}{marks}"
+    left_out = f" (+{line.left_out})" if line.left_out else ""
+    again = " (again)" if line.again else " (recursive)" if line.node.recursive else ""
+    return f"{indent}{line.node.routine.label}{again}{left_out}"
 
 
 def callers_of(routine: Routine, roots: Sequence[Context], costs: dict[Context, Cost]) -> Node:
-    """The routine, under it its callers, under these theirs: each with the calls of the routine by that way. Costs are those of
-    calls that are not nested in another call of it."""
+    """The routine, under it its callers, under these theirs: each with the calls of the routine by that way. A routine is in a way
+    once, where it comes first from below. Costs are those of calls that are not nested in another call of the routine."""
     top = Node(routine)
-    outer: dict[Context, Context | None] = {}
+    ways: dict[Context, tuple[Routine, ...]] = {}
+    same: dict[tuple[Routine, ...], tuple[Routine, ...]] = {}
     for context, is_outermost in outermost(roots):
-        caller = context.caller
-        outer[context] = outer[caller] if caller and caller.routine is context.routine else caller
-        if context.routine is routine:
-            add_callers(top, context, costs[context], is_outermost, outer)
+        above = ways[context.caller] if context.caller else ()
+        way = (context.routine, *(link for link in above if link is not context.routine))
+        ways[context] = same.setdefault(way, way)
+        if context.routine is not routine:
+            continue
+        top.recursive = top.recursive or not is_outermost
+        node = top
+        for link in way:
+            node = node.below.setdefault(link, Node(link)) if link is not routine else top
+            node.total += costs[context].total if is_outermost else 0
+            node.open = node.open or costs[context].open
+            node.contexts.append(context)
     return top
-
-
-def add_callers(
-    top: Node, context: Context, cost: Cost, is_outermost: bool, outer: dict[Context, Context | None]
-) -> None:
-    """Adds the calls of a context to the lines of its callers, up to the outermost one or one that comes a second time. `outer` has
-    the next link that is of another routine."""
-    node, link = top, context
-    seen: set[Routine] = set()
-    while True:
-        node.total += cost.total if is_outermost else 0
-        node.calls += context.calls
-        node.points = add_points(node.points, context.points)
-        node.open = node.open or cost.open
-        node.recursive = node.recursive or outer[link] is not link.caller
-        seen.add(node.routine)
-        above = outer[link]
-        if above is None or above.routine in seen:
-            return
-        link = above
-        node = node.below.setdefault(link.routine, Node(link.routine))
 
 
 def callers_text(profile: Profile, roots: Sequence[Context], routine: Routine, least: float, room: int) -> list[str]:
@@ -145,10 +143,11 @@ def callers_text(profile: Profile, roots: Sequence[Context], routine: Routine, l
     lines = lines_of([top], least * top.total)
     steps = max(profile.steps, 1)
     columns = [
-        Column("CALLS", [short(line.node.calls) if line.node else "" for line in lines]),
-        Column("COST", [short(line.node.total) + "+" * line.node.open if line.node else "" for line in lines]),
-        Column("SHARE", [percent(line.node.total / steps) if line.node else "" for line in lines]),
-        Column("GROWTH", [growth_text(growth_of(line.node.points)) if line.node else "" for line in lines]),
-        Column(" CALLED BY", [" " + indented(line, least) for line in lines], left=True),
+        Column("CALLS", [short(line.node.calls) for line in lines]),
+        Column("COST", [short(line.node.total) + "+" * line.node.open for line in lines]),
+        Column("SHARE", [percent(line.node.total / steps) for line in lines]),
+        Column("GROWTH", [line.node.growth() for line in lines]),
+        Column(" CALLED BY", [" " + indented(line) for line in lines], left=True),
     ]
-    return [f"{routine.label} at {routine.entry:08x}, and who calls it", *table(columns, room)]
+    head_line = f"{routine.label} at {routine.entry:08x}, and who calls it"
+    return [head_line, *table(columns, room), *notes(lines, f"{percent(least)} of its cost")]

@@ -1,6 +1,7 @@
 """The command line: what it prints, its status, and what it says of mistakes."""
 from __future__ import annotations
 
+import contextlib
 import csv
 import io
 import json
@@ -10,6 +11,7 @@ import tempfile
 import unittest
 from pathlib import Path
 
+from aprof_show.command import main
 from tests.samples import ADDRESSES, ROOT, Call, Run
 
 WORDS = "examples/words/report.txt"
@@ -43,12 +45,18 @@ MISTAKES: list[tuple[list[str], int, str]] = [
 ]
 
 
-def show(*words: str, status: int = 0, **environment: str) -> str:
+def show(*words: str, status: int = 0, encoding: str = "utf-8") -> str:
     """Standard output, or standard error where the status is to be 2."""
-    done = subprocess.run([str(ROOT / "show"), *words], capture_output=True, text=True, cwd=ROOT, env=os.environ | environment)
-    assert done.returncode == status, (words, done)
-    assert "Traceback" not in done.stderr, done.stderr
-    return done.stderr if status == 2 else done.stdout
+    out, err = io.TextIOWrapper(io.BytesIO(), encoding=encoding), io.StringIO()
+    with contextlib.chdir(ROOT), contextlib.redirect_stdout(out), contextlib.redirect_stderr(err):
+        try:
+            ended = main(words)
+        except SystemExit as error:
+            ended = int(error.code or 0)
+    out.seek(0)
+    text = out.read()
+    assert ended == status, (words, ended, text, err.getvalue())
+    return err.getvalue() if status == 2 else text
 
 
 class Statuses(unittest.TestCase):
@@ -75,6 +83,13 @@ class Statuses(unittest.TestCase):
                 for part in parts:
                     self.assertIn(part, text)
 
+    def test_the_launcher(self) -> None:
+        """From any folder, without a terminal, with a wide one in the environment."""
+        for words, status in (([str(ROOT / BUBBLE)], 0), (["nope"], 2), ([str(ROOT / BUBBLE), "--fail-above", "2"], 1)):
+            done = subprocess.run([ROOT / "show", *words], capture_output=True, text=True, cwd="/", env=os.environ | {"COLUMNS": "200"})
+            self.assertEqual((done.returncode, "Traceback" in done.stderr), (status, False))
+            self.assertLessEqual(max(map(len, done.stdout.splitlines()), default=0), 80)
+
     def test_a_reader_that_stops(self) -> None:
         done = subprocess.run(f"{ROOT}/show --csv {WORDS} | head -n 1", shell=True, capture_output=True, text=True, cwd=ROOT)
         self.assertEqual((done.stdout, done.stderr), ("routine,entry,size,calls,least,most,cost,own,thread,kernel,bare\n", ""))
@@ -87,7 +102,7 @@ class Output(unittest.TestCase):
             name = "std::" + "long_name" * 12 + "::end"
             path.write_text(Run([Call(name, 5, 10)], {name: 0x10000}).text())
             for words in ([str(path)], [WORDS], [WORDS, "--all", "--library"], [ROUTINES, "insertion_sort", "--plot"], [CACHE]):
-                text = show(*words, COLUMNS="200")
+                text = show(*words)
                 self.assertLessEqual(max(len(line) for line in text.splitlines() if " at 0" not in line), 80, text)
             self.assertIn("std::long_name", show(str(path)))
             self.assertIn("::end", show(str(path)))
@@ -111,7 +126,7 @@ class Output(unittest.TestCase):
         for part in ("insertion_sort at ", "sum at ", "OWN THREAD KERNEL", "about linear", "greatest cost by size", "n²"):
             self.assertIn(part, text)
         self.assertEqual(show(ROUTINES, "sum"), show(ROUTINES, "--routine", "sum"))
-        self.assertTrue(show(ROUTINES, "sum", "--plot", PYTHONIOENCODING="ascii").isascii())
+        self.assertTrue(show(ROUTINES, "sum", "--plot", encoding="ascii").isascii())
 
     def test_several_reports(self) -> None:
         text = show(WORDS, WORDS)

@@ -80,12 +80,13 @@ class OpenAtTheEnd(unittest.TestCase):
     def test_chain(self) -> None:
         profile = profile_of(SPINNING, end="budget")
         spin = f"{ADDRESSES['spin']:08x}"
-        self.assertEqual(open_lines(profile), [f"open at the end: {ADDRESSES['main']:08x} > parse > {spin}"])
+        self.assertEqual(open_lines(profile)[0], f"open at the end: {ADDRESSES['main']:08x} > parse > {spin}")
+        self.assertIn("--image IMAGE names", open_lines(profile)[1])
 
     def test_more_than_are_sure(self) -> None:
         """A second thread in the same routines is open too, and only the number tells."""
         profile = profile_of(SPINNING, SPINNING, end="deadlock")
-        self.assertIn("3 more calls had not returned", open_lines(profile)[-1])
+        self.assertEqual(open_lines(profile)[-1], "and 3 more calls, where earlier calls had returned")
 
     def test_long_chains(self) -> None:
         profile = deep(["main"] + ["parse"] * 30_000 + ["leaf"], returned=False)
@@ -104,20 +105,31 @@ class Trees(unittest.TestCase):
     def test_tree(self) -> None:
         profile = profile_of(PLAIN)
         self.assertEqual(tree_text(profile, roots_of(profile), 0.35, 80)[1:], [
-            " TOTAL  SELF CALLS  ROUTINE",
-            "100.0% 10.0%     1  main",
-            " 50.0% 20.0%     1    parse",
-            "                        (1 routine below 35.0%)",
-            " 40.0% 40.0%     1    leaf",
+            " TOTAL  SELF GROWTH CALLS  ROUTINE",
+            "100.0% 10.0%     -      1  main",
+            " 50.0% 20.0%     -      1    parse (+1)",
+            " 40.0% 40.0%     -      1    leaf",
+            "(+N) calls N more routines, each for less than 35.0% of the steps",
         ])
 
     def test_recursion_is_one_line(self) -> None:
         profile = profile_of(RECURSIVE)
         self.assertEqual(tree_text(profile, roots_of(profile), 0, 80)[2:], [
-            "100.0%  2.8%     1  main",
-            " 97.2% 83.3%     3    parse (recursive)",
-            " 13.9% 13.9%     1      leaf",
+            "100.0%  2.8%     -      1  main",
+            " 97.2% 83.3%  x1.7~     3    parse (recursive)",
+            " 13.9% 13.9%     -      1      leaf",
         ])
+
+    def test_recursion_by_another_is_not_followed_again(self) -> None:
+        profile = profile_of(MUTUAL)
+        self.assertEqual([line.split("  ")[-1].strip() for line in tree_text(profile, roots_of(profile), 0, 80)[2:]], [
+            "main", "parse", "leaf", "parse (again)",
+        ])
+        leaf = next(routine for routine in profile.routines if routine.name == "leaf")
+        parse = next(routine for routine in profile.routines if routine.name == "parse")
+        for routine, ways in ((leaf, ["leaf", "parse", "main"]), (parse, ["parse (recursive)", "leaf", "main", "main"])):
+            text = callers_text(profile, roots_of(profile), routine, 0, 80)
+            self.assertEqual(sorted(line.split("   ")[-1].strip() for line in text[2:]), sorted(ways))
 
     def test_callers(self) -> None:
         profile = profile_of(PLAIN)
@@ -132,7 +144,7 @@ class Trees(unittest.TestCase):
     def test_callers_of_deep_recursion(self) -> None:
         """Direct and mutual recursion of some thousand levels takes no time that grows with its square."""
         for links in (["parse"], ["parse", "look_up"]):
-            profile = deep(["main"] + links * 10_000 + ["leaf"], returned=True)
+            profile = deep(["main"] + links * 4_000 + ["leaf"], returned=True)
             roots = roots_of(profile)
             for routine in profile.routines:
                 self.assertTrue(callers_text(profile, roots, routine, 0.01, 80))

@@ -1,0 +1,89 @@
+"""What is listed, and in which order."""
+from __future__ import annotations
+
+import unittest
+from collections.abc import Callable
+
+from aprof_show.joining import join
+from aprof_show.library import musl_names
+from aprof_show.model import Profile
+from aprof_show.rows import Row, ordered, rows_of
+from aprof_show.table import Choice, projected, summary
+from tests.samples import Call, Run, report_of, stored
+
+SIZES = (8, 16, 32, 64, 128)
+
+
+def profile_of(curves: dict[str, Callable[[int], int]], rest: int = 0, contexts: bool = False) -> Profile:
+    """A `main` that calls each routine at the sizes; a routine `a/b` is called by `a`, which adds a tenth."""
+    calls = []
+    for name, curve in curves.items():
+        outer, _, inner = name.partition("/")
+        for size in SIZES:
+            cost = max(curve(size), 1)
+            calls.append(Call(outer, size, max(cost // 10, 1), [Call(inner, size, cost)]) if inner else Call(outer, size, cost))
+    names = ["main", *{part: None for name in curves for part in name.split("/")}]
+    addresses = {name: 0x10000 + 16 * place for place, name in enumerate(names)}
+    return join([report_of(Run([Call("main", 9, rest + 1, calls)], addresses).text(contexts))])
+
+
+def order(profile: Profile, by: str | None = None) -> list[str]:
+    return [row.routine.label for row in ordered(rows_of(profile), by)]
+
+
+def row_of(profile: Profile, name: str) -> Row:
+    return next(row for row in rows_of(profile) if row.routine.label == name)
+
+
+class Order(unittest.TestCase):
+    def test_growth_and_share(self) -> None:
+        """A little quadratic routine is before a linear one with much more, and one that will never cost anything is behind it."""
+        profile = profile_of({"linear": lambda n: 400 * n, "square": lambda n: n * n, "tiny": lambda n: n * n // 400})
+        self.assertEqual(order(profile), ["square", "linear", "tiny", "main"])
+
+    def test_the_inner_routine_first(self) -> None:
+        for contexts in (False, True):
+            profile = profile_of({"outer/inner": lambda n: n * n}, contexts=contexts)
+            self.assertEqual(order(profile), ["inner", "outer", "main"])
+
+    def test_noise_is_behind(self) -> None:
+        """Three close sizes that grow steeply, as in the allocator, are not before a routine that surely grows."""
+        report = stored("examples/words/report.txt")
+        labels = order(join([report]))
+        self.assertLess(labels.index("qsort"), labels.index("printf"))
+        self.assertLess(labels.index("count_file"), labels.index("malloc"))
+
+    def test_given_orders(self) -> None:
+        profile = profile_of({"b": lambda n: n * n, "a": lambda n: 900 * n}, contexts=True)
+        self.assertEqual(order(profile, "name"), ["a", "b", "main"])
+        self.assertEqual(order(profile, "share"), ["main", "a", "b"])
+        self.assertEqual(order(profile, "self"), ["a", "b", "main"])
+        self.assertEqual(order(profile, "growth"), ["b", "a", "main"])
+
+
+class Listed(unittest.TestCase):
+    def test_superlinear_whatever_its_share(self) -> None:
+        profile = profile_of({"square": lambda n: n * n // 40, "even": lambda n: n}, rest=10_000_000)
+        rows = rows_of(profile)
+        self.assertEqual([row.routine.label for row in rows if Choice().has(row)], ["main", "square"])
+        self.assertEqual([row.routine.label for row in rows if Choice(least=0.01).has(row)], ["main"])
+        self.assertEqual(len([row for row in rows if Choice(all=True).has(row)]), 3)
+        self.assertIn("and 1 routine of at most 0.0%: --all", summary(profile, rows, Choice(), 80))
+
+    def test_projected(self) -> None:
+        row = row_of(profile_of({"square": lambda n: n * n}), "square")
+        self.assertAlmostEqual(projected(row, 2) / 4 / 128**2, 1, delta=0.05)
+        self.assertAlmostEqual(projected(row, 10) / 100 / 128**2, 1, delta=0.15)
+        wide = summary(profile_of({"square": lambda n: n * n}), [row], Choice(), 120)
+        self.assertIn("AT 10x", wide[1])
+
+    def test_library(self) -> None:
+        """The user's `find` and `printf` stay, as something of the user's is behind them; the library's are folded."""
+        names = ["main", "printf", "find", "_start", "__libc_start_main", "malloc", "free", "memcpy"]
+        self.assertTrue(set(names[3:]) <= musl_names())
+        addresses = {name: 0x10000 + 16 * place for place, name in enumerate(names)}
+        calls = [Call(name) for name in names[1:]]
+        profile = join([report_of(Run([Call("main", calls=calls)], addresses).text())])
+        self.assertEqual({row.routine.label for row in rows_of(profile) if row.library}, set(names[3:]))
+        alone = join([report_of(Run([Call("malloc", calls=calls[3:])], addresses).text())])
+        self.assertFalse(any(row.library for row in rows_of(alone)))
