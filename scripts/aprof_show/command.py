@@ -169,7 +169,7 @@ def called(rows: Sequence[Row], name: str) -> list[Row]:
 
 def write_page(path: str, profile: Profile, lines: dict[int, str]) -> None:
     try:
-        from aprof_show import page  # type: ignore[attr-defined]
+        from aprof_show import page
     except ImportError as error:
         raise Refused("the page is not there yet") from error
     try:

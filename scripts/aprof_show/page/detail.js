@@ -1,0 +1,101 @@
+// What is said of the routine that is chosen.
+let shown = null;
+let wantsLog = true;
+
+// what its growth says, as a sentence
+function verdictOf(routine) {
+  if (!routine.sizes) return "All its calls were still open at the end, so it has no points, and what they cost is not known.";
+  if (routine.growth === null) {
+    const sizes = routine.sizes[0] === routine.sizes[1] ? "one size" : "one size other than 0";
+    return `Its calls have ${sizes}, which says nothing of growth: give the run several inputs, or show several reports at once.`;
+  }
+  const top = routine.top !== null && Math.abs(routine.top - routine.growth) >= 0.15
+    ? ` (${times(routine.top)} at the largest sizes)` : "";
+  return `Where its input doubles, its greatest cost grows ${times(routine.growth)}${top}: ${routine.guess}.${
+    routine.weak ? ` That rests on ${routine.weak}, and is uncertain.` : ""}`;
+}
+
+// the greatest cost at the largest size, and what it comes to where that doubles
+function aheadOf(routine) {
+  const { most, length } = figure.points;
+  return `${short(most[length - 1])} → ${short(most[length - 1] * routine.growth)}`;
+}
+
+// the greatest ratio between the costs of two calls of one size
+const spreadOf = (points) => points.most.reduce((spread, most, i) => Math.max(spread, points.least[i] ? most / points.least[i] : 1), 1);
+
+function factsOf(routine) {
+  const facts = [["growth", times(routine.growth), routine.steep ? "steep" : ""], ["share of all steps", `${routine.bound}${percent(routine.share)} %`]];
+  if (routine.self !== null) facts.push(["self", `${percent(routine.self)} %`]);
+  facts.push(["calls", count(routine.calls)]);
+  if (routine.sizes) facts.push([plural(routine.points[0].length, "size"), sizesText(routine)]);
+  if (spreadOf(figure.points) >= 1.05) facts.push(["spread at one size", times(spreadOf(figure.points))]);
+  if (routine.growth !== null) facts.push(["greatest → at twice the size", aheadOf(routine)]);
+  return facts;
+}
+
+function tellGuides() {
+  const { points, anchor } = figure;
+  const parts = [];
+  if (anchor !== null) {
+    parts.push(`The dashed lines grow as n, n log n and n² from the point at size ${count(points.size[anchor])}; a click on a point moves them there.`);
+  }
+  if (figure.log && points.size[0] === 0) {
+    const cost = points.least[0] === points.most[0] ? count(points.most[0]) : `${count(points.least[0])} to ${count(points.most[0])}`;
+    parts.push(`${plural(points.calls[0], "call")} that read nothing, at a cost of ${cost}, ${points.calls[0] === 1 ? "has" : "have"} no place on a logarithmic axis.`);
+  }
+  byId("guides-note").textContent = parts.join(" ");
+}
+
+function tellParts(points) {
+  const note = byId("parts-note");
+  byId("parts-block").hidden = !points.induced;
+  note.hidden = points.induced;
+  note.textContent = points.thread
+    ? "Its input is all its thread’s own: no word that it read was last written by another thread or by the kernel."
+    : "The report does not tell who wrote the input.";
+}
+
+function setAxes(log) {
+  wantsLog = log;
+  const { points } = figure;
+  figure.log = log && points !== null && points.length > 0 && points.size[points.length - 1] > 0;
+  for (const input of byId("scale").querySelectorAll("input")) input.checked = input.value === (log ? "log" : "linear");
+  drawCharts();
+  mark(null);
+  if (points && points.length) tellGuides();
+}
+
+function showRoutine(routine) {
+  shown = routine;
+  const points = pointsOf(routine);
+  figure.points = points;
+  figure.anchor = anchorOf(points);
+  byId("name").textContent = routine.name;
+  byId("place").textContent = [routine.line, routine.entry === routine.name ? null : `at ${routine.entry}`,
+    routine.library ? "C library" : null].filter(Boolean).join(" · ");
+  byId("verdict").textContent = verdictOf(routine);
+  byId("facts").replaceChildren(...factsOf(routine).map(([name, text, look]) => make("div", "", make("dt", "", name), make("dd", look, text))));
+  byId("figure").hidden = points.length === 0;
+  byId("plots").setAttribute("aria-label", `Cost of ${routine.name} by size, ${plural(points.length, "point")}`);
+  byId("said").textContent = "";
+  tellParts(points);
+  setAxes(wantsLog);
+  showContexts(routine);
+}
+
+function makeKeys() {
+  for (const { key, name } of [...SERIES].reverse()) {
+    const button = make("button", `key ${key}`, make("i", ""), name);
+    button.type = "button";
+    button.setAttribute("aria-pressed", "true");
+    button.addEventListener("click", () => {
+      if (!figure.hidden.delete(key)) figure.hidden.add(key);
+      button.setAttribute("aria-pressed", String(!figure.hidden.has(key)));
+      drawCharts();
+    });
+    byId("series").append(button);
+  }
+  const names = ["its thread, or no one", "other threads", "the kernel"];
+  byId("part-keys").append(...PARTS.map((part, i) => make("span", `key ${part}`, make("i", ""), names[i])));
+}

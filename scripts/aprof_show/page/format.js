@@ -1,0 +1,51 @@
+// Numbers and small parts of the page as text; names are set as text and never as HTML.
+const MINUS = "–";
+const grouped = new Intl.NumberFormat("en-US", { maximumFractionDigits: 0 });
+const UNITS = [[1e12, "T"], [1e9, "G"], [1e6, "M"]];
+
+const count = (value) => grouped.format(value);
+
+// a mean has a digit behind the point where it is small
+const mean = (value) => (value < 1000 && value % 1 ? value.toFixed(1) : count(value));
+
+// for an axis or a narrow column
+function short(value) {
+  for (const [unit, letter] of UNITS) {
+    if (value >= unit) return `${+(value / unit).toPrecision(3)} ${letter}`;
+  }
+  return count(value);
+}
+
+function percent(part) {
+  if (part === null || part === undefined) return MINUS;
+  if (part > 0 && part < 0.001) return "<0.1";
+  return (100 * part).toFixed(1);
+}
+
+const times = (growth) => (growth === null ? MINUS : `×${growth >= 100 ? count(growth) : growth.toFixed(1)}`);
+
+const plural = (amount, one, many = `${one}s`) => `${count(amount)} ${amount === 1 ? one : many}`;
+
+// an element with its class and its children, which are elements or text
+function make(tag, look, ...children) {
+  const element = document.createElement(tag);
+  if (look) element.className = look;
+  element.append(...children);
+  return element;
+}
+
+const byId = (id) => document.getElementById(id);
+
+const CAUSES = ["", "no instruction", "no code there", "no readable byte", "no writable byte", "a jump that is not aligned",
+  "an atomic operation that is not aligned", "a breakpoint"];
+
+// how a run ended, in words
+function ended(end) {
+  const words = end.split(" ");
+  if (words[0] === "fault") return `fault (${CAUSES[words[1]]}) in thread ${words[2]} at ${words[3]}`;
+  if (words[0] === "budget") return "the budget of steps was spent";
+  if (words[0] === "deadlock") return "deadlock: all threads wait";
+  if (words[0] === "deep") return "too many calls were open at once";
+  if (words[0] === "schedule") return `line ${words[1]} of the schedule can’t be followed`;
+  return end;
+}

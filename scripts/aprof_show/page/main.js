@@ -1,0 +1,102 @@
+// The head of the page, and what goes on in it.
+function tellHead() {
+  const { reports } = profile;
+  const one = reports.length === 1;
+  const names = reports.map(({ path }) => (one ? path : path.split("/").pop())).join(", ");
+  const title = names.length > 90 ? plural(reports.length, "report") : names;
+  byId("title").textContent = title;
+  document.title = `${title} – aprof`;
+  const ends = [...new Set(reports.map(({ end }) => ended(end)))];
+  const facts = [one ? "" : plural(reports.length, "run"), plural(profile.steps, "step"), ends.join(", "),
+    profile.open ? `${plural(profile.open, "call")} still open` : "no call still open"];
+  byId("runs").hidden = one;
+  byId("runs").querySelector("tbody").append(...reports.map(({ path, end, steps, open }) => make("tr", "",
+    make("td", "", path), make("td", "number", count(steps)), make("td", "", ended(end)), make("td", "number", count(open)))));
+  const { chains } = profile;
+  if (!routines.length) facts.push("no call has returned");
+  byId("summary").textContent = facts.filter(Boolean).join(" · ");
+  byId("open").hidden = !chains.length;
+  const told = chains.slice(0, 3).map((chain) => `Still open at the end: ${chain.replaceAll(" > ", " › ")}`);
+  if (chains.length > 3) told.push(`and ${count(chains.length - 3)} more`);
+  byId("open").textContent = told.join("\n");
+}
+
+function tellCounts() {
+  const amount = (which) => routines.filter((routine) => routine[which]).length;
+  for (const which of ["cheap", "library"]) {
+    byId(`${which}-count`).textContent = count(amount(which));
+    byId(which).parentElement.hidden = amount(which) === 0;
+  }
+  const listed = routines.some((r) => !r.cheap && !r.library);
+  if (!listed) byId("library").checked = true;
+  if (!routines.some((r) => !r.cheap)) byId("cheap").checked = true;
+  const key = byId("key");
+  const sample = (look, text) => make("span", "", make("span", `rate ${look}`, make("b", "", "×3.9")), ` ${text}`);
+  if (routines.some(({ steep }) => steep)) key.append(sample("steep", "superlinear"));
+  if (routines.some(({ weak }) => weak)) key.append(sample("doubt", "uncertain: few sizes, or within a factor of 4"));
+}
+
+function follow() {
+  const found = /^#routine=(.*)$/.exec(location.hash);
+  let word = null;
+  try {
+    word = found && decodeURIComponent(found[1]);
+  } catch { /* a link that is none */ }
+  const routine = (word !== null && routineOf(word)) || table.rows[0] || routines[0];
+  byId("detail").hidden = !routine;
+  if (!routine || routine === shown) return;
+  showRoutine(routine);
+  markRow();
+}
+
+function chooseRow(event) {
+  const row = event.target.closest("tbody tr");
+  if (!row) return;
+  if (!event.target.closest("a")) location.hash = linkOf(routines[row.dataset.index]);
+  if (matchMedia("(max-width: 980px)").matches) byId("detail").scrollIntoView();
+}
+
+function watch() {
+  const redraw = () => { drawCharts(); mark(null); };
+  byId("filter").addEventListener("input", drawTable);
+  byId("cheap").addEventListener("change", drawTable);
+  byId("library").addEventListener("change", drawTable);
+  byId("tools").addEventListener("submit", (event) => event.preventDefault());
+  byId("filter").addEventListener("keydown", (event) => {
+    if (event.key === "ArrowDown") byId("routines").querySelector("tbody a")?.focus();
+    if (event.key === "Enter" && table.rows.length) location.hash = linkOf(table.rows[0]);
+  });
+  byId("routines").addEventListener("keydown", moveInTable);
+  byId("routines").addEventListener("click", chooseRow);
+  byId("rows").addEventListener("scroll", () => {
+    const { scrollTop, clientHeight, scrollHeight } = byId("rows");
+    if (scrollTop + 2 * clientHeight > scrollHeight && table.drawn < table.rows.length) drawMore(table.drawn + CHUNK);
+  });
+  byId("scale").addEventListener("change", (event) => setAxes(event.target.value === "log"));
+  document.addEventListener("keydown", (event) => {
+    if (event.key !== "/" || event.target.matches("input[type=search]")) return;
+    event.preventDefault();
+    byId("filter").focus();
+  });
+  addEventListener("hashchange", follow);
+  for (const media of ["(prefers-color-scheme: dark)", "print"]) matchMedia(media).addEventListener("change", redraw);
+  let width = byId("plots").clientWidth;
+  new ResizeObserver(() => {
+    if (byId("plots").clientWidth === width || byId("figure").hidden) return;
+    width = byId("plots").clientWidth;
+    requestAnimationFrame(redraw);
+  }).observe(byId("plots"));
+}
+
+Chart.defaults.font.family = getComputedStyle(document.body).fontFamily;
+Chart.defaults.font.size = 12;
+makeHead();
+makeKeys();
+makeTree();
+watchPointer();
+tellHead();
+tellCounts();
+drawTable();
+watch();
+follow();
+document.documentElement.dataset.ready = "true";
