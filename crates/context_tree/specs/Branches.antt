@@ -1,18 +1,16 @@
--- What is kept of the calling contexts of a run.
-use Rattle.std.specs.Prelude.{◌≡◌, ℕ, ◌+◌, ◌≤◌, length, List, [], ◌∷◌, ◌++◌, All, IsSomeAnd, is_some, map}
+-- The contexts of a run with their points, and where its threads are in them.
+use Rattle.std.specs.Prelude.{◌≡◌, ℕ, ◌≤◌, length, List, All, is_some, map}
 use Rattle.std.specs.Option.{option_map_or}
 use Rattle.guest_words.specs.ByThread.{numbers, value_of}
 use Rattle.trace_model.specs.declared.event_kinds.Event.{Event}
-use Rattle.trace_model.specs.declared.slow_profile.Done.{Done}
 use Rattle.trace_model.specs.Activations.{open_calls}
-use Rattle.trace_model.specs.Profile.{ended}
-use Rattle.trace_model.specs.WellFormed.{IsLight, IsWellFormed, greatest_start, is_live}
+use Rattle.trace_model.specs.WellFormed.{IsLight, greatest_start, is_live}
 use Rattle.cost_points.specs.declared.point.Point.{Point}
 use Rattle.context_tree.specs.declared.numbers.TheConstants.{CONTEXTS}
 use Rattle.context_tree.specs.declared.order.Links.{Links}
-use Rattle.context_tree.specs.Contexts.{context_begun, context_of, contexts}
+use Rattle.context_tree.specs.Contexts.{context_of, contexts}
 use Rattle.context_tree.specs.Links.{IsLinked}
-use Rattle.context_tree.specs.Numbers.{IsBeyond, IsNumberOf}
+use Rattle.context_tree.specs.Numbers.{IsNumberOf}
 use Rattle.context_tree.specs.Numbers as by_number
 use Rattle.context_tree.specs.Points.{points_in}
 
@@ -39,32 +37,13 @@ pub record StandsFor (kept : Kept) (past : List Event) : Type 0 where
   pub threads_began : All (λ n. n ≤ greatest_start past) (numbers kept.threads)
   pub threads_in : (t : ℕ) → IsNumberOf (contexts past) (current_of kept t) (context_of (open_calls past t))
 
--- It is what is kept of some past after which the event may come, and these are the activations that the event ends.
-pub record MayApply (kept : Kept) (e : Event) (ends : List Done) : Type 0 where
-  pub past : List Event
-  pub now : StandsFor kept past
-  pub formed : IsWellFormed (e ∷ past)
-  pub ends_are : ends ≡ ended e past
-
 -- It is what is kept of some past.
 pub record IsOfSome (kept : Kept) : Type 0 where
   pub past : List Event
   pub now : StandsFor kept past
-
--- They are the depth of the context, one less than its entries, the last of these, and its points.
-pub record IsShown (past : List Event) (c : List ℕ) (depth entry : ℕ) (points : List Point) : Type 0 where
-  pub depth_is : depth + 1 ≡ length c
-  -- the entries before the last
-  pub front : List ℕ
-  pub entry_is : c ≡ front ++ entry ∷ []
-  pub points_are : points ≡ points_in past c
 
 -- It is what is kept of a past that is light.
 pub record IsOfLight (kept : Kept) : Type 0 where
   pub past : List Event
   pub now : StandsFor kept past
   pub light : IsLight past
-
--- The event begins a context that is not there, where there are as many as can be numbered.
-abbrev pub HasTooMany : Event → List Event → Type 0
-HasTooMany e past = IsSomeAnd (context_begun e past) (IsBeyond (contexts past))

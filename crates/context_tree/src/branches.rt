@@ -13,7 +13,9 @@ ghost use Rattle.context_tree.specs.Links.{IsLinked};
 ghost use Rattle.context_tree.specs.Numbers.{IsBeyond, IsNumberOf, numbered};
 ghost use Rattle.context_tree.specs.Numbers as by_number;
 ghost use Rattle.context_tree.specs.Order.{IsFollowedBy, IsInOrder};
-ghost use Rattle.context_tree.specs.Trees.{HasTooMany, IsOfLight, IsOfSome, IsShown, MayApply, StandsFor, current_of};
+ghost use Rattle.context_tree.specs.Branches.{IsOfLight, IsOfSome, StandsFor, current_of};
+ghost use Rattle.context_tree.specs.Trees.{HasTooMany, IsShown};
+ghost use Rattle.context_tree.specs.Taking.{IsWhole, Takes};
 ghost use Rattle.context_tree.specs.Adding.{with_list};
 ghost use Rattle.context_tree.specs.Ways.{ArePoints, IsWay, lists};
 
@@ -27,10 +29,9 @@ use std::alloc::{AllocError, Global};
 use std::marker::Model;
 use trace_model::{Done, Event};
 
-/// The calling contexts of the events so far, and the points of each. An event takes a time that grows only with how many
-/// activations it ends, and with how many sizes the points of their contexts have.
+/// The contexts of the events so far with the points of each, and the context that each thread is in.
 #[derive(Drop)]
-pub struct Tree {
+pub(crate) struct Branches {
     alloc: Global,
     numbers: ContextNumbers,
     points: Vec<ContextPoints>,
@@ -40,8 +41,8 @@ pub struct Tree {
     threads: ByThread<u32>,
 }
 
-impl Model for Tree {
-    ghost use Rattle.context_tree.specs.Trees.{Kept};
+impl Model for Branches {
+    ghost use Rattle.context_tree.specs.Branches.{Kept};
     ghost use Rattle.context_tree.specs.Ways.{lists};
 
     ghost Value = { Kept };
@@ -91,14 +92,14 @@ fn begin(
     Ok(number)
 }
 
-impl Tree {
+impl Branches {
     /// No event so far.
-    pub fn new(alloc: Global) -> Result<Tree, AllocError>
-        ensures { IfOk result (λ tree. StandsFor tree []) }
+    pub(crate) fn new(alloc: Global) -> Result<Branches, AllocError>
+        ensures { IfOk result (λ branches. StandsFor branches []) }
     {
         let mut links = Vec::new(alloc);
         links.push(Links::new(0))?;
-        Ok(Tree {
+        Ok(Branches {
             alloc,
             numbers: ContextNumbers::new(alloc),
             points: Vec::new(alloc),
@@ -109,8 +110,9 @@ impl Tree {
 
     /// Takes one more event, and the activations that it ends, the innermost first. A refusal changes nothing. An event that
     /// begins no context and ends no activation is not refused.
-    pub fn apply(&mut self, e: Event, ends: &[Done]) -> Result<(), TreeError>
-        requires { MayApply self.old e ends.now }
+    pub(crate) fn apply(&mut self, e: Event, ends: &[Done]) -> Result<(), TreeError>
+        requires whole { IsWhole self.old }
+        requires takes { Takes self.old e ends.now }
         ensures stands { (past : List Event) → StandsFor self.old past → ends.now ≡ ended e past
             → OnOk result (StandsFor self.new (e ∷ past)) }
         ensures too_many { (past : List Event) → StandsFor self.old past
@@ -131,7 +133,7 @@ impl Tree {
     }
 
     /// How many contexts there are.
-    pub fn contexts(&self) -> usize
+    pub(crate) fn contexts(&self) -> usize
         ensures value { result ≡ length self.now.places }
         ensures few { result ≤ CONTEXTS }
         ensures stands { (past : List Event) → StandsFor self.now past
@@ -144,8 +146,8 @@ impl Tree {
 
     /// The number of the context that comes next in the order of the text after that of the number `n`, and of the first one
     /// where `n` is 0. To go through all of them takes a time that grows with how many they are.
-    pub fn next_in_order(&self, n: u32) -> Option<u32>
-        requires stands { IsOfSome self.now }
+    pub(crate) fn next_in_order(&self, n: u32) -> Option<u32>
+        requires linked { IsLinked self.now.places self.now.links }
         requires within { n ≤ length self.now.places }
         ensures { (past : List Event) → StandsFor self.now past
             → IsFollowedBy (contexts past) (numbered (contexts past) n) result }
@@ -158,8 +160,8 @@ impl Tree {
 
     /// The depth, the entry and the points of a context, the contexts in the order of the text. It takes `i` steps: to go through
     /// all of them, take `next_in_order` and `at`.
-    pub fn context(&self, i: usize) -> (u32, Addr, &[Point])
-        requires stands { IsOfSome self.now }
+    pub(crate) fn context(&self, i: usize) -> (u32, Addr, &[Point])
+        requires stands { ∥ IsOfSome self.now ∥₁ }
         requires within { i < length self.now.places }
         ensures { (past : List Event) (ordered : List (List ℕ)) → StandsFor self.now past
             → IsInOrder (contexts past) ordered
@@ -170,7 +172,7 @@ impl Tree {
 
     // The number of a context, the contexts in the order of the text.
     fn number_at(&self, i: usize) -> u32
-        requires stands { IsOfSome self.now }
+        requires stands { ∥ IsOfSome self.now ∥₁ }
         requires within { i < length self.now.places }
         ensures some { 1 ≤ result }
         ensures within { result ≤ length self.now.places }
@@ -187,8 +189,9 @@ impl Tree {
     }
 
     /// The depth of the context of a number, which is 0 where it has one entry, its entry, and its points.
-    pub fn at(&self, n: u32) -> (u32, Addr, &[Point])
-        requires stands { IsOfSome self.now }
+    pub(crate) fn at(&self, n: u32) -> (u32, Addr, &[Point])
+        requires linked { IsLinked self.now.places self.now.links }
+        requires long { length self.now.points ≡ length self.now.places }
         requires some { 1 ≤ n }
         requires within { n ≤ length self.now.places }
         ensures { (past : List Event) → StandsFor self.now past
@@ -200,8 +203,8 @@ impl Tree {
     }
 
     /// The points of all contexts together, by routine: those of all activations that ended.
-    pub fn totals(&self, alloc: Global) -> Result<Table, AllocError>
-        requires { IsOfLight self.now }
+    pub(crate) fn totals(&self, alloc: Global) -> Result<Table, AllocError>
+        requires { ∥ IsOfLight self.now ∥₁ }
         ensures { (past : List Event) → StandsFor self.now past
             → IfOk result (λ table. table ≡ contents_of (done past)) }
     {
@@ -211,6 +214,13 @@ impl Tree {
             add_points(&mut table, entry, self.points[i].list())?;
         }
         Ok(table)
+    }
+
+    /// Whether the thread is in a context.
+    pub(crate) fn lives(&self, tid: Tid) -> bool
+        ensures { result ≡ is_some (value_of self.now.threads tid) }
+    {
+        self.threads.get(tid).is_some()
     }
 
     // The number of the context that the thread is in.

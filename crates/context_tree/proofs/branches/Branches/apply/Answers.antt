@@ -1,27 +1,28 @@
 use Rattle.std.proofs.Common.{◌∙◌, ◌∷◌, sym, ap, subst}
 use Rattle.trace_model.specs.declared.event_kinds.Event.{Event}
-use Rattle.trace_model.specs.declared.event_kinds.Event.TheVariants.{End, Ret}
-use Rattle.trace_model.specs.Activations.{backs, count_ending, open_calls}
 use Rattle.trace_model.specs.Profile.{ended}
-use Rattle.context_tree.specs.Trees.{HasTooMany, StandsFor}
-use Rattle.context_tree.proofs.Following.{each_points, light_before, way_ended}
-use Rattle.context_tree.proofs.tree.Tree.apply.Goals as goal
+use Rattle.context_tree.specs.Branches.{StandsFor}
+use Rattle.context_tree.specs.Taking.{Takes}
+use Rattle.context_tree.specs.Trees.{HasTooMany}
+use Rattle.context_tree.proofs.branches.Branches.apply.Goals as goal
+
+pub start-requires-clause-above : goal.start-requires-clause-above
+start-requires-clause-above c = subst (λ (e : Event). Takes c.args.self.now e c.args.ends.now) c.in-Start.is c.requires.takes
+
+pub call-requires-clause-lives : goal.call-requires-clause-lives
+call-requires-clause-lives c = let takes = subst (λ (e : Event). Takes c.args.self.now e c.args.ends.now) c.in-Call.is c.requires.takes in takes.0
+
+pub call-requires-clause-within : goal.call-requires-clause-within
+call-requires-clause-within c = let takes = subst (λ (e : Event). Takes c.args.self.now e c.args.ends.now) c.in-Call.is c.requires.takes in takes.1
+
+pub return_from-requires-clause-lives : goal.return_from-requires-clause-lives
+return_from-requires-clause-lives c = let takes = subst (λ (e : Event). Takes c.args.self.now e c.args.ends.now) c.in-Ret.is c.requires.takes in takes.0
 
 pub return_from-requires-clause-way : goal.return_from-requires-clause-way
-return_from-requires-clause-way c =
-    way_ended c.args.self.now c.requires.past c.in-Ret.tid (count_ending (Ret c.in-Ret.tid c.in-Ret.target) c.in-Ret.tid (backs (open_calls c.requires.past c.in-Ret.tid))) c.args.ends.now c.requires.now
-    (c.requires.ends_are ∙ ap (λ (e : Event). ended e c.requires.past) c.in-Ret.is)
-
-pub return_from-requires-clause-each : goal.return_from-requires-clause-each
-return_from-requires-clause-each c = each_points c.args.self.now c.requires.past c.requires.now (light_before c.requires.past c.args.e c.requires.formed.1)
+return_from-requires-clause-way c = let takes = subst (λ (e : Event). Takes c.args.self.now e c.args.ends.now) c.in-Ret.is c.requires.takes in takes.1
 
 pub end-requires-clause-way : goal.end-requires-clause-way
-end-requires-clause-way c =
-    way_ended c.args.self.now c.requires.past c.in-End.tid (count_ending (End c.in-End.tid) c.in-End.tid (backs (open_calls c.requires.past c.in-End.tid))) c.args.ends.now c.requires.now
-    (c.requires.ends_are ∙ ap (λ (e : Event). ended e c.requires.past) c.in-End.is)
-
-pub end-requires-clause-each : goal.end-requires-clause-each
-end-requires-clause-each c = each_points c.args.self.now c.requires.past c.requires.now (light_before c.requires.past c.args.e c.requires.formed.1)
+end-requires-clause-way c = subst (λ (e : Event). Takes c.args.self.now e c.args.ends.now) c.in-End.is c.requires.takes
 
 pub returns-in-Call-clause-too_many : goal.returns-in-Call-clause-too_many
 returns-in-Call-clause-too_many c = λ past stands told. subst (λ (e : Event). HasTooMany e past) (sym c.in-Call.is) (c.call.ensures.too_many past c.in-Call.back stands told)

@@ -4,12 +4,12 @@ use Rattle.context_tree.specs.declared.order.Links.{Links}
 use Rattle.context_tree.specs.Contexts.{contexts}
 use Rattle.context_tree.specs.Links.{links_at, no_links}
 use Rattle.context_tree.specs.Numbers.{numbered}
-use Rattle.context_tree.specs.Trees.{Kept, StandsFor}
+use Rattle.context_tree.specs.Branches.{Kept, StandsFor}
 use Rattle.context_tree.specs.Ways.{PointList, lists}
 use Rattle.context_tree.proofs.Climbing.{there_is}
 use Rattle.context_tree.proofs.Following.{as_many, points_at}
 use Rattle.context_tree.proofs.Listed.{depth_is}
-use Rattle.context_tree.proofs.tree.Tree.at.Goals as goal
+use Rattle.context_tree.proofs.branches.Branches.at.Goals as goal
 
 pub returns : goal.returns
 returns c = λ past stands.

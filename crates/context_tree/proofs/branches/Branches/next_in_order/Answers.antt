@@ -3,9 +3,9 @@ use Rattle.std.proofs.lemmas.List.{get_or_default}
 use Rattle.context_tree.specs.declared.order.Links.{Links}
 use Rattle.context_tree.specs.Contexts.{contexts}
 use Rattle.context_tree.specs.Links.{IsNextUnder, links_at, no_links}
-use Rattle.context_tree.specs.Trees.{Kept, StandsFor}
+use Rattle.context_tree.specs.Branches.{Kept, StandsFor}
 use Rattle.context_tree.proofs.Ordering.{follows_child, follows_others}
-use Rattle.context_tree.proofs.tree.Tree.next_in_order.Goals as goal
+use Rattle.context_tree.proofs.branches.Branches.next_in_order.Goals as goal
 
 pub returns-in-Some : goal.returns-in-Some
 returns-in-Some c = λ past stands.

@@ -1,0 +1,60 @@
+-- What is kept of the calling contexts of a run.
+use Rattle.std.specs.Prelude.{◌≡◌, ℕ, ◌+◌, Bool, length, List, [], ◌∷◌, ◌++◌, IsSomeAnd, is_some}
+use Rattle.guest_words.specs.ByThread.{value_of}
+use Rattle.trace_model.specs.declared.event_kinds.Event.{Event}
+use Rattle.trace_model.specs.declared.event_kinds.Event.TheVariants.{End, Ret}
+use Rattle.trace_model.specs.declared.slow_profile.Done.{Done}
+use Rattle.trace_model.specs.Profile.{ended}
+use Rattle.trace_order.specs.Progress.{IsAllowed, IsProgressOf, ProgressState, is_of_one}
+use Rattle.cost_points.specs.declared.point.Point.{Point}
+use Rattle.context_tree.specs.Branches as grown
+use Rattle.context_tree.specs.Contexts.{context_begun, contexts}
+use Rattle.context_tree.specs.Numbers.{IsBeyond}
+use Rattle.context_tree.specs.Points.{points_in}
+
+-- The contexts with their points, and what tells with the threads that live which event may come next.
+pub record Kept : Type 0 where
+  pub branches : grown.Kept
+  pub progress : ProgressState
+
+-- It is what is kept of this past, which is one that a run can have.
+pub record StandsFor (kept : Kept) (past : List Event) : Type 0 where
+  pub branches_are : grown.StandsFor kept.branches past
+  pub progress_is : IsProgressOf kept.progress past
+
+-- It is what is kept of some past.
+pub record IsOfSome (kept : Kept) : Type 0 where
+  pub past : List Event
+  pub now : StandsFor kept past
+
+-- the thread is in a context
+abbrev pub lives : Kept → ℕ → Bool
+lives kept t = is_some (value_of kept.branches.threads t)
+
+-- The event may come next, as what is kept shows: what it shows is so of all pasts for which that stands.
+abbrev pub MayCome : Kept → Event → Type 0
+MayCome kept e = IsAllowed e (is_of_one (lives kept) e) kept.progress
+
+-- They are the activations that the event ends after some past of which this is kept.
+pub record AreOfSome (kept : Kept) (e : Event) (ends : List Done) : Type 0 where
+  pub past : List Event
+  pub now : StandsFor kept past
+  pub ends_are : ends ≡ ended e past
+
+-- They are the activations that the event ends: a return, or the end of a thread, those of some past, and any other event none.
+abbrev pub AreEnded : Kept → Event → List Done → Type 0
+AreEnded kept (Ret tid target) ends = ∥ AreOfSome kept (Ret tid target) ends ∥₁
+AreEnded kept (End tid) ends = ∥ AreOfSome kept (End tid) ends ∥₁
+AreEnded kept e ends = ends ≡ []
+
+-- They are the depth of the context, one less than its entries, the last of these, and its points.
+pub record IsShown (past : List Event) (c : List ℕ) (depth entry : ℕ) (points : List Point) : Type 0 where
+  pub depth_is : depth + 1 ≡ length c
+  -- the entries before the last
+  pub front : List ℕ
+  pub entry_is : c ≡ front ++ entry ∷ []
+  pub points_are : points ≡ points_in past c
+
+-- The event begins a context that is not there, where there are as many as can be numbered.
+abbrev pub HasTooMany : Event → List Event → Type 0
+HasTooMany e past = IsSomeAnd (context_begun e past) (IsBeyond (contexts past))

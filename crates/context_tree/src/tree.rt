@@ -1,0 +1,144 @@
+//! The calling contexts of a run that goes on.
+ghost use Rattle.std.specs.Prelude.{◌≡◌, ◌↔◌, ◌<◌, ◌≤◌, ◌∷◌, [], ℕ, List, length, slice_index_or, true, Err, IfOk, IsOk, IsTrue, None, OnErr, OnOk};
+ghost use Rattle.trace_model.specs.declared.event_kinds.Event.{Event};
+ghost use Rattle.trace_model.specs.Profile.{done, ended};
+ghost use Rattle.trace_model.specs.WellFormed.{IsWellFormed};
+ghost use Rattle.trace_order.specs.Progress.{is_of_one};
+ghost use Rattle.cost_points.specs.Contents.{contents_of};
+ghost use Rattle.context_tree.specs.declared.errors.TreeError.{TreeError};
+ghost use Rattle.context_tree.specs.declared.numbers.TheConstants.{CONTEXTS};
+ghost use Rattle.context_tree.specs.Contexts.{context_begun, contexts};
+ghost use Rattle.context_tree.specs.Numbers.{numbered};
+ghost use Rattle.context_tree.specs.Order.{IsFollowedBy, IsInOrder};
+ghost use Rattle.context_tree.specs.Trees.{AreEnded, HasTooMany, IsShown, MayCome, StandsFor, lives};
+
+use crate::TreeError;
+use crate::branches::Branches;
+use cost_points::{Point, Table};
+use guest_words::Addr;
+use std::alloc::{AllocError, Global};
+use std::marker::Model;
+use trace_model::{Done, Event};
+use trace_order::{Progress, thread_of};
+
+/// The calling contexts of the events so far, and the points of each. An event takes a time that grows only with how many
+/// activations it ends, and with how many sizes the points of their contexts have.
+#[derive(Drop)]
+pub struct Tree {
+    branches: Branches,
+    progress: Progress,
+}
+
+impl Model for Tree {
+    ghost use Rattle.context_tree.specs.Trees.{IsOfSome, Kept};
+
+    ghost Value = { Kept };
+
+    ghost view = { λ t. record { branches = t.branches; progress = t.progress } };
+
+    ghost invariant = { λ t. ∥ IsOfSome (record { branches = t.branches; progress = t.progress }) ∥₁ };
+}
+
+impl Tree {
+    /// No event so far.
+    pub fn new(alloc: Global) -> Result<Tree, AllocError>
+        ensures { IfOk result (λ tree. StandsFor tree []) }
+    {
+        Ok(Tree {
+            branches: Branches::new(alloc)?,
+            progress: Progress::new(),
+        })
+    }
+
+    // Whether the event is of a thread that lives.
+    fn lives_of(&self, e: &Event) -> bool
+        ensures { result ≡ is_of_one (lives self.now) e.now }
+    {
+        match thread_of(e) {
+            Some(tid) => self.branches.lives(tid),
+            None => false,
+        }
+    }
+
+    /// Whether the event may come next: with it the past is still one that a run can have.
+    pub fn may_follow(&self, e: &Event) -> bool
+        ensures shown { IsTrue result ↔ MayCome self.now e.now }
+        ensures stands { (past : List Event) → StandsFor self.now past
+            → IsTrue result ↔ IsWellFormed (e.now ∷ past) }
+    {
+        self.progress.allows(e, self.lives_of(e))
+    }
+
+    /// Takes one more event, and the activations that it ends, the innermost first. A refusal changes nothing. An event that
+    /// begins no context and ends no activation is not refused.
+    pub fn apply(&mut self, e: Event, ends: &[Done]) -> Result<(), TreeError>
+        requires next { MayCome self.old e }
+        requires ends { AreEnded self.old e ends.now }
+        ensures stands { (past : List Event) → StandsFor self.old past → ends.now ≡ ended e past
+            → OnOk result (StandsFor self.new (e ∷ past)) }
+        ensures too_many { (past : List Event) → StandsFor self.old past
+            → result ≡ Err TreeError.TooMany → HasTooMany e past }
+        ensures only_memory { (past : List Event) → StandsFor self.old past → HasTooMany e past
+            → result ≡ Err TreeError.TooMany }
+        ensures refused { OnErr result (self.new ≡ self.old) }
+        ensures no_memory { (past : List Event) → context_begun e past ≡ None → ends.now ≡ []
+            → IsOk result }
+    {
+        let event = &e;
+        self.branches.apply(*event, ends)?;
+        self.progress.pass(event);
+        Ok(())
+    }
+
+    /// How many contexts there are.
+    pub fn contexts(&self) -> usize
+        ensures value { result ≡ length self.now.branches.places }
+        ensures few { result ≤ CONTEXTS }
+        ensures stands { (past : List Event) → StandsFor self.now past
+            → result ≡ length (contexts past) }
+        ensures ordered { (past : List Event) → StandsFor self.now past
+            → (ordered : List (List ℕ)) × IsInOrder (contexts past) ordered }
+    {
+        self.branches.contexts()
+    }
+
+    /// The number of the context that comes next in the order of the text after that of the number `n`, and of the first one
+    /// where `n` is 0. To go through all of them takes a time that grows with how many they are: one goes up past each context
+    /// once.
+    pub fn next_in_order(&self, n: u32) -> Option<u32>
+        requires { n ≤ length self.now.branches.places }
+        ensures { (past : List Event) → StandsFor self.now past
+            → IsFollowedBy (contexts past) (numbered (contexts past) n) result }
+    {
+        self.branches.next_in_order(n)
+    }
+
+    /// The depth, the entry and the points of a context, the contexts in the order of the text. It takes `i` steps: to go through
+    /// all of them, take `next_in_order` and `at`.
+    pub fn context(&self, i: usize) -> (u32, Addr, &[Point])
+        requires { i < length self.now.branches.places }
+        ensures { (past : List Event) (ordered : List (List ℕ)) → StandsFor self.now past
+            → IsInOrder (contexts past) ordered
+            → IsShown past (slice_index_or ordered i []) result.0 result.1 result.2.now }
+    {
+        self.branches.context(i)
+    }
+
+    /// The depth of the context of a number, which is 0 where it has one entry, its entry, and its points.
+    pub fn at(&self, n: u32) -> (u32, Addr, &[Point])
+        requires some { 1 ≤ n }
+        requires within { n ≤ length self.now.branches.places }
+        ensures { (past : List Event) → StandsFor self.now past
+            → IsShown past (numbered (contexts past) n) result.0 result.1 result.2.now }
+    {
+        self.branches.at(n)
+    }
+
+    /// The points of all contexts together, by routine: those of all activations that ended.
+    pub fn totals(&self, alloc: Global) -> Result<Table, AllocError>
+        ensures { (past : List Event) → StandsFor self.now past
+            → IfOk result (λ table. table ≡ contents_of (done past)) }
+    {
+        self.branches.totals(alloc)
+    }
+}
