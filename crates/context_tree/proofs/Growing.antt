@@ -1,5 +1,6 @@
 -- A tree grows with the events.
-use Rattle.std.proofs.Common.{◌≡◌, ℕ, ◌<◌, ◌≤◌, length, List, [], ◌∷◌, All, refl, sym, ap, ◌∙◌, arith}
+use Rattle.std.proofs.Common.{◌≡◌, ℕ, ◌<◌, ◌≤◌, length, List, [], ◌∷◌, All, Option, Some, None, sym, subst, arith}
+use Rattle.std.specs.Prelude.{IfSome}
 use Rattle.std.proofs.Math.Logic.{∥∥₁_elim, ∥∥₁_map}
 use Rattle.std.proofs.Props.{props}
 use Rattle.std.proofs.lemmas.List.Elements.{All-weaker}
@@ -12,10 +13,13 @@ use Rattle.trace_model.specs.Profile.{ended}
 use Rattle.trace_model.specs.WellFormed.{IsLight, IsWellFormed, greatest_start}
 use Rattle.trace_order.proofs.Progressing.{allowed_by}
 use Rattle.context_tree.specs.Branches as grown
+use Rattle.context_tree.specs.Contexts.{contexts}
+use Rattle.context_tree.specs.Numbers.{numbered}
+use Rattle.context_tree.specs.Order.{IsFollowedBy}
 use Rattle.context_tree.specs.Taking.{IsWhole, Takes}
 use Rattle.context_tree.specs.Trees.{AreEnded, IsOfSome, Kept, MayCome, StandsFor, lives}
 use Rattle.context_tree.proofs.Following.{as_many, current_within, each_points, way_ended}
-use Rattle.context_tree.proofs.Once.{whole_once}
+use Rattle.context_tree.proofs.Once.{if_some, whole_once}
 
 light_of : (past : List Event) → IsWellFormed past → IsLight past
 light_of [] formed = omega arith
@@ -40,6 +44,17 @@ some_branches kept some = ∥∥₁_map some (λ of. record { past = of.past; no
 
 pub light_branches : (kept : Kept) → ∥ IsOfSome kept ∥₁ → ∥ grown.IsOfLight kept.branches ∥₁
 light_branches kept some = ∥∥₁_map some (λ of. record { past = of.past; now = of.now.branches_are; light = light_of of.past of.now.progress_is.formed })
+
+-- the one that comes next has a number
+follower_within : (known : List (List ℕ)) (c : List ℕ) (o : Option ℕ) → IsFollowedBy known c o → IfSome o (λ m. (1 ≤ m) × (m ≤ length known))
+follower_within known c None next = tt
+follower_within known c (Some m) next = (next.0, next.1)
+
+pub next_within : (kept : Kept) (n : ℕ) (o : Option ℕ) → ∥ IsOfSome kept ∥₁ → ((past : List Event) → grown.StandsFor kept.branches past → IsFollowedBy (contexts past) (numbered (contexts past) n) o) →
+    IfSome o (λ m. (1 ≤ m) × (m ≤ length kept.branches.places))
+next_within kept n o some next = ∥∥₁_elim some (if_some (λ m. (1 ≤ m) × (m ≤ length kept.branches.places)) (λ m. hlevel props) o) (λ of.
+    subst (λ k. IfSome o (λ m. (1 ≤ m) × (m ≤ k))) (sym of.now.branches_are.contexts_are.long)
+    (follower_within (contexts of.past) (numbered (contexts of.past) n) o (next of.past of.now.branches_are)))
 
 -- ---- what an event asks of them
 within : (kept : Kept) (tid : ℕ) → ∥ IsOfSome kept ∥₁ → grown.current_of kept.branches tid ≤ length kept.branches.places

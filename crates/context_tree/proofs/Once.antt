@@ -12,7 +12,7 @@ use Rattle.context_tree.specs.Links.{IsLastUnder, IsLinked, IsNextUnder}
 use Rattle.context_tree.specs.Taking.{IsWhole}
 use Rattle.context_tree.specs.Ways.{ArePoints}
 
-if_some : {A : Type 0} (P : A → Type 0) → ((a : A) → IsProp (P a)) → (o : Option A) → IsProp (IfSome o P)
+pub if_some : {A : Type 0} (P : A → Type 0) → ((a : A) → IsProp (P a)) → (o : Option A) → IsProp (IfSome o P)
 if_some P once None = hlevel props
 if_some P once (Some a) = once a
 

@@ -1,5 +1,5 @@
 //! The calling contexts of a run that goes on.
-ghost use Rattle.std.specs.Prelude.{◌≡◌, ◌↔◌, ◌<◌, ◌≤◌, ◌∷◌, [], ℕ, List, length, slice_index_or, true, Err, IfOk, IsOk, IsTrue, None, OnErr, OnOk};
+ghost use Rattle.std.specs.Prelude.{◌≡◌, ◌↔◌, ◌<◌, ◌≤◌, ◌∷◌, [], ℕ, List, length, slice_index_or, true, Err, IfOk, IfSome, IsOk, IsTrue, None, OnErr, OnOk};
 ghost use Rattle.trace_model.specs.declared.event_kinds.Event.{Event};
 ghost use Rattle.trace_model.specs.Profile.{done, ended};
 ghost use Rattle.trace_model.specs.WellFormed.{IsWellFormed};
@@ -107,8 +107,10 @@ impl Tree {
     /// once.
     pub fn next_in_order(&self, n: u32) -> Option<u32>
         requires { n ≤ length self.now.branches.places }
-        ensures { (past : List Event) → StandsFor self.now past
+        ensures follows { (past : List Event) → StandsFor self.now past
             → IsFollowedBy (contexts past) (numbered (contexts past) n) result }
+        ensures within { IfSome result
+            (λ m. (1 ≤ m) × (m ≤ length self.now.branches.places)) }
     {
         self.branches.next_in_order(n)
     }
