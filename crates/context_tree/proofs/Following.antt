@@ -24,7 +24,7 @@ use Rattle.context_tree.specs.Links.{IsLinked, no_links}
 use Rattle.context_tree.specs.Numbers.{IsNumberOf, above_of, numbered}
 use Rattle.context_tree.specs.Numbers as by_number
 use Rattle.context_tree.specs.Points.{done_in_context, points_from, points_in, points_of}
-use Rattle.context_tree.specs.Trees.{Kept, StandsFor, current_of}
+use Rattle.context_tree.specs.Branches.{Kept, StandsFor, current_of}
 use Rattle.context_tree.specs.Adding.{with_list}
 use Rattle.context_tree.specs.Ways.{ArePoints, IsWay, tagged, up}
 use Rattle.context_tree.proofs.Known.{done_known, no_members}

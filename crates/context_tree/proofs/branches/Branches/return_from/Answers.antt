@@ -2,10 +2,10 @@ use Rattle.std.proofs.Common.{◌≡◌, ◌∙◌, ◌++◌, All, length, map, 
 use Rattle.std.specs.Prelude.{is_some}
 use Rattle.guest_words.specs.ByThread.{value_of}
 use Rattle.context_tree.specs.Points.{points_of}
-use Rattle.context_tree.specs.Trees.{Kept, StandsFor, current_of}
+use Rattle.context_tree.specs.Branches.{Kept, StandsFor, current_of}
 use Rattle.context_tree.specs.Ways.{ArePoints, lists, tagged, up}
 use Rattle.context_tree.proofs.Following.{stands-return}
-use Rattle.context_tree.proofs.tree.Tree.return_from.Goals as goal
+use Rattle.context_tree.proofs.branches.Branches.return_from.Goals as goal
 
 pub add_up-number-requires-clause-each : goal.add_up-number-requires-clause-each
 add_up-number-requires-clause-each c =

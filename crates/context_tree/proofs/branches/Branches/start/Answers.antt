@@ -2,9 +2,9 @@ use Rattle.std.proofs.Common.{◌∙◌, ◌<◌, ◌++◌, ◌∷◌, [], ℕ, 
 use Rattle.guest_words.specs.ByThread.{numbers}
 use Rattle.context_tree.specs.Contexts.{contexts}
 use Rattle.context_tree.specs.Numbers.{IsBeyond}
-use Rattle.context_tree.specs.Trees.{Kept, StandsFor}
+use Rattle.context_tree.specs.Branches.{Kept, StandsFor}
 use Rattle.context_tree.proofs.Following.{ok_of, own-start, stands-start}
-use Rattle.context_tree.proofs.tree.Tree.start.Goals as goal
+use Rattle.context_tree.proofs.branches.Branches.start.Goals as goal
 
 pub returns-then-is_beyond-clause-too_many : goal.returns-then-is_beyond-clause-too_many
 returns-then-is_beyond-clause-too_many c = λ past stands told.

@@ -2,9 +2,9 @@ use Rattle.std.proofs.Common.{◌≡◌, ◌∙◌, true, refl, sym, ap, subst}
 use Rattle.std.specs.Prelude.{is_some}
 use Rattle.guest_words.specs.ByThread.{value_of}
 use Rattle.context_tree.specs.Contexts.{contexts}
-use Rattle.context_tree.specs.Trees.{Kept, StandsFor, current_of}
+use Rattle.context_tree.specs.Branches.{Kept, StandsFor, current_of}
 use Rattle.context_tree.proofs.Following.{stands-call}
-use Rattle.context_tree.proofs.tree.Tree.call.Goals as goal
+use Rattle.context_tree.proofs.branches.Branches.call.Goals as goal
 
 pub returns-clause-stands : goal.returns-clause-stands
 returns-clause-stands c = λ past back stands.

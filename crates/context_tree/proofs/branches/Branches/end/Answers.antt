@@ -1,9 +1,9 @@
 use Rattle.std.proofs.Common.{◌≡◌, ◌∙◌, ◌++◌, All, map, refl, sym, ap, subst}
 use Rattle.context_tree.specs.Points.{points_of}
-use Rattle.context_tree.specs.Trees.{Kept, StandsFor, current_of}
+use Rattle.context_tree.specs.Branches.{Kept, StandsFor, current_of}
 use Rattle.context_tree.specs.Ways.{ArePoints, lists, tagged}
 use Rattle.context_tree.proofs.Following.{stands-end}
-use Rattle.context_tree.proofs.tree.Tree.end.Goals as goal
+use Rattle.context_tree.proofs.branches.Branches.end.Goals as goal
 
 pub add_up-requires-clause-each : goal.add_up-requires-clause-each
 add_up-requires-clause-each c =

@@ -3,8 +3,8 @@ use Rattle.trace_model.specs.declared.event_kinds.Event.{Event}
 use Rattle.context_tree.specs.Contexts.{contexts}
 use Rattle.context_tree.specs.Numbers.{numbered}
 use Rattle.context_tree.specs.Order.{IsInOrder}
-use Rattle.context_tree.specs.Trees.{StandsFor}
-use Rattle.context_tree.proofs.tree.Tree.number_at.Given as goal
+use Rattle.context_tree.specs.Branches.{StandsFor}
+use Rattle.context_tree.proofs.branches.Branches.number_at.Given as goal
 
 abbrev pub invariant-loop : goal.invariant-loop
 invariant-loop l = record {
