@@ -6,7 +6,7 @@ ghost use Rattle.profile_report.specs.LineForms.{ended};
 ghost use Rattle.context_tree.specs.Contexts.{contexts};
 ghost use Rattle.context_tree.specs.Numbers.{numbered};
 ghost use Rattle.context_tree.specs.Order.{IsInOrder};
-ghost use Rattle.context_tree.specs.declared.numbers.TheConstants.{CONTEXTS};
+ghost use Rattle.guest_words.specs.declared.limits.TheConstants.{CONTEXTS};
 ghost use Rattle.context_tree.specs.Trees.{StandsFor};
 ghost use Rattle.context_report.specs.ContextText.{context_line, context_text, contexts_text};
 

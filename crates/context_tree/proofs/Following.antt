@@ -18,7 +18,7 @@ use Rattle.trace_model.specs.Profile.{done_of, ended}
 use Rattle.trace_model.specs.WellFormed.{IsLight, IsRunning, MayFollow, greatest_start, is_live}
 use Rattle.cost_points.specs.declared.point.Point.{Point}
 use Rattle.cost_points.specs.Keys.{grouped}
-use Rattle.context_tree.specs.declared.numbers.TheConstants.{CONTEXTS}
+use Rattle.guest_words.specs.declared.limits.TheConstants.{CONTEXTS}
 use Rattle.context_tree.specs.Contexts.{context_of, contexts, same, with_context}
 use Rattle.context_tree.specs.Links.{IsLinked, no_links}
 use Rattle.context_tree.specs.Numbers.{IsNumberOf, above_of, numbered}

@@ -6,7 +6,7 @@ use Rattle.trace_model.specs.declared.event_kinds.Event.{Event}
 use Rattle.trace_model.specs.Activations.{open_calls}
 use Rattle.trace_model.specs.WellFormed.{IsLight, greatest_start, is_live}
 use Rattle.cost_points.specs.declared.point.Point.{Point}
-use Rattle.context_tree.specs.declared.numbers.TheConstants.{CONTEXTS}
+use Rattle.guest_words.specs.declared.limits.TheConstants.{CONTEXTS}
 use Rattle.context_tree.specs.declared.order.Links.{Links}
 use Rattle.context_tree.specs.Contexts.{context_of, contexts}
 use Rattle.context_tree.specs.Links.{IsLinked}

@@ -7,7 +7,7 @@ ghost use Rattle.trace_model.specs.declared.event_kinds.Event.TheVariants.{Call,
 ghost use Rattle.trace_model.specs.Profile.{done, ended};
 ghost use Rattle.cost_points.specs.Contents.{contents_of};
 ghost use Rattle.context_tree.specs.declared.errors.TreeError.{TreeError};
-ghost use Rattle.context_tree.specs.declared.numbers.TheConstants.{CONTEXTS};
+ghost use Rattle.guest_words.specs.declared.limits.TheConstants.{CONTEXTS};
 ghost use Rattle.context_tree.specs.Contexts.{context_begun, contexts, same, with_context};
 ghost use Rattle.context_tree.specs.Links.{IsLinked};
 ghost use Rattle.context_tree.specs.Numbers.{IsBeyond, IsNumberOf, numbered};
