@@ -137,13 +137,7 @@ impl<K: Shaped> CacheProfile<K> {
     }
 
     // An event that accesses these words by the thread.
-    fn access(
-        &mut self,
-        e: &Event,
-        tid: Tid,
-        first: Word,
-        count: u32,
-    ) -> Result<(), AllocError>
+    fn access(&mut self, e: &Event, tid: Tid, first: Word, count: u32) -> Result<(), AllocError>
         requires may { MayCome self.old e.now }
         requires accesses { (e.now ≡ Read tid first count) ⊎ (e.now ≡ Write tid first count) }
         ensures stands { (past : List Event) → StandsFor K.shape self.old past

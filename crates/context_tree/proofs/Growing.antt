@@ -68,8 +68,11 @@ above kept tid entry some may = ∥∥₁_elim some (hlevel props) (λ of.
 pub takes : (kept : Kept) (e : Event) (ends : List Done) → ∥ IsOfSome kept ∥₁ → MayCome kept e → AreEnded kept e ends → Takes kept.branches e ends
 takes kept (Start tid entry) ends some may are = above kept tid entry some may
 takes kept (Call tid entry back) ends some may are = (may.0.0, within kept tid some)
-takes kept (Ret tid target) ends some may are = (may.0.0, ∥∥₁_elim are (hlevel props) (λ of.
-    way_ended kept.branches of.past tid (count_ending (Ret tid target) tid (backs (open_calls of.past tid))) ends of.now.branches_are of.ends_are))
+takes kept (Ret tid target) ends some may are = (
+  may.0.0,
+  ∥∥₁_elim are (hlevel props) (λ of.
+      way_ended kept.branches of.past tid (count_ending (Ret tid target) tid (backs (open_calls of.past tid))) ends of.now.branches_are of.ends_are),
+)
 takes kept (End tid) ends some may are = ∥∥₁_elim are (hlevel props) (λ of.
     way_ended kept.branches of.past tid (count_ending (End tid) tid (backs (open_calls of.past tid))) ends of.now.branches_are of.ends_are)
 takes kept (Step tid) ends some may are = tt
