@@ -1,4 +1,3 @@
-#!/usr/bin/env python3
 """In the place of `rt` in tests: it proves nothing, leaves what `rt` leaves, and notes when it was at which crate."""
 import json
 import os

@@ -5,6 +5,7 @@ import json
 import os
 import signal
 import subprocess
+import sys
 import tempfile
 import time
 import unittest
@@ -24,7 +25,8 @@ class Repository:
     def __init__(self, folder: Path) -> None:
         self.top, self.tools, self.notes = folder / "top", folder / "tools", folder / "notes"
         self.tools.mkdir(parents=True)
-        (self.tools / "rt").write_text((ROOT / "scripts/tests/fake_rt.py").read_text())
+        text = (ROOT / "scripts/tests/fake_rt.py").read_text()
+        (self.tools / "rt").write_text(f"#!{sys.executable} -S\n{text}")
         (self.tools / "rt").chmod(0o755)
         self.top.mkdir()
         (self.top / "aprof").write_bytes((ROOT / "aprof").read_bytes())
