@@ -38,7 +38,8 @@ def end(number: int, _frame: FrameType | None) -> None:
 def build_program(top: Path) -> int:
     """The status: 0 where the program is there. A signal ends it in the same order, and what was done is kept."""
     for number in SIGNALS:
-        signal.signal(number, end)
+        if signal.getsignal(number) is not signal.SIG_IGN:
+            signal.signal(number, end)
     folder, log = top / "build", top / "crates" / PROGRAM / "out" / "build.log"
     try:
         folder.mkdir(exist_ok=True)

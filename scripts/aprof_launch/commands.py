@@ -59,7 +59,8 @@ class Command:
 
 
 OUTPUT = Option("-o", "where what is made of the run is stored", "PATH", required=True, use=Use.WRITTEN)
-STAMPS = Option("--stamps", "bits of a stamp: 32; 16 or 8 take less memory, for at most 21844 or 84 open calls", "8|16|32", 8, 32, (8, 16, 32))
+STAMPS_TEXT = "bits of a stamp: 32; 16 or 8 take less memory, for at most 21844 or 84 open calls"
+STAMPS = Option("--stamps", STAMPS_TEXT, "8|16|32", 8, 32, (8, 16, 32))
 STATS = Option("--stats", "says how often stamps were renumbered")
 GUEST = (
     Option("--stdin", "the program's standard input: empty without it; /dev/stdin for aprof's own", "PATH", use=Use.READ),

@@ -5,11 +5,13 @@ import os
 import re
 import select
 import shlex
+import stat
 import subprocess
 from collections.abc import Callable
 
 from aprof_launch import ends, tables
-from aprof_launch.usage import usage
+from aprof_launch.outputs import refusals
+from aprof_launch.usage import called, usage
 from aprof_launch.words import Words
 
 MIB = 1 << 20
@@ -49,8 +51,8 @@ class Hints:
     def bad_words(self) -> list[str]:
         said = [self.read.complaint] if self.read.complaint else []
         if self.read.command is None:
-            return [*said, "`./aprof help` has the commands"]
-        return [*said, *usage(self.read.command), f"`./aprof help {self.name}` says what they mean"]
+            return [*said, f"`{called()} help` has the commands"]
+        return [*said, *usage(self.read.command), f"`{called()} help {self.name}` says what they mean"]
 
     def unread(self) -> list[str]:
         for path in self.read.inputs():
@@ -68,7 +70,10 @@ class Hints:
     def unwritten(self) -> list[str]:
         if not has_reader(1):
             return ["the reader of standard output has gone; the report is stored behind the output: write that to a file"]
-        return ["standard output or the report: no room, or the place went during the run; what was written before stands"]
+        again = [line.removeprefix("aprof: ") for line in refusals(self.read)]
+        full = [f"{path}: the disk is full" for path in self.read.outputs() if is_full(path)]
+        other = "standard output or the report: no room, or the place went during the run; what was written before stands"
+        return (again or full or [other])[:1]
 
     def fault(self) -> list[str]:
         fault = ends.fault_in(self.output)
@@ -84,7 +89,7 @@ class Hints:
         if "--record" in self.read.values:
             left["--schedule"] = self.read.values["--record"]
         options = [word for pair in left.items() for word in pair if pair[0] in CONTEXT_OPTIONS]
-        return shlex.join(["./aprof", "contexts", *options, "-o", "contexts.txt", *self.words()])
+        return shlex.join([called(), "contexts", *options, "-o", "contexts.txt", *self.words()])
 
     def words(self) -> list[str]:
         words = self.read.positionals
@@ -93,8 +98,9 @@ class Hints:
     def chain(self) -> list[str]:
         """The commands that show which calls were open."""
         if self.name == "contexts" and os.path.isfile(self.output):
-            return [f"the calls that were open: {shlex.join(['./show', '--open', self.output])}"]
-        return ["the calls that were open:", f"  {self.words_of_contexts()}", "  ./show --open contexts.txt"]
+            return [f"the calls that were open: {shlex.join([called(), 'show', '--open', self.output])}"]
+        show = shlex.join([called(), "show", "--open", "contexts.txt"])
+        return ["the calls that were open:", f"  {self.words_of_contexts()}", f"  {show}"]
 
     def budget(self) -> list[str]:
         steps = self.read.values.get("--budget", "1000000000")
@@ -148,11 +154,22 @@ LIMITS = "limits: 16 MiB a file, 64 MiB of inputs, 56 MiB of image, 64 MiB of tr
 def why_unread(path: str) -> str:
     """Why the file can't be read, or nothing."""
     try:
-        with open(path, "rb") as file:
-            file.read(1) if os.path.isfile(path) else None
+        mode = os.stat(path).st_mode
+    except (FileNotFoundError, NotADirectoryError):
+        return "no such file"
     except OSError as error:
-        return {"No such file or directory": "no such file"}.get(error.strerror or "", (error.strerror or "").lower())
-    return ""
+        return (error.strerror or "").lower()
+    if stat.S_ISDIR(mode):
+        return "it is a folder"
+    return "" if os.access(path, os.R_OK) else "no right to read it"
+
+
+def is_full(path: str) -> bool:
+    """Whether the disk of a file has no room."""
+    try:
+        return os.statvfs(os.path.dirname(os.path.realpath(path))).f_bavail == 0
+    except OSError:
+        return False
 
 
 def has_reader(descriptor: int) -> bool:

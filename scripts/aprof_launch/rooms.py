@@ -1,5 +1,6 @@
-"""Rooms: checkouts for one `rt` each, since two in one checkout wait for each other's crates. What comes of a crate goes home, into
-the crate's own out/, where every `rt` finds it; a room is removed once it is done with, as `rt ci` wants no other crates.txt."""
+"""Rooms: checkouts for one `rt` each, since two in one checkout wait for each other's crates. What comes of a crate goes home,
+into the crate's own out/, where every `rt` finds it; a room is removed once it is done with, as `rt ci` wants no other
+crates.txt."""
 from __future__ import annotations
 
 import contextlib

@@ -1,6 +1,8 @@
 """The steps that the launcher calls, one by one."""
 from __future__ import annotations
 
+import os
+import signal
 import sys
 from pathlib import Path
 
@@ -39,7 +41,8 @@ def hint_step(words: list[str]) -> int:
     """Behind a run: the program, its status and its words."""
     from aprof_launch.hints import Hints
 
-    lines = Hints(read_words(words[2:]), words[0]).lines(int(words[1]))
+    read, status = read_words(words[2:]), int(words[1])
+    lines = Hints(read, words[0]).lines(status) if status == 1 or not read.complaint else []
     for number, line in enumerate(lines):
         is_first = number == 0 and not line.startswith("usage:")
         print(f"aprof: {line}" if is_first else line, file=sys.stderr)
@@ -54,10 +57,16 @@ def interrupted_step(words: list[str]) -> int:
 
 
 def build_step(words: list[str]) -> int:
-    """The top of the repository."""
+    """The top of the repository, and the launcher with its words, which is started where the program is built."""
     from aprof_launch.build import build_program
 
-    return build_program(Path(words[0]))
+    status = build_program(Path(words[0]))
+    if status:
+        return status
+    for number in (signal.SIGPIPE, signal.SIGXFSZ):
+        signal.signal(number, signal.SIG_DFL)
+    launcher = words[1] if os.access(words[1], os.X_OK) else f"{words[0]}/aprof"
+    os.execve(launcher, [launcher, *words[2:]], os.environ | {"APROF_BUILT": "1"})
 
 
 def progress_step(words: list[str]) -> int:

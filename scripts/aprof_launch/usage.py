@@ -1,6 +1,8 @@
 """What `aprof help` prints."""
 from __future__ import annotations
 
+import os
+import shutil
 import subprocess
 import textwrap
 from pathlib import Path
@@ -22,6 +24,13 @@ HEAD = """aprof: how the cost of each routine of a program grows with its input
 
 TAIL = """Of the launcher itself: `--progress` tells on standard error that a run goes on, also
 where that is no terminal; APROF_HINTS=0 in the environment keeps out its hints."""
+
+
+def called() -> str:
+    """How the launcher was called, as it can be called again."""
+    name = os.environ.get("APROF_NAME", "./aprof")
+    found = shutil.which("aprof")
+    return "aprof" if found and os.path.exists(name) and os.path.samefile(found, name) else name
 
 
 def shown(option: Option) -> str:

@@ -111,7 +111,8 @@ def no_value(option: Option, left: list[str]) -> str:
 
 def lacking(read: Words, command: Command) -> str:
     """What has to be there and isn't, or is too much."""
-    missing = [f"{option.name} {option.metavar}" for option in command.options if option.required and option.name not in read.values]
+    required = [option for option in command.options if option.required]
+    missing = [f"{option.name} {option.metavar}" for option in required if option.name not in read.values]
     if not read.positionals:
         missing.append(command.positional)
     if missing:

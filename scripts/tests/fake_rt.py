@@ -34,7 +34,8 @@ def prove(folder: Path) -> None:
     print(f"rt: at {name}", flush=True)
     if name in os.environ.get("FAKE_KILLED", "").split() and not kept:
         os.kill(os.getpid(), 9)
-    time.sleep(float(os.environ.get("FAKE_SECONDS", "0")))
+    if name in os.environ.get("FAKE_SLOW", name).split():
+        time.sleep(float(os.environ.get("FAKE_SECONDS", "0")))
     if name in os.environ.get("FAKE_FAIL", "").split():
         print(f"fn {name}::f: not proved")
         sys.exit(1)

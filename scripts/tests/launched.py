@@ -52,6 +52,8 @@ class Launched(unittest.TestCase):
     def run_words(self, words: str | Sequence[str], status: int = 0, **more: str) -> subprocess.CompletedProcess[str]:
         listed = words.split() if isinstance(words, str) else words
         environment = os.environ | {"FAKE_STATUS": str(status)} | more
-        return subprocess.run(
-            [self.launcher, *listed], cwd=self.folder, env=environment, capture_output=True, text=True, input="what is read"
+        done = subprocess.run(
+            [str(self.launcher), *listed], cwd=self.folder, env=environment, capture_output=True, text=True, input="what is read"
         )
+        done.stderr = done.stderr.replace(str(self.launcher), "./aprof")
+        return done

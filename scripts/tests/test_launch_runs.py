@@ -98,7 +98,8 @@ class Runs(Launched):
         for seconds, is_told in (("1.5", True), ("0", False)):
             own, its = pty.openpty()
             environment = os.environ | {"FAKE_SLEEP": seconds, "APROF_PROGRESS_AFTER": "0.2"}
-            subprocess.run([self.launcher, "run", "-o", "r", "bubble"], cwd=self.folder, env=environment, stderr=its)
+            words, out = [str(self.launcher), "run", "-o", "r", "bubble"], subprocess.DEVNULL
+            subprocess.run(words, cwd=self.folder, env=environment, stdout=out, stderr=its)
             text = b""
             while select.select([own], [], [], 0)[0]:
                 text += os.read(own, 65536)

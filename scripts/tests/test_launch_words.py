@@ -31,18 +31,21 @@ HINTS: Sequence[tuple[str, int, Sequence[str]]] = (
     ("run bubble -o", 1, ["aprof: -o wants a path behind it\n"]),
     ("-o r run bubble", 1, ["aprof: -o stands before the command: options stand behind it\n"]),
     ("rnu -o r bubble", 1, ["aprof: no command rnu; there is run\n", "`./aprof help` has the commands\n"]),
-    ("replay -o r t u", 1, ["aprof: u is one word too many\n", "usage: aprof replay [--stamps 8|16|32] [--stats] -o PATH TRACE\n"]),
+    ("replay -o r t u", 1,
+     ["aprof: u is one word too many\n", "usage: aprof replay [--stamps 8|16|32] [--stats] -o PATH TRACE\n"]),
     ("demo 40001", 1, ["aprof: 40001: N is 1 to 40000\n", "usage: aprof demo N\n"]),
     ("demo", 1, ["aprof: N is missing\n"]),
     ("run -o r bubble fine", 1, ["usage: aprof run"]),
     ("run -o r bubble 100", 2, ["aprof: 100: no such file; a word names a file: write =100 for an argument\n"]),
     ("run -o r nothing", 2, ["aprof: nothing: no such file\n"]),
-    ("run -o r . =1", 2, ["aprof: .: is a directory\n"]),
+    ("run -o r . =1", 2, ["aprof: .: it is a folder\n"]),
     ("run -o r --stdin none bubble", 2, ["aprof: none: no such file\n"]),
     ("run -o r bubble =1", 4, ["no room"]),
-    ("run -o r bubble =1", 6, ["ended after 1000000000 steps", "./aprof contexts -o contexts.txt bubble =1\n", "./show --open contexts.txt\n"]),
-    ("run --budget 9 --record k --stats -o r bubble", 6, ["after 9 steps", "contexts --budget 9 --schedule k -o contexts.txt bubble\n"]),
-    ("contexts -o bubble.txt bubble", 6, ["./show --open contexts.txt"]),
+    ("run -o r bubble =1", 6,
+     ["ended after 1000000000 steps", "./aprof contexts -o contexts.txt bubble =1\n", "./aprof show --open contexts.txt\n"]),
+    ("run --budget 9 --record k --stats -o r bubble", 6,
+     ["after 9 steps", "contexts --budget 9 --schedule k -o contexts.txt bubble\n"]),
+    ("contexts -o bubble.txt bubble", 6, ["./aprof show --open contexts.txt"]),
     ("cache --sets 4 --ways 4 --line 64 -o r bubble", 7, ["all threads wait", "./aprof contexts -o contexts.txt bubble\n"]),
     ("run --stamps 8 -o r bubble", 8, ["--stamps 8 tells at most 84 open calls apart: leave it out\n"]),
     ("run -o r bubble", 10, ["too little memory free"]),
@@ -76,9 +79,9 @@ class Words(Launched):
         """The routine of the address, and for `run` the command that names the chain."""
         done = self.run_words("run -o r bubble", 5, FAKE_STORED=FAULT)
         self.assertIn("aprof: in bubble_sort; build with -g for the line: no writable byte", done.stderr)
-        self.assertIn("  ./aprof contexts -o contexts.txt bubble\n  ./show --open contexts.txt\n", done.stderr)
+        self.assertIn("  ./aprof contexts -o contexts.txt bubble\n  ./aprof show --open contexts.txt\n", done.stderr)
         done = self.run_words("contexts -o r bubble", 5, FAKE_STORED=FAULT)
-        self.assertIn("the calls that were open: ./show --open r\n", done.stderr)
+        self.assertIn("the calls that were open: ./aprof show --open r\n", done.stderr)
         trace = "aprof trace 1\\n\\x0a\\x01\\x04\\0\\0\\0\\x01\\0\\0\\0\\x80\\x11\\x01\\0"
         done = self.run_words("trace -o r bubble", 5, FAKE_STORED=trace)
         self.assertIn("aprof: in bubble_sort;", done.stderr)
