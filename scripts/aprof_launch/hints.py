@@ -3,14 +3,13 @@ from __future__ import annotations
 
 import os
 import re
-import select
 import shlex
-import stat
 import subprocess
 from collections.abc import Callable
 
 from aprof_launch import ends, tables
 from aprof_launch.outputs import refusals
+from aprof_launch.places import has_reader, is_full, why_unread
 from aprof_launch.usage import called, usage
 from aprof_launch.words import Words
 
@@ -32,6 +31,8 @@ class Hints:
             1: self.bad_words, 2: self.unread, 3: self.bad_image, 4: self.unwritten, 5: self.fault, 6: self.budget,
             7: self.deadlock, 8: self.too_deep, 9: self.schedule, 10: self.memory, 11: self.too_large, 13: self.bad_trace,
         }  # fmt: skip
+        if status > 128:
+            return [f"signal {status - 128} ended the run" + ("; where memory is short the system sends it" if status == 137 else "")]
         return of_status[status]() if status in of_status else []
 
     def asked_again(self, *words: str) -> int | None:
@@ -79,8 +80,9 @@ class Hints:
         fault = ends.fault_in(self.output)
         if fault is None:
             return ["`llvm-symbolizer --obj=IMAGE 0xADDRESS` names the routine, and with -g the line", *self.chain()]
-        routine, line = ends.routine_at(self.image(), fault.at), ends.line_at(self.image(), fault.at)
-        place = f"in {routine or 'a routine without a name'}" + (f", {line}" if line else "; build with -g for the line")
+        found = ends.place_of(self.image(), fault.at)
+        place = f"in {found.routine or 'a routine without a name'}"
+        place += f", {found.line}" if found.line else "; build with -g for the line"
         return [f"{place}: {tables.FAULTS.get(fault.kind, '')}", *self.chain()]
 
     def words_of_contexts(self) -> str:
@@ -149,31 +151,3 @@ class Hints:
 
 CONTEXT_OPTIONS = ("--stdin", "--quantum", "--schedule", "--budget", "--stamps")
 LIMITS = "limits: 16 MiB a file, 64 MiB of inputs, 56 MiB of image, 64 MiB of trace, 64 KiB of arguments, 4294967294 contexts"
-
-
-def why_unread(path: str) -> str:
-    """Why the file can't be read, or nothing."""
-    try:
-        mode = os.stat(path).st_mode
-    except (FileNotFoundError, NotADirectoryError):
-        return "no such file"
-    except OSError as error:
-        return (error.strerror or "").lower()
-    if stat.S_ISDIR(mode):
-        return "it is a folder"
-    return "" if os.access(path, os.R_OK) else "no right to read it"
-
-
-def is_full(path: str) -> bool:
-    """Whether the disk of a file has no room."""
-    try:
-        return os.statvfs(os.path.dirname(os.path.realpath(path))).f_bavail == 0
-    except OSError:
-        return False
-
-
-def has_reader(descriptor: int) -> bool:
-    """Whether what is written there may still be read."""
-    poll = select.poll()
-    poll.register(descriptor, 0)
-    return not any(event & select.POLLERR for _, event in poll.poll(0))

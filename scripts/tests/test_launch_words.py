@@ -51,6 +51,7 @@ HINTS: Sequence[tuple[str, int, Sequence[str]]] = (
     ("run -o r bubble", 10, ["too little memory free"]),
     ("run -o r bubble", 11, ["limits: 16 MiB a file"]),
     ("run -o r bubble large", 11, ["aprof: large has 16777217 bytes: a file has at most 16 MiB\n"]),
+    ("run -o r bubble", 137, ["aprof: signal 9 ended the run; where memory is short"]),
     ("run -o r bubble", 12, []),
     ("run -o r bubble", 0, []),
 )
@@ -123,7 +124,7 @@ class Words(Launched):
                 self.assertEqual((done.returncode, done.stderr), (0, ""))
                 self.assertTrue(done.stdout.startswith(f"usage: aprof {command.name} "))
                 self.assertLessEqual(max(map(len, done.stdout.splitlines())), 84)
-        self.assertIn("show --help", self.run_words("help show").stdout)
+        self.assertIn("show [options] REPORT", self.run_words("help show").stdout)
 
     def test_show(self) -> None:
         done = self.run_words(["show", str(ROOT / "examples/bubble/report.txt")])
