@@ -83,8 +83,9 @@ class Plan:
     def keys(self) -> dict[str, str]:
         """For each crate a sum of all that it is made from."""
         keys: dict[str, str] = {}
+        of_kit = kit()
         for name, crate in self.crates.items():
-            total = hashlib.sha256(f"{kit()}\n{crate.line}".encode())
+            total = hashlib.sha256(f"{of_kit}\n{crate.line}".encode())
             for path in crate.files():
                 total.update(f"{path.relative_to(crate.folder)}\n{path.stat().st_size}\n".encode() + path.read_bytes())
             total.update("".join(keys[dep] for dep in crate.deps).encode())

@@ -1,6 +1,7 @@
 """The build of crates side by side, each in a room of its own."""
 from __future__ import annotations
 
+import os
 import time
 from pathlib import Path
 
@@ -12,11 +13,11 @@ from aprof_launch.work import NEED, Failed, Work, available, command, is_done, i
 SECONDS_TO_GROW = 60.0
 """How long a check may take to use its memory."""
 
-LONG = 0.9
-"""Of the longest chain's length, from which a chain counts as one."""
-
 MOST_JOBS = 4
-"""That one crate gains from."""
+"""That one crate gains from; the variable APROF_CRATE_JOBS sets another number."""
+
+CORES_TO_SPARE = 4
+"""From which the longest chain gets two jobs while others wait."""
 
 NOT_PROVED = 1
 
@@ -47,8 +48,11 @@ class Build:
             self.stop()
 
     def tell(self) -> None:
-        seconds = {name: work.seconds * work.jobs for name, work in self.running.items()}
-        self.teller.tell(len(self.estimate.done), self.estimate.left(seconds), list(self.running))
+        self.teller.tell(len(self.estimate.done), self.estimate.left(self.seconds()), list(self.running))
+
+    def seconds(self) -> dict[str, float]:
+        """What each crate that is being proved took of the cores."""
+        return {name: work.seconds * work.jobs for name, work in self.running.items()}
 
     def begin_all(self) -> None:
         """Begins what can begin. A crate that was stopped runs again when nothing runs beside it."""
@@ -71,11 +75,11 @@ class Build:
         if name in self.again:
             return 1
         share = (self.cores - self.jobs()) // (1 + len(self.ready()))
-        left = [name, *self.todo, *self.running]
-        chains = {other: self.plan.chains[other] for other in left}
-        is_longest = chains[name] >= LONG * max(chains.values())
-        is_late = chains[name] * self.cores > sum(self.plan.crates[other].weight for other in left)
-        return max(1, min(share, MOST_JOBS), 2 if is_longest and is_late and self.cores >= MOST_JOBS else 1)
+        chains = self.estimate.chains(self.seconds())
+        is_longest = chains[name] >= max(chains.values())
+        is_late = chains[name] * self.cores > sum(self.estimate.work(self.seconds()).values())
+        least = 2 if is_longest and is_late and self.cores >= CORES_TO_SPARE else 1
+        return min(max(share, least), int(os.environ.get("APROF_CRATE_JOBS", MOST_JOBS)))
 
     def has_room(self) -> bool:
         """Whether there are a core and memory for one more."""

@@ -35,18 +35,22 @@ class Estimate:
         self.weight += self.plan.crates[name].weight
         self.seconds += seconds
 
-    def left(self, running: dict[str, float]) -> float:
-        """Seconds, where these crates have run for so long."""
-        speed = self.weight / self.seconds
-        work: dict[str, float] = {}
-        for name, crate in self.plan.crates.items():
-            if name not in self.done:
-                work[name] = max(crate.weight / speed - running.get(name, 0.0), 1.0)
-        chains: dict[str, float] = {}
+    def work(self, running: dict[str, float]) -> dict[str, float]:
+        """Seconds of a core for each crate that is left, where these have run for so long."""
+        speed, crates = self.weight / self.seconds, self.plan.crates.items()
+        return {name: max(crate.weight / speed - running.get(name, 0.0), 1.0) for name, crate in crates if name not in self.done}
+
+    def chains(self, running: dict[str, float]) -> dict[str, float]:
+        """For each of them the seconds of the longest chain that begins with it and goes up."""
+        work, chains = self.work(running), dict[str, float]()
         for name in reversed(work):
             chains[name] = work[name] + max((chains.get(other.name, 0.0) for other in self.plan.above(name)), default=0.0)
-        side_by_side = CHAIN_GAIN if self.cores > 2 else 1.0
-        return max(sum(work.values()) / self.cores, max(chains.values(), default=0.0) / side_by_side)
+        return chains
+
+    def left(self, running: dict[str, float]) -> float:
+        """Seconds until the end."""
+        longest = max(self.chains(running).values(), default=0.0)
+        return max(sum(self.work(running).values()) / self.cores, longest / (CHAIN_GAIN if self.cores > 2 else 1.0))
 
 
 def duration(seconds: float) -> str:
