@@ -4,6 +4,7 @@ from __future__ import annotations
 import os
 import pty
 import select
+import shutil
 import signal
 import subprocess
 import time
@@ -16,6 +17,16 @@ from tests.launched import Launched
 class Runs(Launched):
     def test_standard_input(self) -> None:
         self.assertIn("what is read", self.run_words("run -o r bubble", FAKE_READ="1").stdout)
+
+    def test_installed(self) -> None:
+        """Where there are no crates the program stands in bin/, and nothing is built."""
+        (self.top / "bin").mkdir()
+        (self.top / "crates/aprof/out/aprof").rename(self.top / "bin/aprof")
+        shutil.rmtree(self.top / "crates")
+        self.assertEqual(self.run_words("run -o r bubble").stdout, "words: run -o r bubble\n")
+        (self.folder / "aprof").symlink_to(self.launcher)
+        done = subprocess.run([str(self.folder / "aprof"), "demo", "3"], cwd="/", capture_output=True, text=True)
+        self.assertEqual((done.returncode, done.stdout), (0, "words: demo 3\n"))
 
     def test_signals(self) -> None:
         """A signal to the launcher ends the program too; the launcher ends by the same signal."""
