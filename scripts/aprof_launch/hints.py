@@ -32,7 +32,8 @@ class Hints:
             7: self.deadlock, 8: self.too_deep, 9: self.schedule, 10: self.memory, 11: self.too_large, 13: self.bad_trace,
         }  # fmt: skip
         if status > 128:
-            return [f"signal {status - 128} ended the run" + ("; where memory is short the system sends it" if status == 137 else "")]
+            of_memory = "; where memory is short the system sends it" if status == 137 else ""
+            return [f"signal {status - 128} ended the run{of_memory}"]
         return of_status[status]() if status in of_status else []
 
     def asked_again(self, *words: str) -> int | None:

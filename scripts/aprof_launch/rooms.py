@@ -70,11 +70,14 @@ def take_home(made: Path, crate: Crate) -> None:
 
 
 def rescue(rooms: Path, crates: Sequence[Crate]) -> None:
-    """Takes home what a build that was killed left, and removes its rooms."""
+    """Takes home what a build that was killed left, and removes its rooms. An `rt` that goes on there holds the crate's
+    folder."""
     for room in rooms.iterdir() if rooms.is_dir() else ():
         for crate in crates:
-            if room.name in (crate.name, "all"):
-                take_home(room / "crates" / crate.name / "out", crate)
+            place = room / "crates" / crate.name
+            if room.name in (crate.name, "all") and place.is_dir():
+                with locked(place, f"aprof: waiting for the check of {crate.name} that a build which was killed left"):
+                    take_home(place / "out", crate)
         shutil.rmtree(room, ignore_errors=True)
 
 

@@ -1,4 +1,5 @@
 """In the place of `rt` in tests: it proves nothing, leaves what `rt` leaves, and notes when it was at which crate."""
+import fcntl
 import json
 import os
 import sys
@@ -26,11 +27,13 @@ def below(name: str, crates: dict[str, list[str]]) -> set[str]:
 def prove(folder: Path) -> None:
     name, crates = folder.name, listed(folder.parents[1])
     out = folder / "out"
+    fcntl.flock(os.open(folder, os.O_RDONLY), fcntl.LOCK_EX)
     missing = sorted(dep for dep in below(name, crates) if not (folder.parent / dep / "out/rlib/stamp").is_file())
     kept = (out / "incremental/work").is_file()
     note(crate=name, event="begin", missing=missing, kept=kept, words=sys.argv[1:], crates=sorted(crates))
     (out / "incremental").mkdir(parents=True, exist_ok=True)
     (out / "incremental/work").write_text(name)
+    note(crate=name, event="kept")
     print(f"rt: at {name}", flush=True)
     if name in os.environ.get("FAKE_KILLED", "").split() and not kept:
         os.kill(os.getpid(), 9)

@@ -147,7 +147,7 @@ class Builds(unittest.TestCase):
         """What was proved stands, and so does the kept work of what was not; nothing else is left."""
         for number in (signal.SIGINT, signal.SIGTERM):
             started = self.repository.start(FAKE_SECONDS="20")
-            while "a" not in self.repository.begun() or "e" not in self.repository.begun():
+            while len(self.repository.noted("kept")) < 2:
                 time.sleep(0.05)
             os.kill(started.pid, number)
             _, err = started.communicate(timeout=30)
@@ -159,16 +159,18 @@ class Builds(unittest.TestCase):
         self.assertEqual(self.repository.run()[0], 0)
 
     def test_a_build_that_was_killed(self) -> None:
-        """The next one takes what it left in its rooms."""
-        started = self.repository.start(FAKE_SECONDS="5")
-        while "a" not in self.repository.begun():
+        """The next one waits for what goes on in its rooms, and takes that."""
+        started = self.repository.start(FAKE_SECONDS="2")
+        while len(self.repository.noted("kept")) < 2:
             time.sleep(0.05)
         os.kill(started.pid, signal.SIGKILL)
         started.communicate(timeout=30)
         self.assertEqual(self.repository.rooms(), ["a", "e"])
-        self.repository.notes.unlink()
-        self.assertEqual(self.repository.run()[0], 0)
-        self.assertTrue(self.repository.noted("begin")[0]["kept"])
+        status, _, err = self.repository.run()
+        self.assertEqual(status, 0, err)
+        self.assertRegex(err, "aprof: waiting for the check of [ae] that a build which was killed left\n")
+        begun = [note["kept"] for note in self.repository.noted("begin")]
+        self.assertEqual((len(begun), begun[:4]), (8, [False, False, True, True]))
 
     def test_two_at_once(self) -> None:
         """The second waits, says so, and builds nothing."""
