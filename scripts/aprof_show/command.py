@@ -7,6 +7,7 @@ import os
 import sys
 from collections.abc import Sequence
 from difflib import get_close_matches
+from pathlib import Path
 
 from aprof_show.against import above, above_text, against_text
 from aprof_show.cache import cache_text
@@ -74,7 +75,18 @@ def run(options: argparse.Namespace) -> int:
 
 
 def read_all(paths: Sequence[str]) -> list[Report | CacheReport]:
-    return [read_file(path) for path in paths]
+    return [read_file(file) for path in paths for file in files_of(path)]
+
+
+def files_of(path: str) -> list[str]:
+    """The path itself, or the files of a folder in the order of their names."""
+    if not os.path.isdir(path):
+        return [path]
+    entries = sorted(Path(path).iterdir())
+    files = [str(entry) for entry in entries if entry.is_file() and not entry.name.startswith(".")]
+    if not files:
+        raise Refused(f"{path}: no file in this folder")
+    return files
 
 
 def joined(reports: Sequence[Report | CacheReport]) -> Profile:
@@ -179,7 +191,7 @@ def write_page(path: str, profile: Profile, lines: dict[int, str]) -> None:
 
 
 def compare(options: argparse.Namespace, new: Profile, new_rows: Sequence[Row], names: Sequence[str]) -> int:
-    old = joined([read_file(options.against)])
+    old = joined(read_all([options.against]))
     demangle(old.routines)
     old_rows = rows_of(old)
     print_lines(against_text(old_rows, new_rows, (old.steps, new.steps), choice_of(options), width()))
