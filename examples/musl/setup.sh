@@ -1,9 +1,14 @@
 #!/usr/bin/env bash
-# Makes `library` beside this script: the C library musl for rv32ima, built by clang from Debian's source package. It needs
-# no rights of root, takes a minute or two, and downloads some 60 MB by the machine's own package sources.
+# Makes the C library musl for rv32ima, built by clang from Debian's source package. It needs no rights of root, takes a
+# minute or two, and downloads some 60 MB by the machine's own package sources. The library's folder is `library` beside
+# this script, ~/.local/share/aprof/musl where the script is below /usr, or the one that APROF_MUSL names.
 set -eu
-here=$(cd "$(dirname "$0")" && pwd)
-library=$here/library
+here=$(dirname "$(readlink -f "$0")")
+case $here in
+  /usr/*) library=${XDG_DATA_HOME:-$HOME/.local/share}/aprof/musl ;;
+  *) library=$here/library ;;
+esac
+library=${APROF_MUSL:-$library}
 
 for tool in clang ld.lld llvm-ar llvm-ranlib llvm-strip make apt-get dpkg-deb; do
   if ! command -v "$tool" > /dev/null; then
@@ -46,7 +51,7 @@ unset APT_CONFIG
 mkdir source compiler
 tar xf musl_*.orig.tar.gz -C source --strip-components=1
 dpkg-deb -x gcc-riscv64-unknown-elf_*.deb compiler
-rm -rf "$library"
+rm -rf "$library/lib" "$library/include"
 mkdir -p "$library/lib"
 cp compiler/usr/lib/gcc/riscv64-unknown-elf/*/rv32im/ilp32/libgcc.a "$library/lib"
 
