@@ -4,7 +4,7 @@ from __future__ import annotations
 import argparse
 import gzip
 import hashlib
-import lzma
+import io
 import os
 import re
 import shutil
@@ -25,7 +25,7 @@ TOOLS = ("aprof", "show", "scripts/aprof_launch", "scripts/aprof_show", "example
 TEXTS = ("README.md", "docs", "examples")
 """What is read or copied: in /usr/share/doc/aprof."""
 PAGES = ("aprof.1", "aprof-show.1")
-COMMANDS = {"aprof": "aprof", "aprof-show": "show", "aprof-cc": "examples/musl/cc"}
+COMMANDS = {"aprof": "aprof", "aprof-show": "show", "aprof-cc": "examples/musl/cc", "aprof-c++": "examples/musl/c++"}
 """The commands of the package, links to what runs."""
 
 OF_LIBRARIES = {"libc.so.6": "libc6", "libm.so.6": "libc6", "libgcc_s.so.1": "libgcc-s1", "ld-linux-x86-64.so.2": "libc6"}
@@ -33,7 +33,7 @@ OF_LIBRARIES = {"libc.so.6": "libc6", "libm.so.6": "libc6", "libgcc_s.so.1": "li
 
 USAGE = """./package [-o FOLDER]
 
-Makes FOLDER/aprof_VERSION_amd64.deb and FOLDER/aprof-VERSION-amd64.tar.xz, of the program that ./aprof or .ci/run has
+Makes FOLDER/aprof_VERSION_amd64.deb and FOLDER/aprof-VERSION-amd64.tar.gz, of the program that ./aprof or .ci/run has
 built. FOLDER is `out` without -o. The version is the time and the name of the last commit; the same commit and program give
 the same bytes."""
 
@@ -44,7 +44,7 @@ Maintainer: {maintainer}
 Installed-Size: {size}
 Depends: {depends}
 Recommends: libjs-chart.js
-Suggests: clang, lld, llvm, make, parallel
+Suggests: binutils, clang, lld, llvm, make, parallel
 Section: devel
 Priority: optional
 Description: proved input-sensitive profiler
@@ -58,7 +58,8 @@ COPYRIGHT = """aprof {version}, of commit {commit}. Its sources name no license.
 
 The program has parts of the crates anyhow, byteorder, clap, indexmap, itoa, memchr and thiserror, by their authors, under
 the MIT license or the Apache License 2.0; see /usr/share/common-licenses/Apache-2.0. Some executables in examples/ have
-parts of musl (MIT license) and of GCC's libgcc (GPL 3 with the GCC Runtime Library Exception 3.1).
+parts of musl (MIT license), of libc++ (Apache License 2.0 with LLVM Exceptions) and of GCC's libgcc (GPL 3 with the GCC
+Runtime Library Exception 3.1).
 """
 
 POSTINST = """#!/bin/sh
@@ -233,16 +234,18 @@ def make_package(top: Path, names: list[str], commit: Commit, folder: Path) -> P
 def make_archive(top: Path, names: list[str], commit: Commit, folder: Path) -> Path:
     """The same in the order of a clone, for any folder of any Linux on amd64."""
     root = f"aprof-{commit.version}"
-    archive = folder / f"{root}-amd64.tar.xz"
+    archive = folder / f"{root}-amd64.tar.gz"
     with tempfile.TemporaryDirectory() as scratch:
         tree = Path(scratch, root)
         put_tools(top, names, commit, tree)
         copy_files(top, names, TEXTS, tree)
         put(tree / "COPYRIGHT", COPYRIGHT.format(version=commit.version, commit=commit.name))
         settle(tree, commit)
-        with lzma.open(archive, "wb", preset=6) as packed, tarfile.open(fileobj=packed, mode="w", format=tarfile.GNU_FORMAT) as tar:
+        plain = io.BytesIO()
+        with tarfile.open(fileobj=plain, mode="w", format=tarfile.GNU_FORMAT) as tar:
             for path in [tree, *sorted(tree.rglob("*"))]:
                 tar.add(path, str(path.relative_to(scratch)), recursive=False, filter=as_root)
+        archive.write_bytes(gzip.compress(plain.getvalue(), 9, mtime=commit.time))
     return archive
 
 

@@ -97,7 +97,8 @@ def missing(tool: str) -> str:
         return "" if library.exists() else "no C library (examples/musl/setup.sh)"
     if tool == "chart.js":
         return "" if Path("/usr/share/javascript/chart.js/chart.min.js").exists() else "no Chart.js (Debian's package libjs-chart.js)"
-    name, _, version = tool.partition("-")
+    name = re.sub("-[0-9.]+$", "", tool)
+    version = tool[len(name) + 1 :]
     if shutil.which(name) is None:
         return f"no {name}"
     if version:
