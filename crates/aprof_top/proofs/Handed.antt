@@ -38,11 +38,11 @@ writes_of-append (move ∷ moves) more = ap (with_write move.out) (writes_of-app
 -- what moves put on a channel is what their writes do
 pub put_is : (on : ℕ) (moves : List Move) → put_on on (writes_of moves) ≡ bytes_on on moves
 put_is on [] = refl
-put_is on (move ∷ moves) = by move.out
+put_is on (move ∷ moves) = by move.out (put_is on moves)
   where
-    by : (out : Option Write) → put_on on (with_write out (writes_of moves)) ≡ sent on out ++ bytes_on on moves
-    by None = put_is on moves
-    by (Some write) = ap (λ bytes. sent on (Some write) ++ bytes) (put_is on moves)
+    by : (out : Option Write) → put_on on (writes_of moves) ≡ bytes_on on moves → put_on on (with_write out (writes_of moves)) ≡ sent on out ++ bytes_on on moves
+    by None rest = rest
+    by (Some write) rest = ap (λ bytes. sent on (Some write) ++ bytes) rest
 
 -- What a move puts on a channel is one write.
 record IsWrite (on : ℕ) (out : Option Write) : Type 0 where

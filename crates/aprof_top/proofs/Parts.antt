@@ -128,12 +128,12 @@ module _ (words : List (List ℕ)) (before after : Outside) (mid : SinkState) wh
     err_whole err = ap (λ (s : SinkState). s.bytes) err ∙ ap (append_known before.err.bytes) (sym (append-nil (err_of outcome)))
 
     -- the first writes came to a sink
-    some_put : (on : ℕ) (old new : SinkState) (earlier later : List Write) → earlier ++ later ≡ outcome.writes → new ≡ appended old (put_on on earlier) → GotFirst (put_on on outcome.writes) old new
+    abbrev some_put : (on : ℕ) (old new : SinkState) (earlier later : List Write) → earlier ++ later ≡ outcome.writes → new ≡ appended old (put_on on earlier) → GotFirst (put_on on outcome.writes) old new
     some_put on old new earlier later are gained =
         (length (put_on on earlier), ap (λ (s : SinkState). s.bytes) gained ∙ ap (append_known old.bytes) (sym (first_put on outcome.writes earlier later are)))
 
     -- and then some of the next one
-    some_and_more : (on : ℕ) (bytes : List ℕ) (old new : SinkState) (earlier : List Write) (piece : List ℕ) (fails : FailsWithin piece (appended old (put_on on earlier)) new)
+    abbrev some_and_more : (on : ℕ) (bytes : List ℕ) (old new : SinkState) (earlier : List Write) (piece : List ℕ) (fails : FailsWithin piece (appended old (put_on on earlier)) new)
         → take (length (put_on on earlier ++ take fails.count piece)) bytes ≡ put_on on earlier ++ take fails.count piece → GotFirst bytes old new
     some_and_more on bytes old new earlier piece fails first = (
       length (put_on on earlier ++ take fails.count piece),

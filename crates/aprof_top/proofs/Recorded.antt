@@ -22,7 +22,7 @@ use Rattle.host_io.specs.Files.{FilesState, StoreEnds}
 use Rattle.host_io.specs.Sink.{SinkState}
 use Rattle.host_io.specs.declared.files.StoreError.{StoreError}
 use Rattle.host_io.specs.declared.files.StoreError.TheVariants as store
-use Rattle.guest_words.specs.declared.limits.TheConstants.{TRACE_BYTES}
+use Rattle.guest_words.specs.declared.limits.TheConstants.{CONTEXTS, TRACE_BYTES}
 use Rattle.aprof_top.specs.declared.ending.Ending.{Ending}
 use Rattle.aprof_top.specs.declared.ending.Verdict.{Verdict}
 use Rattle.aprof_top.specs.Delivery.{StoreFails}
@@ -30,7 +30,6 @@ use Rattle.aprof_top.specs.Ending.{of_store}
 use Rattle.aprof_top.specs.Jobs.{Desk, RunIsStored, desk}
 use Rattle.context_profile.specs.Kept.{IsPastNumbers}
 use Rattle.context_tree.specs.Contexts.{contexts}
-use Rattle.context_tree.specs.declared.numbers.TheConstants.{CONTEXTS}
 use Rattle.aprof_top.specs.ContextReports.{can_be_numbered}
 use Rattle.aprof_top.specs.Outcome.{Left, Outcome, one_file, run_outcome}
 use Rattle.aprof_top.specs.Traces.{is_storable, named_entries}

@@ -1,12 +1,13 @@
 -- What sinks and files gain.
-use Rattle.std.proofs.Common.{◌≡◌, ℕ, List, [], ◌∷◌, ◌++◌, Option, Some, None, inl, inr, refl, sym, ap, ◌∙◌}
+use Rattle.std.proofs.Common.{◌≡◌, ◌⊎◌, ℕ, List, [], ◌∷◌, ◌++◌, Option, Some, None, inl, inr, refl, sym, ap, ◌∙◌}
 use Rattle.std.specs.Io.KnownBytes.{append_known}
 use Rattle.std.proofs.lemmas.List.{append-nil}
 use Rattle.host_io.specs.Files.{FilesState, stored_in}
 use Rattle.host_io.specs.Sink.{SinkState, appended}
 use Rattle.aprof_top.specs.Delivery.{DoesAll}
 use Rattle.aprof_top.specs.Outcome.{Outcome}
-use Rattle.aprof_top.specs.Outside.{Outside, with_stores}
+use Rattle.aprof_top.specs.declared.ending.Verdict.TheVariants.{TooLarge}
+use Rattle.aprof_top.specs.Outside.{MetTooLong, Outside, with_stores}
 
 append_known-nothing : (known : Option (List ℕ)) → known ≡ append_known known []
 append_known-nothing None = refl
@@ -30,6 +31,6 @@ with_stores-faults (store ∷ stores) files = with_stores-faults stores (stored_
 pub done-contents : (outcome : Outcome) (before after : Outside) → DoesAll outcome before after → after.files.contents ≡ (with_stores outcome.stores before.files).contents
 done-contents outcome before after does = by does.stored
   where
-    by : _ → after.files.contents ≡ (with_stores outcome.stores before.files).contents
+    by : (after.files ≡ with_stores outcome.stores before.files) ⊎ ((outcome.verdict ≡ TooLarge) × MetTooLong (with_stores outcome.stores before.files) after.files) → after.files.contents ≡ (with_stores outcome.stores before.files).contents
     by (inl same) = ap (λ (f : FilesState). f.contents) same
     by (inr (large, met)) = met.contents

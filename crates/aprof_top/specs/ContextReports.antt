@@ -3,7 +3,7 @@ use Rattle.std.specs.Prelude.{ℕ, Bool, nat_le, List, ◌++◌, length}
 use Rattle.context_report.specs.ContextText.{contexts_text}
 use Rattle.context_tree.specs.Contexts.{contexts}
 use Rattle.context_tree.specs.Order.{in_order}
-use Rattle.context_tree.specs.declared.numbers.TheConstants.{CONTEXTS}
+use Rattle.guest_words.specs.declared.limits.TheConstants.{CONTEXTS}
 use Rattle.elf_image.specs.Image.{Executable}
 use Rattle.guest_run.specs.Profiled.{Profiled}
 use Rattle.profile_report.specs.ReportText.{report_text}

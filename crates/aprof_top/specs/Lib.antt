@@ -11,6 +11,7 @@ pub mod Limits
 pub mod Loads
 pub mod Outcome
 pub mod Outside
+pub mod ProgramLimits
 pub mod Report
 pub mod Run
 pub mod Schedules

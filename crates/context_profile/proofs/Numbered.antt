@@ -6,7 +6,7 @@ use Rattle.trace_model.specs.declared.event_kinds.Event.{Event}
 use Rattle.context_tree.specs.Contexts.{context_begun, contexts, same, with_begun, with_context}
 use Rattle.context_tree.specs.Numbers.{IsBeyond}
 use Rattle.context_tree.specs.Trees.{HasTooMany}
-use Rattle.context_tree.specs.declared.numbers.TheConstants.{CONTEXTS}
+use Rattle.guest_words.specs.declared.limits.TheConstants.{CONTEXTS}
 use Rattle.context_profile.specs.Kept.{IsPastNumbers}
 
 with_more : (all : List (List ℕ)) (c : List ℕ) → length all ≤ length (with_context all c)

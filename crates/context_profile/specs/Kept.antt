@@ -7,7 +7,7 @@ use Rattle.trace_model.specs.Profile.{ended, steps}
 use Rattle.trace_model.specs.WellFormed.{IsLight, IsWellFormed}
 use Rattle.context_tree.specs.Contexts.{contexts}
 use Rattle.context_tree.specs.Trees as trees
-use Rattle.context_tree.specs.declared.numbers.TheConstants.{CONTEXTS}
+use Rattle.guest_words.specs.declared.limits.TheConstants.{CONTEXTS}
 use Rattle.run_profile.specs.Profile as profiles
 use Rattle.shadow_core.specs.Profiling as stamps
 use Rattle.shadow_core.specs.State.{State}

@@ -6,8 +6,8 @@ ghost use Rattle.profile_report.specs.LineForms.{ended};
 ghost use Rattle.context_tree.specs.Contexts.{contexts};
 ghost use Rattle.context_tree.specs.Numbers.{numbered};
 ghost use Rattle.context_tree.specs.Order.{IsInOrder};
-ghost use Rattle.context_tree.specs.declared.numbers.TheConstants.{CONTEXTS};
-ghost use Rattle.context_tree.specs.Trees.{IsOfSome, StandsFor};
+ghost use Rattle.guest_words.specs.declared.limits.TheConstants.{CONTEXTS};
+ghost use Rattle.context_tree.specs.Trees.{StandsFor};
 ghost use Rattle.context_report.specs.ContextText.{context_line, context_text, contexts_text};
 
 use context_tree::Tree;
@@ -28,9 +28,8 @@ fn push_context_line(text: &mut Vec<u8>, depth: u32, entry: Addr) -> Result<(), 
 
 /// Appends the lines of the context of a number.
 fn push_context(text: &mut Vec<u8>, tree: &Tree, n: u32) -> Result<(), AllocError>
-    requires stands { IsOfSome tree.now }
     requires some { 1 ≤ n }
-    requires within { n ≤ length tree.now.places }
+    requires within { n ≤ length tree.now.branches.places }
     ensures { (past : List Event) → StandsFor tree.now past
         → OnOk result (text.new.items ≡ text.old.items ++ context_text past (numbered (contexts past) n)) }
 {
@@ -41,7 +40,6 @@ fn push_context(text: &mut Vec<u8>, tree: &Tree, n: u32) -> Result<(), AllocErro
 
 /// Appends the lines of all contexts.
 fn push_each(text: &mut Vec<u8>, tree: &Tree) -> Result<(), AllocError>
-    requires { IsOfSome tree.now }
     ensures { (past : List Event) (ordered : List (List ℕ)) → StandsFor tree.now past
         → IsInOrder (contexts past) ordered
         → OnOk result (text.new.items ≡ text.old.items ++ flat_map (context_text past) ordered) }
@@ -58,7 +56,6 @@ fn push_each(text: &mut Vec<u8>, tree: &Tree) -> Result<(), AllocError>
 
 /// Appends the text of all contexts, in the order of the text.
 pub fn push_contexts(text: &mut Vec<u8>, tree: &Tree) -> Result<(), AllocError>
-    requires { IsOfSome tree.now }
     ensures few { (past : List Event) → StandsFor tree.now past
         → OnOk result (length (contexts past) ≤ CONTEXTS) }
     ensures text { (past : List Event) (ordered : List (List ℕ)) → StandsFor tree.now past

@@ -18,13 +18,13 @@ use Rattle.trace_model.specs.Profile.{done_of, ended}
 use Rattle.trace_model.specs.WellFormed.{IsLight, IsRunning, MayFollow, greatest_start, is_live}
 use Rattle.cost_points.specs.declared.point.Point.{Point}
 use Rattle.cost_points.specs.Keys.{grouped}
-use Rattle.context_tree.specs.declared.numbers.TheConstants.{CONTEXTS}
+use Rattle.guest_words.specs.declared.limits.TheConstants.{CONTEXTS}
 use Rattle.context_tree.specs.Contexts.{context_of, contexts, same, with_context}
 use Rattle.context_tree.specs.Links.{IsLinked, no_links}
 use Rattle.context_tree.specs.Numbers.{IsNumberOf, above_of, numbered}
 use Rattle.context_tree.specs.Numbers as by_number
 use Rattle.context_tree.specs.Points.{done_in_context, points_from, points_in, points_of}
-use Rattle.context_tree.specs.Trees.{Kept, StandsFor, current_of}
+use Rattle.context_tree.specs.Branches.{Kept, StandsFor, current_of}
 use Rattle.context_tree.specs.Adding.{with_list}
 use Rattle.context_tree.specs.Ways.{ArePoints, IsWay, tagged, up}
 use Rattle.context_tree.proofs.Known.{done_known, no_members}

@@ -12,6 +12,8 @@ pub mod Listed
 pub mod Sorting
 pub mod InOrder
 pub mod Standing
+pub mod Once
+pub mod Growing
 pub mod AddingUp
 pub mod SizeBySize
 mod Places

@@ -30,7 +30,7 @@ use Rattle.context_tree.specs.Contexts.{context_of, contexts, same}
 use Rattle.context_tree.specs.Numbers.{numbered}
 use Rattle.context_tree.specs.Numbers as by_number
 use Rattle.context_tree.specs.Points.{contexts_ended, done_in_context, members_of, points_from, points_in}
-use Rattle.context_tree.specs.Trees.{Kept, StandsFor}
+use Rattle.context_tree.specs.Branches.{Kept, StandsFor}
 use Rattle.context_tree.proofs.Following.{context_more, shifted}
 use Rattle.context_tree.proofs.Known.{IsKnown, done_known}
 use Rattle.context_tree.proofs.Numbering.{same_last, same_told}

@@ -1,55 +1,51 @@
 -- What is kept of the calling contexts of a run.
-use Rattle.std.specs.Prelude.{◌≡◌, ℕ, ◌+◌, ◌≤◌, length, List, [], ◌∷◌, ◌++◌, All, IsSomeAnd, is_some, map}
-use Rattle.std.specs.Option.{option_map_or}
-use Rattle.guest_words.specs.ByThread.{numbers, value_of}
+use Rattle.std.specs.Prelude.{◌≡◌, ℕ, ◌+◌, Bool, length, List, [], ◌∷◌, ◌++◌, IsSomeAnd, is_some}
+use Rattle.guest_words.specs.ByThread.{value_of}
 use Rattle.trace_model.specs.declared.event_kinds.Event.{Event}
+use Rattle.trace_model.specs.declared.event_kinds.Event.TheVariants.{End, Ret}
 use Rattle.trace_model.specs.declared.slow_profile.Done.{Done}
-use Rattle.trace_model.specs.Activations.{open_calls}
 use Rattle.trace_model.specs.Profile.{ended}
-use Rattle.trace_model.specs.WellFormed.{IsLight, IsWellFormed, greatest_start, is_live}
+use Rattle.trace_order.specs.Progress.{IsAllowed, IsProgressOf, ProgressState, is_of_one}
 use Rattle.cost_points.specs.declared.point.Point.{Point}
-use Rattle.context_tree.specs.declared.numbers.TheConstants.{CONTEXTS}
-use Rattle.context_tree.specs.declared.order.Links.{Links}
-use Rattle.context_tree.specs.Contexts.{context_begun, context_of, contexts}
-use Rattle.context_tree.specs.Links.{IsLinked}
-use Rattle.context_tree.specs.Numbers.{IsBeyond, IsNumberOf}
-use Rattle.context_tree.specs.Numbers as by_number
+use Rattle.context_tree.specs.Branches as grown
+use Rattle.context_tree.specs.Contexts.{context_begun, contexts}
+use Rattle.context_tree.specs.Numbers.{IsBeyond}
 use Rattle.context_tree.specs.Points.{points_in}
 
--- The contexts by number, the points of each and which are right under it, and for each thread that lives the number of the context that it is in: that of
--- its innermost open activation.
+-- The contexts with their points, and what tells with the threads that live which event may come next.
 pub record Kept : Type 0 where
-  pub places : List (ℕ × ℕ)
-  pub points : List (List Point)
-  pub links : List Links
-  pub threads : List (ℕ × ℕ)
+  pub branches : grown.Kept
+  pub progress : ProgressState
 
--- the number of the context that the thread is in, and 0 where it has no open activation
-abbrev pub current_of : Kept → ℕ → ℕ
-current_of kept t = option_map_or (λ n. n) (value_of kept.threads t) 0
-
--- It is what is kept of this past. The contexts of all open activations of a thread are that of the innermost and its
--- beginnings, so they are kept with it. There are no more contexts than can be numbered.
+-- It is what is kept of this past, which is one that a run can have.
 pub record StandsFor (kept : Kept) (past : List Event) : Type 0 where
-  pub contexts_are : by_number.StandsFor kept.places (contexts past)
-  pub few : length (contexts past) ≤ CONTEXTS
-  pub points_are : kept.points ≡ map (points_in past) (contexts past)
-  pub links_are : IsLinked kept.places kept.links
-  pub threads_live : (t : ℕ) → is_some (value_of kept.threads t) ≡ is_live past t
-  pub threads_began : All (λ n. n ≤ greatest_start past) (numbers kept.threads)
-  pub threads_in : (t : ℕ) → IsNumberOf (contexts past) (current_of kept t) (context_of (open_calls past t))
-
--- It is what is kept of some past after which the event may come, and these are the activations that the event ends.
-pub record MayApply (kept : Kept) (e : Event) (ends : List Done) : Type 0 where
-  pub past : List Event
-  pub now : StandsFor kept past
-  pub formed : IsWellFormed (e ∷ past)
-  pub ends_are : ends ≡ ended e past
+  pub branches_are : grown.StandsFor kept.branches past
+  pub progress_is : IsProgressOf kept.progress past
 
 -- It is what is kept of some past.
 pub record IsOfSome (kept : Kept) : Type 0 where
   pub past : List Event
   pub now : StandsFor kept past
+
+-- the thread is in a context
+abbrev pub lives : Kept → ℕ → Bool
+lives kept t = is_some (value_of kept.branches.threads t)
+
+-- The event may come next, as what is kept shows: what it shows is so of all pasts for which that stands.
+abbrev pub MayCome : Kept → Event → Type 0
+MayCome kept e = IsAllowed e (is_of_one (lives kept) e) kept.progress
+
+-- They are the activations that the event ends after some past of which this is kept.
+pub record AreOfSome (kept : Kept) (e : Event) (ends : List Done) : Type 0 where
+  pub past : List Event
+  pub now : StandsFor kept past
+  pub ends_are : ends ≡ ended e past
+
+-- They are the activations that the event ends: a return, or the end of a thread, those of some past, and any other event none.
+abbrev pub AreEnded : Kept → Event → List Done → Type 0
+AreEnded kept (Ret tid target) ends = ∥ AreOfSome kept (Ret tid target) ends ∥₁
+AreEnded kept (End tid) ends = ∥ AreOfSome kept (End tid) ends ∥₁
+AreEnded kept e ends = ends ≡ []
 
 -- They are the depth of the context, one less than its entries, the last of these, and its points.
 pub record IsShown (past : List Event) (c : List ℕ) (depth entry : ℕ) (points : List Point) : Type 0 where
@@ -58,12 +54,6 @@ pub record IsShown (past : List Event) (c : List ℕ) (depth entry : ℕ) (point
   pub front : List ℕ
   pub entry_is : c ≡ front ++ entry ∷ []
   pub points_are : points ≡ points_in past c
-
--- It is what is kept of a past that is light.
-pub record IsOfLight (kept : Kept) : Type 0 where
-  pub past : List Event
-  pub now : StandsFor kept past
-  pub light : IsLight past
 
 -- The event begins a context that is not there, where there are as many as can be numbered.
 abbrev pub HasTooMany : Event → List Event → Type 0

@@ -1,6 +1,7 @@
 //! The calling contexts of a run: the lists of routines that call one another, from the first one of a thread down.
 #![tactic(auto)]
 
+mod branches;
 mod errors;
 mod laws;
 mod numbers;

@@ -6,12 +6,10 @@ ghost use Rattle.context_tree.specs.Numbers.{IsBeyond, IsNumberOf, StandsFor, nu
 
 use crate::TreeError;
 use guest_words::Addr;
+use guest_words::limits::CONTEXTS;
 use indexmap::IndexSet;
 use std::alloc::Global;
 use std::marker::Model;
-
-/// How many contexts there can be.
-pub const CONTEXTS: usize = 4_294_967_294;
 
 /// The contexts of a run, by number, in order of their first begin. The one with no entry has the number 0. Contracts see for
 /// each other one the number of the context right above it and its last entry. Looking one up, and adding one, takes a time
@@ -23,7 +21,7 @@ pub struct ContextNumbers {
 
 impl Model for ContextNumbers {
     ghost use Rattle.std.specs.Prelude.{ℕ, ◌≤◌, List, length};
-    ghost use Rattle.context_tree.specs.declared.numbers.TheConstants.{CONTEXTS};
+    ghost use Rattle.guest_words.specs.declared.limits.TheConstants.{CONTEXTS};
 
     ghost Value = { List (ℕ × ℕ) };
 

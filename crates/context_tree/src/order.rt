@@ -1,7 +1,7 @@
 //! The contexts right under each context, in order of their first begin.
 ghost use Rattle.std.specs.Prelude.{◌≡◌, ◌<◌, ◌≤◌, ◌++◌, ◌∷◌, [], ℕ, List, length, vec_len};
 ghost use Rattle.std.specs.Vec.{vec_capacity};
-ghost use Rattle.context_tree.specs.declared.numbers.TheConstants.{CONTEXTS};
+ghost use Rattle.guest_words.specs.declared.limits.TheConstants.{CONTEXTS};
 ghost use Rattle.context_tree.specs.Links.{IsLinked};
 ghost use Rattle.context_tree.specs.Adding.{AreLinked};
 ghost use Rattle.context_tree.specs.Numbers.{StandsFor, numbered};

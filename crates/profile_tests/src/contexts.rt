@@ -1,17 +1,17 @@
 //! A routine that is called in two ways: its numbers, and its places in the order of the text.
-ghost use Rattle.std.specs.Prelude.{◌≡◌, List, reverse, IfOk};
+ghost use Rattle.std.specs.Prelude.{List, IfOk};
 ghost use Rattle.trace_model.specs.declared.event_kinds.Event.{Event};
-ghost use Rattle.trace_order.specs.Order.{IsOrderOf};
 ghost use Rattle.context_tree.specs.Trees.{StandsFor};
+ghost use Rattle.shadow_core.specs.Profiling.{StandsFor as Stamps};
 
 use context_tree::{ContextNumbers, Tree};
 use cost_points::{Point, Split};
 use guest_words::{Addr, Tid, Word};
+use shadow_core::Profiler;
 use std::alloc::Global;
 use std::process::Abort;
 use std::test::Fail;
-use trace_model::{Event, slow_done};
-use trace_order::Order;
+use trace_model::{Done, Event};
 
 fn number_of(
     rt: &impl Abort,
@@ -70,37 +70,31 @@ fn call(entry: Addr, back: Addr) -> Event {
     }
 }
 
-// Takes the event where it may come next, with what it ends by the program that looks back.
+// The profiler and the tree take the event, where it may come next: the tree with what the profiler says that it ends.
 fn apply(
-    alloc: Global,
+    profiler: &mut Profiler<u32>,
     tree: &mut Tree,
-    order: &mut Order,
-    events: &mut Vec<Event>,
-    e: Event,
+    done: &mut Vec<Done>,
+    e: &Event,
 ) -> Result<(), Fail>
-    requires { (past : List Event) × (IsOrderOf order.old past
-        × (StandsFor tree.old past × (reverse events.old.items ≡ past))) }
+    requires { (past : List Event) × (Stamps 4294967295 profiler.old past
+        × StandsFor tree.old past) }
     ensures { IfOk result (λ _. (past : List Event)
-        × (IsOrderOf order.new past
-        × (StandsFor tree.new past × (reverse events.new.items ≡ past)))) }
+        × (Stamps 4294967295 profiler.new past × StandsFor tree.new past)) }
 {
-    if order.may_follow(&e) {
-        let before = slow_done(alloc, events)?;
-        events.push(e)?;
-        let after = slow_done(alloc, events)?;
-        tree.apply(e, &after[before.len()..])?;
-        order.add(e)?;
+    if tree.may_follow(e) {
+        done.clear();
+        profiler.apply(*e, done)?;
+        tree.apply(*e, done)?;
     }
     Ok(())
 }
 
 // The tree of a routine f and its caller that both call g, which reads a word.
-fn two_ways(alloc: Global) -> Result<Tree, Fail>
-    ensures { IfOk result (λ tree. (past : List Event) × StandsFor tree past) }
-{
+fn two_ways(alloc: Global) -> Result<Tree, Fail> {
+    let mut profiler = Profiler::<u32>::new(alloc)?;
     let mut tree = Tree::new(alloc)?;
-    let mut order = Order::new(alloc)?;
-    let mut events = Vec::new(alloc);
+    let mut done = Vec::new(alloc);
     for e in [
         start(0x10054),
         step(),
@@ -124,7 +118,7 @@ fn two_ways(alloc: Global) -> Result<Tree, Fail>
         step(),
         end(),
     ] {
-        apply(alloc, &mut tree, &mut order, &mut events, e)?;
+        apply(&mut profiler, &mut tree, &mut done, &e)?;
     }
     Ok(tree)
 }

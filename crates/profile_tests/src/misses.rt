@@ -1,9 +1,6 @@
 //! A run of partial and misaligned loads: a routine that reads the four bytes of a word one by one, and one that reads a word
 //! that lies in two.
-ghost use Rattle.std.specs.Prelude.{◌≡◌, List, IfOk};
-ghost use Rattle.trace_model.specs.declared.event_kinds.Event.{Event};
-ghost use Rattle.trace_order.specs.Order.{IsOrderOf};
-ghost use Rattle.cache_profile.specs.Profile.{StandsFor};
+ghost use Rattle.std.specs.Prelude.{◌≡◌};
 
 use cache_lines::Shape;
 use cache_profile::{CacheProfile, CacheReport, ReportedMisses, Shaped, write_cache_report};
@@ -12,7 +9,6 @@ use std::alloc::{AllocError, Global};
 use std::marker::Brand;
 use std::test::Fail;
 use trace_model::{Event, Observer};
-use trace_order::Order;
 
 const TID: Tid = Tid::FIRST;
 
@@ -48,30 +44,11 @@ fn read(at: Addr, count: u32) -> Event {
     }
 }
 
-// Observes the event, where it may come next.
-fn observe<K: Shaped>(
-    profile: &mut CacheProfile<K>,
-    order: &mut Order,
-    e: Event,
-) -> Result<(), AllocError>
-    requires { (past : List Event) × (IsOrderOf order.old past
-        × StandsFor K.shape profile.old past) }
-    ensures { IfOk result (λ _. (past : List Event)
-        × (IsOrderOf order.new past × StandsFor K.shape profile.new past)) }
-{
-    if order.may_follow(&e) {
-        profile.observe(e)?;
-        order.add(e)?;
-    }
-    Ok(())
-}
-
 // The profile of a routine that reads the four bytes of a word one by one, and one that reads a word that lies in two.
 fn profile_of<K: Shaped>(alloc: Global, shape: Shape) -> Result<CacheProfile<K>, AllocError>
     requires { shape ≡ K.shape }
 {
     let mut profile = CacheProfile::<K>::new(alloc, shape)?;
-    let mut order = Order::new(alloc)?;
     for e in [
         start(0x10054),
         step(),
@@ -97,7 +74,9 @@ fn profile_of<K: Shaped>(alloc: Global, shape: Shape) -> Result<CacheProfile<K>,
         step(),
         end(),
     ] {
-        observe(&mut profile, &mut order, e)?;
+        if profile.may_follow(&e) {
+            profile.observe(e)?;
+        }
     }
     Ok(profile)
 }

@@ -240,7 +240,7 @@ apart_two a b xs ys =
     ∙ append_assoc (number_bytes a) (number_bytes b) (xs ++ ys)
 
 -- a record of a name, taken apart
-name_parts : (x bytes rest : List ℕ) (a b : ℕ) (more behind : List ℕ) → b < 2 ^ 32 → bytes ≡ flat_map number_bytes (a ∷ b ∷ []) ++ rest → IsBody Named x → bytes ++ more ≡ x ++ behind → (n : List ℕ) × IsNameOf b n × (rest ++ more ≡ n ++ behind)
+pub name_parts : (x bytes rest : List ℕ) (a b : ℕ) (more behind : List ℕ) → b < 2 ^ 32 → bytes ≡ flat_map number_bytes (a ∷ b ∷ []) ++ rest → IsBody Named x → bytes ++ more ≡ x ++ behind → (n : List ℕ) × IsNameOf b n × (rest ++ more ≡ n ++ behind)
 name_parts x bytes rest a b more behind low text (r, fits, is, content) same = by (name_form r is)
   where
     by : (e : ℕ) × (n : List ℕ) × (r ≡ OfName e n) → (n : List ℕ) × IsNameOf b n × (rest ++ more ≡ n ++ behind)
@@ -322,7 +322,7 @@ head_stop bytes NoForm stops = λ x more rest r same.
 head_stop bytes (Memory entry) stops = tt
 
 -- the body of a record, behind the head
-behind_head : (f : Form) (bytes rest behind : List ℕ) (r : Record) → head f ++ rest ≡ record_bytes r ++ behind → (form r ≡ f) × (rest ≡ body r ++ behind)
+pub behind_head : (f : Form) (bytes rest behind : List ℕ) (r : Record) → head f ++ rest ≡ record_bytes r ++ behind → (form r ≡ f) × (rest ≡ body r ++ behind)
 behind_head f bytes rest behind r same =
     let both = one_head f (form r) rest (body r ++ behind) (same ∙ append_assoc (head (form r)) (body r) behind) in
     (sym both.0, both.1)

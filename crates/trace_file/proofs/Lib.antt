@@ -5,6 +5,7 @@ pub mod Lengths
 pub mod ManyNumbers
 pub mod NameBytes
 pub mod Bodies
+pub mod SeenNames
 pub mod Adding
 pub mod ReadBytes
 pub mod Feeding

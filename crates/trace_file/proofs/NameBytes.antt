@@ -40,7 +40,7 @@ begun_name bytes len least most short visible =
       unfinished = λ x rest name same. absurd (omega (arith, ap length same, length-append x rest, name.1));
     }
 
-is_visible_name : (x : List ℕ) → is_name x ≡ true → list_all is_visible x ≡ true
+pub is_visible_name : (x : List ℕ) → is_name x ≡ true → list_all is_visible x ≡ true
 is_visible_name x name = by (not (is_dash x)) (nat_le 1 (length x)) (nat_le (length x) NAME_BYTES) (list_all is_visible x) name
   where
     by : (a b c d : Bool) → (a && b && c && d) ≡ true → d ≡ true

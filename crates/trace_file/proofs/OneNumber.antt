@@ -117,7 +117,7 @@ whole (a ∷ b ∷ c ∷ d ∷ bytes) small long = is ∙ sym (as_four n bytes)
         let fourth : d ≡ n / 16777216 % 256 = omega (arith, small 0, small 1, small 2, small 3) in
         ap₂ (λ x y. x ∷ y) first (ap₂ (λ x y. x ∷ y) second (ap₂ (λ x y. x ∷ y ∷ bytes) third fourth))
 
-long : (n : ℕ) → length (number_bytes n) ≡ 4
+pub long : (n : ℕ) → length (number_bytes n) ≡ 4
 unfolding number_bytes
 long n = refl
 

@@ -7,4 +7,5 @@ pub mod Laws
 -- What the private parts owe one another.
 pub mod Kept
 pub mod Made
+pub mod Seen
 pub mod Steps

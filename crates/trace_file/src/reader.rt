@@ -206,8 +206,9 @@ impl TraceReader {
         ensures memory { IfErr result (λ e. e ≡ TraceError.Memory → WantsMemory IsAtRecord
             self.old self.new (byte ∷ []) events.old.list events.new.list) }
     {
+        let known = self.held.len();
         push_byte(&mut self.held, byte);
-        match read_record(self.alloc, &self.held) {
+        match read_record(self.alloc, &self.held, known) {
             Ok(next) => self.take_record(next, events),
             Err(Stop::Begun) => Ok(()),
             Err(Stop::NoForm) => Err(TraceError::Record { at: self.at }),

@@ -1,11 +1,12 @@
 //! Reading a record.
-ghost use Rattle.std.specs.Prelude.{true, false, All, ◌≡◌, ◌≢◌, ◌≤◌, ◌<◌, ◌^◌, ◌++◌, ◌∷◌, [], ℕ, List, length, take, drop, slice_index, IfErr, IfNone, IfOk, IfSome};
+ghost use Rattle.std.specs.Prelude.{true, false, All, ◌≡◌, ◌≢◌, ◌≤◌, ◌<◌, ◌^◌, ◌++◌, ◌∷◌, [], ℕ, List, length, min, take, drop, slice_index, IfErr, IfNone, IfOk, IfSome};
 ghost use Rattle.byteorder.specs.Endian.{little_number};
 ghost use Rattle.trace_file.specs.declared.records.Form.{Form};
 ghost use Rattle.trace_file.specs.declared.records.Record.{Record};
 ghost use Rattle.guest_words.specs.Names.{is_name, is_visible};
 ghost use Rattle.guest_words.specs.declared.limits.TheConstants.{NAME_BYTES};
-ghost use Rattle.trace_file.specs.Pieces.{AreNumbers, HasName, HasNameBody, IsBody, IsHead, IsNameOf, IsNone, IsRecord, Stops, body};
+ghost use Rattle.trace_file.specs.Pieces.{AreNumbers, HasName, HasNameBody, IsBegun, IsBody, IsHead, IsNameOf, IsNone, IsRecord, Stops, body};
+ghost use Rattle.trace_file.specs.Seen.{IsSeen};
 ghost use Rattle.trace_file.specs.declared.records.Record.TheVariants.{OfEvent, OfFinish};
 ghost use Rattle.trace_file.specs.Records.{AreInRanges, Fits, IsIn, form, head, kind_number, number_bytes, ranges, record_bytes, thread};
 ghost use Rattle.trace_file.specs.Made.{IsLeastNumber, IsMade, IsSound, is_event};
@@ -344,8 +345,22 @@ fn are_visible(bytes: &[u8]) -> bool
     bytes.iter().all(|b| 0x21 <= *b && *b <= 0x7e)
 }
 
-/// A name of so many bytes, of the routine with an entry.
-fn read_name(alloc: Global, entry: Addr, bytes: &[u8], len: usize) -> Result<Name, Stop>
+/// The bytes behind the first `seen`.
+fn behind(bytes: &[u8], seen: usize) -> &[u8]
+    ensures { result.now ≡ drop (min seen (length bytes.now)) bytes.now }
+{
+    &bytes[seen.min(bytes.len())..]
+}
+
+/// A name of so many bytes, of the routine with an entry. The first `seen` bytes were seen to be bytes of a name.
+fn read_name(
+    alloc: Global,
+    entry: Addr,
+    bytes: &[u8],
+    len: usize,
+    seen: usize,
+) -> Result<Name, Stop>
+    requires seen { list_all is_visible (take seen bytes.now) ≡ true }
     requires least { 1 ≤ len }
     requires most { len ≤ NAME_BYTES }
     ensures found { IfOk result (λ name. (is_name name ≡ true) × (length name ≡ len)
@@ -355,7 +370,7 @@ fn read_name(alloc: Global, entry: Addr, bytes: &[u8], len: usize) -> Result<Nam
         → (of ≡ entry) × (len ≤ length bytes.now) × (is_name (take len bytes.now) ≡ true)) }
 {
     if bytes.len() < len {
-        if are_visible(bytes) {
+        if are_visible(behind(bytes, seen)) {
             return Err(Stop::Begun);
         }
         return Err(Stop::NoForm);
@@ -367,8 +382,9 @@ fn read_name(alloc: Global, entry: Addr, bytes: &[u8], len: usize) -> Result<Nam
     }
 }
 
-/// The record of a form whose numbers and bytes stand first.
-fn read_body(alloc: Global, wanted: Form, bytes: &[u8]) -> Result<Record, Stop>
+/// The record of a form whose numbers and bytes stand first. Of a name so many bytes were seen.
+fn read_body(alloc: Global, wanted: Form, bytes: &[u8], seen: usize) -> Result<Record, Stop>
+    requires { wanted ≡ Form.Named → IsSeen seen bytes.now }
     ensures found { IfOk result (λ r. Fits r × (form r ≡ wanted)
         × ((rest : List ℕ) × (bytes.now ≡ body r ++ rest))) }
     ensures stops { IfErr result (λ stop. Stops (IsBody wanted) bytes.now stop) }
@@ -378,7 +394,7 @@ fn read_body(alloc: Global, wanted: Form, bytes: &[u8]) -> Result<Record, Stop>
     let (numbers, rest) = read_numbers(bytes, ranges(wanted))?;
     let [a, b, c] = numbers;
     match wanted {
-        Form::Named => Ok(Record::OfName(a, read_name(alloc, a, rest, b as usize)?)),
+        Form::Named => Ok(Record::OfName(a, read_name(alloc, a, rest, b as usize, seen)?)),
         _ => match made(wanted, a, b, c) {
             Some(record) => Ok(record),
             None => Err(Stop::NoForm),
@@ -386,8 +402,13 @@ fn read_body(alloc: Global, wanted: Form, bytes: &[u8]) -> Result<Record, Stop>
     }
 }
 
-/// The record that stands first.
-pub fn read_record(alloc: Global, bytes: &[u8]) -> Result<Record, Stop>
+/// How many bytes of a name's record stand before its name.
+const NAME_AT: usize = 9;
+
+/// The record that stands first. The first `known` bytes are known to be the beginning of one, so those of a name among them
+/// aren't looked at again until it is whole.
+pub fn read_record(alloc: Global, bytes: &[u8], known: usize) -> Result<Record, Stop>
+    requires { IsBegun IsRecord (take known bytes.now) }
     ensures found { IfOk result (λ r. Fits r
         × ((rest : List ℕ) × (bytes.now ≡ record_bytes r ++ rest))) }
     ensures stops { IfErr result (λ stop. Stops IsRecord bytes.now stop) }
@@ -395,5 +416,5 @@ pub fn read_record(alloc: Global, bytes: &[u8]) -> Result<Record, Stop>
         → HasName entry bytes.now) }
 {
     let (form, body) = read_head(bytes)?;
-    read_body(alloc, form, body)
+    read_body(alloc, form, body, known.saturating_sub(NAME_AT))
 }

@@ -1,5 +1,5 @@
 -- What beside the live threads tells which event may come next. A past is the list of the events so far, the newest first.
-use Rattle.std.specs.Prelude.{◌≡◌, ◌↔◌, ℕ, ◌+◌, ◌<◌, Bool, true, false, List, ◌∷◌, Option, Some}
+use Rattle.std.specs.Prelude.{◌≡◌, ℕ, ◌+◌, ◌<◌, Bool, true, false, List, Option, Some}
 use Rattle.std.specs.Option.{option_map_or}
 use Rattle.guest_words.specs.declared.limits.TheConstants.{TRACE_WEIGHT}
 use Rattle.trace_model.specs.declared.event_kinds.Event.{Event}

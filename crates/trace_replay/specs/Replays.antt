@@ -1,7 +1,7 @@
 -- What is made of a stored trace. A past is the list of its events, the newest first.
-use Rattle.std.specs.Prelude.{◌≡◌, ℕ, Bool, List, Result, Ok, Err}
+use Rattle.std.specs.Prelude.{◌≡◌, ◌⊎◌, ℕ, Bool, List, Result, Ok, Err, None}
 use Rattle.run_profile.specs.Profile.{AreTotalsOf, IsProfileOf, Kept}
-use Rattle.trace_file.specs.Reading.{HasRead, IsRefused, ReaderState}
+use Rattle.trace_file.specs.Reading.{HasNext, HasRead, IsRefused, ReaderState}
 use Rattle.trace_file.specs.TraceText.{IsTrace}
 use Rattle.trace_file.specs.declared.errors.TraceError.{TraceError}
 use Rattle.trace_model.specs.declared.event_kinds.Event.{Event}
@@ -34,3 +34,7 @@ pub record HasReplayed (most : ℕ) (g : Going) (bytes : List ℕ) : Type 0 wher
   pub read : HasRead g.reader bytes past
   pub profile : IsProfileOf most g.profile (cut (is_within most) past)
   pub whole : g.whole ≡ is_within most past
+
+-- Nothing that was read of the bytes is refused: nothing fails in them, or memory failed for a whole record that may come there.
+abbrev pub IsBeforeRefusal : ReaderState → List ℕ → Type 0
+IsBeforeRefusal s bytes = (s.refusal ≡ None) ⊎ ((past : List Event) × HasNext s bytes past)

@@ -3,4 +3,4 @@
 
 mod replaying;
 
-pub use replaying::{Replayed, replay};
+pub use replaying::{Replayed, TraceProfile, replay};

@@ -3,7 +3,7 @@ ghost use Rattle.std.specs.Prelude.{◌≡◌, ◌≤◌, ◌<◌, ◌+◌, ◌^
 ghost use Rattle.trace_file.specs.Reading.{IsRefused};
 ghost use Rattle.trace_file.specs.declared.errors.TraceError.{TraceError};
 ghost use Rattle.trace_model.specs.declared.event_kinds.Event.{Event};
-ghost use Rattle.trace_replay.specs.Replays.{HasReplayed, Replays};
+ghost use Rattle.trace_replay.specs.Replays.{HasReplayed, IsBeforeRefusal, Replays};
 
 use guest_words::{Addr, Finish, Name};
 use run_profile::{Profile, Totals};
@@ -29,9 +29,10 @@ pub struct Replayed {
     pub finish: Finish,
 }
 
-// A trace that is being read.
+/// A trace that is being read in any pieces, and the profile of its events so far. What of it is refused is told as it is, and
+/// not as out of memory: memory can fail before the refusal is reached, and not at it.
 #[derive(Drop)]
-struct TraceProfile<S: Lanes> {
+pub struct TraceProfile<S: Lanes> {
     reader: TraceReader,
     profile: Profile<S>,
     whole: bool,
@@ -48,7 +49,8 @@ impl<S: Lanes> Model for TraceProfile<S> {
 }
 
 impl<S: Lanes> TraceProfile<S> {
-    fn new(alloc: Global) -> Result<TraceProfile<S>, AllocError>
+    /// Nothing is read.
+    pub fn new(alloc: Global) -> Result<TraceProfile<S>, AllocError>
         requires { 3 ≤ S.MAX }
         ensures { IfOk result (λ replay. HasReplayed S.MAX replay []) }
     {
@@ -60,8 +62,9 @@ impl<S: Lanes> TraceProfile<S> {
         })
     }
 
-    // Reads a piece more, and profiles its events as long as they are taken. What the reader refuses is told as it is.
-    fn feed(&mut self, piece: &[u8]) -> Result<(), TraceError>
+    /// Reads a piece more, and profiles its events as long as they are taken. What the reader refuses is told as it is; where
+    /// memory fails, nothing that was read is refused.
+    pub fn feed(&mut self, piece: &[u8]) -> Result<(), TraceError>
         requires { (bytes : List ℕ) × HasReplayed S.MAX self.old bytes
             × (length bytes + length piece.now < 2 ^ 64) }
         ensures ok { (bytes : List ℕ) → HasReplayed S.MAX self.old bytes
@@ -69,6 +72,9 @@ impl<S: Lanes> TraceProfile<S> {
         ensures err { (bytes more : List ℕ) → HasReplayed S.MAX self.old bytes
             → IfErr result (λ e. (past : List Event) × IsRefused (bytes ++ (piece.now ++ more)) past e) }
         ensures refused { (e : TraceError) → self.new.reader.refusal ≡ Some e → result ≡ Err e }
+        ensures memory { (bytes : List ℕ) → HasReplayed S.MAX self.old bytes
+            → self.old.reader.refusal ≡ None → result ≡ Err TraceError.Memory
+            → IsBeforeRefusal self.new.reader (bytes ++ piece.now) }
     {
         self.events.clear();
         self.reader.feed(piece, &mut self.events)?;
@@ -81,8 +87,8 @@ impl<S: Lanes> TraceProfile<S> {
         Ok(())
     }
 
-    // What the trace comes to, where the bytes are one. What the reader refuses is told as it is.
-    fn finish(self) -> Result<Replayed, TraceError>
+    /// What the trace comes to, where the bytes are one. What the reader refuses is told as it is.
+    pub fn finish(self) -> Result<Replayed, TraceError>
         requires { (bytes : List ℕ) × HasReplayed S.MAX self bytes }
         ensures replays { (bytes : List ℕ) → HasReplayed S.MAX self bytes
             → Replays S.MAX bytes result }
@@ -107,7 +113,8 @@ impl<S: Lanes> TraceProfile<S> {
     }
 }
 
-/// Reads the text of a trace, and profiles its events by stamps of a width.
+/// Reads the text of a trace, and profiles its events by stamps of a width. No clause on these bytes alone can say more of
+/// `Memory` than that it may come, since the first step takes memory: `TraceProfile` says before what it comes.
 pub fn replay<S: Lanes>(alloc: Global, bytes: &[u8]) -> Result<Replayed, TraceError>
     requires { 3 ≤ S.MAX }
     ensures { Replays S.MAX bytes.now result }

@@ -1,8 +1,4 @@
 //! Events that may come next, and events that may not.
-ghost use Rattle.std.specs.Prelude.{List};
-ghost use Rattle.trace_model.specs.declared.event_kinds.Event.{Event};
-ghost use Rattle.trace_order.specs.Order.{IsOrderOf};
-
 use guest_words::{Tid, Word};
 use std::alloc::AllocError;
 use std::test::Fail;
@@ -10,10 +6,7 @@ use trace_model::Event;
 use trace_order::Order;
 
 // Takes the event if it may come next.
-fn offer(order: &mut Order, e: Event) -> Result<bool, AllocError>
-    requires { (past : List Event) × IsOrderOf order.old past }
-    ensures { (past : List Event) × IsOrderOf order.new past }
-{
+fn offer(order: &mut Order, e: Event) -> Result<bool, AllocError> {
     let may = order.may_follow(&e);
     if may {
         order.add(e)?;

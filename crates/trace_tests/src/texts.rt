@@ -1,15 +1,9 @@
 //! A trace of 49 bytes, written and read.
-ghost use Rattle.std.specs.Prelude.{List, IfOk};
-ghost use Rattle.trace_model.specs.declared.event_kinds.Event.{Event};
-ghost use Rattle.trace_order.specs.Order.{IsOrderOf};
-ghost use Rattle.trace_file.specs.TraceText.{IsTextOf};
-
 use guest_words::{Addr, Finish, Name, Tid};
-use std::alloc::{AllocError, Global};
+use std::alloc::Global;
 use std::test::Fail;
 use trace_file::{TraceEnd, TraceError, TraceReader, TraceWriter};
 use trace_model::{Event, Events};
-use trace_order::Order;
 
 // A thread that starts, runs three instructions and ends, with status 0.
 const TRACE: [u8; 49] =
@@ -33,19 +27,6 @@ fn end() -> Event {
     Event::End { tid: Tid::FIRST }
 }
 
-// Writes the event, where it may come next.
-fn write(writer: &mut TraceWriter, order: &mut Order, e: Event) -> Result<(), AllocError>
-    requires { (past : List Event) × (IsOrderOf order.old past × IsTextOf writer.old past) }
-    ensures { IfOk result (λ _. (past : List Event)
-        × (IsOrderOf order.new past × IsTextOf writer.new past)) }
-{
-    if order.may_follow(&e) {
-        writer.push(e)?;
-        order.add(e)?;
-    }
-    Ok(())
-}
-
 // Reads the bytes one by one.
 fn read(alloc: Global, bytes: &[u8], events: &mut Events) -> Result<TraceEnd, TraceError> {
     let mut reader = TraceReader::new(alloc)?;
@@ -58,9 +39,10 @@ fn read(alloc: Global, bytes: &[u8], events: &mut Events) -> Result<TraceEnd, Tr
 #[test]
 fn a_trace_is_written(rt: HostRuntime) -> Result<(), Fail> {
     let mut writer = TraceWriter::new(rt.alloc())?;
-    let mut order = Order::new(rt.alloc())?;
     for e in [start(), step(), step(), step(), end()] {
-        write(&mut writer, &mut order, e)?;
+        if writer.may_follow(&e) {
+            writer.push(e)?;
+        }
     }
     assert_eq!(rt; writer.length(), 43);
     let names: [(Addr, Name); 0] = [];

@@ -12,5 +12,5 @@ pub returns-clause-text : goal.returns-clause-text
 returns-clause-text c = λ most seen are finish.
     let past = seen.past in
     let report = c.in_ok-report.ensures most past are.totals_are ∙ ap (λ (f : Finish). report_of c.args.image.now.names f past) finish in
-    c.in_ok-push_contexts.ensures.text past (in_order (contexts past)) are.tree (have_order c.args.contexts.now.tree.places (contexts past) are.tree.contexts_are)
+    c.in_ok-push_contexts.ensures.text past (in_order (contexts past)) are.tree (have_order c.args.contexts.now.tree.branches.places (contexts past) are.tree.branches_are.contexts_are)
     ∙ ap (λ (front : List ℕ). front ++ contexts_text past (in_order (contexts past))) (c.in_ok-text.ensures ∙ ap report_text report)

@@ -1,5 +1,5 @@
 use Rattle.std.proofs.Common.{◌≡◌, ◌∙◌, ◌++◌, ◌<◌, ◌≤◌, ◌+◌, [], ℕ, List, length, get_or, Option, ap, sym, subst, arith}
-use Rattle.std.specs.Prelude.{Vec}
+use Rattle.std.specs.Prelude.{IfSome, Vec}
 use Rattle.std.specs.declared.alloc.Global.{Global}
 use Rattle.std.specs.List.{flat_map}
 use Rattle.trace_model.specs.declared.event_kinds.Event.{Event}
@@ -8,7 +8,7 @@ use Rattle.context_tree.specs.Trees.{StandsFor}
 use Rattle.std.proofs.lemmas.List.{append-nil, take_all}
 use Rattle.context_tree.specs.Contexts.{contexts}
 use Rattle.context_tree.specs.Numbers.{numbered}
-use Rattle.context_tree.proofs.Listed.{as_long, follower_some}
+use Rattle.context_tree.proofs.Listed.{as_long}
 use Rattle.context_report.specs.ContextText.{context_text}
 use Rattle.context_report.proofs.Told.{StandsAt, none_some, same_context, stands_first, stands_next, told_more}
 use Rattle.context_report.proofs.writer.push_each.Goals as goal
@@ -16,11 +16,9 @@ use Rattle.context_report.proofs.writer.push_each.Goals.{in-Some+in_ok-push_cont
 
 pub loop-init : goal.loop-init
 loop-init c = record {
-  one = λ n is.
-      let there = follower_some (contexts c.requires.past) [] c.next_in_order-next.result n (c.next_in_order-next.ensures c.requires.past c.requires.now) is in
-      (there.0, omega (arith, there.1, c.requires.now.contexts_are.long));
+  one = λ n is. subst (λ (o : Option ℕ). IfSome o (λ m. (1 ≤ m) × (m ≤ length c.args.tree.now.branches.places))) is c.next_in_order-next.ensures.within;
   at = λ past ordered stands in_order some.
-      stands_first c.args.tree.now.places (contexts past) ordered stands.contexts_are in_order c.next_in_order-next.result (c.next_in_order-next.ensures past stands) some;
+      stands_first c.args.tree.now.branches.places (contexts past) ordered stands.branches_are.contexts_are in_order c.next_in_order-next.result (c.next_in_order-next.ensures.follows past stands) some;
   text = λ past ordered stands in_order. sym (append-nil c.args.text.now.items);
 }
 
@@ -28,19 +26,16 @@ pub loop-preserved : goal.loop-preserved
 loop-preserved c = elim c.match-next.branch [
   | in-Some+in_ok-push_context w ↦
       let n = w.in-Some.n in
-      let p = c.requires in
       let here : (past : List Event) (ordered : List (List ℕ)) → StandsFor c.args.tree.now past → IsInOrder (contexts past) ordered → c.loop.counter < length ordered →
       numbered (contexts past) w.in-Some.n ≡ get_or ordered c.loop.counter [] =
       λ past ordered stands in_order lt. same_context (contexts past) ordered c.loop.counter c.loop.next w.in-Some.n w.in-Some.is (c.loop.invariant.at past ordered stands in_order lt)
       in
       record {
-        one = λ m is.
-            let there = follower_some (contexts c.requires.past) (numbered (contexts c.requires.past) w.in-Some.n) w.next_in_order-next-in-Some.result m (w.next_in_order-next-in-Some.ensures c.requires.past c.requires.now) (sym w.next-is ∙ is) in
-            (there.0, omega (arith, there.1, c.requires.now.contexts_are.long));
+        one = λ m is. subst (λ (o : Option ℕ). IfSome o (λ k. (1 ≤ k) × (k ≤ length c.args.tree.now.branches.places))) (sym w.next-is ∙ is) w.next_in_order-next-in-Some.ensures.within;
         at = λ past ordered stands in_order some.
             subst (λ (o : Option ℕ). StandsAt (contexts past) ordered (c.loop.counter + 1) o) (sym w.next-is)
             (stands_next (contexts past) ordered in_order c.loop.counter w.in-Some.n w.next_in_order-next-in-Some.result (here past ordered stands in_order (omega (arith, some)))
-            (w.next_in_order-next-in-Some.ensures past stands) some);
+            (w.next_in_order-next-in-Some.ensures.follows past stands) some);
         text = λ past ordered stands in_order.
             let lt : c.loop.counter < length ordered = omega (arith, c.loop-test.true, c.contexts-end.ensures.stands past stands, as_long (contexts past) ordered in_order) in
             told_more past ordered c.args.text.now.items c.loop.text.items c.match-next.text.items c.loop.counter (numbered (contexts past) w.in-Some.n) lt (c.loop.invariant.text past ordered stands in_order)

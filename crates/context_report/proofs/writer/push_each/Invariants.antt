@@ -10,7 +10,7 @@ use Rattle.context_report.proofs.writer.push_each.Given as goal
 
 abbrev pub invariant-loop : goal.invariant-loop
 invariant-loop l = record {
-  one : (n : ℕ) → l.next ≡ Some n → (1 ≤ n) × (n ≤ length l.tree.places);
+  one : (n : ℕ) → l.next ≡ Some n → (1 ≤ n) × (n ≤ length l.tree.branches.places);
   at : (past : List Event) (ordered : List (List ℕ)) → StandsFor l.tree past → IsInOrder (contexts past) ordered → l.counter < length ordered → StandsAt (contexts past) ordered l.counter l.next;
   text : (past : List Event) (ordered : List (List ℕ)) → StandsFor l.tree past → IsInOrder (contexts past) ordered →
       l.text.items ≡ l.initial.text.items ++ flat_map (context_text past) (take l.counter ordered);

@@ -9,17 +9,6 @@ returns-in_default-clause-totals g c = λ past kept.
     subst (λ tree. HasTree tree past) c.in_default.is
     (settled g.S.Stamp.MAX _ past p (ap (λ (k : Kept). k.next) c.profile.view_is ∙ c.in_ok-settle.ensures.settled))
 
-pub totals-requires : goal.totals-requires
-totals-requires g c =
-    let past = c.requires.past in
-    let p = subst (λ (k : Kept). AreContextsOf g.S.Stamp.MAX k past) (sym c.profile.view_is) (c.settle.ensures.stands past c.requires.now) in
-    record {
-      past = past;
-      now = subst (λ tree. HasTree tree past) c.in-Some.is
-          (settled g.S.Stamp.MAX _ past p (ap (λ (k : Kept). k.next) c.profile.view_is ∙ c.in_ok-settle.ensures.settled));
-      light = c.requires.light;
-    }
-
 pub returns-clause-totals : goal.returns-clause-totals
 returns-clause-totals g c = λ past kept.
     let p = subst (λ (k : Kept). AreContextsOf g.S.Stamp.MAX k past) (sym c.profile.view_is) (c.settle.ensures.stands past kept) in
@@ -43,4 +32,4 @@ returns-in_err-totals-clause-no_memory g c = λ past kept many.
     let p = subst (λ (k : Kept). AreContextsOf g.S.Stamp.MAX k past) (sym c.profile.view_is) (c.settle.ensures.stands past kept) in
     let tree = subst (λ tree. HasTree tree past) c.in-Some.is
     (settled g.S.Stamp.MAX _ past p (ap (λ (k : Kept). k.next) c.profile.view_is ∙ c.in_ok-settle.ensures.settled)) in
-    absurd (omega (arith, many, tree.few))
+    absurd (omega (arith, many, tree.branches_are.few))

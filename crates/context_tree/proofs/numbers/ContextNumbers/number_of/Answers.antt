@@ -1,6 +1,6 @@
 use Rattle.std.proofs.Common.{rules, ◌≡◌, ◌≤◌, ◌<◌, ◌+◌, ℕ, List, ◌∷◌, ◌++◌, [], length, false, sym, ◌∙◌, subst, arith, refl}
 use Rattle.std.specs.List.{list_any}
-use Rattle.context_tree.specs.declared.numbers.TheConstants.{CONTEXTS}
+use Rattle.guest_words.specs.declared.limits.TheConstants.{CONTEXTS}
 use Rattle.context_tree.specs.Contexts.{with_context}
 use Rattle.context_tree.specs.Numbers.{IsNumberOf, StandsFor, numbered, same_place}
 use Rattle.context_tree.proofs.Numbering.{any_is, if_err_is, if_ok_is, number_with, on_err_is, on_ok_is, stands_with, still_few}

@@ -1,7 +1,12 @@
-use Rattle.std.proofs.Common.{ℕ, List, subst}
-use Rattle.context_tree.specs.Trees.{IsShown}
+use Rattle.std.proofs.Common.{sym, subst}
+use Rattle.context_tree.specs.Trees.{Kept, StandsFor}
+use Rattle.context_tree.proofs.Growing.{some_branches}
 use Rattle.context_tree.proofs.tree.Tree.context.Goals as goal
+
+pub context-requires-clause-stands : goal.context-requires-clause-stands
+context-requires-clause-stands c = some_branches _ c.self.invariant
 
 pub returns : goal.returns
 returns c = λ past ordered stands in_order.
-    subst (λ (d : List ℕ). IsShown past d c.at.result.0 c.at.result.1 c.at.result.2.now) (c.number_at.ensures.listed past ordered stands in_order) (c.at.ensures past stands)
+    let s = subst (λ (k : Kept). StandsFor k past) (sym c.self.view_is) stands in
+    c.context.ensures past ordered s.branches_are in_order

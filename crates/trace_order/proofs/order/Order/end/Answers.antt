@@ -2,7 +2,7 @@ use Rattle.std.proofs.Common.{arith, ap, refl}
 use Rattle.trace_model.specs.declared.event_kinds.Event.TheVariants.{End}
 use Rattle.trace_order.specs.Order.{OrderState}
 use Rattle.trace_order.specs.Progress.{ProgressState}
-use Rattle.trace_order.proofs.Progressing.{began, weighs}
+use Rattle.trace_order.proofs.Progressing.{began}
 use Rattle.trace_order.proofs.order.Order.end.Goals as goal
 
 pub invariant_of-self : goal.invariant_of-self

@@ -1,5 +1,6 @@
-use Rattle.std.proofs.Common.{◌≡◌, List, ◌++◌, append_assoc, ap, subst, sym, ◌∙◌}
+use Rattle.std.proofs.Common.{inr, ◌≡◌, List, ◌++◌, append_assoc, ap, subst, sym, ◌∙◌}
 use Rattle.std.proofs.lemmas.Result.{err_from_is_err_and}
+use Rattle.trace_file.specs.declared.errors.TraceError.TheVariants.{Memory}
 use Rattle.trace_file.specs.Reading.{HasReadBy, IsRefused}
 use Rattle.trace_file.proofs.ReadBytes.{stays}
 use Rattle.trace_model.specs.declared.event_kinds.Event.{Event}
@@ -23,6 +24,15 @@ returns-in_err-feed-clause-err g c = λ bytes more has.
     let past = past_after was.past fed.more in
     let refused = subst (λ refusal. HasReadBy refusal c.feed.new.self (bytes ++ piece) past) c.in_err-feed.ensures.answer (fed.read bytes was.past was.read) in
     rw (p.1, p.2) (past, subst (λ bs. IsRefused bs past e) (append_assoc bytes piece more) (stays (bytes ++ piece) more past e refused.0 refused.1))
+
+pub returns-in_err-feed-clause-memory : goal.returns-in_err-feed-clause-memory
+returns-in_err-feed-clause-memory g c = λ bytes has going told.
+    let was = subst (λ (k : Going). HasReplayed g.S.Stamp.MAX k bytes) (sym c.self.view_is) has in
+    let p = err_from_is_err_and c.from_residual.result c.from_residual.ensures.1 in
+    let none = ap (λ (k : Going). k.reader.refusal) c.self.view_is ∙ going in
+    let memory : c.in_err-feed.field-0.0 ≡ Memory = cc (p.1, p.2, told) in
+    let wants = c.in_err-feed.ensures.memory none memory in
+    inr (past_after was.past wants.more, wants.next bytes was.past was.read)
 
 -- the events of the piece, and that they may come
 pub feed-requires-then-self : goal.feed-requires-then-self

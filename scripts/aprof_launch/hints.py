@@ -1,0 +1,154 @@
+"""What to do next behind each status of the program but 0."""
+from __future__ import annotations
+
+import os
+import re
+import shlex
+import subprocess
+from collections.abc import Callable
+
+from aprof_launch import ends, tables
+from aprof_launch.outputs import refusals
+from aprof_launch.places import has_reader, is_full, why_unread
+from aprof_launch.usage import called, usage
+from aprof_launch.words import Words
+
+MIB = 1 << 20
+FILE_LIMIT, INPUT_LIMIT, TRACE_LIMIT, ARGUMENT_LIMIT = 16 * MIB, 64 * MIB, 64 * MIB, 64 << 10
+
+
+class Hints:
+    """The hints for one command line: `program` is the built program, which is asked again for a number that only its text
+    has, never with the output of the user."""
+
+    def __init__(self, read: Words, program: str) -> None:
+        self.read, self.program = read, program
+        self.name = read.command.name if read.command else ""
+        self.output = read.values.get("-o", "")
+
+    def lines(self, status: int) -> list[str]:
+        of_status: dict[int, Callable[[], list[str]]] = {
+            1: self.bad_words, 2: self.unread, 3: self.bad_image, 4: self.unwritten, 5: self.fault, 6: self.budget,
+            7: self.deadlock, 8: self.too_deep, 9: self.schedule, 10: self.memory, 11: self.too_large, 13: self.bad_trace,
+        }  # fmt: skip
+        if status > 128:
+            of_memory = "; where memory is short the system sends it" if status == 137 else ""
+            return [f"signal {status - 128} ended the run{of_memory}"]
+        return of_status[status]() if status in of_status else []
+
+    def asked_again(self, *words: str) -> int | None:
+        """The number at the end of what the program says to these words."""
+        try:
+            done = subprocess.run(
+                [self.program, *words], stdin=subprocess.DEVNULL, stdout=subprocess.DEVNULL, stderr=subprocess.PIPE, timeout=20
+            )
+        except (OSError, subprocess.TimeoutExpired):
+            return None
+        found = re.search(rb"^aprof: (?:image|schedule|trace) ([0-9]+)$", done.stderr, re.MULTILINE)
+        return int(found[1]) if found else None
+
+    def image(self) -> str:
+        return self.read.positionals[0]
+
+    def bad_words(self) -> list[str]:
+        said = [self.read.complaint] if self.read.complaint else []
+        if self.read.command is None:
+            return [*said, f"`{called()} help` has the commands"]
+        return [*said, *usage(self.read.command), f"`{called()} help {self.name}` says what they mean"]
+
+    def unread(self) -> list[str]:
+        for path in self.read.inputs():
+            why = why_unread(path)
+            if why:
+                is_word = path in self.read.positionals[1:]
+                plain = f"; a word names a file: write ={path} for an argument" if is_word else ""
+                return [f"{path}: {why}{plain}"]
+        return []
+
+    def bad_image(self) -> list[str]:
+        number = self.asked_again("run", "--budget", "1", "-o", "/dev/null", "--", self.image())
+        return tables.image_row(number) if number is not None else []
+
+    def unwritten(self) -> list[str]:
+        if not has_reader(1):
+            return ["the reader of standard output has gone; the report is stored behind the output: write that to a file"]
+        again = [line.removeprefix("aprof: ") for line in refusals(self.read)]
+        full = [f"{path}: the disk is full" for path in self.read.outputs() if is_full(path)]
+        other = "standard output or the report: no room, or the place went during the run; what was written before stands"
+        return (again or full or [other])[:1]
+
+    def fault(self) -> list[str]:
+        fault = ends.fault_in(self.output)
+        if fault is None:
+            return ["`llvm-symbolizer --obj=IMAGE 0xADDRESS` names the routine, and with -g the line", *self.chain()]
+        found = ends.place_of(self.image(), fault.at)
+        place = f"in {found.routine or 'a routine without a name'}"
+        place += f", {found.line}" if found.line else "; build with -g for the line"
+        return [f"{place}: {tables.FAULTS.get(fault.kind, '')}", *self.chain()]
+
+    def words_of_contexts(self) -> str:
+        """The command that stores the contexts of the same run."""
+        left = {name: value for name, value in self.read.values.items() if name not in ("-o", "--record", "--stats")}
+        if "--record" in self.read.values:
+            left["--schedule"] = self.read.values["--record"]
+        options = [word for pair in left.items() for word in pair if pair[0] in CONTEXT_OPTIONS]
+        return shlex.join([called(), "contexts", *options, "-o", "contexts.txt", *self.words()])
+
+    def words(self) -> list[str]:
+        words = self.read.positionals
+        return ["--", *words] if any(word.startswith("-") for word in words) else words
+
+    def chain(self) -> list[str]:
+        """The commands that show which calls were open."""
+        if self.name == "contexts" and os.path.isfile(self.output):
+            return [f"the calls that were open: {shlex.join([called(), 'show', '--open', self.output])}"]
+        show = shlex.join([called(), "show", "--open", "contexts.txt"])
+        return ["the calls that were open:", f"  {self.words_of_contexts()}", f"  {show}"]
+
+    def budget(self) -> list[str]:
+        steps = self.read.values.get("--budget", "1000000000")
+        return [f"the run was ended after {steps} steps, and what is stored is of these: --budget N takes more", *self.chain()]
+
+    def deadlock(self) -> list[str]:
+        return ["all threads wait for one another; what is stored is of the run so far", *self.chain()]
+
+    def too_deep(self) -> list[str]:
+        bits = self.read.values.get("--stamps", "32")
+        limit = {"8": "84", "16": "21844"}.get(bits, "1431655764")
+        return [f"--stamps {bits} tells at most {limit} open calls apart" + ("" if bits == "32" else ": leave it out")]
+
+    def schedule(self) -> list[str]:
+        path = self.read.values.get("--schedule", "")
+        number = self.asked_again("run", "--budget", "1", "--schedule", path, "-o", "/dev/null", "--", self.image())
+        if number is None:
+            return [f"the thread of that line of {path} can't run then: it is the schedule of another run; record it anew"]
+        try:
+            with open(path, "rb") as file:
+                line = file.read().split(b"\n")[number - 1][:60].decode(errors="replace")
+        except (OSError, IndexError):
+            line = ""
+        return [f"line {number} of {path} is {line!r}, and not of the form TID STEPS, as 1 10000"]
+
+    def memory(self) -> list[str]:
+        return ["this machine has too little memory free; `ulimit -v` may bound it too"]
+
+    def too_large(self) -> list[str]:
+        limit = TRACE_LIMIT if self.name == "replay" else FILE_LIMIT
+        sizes = {path: os.path.getsize(path) for path in self.read.inputs() if os.path.isfile(path)}
+        long = [f"{path} has {size} bytes: a file has at most {limit >> 20} MiB" for path, size in sizes.items() if size > limit]
+        inputs = sum(size for path, size in sizes.items() if path != self.image() and path != self.read.values.get("--schedule"))
+        if not long and inputs > INPUT_LIMIT:
+            long = [f"the input files and standard input have {inputs} bytes: at most 64 MiB"]
+        arguments = sum(len(os.fsencode(word.removeprefix("="))) + 1 for word in self.read.positionals)
+        if not long and self.name != "replay" and arguments > ARGUMENT_LIMIT:
+            long = [f"the arguments have {arguments} bytes: at most 64 KiB"]
+        return long or [LIMITS]
+
+    def bad_trace(self) -> list[str]:
+        number = self.asked_again("replay", "-o", "/dev/null", "--", self.image())
+        text = tables.TRACES.get(number or 0)
+        return [f"{self.image()} is no trace that `aprof trace` stored: {text}"] if text else []
+
+
+CONTEXT_OPTIONS = ("--stdin", "--quantum", "--schedule", "--budget", "--stamps")
+LIMITS = "limits: 16 MiB a file, 64 MiB of inputs, 56 MiB of image, 64 MiB of trace, 64 KiB of arguments, 4294967294 contexts"

@@ -1,0 +1,108 @@
+"""The paths that are written: whether they can be, before a run, and what an interrupted one left of them."""
+from __future__ import annotations
+
+import os
+import re
+import stat
+from collections.abc import Iterable
+from pathlib import Path
+
+from aprof_launch.commands import Use
+from aprof_launch.words import Words
+
+SLACK = 0.02
+"""Seconds that a file's time may lie behind the clock's."""
+
+
+def problem(path: str) -> str:
+    """Why the path can't be written, or nothing."""
+    try:
+        mode = os.stat(path).st_mode
+    except FileNotFoundError:
+        return problem_of_new(path)
+    except NotADirectoryError:
+        return "no such folder"
+    except OSError as error:
+        return (error.strerror or "").lower()
+    if stat.S_ISDIR(mode):
+        return "it is a folder"
+    return "" if os.access(path, os.W_OK) else "no right to write it"
+
+
+def problem_of_new(path: str) -> str:
+    """The same for a path where there is nothing yet."""
+    if not path:
+        return "the path is empty"
+    if path.endswith("/"):
+        return "no such folder"
+    folder = os.path.dirname(os.path.realpath(path))
+    if not os.path.isdir(folder):
+        return "no such folder"
+    return "" if os.access(folder, os.W_OK | os.X_OK) else "no right to write into its folder"
+
+
+def is_same(one: str, other: str) -> bool:
+    """Whether both are one plain file, or one path where there is none yet."""
+    if not os.path.exists(one) and not os.path.exists(other):
+        return os.path.realpath(one) == os.path.realpath(other)
+    return os.path.isfile(one) and os.path.exists(other) and os.path.samefile(one, other)
+
+
+def role(read: Words, path: str) -> str:
+    """What the command reads the path as."""
+    if is_same(path, read.positionals[0]):
+        return "the trace itself" if read.command and read.command.name == "replay" else "the program itself"
+    for name, what in (("--stdin", "the standard input itself"), ("--schedule", "the schedule itself")):
+        if name in read.values and is_same(path, read.values[name]):
+            return what
+    return "one of the input files"
+
+
+def refusals(read: Words) -> Iterable[str]:
+    """Why what the words name can't be written: a text for each path."""
+    outputs = read.outputs()
+    for path in outputs:
+        why = problem(path)
+        if not why and any(is_same(path, other) for other in read.inputs()):
+            why = f"it is {role(read, path)}"
+        if why:
+            yield f"aprof: cannot write {path}: {why}"
+            return
+    if len(outputs) == 2 and is_same(*outputs):
+        yield f"aprof: cannot write {outputs[0]}: --record and -o name the same file"
+
+
+def has_trace_end(data: bytes) -> bool:
+    """Whether the last record is that of a trace's end: 10, a number for each kind of end, and what that end has."""
+    heads = {b"\n\0": 4, b"\n\1": 12, b"\n\2": 0, b"\n\3": 0, b"\n\4": 0, b"\n\5": 8}
+    return any(data[len(data) - 2 - size :][:2] == head for head, size in heads.items())
+
+
+def is_whole(path: str) -> bool:
+    """Whether what the program stored by `-o` has its end."""
+    data = Path(path).read_bytes()
+    if data.startswith(b"aprof trace 1\n"):
+        return has_trace_end(data)
+    return re.search(rb"\ndone [0-9]+\n\Z", data) is not None
+
+
+def remove_halves(read: Words, began: float) -> list[str]:
+    """Removes what a run that a signal ended wrote in part. `began` is the time at which it began."""
+    removed = []
+    for path in read.paths(Use.WRITTEN):
+        try:
+            if not os.path.isfile(path) or os.stat(path).st_mtime < began - SLACK:
+                continue
+            if path != read.values.get("-o") and is_after(read.values.get("-o", ""), began):
+                continue
+            if path != read.values.get("-o") or not is_whole(path):
+                os.remove(path)
+                removed.append(path)
+        except OSError:
+            continue
+    return removed
+
+
+def is_after(path: str, began: float) -> bool:
+    """Whether the report was begun, which comes behind a recording."""
+    return os.path.isfile(path) and os.stat(path).st_mtime >= began - SLACK

@@ -1,0 +1,89 @@
+"""The steps that the launcher calls, one by one."""
+from __future__ import annotations
+
+import os
+import signal
+import sys
+from pathlib import Path
+
+from aprof_launch import outputs, usage
+from aprof_launch.words import read_words
+
+HELP = 100
+"""The status of `check` where the words ask for help, which then is printed."""
+
+
+def asks_help(words: list[str]) -> bool:
+    before = words[: words.index("--")] if "--" in words else words
+    return "--help" in before or "-h" in before
+
+
+def help_step(words: list[str]) -> int:
+    print(usage.text_for(words))
+    return 0
+
+
+def check_step(words: list[str]) -> int:
+    """Before a run: 0 where it can begin."""
+    if asks_help(words):
+        print(usage.text_for(words))
+        return HELP
+    read = read_words(words)
+    if read.complaint:
+        return 0
+    found = list(outputs.refusals(read))
+    for line in found[:1]:
+        print(line, file=sys.stderr)
+    return 4 if found else 0
+
+
+def hint_step(words: list[str]) -> int:
+    """Behind a run: the program, its status and its words."""
+    from aprof_launch.hints import Hints
+
+    read, status = read_words(words[2:]), int(words[1])
+    lines = Hints(read, words[0]).lines(status) if status == 1 or not read.complaint else []
+    for number, line in enumerate(lines):
+        is_first = number == 0 and not line.startswith("usage:")
+        print(f"aprof: {line}" if is_first else line, file=sys.stderr)
+    return 0
+
+
+def interrupted_step(words: list[str]) -> int:
+    """Behind a run that a signal ended: the time at which it began, and its words."""
+    for path in outputs.remove_halves(read_words(words[1:]), float(words[0])):
+        print(f"aprof: {path} was written in part, and is removed", file=sys.stderr)
+    return 0
+
+
+def build_step(words: list[str]) -> int:
+    """The top of the repository, and the launcher with its words, which is started where the program is built."""
+    from aprof_launch.build import build_program
+
+    status = build_program(Path(words[0]))
+    if status:
+        return status
+    for number in (signal.SIGPIPE, signal.SIGXFSZ):
+        signal.signal(number, signal.SIG_DFL)
+    launcher = words[1] if os.access(words[1], os.X_OK) else f"{words[0]}/aprof"
+    os.execve(launcher, [launcher, *words[2:]], os.environ | {"APROF_BUILT": "1"})
+
+
+def progress_step(words: list[str]) -> int:
+    from aprof_launch.waiting import tell
+
+    return tell(int(words[0]))
+
+
+STEPS = {
+    "help": help_step,
+    "check": check_step,
+    "hint": hint_step,
+    "interrupted": interrupted_step,
+    "build": build_step,
+    "progress": progress_step,
+}
+
+
+def main(words: list[str]) -> int:
+    return STEPS[words[0]](words[1:])

@@ -1,0 +1,42 @@
+"""What the numbers in the program's last texts mean: README has the same."""
+from __future__ import annotations
+
+IMAGES: tuple[tuple[tuple[int, ...], str, str], ...] = (
+    ((1, 2, 3, 4, 5, 9, 10), "is no whole 32-bit little-endian ELF file", "a compiler for riscv32"),
+    ((6, 11), "is not linked (a .o), position-independent, or dynamic", "link it with -static -no-pie (and -fno-pie)"),
+    ((7,), "is for another processor", "--target=riscv32"),
+    (
+        (8,),
+        "has compressed instructions, RV32E or floats in registers",
+        "-march=rv32ima -mabi=ilp32, the libraries too",
+    ),
+    (
+        (12, 13, 14, 15, 16, 17, 18),
+        "has a segment or an entry that can't be loaded",
+        "the linker's own layout (no script); less static data",
+    ),
+)
+NO_START = "17 comes also where there is no `_start`: link a C library, or include examples/main.h"
+
+FAULTS = {
+    1: "no instruction of RV32IMA",
+    2: "no code there",
+    3: "no readable byte",
+    4: "no writable byte (a recursion whose stack is full; musl's `abort` and a failed `assert` too)",
+    5: "a jump that is not aligned",
+    6: "an atomic operation that is not aligned",
+    7: "EBREAK",
+}
+
+TRACES = {
+    1: "its first line is another",
+    2: "a record has no form",
+    3: "a record may not come there",
+    4: "the end is missing",
+}
+
+
+def image_row(number: int) -> list[str]:
+    """The row of README's table for `image K`."""
+    rows = [f"the file {what}; what mends it: {cure}" for numbers, what, cure in IMAGES if number in numbers]
+    return [*rows, *([NO_START] if number == 17 else [])]

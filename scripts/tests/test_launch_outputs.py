@@ -1,0 +1,85 @@
+"""What the launcher lets a run write: a path that can't be written is refused before the run."""
+from __future__ import annotations
+
+import os
+import subprocess
+import unittest
+
+from tests.launched import Launched
+
+# the words and why nothing is run
+REFUSED = (
+    ("run -o no/r bubble", "no/r: no such folder"),
+    ("run -o r/ bubble", "r/: no such folder"),
+    ("run -o folder bubble", "folder: it is a folder"),
+    ("run -o folder/ bubble", "folder/: it is a folder"),
+    ("run -o text/r bubble", "text/r: no such folder"),
+    ("run -o=no/r bubble", "no/r: no such folder"),
+    ("run -ono/r bubble", "no/r: no such folder"),
+    ("run -o bubble bubble", "bubble: it is the program itself"),
+    ("run -o ./bubble bubble", "./bubble: it is the program itself"),
+    ("run -o link bubble", "link: it is the program itself"),
+    ("run -o text bubble text", "text: it is one of the input files"),
+    ("run --stdin text -o text bubble", "text: it is the standard input itself"),
+    ("run --schedule text -o text bubble", "text: it is the schedule itself"),
+    ("replay -o text text", "text: it is the trace itself"),
+    ("run --record r -o r bubble", "r: --record and -o name the same file"),
+    ("run --record ./text -o text bubble", "./text: --record and -o name the same file"),
+    ("run --record no/k -o r bubble", "no/k: no such folder"),
+    ("run --record bubble -o r bubble", "bubble: it is the program itself"),
+    ("run -o dangling bubble", "dangling: no such folder"),
+)  # fmt: skip
+
+# words that are run as they stand
+RUN = (
+    "run -o r bubble =1 text",
+    "run -o /dev/null bubble",
+    "run --record /dev/null -o /dev/null bubble",
+    "run -o text bubble",
+    "run --record k -o folder/r bubble text text",
+    "run -o r -- bubble --progress -h --help",
+    "run -o r bubble =-o",
+    "demo 4",
+    "trace -o r bubble",
+)
+
+
+class Outputs(Launched):
+    def test_refused(self) -> None:
+        for words, text in REFUSED:
+            with self.subTest(words=words):
+                done = self.run_words(words)
+                self.assertEqual((done.returncode, done.stdout, done.stderr), (4, "", f"aprof: cannot write {text}\n"))
+
+    @unittest.skipIf(os.geteuid() == 0, "root may write everywhere")
+    def test_rights(self) -> None:
+        (self.folder / "text").chmod(0o400)
+        (self.folder / "folder").chmod(0o500)
+        for path, why in (("text", "no right to write it"), ("folder/r", "no right to write into its folder")):
+            done = self.run_words(f"run -o {path} bubble")
+            self.assertEqual((done.returncode, done.stderr), (4, f"aprof: cannot write {path}: {why}\n"))
+
+    def test_run(self) -> None:
+        for words in RUN:
+            with self.subTest(words=words):
+                done = self.run_words(words)
+                self.assertEqual((done.returncode, done.stdout, done.stderr), (0, f"words: {words}\n", ""))
+
+    def test_words_stay(self) -> None:
+        words = ["run", "-o", "r", "bubble", "=a b", "=*", "=", "=$x", "=\n"]
+        self.assertEqual(self.run_words(words).stdout, f"words: {' '.join(words)}\n")
+
+    def test_a_reader_that_has_gone(self) -> None:
+        """Of standard output: then it is that which couldn't be written."""
+        reader, writer = os.pipe()
+        os.close(reader)
+        environment = os.environ | {"FAKE_STATUS": "4", "FAKE_SILENT": "1"}
+        words = [str(self.launcher), "run", "-o", "r", "bubble"]
+        done = subprocess.run(words, cwd=self.folder, env=environment, stdout=writer, stderr=subprocess.PIPE, text=True)
+        os.close(writer)
+        self.assertEqual(done.returncode, 4)
+        self.assertIn("aprof: the reader of standard output has gone", done.stderr)
+
+
+if __name__ == "__main__":
+    unittest.main()

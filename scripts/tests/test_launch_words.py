@@ -1,0 +1,136 @@
+"""Words, texts and statuses of the launcher, with a fake program: hints behind a refusal, and help."""
+from __future__ import annotations
+
+import re
+import unittest
+from collections.abc import Sequence
+
+from aprof_launch import tables
+from aprof_launch.commands import COMMANDS
+from tests.launched import Launched
+from tests.samples import ROOT
+
+FAULT = "aprof 2\\nend fault 4 1 00011180\\nsteps 7\\nopen 1\\ndone 0\\n"
+
+# the words, the status of the program and what the hint behind it has
+HINTS: Sequence[tuple[str, int, Sequence[str]]] = (
+    ("run bubble", 1, ["aprof: -o PATH is missing\nusage: aprof run [--stdin PATH]"]),
+    ("run -o r --bugdet 5 bubble", 1, ["aprof: no option --bugdet; there is --budget\n"]),
+    ("run -o r --xyzzy bubble", 1, ["aprof: no option --xyzzy; for an argument of the program write =--xyzzy\n"]),
+    ("run -o r bubble -n", 1, ["aprof: no option -n;", "write =-n\n"]),
+    ("run -o r --sets 4 bubble", 1, ["aprof: --sets is an option of cache, not of run\n"]),
+    ("cache --sets 63 --ways 4 --line 64 -o r bubble", 1, ["--sets 63: it takes a power of two, 1 to 65536\n"]),
+    ("cache --ways 4 --line 64 -o r bubble", 1, ["aprof: --sets S is missing\n"]),
+    ("cache -o r bubble", 1, ["aprof: --sets S and --ways W and --line L are missing\n"]),
+    ("run --budget 1e9 -o r bubble", 1, ["aprof: --budget 1e9: it takes 1 to 1000000000000\n"]),
+    ("run --budget=0 -o r bubble", 1, ["aprof: --budget 0: it takes 1 to"]),
+    ("run --stamps 7 -o r bubble", 1, ["aprof: --stamps 7: it takes 8, 16 or 32\n"]),
+    ("run --stats=1 -o r bubble", 1, ["aprof: --stats takes no value\n"]),
+    ("run -o r -o s bubble", 1, ["aprof: -o stands twice\n"]),
+    ("run -o r --stdin -x bubble", 1, ["aprof: --stdin wants a path behind it, and -x is none (a file of this name: ./-x)\n"]),
+    ("run bubble -o", 1, ["aprof: -o wants a path behind it\n"]),
+    ("-o r run bubble", 1, ["aprof: -o stands before the command: options stand behind it\n"]),
+    ("rnu -o r bubble", 1, ["aprof: no command rnu; there is run\n", "`./aprof help` has the commands\n"]),
+    ("replay -o r t u", 1,
+     ["aprof: u is one word too many\n", "usage: aprof replay [--stamps 8|16|32] [--stats] -o PATH TRACE\n"]),
+    ("demo 40001", 1, ["aprof: 40001: N is 1 to 40000\n", "usage: aprof demo N\n"]),
+    ("demo", 1, ["aprof: N is missing\n"]),
+    ("run -o r bubble fine", 1, ["usage: aprof run"]),
+    ("run -o r bubble 100", 2, ["aprof: 100: no such file; a word names a file: write =100 for an argument\n"]),
+    ("run -o r nothing", 2, ["aprof: nothing: no such file\n"]),
+    ("run -o r . =1", 2, ["aprof: .: it is a folder\n"]),
+    ("run -o r --stdin none bubble", 2, ["aprof: none: no such file\n"]),
+    ("run -o r bubble =1", 4, ["no room"]),
+    ("run -o r bubble =1", 6,
+     ["ended after 1000000000 steps", "./aprof contexts -o contexts.txt bubble =1\n", "./aprof show --open contexts.txt\n"]),
+    ("run --budget 9 --record k --stats -o r bubble", 6,
+     ["after 9 steps", "contexts --budget 9 --schedule k -o contexts.txt bubble\n"]),
+    ("contexts -o bubble.txt bubble", 6, ["./aprof show --open contexts.txt"]),
+    ("cache --sets 4 --ways 4 --line 64 -o r bubble", 7, ["all threads wait", "./aprof contexts -o contexts.txt bubble\n"]),
+    ("run --stamps 8 -o r bubble", 8, ["--stamps 8 tells at most 84 open calls apart: leave it out\n"]),
+    ("run -o r bubble", 10, ["too little memory free"]),
+    ("run -o r bubble", 11, ["limits: 16 MiB a file"]),
+    ("run -o r bubble large", 11, ["aprof: large has 16777217 bytes: a file has at most 16 MiB\n"]),
+    ("run -o r bubble", 137, ["aprof: signal 9 ended the run; where memory is short"]),
+    ("run -o r bubble", 12, []),
+    ("run -o r bubble", 0, []),
+)
+
+
+class Words(Launched):
+    def test_hints(self) -> None:
+        with open(self.folder / "large", "wb") as file:
+            file.truncate((16 << 20) + 1)
+        for words, status, parts in HINTS:
+            with self.subTest(words=words, status=status):
+                done = self.run_words(words, status, FAKE_TEXT="its text")
+                self.assertEqual((done.returncode, done.stdout), (status, f"words: {words}\n"))
+                self.assertTrue(done.stderr.startswith("aprof: its text\n"))
+                hint = done.stderr.removeprefix("aprof: its text\n")
+                self.assertEqual(bool(hint), bool(parts))
+                for part in parts:
+                    self.assertIn(part, hint)
+
+    def test_no_hints(self) -> None:
+        for words, status, _ in HINTS[::7]:
+            done = self.run_words(words, status, FAKE_TEXT="its text", APROF_HINTS="0")
+            self.assertEqual((done.returncode, done.stderr), (status, "aprof: its text\n"))
+
+    def test_fault(self) -> None:
+        """The routine of the address, and for `run` the command that names the chain."""
+        done = self.run_words("run -o r bubble", 5, FAKE_STORED=FAULT)
+        self.assertIn("aprof: in bubble_sort; build with -g for the line: no writable byte", done.stderr)
+        self.assertIn("  ./aprof contexts -o contexts.txt bubble\n  ./aprof show --open contexts.txt\n", done.stderr)
+        done = self.run_words("contexts -o r bubble", 5, FAKE_STORED=FAULT)
+        self.assertIn("the calls that were open: ./aprof show --open r\n", done.stderr)
+        trace = "aprof trace 1\\n\\x0a\\x01\\x04\\0\\0\\0\\x01\\0\\0\\0\\x80\\x11\\x01\\0"
+        done = self.run_words("trace -o r bubble", 5, FAKE_STORED=trace)
+        self.assertIn("aprof: in bubble_sort;", done.stderr)
+        done = self.run_words("run -o /dev/null bubble", 5)
+        self.assertIn("aprof: `llvm-symbolizer --obj=IMAGE", done.stderr)
+
+    def test_numbers_of_the_text(self) -> None:
+        """The row of README's table, the line of a schedule and what is wrong with a trace."""
+        done = self.run_words("run -o r text", 3, FAKE_TEXT="image 7")
+        self.assertIn("aprof: the file is for another processor; what mends it: --target=riscv32\n", done.stderr)
+        (self.folder / "turns").write_text("1 10\nx\n")
+        done = self.run_words("run --schedule turns -o r bubble", 9, FAKE_TEXT="schedule 2")
+        self.assertIn("aprof: line 2 of turns is 'x', and not of the form TID STEPS, as 1 10000\n", done.stderr)
+        done = self.run_words("run --schedule turns -o r bubble", 9, FAKE_TEXT="schedule")
+        self.assertIn("it is the schedule of another run", done.stderr)
+        done = self.run_words("replay -o r text", 13, FAKE_TEXT="trace 1")
+        self.assertIn("aprof: text is no trace that `aprof trace` stored: its first line is another\n", done.stderr)
+
+    def test_tables(self) -> None:
+        """README has the same tables."""
+        rows = re.findall(r"^\| ([0-9][0-9a-z, ]*) \| (.*?) \| (.*?) \|$", (ROOT / "README.md").read_text(), re.MULTILINE)
+        texts = {(what.replace("`", ""), cure.replace("`", "")) for _, what, cure in rows}
+        for numbers, what, cure in tables.IMAGES:
+            self.assertIn((what, cure), texts, numbers)
+        self.assertEqual(sorted(number for numbers, _, _ in tables.IMAGES for number in numbers), list(range(1, 19)))
+
+    def test_help(self) -> None:
+        whole = self.run_words("help")
+        for words in ("", "help", "-h", "--help"):
+            done = self.run_words(words)
+            self.assertEqual((done.returncode, done.stdout, done.stderr), (0, whole.stdout, ""))
+        done = self.run_words("--version")
+        self.assertEqual(done.returncode, 0)
+        self.assertTrue(done.stdout.startswith("aprof ") and done.stdout.endswith(whole.stdout))
+        for command in COMMANDS:
+            self.assertIn(f"  {command.name} ", whole.stdout)
+            for words in (f"help {command.name}", f"{command.name} --help", f"{command.name} -o r x -h"):
+                done = self.run_words(words)
+                self.assertEqual((done.returncode, done.stderr), (0, ""))
+                self.assertTrue(done.stdout.startswith(f"usage: aprof {command.name} "))
+                self.assertLessEqual(max(map(len, done.stdout.splitlines())), 84)
+        self.assertIn("show [options] REPORT", self.run_words("help show").stdout)
+
+    def test_show(self) -> None:
+        done = self.run_words(["show", str(ROOT / "examples/bubble/report.txt")])
+        self.assertEqual(done.returncode, 0)
+        self.assertIn("bubble_sort", done.stdout)
+
+
+if __name__ == "__main__":
+    unittest.main()
