@@ -1,7 +1,6 @@
 -- How the output and the files of a run are handed out, by how its run ended.
 use Rattle.std.proofs.Common.{◌≡◌, ℕ, ◌<◌, Bool, true, false, List, [], ◌∷◌, ◌++◌, Option, Some, None, length, take, drop, refl, sym, ap, subst, ◌∙◌, append_assoc, inr, arith}
 use Rattle.std.specs.Prelude.{◌==◌}
-use Rattle.std.specs.Io.KnownBytes.{append_known}
 use Rattle.std.proofs.lemmas.Bool.Decides.{nat_tests}
 use Rattle.std.proofs.lemmas.List.{take-append-drop}
 use Rattle.host_io.specs.Files.{FilesState}
@@ -10,7 +9,6 @@ use Rattle.guest_run.specs.declared.run_error.Channel.TheVariants as channel
 use Rattle.guest_run.specs.Output.{FailsToPut, Sinks, with_output}
 use Rattle.guest_run.specs.Run.{Move, bytes_on, sent}
 use Rattle.guest_run.specs.RunEnds.{IsGivenUp, StopsAtPut}
-use Rattle.guest_run.proofs.Output.{appended-more}
 use Rattle.aprof_top.specs.Delivery.{FailsOnErr, FailsOnOut, FailsWithin, PutsOutput, StopsShort}
 use Rattle.aprof_top.specs.Outcome.{Outcome, Write, put_on, with_write, writes_of}
 use Rattle.aprof_top.specs.Outside.{outside}

@@ -5,7 +5,6 @@ use Rattle.std.specs.List.{AllByRecursion, list_any}
 use Rattle.std.proofs.lemmas.Bool.Decides.{nat_tests}
 use Rattle.std.proofs.lemmas.List.{length-replicate}
 use Rattle.std.proofs.lemmas.List.Sums.{sum_by-cons}
-use Rattle.host_io.specs.Faults.{Rose}
 use Rattle.host_io.specs.Files.{Contents, FailsAt, FilesState, GivesFile, Holds, HoldsMore, ExceedsLimit}
 use Rattle.aprof_top.specs.Limits.{file_limit, inputs_limit}
 use Rattle.aprof_top.specs.Loading.{AreLoaded, FailsToLoad, IsLoading, PassesLimit}

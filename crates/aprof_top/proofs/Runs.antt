@@ -1,5 +1,5 @@
 -- What the run of a command's files comes to.
-use Rattle.std.proofs.Common.{◌≡◌, IfSome, Ok, arith, ℕ, Bool, List, [], length, Option, Some, None, Result, Err, ◌≤◌, ◌+◌, refl, sym, ap, ap₂, ◌∙◌, ◌⊎◌, subst, inl, inr}
+use Rattle.std.proofs.Common.{◌≡◌, IfSome, Ok, arith, ℕ, Bool, List, [], Option, Some, None, Result, Err, ◌≤◌, ◌+◌, refl, sym, ap, ap₂, ◌∙◌, ◌⊎◌, subst, inl, inr}
 use Rattle.std.proofs.lemmas.List.{append-nil}
 use Rattle.std.specs.List.{AllByRecursion}
 use Rattle.guest_words.specs.declared.limits.TheConstants.{RUN_STEPS}

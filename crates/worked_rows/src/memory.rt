@@ -5,7 +5,7 @@ use guest_words::Rights;
 use std::alloc::Global;
 
 // What a call on the memory gives.
-fn text_of<T>(alloc: Global, answer: Result<T, MemError>) -> Result<String> {
+fn text_of<T: Drop>(alloc: Global, answer: Result<T, MemError>) -> Result<String> {
     match answer {
         Ok(_) => Ok(String::from_str(alloc, "done")?),
         Err(refusal) => Ok(format!(in alloc; "{refusal:?}")?),

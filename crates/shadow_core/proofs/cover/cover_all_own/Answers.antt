@@ -5,7 +5,6 @@ use Rattle.stamp_renumber.specs.LentThread.{with_pages}
 use Rattle.stamp_renumber.specs.Threads.{frames_of}
 use Rattle.shadow_core.specs.Reading.{IsChanged}
 use Rattle.shadow_core.proofs.Reading.{lent_changed, pages_changed}
-use Rattle.stamp_renumber.specs.Threads.{pages_of}
 use Rattle.shadow_core.proofs.cover.cover_all_own.Goals as goal
 
 pub returns-clause-changed : goal.returns-clause-changed

@@ -1,4 +1,4 @@
-use Rattle.std.proofs.Common.{◌≡◌, ◌∙◌, List, [], Some, None, true, ap, length, sym}
+use Rattle.std.proofs.Common.{◌≡◌, ◌∙◌, [], None, true, ap, length, sym}
 use Rattle.std.specs.Prelude.{is_some}
 use Rattle.std.specs.Option.{option_copied, option_map_or}
 use Rattle.guest_words.specs.ByThread.{value_of}
