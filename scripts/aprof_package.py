@@ -44,7 +44,7 @@ Maintainer: {maintainer}
 Installed-Size: {size}
 Depends: {depends}
 Recommends: libjs-chart.js
-Suggests: binutils, clang, lld, llvm, make, parallel
+Suggests: binutils, clang, lld, llvm, make, parallel, xz-utils
 Section: devel
 Priority: optional
 Description: proved input-sensitive profiler

@@ -15,7 +15,7 @@ need_tools() {
   shift
   for tool; do
     if ! command -v "$tool" > /dev/null; then
-      echo "$script: $tool is missing; it is in Debian's packages: apt-get install clang lld llvm make" >&2
+      echo "$script: $tool is missing; it is in Debian's packages: apt-get install clang lld llvm make xz-utils" >&2
       exit 1
     fi
   done
