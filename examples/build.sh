@@ -1,6 +1,7 @@
 #!/usr/bin/env bash
 # Builds a guest without a C library, with clang and ld.lld: `build.sh program.c [more.c ...]` makes `program` beside the first
-# file, which may be assembly. The compiler's own library (64-bit division, floats) is taken from examples/musl, where it was set up.
+# file, which may be assembly. The compiler's own library (64-bit division, floats) is taken from examples/musl, where it was
+# set up.
 set -eu
 if [ $# -eq 0 ]; then
   echo "usage: build.sh PROGRAM.c|PROGRAM.s [MORE ...]" >&2

@@ -96,7 +96,8 @@ def missing(tool: str) -> str:
         library = TOP / "examples" / "musl" / "library" / "lib" / "libc.a"
         return "" if library.exists() else "no C library (examples/musl/setup.sh)"
     if tool == "chart.js":
-        return "" if Path("/usr/share/javascript/chart.js/chart.min.js").exists() else "no Chart.js (Debian's package libjs-chart.js)"
+        chart = Path("/usr/share/javascript/chart.js/chart.min.js")
+        return "" if chart.exists() else "no Chart.js (Debian's package libjs-chart.js)"
     name = re.sub("-[0-9.]+$", "", tool)
     version = tool[len(name) + 1 :]
     if shutil.which(name) is None:

@@ -7,7 +7,9 @@ from collections.abc import Sequence
 
 from aprof_show.model import Routine
 
-OPERATOR = re.compile(r"\boperator(\(\)|\[\]| new\[\]| delete\[\]| new| delete|<=>|<<=|>>=|->\*|->|[-+*/%^&|!=<>~,]{1,2}| [^(<]*)?")
+OPERATOR = re.compile(
+    r"\boperator(\(\)|\[\]| new\[\]| delete\[\]| new| delete|<=>|<<=|>>=|->\*|->|[-+*/%^&|!=<>~,]{1,2}| [^(<]*)?"
+)
 
 
 def brief_of(name: str) -> str:
