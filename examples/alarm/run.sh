@@ -2,8 +2,9 @@
 # Profiles the guest, and compares its output with output.txt, the report with report.txt, and what `show` makes of it.
 set -eu
 cd "$(dirname "$0")"
+PATH=../..:$PATH  # a clone has aprof there
 mkdir -p out
-../../aprof run -o out/report.txt alarm > out/output.txt
+aprof run -o out/report.txt alarm > out/output.txt
 diff output.txt out/output.txt
 diff report.txt out/report.txt
-../../show out/report.txt | diff show.txt -
+aprof show out/report.txt | diff show.txt -

@@ -2,7 +2,8 @@
 # Profiles the guest, and compares the report with report.txt, and what `show` makes of it.
 set -eu
 cd "$(dirname "$0")"
+PATH=../..:$PATH  # a clone has aprof there
 mkdir -p out
-../../aprof run -o out/report.txt bubble
+aprof run -o out/report.txt bubble
 diff report.txt out/report.txt
-../../show out/report.txt | diff show.txt -
+aprof show out/report.txt | diff show.txt -

@@ -3,9 +3,10 @@
 # and what `show` makes of the first.
 set -eu
 cd "$(dirname "$0")"
+PATH=../..:$PATH  # a clone has aprof there
 mkdir -p out
-../../aprof cache --sets 16 --ways 4 --line 64 -o out/small.txt matrix
+aprof cache --sets 16 --ways 4 --line 64 -o out/small.txt matrix
 diff small.txt out/small.txt
-../../aprof cache --sets 64 --ways 4 --line 64 -o out/large.txt matrix
+aprof cache --sets 64 --ways 4 --line 64 -o out/large.txt matrix
 diff large.txt out/large.txt
-../../show out/small.txt | diff show.txt -
+aprof show out/small.txt | diff show.txt -

@@ -3,8 +3,9 @@
 # `show` makes of it.
 set -eu
 cd "$(dirname "$0")"
+PATH=../..:$PATH  # a clone has aprof there
 mkdir -p out
-../../aprof run -o out/report.txt words text-60.txt text-120.txt text-240.txt text-480.txt text-960.txt > out/output.txt
+aprof run -o out/report.txt words text-60.txt text-120.txt text-240.txt text-480.txt text-960.txt > out/output.txt
 diff output.txt out/output.txt
 diff report.txt out/report.txt
-../../show out/report.txt | diff show.txt -
+aprof show out/report.txt | diff show.txt -

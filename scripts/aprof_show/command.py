@@ -7,6 +7,7 @@ import os
 import sys
 from collections.abc import Sequence
 from difflib import get_close_matches
+from pathlib import Path
 
 from aprof_show.against import above, above_text, against_text
 from aprof_show.cache import cache_text
@@ -14,6 +15,7 @@ from aprof_show.data import csv_text, json_text
 from aprof_show.detail import detail
 from aprof_show.joining import CannotJoin, join, join_caches
 from aprof_show.model import CacheReport, Context, Profile, Report, Routine
+from aprof_show.names import shorten
 from aprof_show.options import choice_of, parser
 from aprof_show.plot import plot
 from aprof_show.reading import BadReport, read_file
@@ -63,6 +65,7 @@ def run(options: argparse.Namespace) -> int:
     lines = name_by_image(reports, options.image) if options.image else {}
     profile = joined(reports)
     demangle(profile.routines)
+    shorten(profile.routines)
     rows = rows_of(profile)
     if options.by == "self":
         roots_of(profile)
@@ -74,7 +77,18 @@ def run(options: argparse.Namespace) -> int:
 
 
 def read_all(paths: Sequence[str]) -> list[Report | CacheReport]:
-    return [read_file(path) for path in paths]
+    return [read_file(file) for path in paths for file in files_of(path)]
+
+
+def files_of(path: str) -> list[str]:
+    """The path itself, or the files of a folder in the order of their names."""
+    if not os.path.isdir(path):
+        return [path]
+    entries = sorted(Path(path).iterdir())
+    files = [str(entry) for entry in entries if entry.is_file() and not entry.name.startswith(".")]
+    if not files:
+        raise Refused(f"{path}: no file in this folder")
+    return files
 
 
 def joined(reports: Sequence[Report | CacheReport]) -> Profile:
@@ -93,6 +107,7 @@ def caches_text(reports: Sequence[Report | CacheReport], options: argparse.Names
     if options.image:
         name_routines(routines, read_symbols(options.image), options.image)
     demangle(routines)
+    shorten(routines)
     return cache_text(cache, choice_of(options), width(), {routine.entry: routine.label for routine in routines})
 
 
@@ -179,8 +194,9 @@ def write_page(path: str, profile: Profile, lines: dict[int, str]) -> None:
 
 
 def compare(options: argparse.Namespace, new: Profile, new_rows: Sequence[Row], names: Sequence[str]) -> int:
-    old = joined([read_file(options.against)])
+    old = joined(read_all([options.against]))
     demangle(old.routines)
+    shorten(old.routines)
     old_rows = rows_of(old)
     print_lines(against_text(old_rows, new_rows, (old.steps, new.steps), choice_of(options), width()))
     return judge(new_rows, options, names) if options.fail_above is not None else 0

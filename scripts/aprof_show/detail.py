@@ -15,9 +15,11 @@ from aprof_show.terminal import Column, about, factor_text, percent, plural, sho
 def detail(row: Row, room: int, place: str | None = None) -> list[str]:
     """The growth of a routine in words, and a line for each doubling. `place` is its file and line."""
     routine = row.routine
+    lines = [f"{routine.label} at {routine.entry:08x}{f' in {place}' if place else ''}"]
+    if routine.brief:
+        lines.append(f"in full {routine.shown}")
     calls = f"{plural(routine.calls, 'call')}, {plural(len(routine.points), 'size')}"
     own = f", self {percent(row.own)}" if row.own is not None else ""
-    lines = [f"{routine.label} at {routine.entry:08x}{f' in {place}' if place else ''}"]
     lines.append(f"{calls}, {share_text(row)} of the steps{own}")
     if not routine.points:
         return [*lines, "no call of it had returned at the end"]

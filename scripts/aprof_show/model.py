@@ -34,7 +34,7 @@ class Point:
 class Routine:
     """A routine with its points, sizes rising. A routine whose calls had all not returned has no point.
 
-    `shown` is the name as people write it (demangled, or from `--image`). `apart` tells apart what has the same label: the
+    `shown` is the name as people write it (demangled, or from `--image`), and `brief` a shorter one where that is enough. `apart` tells apart what has the same label: the
     address of a static function, or the report of a routine without a name.
     """
 
@@ -42,16 +42,17 @@ class Routine:
     name: str | None
     points: list[Point] = field(default_factory=list)
     shown: str | None = None
+    brief: str | None = None
     apart: str | None = None
 
     @property
     def label(self) -> str:
-        label = self.shown or self.name or f"{self.entry:08x}"
+        label = self.brief or self.shown or self.name or f"{self.entry:08x}"
         return f"{label} ({self.apart})" if self.apart else label
 
     def is_called(self, word: str) -> bool:
         """Whether a person may mean this routine by `word`: its name in any spelling, or its address."""
-        return word in (self.name, self.shown, self.label, f"{self.entry:08x}")
+        return word in (self.name, self.shown, self.brief, self.label, f"{self.entry:08x}")
 
     @property
     def calls(self) -> int:

@@ -39,7 +39,7 @@ def parser() -> argparse.ArgumentParser:
         allow_abbrev=False,
     )
     add = result.add_argument
-    add("words", metavar="REPORT | ROUTINE", nargs="*", help="a file, or a routine's name or address")
+    add("words", metavar="REPORT | ROUTINE", nargs="*", help="a file, a folder of such files, or a routine's name or address")
     add("--routine", metavar="NAME", action="append", default=[], help="this routine alone; may be repeated")
     add("--all", action="store_true", help="all routines")
     add("--min", metavar="PERCENT", type=share, help="routines of at least so much; without it 1, and all superlinear ones")
@@ -47,7 +47,7 @@ def parser() -> argparse.ArgumentParser:
     add("--by", choices=ORDERS, help="another order")
     add("--library", action="store_true", help="routines of the C library too, each in its own line")
     add("--image", metavar="IMAGE", help="the executable: for names, files and lines")
-    add("--against", metavar="OLD", help="compare with this earlier report")
+    add("--against", metavar="OLD", help="compare with this earlier report, or a folder of them")
     add("--fail-above", metavar="FACTOR", type=factor, help="status 1 where a growth is above FACTOR and certain")
     add("--plot", action="store_true", help="a chart of the routine")
     what = result.add_mutually_exclusive_group()

@@ -28,7 +28,8 @@ MISTAKES: list[tuple[list[str], int, str]] = [
     ([WORDS, "--routine", "nope"], 2, "show: no file and no routine called nope"),
     ([WORDS, "--fail-above", "9", "nope"], 2, "show: no file and no routine called nope"),
     (["--callers", "nope", CONTEXTS], 2, "show: no file and no routine called nope"),
-    (["rows"], 2, "show: rows: Is a directory"),
+    (["crates"], 2, "show: crates: no file in this folder"),
+    (["rows/two-ways-to-a-routine"], 2, "show: rows/two-ways-to-a-routine/code.s:1: not a report of aprof"),
     (["README.md"], 2, "show: README.md:1: not a report of aprof"),
     ([WORDS, CACHE], 2, "show: reports of `aprof cache` can't be joined with others"),
     ([CACHE, WORDS], 2, "show: reports of `aprof cache` can't be joined with others"),
@@ -190,6 +191,14 @@ class Against(unittest.TestCase):
             self.assertEqual(text[0], "6344 steps before, 11676 after")
             self.assertEqual(text[1].split(), "GROWTH NOW SHARE NOW COST NOW ROUTINE".split())
             self.assertEqual(text[2].split(), "x2.0 x4.0 2.0% 46.7% 64 4096 look_up".split())
+            folder_of = [path.with_name(f"{path.name}-runs") for path in paths]
+            for path, runs in zip(paths, folder_of):
+                runs.mkdir()
+                (runs / ".hidden").write_text("")
+                for number in "12":
+                    (runs / number).write_bytes(path.read_bytes())
+            text = show("--against", *map(str, folder_of)).splitlines()
+            self.assertEqual(text[0], "12688 steps before, 23352 after")
             same = show("--against", WORDS, WORDS)
             self.assertIn("of the same growth, share and cost", same)
             self.assertIn("look_up", show("--against", *map(str, paths), "--fail-above", "3", status=1))

@@ -8,6 +8,7 @@ import unittest
 from pathlib import Path
 
 from aprof_show.model import Routine
+from aprof_show.names import brief_of, shorten
 from aprof_show.source import DEMANGLERS, SYMBOLIZERS, BadImage, demangle, lines_of_image, name_routines, read_symbols
 from tests.samples import ROOT, stored
 
@@ -51,7 +52,28 @@ class Names(unittest.TestCase):
         self.assertEqual(routines[1].label, "main")
         self.assertIn("mycrate", routines[2].label)
         self.assertEqual(routines[3].label, "_Zbad")
-        self.assertTrue(routines[0].is_called("_ZN5store3getEi") and routines[0].is_called("store::get(int)"))
+        shorten(routines)
+        self.assertEqual([routine.label for routine in routines][::3], ["store::get", "_Zbad"])
+        for name in ("_ZN5store3getEi", "store::get(int)", "store::get"):
+            self.assertTrue(routines[0].is_called(name))
+
+    def test_short_names(self) -> None:
+        for name, brief in (
+            ("operator delete[](void*)", "operator delete[]"),
+            ("std::__1::vector<int, std::__1::allocator<int> >::operator[](unsigned int) const", "std::vector<>::operator[]"),
+            ("void std::__1::sort<int*>(int*, int*)", "std::sort<>"),
+            ("bool std::__1::operator==<char>(std::__1::basic_string<char> const&, int)", "std::operator==<>"),
+            ("std::__1::function<void (int)>::operator()(int) const", "std::function<>::operator()"),
+            ("(anonymous namespace)::f(int)", "f"),
+            ("a::operator->() const", "a::operator->"),
+            ("Box<(3>2)>::~Box()", "Box<(3>2)>::~Box()"),
+        ):
+            self.assertEqual(brief_of(name), brief)
+
+    def test_a_short_name_of_two_routines_is_not_used(self) -> None:
+        routines = [Routine(1, "_Z3addi", shown="add(int)"), Routine(2, "_Z3addd", shown="add(double)"), Routine(3, "sub")]
+        shorten(routines)
+        self.assertEqual([routine.label for routine in routines], ["add(int)", "add(double)", "sub"])
 
 
 @unittest.skipUnless(shutil.which("clang") and shutil.which("ld.lld"), "no clang and lld to build an image by")
