@@ -86,4 +86,11 @@ STEPS = {
 
 
 def main(words: list[str]) -> int:
-    return STEPS[words[0]](words[1:])
+    try:
+        status = STEPS[words[0]](words[1:])
+        sys.stdout.flush()
+        return status
+    except BrokenPipeError:
+        # Who reads it has enough, as `head`. What is left is dropped, so that Python doesn't flush it again at its end.
+        os.dup2(os.open(os.devnull, os.O_WRONLY), sys.stdout.fileno())
+        return 0

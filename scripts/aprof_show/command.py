@@ -4,6 +4,7 @@ from __future__ import annotations
 import argparse
 import io
 import os
+import re
 import sys
 from collections.abc import Sequence
 from difflib import get_close_matches
@@ -81,10 +82,10 @@ def read_all(paths: Sequence[str]) -> list[Report | CacheReport]:
 
 
 def files_of(path: str) -> list[str]:
-    """The path itself, or the files of a folder in the order of their names."""
+    """The path itself, or the files of a folder by name, where 400 comes before 1600."""
     if not os.path.isdir(path):
         return [path]
-    entries = sorted(Path(path).iterdir())
+    entries = sorted(Path(path).iterdir(), key=lambda entry: re.sub("[0-9]+", lambda digits: digits[0].zfill(20), entry.name))
     files = [str(entry) for entry in entries if entry.is_file() and not entry.name.startswith(".")]
     if not files:
         raise Refused(f"{path}: no file in this folder")
