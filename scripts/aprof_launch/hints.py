@@ -12,6 +12,7 @@ from aprof_launch.outputs import refusals
 from aprof_launch.places import has_reader, is_full, why_unread
 from aprof_launch.usage import called, usage
 from aprof_launch.words import Words
+from aprof_show.library import musl_names
 
 MIB = 1 << 20
 FILE_LIMIT, INPUT_LIMIT, TRACE_LIMIT, ARGUMENT_LIMIT = 16 * MIB, 64 * MIB, 64 * MIB, 64 << 10
@@ -83,7 +84,10 @@ class Hints:
             return ["`llvm-symbolizer --obj=IMAGE 0xADDRESS` names the routine, and with -g the line", *self.chain()]
         found = ends.place_of(self.image(), fault.at)
         place = f"in {found.routine or 'a routine without a name'}"
-        place += f", {found.line}" if found.line else "; build with -g for the line"
+        if found.routine in musl_names() and not found.line:
+            place += ", of the C library"
+        else:
+            place += f", {found.line}" if found.line else "; build with -g for the line"
         return [f"{place}: {tables.FAULTS.get(fault.kind, '')}", *self.chain()]
 
     def words_of_contexts(self) -> str:
@@ -100,9 +104,10 @@ class Hints:
 
     def chain(self) -> list[str]:
         """The commands that show which calls were open."""
-        if self.name == "contexts" and os.path.isfile(self.output):
-            return [f"the calls that were open: {shlex.join([called(), 'show', '--open', self.output])}"]
-        show = shlex.join([called(), "show", "--open", "contexts.txt"])
+        is_stored = self.name == "contexts" and os.path.isfile(self.output)
+        show = shlex.join([called(), "show", "--open", "--image", self.image(), self.output if is_stored else "contexts.txt"])
+        if is_stored:
+            return [f"the calls that were open: {show}"]
         return ["the calls that were open:", f"  {self.words_of_contexts()}", f"  {show}"]
 
     def budget(self) -> list[str]:
@@ -110,7 +115,8 @@ class Hints:
         return [f"the run was ended after {steps} steps, and what is stored is of these: --budget N takes more", *self.chain()]
 
     def deadlock(self) -> list[str]:
-        return ["all threads wait for one another; what is stored is of the run so far", *self.chain()]
+        waits = "no thread can go on: each waits for a lock, a signal or another's end"
+        return [f"{waits}; what is stored is of the run so far", *self.chain()]
 
     def too_deep(self) -> list[str]:
         bits = self.read.values.get("--stamps", "32")
@@ -121,13 +127,16 @@ class Hints:
         path = self.read.values.get("--schedule", "")
         number = self.asked_again("run", "--budget", "1", "--schedule", path, "-o", "/dev/null", "--", self.image())
         if number is None:
-            return [f"the thread of that line of {path} can't run then: it is the schedule of another run; record it anew"]
+            other = f"it is the schedule of another run ({OTHER_RUNS})"
+            return [f"the thread of that line of {path} can't run then: {other}; record it anew"]
         try:
             with open(path, "rb") as file:
                 line = file.read().split(b"\n")[number - 1][:60].decode(errors="replace")
         except (OSError, IndexError):
             line = ""
-        return [f"line {number} of {path} is {line!r}, and not of the form TID STEPS, as 1 10000"]
+        if re.fullmatch("([2-9]|[12][0-9]|3[0-2]) [1-9][0-9]*", line):
+            return [f"line {number} of {path} is {line!r}, and a run begins with thread 1"]
+        return [f"line {number} of {path} is {line!r}, and not of the form TID STEPS, as 1 10000: two numbers and one space"]
 
     def memory(self) -> list[str]:
         return ["this machine has too little memory free; `ulimit -v` may bound it too"]
@@ -150,5 +159,6 @@ class Hints:
         return [f"{self.image()} is no trace that `aprof trace` stored: {text}"] if text else []
 
 
+OTHER_RUNS = "of other words or input, of another build, or of the image by another path"
 CONTEXT_OPTIONS = ("--stdin", "--quantum", "--schedule", "--budget", "--stamps")
 LIMITS = "limits: 16 MiB a file, 64 MiB of inputs, 56 MiB of image, 64 MiB of trace, 64 KiB of arguments, 4294967294 contexts"

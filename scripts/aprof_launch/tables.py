@@ -21,8 +21,8 @@ NO_START = "17 comes also where there is no `_start`: link a C library, or inclu
 FAULTS = {
     1: "no instruction of RV32IMA",
     2: "no code there",
-    3: "no readable byte",
-    4: "no writable byte (a recursion whose stack is full; musl's `abort` and a failed `assert` too)",
+    3: "no readable byte (a null pointer, or one that is wrong)",
+    4: "no writable byte (a null pointer, a recursion whose stack is full, musl's `abort` or a failed `assert`)",
     5: "a jump that is not aligned",
     6: "an atomic operation that is not aligned",
     7: "EBREAK",

@@ -98,7 +98,9 @@ def read_option(read: Words, command: Command, word: str, left: list[str]) -> st
 def no_option(command: Command, word: str, name: str) -> str:
     others = [other.name for other in COMMANDS if other.option(name)]
     if others:
-        return f"{name} is an option of {' and '.join(others)}, not of {command.name}"
+        takes_turns = name == "--record" and command.option("--schedule")
+        instead = "; store the turns there, and take them here by --schedule" if takes_turns else ""
+        return f"{name} is an option of {' and '.join(others)}, not of {command.name}{instead}"
     near = nearest(name, [option.name for option in command.options])
     return f"no option {word}{near}" + ("" if near else f"; for an argument of the program write ={word}")
 

@@ -42,11 +42,11 @@ HINTS: Sequence[tuple[str, int, Sequence[str]]] = (
     ("run -o r --stdin none bubble", 2, ["aprof: none: no such file\n"]),
     ("run -o r bubble =1", 4, ["no room"]),
     ("run -o r bubble =1", 6,
-     ["ended after 1000000000 steps", "./aprof contexts -o contexts.txt bubble =1\n", "./aprof show --open contexts.txt\n"]),
+     ["ended after 1000000000 steps", "./aprof contexts -o contexts.txt bubble =1\n", "./aprof show --open --image bubble contexts.txt\n"]),
     ("run --budget 9 --record k --stats -o r bubble", 6,
      ["after 9 steps", "contexts --budget 9 --schedule k -o contexts.txt bubble\n"]),
-    ("contexts -o bubble.txt bubble", 6, ["./aprof show --open contexts.txt"]),
-    ("cache --sets 4 --ways 4 --line 64 -o r bubble", 7, ["all threads wait", "./aprof contexts -o contexts.txt bubble\n"]),
+    ("contexts -o bubble.txt bubble", 6, ["./aprof show --open --image bubble contexts.txt"]),
+    ("cache --sets 4 --ways 4 --line 64 -o r bubble", 7, ["no thread can go on", "./aprof contexts -o contexts.txt bubble\n"]),
     ("run --stamps 8 -o r bubble", 8, ["--stamps 8 tells at most 84 open calls apart: leave it out\n"]),
     ("run -o r bubble", 10, ["too little memory free"]),
     ("run -o r bubble", 11, ["limits: 16 MiB a file"]),
@@ -80,9 +80,9 @@ class Words(Launched):
         """The routine of the address, and for `run` the command that names the chain."""
         done = self.run_words("run -o r bubble", 5, FAKE_STORED=FAULT)
         self.assertIn("aprof: in bubble_sort; build with -g for the line: no writable byte", done.stderr)
-        self.assertIn("  ./aprof contexts -o contexts.txt bubble\n  ./aprof show --open contexts.txt\n", done.stderr)
+        self.assertIn("  ./aprof contexts -o contexts.txt bubble\n  ./aprof show --open --image bubble contexts.txt\n", done.stderr)
         done = self.run_words("contexts -o r bubble", 5, FAKE_STORED=FAULT)
-        self.assertIn("the calls that were open: ./aprof show --open r\n", done.stderr)
+        self.assertIn("the calls that were open: ./aprof show --open --image bubble r\n", done.stderr)
         trace = "aprof trace 1\\n\\x0a\\x01\\x04\\0\\0\\0\\x01\\0\\0\\0\\x80\\x11\\x01\\0"
         done = self.run_words("trace -o r bubble", 5, FAKE_STORED=trace)
         self.assertIn("aprof: in bubble_sort;", done.stderr)
@@ -95,7 +95,10 @@ class Words(Launched):
         self.assertIn("aprof: the file is for another processor; what mends it: --target=riscv32\n", done.stderr)
         (self.folder / "turns").write_text("1 10\nx\n")
         done = self.run_words("run --schedule turns -o r bubble", 9, FAKE_TEXT="schedule 2")
-        self.assertIn("aprof: line 2 of turns is 'x', and not of the form TID STEPS, as 1 10000\n", done.stderr)
+        self.assertIn("aprof: line 2 of turns is 'x', and not of the form TID STEPS, as 1 10000: two numbers and one space\n", done.stderr)
+        (self.folder / "turns").write_text("2 10\n")
+        done = self.run_words("run --schedule turns -o r bubble", 9, FAKE_TEXT="schedule 1")
+        self.assertIn("aprof: line 1 of turns is '2 10', and a run begins with thread 1\n", done.stderr)
         done = self.run_words("run --schedule turns -o r bubble", 9, FAKE_TEXT="schedule")
         self.assertIn("it is the schedule of another run", done.stderr)
         done = self.run_words("replay -o r text", 13, FAKE_TEXT="trace 1")
