@@ -8,7 +8,7 @@ from itertools import groupby
 from aprof_show.growth import Growth, factor_of, slope_between
 from aprof_show.model import Point
 from aprof_show.rows import Row
-from aprof_show.table import growth_text, projected, share_text
+from aprof_show.table import cause_text, growth_text, projected, share_text
 from aprof_show.terminal import Column, about, factor_text, percent, plural, short, table
 
 
@@ -21,6 +21,8 @@ def detail(row: Row, room: int, place: str | None = None) -> list[str]:
     calls = f"{plural(routine.calls, 'call')}, {plural(len(routine.points), 'size')}"
     own = f", self {percent(row.own)}" if row.own is not None else ""
     lines.append(f"{calls}, {share_text(row)} of the steps{own}")
+    if row.cause:
+        lines.append(f"of its cost {cause_text(row.cause)} from here")
     if not routine.points:
         return [*lines, "no call of it had returned at the end"]
     lines += growth_lines(row, row.growth) if row.growth else ["one size other than 0: nothing to tell of growth"]

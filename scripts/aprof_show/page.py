@@ -20,7 +20,7 @@ from aprof_show.rows import Row, ordered, rows_of
 LIBRARY = Path("/usr/share/javascript/chart.js/chart.min.js")
 SOURCES = Path(__file__).parent / "page"
 SCRIPTS = ("format.js", "data.js", "points.js", "axes.js", "charts.js", "pointer.js", "detail.js", "table.js",
-           "contexts.js", "tree.js", "main.js")
+           "contexts.js", "callees.js", "tree.js", "main.js")
 CHEAP = 0.01
 
 Json = dict[str, Any]
@@ -60,14 +60,15 @@ def library() -> str:
 
 def json_of(profile: Profile, lines: dict[int, str]) -> Json:
     rows = ordered(rows_of(profile), None)
+    places = places_of(rows)
     return {
         "reports": [report_json(report) for report in profile.reports],
         "steps": profile.steps,
         "open": profile.still_open,
-        "routines": [row_json(row, lines.get(row.routine.entry)) for row in rows],
+        "routines": [row_json(row, lines.get(row.routine.entry), places) for row in rows],
         "chains": chains_json(profile.roots or []),
         "contexts": None if profile.roots is None else contexts_json(profile.roots, rows),
-        "callers": callers_json(profile.roots or [], places_of(rows)),
+        "callers": callers_json(profile.roots or [], places),
     }
 
 
@@ -79,7 +80,7 @@ def report_json(report: Report) -> Json:
     return {"path": report.path, "end": report.end, "steps": report.steps, "open": report.still_open}
 
 
-def row_json(row: Row, line: str | None) -> Json:
+def row_json(row: Row, line: str | None, places: Places) -> Json:
     routine, growth = row.routine, row.growth
     return {
         "name": routine.label,
@@ -94,6 +95,7 @@ def row_json(row: Row, line: str | None) -> Json:
         # at least so much where calls were open, at most where nested calls were counted each
         "bound": "≥" if row.open else "" if row.exact else "≤",
         "self": row.own,
+        "cause": [places[row.cause.routine], round(row.cause.part, 4), row.cause.calls] if row.cause else None,
         "cheap": row.share < CHEAP and not row.superlinear and not row.open,
         "library": row.library,
         "calls": routine.calls,
@@ -102,7 +104,7 @@ def row_json(row: Row, line: str | None) -> Json:
 
 
 def factor_json(growth: Growth | None) -> float | None:
-    return round(growth.factor, 3) if growth else None
+    return round(growth.factor, 6) if growth else None
 
 
 def columns_of(points: Sequence[Point]) -> list[Any]:

@@ -6,6 +6,7 @@ from collections.abc import Sequence
 from dataclasses import dataclass
 from textwrap import wrap
 
+from aprof_show.causes import Cause
 from aprof_show.costs import chain_of, chain_text, costs_of, open_ends
 from aprof_show.growth import Growth
 from aprof_show.model import Profile, Routine
@@ -53,7 +54,7 @@ def summary(profile: Profile, rows: Sequence[Row], choice: Choice, room: int) ->
     hidden = len(others) - len(listed)
     lines = head(profile) + open_lines(profile, room)
     if listed:
-        lines += table(columns_of(listed, room), room)
+        lines += with_causes(table(columns_of(listed, room), room), listed, room)
     if any(row.growth and row.growth.weak for row in listed):
         lines.append("~ few sizes, or sizes within a factor of 4: the growth is uncertain")
     if folded:
@@ -61,6 +62,27 @@ def summary(profile: Profile, rows: Sequence[Row], choice: Choice, room: int) ->
     if hidden:
         lines.append(hidden_line([row for row in others if row not in listed]))
     return lines + stripped_lines(profile)
+
+
+def with_causes(lines: Sequence[str], rows: Sequence[Row], room: int) -> list[str]:
+    """The lines of a table of rows, with the cause of the first one and of those that are superlinear: behind the name, or below."""
+    place = lines[0].index(" ROUTINE") + 1
+    told = [lines[0]]
+    for number, (line, row) in enumerate(zip(lines[1:], rows)):
+        told.append(line)
+        if row.cause is None or (number and (row.uncertain or not row.superlinear)):
+            continue
+        text = f"({cause_text(row.cause)})"
+        if len(line) + 2 + len(text) <= room:
+            told[-1] = f"{line}  {text}"
+        else:
+            told.append(" " * max(min(place + 2, room - len(text)), 0) + text)
+    return told
+
+
+def cause_text(cause: Cause) -> str:
+    """The part is of the calling routine's cost."""
+    return f"{100 * cause.part:.0f}% in {cut(cause.routine.label, 50)}, {plural(cause.calls, 'call')}"
 
 
 def head(profile: Profile) -> list[str]:

@@ -1,6 +1,7 @@
 """Text for a terminal: its width, tables of aligned columns, and numbers that fit."""
 from __future__ import annotations
 
+import math
 import shutil
 import sys
 from collections.abc import Sequence
@@ -78,7 +79,7 @@ def plural(number: int, noun: str) -> str:
 
 
 def factor_text(factor: float) -> str:
-    """`x2.2`, `x84`, and `x>99` for what is out of all bounds."""
+    """`x2.2`, `x84`, and `x>99` for what is out of all bounds. A half is rounded up, as on the page."""
     if factor > 99.5:
         return "x>99"
-    return f"x{factor:.1f}" if factor < 9.95 else f"x{factor:.0f}"
+    return f"x{math.floor(10 * factor + 0.5) / 10:.1f}" if factor < 9.95 else f"x{math.floor(factor + 0.5)}"

@@ -75,6 +75,8 @@ function showRoutine(routine) {
   byId("place").textContent = [routine.line, routine.entry === routine.name ? null : `at ${routine.entry}`,
     routine.library ? "C library" : null].filter(Boolean).join(" · ");
   byId("verdict").textContent = verdictOf(routine);
+  tellCause(routine);
+  tellCallees(routine);
   byId("facts").replaceChildren(...factsOf(routine).map(([name, text, look]) => make("div", "", make("dt", "", name), make("dd", look, text))));
   byId("figure").hidden = points.length === 0;
   byId("plots").setAttribute("aria-label", `Cost of ${routine.name} by size, ${plural(points.length, "point")}`);
