@@ -4,7 +4,8 @@ JSON: `format` is "aprof-show 1"; `reports` are the files with their `path`, `en
 (eight hexadecimal digits), `name` (null where there is none), `label` (as `show` prints it), `library`, `calls`, `cost` (all
 calls, with what they call), `share` and `self_share` (of all steps; null without contexts), `growth` and `points`. `growth` is
 null where there is but one size other than 0, and else has `factor` (times the cost where the size doubles), `exponent`, the
-exponents `whole`, `top`, `net` and `fit`, and `weak`, the reason why it is uncertain or null. A point has `size`, `calls`,
+exponents `whole`, `top`, `net` and `fit`, `rising`, the last one where they rise to it or null, `bent`, that of the greatest cost
+where the mean cost was judged or null, and `weak`, the reason why it is uncertain or null. A point has `size`, `calls`,
 `least`, `most`, `cost`, and `own`, `thread`, `kernel` and `bare`, null in a report of version 1. `contexts`, null without them,
 stand behind their callers: `routine` and `caller` are places in `routines` and `contexts`, `caller` null for the outermost
 ones; `total` and `self` are instructions, and the least that is sure where `open` is true.
@@ -59,6 +60,8 @@ def growth_values(growth: Growth) -> dict[str, object]:
         "top": growth.top,
         "net": growth.net,
         "fit": growth.fit,
+        "rising": growth.rising,
+        "bent": growth.bent,
         "weak": growth.weak,
     }
 

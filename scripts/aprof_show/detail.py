@@ -5,10 +5,11 @@ import math
 from collections.abc import Sequence
 from itertools import groupby
 
-from aprof_show.growth import Growth, factor_of, slope_between
+from aprof_show.bends import slope_between
+from aprof_show.growth import Growth, factor_of
 from aprof_show.model import Point
 from aprof_show.rows import Row
-from aprof_show.table import cause_text, growth_text, projected, share_text
+from aprof_show.table import cause_text, growth_text, projected, share_text, short_ratio
 from aprof_show.terminal import Column, about, factor_text, percent, plural, short, table
 
 
@@ -35,11 +36,17 @@ def growth_lines(row: Row, growth: Growth) -> list[str]:
     whole, top = factor_text(factor_of(growth.whole)), factor_text(factor_of(growth.top))
     weak = f", uncertain: {growth.weak}" if growth.weak else ""
     most = row.routine.points[-1].size
+    twice, tenfold = about(projected(row, 2), projected(row, 10))
+    rising = f", rising: {factor_text(factor_of(growth.rising))} at the largest sizes" if growth.rising is not None else ""
+    bent = [
+        f"by the mean, as costs at one size differ (up to x{short_ratio(row.spread)}): "
+        f"the greatest cost grows {factor_text(factor_of(growth.bent))}"
+    ] if growth.bent is not None else []
     return [
-        f"growth {growth_text(growth).strip()}, {growth.guess}{weak}",
+        f"growth {growth_text(growth).strip()}, {growth.guess}{rising}{weak}",
+        *bent,
         f"all sizes {whole}, the largest sizes {top}, net of the least (size {least_size(row)}) {net}",
-        f"a call of size {short(2 * most)} would cost about {about(projected(row, 2))}, "
-        f"one of {short(10 * most)} about {about(projected(row, 10))}",
+        f"a call of size {short(2 * most)} would cost about {twice}, one of {short(10 * most)} about {tenfold}",
     ]
 
 

@@ -86,8 +86,11 @@ def row_json(row: Row, line: str | None, places: Places) -> Json:
         "name": routine.label,
         "entry": f"{routine.entry:08x}",
         "line": line,
-        "growth": factor_json(growth),
-        "top": round(factor_of(growth.top), 3) if growth else None,
+        "growth": growth_json(growth),
+        "top": factor_json(growth.top if growth else None),
+        "rising": factor_json(growth.rising if growth else None),
+        "bent": factor_json(growth.bent if growth else None),
+        "ahead": factor_json(growth.ahead if growth else None),
         "guess": growth.guess if growth else None,
         "weak": growth.weak if growth else None,
         "steep": row.superlinear,
@@ -103,8 +106,12 @@ def row_json(row: Row, line: str | None, places: Places) -> Json:
     }
 
 
-def factor_json(growth: Growth | None) -> float | None:
-    return round(growth.factor, 6) if growth else None
+def growth_json(growth: Growth | None) -> float | None:
+    return factor_json(growth.exponent if growth else None)
+
+
+def factor_json(exponent: float | None) -> float | None:
+    return None if exponent is None else round(factor_of(exponent), 6)
 
 
 def columns_of(points: Sequence[Point]) -> list[Any]:
@@ -142,7 +149,7 @@ def contexts_json(roots: Sequence[Context], rows: Sequence[Row]) -> Json:
         "calls": [context.calls for context in contexts],
         "cost": [costs[context].total for context in contexts],
         "self": [costs[context].own for context in contexts],
-        "growth": [factor_json(growth(context)) for context in contexts],
+        "growth": [growth_json(growth(context)) for context in contexts],
         "open": [number for number, context in enumerate(contexts) if costs[context].open],
     }
 
@@ -158,7 +165,7 @@ def callers_json(roots: Sequence[Context], places: Places) -> list[list[Any]]:
     for context in contexts_of(roots):
         if context.caller:
             pairs.setdefault((places[context.routine], places[context.caller.routine]), []).append(context)
-    return [[*pair, factor_json(growth_of(points_of(contexts)))] for pair, contexts in pairs.items() if len(contexts) > 1]
+    return [[*pair, growth_json(growth_of(points_of(contexts)))] for pair, contexts in pairs.items() if len(contexts) > 1]
 
 
 def points_of(contexts: Sequence[Context]) -> list[Point]:

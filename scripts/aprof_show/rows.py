@@ -5,6 +5,7 @@ import math
 from collections.abc import Sequence
 from dataclasses import dataclass
 
+from aprof_show.bends import spread_of
 from aprof_show.causes import Cause, causes_of
 from aprof_show.costs import RoutineCost, costs_by_routine, costs_of
 from aprof_show.growth import SUPERLINEAR, Growth, growth_of
@@ -35,7 +36,7 @@ class Row:
         little of its share today. What is uncertain counts a tenth, and the less the closer its sizes are."""
         if self.growth is None:
             return 0.0
-        excess = max(min(self.growth.exponent, 6.0) - math.log2(SUPERLINEAR), 0.0)
+        excess = max(min(self.growth.ahead, 6.0) - math.log2(SUPERLINEAR), 0.0)
         if self.growth.weak:
             excess = min(excess * min(1.0, math.log2(self.growth.size_ratio) / 2) ** 2, 0.5)
         beyond = (10**excess - 1) * (0.1 if self.growth.weak else 1.0)
@@ -44,7 +45,7 @@ class Row:
     @property
     def projected_share(self) -> float:
         """The share at ten times the size, were all else linear."""
-        return float(self.share * 10 ** (min(self.growth.exponent, 6.0) - 1)) if self.growth else self.share
+        return float(self.share * 10 ** (min(self.growth.ahead, 6.0) - 1)) if self.growth else self.share
 
     @property
     def uncertain(self) -> bool:
@@ -81,7 +82,7 @@ def row_of(
         exact=total <= steps,
         own=(cost.own / steps if steps else 0.0) if cost else None,
         open=cost is not None and cost.open,
-        spread=max((point.most / point.least for point in routine.points if point.least), default=1.0),
+        spread=spread_of(routine.points),
         library=library,
         cause=cause,
     )

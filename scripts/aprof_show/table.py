@@ -153,7 +153,7 @@ def greatest_cost(routine: Routine) -> int:
 
 def projected(row: Row, times: int) -> float:
     """The greatest cost at so many times the largest size, if it goes on to grow as it did."""
-    return float(greatest_cost(row.routine) * times ** min(row.growth.exponent, 20.0)) if row.growth else 0.0
+    return float(greatest_cost(row.routine) * times ** min(row.growth.ahead, 20.0)) if row.growth else 0.0
 
 
 def growth_text(growth: Growth | None) -> str:

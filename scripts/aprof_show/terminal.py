@@ -55,19 +55,31 @@ def cut(text: str, room: int) -> str:
     return f"{text[: kept - kept // 2]}...{text[len(text) - kept // 2 :]}"
 
 
+UNITS = ((1e18, "E"), (1e15, "P"), (1e12, "T"), (1e9, "G"), (1e6, "M"))
+
+
 def short(number: float) -> str:
     """A number in at most seven characters; whole below ten millions."""
     if number < 10_000_000:
         return str(round(number))
-    for unit, name in ((1e18, "E"), (1e15, "P"), (1e12, "T"), (1e9, "G"), (1e6, "M")):
+    for unit, name in UNITS:
         if number >= unit:
             return f"{number / unit:.1f}{name}" if number < 1e21 else f"{number:.0e}"
     return str(round(number))
 
 
-def about(number: float) -> str:
-    """A number in two digits that count."""
-    return short(float(f"{number:.2g}"))
+def about(*numbers: float) -> list[str]:
+    """Numbers in two digits that count, all with the unit of the least of them."""
+    least = min(numbers)
+    unit, name = next(((unit, name) for unit, name in UNITS if unit <= least < 1000 * unit), (1.0, ""))
+    return [decimal(float(f"{number:.2g}") / unit) + name for number in numbers]
+
+
+def decimal(number: float) -> str:
+    """Without a digit behind the point where it is 0."""
+    if number >= 1e15:
+        return f"{number:.1e}"
+    return f"{number:.1f}" if number < 9.95 and round(number, 1) != round(number) else str(round(number))
 
 
 def percent(share: float) -> str:
