@@ -62,7 +62,7 @@ def causes_of(
     grows: dict[Routine, bool] = {}
     for place in places_of(roots):
         context, own = place.context, costs[place.context].own
-        bearer = bearers[context.caller] if context.caller else None
+        bearer = bearers.get(context.caller) if context.caller else None
         if is_growing(context.routine, grows):
             bearer = context.routine, place.depth
         bearers[context] = bearer

@@ -47,6 +47,17 @@ def table(columns: Sequence[Column], room: int) -> list[str]:
     return lines
 
 
+def with_remarks(lines: Sequence[str], remarks: Sequence[str], place: int, room: int) -> list[str]:
+    """The lines of a table, each but the heading with its remark: behind it where that fits, else below, from `place` on."""
+    told = list(lines[:1])
+    for line, remark in zip(lines[1:], remarks):
+        if len(line) + 2 + len(remark) <= room:
+            told.append(f"{line}  {remark}".rstrip())
+        else:
+            told += [line, " " * max(min(place, room - len(remark)), 0) + remark] if remark else [line]
+    return told
+
+
 def cut(text: str, room: int) -> str:
     """The text, or its begin and its end where it is too long."""
     if len(text) <= room:
@@ -90,8 +101,10 @@ def plural(number: int, noun: str) -> str:
     return f"{number} {noun}" if number == 1 else f"{number} {noun}s"
 
 
-def factor_text(factor: float) -> str:
+def factor_text(factor: float, digits: int = 1) -> str:
     """`x2.2`, `x84`, and `x>99` for what is out of all bounds. A half is rounded up, as on the page."""
-    if factor > 99.5:
+    if factor > 99.5 and digits == 1:
         return "x>99"
-    return f"x{math.floor(10 * factor + 0.5) / 10:.1f}" if factor < 9.95 else f"x{math.floor(factor + 0.5)}"
+    if factor >= 9.95 and digits == 1:
+        return f"x{math.floor(factor + 0.5)}"
+    return f"x{math.floor(10**digits * factor + 0.5) / 10**digits:.{digits}f}"
