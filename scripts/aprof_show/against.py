@@ -26,10 +26,12 @@ class Pair:
         return row
 
     def between(self) -> Growth | None:
-        """Where each has one size, the growth from the one to the other."""
-        if not self.old or not self.new or self.old.growth or self.new.growth:
+        """Where each has one call, and the sizes are a doubling apart, the growth from the one to the other."""
+        if not self.old or not self.new or self.old.routine.calls != 1 or self.new.routine.calls != 1:
             return None
-        return growth_of(add_points(self.old.routine.points, self.new.routine.points))
+        points = add_points(self.old.routine.points, self.new.routine.points)
+        growth = growth_of(points)
+        return growth if growth and growth.size_ratio >= 2 else None
 
 
 def paired(old: Sequence[Row], new: Sequence[Row]) -> list[Pair]:
@@ -82,7 +84,7 @@ def against_text(
     if told:
         lines += table(columns_of(told), room)
     if any(pair.between() for pair in told):
-        lines.append("a growth behind `-`: from the one size before to the one size now")
+        lines.append("a growth behind `-` is that from the one call before to the one call now")
     if len(told) < len(changed):
         lines.append(f"and {plural(len(changed) - len(told), 'routine')} that changed less: a greater --top")
     same = len(listed) - len(changed)

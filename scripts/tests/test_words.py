@@ -175,8 +175,10 @@ class Programs(unittest.TestCase):
             small, large, same = (self.run_of(folder, name, names, size) for name, size in (("a", 8), ("b", 32), ("c", 8)))
             text = show("--against", small, large).splitlines()
             self.assertEqual(next(line for line in text if "parse" in line).split()[:2], ["-", "x4.0~"])
-            self.assertIn("from the one size before to the one size now", text[-1])
-            self.assertNotIn("x", show("--against", small, same).replace("routines", ""))
+            self.assertIn("from the one call before to the one call now", text[-1])
+            near = self.run_of(folder, "d", names, 12)
+            for other in (same, near):
+                self.assertNotIn("one call before", show("--against", small, other))
 
 
 if __name__ == "__main__":
