@@ -6,22 +6,22 @@ import io
 import os
 import sys
 from collections.abc import Iterable, Sequence
-from pathlib import Path
 
 from aprof_show.against import above, above_text, against_text
 from aprof_show.cache import cache_text
 from aprof_show.data import csv_text, json_text
 from aprof_show.detail import detail
 from aprof_show.heading import open_lines
-from aprof_show.joining import CannotJoin, join, join_caches
+from aprof_show.inputs import joined, name_by_image, read_all
+from aprof_show.joining import CannotJoin, join_caches
 from aprof_show.kinship import strange_pair, strangers
 from aprof_show.model import CacheReport, Context, Profile, Report, Routine
 from aprof_show.names import shorten
 from aprof_show.options import choice_of, parser
 from aprof_show.plot import plot
-from aprof_show.reading import BadReport, read_file
+from aprof_show.reading import BadReport
 from aprof_show.rows import Row, rows_of
-from aprof_show.source import BadImage, demangle, lines_of_image, name_routines, read_symbols
+from aprof_show.source import BadImage, demangle, name_routines, read_symbols
 from aprof_show.stacks import callgrind, folded
 from aprof_show.table import summary
 from aprof_show.terminal import width
@@ -85,28 +85,6 @@ def warn(warnings: Iterable[str]) -> None:
         print(f"show: warning: {warning}", file=sys.stderr)
 
 
-def read_all(paths: Sequence[str]) -> list[Report | CacheReport]:
-    return [read_file(file) for path in paths for file in files_of(path)]
-
-
-def files_of(path: str) -> list[str]:
-    """The path itself, or the files of a folder in the order of their names."""
-    if not os.path.isdir(path):
-        return [path]
-    entries = sorted(Path(path).iterdir())
-    files = [str(entry) for entry in entries if entry.is_file() and not entry.name.startswith(".")]
-    if not files:
-        raise Refused(f"{path}: no file in this folder")
-    return files
-
-
-def joined(reports: Sequence[Report | CacheReport]) -> Profile:
-    profiles = [report for report in reports if isinstance(report, Report)]
-    if len(profiles) < len(reports):
-        raise CannotJoin("reports of `aprof cache` can't be joined with others")
-    return join(profiles)
-
-
 def caches_text(reports: Sequence[Report | CacheReport], options: argparse.Namespace) -> list[str]:
     caches = [report for report in reports if isinstance(report, CacheReport)]
     if len(caches) < len(reports):
@@ -118,14 +96,6 @@ def caches_text(reports: Sequence[Report | CacheReport], options: argparse.Names
     demangle(routines)
     shorten(routines)
     return cache_text(cache, choice_of(options), width(), {routine.entry: routine.label for routine in routines})
-
-
-def name_by_image(reports: Sequence[Report | CacheReport], image: str) -> dict[int, str]:
-    """Names what has no name, and gives files and lines."""
-    symbols = read_symbols(image)
-    routines = [routine for report in reports if isinstance(report, Report) for routine in report.routines]
-    name_routines(routines, symbols, image)
-    return lines_of_image(image, (routine.entry for routine in routines))
 
 
 def print_lines(lines: Sequence[str]) -> None:

@@ -7,8 +7,9 @@ from aprof_show.joining import join
 from aprof_show.model import Profile
 from tests import profiles
 from tests.page_case import PageCase, text_of
-from tests.samples import ADDRESSES, Call, Run, report_of
+from tests.samples import ADDRESSES, Call, Run, points_of, report_of
 from tests.test_causes import SIZES, recursive, through_a_list
+from tests.test_growth import POSTINGS, SPREAD
 
 CALLEES = "[...document.querySelectorAll('#callees tbody tr')].map((row) => [...row.cells].map((cell) => cell.textContent))"
 HIDDEN = "document.querySelector('{}').hidden"
@@ -45,6 +46,21 @@ class Causes(PageCase):
         self.open(profile_of(*many, *map(through_a_list, SIZES)), "#routine=main")
         self.assertEqual(self.ask(CALLEES + ".length"), 1)
         self.assertEqual(self.ask(HIDDEN.format("#callees tfoot")), True)
+
+    def test_growth_that_rises_and_growth_of_the_mean(self) -> None:
+        made = profiles.Made()
+        root = made.context("main", None, profiles.points_of([9000], lambda n: 1e9, calls=1))
+        made.context("rises", root, points_of([(size, float(cost)) for size, cost in POSTINGS]))
+        made.context("bent", root, SPREAD[0][1])
+        for name, part in (("rises", "grows ×2.3: about n log n, rising: ×2.5 at the largest sizes."),
+                           ("bent", "its mean cost grows ×1.6: less than linear. Costs at one size differ, so that is of the mean; ")):
+            with self.subTest(name):
+                self.open(made.profile("report"), f"#routine={name}")
+                self.assertIn(part, str(self.ask(text_of("#verdict"))))
+                steep = "document.querySelector('#routines tr[aria-current] .rate').classList.contains('steep')"
+                self.assertEqual(self.ask(steep), name == "rises")
+                if name == "rises":
+                    self.assertIn("7.47 M → 18.6 M", str(self.ask(text_of("#facts"))))
 
     def test_without_contexts(self) -> None:
         self.open(profiles.sample(contexts=False), "#routine=main")
