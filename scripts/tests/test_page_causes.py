@@ -57,7 +57,7 @@ class Causes(PageCase):
             with self.subTest(name):
                 self.open(made.profile("report"), f"#routine={name}")
                 self.assertIn(part, str(self.ask(text_of("#verdict"))))
-                steep = "document.querySelector('#routines tr[aria-current] .rate').classList.contains('steep')"
+                steep = "document.querySelector('#facts dd').classList.contains('steep')"
                 self.assertEqual(self.ask(steep), name == "rises")
                 if name == "rises":
                     self.assertIn("7.47 M → 18.6 M", str(self.ask(text_of("#facts"))))
