@@ -26,7 +26,7 @@ from aprof_show.stacks import callgrind, folded
 from aprof_show.table import summary
 from aprof_show.terminal import width
 from aprof_show.tree import callers_text, tree_text
-from aprof_show.words import Refused, all_named, called_by, check, check_page, kind_of
+from aprof_show.words import BEHIND_CALLERS, Refused, all_named, called_by, check, check_page, kind_of
 
 def main(arguments: Sequence[str] | None = None) -> int:
     """The exit status."""
@@ -55,6 +55,8 @@ def run(options: argparse.Namespace) -> int:
         raise Refused("--plot wants a routine")
     if not paths:
         missing = f"no file {names[0]}" if names else "a report is wanted"
+        if options.callers and os.path.exists(options.callers):
+            missing = f"{options.callers} is a file; {BEHIND_CALLERS}"
         raise Refused(f"{missing}; `show --help` tells more")
     reports = read_all(paths)
     if isinstance(reports[0], CacheReport):

@@ -36,6 +36,9 @@ REASONS = {
 }
 
 
+BEHIND_CALLERS = "the routine goes directly after --callers: --callers ROUTINE REPORT..."
+
+
 class Refused(Exception):
     """The command can't be carried out."""
 
@@ -102,5 +105,4 @@ def called_by(routines: Collection[Routine], name: str) -> list[Routine]:
     try:
         return named(routines, name)
     except Refused as error:
-        hint = "the routine goes directly after --callers: --callers ROUTINE REPORT..."
-        raise Refused(f"{str(error).replace('no file and no', 'no', 1)}; {hint}") from error
+        raise Refused(f"{str(error).replace('no file and no', 'no', 1)}; {BEHIND_CALLERS}") from error

@@ -28,7 +28,7 @@ MISTAKES: list[tuple[list[str], int, str]] = [
     ([WORDS, "--routine", "nope"], 2, "show: no file and no routine called nope"),
     ([WORDS, "--fail-above", "9", "nope"], 2, "show: no file and no routine called nope"),
     (["--callers", "nope", CONTEXTS], 2, "show: no routine called nope; the routine goes directly after --callers"),
-    (["--callers", CONTEXTS, "10000"], 2, "show: no file 10000"),
+    (["--callers", CONTEXTS, "10070"], 2, f"show: {CONTEXTS} is a file; the routine goes directly after --callers"),
     (["crates"], 2, "show: crates: no file in this folder"),
     (["rows/two-ways-to-a-routine"], 2, "show: rows/two-ways-to-a-routine/code.s:1: not a report of aprof"),
     (["README.md"], 2, "show: README.md:1: not a report of aprof"),
