@@ -1,10 +1,13 @@
 """Two profiles of one program, before and after a change, and growths above a limit."""
 from __future__ import annotations
 
-from collections.abc import Sequence
+from collections.abc import Collection, Sequence
 from dataclasses import dataclass
 
-from aprof_show.rows import Row
+from aprof_show.growth import Growth, growth_of
+from aprof_show.joining import add_points
+from aprof_show.model import Routine
+from aprof_show.rows import Row, ordered
 from aprof_show.table import Choice, greatest_cost, growth_text, share_text
 from aprof_show.terminal import Column, factor_text, plural, short, table
 
@@ -21,6 +24,14 @@ class Pair:
         row = self.new or self.old
         assert row
         return row
+
+    def between(self) -> Growth | None:
+        """Where each has one call, and the sizes are a doubling apart, the growth from the one to the other."""
+        if not self.old or not self.new or self.old.routine.calls != 1 or self.new.routine.calls != 1:
+            return None
+        points = add_points(self.old.routine.points, self.new.routine.points)
+        growth = growth_of(points)
+        return growth if growth and growth.size_ratio >= 2 else None
 
 
 def paired(old: Sequence[Row], new: Sequence[Row]) -> list[Pair]:
@@ -51,16 +62,31 @@ def change(pair: Pair, steps: tuple[int, int]) -> float:
 
 
 def against_text(
-    old: Sequence[Row], new: Sequence[Row], steps: tuple[int, int], choice: Choice, room: int
+    old: Sequence[Row],
+    new: Sequence[Row],
+    steps: tuple[int, int],
+    choice: Choice,
+    room: int,
+    names: Collection[Routine] = (),
 ) -> list[str]:
-    """Growth, share and greatest cost before and after, the largest change first. Routines that have not changed are left out."""
-    pairs = [pair for pair in paired(old, new) if choice.library or not pair.either.library]
-    listed = [pair for pair in pairs if choice.all or any(row and choice.has(row) for row in (pair.old, pair.new))]
-    changed = [pair for pair in listed if choice.all or differs(pair)]
-    changed.sort(key=lambda pair: -change(pair, steps))
+    """Growth, share and greatest cost before and after, the largest change first. Routines that have not changed are left out.
+    With names these routines alone, changed or not."""
+    if names:
+        pairs = [pair for pair in paired(old, new) if any(row and row.routine in names for row in (pair.old, pair.new))]
+        listed, changed = pairs, pairs
+    else:
+        pairs = [pair for pair in paired(old, new) if choice.library or not pair.either.library]
+        listed = [pair for pair in pairs if choice.all or any(row and choice.has(row) for row in (pair.old, pair.new))]
+        changed = [pair for pair in listed if choice.all or differs(pair)]
+    changed = sorted(changed, key=lambda pair: -change(pair, steps))
+    told = changed[: choice.top]
     lines = [f"{steps[0]} steps before, {steps[1]} after"]
-    if changed:
-        lines += table(columns_of(changed[: choice.top]), room)
+    if told:
+        lines += table(columns_of(told), room)
+    if any(pair.between() for pair in told):
+        lines.append("a growth behind `-` is that from the one call before to the one call now")
+    if len(told) < len(changed):
+        lines.append(f"and {plural(len(changed) - len(told), 'routine')} that changed less: a greater --top")
     same = len(listed) - len(changed)
     if same:
         lines.append(f"{plural(same, 'routine')} of the same growth, share and cost")
@@ -74,12 +100,18 @@ def texts(row: Row | None) -> tuple[str, str, str]:
     return growth_text(row.growth), share_text(row), short(greatest_cost(row.routine))
 
 
+def texts_now(pair: Pair) -> tuple[str, str, str]:
+    growth, share, cost = texts(pair.new)
+    between = pair.between()
+    return growth_text(between) if between else growth, share, cost
+
+
 def differs(pair: Pair) -> bool:
     return texts(pair.old) != texts(pair.new)
 
 
 def columns_of(pairs: Sequence[Pair]) -> list[Column]:
-    before, after = [texts(pair.old) for pair in pairs], [texts(pair.new) for pair in pairs]
+    before, after = [texts(pair.old) for pair in pairs], [texts_now(pair) for pair in pairs]
     columns = []
     for place, heading in enumerate(("GROWTH", "SHARE", "COST")):
         columns.append(Column(heading, [row[place] for row in before]))
@@ -87,19 +119,27 @@ def columns_of(pairs: Sequence[Pair]) -> list[Column]:
     return columns + [Column(" ROUTINE", [f" {pair.either.routine.label}" for pair in pairs], left=True)]
 
 
-def above(rows: Sequence[Row], limit: float, named: Sequence[str], choice: Choice) -> list[Row]:
-    """The rows whose growth is above a limit. With names only those routines are looked at; without, those that the table would
-    tell of, and none whose growth is uncertain."""
-    found = [row for row in rows if row.growth and row.growth.factor > limit]
+def above(rows: Sequence[Row], limit: float, named: Collection[Routine], choice: Choice) -> list[Row]:
+    """The rows whose growth is above a limit, in the order of the table. With names only those routines are looked at; without,
+    those that the table would tell of, and none whose growth is uncertain."""
+    found = [row for row in ordered(rows, choice.by) if row.growth and row.growth.factor > limit]
     if named:
-        return [row for row in found if any(row.routine.is_called(name) for name in named)]
+        return [row for row in found if row.routine in named]
     least = choice.least or 0.0
     return [row for row in found if not row.uncertain and row.share >= least and (choice.library or not row.library)]
 
 
 def above_text(rows: Sequence[Row], limit: float) -> list[str]:
     return [
-        f"{row.routine.label} grows {growth_text(row.growth).strip()}, above {factor_text(limit)}"
-        f" ({share_text(row)} of the steps)"
+        f"{row.routine.label} grows {above_limit(row.growth, limit)} ({share_text(row)} of the steps)"
         for row in rows
+        if row.growth
     ]
+
+
+def above_limit(growth: Growth, limit: float) -> str:
+    """With as many digits as tell both apart."""
+    digits = 1
+    while digits < 6 and factor_text(growth.factor, digits) == factor_text(limit, digits):
+        digits += 1
+    return f"{factor_text(growth.factor, digits)}{'~' * (growth.weak is not None)}, above {factor_text(limit, digits)}"

@@ -4,32 +4,29 @@ from __future__ import annotations
 import argparse
 import io
 import os
-import re
 import sys
-from collections.abc import Sequence
-from difflib import get_close_matches
-from pathlib import Path
+from collections.abc import Iterable, Sequence
 
 from aprof_show.against import above, above_text, against_text
 from aprof_show.cache import cache_text
 from aprof_show.data import csv_text, json_text
 from aprof_show.detail import detail
-from aprof_show.joining import CannotJoin, join, join_caches
+from aprof_show.heading import open_lines
+from aprof_show.inputs import joined, name_by_image, read_all
+from aprof_show.joining import CannotJoin, join_caches
+from aprof_show.kinship import strange_pair, strangers
 from aprof_show.model import CacheReport, Context, Profile, Report, Routine
 from aprof_show.names import shorten
 from aprof_show.options import choice_of, parser
 from aprof_show.plot import plot
-from aprof_show.reading import BadReport, read_file
+from aprof_show.reading import BadReport
 from aprof_show.rows import Row, rows_of
-from aprof_show.source import BadImage, demangle, lines_of_image, name_routines, read_symbols
+from aprof_show.source import BadImage, demangle, name_routines, read_symbols
 from aprof_show.stacks import callgrind, folded
-from aprof_show.table import open_lines, summary
+from aprof_show.table import summary
 from aprof_show.terminal import width
 from aprof_show.tree import callers_text, tree_text
-
-class Refused(Exception):
-    """The command can't be carried out."""
-
+from aprof_show.words import BEHIND_CALLERS, Refused, all_named, called_by, check, check_page, kind_of
 
 def main(arguments: Sequence[str] | None = None) -> int:
     """The exit status."""
@@ -58,9 +55,14 @@ def run(options: argparse.Namespace) -> int:
         raise Refused("--plot wants a routine")
     if not paths:
         missing = f"no file {names[0]}" if names else "a report is wanted"
+        if options.callers and os.path.exists(options.callers):
+            missing = f"{options.callers} is a file; {BEHIND_CALLERS}"
         raise Refused(f"{missing}; `show --help` tells more")
     reports = read_all(paths)
     if isinstance(reports[0], CacheReport):
+        if names:
+            raise Refused(f"no file {names[0]}, and a report of `aprof cache` takes no routine")
+        check(options, names, "a report of `aprof cache`")
         print_lines(caches_text(reports, options))
         return 0
     lines = name_by_image(reports, options.image) if options.image else {}
@@ -68,35 +70,21 @@ def run(options: argparse.Namespace) -> int:
     demangle(profile.routines)
     shorten(profile.routines)
     rows = rows_of(profile)
+    if options.against is not None and options.page is None:
+        return compare(options, profile, rows, names)
+    wanted = all_named(profile.routines, names)
+    check(options, names, kind_of(options, names))
+    warn(strangers(profile.reports))
     if options.by == "self":
         roots_of(profile)
-    if options.against is not None:
-        return compare(options, profile, rows, names)
     if options.fail_above is not None:
-        return judge(rows, options, names)
-    return show(options, profile, rows, names, lines)
+        return judge(rows, options, wanted)
+    return show(options, profile, rows, wanted, lines)
 
 
-def read_all(paths: Sequence[str]) -> list[Report | CacheReport]:
-    return [read_file(file) for path in paths for file in files_of(path)]
-
-
-def files_of(path: str) -> list[str]:
-    """The path itself, or the files of a folder by name, where 400 comes before 1600."""
-    if not os.path.isdir(path):
-        return [path]
-    entries = sorted(Path(path).iterdir(), key=lambda entry: re.sub("[0-9]+", lambda digits: digits[0].zfill(20), entry.name))
-    files = [str(entry) for entry in entries if entry.is_file() and not entry.name.startswith(".")]
-    if not files:
-        raise Refused(f"{path}: no file in this folder")
-    return files
-
-
-def joined(reports: Sequence[Report | CacheReport]) -> Profile:
-    profiles = [report for report in reports if isinstance(report, Report)]
-    if len(profiles) < len(reports):
-        raise CannotJoin("reports of `aprof cache` can't be joined with others")
-    return join(profiles)
+def warn(warnings: Iterable[str]) -> None:
+    for warning in warnings:
+        print(f"show: warning: {warning}", file=sys.stderr)
 
 
 def caches_text(reports: Sequence[Report | CacheReport], options: argparse.Namespace) -> list[str]:
@@ -112,37 +100,29 @@ def caches_text(reports: Sequence[Report | CacheReport], options: argparse.Names
     return cache_text(cache, choice_of(options), width(), {routine.entry: routine.label for routine in routines})
 
 
-def name_by_image(reports: Sequence[Report | CacheReport], image: str) -> dict[int, str]:
-    """Names what has no name, and gives files and lines."""
-    symbols = read_symbols(image)
-    routines = [routine for report in reports if isinstance(report, Report) for routine in report.routines]
-    name_routines(routines, symbols, image)
-    return lines_of_image(image, (routine.entry for routine in routines))
-
-
 def print_lines(lines: Sequence[str]) -> None:
     for line in lines:
         print(line)
 
 
 def show(
-    options: argparse.Namespace, profile: Profile, rows: Sequence[Row], names: Sequence[str], lines: dict[int, str]
+    options: argparse.Namespace, profile: Profile, rows: Sequence[Row], wanted: set[Routine], lines: dict[int, str]
 ) -> int:
     if options.page is not None:
+        check_page(options.page, (report.path for report in profile.reports))
         write_page(options.page, profile, lines)
     elif options.json:
-        print(json_text(profile, rows))
+        print(json_text(profile, rows, wanted))
     elif options.csv:
-        print(csv_text(profile))
+        print(csv_text(profile, wanted))
     elif options.open:
         print_lines(open_lines(profile, width()) or ["all calls had returned"])
     elif options.tree or options.callers or options.folded or options.callgrind:
-        show_contexts(options, profile, roots_of(profile), lines)
-    elif names:
-        for name in names:
-            for row in called(rows, name):
-                print_lines(detail(row, width(), lines.get(row.routine.entry)))
-                print_lines(plot(row.routine, width()) if options.plot else [])
+        show_contexts(options, profile, roots_of(profile), wanted, lines)
+    elif wanted:
+        for row in (row for row in rows if row.routine in wanted):
+            print_lines(detail(row, width(), lines.get(row.routine.entry)))
+            print_lines(plot(row.routine, width()) if options.plot else [])
     else:
         print_lines(summary(profile, rows, choice_of(options), width()))
     return 0
@@ -155,7 +135,7 @@ def roots_of(profile: Profile) -> list[Context]:
 
 
 def show_contexts(
-    options: argparse.Namespace, profile: Profile, roots: list[Context], lines: dict[int, str]
+    options: argparse.Namespace, profile: Profile, roots: list[Context], wanted: set[Routine], lines: dict[int, str]
 ) -> None:
     least = 0.01 if options.min is None else options.min
     least = 0.0 if options.all else least
@@ -164,23 +144,10 @@ def show_contexts(
     elif options.callgrind:
         print_lines(list(callgrind(profile, roots, options.image, lines)))
     elif options.tree:
-        print_lines(tree_text(profile, roots, least, width()))
+        print_lines(tree_text(profile, roots, least, width(), wanted))
     else:
-        for routine in named(profile.routines, options.callers):
+        for routine in called_by(profile.routines, options.callers):
             print_lines(callers_text(profile, roots, routine, least, width()))
-
-
-def named(routines: Sequence[Routine], name: str) -> list[Routine]:
-    found = [routine for routine in routines if routine.is_called(name)]
-    if not found:
-        near = get_close_matches(name, [routine.label for routine in routines], 1)
-        raise Refused(f"no file and no routine called {name}" + (f"; there is {near[0]}" if near else ""))
-    return found
-
-
-def called(rows: Sequence[Row], name: str) -> list[Row]:
-    wanted = set(named([row.routine for row in rows], name))
-    return [row for row in rows if row.routine in wanted]
 
 
 def write_page(path: str, profile: Profile, lines: dict[int, str]) -> None:
@@ -199,15 +166,14 @@ def compare(options: argparse.Namespace, new: Profile, new_rows: Sequence[Row], 
     demangle(old.routines)
     shorten(old.routines)
     old_rows = rows_of(old)
-    print_lines(against_text(old_rows, new_rows, (old.steps, new.steps), choice_of(options), width()))
-    return judge(new_rows, options, names) if options.fail_above is not None else 0
+    wanted = all_named([*new.routines, *old.routines], names)
+    check(options, names, kind_of(options, names))
+    warn([*strangers(old.reports), *strangers(new.reports), *strange_pair(old.reports, new.reports)])
+    print_lines(against_text(old_rows, new_rows, (old.steps, new.steps), choice_of(options), width(), wanted))
+    return judge(new_rows, options, wanted) if options.fail_above is not None else 0
 
 
-def judge(rows: Sequence[Row], options: argparse.Namespace, names: Sequence[str]) -> int:
-    for name in names:
-        called(rows, name)
-    found = above(rows, options.fail_above, names, choice_of(options))
+def judge(rows: Sequence[Row], options: argparse.Namespace, wanted: set[Routine]) -> int:
+    found = above(rows, options.fail_above, wanted, choice_of(options))
     print_lines(above_text(found, options.fail_above))
     return 1 if found else 0
-
-

@@ -4,17 +4,18 @@ JSON: `format` is "aprof-show 1"; `reports` are the files with their `path`, `en
 (eight hexadecimal digits), `name` (null where there is none), `label` (as `show` prints it), `library`, `calls`, `cost` (all
 calls, with what they call), `share` and `self_share` (of all steps; null without contexts), `growth` and `points`. `growth` is
 null where there is but one size other than 0, and else has `factor` (times the cost where the size doubles), `exponent`, the
-exponents `whole`, `top`, `net` and `fit`, and `weak`, the reason why it is uncertain or null. A point has `size`, `calls`,
-`least`, `most`, `cost`, and `own`, `thread`, `kernel` and `bare`, null in a report of version 1. `contexts`, null without them,
-stand behind their callers: `routine` and `caller` are places in `routines` and `contexts`, `caller` null for the outermost
-ones; `total` and `self` are instructions, and the least that is sure where `open` is true.
+exponents `whole`, `top`, `net` and `fit`, `rising`, the last one where they rise to it or null, `bent`, that of the greatest cost
+where the mean cost was judged or null, and `weak`, the reason why it is uncertain or null. A point has `size`, `calls`,
+`least`, `most`, `cost`, and `own`, `thread`, `kernel` and `bare`, null in a report of version 1. `contexts`, null without them
+and where routines were named, stand behind their callers: `routine` and `caller` are places in `routines` and `contexts`,
+`caller` null for the outermost ones; `total` and `self` are instructions, and the least that is sure where `open` is true.
 """
 from __future__ import annotations
 
 import csv
 import io
 import json
-from collections.abc import Sequence
+from collections.abc import Collection, Sequence
 
 from aprof_show.costs import contexts_of, costs_of
 from aprof_show.growth import Growth
@@ -24,13 +25,15 @@ from aprof_show.rows import Row
 POINT_KEYS = ("size", "calls", "least", "most", "cost", "own", "thread", "kernel", "bare")
 
 
-def json_text(profile: Profile, rows: Sequence[Row]) -> str:
+def json_text(profile: Profile, rows: Sequence[Row], named: Collection[Routine] = ()) -> str:
+    """Of the named routines alone, then without contexts, or of all."""
     reports = [
         {"path": report.path, "end": report.end, "steps": report.steps, "open": report.still_open}
         for report in profile.reports
     ]
-    routines = [routine_values(row) for row in rows]
-    contexts = context_values(profile.roots, [row.routine for row in rows]) if profile.roots is not None else None
+    routines = [routine_values(row) for row in rows if not named or row.routine in named]
+    roots = None if named else profile.roots
+    contexts = context_values(roots, [row.routine for row in rows]) if roots is not None else None
     value = {"format": "aprof-show 1", "reports": reports, "routines": routines, "contexts": contexts}
     return json.dumps(value, indent=1, allow_nan=False)
 
@@ -59,6 +62,8 @@ def growth_values(growth: Growth) -> dict[str, object]:
         "top": growth.top,
         "net": growth.net,
         "fit": growth.fit,
+        "rising": growth.rising,
+        "bent": growth.bent,
         "weak": growth.weak,
     }
 
@@ -92,12 +97,14 @@ def context_values(roots: Sequence[Context], routines: Sequence[Routine]) -> lis
     return values
 
 
-def csv_text(profile: Profile) -> str:
-    """A line for each point of each routine, under a line of headings."""
+def csv_text(profile: Profile, named: Collection[Routine] = ()) -> str:
+    """A line for each point of each routine, or of the named ones, under a line of headings."""
     text = io.StringIO()
     writer = csv.writer(text, lineterminator="\n")
     writer.writerow(("routine", "entry", *POINT_KEYS))
     for routine in profile.routines:
+        if named and routine not in named:
+            continue
         for point in routine.points:
             writer.writerow((routine.label, f"{routine.entry:08x}", *point_values(point)))
     return text.getvalue().rstrip("\n")

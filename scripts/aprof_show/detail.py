@@ -5,10 +5,11 @@ import math
 from collections.abc import Sequence
 from itertools import groupby
 
-from aprof_show.growth import Growth, factor_of, slope_between
+from aprof_show.bends import slope_between
+from aprof_show.growth import Growth, factor_of
 from aprof_show.model import Point
 from aprof_show.rows import Row
-from aprof_show.table import growth_text, projected, share_text
+from aprof_show.table import cause_text, growth_text, projected, share_text, short_ratio
 from aprof_show.terminal import Column, about, factor_text, percent, plural, short, table
 
 
@@ -21,6 +22,8 @@ def detail(row: Row, room: int, place: str | None = None) -> list[str]:
     calls = f"{plural(routine.calls, 'call')}, {plural(len(routine.points), 'size')}"
     own = f", self {percent(row.own)}" if row.own is not None else ""
     lines.append(f"{calls}, {share_text(row)} of the steps{own}")
+    if row.cause:
+        lines.append(f"of its cost {cause_text(row.cause)} from here")
     if not routine.points:
         return [*lines, "no call of it had returned at the end"]
     lines += growth_lines(row, row.growth) if row.growth else ["one size other than 0: nothing to tell of growth"]
@@ -33,11 +36,17 @@ def growth_lines(row: Row, growth: Growth) -> list[str]:
     whole, top = factor_text(factor_of(growth.whole)), factor_text(factor_of(growth.top))
     weak = f", uncertain: {growth.weak}" if growth.weak else ""
     most = row.routine.points[-1].size
+    twice, tenfold = about(projected(row, 2), projected(row, 10))
+    rising = f", rising: {factor_text(factor_of(growth.rising))} at the largest sizes" if growth.rising is not None else ""
+    bent = [
+        f"by the mean, as costs at one size differ (up to x{short_ratio(row.spread)}): "
+        f"the greatest cost grows {factor_text(factor_of(growth.bent))}"
+    ] if growth.bent is not None else []
     return [
-        f"growth {growth_text(growth).strip()}, {growth.guess}{weak}",
+        f"growth {growth_text(growth).strip()}, {growth.guess}{rising}{weak}",
+        *bent,
         f"all sizes {whole}, the largest sizes {top}, net of the least (size {least_size(row)}) {net}",
-        f"a call of size {short(2 * most)} would cost about {about(projected(row, 2))}, "
-        f"one of {short(10 * most)} about {about(projected(row, 10))}",
+        f"a call of size {short(2 * most)} would cost about {twice}, one of {short(10 * most)} about {tenfold}",
     ]
 
 

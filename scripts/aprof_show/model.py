@@ -1,6 +1,7 @@
 """What the stored texts say, as values: points, routines, calling contexts, reports, and several reports as one profile."""
 from __future__ import annotations
 
+import re
 from dataclasses import dataclass, field
 
 
@@ -51,8 +52,13 @@ class Routine:
         return f"{label} ({self.apart})" if self.apart else label
 
     def is_called(self, word: str) -> bool:
-        """Whether a person may mean this routine by `word`: its name in any spelling, or its address."""
-        return word in (self.name, self.shown, self.brief, self.label, f"{self.entry:08x}")
+        """Whether a person may mean this routine by `word`: its name in any spelling."""
+        return word in (self.name, self.shown, self.brief, self.label)
+
+    def is_at(self, word: str) -> bool:
+        """Whether `word` is its address: `12784`, `0x12784` or `00012784`."""
+        found = re.fullmatch(r"(0x)?([0-9a-f]{1,8})", word.lower())
+        return found is not None and int(found[2], 16) == self.entry
 
     @property
     def calls(self) -> int:

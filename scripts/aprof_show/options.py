@@ -18,12 +18,20 @@ one longer run.
 """
 
 NOTES = """GROWTH is how many times the greatest cost of a call grows where its size doubles:
-near 2 is linear, near 4 quadratic; `-` where there is but one size other than 0, and
-`~` behind it where it rests on less than 4 sizes or on sizes within a factor of 4.
+near 2 is linear, near 4 quadratic; `-` where there is but one size other than 0,
+`~` behind it where it rests on less than 4 sizes or on sizes within a factor of 4, and
+`!` before it where it is superlinear, or rises to that at the largest sizes. Where a
+few dear calls bend the greatest cost, it is of the mean: the routine's own lines tell.
+`(62% in look_up, 2496 calls)` says where most of a routine's cost comes from: the
+routine below it with the greatest own cost, with the short calls that it makes.
 SHARE is the part of all steps that is spent in the routine and in what it calls,
 `<=100%` where it calls itself and only `aprof contexts` can tell. SELF is its own
 part. `+` is at least: a call had not returned. SPREAD is the greatest ratio of costs
-at one size. Status 0; 1 where --fail-above finds something (uncertain growths and
+at one size.
+POINTS is the number of sizes: a report has a point, with its costs, for each.
+A WORD is the greatest cost divided by the size, which is in words of 4 bytes.
+OWN is the part of the input that its thread or no one wrote: PLAIN in the report.
+Status 0; 1 where --fail-above finds something (uncertain growths and
 routines of the C library count where they are named); 2 for a bad command line,
 report or image."""
 

@@ -20,7 +20,7 @@ from aprof_show.rows import Row, ordered, rows_of
 LIBRARY = Path("/usr/share/javascript/chart.js/chart.min.js")
 SOURCES = Path(__file__).parent / "page"
 SCRIPTS = ("format.js", "data.js", "points.js", "axes.js", "charts.js", "pointer.js", "detail.js", "table.js",
-           "contexts.js", "tree.js", "main.js")
+           "contexts.js", "callees.js", "tree.js", "main.js")
 CHEAP = 0.01
 
 Json = dict[str, Any]
@@ -60,14 +60,15 @@ def library() -> str:
 
 def json_of(profile: Profile, lines: dict[int, str]) -> Json:
     rows = ordered(rows_of(profile), None)
+    places = places_of(rows)
     return {
         "reports": [report_json(report) for report in profile.reports],
         "steps": profile.steps,
         "open": profile.still_open,
-        "routines": [row_json(row, lines.get(row.routine.entry)) for row in rows],
+        "routines": [row_json(row, lines.get(row.routine.entry), places) for row in rows],
         "chains": chains_json(profile.roots or []),
         "contexts": None if profile.roots is None else contexts_json(profile.roots, rows),
-        "callers": callers_json(profile.roots or [], places_of(rows)),
+        "callers": callers_json(profile.roots or [], places),
     }
 
 
@@ -79,14 +80,17 @@ def report_json(report: Report) -> Json:
     return {"path": report.path, "end": report.end, "steps": report.steps, "open": report.still_open}
 
 
-def row_json(row: Row, line: str | None) -> Json:
+def row_json(row: Row, line: str | None, places: Places) -> Json:
     routine, growth = row.routine, row.growth
     return {
         "name": routine.label,
         "entry": f"{routine.entry:08x}",
         "line": line,
-        "growth": factor_json(growth),
-        "top": round(factor_of(growth.top), 3) if growth else None,
+        "growth": growth_json(growth),
+        "top": factor_json(growth.top if growth else None),
+        "rising": factor_json(growth.rising if growth else None),
+        "bent": factor_json(growth.bent if growth else None),
+        "ahead": factor_json(growth.ahead if growth else None),
         "guess": growth.guess if growth else None,
         "weak": growth.weak if growth else None,
         "steep": row.superlinear,
@@ -94,6 +98,7 @@ def row_json(row: Row, line: str | None) -> Json:
         # at least so much where calls were open, at most where nested calls were counted each
         "bound": "≥" if row.open else "" if row.exact else "≤",
         "self": row.own,
+        "cause": [places[row.cause.routine], round(row.cause.part, 4), row.cause.calls] if row.cause else None,
         "cheap": row.share < CHEAP and not row.superlinear and not row.open,
         "library": row.library,
         "calls": routine.calls,
@@ -101,8 +106,12 @@ def row_json(row: Row, line: str | None) -> Json:
     }
 
 
-def factor_json(growth: Growth | None) -> float | None:
-    return round(growth.factor, 3) if growth else None
+def growth_json(growth: Growth | None) -> float | None:
+    return factor_json(growth.exponent if growth else None)
+
+
+def factor_json(exponent: float | None) -> float | None:
+    return None if exponent is None else round(factor_of(exponent), 6)
 
 
 def columns_of(points: Sequence[Point]) -> list[Any]:
@@ -140,7 +149,7 @@ def contexts_json(roots: Sequence[Context], rows: Sequence[Row]) -> Json:
         "calls": [context.calls for context in contexts],
         "cost": [costs[context].total for context in contexts],
         "self": [costs[context].own for context in contexts],
-        "growth": [factor_json(growth(context)) for context in contexts],
+        "growth": [growth_json(growth(context)) for context in contexts],
         "open": [number for number, context in enumerate(contexts) if costs[context].open],
     }
 
@@ -156,7 +165,7 @@ def callers_json(roots: Sequence[Context], places: Places) -> list[list[Any]]:
     for context in contexts_of(roots):
         if context.caller:
             pairs.setdefault((places[context.routine], places[context.caller.routine]), []).append(context)
-    return [[*pair, factor_json(growth_of(points_of(contexts)))] for pair, contexts in pairs.items() if len(contexts) > 1]
+    return [[*pair, growth_json(growth_of(points_of(contexts)))] for pair, contexts in pairs.items() if len(contexts) > 1]
 
 
 def points_of(contexts: Sequence[Context]) -> list[Point]:

@@ -5,6 +5,8 @@ import math
 from collections.abc import Sequence
 from dataclasses import dataclass
 
+from aprof_show.bends import spread_of
+from aprof_show.causes import Cause, causes_of
 from aprof_show.costs import RoutineCost, costs_by_routine, costs_of
 from aprof_show.growth import SUPERLINEAR, Growth, growth_of
 from aprof_show.library import library_routines
@@ -15,7 +17,8 @@ ORDERS = ("growth", "share", "self", "name")
 
 @dataclass(frozen=True, eq=False)
 class Row:
-    """Shares are parts of all steps. `exact` is false where calls nested in one another may have been counted each."""
+    """Shares are parts of all steps. `exact` is false where calls nested in one another may have been counted each. `cause` is
+    what it calls that has most of its cost, where its own part is small and there are contexts."""
 
     routine: Routine
     growth: Growth | None
@@ -25,6 +28,7 @@ class Row:
     open: bool
     spread: float
     library: bool
+    cause: Cause | None = None
 
     @property
     def weight(self) -> float:
@@ -32,7 +36,7 @@ class Row:
         little of its share today. What is uncertain counts a tenth, and the less the closer its sizes are."""
         if self.growth is None:
             return 0.0
-        excess = max(min(self.growth.exponent, 6.0) - math.log2(SUPERLINEAR), 0.0)
+        excess = max(min(self.growth.ahead, 6.0) - math.log2(SUPERLINEAR), 0.0)
         if self.growth.weak:
             excess = min(excess * min(1.0, math.log2(self.growth.size_ratio) / 2) ** 2, 0.5)
         beyond = (10**excess - 1) * (0.1 if self.growth.weak else 1.0)
@@ -41,7 +45,7 @@ class Row:
     @property
     def projected_share(self) -> float:
         """The share at ten times the size, were all else linear."""
-        return float(self.share * 10 ** (min(self.growth.exponent, 6.0) - 1)) if self.growth else self.share
+        return float(self.share * 10 ** (min(self.growth.ahead, 6.0) - 1)) if self.growth else self.share
 
     @property
     def uncertain(self) -> bool:
@@ -54,13 +58,21 @@ class Row:
 
 def rows_of(profile: Profile) -> list[Row]:
     costs: dict[Routine, RoutineCost] | None = None
+    causes: dict[Routine, Cause] = {}
     if profile.roots is not None:
-        costs = costs_by_routine(profile.roots, costs_of(profile.roots))
+        by_context = costs_of(profile.roots)
+        costs = costs_by_routine(profile.roots, by_context)
+        callers = {routine for routine, cost in costs.items() if 2 * cost.own < cost.total}
+        causes = causes_of(profile.roots, by_context, {routine: cost.total for routine, cost in costs.items()}, callers)
     library = library_routines(profile.reports, profile.routines)
-    return [row_of(routine, profile.steps, costs, routine in library) for routine in profile.routines]
+    return [
+        row_of(routine, profile.steps, costs, routine in library, causes.get(routine)) for routine in profile.routines
+    ]
 
 
-def row_of(routine: Routine, steps: int, costs: dict[Routine, RoutineCost] | None, library: bool) -> Row:
+def row_of(
+    routine: Routine, steps: int, costs: dict[Routine, RoutineCost] | None, library: bool, cause: Cause | None = None
+) -> Row:
     cost = costs.get(routine, RoutineCost()) if costs is not None else None
     total = cost.total if cost else routine.cost
     return Row(
@@ -70,8 +82,9 @@ def row_of(routine: Routine, steps: int, costs: dict[Routine, RoutineCost] | Non
         exact=total <= steps,
         own=(cost.own / steps if steps else 0.0) if cost else None,
         open=cost is not None and cost.open,
-        spread=max((point.most / point.least for point in routine.points if point.least), default=1.0),
+        spread=spread_of(routine.points),
         library=library,
+        cause=cause,
     )
 
 

@@ -1,30 +1,22 @@
 """The table of routines, what to look at first, and the lines about a run above and below it."""
 from __future__ import annotations
 
-from collections import Counter
 from collections.abc import Sequence
 from dataclasses import dataclass
-from textwrap import wrap
 
-from aprof_show.costs import chain_of, chain_text, costs_of, open_ends
+from aprof_show.causes import Cause
 from aprof_show.growth import Growth
+from aprof_show.heading import head, open_lines
 from aprof_show.model import Profile, Routine
 from aprof_show.rows import Row, ordered
-from aprof_show.terminal import Column, cut, factor_text, percent, plural, short, table
+from aprof_show.terminal import Column, cut, factor_text, percent, plural, short, table, with_remarks
 
 WIDE = 112
 """From so many columns on the table has the greatest cost and what it would be at larger sizes."""
 
 
-FAULTS = (
-    "no instruction of RV32IMA",
-    "no code there",
-    "no readable byte",
-    "no writable byte",
-    "a jump to an address that is not aligned",
-    "an atomic operation that is not aligned",
-    "EBREAK",
-)
+STEEP = "!"
+STEEP_LINE = f"{STEEP} superlinear: faster than n log n, at least at the largest sizes"
 
 
 @dataclass(frozen=True)
@@ -53,54 +45,35 @@ def summary(profile: Profile, rows: Sequence[Row], choice: Choice, room: int) ->
     hidden = len(others) - len(listed)
     lines = head(profile) + open_lines(profile, room)
     if listed:
-        lines += table(columns_of(listed, room), room)
+        lines += with_causes(table(columns_of(listed, room), room), listed, room)
+    if any(row.superlinear for row in listed):
+        lines.append(STEEP_LINE)
     if any(row.growth and row.growth.weak for row in listed):
         lines.append("~ few sizes, or sizes within a factor of 4: the growth is uncertain")
     if folded:
         lines.append(folded_line(folded))
     if hidden:
-        lines.append(hidden_line([row for row in others if row not in listed]))
+        lines.append(hidden_line([row for row in others if row not in listed], choice))
     return lines + stripped_lines(profile)
 
 
-def head(profile: Profile) -> list[str]:
-    ends = Counter(report.end for report in profile.reports)
-    texts = [f"end {end}" + (f" ({count})" if len(ends) > 1 else "") for end, count in ends.most_common()]
-    faults = [fault_line(report.end) for report in profile.reports if report.end.startswith("fault")]
-    reports = f"{len(profile.reports)} reports, " if len(profile.reports) > 1 else ""
-    still_open = f"{profile.still_open} still open"
-    return [f"{reports}{profile.steps} steps, {', '.join(texts)}, {still_open}", *faults]
+def with_causes(lines: Sequence[str], rows: Sequence[Row], room: int) -> list[str]:
+    """The lines of a table of rows, with the cause of the first one and of those that are superlinear: behind the name, or below."""
+    remarks = [
+        f"({cause_text(row.cause)})" if row.cause and (not number or row.superlinear and not row.uncertain) else ""
+        for number, row in enumerate(rows)
+    ]
+    return with_remarks(lines, remarks, lines[0].index(" ROUTINE") + 3, room)
 
 
-def fault_line(end: str) -> str:
-    """In words what `fault KIND THREAD ADDRESS` says."""
-    _, kind, thread, address = end.split()
-    return f"the fault: {FAULTS[int(kind) - 1]}, thread {thread}, at {address}"
-
-
-def open_lines(profile: Profile, room: int) -> list[str]:
-    """Where the program was as the run ended."""
-    if not profile.still_open:
-        return []
-    if profile.roots is None:
-        return [f"{plural(profile.still_open, 'call')} had not returned; `aprof contexts` stores which"]
-    ends = open_ends(profile.roots, costs_of(profile.roots))
-    chains = [f"open at the end: {chain_text(context)}" for context in ends[:8]]
-    lines = [line for chain in chains for line in wrap(chain, room, subsequent_indent="    ", break_long_words=False)]
-    if len(ends) > 8:
-        lines.append(f"and {len(ends) - 8} more chains")
-    if any(not link.routine.name and not link.routine.shown for context in ends for link in chain_of(context)):
-        lines.append("--image IMAGE names the routines that never returned")
-    sure = {link for context in ends for link in chain_of(context)}
-    more = profile.still_open - len(sure)
-    if more > 0:
-        lines.append(f"and {plural(more, 'more call')}, where earlier calls had returned")
-    return lines
+def cause_text(cause: Cause) -> str:
+    """The part is of the calling routine's cost."""
+    return f"{100 * cause.part:.0f}% in {cut(cause.routine.label, 50)}, {plural(cause.calls, 'call')}"
 
 
 def columns_of(rows: Sequence[Row], room: int) -> list[Column]:
     columns = [
-        Column("GROWTH", [growth_text(row.growth) for row in rows]),
+        Column("GROWTH", [marked(row.growth) for row in rows]),
         Column("SHARE", [share_text(row) for row in rows]),
     ]
     if rows[0].own is not None:
@@ -131,13 +104,18 @@ def greatest_cost(routine: Routine) -> int:
 
 def projected(row: Row, times: int) -> float:
     """The greatest cost at so many times the largest size, if it goes on to grow as it did."""
-    return float(greatest_cost(row.routine) * times ** min(row.growth.exponent, 20.0)) if row.growth else 0.0
+    return float(greatest_cost(row.routine) * times ** min(row.growth.ahead, 20.0)) if row.growth else 0.0
 
 
 def growth_text(growth: Growth | None) -> str:
     if growth is None:
         return "- "
     return factor_text(growth.factor) + ("~" if growth.weak else " ")
+
+
+def marked(growth: Growth | None) -> str:
+    """With the sign before it where it is superlinear."""
+    return (STEEP if growth and growth.superlinear else "") + growth_text(growth)
 
 
 def share_text(row: Row) -> str:
@@ -176,11 +154,14 @@ def folded_line(rows: Sequence[Row]) -> str:
     return f"and {plural(len(rows), 'C library routine')} ({share}{steep_text}): --library"
 
 
-def hidden_line(rows: Sequence[Row]) -> str:
-    steep = sum(row.superlinear for row in rows)
+def hidden_line(rows: Sequence[Row], choice: Choice) -> str:
+    """What is left out, and how it is listed: it is cheap, or behind the first ones."""
+    steep, surely = sum(row.superlinear for row in rows), any(row.superlinear and not row.uncertain for row in rows)
     most = percent(max(row.share for row in rows))
-    steep_text = f", {steep} superlinear on few sizes" if steep else ""
-    return f"and {plural(len(rows), 'routine')} of at most {most}{steep_text}: --all"
+    steep_text = f", {steep} superlinear{'' if surely else ' on few sizes'}" if steep else ""
+    behind = [row for row in rows if choice.has(row)]
+    ways = ["a greater --top"] * bool(behind) + ["--all"] * (len(behind) < len(rows))
+    return f"and {plural(len(rows), 'routine')} of at most {most}{steep_text}: {' and '.join(ways)}"
 
 
 def stripped_lines(profile: Profile) -> list[str]:

@@ -1,6 +1,7 @@
 """Text for a terminal: its width, tables of aligned columns, and numbers that fit."""
 from __future__ import annotations
 
+import math
 import shutil
 import sys
 from collections.abc import Sequence
@@ -46,6 +47,17 @@ def table(columns: Sequence[Column], room: int) -> list[str]:
     return lines
 
 
+def with_remarks(lines: Sequence[str], remarks: Sequence[str], place: int, room: int) -> list[str]:
+    """The lines of a table, each but the heading with its remark: behind it where that fits, else below, from `place` on."""
+    told = list(lines[:1])
+    for line, remark in zip(lines[1:], remarks):
+        if len(line) + 2 + len(remark) <= room:
+            told.append(f"{line}  {remark}".rstrip())
+        else:
+            told += [line, " " * max(min(place, room - len(remark)), 0) + remark] if remark else [line]
+    return told
+
+
 def cut(text: str, room: int) -> str:
     """The text, or its begin and its end where it is too long."""
     if len(text) <= room:
@@ -54,19 +66,31 @@ def cut(text: str, room: int) -> str:
     return f"{text[: kept - kept // 2]}...{text[len(text) - kept // 2 :]}"
 
 
+UNITS = ((1e18, "E"), (1e15, "P"), (1e12, "T"), (1e9, "G"), (1e6, "M"))
+
+
 def short(number: float) -> str:
     """A number in at most seven characters; whole below ten millions."""
     if number < 10_000_000:
         return str(round(number))
-    for unit, name in ((1e18, "E"), (1e15, "P"), (1e12, "T"), (1e9, "G"), (1e6, "M")):
+    for unit, name in UNITS:
         if number >= unit:
             return f"{number / unit:.1f}{name}" if number < 1e21 else f"{number:.0e}"
     return str(round(number))
 
 
-def about(number: float) -> str:
-    """A number in two digits that count."""
-    return short(float(f"{number:.2g}"))
+def about(*numbers: float) -> list[str]:
+    """Numbers in two digits that count, all with the unit of the least of them."""
+    least = min(numbers)
+    unit, name = next(((unit, name) for unit, name in UNITS if unit <= least < 1000 * unit), (1.0, ""))
+    return [decimal(float(f"{number:.2g}") / unit) + name for number in numbers]
+
+
+def decimal(number: float) -> str:
+    """Without a digit behind the point where it is 0."""
+    if number >= 1e15:
+        return f"{number:.1e}"
+    return f"{number:.1f}" if number < 9.95 and round(number, 1) != round(number) else str(round(number))
 
 
 def percent(share: float) -> str:
@@ -77,8 +101,10 @@ def plural(number: int, noun: str) -> str:
     return f"{number} {noun}" if number == 1 else f"{number} {noun}s"
 
 
-def factor_text(factor: float) -> str:
-    """`x2.2`, `x84`, and `x>99` for what is out of all bounds."""
-    if factor > 99.5:
+def factor_text(factor: float, digits: int = 1) -> str:
+    """`x2.2`, `x84`, and `x>99` for what is out of all bounds. A half is rounded up, as on the page."""
+    if factor > 99.5 and digits == 1:
         return "x>99"
-    return f"x{factor:.1f}" if factor < 9.95 else f"x{factor:.0f}"
+    if factor >= 9.95 and digits == 1:
+        return f"x{math.floor(factor + 0.5)}"
+    return f"x{math.floor(10**digits * factor + 0.5) / 10**digits:.{digits}f}"

@@ -1,15 +1,17 @@
 """The calling tree, and who calls a routine."""
 from __future__ import annotations
 
-from collections.abc import Iterable, Sequence
+from collections.abc import Collection, Iterable, Sequence
 from dataclasses import dataclass, field
 
+from aprof_show.causes import causes_of
 from aprof_show.costs import Cost, costs_of, outermost
 from aprof_show.growth import growth_of
+from aprof_show.heading import head, open_lines
 from aprof_show.joining import add_points
 from aprof_show.model import Context, Point, Profile, Routine
-from aprof_show.table import growth_text, head, open_lines
-from aprof_show.terminal import Column, percent, short, table
+from aprof_show.table import STEEP, STEEP_LINE, marked
+from aprof_show.terminal import Column, percent, short, table, with_remarks
 
 DEEPEST = 24
 """Lines further in than so many levels are not indented further; their level is told."""
@@ -36,7 +38,7 @@ class Node:
         points: list[Point] = []
         for context in self.contexts:
             points = add_points(points, context.points)
-        return growth_text(growth_of(points))
+        return marked(growth_of(points))
 
 
 @dataclass(frozen=True)
@@ -88,10 +90,15 @@ def by_total(nodes: Iterable[Node]) -> list[Node]:
     return sorted(nodes, key=lambda node: -node.total)
 
 
-def tree_text(profile: Profile, roots: Sequence[Context], least: float, room: int) -> list[str]:
+def tree_text(
+    profile: Profile, roots: Sequence[Context], least: float, room: int, wanted: Collection[Routine] = ()
+) -> list[str]:
+    """The whole tree, or the parts from the outermost calls of the wanted routines down."""
     costs = costs_of(roots)
-    lines = lines_of(tree_of(roots, costs).values(), least * profile.steps)
+    tops = [context for context, is_outermost in outermost(roots) if is_outermost and context.routine in wanted]
+    lines = lines_of(tree_of(tops if wanted else roots, costs).values(), least * profile.steps)
     steps = max(profile.steps, 1)
+    not_shown = [below_text(line.node, costs, steps) if line.again else "" for line in lines]
     columns = [
         Column("TOTAL", [percent(line.node.total / steps) + "+" * line.node.open for line in lines]),
         Column("SELF", [percent(line.node.own / steps) + "+" * line.node.open for line in lines]),
@@ -99,14 +106,28 @@ def tree_text(profile: Profile, roots: Sequence[Context], least: float, room: in
         Column("CALLS", [short(line.node.calls) for line in lines]),
         Column(" ROUTINE", [" " + indented(line) for line in lines], left=True),
     ]
-    return [*head(profile), *open_lines(profile, room), *table(columns, room), *notes(lines, f"{percent(least)} of the steps")]
+    told = table(columns, room)
+    told = with_remarks(told, not_shown, told[0].index(" ROUTINE") + 3, room)
+    about_again = ["(again) is not followed again; what has most of its cost there is named"] * any(not_shown)
+    return [
+        *head(profile), *open_lines(profile, room), *told, *notes(lines, f"{percent(least)} of the steps"), *about_again,
+    ]
+
+
+def below_text(node: Node, costs: dict[Context, Cost], steps: int) -> str:
+    """What a node that comes again would show: the routine below with the greatest own cost there, as a part of all steps."""
+    mine = set(node.contexts)
+    roots = [context for context in node.contexts if context.caller not in mine]
+    cause = causes_of(roots, costs, {node.routine: node.total}, {node.routine}).get(node.routine)
+    return f"(not shown: {percent(cause.part * node.total / steps)} in {cause.routine.label})" if cause else ""
 
 
 def notes(lines: Sequence[Line], least: str) -> list[str]:
     """What the signs in the lines mean, where there are any."""
     left_out = [f"(+N) calls N more routines, each for less than {least}"] if any(line.left_out for line in lines) else []
     uncertain = ["+ at least: a call had not returned"] if any(line.node.open for line in lines) else []
-    return left_out + uncertain
+    steep = [STEEP_LINE] if any(line.node.growth().startswith(STEEP) for line in lines) else []
+    return steep + left_out + uncertain
 
 
 def indented(line: Line) -> str:

@@ -27,7 +27,8 @@ MISTAKES: list[tuple[list[str], int, str]] = [
     ([WORDS, "nope"], 2, "show: no file and no routine called nope"),
     ([WORDS, "--routine", "nope"], 2, "show: no file and no routine called nope"),
     ([WORDS, "--fail-above", "9", "nope"], 2, "show: no file and no routine called nope"),
-    (["--callers", "nope", CONTEXTS], 2, "show: no file and no routine called nope"),
+    (["--callers", "nope", CONTEXTS], 2, "show: no routine called nope; the routine goes directly after --callers"),
+    (["--callers", CONTEXTS, "10070"], 2, f"show: {CONTEXTS} is a file; the routine goes directly after --callers"),
     (["crates"], 2, "show: crates: no file in this folder"),
     (["rows/two-ways-to-a-routine"], 2, "show: rows/two-ways-to-a-routine/code.s:1: not a report of aprof"),
     (["README.md"], 2, "show: README.md:1: not a report of aprof"),
@@ -121,7 +122,7 @@ class Output(unittest.TestCase):
         self.assertIn("C library routines (largest: qsort 47.1%", show(WORDS))
         self.assertNotIn(" qsort\n", show(WORDS))
         self.assertIn(" qsort\n", show(WORDS, "--library"))
-        self.assertEqual(len(show(WORDS, "--all", "--library", "--by", "name").splitlines()), 2 + 70 + 1)
+        self.assertEqual(len(show(WORDS, "--all", "--library", "--by", "name").splitlines()), 2 + 70 + 2)
         self.assertEqual(show(WORDS, "--top", "1").count("x"), 1 + 1)
         self.assertIn("and 7 routines of at most", show(WORDS, "--min", "99.99"))
 

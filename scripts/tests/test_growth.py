@@ -5,8 +5,10 @@ import math
 import unittest
 from collections.abc import Callable
 
-from aprof_show.growth import growth_of
-from aprof_show.model import Point
+from aprof_show.detail import detail
+from aprof_show.growth import factor_of, growth_of
+from aprof_show.model import Point, Routine
+from aprof_show.rows import row_of
 from tests.samples import points_of, stored
 
 DOUBLED = [60, 120, 240, 480, 960]
@@ -73,6 +75,80 @@ class KnownCurves(unittest.TestCase):
         assert growth
         self.assertGreater(growth.top, growth.whole + 0.2)
         self.assertGreater(growth.factor, 3.0)
+
+
+def spiky(spots: list[tuple[int, float]], dear: dict[int, int], calls: int = 4) -> list[Point]:
+    """Calls of one cost at each size, and one of so many times that cost at the sizes of `dear`."""
+    points = []
+    for size, cost in spots:
+        least, most = round(cost), round(cost * dear.get(size, 1))
+        points.append(Point(size, calls, least, most, least * (calls - 1) + most, None))
+    return points
+
+
+POSTINGS = [(863, 321242), (1496, 648933), (2908, 1361459), (5572, 3054867), (10982, 7465981)]
+"""A routine with a linear part and one that grows: x2.2, x2.4, x2.5."""
+
+# the points, the last factor where the slopes rise, and whether it is superlinear
+RISING: list[tuple[str, list[tuple[int, float]], float | None, bool]] = [
+    ("two parts", [(size, float(cost)) for size, cost in POSTINGS], 2.49, True),
+    ("n + n²", [(n, EMERGING(n)) for n in DOUBLED], 3.42, True),
+    ("n + a little n²", [(n, 2000.0 * n + n * n) for n in DOUBLED], 2.39, True),
+    ("n", [(n, LINEAR(n)) for n in DOUBLED], None, False),
+    ("a fixed cost and n", [(n, 5000 + LINEAR(n)) for n in DOUBLED], None, False),
+    ("n log n", [(n, LOG_LINEAR(n)) for n in DOUBLED], None, False),
+    ("n²", [(n, SQUARE(n)) for n in DOUBLED], None, True),
+    ("three sizes", [(n, EMERGING(n)) for n in DOUBLED[:3]], None, True),
+    ("a jump", [(100, 100.0), (200, 190.0), (400, 400.0), (800, 4000.0)], None, True),
+]
+
+# the points, whether the mean is judged, and bounds of the factor
+SPREAD: list[tuple[str, list[Point], bool, float, float]] = [
+    ("dear at middle sizes", spiky([(n, LINEAR(n)) for n in DOUBLED], {60: 8, 120: 5, 240: 3}), True, 1.6, 2.0),
+    ("dear everywhere", spiky([(n, LINEAR(n)) for n in DOUBLED], dict.fromkeys(DOUBLED, 6)), False, 1.95, 2.05),
+    ("dear at large sizes", spiky([(n, LINEAR(n)) for n in DOUBLED], {480: 3, 960: 6}), False, 2.5, 5.0),
+    ("few calls", spiky([(n, n**0.5) for n in (4000, 16000, 64000, 256000)], {}), False, 1.35, 1.5),
+    ("three sizes", spiky([(n, LINEAR(n)) for n in (60, 240, 960)], {60: 8}), False, 1.0, 1.7),
+]
+
+
+class Bends(unittest.TestCase):
+    def test_rising(self) -> None:
+        for name, spots, last, steep in RISING:
+            with self.subTest(name):
+                growth = growth_of(points_of(spots))
+                assert growth
+                self.assertEqual(growth.superlinear, steep)
+                if last is None:
+                    self.assertIsNone(growth.rising)
+                    continue
+                assert growth.rising is not None
+                self.assertAlmostEqual(factor_of(growth.rising), last, delta=0.01)
+                self.assertEqual(growth.ahead, growth.rising)
+
+    def test_noise_seldom_rises(self) -> None:
+        found = [growth_of(points_of([(n, LINEAR(n)) for n in DOUBLED], 0.2, seed)) for seed in range(200)]
+        self.assertLess(sum(growth is not None and growth.rising is not None for growth in found), 20)
+
+    def test_spread(self) -> None:
+        for name, points, by_mean, least, most in SPREAD:
+            with self.subTest(name):
+                growth = growth_of(points)
+                assert growth
+                self.assertEqual(growth.bent is not None, by_mean)
+                self.assertTrue(least <= growth.factor <= most, growth)
+                self.assertIsNone(growth.rising)
+
+    def test_words_of_it(self) -> None:
+        cases = [
+            (points_of([(size, float(cost)) for size, cost in POSTINGS]), "x2.3, about n log n, rising: x2.5 at the largest sizes"),
+            (SPREAD[0][1], "by the mean, as costs at one size differ (up to x8.0): the greatest cost grows x"),
+            (points_of([(n, 10.0 * n) for n in (40_000, 80_000, 160_000, 320_000)]), "about 6.4M, one of 3200000 about 32M"),
+        ]
+        for points, part in cases:
+            with self.subTest(part):
+                row = row_of(Routine(0x10000, "parse", points), 10**9, None, False)
+                self.assertIn(part, "\n".join(detail(row, 80)))
 
 
 class FewPoints(unittest.TestCase):

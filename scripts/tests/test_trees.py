@@ -8,13 +8,14 @@ from aprof_show.costs import chain_text, costs_by_routine, costs_of, open_ends
 from aprof_show.joining import join
 from aprof_show.model import Context, Profile
 from aprof_show.stacks import folded
-from aprof_show.table import open_lines
+from aprof_show.heading import open_lines
 from aprof_show.tree import callers_of, callers_text, tree_text
 from tests.samples import ADDRESSES, Call, Run, random_call, report_of
 
 PLAIN = Call("main", own=10, calls=[Call("parse", own=20, calls=[Call("leaf", own=30)]), Call("leaf", own=40)])
 RECURSIVE = Call("main", calls=[Call("parse", 3, 10, [Call("parse", 2, 10, [Call("parse", 1, 10), Call("leaf", 1, 5)])])])
 MUTUAL = Call("main", calls=[Call("parse", own=10, calls=[Call("leaf", own=10, calls=[Call("parse", own=10)])])])
+HIDING = Call("parse", own=1, calls=[Call("look_up", own=79, calls=[Call("spin", own=1)])])
 SPINNING = Call("main", own=10, calls=[
     Call("parse", own=20), Call("parse", own=30, calls=[Call("leaf", own=5), Call("spin", own=900, open=True)]),
 ])
@@ -131,6 +132,12 @@ class Trees(unittest.TestCase):
         self.assertEqual([line.split("  ")[-1].strip() for line in tree_text(profile, roots_of(profile), 0, 80)[2:]], [
             "main", "parse", "leaf", "parse (again)",
         ])
+        profile = profile_of(Call("main", calls=[Call("parse", 1, 1, [Call("leaf", 1, 1, [HIDING])])]))
+        lines = tree_text(profile, roots_of(profile), 0, 80)
+        self.assertEqual([line.split("     1  ")[-1].strip() for line in lines if "again" in line], [
+            "parse (again)  (not shown: 94.0% in look_up)", "(again) is not followed again; what has most of its cost there is named",
+        ])
+        self.assertIn("(not shown: 94.0% in look_up)", [line.strip() for line in tree_text(profile, roots_of(profile), 0, 50)])
         leaf = next(routine for routine in profile.routines if routine.name == "leaf")
         parse = next(routine for routine in profile.routines if routine.name == "parse")
         for routine, ways in ((leaf, ["leaf", "parse", "main"]), (parse, ["parse (recursive)", "leaf", "main", "main"])):

@@ -17,7 +17,9 @@ for (const routine of routines) {
 }
 const linkOf = (routine) =>
   `#routine=${encodeURIComponent(named.get(routine.name) === routine ? routine.name : routine.entry)}`;
-const routineOf = (word) => named.get(word) || routines.find((routine) => routine.entry === word);
+// by name, or by address as in `12784`, `0x12784` and `00012784`
+const routineOf = (word) => named.get(word)
+  || routines.find(({ entry }) => entry === word.toLowerCase().replace(/^0x/, "").padStart(8, "0"));
 
 function column(packed, length, otherwise) {
   if (packed === null) return otherwise;

@@ -11,14 +11,17 @@ function verdictOf(routine) {
   }
   const top = routine.top !== null && Math.abs(routine.top - routine.growth) >= 0.15
     ? ` (${times(routine.top)} at the largest sizes)` : "";
-  return `Where its input doubles, its greatest cost grows ${times(routine.growth)}${top}: ${routine.guess}.${
-    routine.weak ? ` That rests on ${routine.weak}, and is uncertain.` : ""}`;
+  const more = routine.rising === null ? "" : `, rising: ${times(routine.rising)} at the largest sizes`;
+  const bent = routine.bent === null ? ""
+    : ` Costs at one size differ, so that is of the mean; the greatest cost grows ${times(routine.bent)}.`;
+  return `Where its input doubles, its ${bent ? "mean" : "greatest"} cost grows ${times(routine.growth)}${more ? "" : top}: ${routine.guess}${more}.${
+    bent}${routine.weak ? ` That rests on ${routine.weak}, and is uncertain.` : ""}`;
 }
 
 // the greatest cost at the largest size, and what it comes to where that doubles
 function aheadOf(routine) {
   const { most, length } = figure.points;
-  return `${short(most[length - 1])} → ${short(most[length - 1] * routine.growth)}`;
+  return `${short(most[length - 1])} → ${short(most[length - 1] * routine.ahead)}`;
 }
 
 // the greatest ratio between the costs of two calls of one size
@@ -75,6 +78,8 @@ function showRoutine(routine) {
   byId("place").textContent = [routine.line, routine.entry === routine.name ? null : `at ${routine.entry}`,
     routine.library ? "C library" : null].filter(Boolean).join(" · ");
   byId("verdict").textContent = verdictOf(routine);
+  tellCause(routine);
+  tellCallees(routine);
   byId("facts").replaceChildren(...factsOf(routine).map(([name, text, look]) => make("div", "", make("dt", "", name), make("dd", look, text))));
   byId("figure").hidden = points.length === 0;
   byId("plots").setAttribute("aria-label", `Cost of ${routine.name} by size, ${plural(points.length, "point")}`);

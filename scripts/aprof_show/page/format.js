@@ -22,7 +22,12 @@ function percent(part) {
   return (100 * part).toFixed(1);
 }
 
-const times = (growth) => (growth === null ? MINUS : `×${growth >= 100 ? count(growth) : growth.toFixed(1)}`);
+// as the terminal has it: a half is rounded up, and two digits are enough
+function times(growth) {
+  if (growth === null) return MINUS;
+  if (growth > 99.5) return "×>99";
+  return `×${growth < 9.95 ? (Math.floor(10 * growth + 0.5) / 10).toFixed(1) : Math.floor(growth + 0.5)}`;
+}
 
 const plural = (amount, one, many = `${one}s`) => `${count(amount)} ${amount === 1 ? one : many}`;
 

@@ -42,7 +42,10 @@ function follow() {
   try {
     word = found && decodeURIComponent(found[1]);
   } catch { /* a link that is none */ }
-  const routine = (word !== null && routineOf(word)) || table.rows[0] || routines[0];
+  const wanted = word === null ? undefined : routineOf(word);
+  byId("unknown").hidden = word === null || Boolean(wanted);
+  byId("unknown").textContent = `There is no routine “${word}” in this profile.`;
+  const routine = wanted || table.rows[0] || routines[0];
   byId("detail").hidden = !routine;
   if (!routine || routine === shown) return;
   showRoutine(routine);

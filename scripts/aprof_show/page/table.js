@@ -30,6 +30,14 @@ function picture(routine) {
   return `<svg width="38" height="20" viewBox="0 0 38 20" aria-hidden="true"><polyline points="${spots.join(" ")}"/></svg>`;
 }
 
+// in a tree or a list, a dash where it is not known
+function growthText(growth) {
+  if (growth !== null && growth !== undefined) return document.createTextNode(times(growth));
+  const dash = make("span", "faint", MINUS);
+  dash.title = growth === null ? "one size of input: nothing to tell of growth" : "not known for the calls by this way";
+  return dash;
+}
+
 function growthCell(routine) {
   const cell = make("span", `rate${routine.steep ? " steep" : ""}${routine.weak ? " doubt" : ""}`);
   cell.innerHTML = picture(routine); // numbers alone

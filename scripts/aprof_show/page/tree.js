@@ -16,7 +16,7 @@ function treeRow(node, level, place, of) {
   if (node.open) name.append(make("span", "tag", node.calls ? "some calls open" : "still open"));
   if (node.routine === shown) name.classList.add("chosen");
   const part = (cost) => partCell(cost === null ? null : cost / Math.max(profile.steps, 1));
-  const cells = [count(node.calls), part(node.cost), part(node.self), node.growth === undefined ? "" : times(node.growth)];
+  const cells = [count(node.calls), part(node.cost), part(node.self), growthText(node.growth)];
   row.append(...cells.map((cell) => make("td", "number", cell)), name);
   return row;
 }

@@ -1,0 +1,54 @@
+"""The lines about a run above its routines: its steps, how it ended, and what was open at the end."""
+from __future__ import annotations
+
+from collections import Counter
+from textwrap import wrap
+
+from aprof_show.costs import chain_of, chain_text, costs_of, open_ends
+from aprof_show.model import Profile
+from aprof_show.terminal import plural
+
+FAULTS = (
+    "no instruction of RV32IMA",
+    "no code there",
+    "no readable byte",
+    "no writable byte",
+    "a jump to an address that is not aligned",
+    "an atomic operation that is not aligned",
+    "EBREAK",
+)
+
+
+def head(profile: Profile) -> list[str]:
+    ends = Counter(report.end for report in profile.reports)
+    texts = [f"end {end}" + (f" ({count})" if len(ends) > 1 else "") for end, count in ends.most_common()]
+    faults = [fault_line(report.end) for report in profile.reports if report.end.startswith("fault")]
+    reports = f"{len(profile.reports)} reports, " if len(profile.reports) > 1 else ""
+    still_open = f"{profile.still_open} still open"
+    return [f"{reports}{profile.steps} steps, {', '.join(texts)}, {still_open}", *faults]
+
+
+def fault_line(end: str) -> str:
+    """In words what `fault KIND THREAD ADDRESS` says."""
+    _, kind, thread, address = end.split()
+    return f"the fault: {FAULTS[int(kind) - 1]}, thread {thread}, at {address}"
+
+
+def open_lines(profile: Profile, room: int) -> list[str]:
+    """Where the program was as the run ended."""
+    if not profile.still_open:
+        return []
+    if profile.roots is None:
+        return [f"{plural(profile.still_open, 'call')} had not returned; `aprof contexts` stores which"]
+    ends = open_ends(profile.roots, costs_of(profile.roots))
+    chains = [f"open at the end: {chain_text(context)}" for context in ends[:8]]
+    lines = [line for chain in chains for line in wrap(chain, room, subsequent_indent="    ", break_long_words=False)]
+    if len(ends) > 8:
+        lines.append(f"and {len(ends) - 8} more chains")
+    if any(not link.routine.name and not link.routine.shown for context in ends for link in chain_of(context)):
+        lines.append("--image IMAGE names the routines that never returned")
+    sure = {link for context in ends for link in chain_of(context)}
+    more = profile.still_open - len(sure)
+    if more > 0:
+        lines.append(f"and {plural(more, 'more call')}, where earlier calls had returned")
+    return lines

@@ -1,0 +1,43 @@
+"""The reports that a command line names: files, folders of files, and names from an image."""
+from __future__ import annotations
+
+import os
+import re
+from collections.abc import Sequence
+from pathlib import Path
+
+from aprof_show.joining import CannotJoin, join
+from aprof_show.model import CacheReport, Profile, Report
+from aprof_show.reading import read_file
+from aprof_show.source import lines_of_image, name_routines, read_symbols
+from aprof_show.words import Refused
+
+
+def read_all(paths: Sequence[str]) -> list[Report | CacheReport]:
+    return [read_file(file) for path in paths for file in files_of(path)]
+
+
+def files_of(path: str) -> list[str]:
+    """The path itself, or the files of a folder by name, where 400 comes before 1600."""
+    if not os.path.isdir(path):
+        return [path]
+    entries = sorted(Path(path).iterdir(), key=lambda entry: re.sub("[0-9]+", lambda digits: digits[0].zfill(20), entry.name))
+    files = [str(entry) for entry in entries if entry.is_file() and not entry.name.startswith(".")]
+    if not files:
+        raise Refused(f"{path}: no file in this folder")
+    return files
+
+
+def joined(reports: Sequence[Report | CacheReport]) -> Profile:
+    profiles = [report for report in reports if isinstance(report, Report)]
+    if len(profiles) < len(reports):
+        raise CannotJoin("reports of `aprof cache` can't be joined with others")
+    return join(profiles)
+
+
+def name_by_image(reports: Sequence[Report | CacheReport], image: str) -> dict[int, str]:
+    """Names what has no name, and gives files and lines."""
+    symbols = read_symbols(image)
+    routines = [routine for report in reports if isinstance(report, Report) for routine in report.routines]
+    name_routines(routines, symbols, image)
+    return lines_of_image(image, (routine.entry for routine in routines))

@@ -1,0 +1,58 @@
+"""Whether reports are of one program: warnings where they hardly can be."""
+from __future__ import annotations
+
+from collections.abc import Iterator, Sequence
+
+from aprof_show.library import musl_names
+from aprof_show.model import Report
+
+COMMON = 0.25
+"""Reports of one program have more of the names in common, of those that the one with fewer has."""
+
+EVERYWHERE = frozenset({"main", "_start"})
+
+
+Places = dict[str, set[int]]
+"""Names with their addresses."""
+
+
+def places_of(reports: Sequence[Report]) -> Places:
+    places: Places = {}
+    for report in reports:
+        for routine in report.routines:
+            if routine.name is not None:
+                places.setdefault(routine.name, set()).add(routine.entry)
+    return places
+
+
+def few_names(some: Places, others: Places) -> bool:
+    """Whether there is hardly a name in common, of those that are the programs' own."""
+    mine, yours = (places.keys() - musl_names() - EVERYWHERE for places in (some, others))
+    fewer = min(len(mine), len(yours))
+    return fewer > 0 and len(mine & yours) < COMMON * fewer
+
+
+def clash(some: Places, others: Places) -> bool:
+    """Whether most names of both are at other addresses, or an address has another name."""
+    common = some.keys() & others.keys()
+    moved = sum(not some[name] & others[name] for name in common)
+    here = {entry: name for name, entries in some.items() for entry in entries}
+    renamed = any(here.get(entry, name) != name for name, entries in others.items() for entry in entries)
+    return renamed or 2 * moved > len(common)
+
+
+def strangers(reports: Sequence[Report]) -> Iterator[str]:
+    """Warnings about reports that are joined, each compared with the first one."""
+    first = places_of(reports[:1])
+    for report in reports[1:]:
+        other = places_of([report])
+        if clash(first, other):
+            what = "hardly a routine in common" if few_names(first, other) else "most routines at other addresses"
+            yield f"{reports[0].path} and {report.path} have {what}: of different programs or builds?"
+            return
+
+
+def strange_pair(old: Sequence[Report], new: Sequence[Report]) -> Iterator[str]:
+    """A warning about reports that are compared. Another build has other addresses, but names in common."""
+    if few_names(places_of(old), places_of(new)):
+        yield f"{old[0].path} and {new[0].path} have hardly a routine in common: of different programs?"

@@ -1,0 +1,108 @@
+"""What the words of a command line have to do with one another: nothing that was given is left aside without a word."""
+from __future__ import annotations
+
+import argparse
+import os
+from collections.abc import Collection, Iterable, Sequence
+from difflib import get_close_matches
+
+from aprof_show.model import Routine
+
+CHOICE = frozenset({"--all", "--min", "--library", "--top", "--by"})
+
+# what each kind of output takes besides its reports and --image
+TAKES: dict[str, frozenset[str]] = {
+    "--page": frozenset(),
+    "--json": frozenset({"a routine"}),
+    "--csv": frozenset({"a routine"}),
+    "--open": frozenset(),
+    "--folded": frozenset(),
+    "--callgrind": frozenset(),
+    "--tree": frozenset({"a routine", "--all", "--min"}),
+    "--callers": frozenset({"--all", "--min"}),
+    "--against": frozenset({"--all", "--min", "--library", "--top", "--fail-above", "a routine"}),
+    "--fail-above": frozenset({"--min", "--library", "--by", "a routine"}),
+    "a routine": frozenset({"--plot"}),
+    "the table": CHOICE,
+    "a report of `aprof cache`": frozenset({"--all", "--min", "--top"}),
+}
+
+REASONS = {
+    "--page": "a page has all routines",
+    "--open": "the calls that were open are of the whole run",
+    "--folded": "stacks are of the whole run",
+    "--callgrind": "the file is of the whole run",
+    "--callers": "its routine goes directly behind it",
+}
+
+
+BEHIND_CALLERS = "the routine goes directly after --callers: --callers ROUTINE REPORT..."
+
+
+class Refused(Exception):
+    """The command can't be carried out."""
+
+
+def kind_of(options: argparse.Namespace, names: Sequence[str]) -> str:
+    for kind in TAKES:
+        if kind.startswith("--") and getattr(options, attribute_of(kind)) not in (None, False):
+            return kind
+    return "a routine" if names else "the table"
+
+
+def attribute_of(option: str) -> str:
+    return option.removeprefix("--").replace("-", "_")
+
+
+def given(options: argparse.Namespace, names: Sequence[str]) -> list[str]:
+    """What there is besides the reports."""
+    words = [*sorted(CHOICE), "--plot", *(kind for kind in TAKES if kind.startswith("--"))]
+    found = [word for word in words if getattr(options, attribute_of(word)) not in (None, False)]
+    return (["a routine"] if names else []) + found
+
+
+def check(options: argparse.Namespace, names: Sequence[str], kind: str) -> None:
+    """Refuses what this kind of output has no use for."""
+    for word in given(options, names):
+        if word == kind or word in TAKES[kind]:
+            continue
+        if word == "a routine" and kind in REASONS:
+            raise Refused(f"{kind} takes no routine ({names[0]}): {REASONS[kind]}")
+        raise Refused(f"{kind} takes no {word.removeprefix('a ')}")
+    chosen = [word for word in given(options, names) if word in CHOICE]
+    if names and chosen and kind != "--tree":
+        raise Refused(f"{chosen[0]} chooses among all routines, and {names[0]} is one: give one of both")
+    if options.all and options.min is not None:
+        raise Refused("--all and --min exclude each other")
+
+
+def check_page(path: str, inputs: Iterable[str]) -> None:
+    """A page is not written over a report."""
+    if not os.path.isfile(path):
+        return
+    with open(path, "rb") as file:
+        is_report = file.read(6) == b"aprof "
+    if is_report or any(os.path.samefile(path, one) for one in inputs):
+        raise Refused(f"{path} is a report, and is not overwritten: --page FILE REPORT...")
+
+
+def named(routines: Collection[Routine], name: str) -> list[Routine]:
+    """By name, or else by address."""
+    found = [routine for routine in routines if routine.is_called(name)]
+    found = found or [routine for routine in routines if routine.is_at(name)]
+    if not found:
+        near = get_close_matches(name, [routine.label for routine in routines], 1)
+        raise Refused(f"no file and no routine called {name}" + (f"; there is {near[0]}" if near else ""))
+    return found
+
+
+def all_named(routines: Collection[Routine], names: Iterable[str]) -> set[Routine]:
+    return {routine for name in names for routine in named(routines, name)}
+
+
+def called_by(routines: Collection[Routine], name: str) -> list[Routine]:
+    """The routine of --callers: what looks like none may be a report in its place."""
+    try:
+        return named(routines, name)
+    except Refused as error:
+        raise Refused(f"{str(error).replace('no file and no', 'no', 1)}; {BEHIND_CALLERS}") from error
