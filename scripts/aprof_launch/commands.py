@@ -27,11 +27,12 @@ class Option:
     required: bool = False
     use: Use = Use.NONE
 
-    def wanted(self) -> str:
-        """The values that it takes."""
+    def wanted(self, value: str = "0") -> str:
+        """The values that it takes, told to who gave this one."""
         if self.among:
             return " or ".join([", ".join(map(str, self.among[:-1])), str(self.among[-1])])
-        return f"{'a power of two, ' if self.power else ''}{self.least} to {self.greatest}"
+        form = "" if value.isascii() and value.isdigit() else "a whole number in digits, "
+        return f"{form}{'a power of two, ' if self.power else ''}{self.least} to {self.greatest}"
 
     def takes(self, value: str) -> bool:
         """Whether the program takes the value."""

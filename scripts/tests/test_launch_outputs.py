@@ -27,6 +27,7 @@ REFUSED = (
     ("run --record ./text -o text bubble", "./text: --record and -o name the same file"),
     ("run --record no/k -o r bubble", "no/k: no such folder"),
     ("run --record bubble -o r bubble", "bubble: it is the program itself"),
+    ("run -o /proc/x bubble", "/proc/x: it can't be created there"),
     ("run -o dangling bubble", "dangling: no such folder"),
 )  # fmt: skip
 
@@ -68,6 +69,25 @@ class Outputs(Launched):
     def test_words_stay(self) -> None:
         words = ["run", "-o", "r", "bubble", "=a b", "=*", "=", "=$x", "=\n"]
         self.assertEqual(self.run_words(words).stdout, f"words: {' '.join(words)}\n")
+
+    def test_dash(self) -> None:
+        done = self.run_words("run -o - bubble")
+        said = "aprof: `-o -` is a file of that name; /dev/stdout is standard output\n"
+        self.assertEqual((done.returncode, done.stdout, done.stderr), (0, "words: run -o - bubble\n", said))
+
+    def test_standard_output(self) -> None:
+        """A plain file that it is can't be the report too; a closed or full one is told."""
+        why = "it is standard output, a file, where what the program prints goes"
+        for words, where, text in (
+            ("-o /dev/stdout", "> out", f"aprof: cannot write /dev/stdout: {why}\n"),
+            ("-o out", ">> out", f"aprof: cannot write out: {why}\n"),
+            ("-o r", ">&-", "aprof: standard output is closed\n"),
+            ("-o r", "> /dev/full", "aprof: standard output: no space left\n"),
+        ):
+            environment = os.environ | {"FAKE_STATUS": "4", "FAKE_SILENT": "1"}
+            command = ["bash", "-c", f"{self.launcher} run {words} bubble {where}"]
+            done = subprocess.run(command, cwd=self.folder, env=environment, capture_output=True, text=True)
+            self.assertEqual((done.returncode, done.stderr), (4, text), command)
 
     def test_a_reader_that_has_gone(self) -> None:
         """Of standard output: then it is that which couldn't be written."""
