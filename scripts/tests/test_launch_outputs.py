@@ -4,7 +4,10 @@ from __future__ import annotations
 import os
 import subprocess
 import unittest
+from unittest.mock import patch
 
+from aprof_launch.hints import Hints
+from aprof_launch.words import read_words
 from tests.launched import Launched
 
 # the words and why nothing is run
@@ -88,6 +91,21 @@ class Outputs(Launched):
             command = ["bash", "-c", f"{self.launcher} run {words} bubble {where}"]
             done = subprocess.run(command, cwd=self.folder, env=environment, capture_output=True, text=True)
             self.assertEqual((done.returncode, done.stderr), (4, text), command)
+
+    def test_full_disk(self) -> None:
+        """What it left at the path, and that an older report is lost, is told."""
+        path = self.folder / "r"
+        cut = "; what is there now is cut off"
+        for stored, older, text in (
+            (None, "", ""), ("", "", cut), ("aprof 2\nend", "", cut), ("aprof 2\nend", "yes", f"{cut}, and what was there before is lost"),
+            ("aprof 2\nend exit 0\ndone 0\n", "yes", ""),
+        ):  # fmt: skip
+            if stored is not None:
+                path.write_text(stored)
+            hints = Hints(read_words(["run", "-o", str(path), str(self.folder / "bubble")]), "")
+            full, place = patch("aprof_launch.hints.is_full", return_value=True), patch.dict(os.environ, {"APROF_OLDER": older})
+            with full, place:
+                self.assertEqual(hints.lines(4), [f"{path}: the disk is full{text}"])
 
     def test_a_reader_that_has_gone(self) -> None:
         """Of standard output: then it is that which couldn't be written."""
