@@ -85,13 +85,15 @@ class Hints:
         full += ["standard output: no space left"] if takes_nothing(1) else []
         full += [f"{path}: the disk is full{self.what_is_there(path)}" for path in self.read.outputs() if is_full(path)]
         other = "standard output or the report: no room, or the place went during the run; what was written before stands"
-        return (again or full or [other])[:1]
+        return again[:1] or full or [other]
 
     def what_is_there(self, path: str) -> str:
         """What a full disk left at a path."""
         if not os.path.isfile(path) or (path == self.output and is_whole(path)):
             return ""
-        is_lost = path == self.output and os.environ.get("APROF_OLDER")
+        if path != self.output:
+            return f"; what is there now {'may be cut off' if os.path.getsize(path) else 'is empty'}"
+        is_lost = os.environ.get("APROF_OLDER")
         return "; what is there now is cut off" + (", and what was there before is lost" if is_lost else "")
 
     def fault(self) -> list[str]:

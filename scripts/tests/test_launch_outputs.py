@@ -107,6 +107,15 @@ class Outputs(Launched):
             with full, place:
                 self.assertEqual(hints.lines(4), [f"{path}: the disk is full{text}"])
 
+    def test_full_disk_of_a_recording(self) -> None:
+        record, hints = self.folder / "k", Hints(read_words(["run", "--record", "k", "-o", "r", "bubble"]), "")
+        self.addCleanup(os.chdir, os.getcwd())
+        os.chdir(self.folder)
+        for stored, text in (("", "is empty"), ("1 10\n", "may be cut off")):
+            record.write_text(stored)
+            with patch("aprof_launch.hints.is_full", return_value=True):
+                self.assertEqual(hints.lines(4), [f"k: the disk is full; what is there now {text}", "r: the disk is full"])
+
     def test_a_reader_that_has_gone(self) -> None:
         """Of standard output: then it is that which couldn't be written."""
         reader, writer = os.pipe()

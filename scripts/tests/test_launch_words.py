@@ -182,6 +182,7 @@ class Words(Launched):
         for words in ("", "help", "-h", "--help"):
             done = self.run_words(words)
             self.assertEqual((done.returncode, done.stdout, done.stderr), (0, whole.stdout, ""))
+        self.assertIn("`aprof --version` prints the version", whole.stdout)
         done = self.run_words("--version")
         self.assertEqual(done.returncode, 0)
         self.assertTrue(done.stdout.startswith("aprof ") and done.stdout.endswith(whole.stdout))
