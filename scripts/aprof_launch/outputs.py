@@ -86,7 +86,7 @@ def is_stdout(path: str) -> bool:
 
 def notes(read: Words) -> list[str]:
     """What is told before a run that is not refused."""
-    is_dash = read.values.get("-o") == "-"
+    is_dash = read.values.get("-o") == "-" and os.environ.get("APROF_HINTS") != "0"
     return ["aprof: `-o -` is a file of that name; /dev/stdout is standard output"] if is_dash else []
 
 

@@ -46,8 +46,9 @@ def hint_step(words: list[str]) -> int:
 
     read, status = read_words(words[2:]), int(words[1])
     odd = not_utf8(words[2:]) if status == 1 else ""
-    lines = [odd] if odd else Hints(read, words[0]).lines(status) if status == 1 or not read.complaint else []
-    for number, line in enumerate(lines):
+    is_told = status == 1 or not read.complaint
+    lines = [odd] if odd or not is_told else Hints(read, words[0]).lines(status)
+    for number, line in enumerate(filter(None, lines)):
         is_first = number == 0 and not line.startswith("usage:")
         say(f"aprof: {line}" if is_first else line)
     return 0

@@ -6,7 +6,6 @@ from dataclasses import dataclass, field
 
 from aprof_launch.commands import BY_NAME, COMMANDS, DEMO, Command, Option, Use
 
-
 OUTPUT_NAMES = ("--output", "--out", "--report")
 """What `-o` is called elsewhere."""
 

@@ -77,6 +77,7 @@ class Outputs(Launched):
         done = self.run_words("run -o - bubble")
         said = "aprof: `-o -` is a file of that name; /dev/stdout is standard output\n"
         self.assertEqual((done.returncode, done.stdout, done.stderr), (0, "words: run -o - bubble\n", said))
+        self.assertEqual(self.run_words("run -o - bubble", APROF_HINTS="0").stderr, "")
 
     def test_standard_output(self) -> None:
         """A plain file that it is can't be the report too; a closed or full one is told."""
