@@ -98,7 +98,8 @@ class Outputs(Launched):
         path = self.folder / "r"
         cut = "; what is there now is cut off"
         for stored, older, text in (
-            (None, "", ""), ("", "", cut), ("aprof 2\nend", "", cut), ("aprof 2\nend", "yes", f"{cut}, and what was there before is lost"),
+            (None, "", ""), ("", "", cut), ("aprof 2\nend", "", cut),
+            ("aprof 2\nend", "yes", f"{cut}, and what was there before is lost"),
             ("aprof 2\nend exit 0\ndone 0\n", "yes", ""),
         ):  # fmt: skip
             if stored is not None:
