@@ -27,11 +27,12 @@ class Option:
     required: bool = False
     use: Use = Use.NONE
 
-    def wanted(self) -> str:
-        """The values that it takes."""
+    def wanted(self, value: str = "0") -> str:
+        """The values that it takes, told to who gave this one."""
         if self.among:
             return " or ".join([", ".join(map(str, self.among[:-1])), str(self.among[-1])])
-        return f"{'a power of two, ' if self.power else ''}{self.least} to {self.greatest}"
+        form = "" if value.isascii() and value.isdigit() else "a whole number in digits, "
+        return f"{form}{'a power of two, ' if self.power else ''}{self.least} to {self.greatest}"
 
     def takes(self, value: str) -> bool:
         """Whether the program takes the value."""
@@ -58,15 +59,15 @@ class Command:
         return next((option for option in self.options if option.name == name), None)
 
 
-OUTPUT = Option("-o", "where what is made of the run is stored", "PATH", required=True, use=Use.WRITTEN)
+OUTPUT = Option("-o", "the file for the report (or trace); it is overwritten", "PATH", required=True, use=Use.WRITTEN)
 STAMPS_TEXT = "bits of a stamp: 32; 16 or 8 take less memory, for at most 21844 or 84 open calls"
 STAMPS = Option("--stamps", STAMPS_TEXT, "8|16|32", 8, 32, (8, 16, 32))
 STATS = Option("--stats", "says how often stamps were renumbered")
 GUEST = (
     Option("--stdin", "the program's standard input: empty without it; /dev/stdin for aprof's own", "PATH", use=Use.READ),
-    Option("--quantum", "a turn of a thread has at most Q steps: 10000; up to 1000000000", "Q", 1, 10**9),
+    Option("--quantum", "a turn of a thread has at most Q steps, 1 to 1000000000; 10000 without it", "Q", 1, 10**9),
     Option("--schedule", "takes the turns that --record stored", "PATH", use=Use.READ),
-    Option("--budget", "the run has at most N steps: 1000000000; up to 1000000000000", "N", 1, 10**12),
+    Option("--budget", "the run has at most N steps, 1 to 1000000000000; 1000000000 without it", "N", 1, 10**12),
 )
 RECORD = Option("--record", "stores the turns of the threads", "PATH", use=Use.WRITTEN)
 CACHE = (

@@ -69,6 +69,13 @@ def place_of(image: str, address: int) -> Place:
     return Place(routine.shown or routine.name, line_at(image, near))
 
 
+def has_symbols(image: str) -> bool:
+    try:
+        return bool(read_symbols(image))
+    except (BadImage, OSError):
+        return False
+
+
 def line_at(image: str, addresses: Sequence[int]) -> str | None:
     """FILE:LINE of the first address that has one, where the image has lines and a program is there that reads them."""
     for command, form in SYMBOLIZERS:

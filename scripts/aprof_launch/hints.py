@@ -5,11 +5,12 @@ import os
 import re
 import shlex
 import subprocess
+import sys
 from collections.abc import Callable
 
-from aprof_launch import ends, tables
-from aprof_launch.outputs import refusals
-from aprof_launch.places import has_reader, is_full, why_unread
+from aprof_launch import ends, images, tables
+from aprof_launch.outputs import is_begun_trace, is_whole, refusals
+from aprof_launch.places import has_reader, is_full, takes_nothing, why_unread
 from aprof_launch.usage import called, usage
 from aprof_launch.words import Words
 from aprof_show.library import musl_names
@@ -62,27 +63,48 @@ class Hints:
             why = why_unread(path)
             if why:
                 is_word = path in self.read.positionals[1:]
-                plain = f"; a word names a file: write ={path} for an argument" if is_word else ""
-                return [f"{path}: {why}{plain}"]
+                if not path:
+                    instead = ": write = for an empty argument" if is_word else ", and there is none"
+                    return [f"an empty word names a file{instead}"]
+                quoted = shlex.quote(f"={path}")
+                return [f"{path}: {why}" + (f"; a word names a file: write {quoted} for an argument" if is_word else "")]
         return []
 
     def bad_image(self) -> list[str]:
         number = self.asked_again("run", "--budget", "1", "-o", "/dev/null", "--", self.image())
-        return tables.image_row(number) if number is not None else []
+        why = images.why_bad(self.image()) if number in images.NUMBERS else ""
+        return [why] if why else tables.image_row(number) if number is not None else []
 
     def unwritten(self) -> list[str]:
+        if sys.stdout is None:
+            return ["standard output is closed"]
         if not has_reader(1):
             return ["the reader of standard output has gone; the report is stored behind the output: write that to a file"]
         again = [line.removeprefix("aprof: ") for line in refusals(self.read)]
-        full = [f"{path}: the disk is full" for path in self.read.outputs() if is_full(path)]
+        full = [f"{path}: no space left" for path in self.read.outputs() if takes_nothing(path)]
+        full += ["standard output: no space left"] if takes_nothing(1) else []
+        full += [f"{path}: the disk is full{self.what_is_there(path)}" for path in self.read.outputs() if is_full(path)]
         other = "standard output or the report: no room, or the place went during the run; what was written before stands"
-        return (again or full or [other])[:1]
+        return again[:1] or full or [other]
+
+    def what_is_there(self, path: str) -> str:
+        """What a full disk left at a path."""
+        if not os.path.isfile(path) or (path == self.output and is_whole(path)):
+            return ""
+        if path != self.output:
+            return f"; what is there now {'may be cut off' if os.path.getsize(path) else 'is empty'}"
+        is_lost = os.environ.get("APROF_OLDER")
+        return "; what is there now is cut off" + (", and what was there before is lost" if is_lost else "")
 
     def fault(self) -> list[str]:
         fault = ends.fault_in(self.output)
         if fault is None:
             return ["`llvm-symbolizer --obj=IMAGE 0xADDRESS` names the routine, and with -g the line", *self.chain()]
+        if fault.kind == 2:
+            return [f"{fault.at:08x} is no code: {tables.no_code(fault.at)}", *self.chain()]
         found = ends.place_of(self.image(), fault.at)
+        if not (found.routine or found.line or ends.has_symbols(self.image())):
+            return [f"the image has no symbols: don't strip it; {tables.FAULTS.get(fault.kind, '')}", *self.chain()]
         place = f"in {found.routine or 'a routine without a name'}"
         if found.routine in musl_names() and not found.line:
             place += ", of the C library"
@@ -134,9 +156,7 @@ class Hints:
                 line = file.read().split(b"\n")[number - 1][:60].decode(errors="replace")
         except (OSError, IndexError):
             line = ""
-        if re.fullmatch("([2-9]|[12][0-9]|3[0-2]) [1-9][0-9]*", line):
-            return [f"line {number} of {path} is {line!r}, and a run begins with thread 1"]
-        return [f"line {number} of {path} is {line!r}, and not of the form TID STEPS, as 1 10000: two numbers and one space"]
+        return [f"line {number} of {path} is {line!r}, and {tables.schedule_line(line)}"]
 
     def memory(self) -> list[str]:
         return ["this machine has too little memory free; `ulimit -v` may bound it too"]
@@ -156,6 +176,9 @@ class Hints:
     def bad_trace(self) -> list[str]:
         number = self.asked_again("replay", "-o", "/dev/null", "--", self.image())
         text = tables.TRACES.get(number or 0)
+        if number in (1, 4) and is_begun_trace(self.image()):
+            is_empty = os.path.getsize(self.image()) == 0
+            return [f"{self.image()} is empty" if is_empty else f"{self.image()} is cut off: store it again with `aprof trace`"]
         return [f"{self.image()} is no trace that `aprof trace` stored: {text}"] if text else []
 
 

@@ -10,8 +10,7 @@ from pathlib import Path
 from aprof_launch.commands import Use
 from aprof_launch.words import Words
 
-SLACK = 0.02
-"""Seconds that a file's time may lie behind the clock's."""
+RECORDING = re.compile(rb"(?:[0-9]{1,2} [0-9]+\n)*(?:[0-9]{1,2}(?: [0-9]*)?)?\Z")
 
 
 def problem(path: str) -> str:
@@ -38,6 +37,8 @@ def problem_of_new(path: str) -> str:
     folder = os.path.dirname(os.path.realpath(path))
     if not os.path.isdir(folder):
         return "no such folder"
+    if f"{folder}/".startswith(("/proc/", "/sys/")):
+        return "it can't be created there"
     return "" if os.access(folder, os.W_OK | os.X_OK) else "no right to write into its folder"
 
 
@@ -63,6 +64,8 @@ def refusals(read: Words) -> Iterable[str]:
     outputs = read.outputs()
     for path in outputs:
         why = problem(path)
+        if not why and is_stdout(path):
+            why = "it is standard output, a file, where what the program prints goes"
         if not why and any(is_same(path, other) for other in read.inputs()):
             why = f"it is {role(read, path)}"
         if why:
@@ -72,10 +75,34 @@ def refusals(read: Words) -> Iterable[str]:
         yield f"aprof: cannot write {outputs[0]}: --record and -o name the same file"
 
 
+def is_stdout(path: str) -> bool:
+    """Whether standard output is a plain file, and this one."""
+    try:
+        own = os.fstat(1)
+        return stat.S_ISREG(own.st_mode) and os.path.samestat(own, os.stat(path))
+    except OSError:
+        return False
+
+
+def notes(read: Words) -> list[str]:
+    """What is told before a run that is not refused."""
+    is_dash = read.values.get("-o") == "-" and os.environ.get("APROF_HINTS") != "0"
+    return ["aprof: `-o -` is a file of that name; /dev/stdout is standard output"] if is_dash else []
+
+
 def has_trace_end(data: bytes) -> bool:
     """Whether the last record is that of a trace's end: 10, a number for each kind of end, and what that end has."""
     heads = {b"\n\0": 4, b"\n\1": 12, b"\n\2": 0, b"\n\3": 0, b"\n\4": 0, b"\n\5": 8}
     return any(data[len(data) - 2 - size :][:2] == head for head, size in heads.items())
+
+
+def is_begun_trace(path: str) -> bool:
+    """Whether a file begins as a trace, as far as it goes."""
+    head, data = b"aprof trace 1\n", b""
+    if os.path.isfile(path):
+        with open(path, "rb") as file:
+            data = file.read(len(head))
+    return os.path.isfile(path) and head.startswith(data)
 
 
 def is_whole(path: str) -> bool:
@@ -91,7 +118,7 @@ def remove_halves(read: Words, began: float) -> list[str]:
     removed = []
     for path in read.paths(Use.WRITTEN):
         try:
-            if not os.path.isfile(path) or os.stat(path).st_mtime < began - SLACK:
+            if not is_after(path, began) or not is_of_run(path, path == read.values.get("-o")):
                 continue
             if path != read.values.get("-o") and is_after(read.values.get("-o", ""), began):
                 continue
@@ -104,5 +131,14 @@ def remove_halves(read: Words, began: float) -> list[str]:
 
 
 def is_after(path: str, began: float) -> bool:
-    """Whether the report was begun, which comes behind a recording."""
-    return os.path.isfile(path) and os.stat(path).st_mtime >= began - SLACK
+    """Whether the file was written since. A file's time may lie behind the clock's, never before it."""
+    return os.path.isfile(path) and os.stat(path).st_mtime > began
+
+
+def is_of_run(path: str, is_output: bool) -> bool:
+    """Whether the file begins as what a run stores: anything else is another's."""
+    with open(path, "rb") as file:
+        head = file.read(4096)
+    if not is_output:
+        return RECORDING.match(head) is not None
+    return head.startswith(b"aprof ") or b"aprof ".startswith(head)

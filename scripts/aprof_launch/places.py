@@ -22,7 +22,19 @@ def why_unread(path: str) -> str:
 def is_full(path: str) -> bool:
     """Whether the disk of a file has no room."""
     try:
-        return os.statvfs(os.path.dirname(os.path.realpath(path))).f_bavail == 0
+        system = os.statvfs(os.path.dirname(os.path.realpath(path)))
+        return system.f_blocks > 0 and system.f_bavail == 0
+    except OSError:
+        return False
+
+
+def takes_nothing(place: str | int) -> bool:
+    """Whether a path or a descriptor is /dev/full, or the descriptor a file of a full disk."""
+    try:
+        found = os.stat(place)
+        if stat.S_ISCHR(found.st_mode):
+            return found.st_rdev == os.makedev(1, 7)
+        return isinstance(place, int) and stat.S_ISREG(found.st_mode) and os.statvfs(place).f_bavail == 0
     except OSError:
         return False
 

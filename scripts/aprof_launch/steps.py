@@ -3,11 +3,11 @@ from __future__ import annotations
 
 import os
 import signal
-import sys
 from pathlib import Path
 
 from aprof_launch import outputs, usage
-from aprof_launch.words import read_words
+from aprof_launch.printing import print_out, say
+from aprof_launch.words import not_utf8, read_words
 
 HELP = 100
 """The status of `check` where the words ask for help, which then is printed."""
@@ -19,21 +19,24 @@ def asks_help(words: list[str]) -> bool:
 
 
 def help_step(words: list[str]) -> int:
-    print(usage.text_for(words))
-    return 0
+    complaint = usage.complaint(words)
+    if complaint:
+        say(f"aprof: {complaint}")
+        say(f"`{usage.called()} help` has the commands")
+        return 1
+    return print_out(usage.text_for(words))
 
 
 def check_step(words: list[str]) -> int:
     """Before a run: 0 where it can begin."""
     if asks_help(words):
-        print(usage.text_for(words))
-        return HELP
+        return print_out(usage.text_for(words)) or HELP
     read = read_words(words)
     if read.complaint:
         return 0
     found = list(outputs.refusals(read))
-    for line in found[:1]:
-        print(line, file=sys.stderr)
+    for line in found[:1] or outputs.notes(read):
+        say(line)
     return 4 if found else 0
 
 
@@ -42,17 +45,19 @@ def hint_step(words: list[str]) -> int:
     from aprof_launch.hints import Hints
 
     read, status = read_words(words[2:]), int(words[1])
-    lines = Hints(read, words[0]).lines(status) if status == 1 or not read.complaint else []
-    for number, line in enumerate(lines):
+    odd = not_utf8(words[2:]) if status == 1 else ""
+    is_told = status == 1 or not read.complaint
+    lines = [odd] if odd or not is_told else Hints(read, words[0]).lines(status)
+    for number, line in enumerate(filter(None, lines)):
         is_first = number == 0 and not line.startswith("usage:")
-        print(f"aprof: {line}" if is_first else line, file=sys.stderr)
+        say(f"aprof: {line}" if is_first else line)
     return 0
 
 
 def interrupted_step(words: list[str]) -> int:
     """Behind a run that a signal ended: the time at which it began, and its words."""
     for path in outputs.remove_halves(read_words(words[1:]), float(words[0])):
-        print(f"aprof: {path} was written in part, and is removed", file=sys.stderr)
+        say(f"aprof: {path} was written in part, and is removed")
     return 0
 
 
@@ -86,11 +91,4 @@ STEPS = {
 
 
 def main(words: list[str]) -> int:
-    try:
-        status = STEPS[words[0]](words[1:])
-        sys.stdout.flush()
-        return status
-    except BrokenPipeError:
-        # Who reads it has enough, as `head`. What is left is dropped, so that Python doesn't flush it again at its end.
-        os.dup2(os.open(os.devnull, os.O_WRONLY), sys.stdout.fileno())
-        return 0
+    return STEPS[words[0]](words[1:])

@@ -1,6 +1,8 @@
 """What the numbers in the program's last texts mean: README has the same."""
 from __future__ import annotations
 
+import re
+
 IMAGES: tuple[tuple[tuple[int, ...], str, str], ...] = (
     ((1, 2, 3, 4, 5, 9, 10), "is no whole 32-bit little-endian ELF file", "a compiler for riscv32"),
     ((6, 11), "is not linked (a .o), position-independent, or dynamic", "link it with -static -no-pie (and -fno-pie)"),
@@ -34,6 +36,26 @@ TRACES = {
     3: "a record may not come there",
     4: "the end is missing",
 }
+
+
+def no_code(at: int) -> str:
+    """How a run comes to an address where there is no code."""
+    if at == 0:
+        return "a null function pointer was called, or _start returned"
+    return "a call through a wrong function pointer, or a return over an overwritten stack"
+
+
+def schedule_line(line: str) -> str:
+    """What is wrong with a line of a schedule."""
+    if line.endswith("\r"):
+        return "lines end in LF, not CR LF"
+    if re.fullmatch("([2-9]|[12][0-9]|3[0-2]) [1-9][0-9]*", line):
+        return "a run begins with thread 1"
+    if re.fullmatch("[0-9]+ 0+", line):
+        return "STEPS is at least 1"
+    if re.fullmatch(r"\s*[0-9]+\s+[0-9]+\s*", line):
+        return "there is one space, and it stands between the two numbers"
+    return "not of the form TID STEPS, as 1 10000: two numbers and one space"
 
 
 def image_row(number: int) -> list[str]:

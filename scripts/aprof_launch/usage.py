@@ -8,6 +8,7 @@ import textwrap
 from pathlib import Path
 
 from aprof_launch.commands import BY_NAME, COMMANDS, Command, Option
+from aprof_launch.words import no_command
 
 TOP = Path(__file__).resolve().parents[2]
 WIDTH = 80
@@ -23,7 +24,8 @@ HEAD = """aprof: how the cost of each routine of a program grows with its input
 """
 
 TAIL = """Of the launcher itself: `--progress` tells on standard error that a run goes on, also
-where that is no terminal; APROF_HINTS=0 in the environment keeps out its hints."""
+where that is no terminal; APROF_HINTS=0 in the environment keeps out its hints;
+`aprof --version` prints the version."""
 
 
 def called() -> str:
@@ -89,6 +91,14 @@ def version() -> str:
     except OSError:
         return "without a version"
     return done.stdout.strip() or "without a version"
+
+
+def complaint(words: list[str]) -> str:
+    """What is wrong with words that begin with `help` or an option that asks for it."""
+    named = words[1:] if words[:1] == ["help"] else []
+    if named and named[0] not in (*BY_NAME, "show", "help", "-h", "--help"):
+        return no_command(named[0])
+    return f"{named[1]} is one word too many" if len(named) > 1 else ""
 
 
 def text_for(words: list[str]) -> str:

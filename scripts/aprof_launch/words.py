@@ -6,6 +6,9 @@ from dataclasses import dataclass, field
 
 from aprof_launch.commands import BY_NAME, COMMANDS, DEMO, Command, Option, Use
 
+OUTPUT_NAMES = ("--output", "--out", "--report")
+"""What `-o` is called elsewhere."""
+
 
 @dataclass
 class Words:
@@ -46,7 +49,19 @@ def read_words(words: list[str]) -> Words:
     return read
 
 
+def not_utf8(words: list[str]) -> str:
+    """Which word is not UTF-8: the program reads no such word."""
+    for number, word in enumerate(words, 1):
+        if any("\udc80" <= letter <= "\udcff" for letter in word):
+            return f"word {number} is not UTF-8 ('{word}'): rename the file, or give the bytes by --stdin"
+    return ""
+
+
 def no_command(word: str) -> str:
+    if not word:
+        return "an empty word is no command"
+    if word in ("-V", "version"):
+        return f"no command {word}; there is --version"
     if word.startswith("-"):
         return f"{word} stands before the command: options stand behind it"
     return f"no command {word}" + nearest(word, [command.name for command in COMMANDS])
@@ -92,7 +107,8 @@ def read_option(read: Words, command: Command, word: str, left: list[str]) -> st
             return no_value(option, left)
         value = left.pop(0)
     read.values[name] = value
-    return "" if option.takes(value) else f"{name} {value}: it takes {option.wanted()}"
+    shown = f"{name} {value}" if value else f"{name}: an empty word"
+    return "" if option.takes(value) else f"{shown}: it takes {option.wanted(value)}"
 
 
 def no_option(command: Command, word: str, name: str) -> str:
@@ -101,7 +117,9 @@ def no_option(command: Command, word: str, name: str) -> str:
         takes_turns = name == "--record" and command.option("--schedule")
         instead = "; store the turns there, and take them here by --schedule" if takes_turns else ""
         return f"{name} is an option of {' and '.join(others)}, not of {command.name}{instead}"
-    near = nearest(name, [option.name for option in command.options])
+    is_output = name in OUTPUT_NAMES and command.option("-o")
+    near = "; there is -o" if is_output else nearest(name, [option.name for option in command.options])
+    word = name if is_output else word
     return f"no option {word}{near}" + ("" if near else f"; for an argument of the program write ={word}")
 
 
@@ -118,9 +136,11 @@ def lacking(read: Words, command: Command) -> str:
     if not read.positionals:
         missing.append(command.positional)
     if missing:
-        return f"{' and '.join(missing)} {'is' if len(missing) == 1 else 'are'} missing"
+        is_behind = any(len(word) > 1 and word[0] == "-" for word in read.positionals)
+        behind = " (behind -- no word is an option)" if is_behind else ""
+        return f"{' and '.join(missing)} {'is' if len(missing) == 1 else 'are'} missing{behind}"
     if not command.further and len(read.positionals) > 1:
         return f"{read.positionals[1]} is one word too many"
     if command.name == "demo" and not DEMO.takes(read.positionals[0]):
-        return f"{read.positionals[0]}: N is {DEMO.wanted()}"
+        return f"{read.positionals[0]}: N is {DEMO.wanted(read.positionals[0])}"
     return ""

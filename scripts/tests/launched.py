@@ -18,7 +18,7 @@ PROGRAM = """#!/usr/bin/env bash
 echo "words: $*"
 [ -z "${FAKE_READ-}" ] || cat
 while [ "${1-}" != -o ] && [ $# -gt 0 ]; do shift; done
-[ -z "${FAKE_STORED-}" ] || printf "$FAKE_STORED" > "$2"
+[ -z "${FAKE_STORED-}" ] || { read -rt 0.03 <> <(:); printf "$FAKE_STORED" > "$2"; }
 [ -z "${FAKE_TEXT-}" ] || echo "aprof: $FAKE_TEXT" >&2
 [ -z "${FAKE_SLEEP-}" ] || exec sleep "$FAKE_SLEEP"
 exit "${FAKE_STATUS-0}"

@@ -4,7 +4,10 @@ from __future__ import annotations
 import os
 import subprocess
 import unittest
+from unittest.mock import patch
 
+from aprof_launch.hints import Hints
+from aprof_launch.words import read_words
 from tests.launched import Launched
 
 # the words and why nothing is run
@@ -27,6 +30,7 @@ REFUSED = (
     ("run --record ./text -o text bubble", "./text: --record and -o name the same file"),
     ("run --record no/k -o r bubble", "no/k: no such folder"),
     ("run --record bubble -o r bubble", "bubble: it is the program itself"),
+    ("run -o /proc/x bubble", "/proc/x: it can't be created there"),
     ("run -o dangling bubble", "dangling: no such folder"),
 )  # fmt: skip
 
@@ -68,6 +72,51 @@ class Outputs(Launched):
     def test_words_stay(self) -> None:
         words = ["run", "-o", "r", "bubble", "=a b", "=*", "=", "=$x", "=\n"]
         self.assertEqual(self.run_words(words).stdout, f"words: {' '.join(words)}\n")
+
+    def test_dash(self) -> None:
+        done = self.run_words("run -o - bubble")
+        said = "aprof: `-o -` is a file of that name; /dev/stdout is standard output\n"
+        self.assertEqual((done.returncode, done.stdout, done.stderr), (0, "words: run -o - bubble\n", said))
+        self.assertEqual(self.run_words("run -o - bubble", APROF_HINTS="0").stderr, "")
+
+    def test_standard_output(self) -> None:
+        """A plain file that it is can't be the report too; a closed or full one is told."""
+        why = "it is standard output, a file, where what the program prints goes"
+        for words, where, text in (
+            ("-o /dev/stdout", "> out", f"aprof: cannot write /dev/stdout: {why}\n"),
+            ("-o out", ">> out", f"aprof: cannot write out: {why}\n"),
+            ("-o r", ">&-", "aprof: standard output is closed\n"),
+            ("-o r", "> /dev/full", "aprof: standard output: no space left\n"),
+        ):
+            environment = os.environ | {"FAKE_STATUS": "4", "FAKE_SILENT": "1"}
+            command = ["bash", "-c", f"{self.launcher} run {words} bubble {where}"]
+            done = subprocess.run(command, cwd=self.folder, env=environment, capture_output=True, text=True)
+            self.assertEqual((done.returncode, done.stderr), (4, text), command)
+
+    def test_full_disk(self) -> None:
+        """What it left at the path, and that an older report is lost, is told."""
+        path = self.folder / "r"
+        cut = "; what is there now is cut off"
+        for stored, older, text in (
+            (None, "", ""), ("", "", cut), ("aprof 2\nend", "", cut),
+            ("aprof 2\nend", "yes", f"{cut}, and what was there before is lost"),
+            ("aprof 2\nend exit 0\ndone 0\n", "yes", ""),
+        ):  # fmt: skip
+            if stored is not None:
+                path.write_text(stored)
+            hints = Hints(read_words(["run", "-o", str(path), str(self.folder / "bubble")]), "")
+            full, place = patch("aprof_launch.hints.is_full", return_value=True), patch.dict(os.environ, {"APROF_OLDER": older})
+            with full, place:
+                self.assertEqual(hints.lines(4), [f"{path}: the disk is full{text}"])
+
+    def test_full_disk_of_a_recording(self) -> None:
+        record, hints = self.folder / "k", Hints(read_words(["run", "--record", "k", "-o", "r", "bubble"]), "")
+        self.addCleanup(os.chdir, os.getcwd())
+        os.chdir(self.folder)
+        for stored, text in (("", "is empty"), ("1 10\n", "may be cut off")):
+            record.write_text(stored)
+            with patch("aprof_launch.hints.is_full", return_value=True):
+                self.assertEqual(hints.lines(4), [f"k: the disk is full; what is there now {text}", "r: the disk is full"])
 
     def test_a_reader_that_has_gone(self) -> None:
         """Of standard output: then it is that which couldn't be written."""

@@ -1,7 +1,9 @@
 """Words, texts and statuses of the launcher, with a fake program: hints behind a refusal, and help."""
 from __future__ import annotations
 
+import os
 import re
+import subprocess
 import unittest
 from collections.abc import Sequence
 
@@ -13,7 +15,7 @@ from tests.samples import ROOT
 FAULT = "aprof 2\\nend fault 4 1 00011180\\nsteps 7\\nopen 1\\ndone 0\\n"
 
 # the words, the status of the program and what the hint behind it has
-HINTS: Sequence[tuple[str, int, Sequence[str]]] = (
+HINTS: Sequence[tuple[str | Sequence[str], int, Sequence[str]]] = (
     ("run bubble", 1, ["aprof: -o PATH is missing\nusage: aprof run [--stdin PATH]"]),
     ("run -o r --bugdet 5 bubble", 1, ["aprof: no option --bugdet; there is --budget\n"]),
     ("run -o r --xyzzy bubble", 1, ["aprof: no option --xyzzy; for an argument of the program write =--xyzzy\n"]),
@@ -22,7 +24,7 @@ HINTS: Sequence[tuple[str, int, Sequence[str]]] = (
     ("cache --sets 63 --ways 4 --line 64 -o r bubble", 1, ["--sets 63: it takes a power of two, 1 to 65536\n"]),
     ("cache --ways 4 --line 64 -o r bubble", 1, ["aprof: --sets S is missing\n"]),
     ("cache -o r bubble", 1, ["aprof: --sets S and --ways W and --line L are missing\n"]),
-    ("run --budget 1e9 -o r bubble", 1, ["aprof: --budget 1e9: it takes 1 to 1000000000000\n"]),
+    ("run --budget 1e9 -o r bubble", 1, ["aprof: --budget 1e9: it takes a whole number in digits, 1 to 1000000000000\n"]),
     ("run --budget=0 -o r bubble", 1, ["aprof: --budget 0: it takes 1 to"]),
     ("run --stamps 7 -o r bubble", 1, ["aprof: --stamps 7: it takes 8, 16 or 32\n"]),
     ("run --stats=1 -o r bubble", 1, ["aprof: --stats takes no value\n"]),
@@ -35,6 +37,21 @@ HINTS: Sequence[tuple[str, int, Sequence[str]]] = (
      ["aprof: u is one word too many\n", "usage: aprof replay [--stamps 8|16|32] [--stats] -o PATH TRACE\n"]),
     ("demo 40001", 1, ["aprof: 40001: N is 1 to 40000\n", "usage: aprof demo N\n"]),
     ("demo", 1, ["aprof: N is missing\n"]),
+    ("demo 1e3", 1, ["aprof: 1e3: N is a whole number in digits, 1 to 40000\n"]),
+    ("run --output r bubble", 1, ["aprof: no option --output; there is -o\n"]),
+    ("run --output=r bubble", 1, ["aprof: no option --output; there is -o\n"]),
+    ("run -- -o r bubble", 1, ["aprof: -o PATH is missing (behind -- no word is an option)\n"]),
+    ("version", 1, ["aprof: no command version; there is --version\n"]),
+    ("-V", 1, ["aprof: no command -V; there is --version\n"]),
+    (["run", "--quantum", "", "-o", "r", "bubble"], 1,
+     ["aprof: --quantum: an empty word: it takes a whole number in digits, 1 to 1000000000\n"]),
+    ([""], 1, ["aprof: an empty word is no command\n"]),
+    (["run", "-o", "r", "bubble", ""], 2, ["aprof: an empty word names a file: write = for an empty argument\n"]),
+    (["run", "-o", "r", ""], 2, ["aprof: an empty word names a file, and there is none\n"]),
+    (["run", "-o", "r", "--stdin", "", "bubble"], 2, ["aprof: an empty word names a file, and there is none\n"]),
+    (["run", "-o", "r", "bubble", "two words"], 2, ["a word names a file: write '=two words' for an argument\n"]),
+    ("run -o /dev/full bubble", 4, ["aprof: /dev/full: no space left\n"]),
+    ("run --record /dev/full -o r bubble", 4, ["aprof: /dev/full: no space left\n"]),
     ("run -o r bubble fine", 1, ["usage: aprof run"]),
     ("run -o r bubble 100", 2, ["aprof: 100: no such file; a word names a file: write =100 for an argument\n"]),
     ("run -o r nothing", 2, ["aprof: nothing: no such file\n"]),
@@ -56,6 +73,23 @@ HINTS: Sequence[tuple[str, int, Sequence[str]]] = (
     ("run -o r bubble", 0, []),
 )
 
+CUT = "the file is cut off: copy or link it again"
+
+# where a run has no code, and how it came there
+NO_CODE = (
+    ("00000010", "a call through a wrong function pointer, or a return over an overwritten stack"),
+    ("fffffff0", "a call through a wrong function pointer, or a return over an overwritten stack"),
+    ("00000000", "a null function pointer was called, or _start returned"),
+)
+
+# the first line of a schedule and what is wrong with it
+LINES = (
+    ("2 10", "a run begins with thread 1"),
+    ("1 0", "STEPS is at least 1"),
+    ("1  5", "there is one space, and it stands between the two numbers"),
+    ("1 5\r", "lines end in LF, not CR LF"),
+)
+
 
 class Words(Launched):
     def test_hints(self) -> None:
@@ -64,7 +98,8 @@ class Words(Launched):
         for words, status, parts in HINTS:
             with self.subTest(words=words, status=status):
                 done = self.run_words(words, status, FAKE_TEXT="its text")
-                self.assertEqual((done.returncode, done.stdout), (status, f"words: {words}\n"))
+                shown = words if isinstance(words, str) else " ".join(words)
+                self.assertEqual((done.returncode, done.stdout), (status, f"words: {shown}\n"))
                 self.assertTrue(done.stderr.startswith("aprof: its text\n"))
                 hint = done.stderr.removeprefix("aprof: its text\n")
                 self.assertEqual(bool(hint), bool(parts))
@@ -86,6 +121,11 @@ class Words(Launched):
         trace = "aprof trace 1\\n\\x0a\\x01\\x04\\0\\0\\0\\x01\\0\\0\\0\\x80\\x11\\x01\\0"
         done = self.run_words("trace -o r bubble", 5, FAKE_STORED=trace)
         self.assertIn("aprof: in bubble_sort;", done.stderr)
+        for at, why in NO_CODE:
+            done = self.run_words("run -o r bubble", 5, FAKE_STORED=FAULT.replace("4 1 00011180", f"2 1 {at}"))
+            self.assertIn(f"aprof: {at} is no code: {why}\n", done.stderr)
+        done = self.run_words("run -o r text", 5, FAKE_STORED=FAULT)
+        self.assertIn("aprof: the image has no symbols: don't strip it; no writable byte", done.stderr)
         done = self.run_words("run -o /dev/null bubble", 5)
         self.assertIn("aprof: `llvm-symbolizer --obj=IMAGE", done.stderr)
 
@@ -96,13 +136,38 @@ class Words(Launched):
         (self.folder / "turns").write_text("1 10\nx\n")
         done = self.run_words("run --schedule turns -o r bubble", 9, FAKE_TEXT="schedule 2")
         self.assertIn("aprof: line 2 of turns is 'x', and not of the form TID STEPS, as 1 10000: two numbers and one space\n", done.stderr)
-        (self.folder / "turns").write_text("2 10\n")
-        done = self.run_words("run --schedule turns -o r bubble", 9, FAKE_TEXT="schedule 1")
-        self.assertIn("aprof: line 1 of turns is '2 10', and a run begins with thread 1\n", done.stderr)
+        for line, why in LINES:
+            (self.folder / "turns").write_text(f"{line}\n", newline="")
+            done = self.run_words("run --schedule turns -o r bubble", 9, FAKE_TEXT="schedule 1")
+            self.assertIn(f"aprof: line 1 of turns is {line!r}, and {why}\n", done.stderr)
         done = self.run_words("run --schedule turns -o r bubble", 9, FAKE_TEXT="schedule")
         self.assertIn("it is the schedule of another run", done.stderr)
         done = self.run_words("replay -o r text", 13, FAKE_TEXT="trace 1")
         self.assertIn("aprof: text is no trace that `aprof trace` stored: its first line is another\n", done.stderr)
+
+    def test_files_of_no_use(self) -> None:
+        """Images and traces that are empty or cut off, and a text."""
+        bubble = (self.folder / "bubble").read_bytes()
+        text = (b"int x;\n", "a text, no executable: compile it first (examples/musl/cc)\n")
+        images = ((b"", "the file is empty"), (bubble[:-1], CUT), (bubble[:9], CUT), text)
+        for data, why in images:
+            (self.folder / "image").write_bytes(data)
+            self.assertIn(f"aprof: {why}", self.run_words("run -o r image", 3, FAKE_TEXT="image 1").stderr)
+        self.assertIn("aprof: the file is no whole", self.run_words("run -o r bubble", 3, FAKE_TEXT="image 1").stderr)
+        cut = "is cut off: store it again with `aprof trace`\n"
+        traces = ((b"", 1, "is empty\n"), (b"aprof tr", 1, cut), (b"aprof trace 1\n\1", 4, cut))
+        for data, number, why in traces:
+            (self.folder / "trace").write_bytes(data)
+            self.assertIn(f"aprof: trace {why}", self.run_words("replay -o r trace", 13, FAKE_TEXT=f"trace {number}").stderr)
+
+    def test_bytes(self) -> None:
+        """A word that is not UTF-8 is told by its escapes."""
+        for words, text in ((["run", "-o", "r", "bubble", "=\udcff"], "aprof: word 5 is not UTF-8 ('=\\377'): rename the file"),
+                            (["help", "\udcff"], "aprof: no command \\377")):
+            environment = os.environ | {"FAKE_STATUS": "1"}
+            done = subprocess.run([str(self.launcher), *words], cwd=self.folder, env=environment, capture_output=True)
+            self.assertEqual(done.returncode, 1)
+            self.assertIn(text, done.stderr.decode())
 
     def test_tables(self) -> None:
         """README has the same tables."""
@@ -117,6 +182,7 @@ class Words(Launched):
         for words in ("", "help", "-h", "--help"):
             done = self.run_words(words)
             self.assertEqual((done.returncode, done.stdout, done.stderr), (0, whole.stdout, ""))
+        self.assertIn("`aprof --version` prints the version", whole.stdout)
         done = self.run_words("--version")
         self.assertEqual(done.returncode, 0)
         self.assertTrue(done.stdout.startswith("aprof ") and done.stdout.endswith(whole.stdout))
@@ -128,6 +194,21 @@ class Words(Launched):
                 self.assertTrue(done.stdout.startswith(f"usage: aprof {command.name} "))
                 self.assertLessEqual(max(map(len, done.stdout.splitlines())), 84)
         self.assertIn("show [options] REPORT", self.run_words("help show").stdout)
+
+    def test_help_of_nothing(self) -> None:
+        for words, text in (("nothing", "no command nothing"), ("rnu", "no command rnu; there is run"),
+                            ("run extra", "extra is one word too many"), ("show extra", "extra is one word too many")):
+            done = self.run_words(f"help {words}")
+            said = f"aprof: {text}\n`./aprof help` has the commands\n"
+            self.assertEqual((done.returncode, done.stdout, done.stderr), (1, "", said))
+
+    def test_help_that_goes_nowhere(self) -> None:
+        """A full or closed standard output."""
+        for words in ("help", "help run", "--version", "run -o r x --help"):
+            for where, why in ((">/dev/full", "standard output: no space left"), (">&-", "standard output is closed")):
+                text = f"{self.launcher} {words} {where}"
+                done = subprocess.run(["bash", "-c", text], cwd=self.folder, capture_output=True, text=True)
+                self.assertEqual((done.returncode, done.stderr), (4, f"aprof: cannot write: {why}\n"), text)
 
     def test_show(self) -> None:
         done = self.run_words(["show", str(ROOT / "examples/bubble/report.txt")])
