@@ -12,6 +12,7 @@ from aprof_launch.outputs import refusals
 from aprof_launch.places import has_reader, is_full, why_unread
 from aprof_launch.usage import called, usage
 from aprof_launch.words import Words
+from aprof_show.address import place_of
 from aprof_show.library import musl_names
 
 MIB = 1 << 20
@@ -82,7 +83,7 @@ class Hints:
         fault = ends.fault_in(self.output)
         if fault is None:
             return ["`llvm-symbolizer --obj=IMAGE 0xADDRESS` names the routine, and with -g the line", *self.chain()]
-        found = ends.place_of(self.image(), fault.at)
+        found = place_of(self.image(), fault.at)
         place = f"in {found.routine or 'a routine without a name'}"
         if found.routine in musl_names() and not found.line:
             place += ", of the C library"

@@ -91,7 +91,8 @@ class Context:
 
 @dataclass
 class Report:
-    """What `run`, `replay` or `contexts` stored. `roots` is None where the text has no contexts."""
+    """What `run`, `replay` or `contexts` stored. `roots` is None where the text has no contexts. `place` is where the fault that
+    ended the run is in the source, as the image tells."""
 
     path: str
     end: str
@@ -99,6 +100,7 @@ class Report:
     still_open: int
     routines: list[Routine]
     roots: list[Context] | None
+    place: str | None = None
 
 
 @dataclass(frozen=True)
