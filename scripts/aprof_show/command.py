@@ -10,7 +10,7 @@ from aprof_show import called
 from aprof_show.against import above, above_text, against_text
 from aprof_show.cache import cache_text
 from aprof_show.data import csv_text, json_text
-from aprof_show.detail import detail
+from aprof_show.detail import detail, notes
 from aprof_show.heading import open_lines
 from aprof_show.inputs import ROUTINE_HINT, joined, name_by_image, read_all
 from aprof_show.joining import CannotJoin, join_caches
@@ -21,7 +21,7 @@ from aprof_show.options import choice_of, parser
 from aprof_show.output import drop_output, error_text, print_lines
 from aprof_show.plot import plot
 from aprof_show.reading import BadReport
-from aprof_show.rows import Row, rows_of
+from aprof_show.rows import WRITERS, Row, rows_of
 from aprof_show.source import BadImage, demangle, name_routines, read_symbols
 from aprof_show.stacks import callgrind, folded
 from aprof_show.table import summary
@@ -76,8 +76,7 @@ def run(options: argparse.Namespace) -> int:
     wanted = all_named(profile.routines, names)
     check(options, names, kind_of(options, names))
     warn(strangers(profile.reports))
-    if options.by == "self":
-        roots_of(profile)
+    check_order(options.by, profile)
     if options.fail_above is not None:
         return judge(rows, options, wanted)
     return show(options, profile, rows, wanted, lines)
@@ -116,12 +115,21 @@ def show(
     elif options.tree or options.callers or options.folded or options.callgrind:
         show_contexts(options, profile, roots_of(profile), wanted, lines)
     elif wanted:
-        for row in (row for row in rows if row.routine in wanted):
+        chosen = [row for row in rows if row.routine in wanted]
+        for row in chosen:
             print_lines(detail(row, width(), lines.get(row.routine.entry)))
             print_lines(plot(row.routine, width()) if options.plot else [])
+        print_lines(notes(chosen, width()))
     else:
         print_lines(summary(profile, rows, choice_of(options), width()))
     return 0
+
+
+def check_order(by: str | None, profile: Profile) -> None:
+    if by == "self":
+        roots_of(profile)
+    if by in WRITERS and any(routine.points and not routine.parts for routine in profile.routines):
+        raise Refused(f"--by {by} needs a report of version 2, which tells who wrote the input")
 
 
 def roots_of(profile: Profile) -> list[Context]:

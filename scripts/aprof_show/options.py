@@ -68,7 +68,7 @@ def parser() -> argparse.ArgumentParser:
     add("--all", action="store_true", help="all routines")
     add("--min", metavar="PERCENT", type=share, help="routines of at least so much; without it 1, and all superlinear ones")
     add("--top", metavar="N", type=number, help="at most N routines")
-    add("--by", choices=ORDERS, help="another order")
+    add("--by", choices=ORDERS, help="another order; thread, kernel: by the part of the input that these wrote")
     add("--library", action="store_true", help="routines of the C library too, each in its own line")
     add("--image", metavar="IMAGE", help="the executable: for names, files and lines")
     add("--against", metavar="OLD", help="compare with this earlier report, or a folder of them")
