@@ -3,7 +3,7 @@ from __future__ import annotations
 
 import argparse
 from difflib import get_close_matches
-from typing import NoReturn
+from typing import Any, NoReturn
 
 from aprof_show import called
 from aprof_show.rows import ORDERS
@@ -41,7 +41,10 @@ report or image."""
 
 
 class Parser(argparse.ArgumentParser):
-    """Says what is wrong in a line, as for all else that is refused."""
+    """Says what is wrong in a line, as for all else that is refused, and doesn't hide that help can't be written."""
+
+    def print_help(self, file: Any = None) -> None:
+        print(self.format_help(), end="", file=file, flush=True)
 
     def error(self, message: str) -> NoReturn:
         what, _, words = message.partition(": ")
@@ -66,13 +69,13 @@ def parser() -> argparse.ArgumentParser:
     add("words", metavar="REPORT | ROUTINE", nargs="*", help="a file, a folder of such files, or a routine's name or address")
     add("--routine", metavar="NAME", action="append", default=[], help="this routine alone; may be repeated")
     add("--all", action="store_true", help="all routines")
-    add("--min", metavar="PERCENT", type=share, help="routines of at least so much; without it 1, and all superlinear ones")
+    add("--min", metavar="PERCENT", type=share, help="only routines with at least PERCENT of the steps (1 without it, and every superlinear one)")
     add("--top", metavar="N", type=number, help="at most N routines")
-    add("--by", choices=ORDERS, help="another order; thread, kernel: by the part of the input that these wrote")
+    add("--by", choices=ORDERS, help="sorts by one of these; thread, kernel: the part of the input that these wrote")
     add("--library", action="store_true", help="routines of the C library too, each in its own line")
     add("--image", metavar="IMAGE", help="the executable: for names, files and lines")
     add("--against", metavar="OLD", help="compare with this earlier report, or a folder of them")
-    add("--fail-above", metavar="FACTOR", type=factor, help="status 1 where a growth is above FACTOR and certain")
+    add("--fail-above", metavar="FACTOR", type=factor, help="status 1 if a routine's growth exceeds FACTOR and is not marked ~")
     add("--plot", action="store_true", help="a chart of the routine")
     add("--version", action="store_true", help="the version of aprof")
     what = result.add_mutually_exclusive_group()

@@ -18,6 +18,7 @@ class Output(unittest.TestCase):
             (f"show {WORDS} >&-", closed),
             ("show --help >&-", closed),
             (f"show {WORDS} > /dev/full", f"show: standard output: {full}"),
+            ("show --help > /dev/full", f"show: standard output: {full}"),
             (f"show --csv {WORDS} > /dev/full", f"show: standard output: {full}"),
             (f"show --page /dev/full {WORDS}", f"show: /dev/full: {full}"),
         ]
