@@ -13,6 +13,7 @@ from aprof_launch.outputs import is_begun_trace, is_whole, refusals
 from aprof_launch.places import has_reader, is_full, takes_nothing, why_unread
 from aprof_launch.usage import called, usage
 from aprof_launch.words import Words
+from aprof_show.address import has_symbols, place_of
 from aprof_show.library import musl_names
 
 MIB = 1 << 20
@@ -102,8 +103,8 @@ class Hints:
             return ["`llvm-symbolizer --obj=IMAGE 0xADDRESS` names the routine, and with -g the line", *self.chain()]
         if fault.kind == 2:
             return [f"{fault.at:08x} is no code: {tables.no_code(fault.at)}", *self.chain()]
-        found = ends.place_of(self.image(), fault.at)
-        if not (found.routine or found.line or ends.has_symbols(self.image())):
+        found = place_of(self.image(), fault.at)
+        if not (found.routine or found.line or has_symbols(self.image())):
             return [f"the image has no symbols: don't strip it; {tables.FAULTS.get(fault.kind, '')}", *self.chain()]
         place = f"in {found.routine or 'a routine without a name'}"
         if found.routine in musl_names() and not found.line:

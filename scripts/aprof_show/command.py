@@ -3,33 +3,37 @@ from __future__ import annotations
 
 import argparse
 import io
-import os
 import sys
 from collections.abc import Iterable, Sequence
 
+from aprof_show import called
 from aprof_show.against import above, above_text, against_text
 from aprof_show.cache import cache_text
 from aprof_show.data import csv_text, json_text
-from aprof_show.detail import detail
+from aprof_show.detail import detail, notes
 from aprof_show.heading import open_lines
-from aprof_show.inputs import joined, name_by_image, read_all
+from aprof_show.inputs import ROUTINE_HINT, joined, name_by_image, read_all
 from aprof_show.joining import CannotJoin, join_caches
 from aprof_show.kinship import strange_pair, strangers
 from aprof_show.model import CacheReport, Context, Profile, Report, Routine
 from aprof_show.names import shorten
 from aprof_show.options import choice_of, parser
+from aprof_show.output import drop_output, error_text, print_lines
 from aprof_show.plot import plot
 from aprof_show.reading import BadReport
-from aprof_show.rows import Row, rows_of
+from aprof_show.rows import WRITERS, Row, rows_of
 from aprof_show.source import BadImage, demangle, name_routines, read_symbols
 from aprof_show.stacks import callgrind, folded
 from aprof_show.table import summary
 from aprof_show.terminal import width
 from aprof_show.tree import callers_text, tree_text
-from aprof_show.words import BEHIND_CALLERS, Refused, all_named, called_by, check, check_page, kind_of
+from aprof_show.words import Refused, all_named, called_by, check, check_page, kind_of, sort_words
 
 def main(arguments: Sequence[str] | None = None) -> int:
     """The exit status."""
+    if sys.stdout is None:
+        print("show: standard output is closed", file=sys.stderr)
+        return 2
     if isinstance(sys.stdout, io.TextIOWrapper):
         sys.stdout.reconfigure(errors="replace")
     try:
@@ -41,24 +45,21 @@ def main(arguments: Sequence[str] | None = None) -> int:
     except KeyboardInterrupt:
         return 130
     except BrokenPipeError:
-        os.dup2(os.open(os.devnull, os.O_WRONLY), sys.stdout.fileno())
+        drop_output()
         return 0
     except OSError as error:
-        print(f"show: {error.filename}: {error.strerror}", file=sys.stderr)
+        print(f"show: {error_text(error)}", file=sys.stderr)
+        if error.filename is None:
+            drop_output()
     return 2
 
 
 def run(options: argparse.Namespace) -> int:
-    paths = [word for word in options.words if os.path.exists(word)]
-    names = [word for word in options.words if not os.path.exists(word)] + options.routine
-    if options.plot and not names:
-        raise Refused("--plot wants a routine")
-    if not paths:
-        missing = f"no file {names[0]}" if names else "a report is wanted"
-        if options.callers and os.path.exists(options.callers):
-            missing = f"{options.callers} is a file; {BEHIND_CALLERS}"
-        raise Refused(f"{missing}; `show --help` tells more")
-    reports = read_all(paths)
+    if options.version:
+        print(called.version())
+        return 0
+    paths, names = sort_words(options)
+    reports = read_all(paths, ROUTINE_HINT)
     if isinstance(reports[0], CacheReport):
         if names:
             raise Refused(f"no file {names[0]}, and a report of `aprof cache` takes no routine")
@@ -75,8 +76,7 @@ def run(options: argparse.Namespace) -> int:
     wanted = all_named(profile.routines, names)
     check(options, names, kind_of(options, names))
     warn(strangers(profile.reports))
-    if options.by == "self":
-        roots_of(profile)
+    check_order(options.by, profile)
     if options.fail_above is not None:
         return judge(rows, options, wanted)
     return show(options, profile, rows, wanted, lines)
@@ -100,16 +100,11 @@ def caches_text(reports: Sequence[Report | CacheReport], options: argparse.Names
     return cache_text(cache, choice_of(options), width(), {routine.entry: routine.label for routine in routines})
 
 
-def print_lines(lines: Sequence[str]) -> None:
-    for line in lines:
-        print(line)
-
-
 def show(
     options: argparse.Namespace, profile: Profile, rows: Sequence[Row], wanted: set[Routine], lines: dict[int, str]
 ) -> int:
     if options.page is not None:
-        check_page(options.page, (report.path for report in profile.reports))
+        check_page(options.page, [report.path for report in profile.reports], options.image)
         write_page(options.page, profile, lines)
     elif options.json:
         print(json_text(profile, rows, wanted))
@@ -120,12 +115,21 @@ def show(
     elif options.tree or options.callers or options.folded or options.callgrind:
         show_contexts(options, profile, roots_of(profile), wanted, lines)
     elif wanted:
-        for row in (row for row in rows if row.routine in wanted):
+        chosen = [row for row in rows if row.routine in wanted]
+        for row in chosen:
             print_lines(detail(row, width(), lines.get(row.routine.entry)))
             print_lines(plot(row.routine, width()) if options.plot else [])
+        print_lines(notes(chosen, width()))
     else:
         print_lines(summary(profile, rows, choice_of(options), width()))
     return 0
+
+
+def check_order(by: str | None, profile: Profile) -> None:
+    if by == "self":
+        roots_of(profile)
+    if by in WRITERS and any(routine.points and not routine.parts for routine in profile.routines):
+        raise Refused(f"--by {by} needs a report of version 2, which tells who wrote the input")
 
 
 def roots_of(profile: Profile) -> list[Context]:

@@ -2,12 +2,13 @@
 from __future__ import annotations
 
 import math
-from collections.abc import Sequence
+from collections.abc import Iterable, Sequence
 from itertools import groupby
 
 from aprof_show.bends import slope_between
 from aprof_show.growth import Growth, factor_of
-from aprof_show.model import Point
+from aprof_show.heading import wrapped
+from aprof_show.model import Point, sum_of_parts
 from aprof_show.rows import Row
 from aprof_show.table import cause_text, growth_text, projected, share_text, short_ratio
 from aprof_show.terminal import Column, about, factor_text, percent, plural, short, table
@@ -65,11 +66,29 @@ def columns_of(points: Sequence[Point]) -> list[Column]:
         Column("A WORD", [f"{point.most / point.size:.1f}" if point.size else "" for point in greatest]),
         Column("GROWTH", ["", *(step_text(*pair) for pair in zip(greatest, greatest[1:]))]),
     ]
-    if all(point.parts for point in points):
-        parts = [parts_of(group) for group in groups]
-        for place, heading in enumerate(("OWN", "THREAD", "KERNEL")):
-            columns.append(Column(heading, [row[place] for row in parts]))
+    if sum_of_parts(points):
+        parts = [parts_of(group) for group in groups] + [parts_of(points)] * (len(groups) > 1)
+        columns += [Column(heading, [row[place] for row in parts]) for place, heading in enumerate(("OWN", "THREAD", "KERNEL"))]
+        if len(groups) > 1:
+            add_totals(columns, points)
     return columns
+
+
+def add_totals(columns: Sequence[Column], points: Sequence[Point]) -> None:
+    """The line below all others, in the columns before those that have it."""
+    totals = ["all", short(sum(point.calls for point in points)), "", "", "", ""]
+    for column, total in zip(columns, totals):
+        column.cells.append(total)
+
+
+def notes(rows: Iterable[Row], room: int) -> list[str]:
+    """What is said under the last table."""
+    routines = [row.routine for row in rows if row.routine.points]
+    if not routines:
+        return []
+    writers = "; OWN, THREAD, KERNEL: who wrote those words since the thread last had them"
+    known = any(routine.parts for routine in routines)
+    return wrapped("A WORD is the greatest cost by word of the size" + writers * known, room)
 
 
 def sizes_text(group: Sequence[Point]) -> str:
@@ -87,8 +106,8 @@ def step_text(before: Point, after: Point) -> str:
 
 def parts_of(group: Sequence[Point]) -> tuple[str, str, str]:
     """Who wrote the input: the thread itself or no one, another thread, the kernel."""
-    parts = [point.parts for point in group if point.parts]
-    sums = [sum(part.own for part in parts), sum(part.thread for part in parts), sum(part.kernel for part in parts)]
+    parts = sum_of_parts(group)
+    sums = [parts.own, parts.thread, parts.kernel] if parts else [0, 0, 0]
     whole = sum(sums)
     own, thread, kernel = (f"{math.floor(100 * part / whole + 0.5)}%" if whole else "" for part in sums)
     return own, thread, kernel

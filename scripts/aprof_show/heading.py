@@ -5,7 +5,7 @@ from collections import Counter
 from textwrap import wrap
 
 from aprof_show.costs import chain_of, chain_text, costs_of, open_ends
-from aprof_show.model import Profile
+from aprof_show.model import Profile, Report
 from aprof_show.terminal import plural
 
 FAULTS = (
@@ -22,16 +22,16 @@ FAULTS = (
 def head(profile: Profile) -> list[str]:
     ends = Counter(report.end for report in profile.reports)
     texts = [f"end {end}" + (f" ({count})" if len(ends) > 1 else "") for end, count in ends.most_common()]
-    faults = [fault_line(report.end) for report in profile.reports if report.end.startswith("fault")]
+    faults = [fault_line(report) for report in profile.reports if report.end.startswith("fault")]
     reports = f"{len(profile.reports)} reports, " if len(profile.reports) > 1 else ""
     still_open = f"{profile.still_open} still open"
     return [f"{reports}{profile.steps} steps, {', '.join(texts)}, {still_open}", *faults]
 
 
-def fault_line(end: str) -> str:
+def fault_line(report: Report) -> str:
     """In words what `fault KIND THREAD ADDRESS` says."""
-    _, kind, thread, address = end.split()
-    return f"the fault: {FAULTS[int(kind) - 1]}, thread {thread}, at {address}"
+    _, kind, thread, address = report.end.split()
+    return f"the fault: {FAULTS[int(kind) - 1]}, thread {thread}, {report.place or f'at {address}'}"
 
 
 def open_lines(profile: Profile, room: int) -> list[str]:
@@ -41,14 +41,25 @@ def open_lines(profile: Profile, room: int) -> list[str]:
     if profile.roots is None:
         return [f"{plural(profile.still_open, 'call')} had not returned; `aprof contexts` stores which"]
     ends = open_ends(profile.roots, costs_of(profile.roots))
-    chains = [f"open at the end: {chain_text(context)}" for context in ends[:8]]
-    lines = [line for chain in chains for line in wrap(chain, room, subsequent_indent="    ", break_long_words=False)]
-    if len(ends) > 8:
-        lines.append(f"and {len(ends) - 8} more chains")
+    chains = list(dict.fromkeys(chain_text(context) for context in ends))
+    lines = [line for chain in chains[:8] for line in wrapped(f"open at the end: {chain}", room)]
+    if len(chains) > 8:
+        lines.append(f"and {plural(len(chains) - 8, 'more chain')}")
     if any(not link.routine.name and not link.routine.shown for context in ends for link in chain_of(context)):
         lines.append("--image IMAGE names the routines that never returned")
     sure = {link for context in ends for link in chain_of(context)}
     more = profile.still_open - len(sure)
     if more > 0:
-        lines.append(f"and {plural(more, 'more call')}, where earlier calls had returned")
+        lines += wrapped(f"and {unplaced_text(more)}, so these stacks may go deeper", room)
     return lines
+
+
+def wrapped(text: str, room: int) -> list[str]:
+    return wrap(text, room, subsequent_indent="    ", break_long_words=False)
+
+
+def unplaced_text(calls: int) -> str:
+    """What is said of open calls that no chain has: those whose routine had points there from earlier calls."""
+    if calls == 1:
+        return "1 more open call of a routine that had returned before: the report can't tell where it stands"
+    return f"{calls} more open calls of routines that had returned before: the report can't tell where they stand"

@@ -6,15 +6,28 @@ import re
 from collections.abc import Sequence
 from pathlib import Path
 
+from aprof_show.address import place_text
 from aprof_show.joining import CannotJoin, join
 from aprof_show.model import CacheReport, Profile, Report
-from aprof_show.reading import read_file
+from aprof_show.reading import NotAReport, read_file
 from aprof_show.source import lines_of_image, name_routines, read_symbols
 from aprof_show.words import Refused
 
 
-def read_all(paths: Sequence[str]) -> list[Report | CacheReport]:
-    return [read_file(file) for path in paths for file in files_of(path)]
+ROUTINE_HINT = " (for a routine called as a file: --routine NAME)"
+FOLDER_HINT = ": all files of a folder must be reports"
+
+
+def read_all(paths: Sequence[str], hint: str = "") -> list[Report | CacheReport]:
+    """`hint` is for a file that is no report."""
+    return [read_one(file, FOLDER_HINT if os.path.isdir(path) else hint) for path in paths for file in files_of(path)]
+
+
+def read_one(file: str, hint: str) -> Report | CacheReport:
+    try:
+        return read_file(file)
+    except NotAReport as error:
+        raise Refused(f"{error}{hint}") from error
 
 
 def files_of(path: str) -> list[str]:
@@ -36,8 +49,11 @@ def joined(reports: Sequence[Report | CacheReport]) -> Profile:
 
 
 def name_by_image(reports: Sequence[Report | CacheReport], image: str) -> dict[int, str]:
-    """Names what has no name, and gives files and lines."""
+    """Names what has no name and where a fault was, and gives files and lines."""
     symbols = read_symbols(image)
     routines = [routine for report in reports if isinstance(report, Report) for routine in report.routines]
     name_routines(routines, symbols, image)
+    for report in reports:
+        if isinstance(report, Report) and report.end.startswith("fault"):
+            report.place = place_text(image, int(report.end.split()[-1], 16))
     return lines_of_image(image, (routine.entry for routine in routines))

@@ -9,7 +9,7 @@ from __future__ import annotations
 from collections import Counter
 from collections.abc import Iterable, Sequence
 
-from aprof_show.model import CacheReport, CacheRoutine, Context, Parts, Point, Profile, Report, Routine
+from aprof_show.model import CacheReport, CacheRoutine, Context, Point, Profile, Report, Routine, sum_of_parts
 
 Key = tuple[object, ...]
 
@@ -48,21 +48,13 @@ def add_points(some: Iterable[Point], others: Iterable[Point]) -> list[Point]:
 
 def add_up(one: Point, other: Point) -> Point:
     """The point of the calls of both, which have one size."""
-    parts = None
-    if one.parts and other.parts:
-        parts = Parts(
-            one.parts.own + other.parts.own,
-            one.parts.thread + other.parts.thread,
-            one.parts.kernel + other.parts.kernel,
-            one.parts.bare + other.parts.bare,
-        )
     return Point(
         one.size,
         one.calls + other.calls,
         min(one.least, other.least),
         max(one.most, other.most),
         one.cost + other.cost,
-        parts,
+        sum_of_parts([one, other]),
     )
 
 

@@ -2,6 +2,7 @@
 from __future__ import annotations
 
 import re
+from collections.abc import Sequence
 from dataclasses import dataclass, field
 
 
@@ -29,6 +30,19 @@ class Point:
     @property
     def mean(self) -> float:
         return self.cost / self.calls
+
+
+def sum_of_parts(points: Sequence[Point]) -> Parts | None:
+    """None where one of the points has none."""
+    parts = [point.parts for point in points if point.parts]
+    if not points or len(parts) < len(points):
+        return None
+    return Parts(
+        sum(part.own for part in parts),
+        sum(part.thread for part in parts),
+        sum(part.kernel for part in parts),
+        sum(part.bare for part in parts),
+    )
 
 
 @dataclass(eq=False)
@@ -69,6 +83,11 @@ class Routine:
         """Summed over all calls, those nested in a call of the same routine too."""
         return sum(point.cost for point in self.points)
 
+    @property
+    def parts(self) -> Parts | None:
+        """Summed over all calls; None where the report doesn't tell, or there is no call."""
+        return sum_of_parts(self.points)
+
 
 @dataclass(eq=False)
 class Context:
@@ -91,7 +110,8 @@ class Context:
 
 @dataclass
 class Report:
-    """What `run`, `replay` or `contexts` stored. `roots` is None where the text has no contexts."""
+    """What `run`, `replay` or `contexts` stored. `roots` is None where the text has no contexts. `place` is where the fault that
+    ended the run is in the source, as the image tells."""
 
     path: str
     end: str
@@ -99,6 +119,7 @@ class Report:
     still_open: int
     routines: list[Routine]
     roots: list[Context] | None
+    place: str | None = None
 
 
 @dataclass(frozen=True)

@@ -2,9 +2,13 @@
 from __future__ import annotations
 
 import argparse
+from difflib import get_close_matches
+from typing import Any, NoReturn
 
+from aprof_show import called
 from aprof_show.rows import ORDERS
 from aprof_show.table import Choice
+from aprof_show.words import Refused
 
 HELP = """Shows what `aprof run`, `replay`, `contexts` and `cache` store, and several reports as
 one longer run.
@@ -36,12 +40,27 @@ routines of the C library count where they are named); 2 for a bad command line,
 report or image."""
 
 
+class Parser(argparse.ArgumentParser):
+    """Says what is wrong in a line, as for all else that is refused, and doesn't hide that help can't be written."""
+
+    def print_help(self, file: Any = None) -> None:
+        print(self.format_help(), end="", file=file, flush=True)
+
+    def error(self, message: str) -> NoReturn:
+        what, _, words = message.partition(": ")
+        if what != "unrecognized arguments":
+            raise Refused(message.removeprefix("argument "))
+        option = words.split()[0].partition("=")[0]
+        near = get_close_matches(option, self._option_string_actions, 1)
+        raise Refused(f"no option {option}" + (f"; there is {near[0]}" if near else f"; `{called.name()} --help` lists them"))
+
+
 def parser() -> argparse.ArgumentParser:
-    form = argparse.RawDescriptionHelpFormatter
-    result = argparse.ArgumentParser(
+    form, name = argparse.RawDescriptionHelpFormatter, called.name()
+    result = Parser(
         prog="show",
-        usage="show [options] REPORT... [ROUTINE]",
-        description=HELP,
+        usage=f"{name} [options] REPORT... [ROUTINE]",
+        description=HELP.replace("  show ", f"  {name} "),
         epilog=NOTES,
         formatter_class=form,
         allow_abbrev=False,
@@ -50,14 +69,15 @@ def parser() -> argparse.ArgumentParser:
     add("words", metavar="REPORT | ROUTINE", nargs="*", help="a file, a folder of such files, or a routine's name or address")
     add("--routine", metavar="NAME", action="append", default=[], help="this routine alone; may be repeated")
     add("--all", action="store_true", help="all routines")
-    add("--min", metavar="PERCENT", type=share, help="routines of at least so much; without it 1, and all superlinear ones")
+    add("--min", metavar="PERCENT", type=share, help="only routines with at least PERCENT of the steps (1 without it, and every superlinear one)")
     add("--top", metavar="N", type=number, help="at most N routines")
-    add("--by", choices=ORDERS, help="another order")
+    add("--by", choices=ORDERS, help="sorts by one of these; thread, kernel: the part of the input that these wrote")
     add("--library", action="store_true", help="routines of the C library too, each in its own line")
     add("--image", metavar="IMAGE", help="the executable: for names, files and lines")
     add("--against", metavar="OLD", help="compare with this earlier report, or a folder of them")
-    add("--fail-above", metavar="FACTOR", type=factor, help="status 1 where a growth is above FACTOR and certain")
+    add("--fail-above", metavar="FACTOR", type=factor, help="status 1 if a routine's growth exceeds FACTOR and is not marked ~")
     add("--plot", action="store_true", help="a chart of the routine")
+    add("--version", action="store_true", help="the version of aprof")
     what = result.add_mutually_exclusive_group()
     for option, text in (
         ("--tree", "the calling tree"),
@@ -74,23 +94,28 @@ def parser() -> argparse.ArgumentParser:
 
 
 def share(text: str) -> float:
-    value = float(text.rstrip("%"))
-    if not 0 <= value <= 100:
-        raise ValueError
-    return value / 100
+    return value_of(text.rstrip("%"), 0, 100, f"--min {text}: a percentage, 0 to 100") / 100
 
 
 def factor(text: str) -> float:
-    value = float(text.lstrip("x"))
-    if not 0 < value < 1e6:
-        raise ValueError
-    return value
+    return value_of(text.lstrip("x"), 1e-9, 1e6, f"--fail-above {text}: a factor above 0, as 2.5")
 
 
 def number(text: str) -> int:
-    value = int(text)
-    if value < 1:
-        raise ValueError
+    wanted = f"--top {text}: a whole number from 1 on"
+    if not text.isdecimal():
+        raise Refused(wanted)
+    return int(value_of(text, 1, 1e18, wanted))
+
+
+def value_of(text: str, least: float, most: float, wanted: str) -> float:
+    """The number, or a refusal that says what is wanted."""
+    try:
+        value = float(text)
+    except ValueError:
+        raise Refused(wanted) from None
+    if not least <= value <= most:
+        raise Refused(wanted)
     return value
 
 

@@ -15,6 +15,7 @@ from aprof_show.costs import chain_text, contexts_of, costs_of, open_ends
 from aprof_show.growth import Growth, factor_of, growth_of
 from aprof_show.joining import add_points
 from aprof_show.model import Context, Point, Profile, Report, Routine
+from aprof_show.output import write_text
 from aprof_show.rows import Row, ordered, rows_of
 
 LIBRARY = Path("/usr/share/javascript/chart.js/chart.min.js")
@@ -43,8 +44,7 @@ def write_page(path: str, profile: Profile, lines: dict[int, str] | None = None)
     }
     # in one pass, as what is set in may have such a mark itself
     text = re.sub(r"@(style|library|profile|script)@", lambda found: parts[found[1]], source_of("page.html"))
-    with open(path, "w", encoding="utf-8", newline="\n") as file:
-        file.write(text)
+    write_text(path, text)
 
 
 def source_of(name: str) -> str:

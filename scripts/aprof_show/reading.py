@@ -19,6 +19,10 @@ class BadReport(Exception):
         super().__init__(f"{path}:{line}: {what}")
 
 
+class NotAReport(BadReport):
+    """A file that aprof didn't store, by its begin."""
+
+
 class Lines:
     """The lines of a file, one after another."""
 
@@ -57,17 +61,18 @@ class Lines:
 def read_file(path: str) -> Report | CacheReport:
     """What a file holds, by its first line."""
     with open(path, encoding="ascii", errors="replace", newline="") as file:
-        lines = Lines(path, file.read())
-    if lines.at_end():
-        raise BadReport(path, 1, "not a report of aprof: " + ("its first line has no end" if lines.cut_off else "empty"))
-    first = lines.next()
+        text = file.read()
+    if text in ("", "aprof 1", "aprof 2", "aprof cache 1"):
+        raise BadReport(path, 1, "not a report of aprof: " + ("its first line has no end" if text else "empty"))
+    lines = Lines(path, text)
+    first = "" if lines.at_end() else lines.next()
     if first == "aprof cache 1":
         return read_cache(lines)
     if first in ("aprof 1", "aprof 2"):
         return read_report(lines, int(first[-1]))
     if first.startswith("aprof trace"):
         raise lines.bad("this is a trace; `aprof replay -o REPORT TRACE` makes a report of it")
-    raise lines.bad("not a report of aprof, whose first line is `aprof 2` (for a routine called as a file: --routine NAME)")
+    raise NotAReport(path, 1, "not a report of aprof, whose first line is `aprof 2`")
 
 
 def read_head(lines: Lines) -> tuple[str, int]:

@@ -12,7 +12,8 @@ from aprof_show.growth import SUPERLINEAR, Growth, growth_of
 from aprof_show.library import library_routines
 from aprof_show.model import Profile, Routine
 
-ORDERS = ("growth", "share", "self", "name")
+WRITERS = ("thread", "kernel")
+ORDERS = ("growth", "share", "self", "name", *WRITERS)
 
 
 @dataclass(frozen=True, eq=False)
@@ -98,7 +99,18 @@ def ordered(rows: Sequence[Row], by: str | None) -> list[Row]:
         return sorted(rows, key=lambda row: (-(row.own or 0.0), -row.share))
     if by == "share":
         return sorted(rows, key=lambda row: -row.share)
+    if by in WRITERS:
+        return sorted(rows, key=lambda row: (-written_part(row.routine, by, -1.0), -row.share))
     return by_weight(rows)
+
+
+def written_part(routine: Routine, by: str | None, unknown: float) -> float:
+    """The part of the words of all sizes that other threads (`thread`) or the kernel wrote."""
+    parts = routine.parts
+    whole = parts.own + parts.thread + parts.kernel if parts else 0
+    if not parts or not whole:
+        return unknown
+    return (parts.thread if by == "thread" else parts.kernel) / whole
 
 
 def by_weight(rows: Sequence[Row]) -> list[Row]:

@@ -8,7 +8,7 @@ from aprof_show.causes import Cause
 from aprof_show.growth import Growth
 from aprof_show.heading import head, open_lines
 from aprof_show.model import Profile, Routine
-from aprof_show.rows import Row, ordered
+from aprof_show.rows import WRITERS, Row, ordered, written_part
 from aprof_show.terminal import Column, cut, factor_text, percent, plural, short, table, with_remarks
 
 WIDE = 112
@@ -45,7 +45,7 @@ def summary(profile: Profile, rows: Sequence[Row], choice: Choice, room: int) ->
     hidden = len(others) - len(listed)
     lines = head(profile) + open_lines(profile, room)
     if listed:
-        lines += with_causes(table(columns_of(listed, room), room), listed, room)
+        lines += with_causes(table(columns_of(listed, room, choice.by), room), listed, room)
     if any(row.superlinear for row in listed):
         lines.append(STEEP_LINE)
     if any(row.growth and row.growth.weak for row in listed):
@@ -71,13 +71,15 @@ def cause_text(cause: Cause) -> str:
     return f"{100 * cause.part:.0f}% in {cut(cause.routine.label, 50)}, {plural(cause.calls, 'call')}"
 
 
-def columns_of(rows: Sequence[Row], room: int) -> list[Column]:
+def columns_of(rows: Sequence[Row], room: int, by: str | None = None) -> list[Column]:
     columns = [
         Column("GROWTH", [marked(row.growth) for row in rows]),
         Column("SHARE", [share_text(row) for row in rows]),
     ]
     if rows[0].own is not None:
         columns.append(Column("SELF", [percent(row.own or 0.0) + "+" * row.open for row in rows]))
+    if by and by in WRITERS:
+        columns.append(Column(by.upper(), [written_text(row.routine, by) for row in rows]))
     if room >= WIDE:
         columns += projected_columns(rows)
     columns += [
@@ -87,6 +89,11 @@ def columns_of(rows: Sequence[Row], room: int) -> list[Column]:
         Column("SIZES", [sizes_text(row.routine) for row in rows]),
     ]
     return columns + [Column(" ROUTINE", [f" {row.routine.label}{mark(row)}" for row in rows], left=True)]
+
+
+def written_text(routine: Routine, by: str) -> str:
+    part = written_part(routine, by, -1.0)
+    return "-" if part < 0 else percent(part)
 
 
 def projected_columns(rows: Sequence[Row]) -> list[Column]:

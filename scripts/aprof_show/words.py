@@ -6,6 +6,7 @@ import os
 from collections.abc import Collection, Iterable, Sequence
 from difflib import get_close_matches
 
+from aprof_show import called
 from aprof_show.model import Routine
 
 CHOICE = frozenset({"--all", "--min", "--library", "--top", "--by"})
@@ -43,6 +44,37 @@ class Refused(Exception):
     """The command can't be carried out."""
 
 
+def sort_words(options: argparse.Namespace) -> tuple[list[str], list[str]]:
+    """The reports, and the names of routines."""
+    refuse_empty(options)
+    paths = [word for word in options.words if os.path.exists(word)]
+    names = [word for word in options.words if not os.path.exists(word)] + options.routine
+    if options.plot and not names:
+        raise Refused("--plot wants a routine")
+    if not paths:
+        raise Refused(missing_text(options, names))
+    return paths, names
+
+
+def refuse_empty(options: argparse.Namespace) -> None:
+    if "" in options.words:
+        raise Refused("an empty word")
+    for option in ("--routine", "--callers", "--image", "--against", "--page"):
+        value = getattr(options, attribute_of(option))
+        if value == "" or "" in (value or ()) and option == "--routine":
+            raise Refused(f"an empty word behind {option}")
+
+
+def missing_text(options: argparse.Namespace, names: Sequence[str]) -> str:
+    """What is said where no word is a report."""
+    missing = f"no file {names[0]}" if names else "a report is wanted"
+    if options.callers and os.path.exists(options.callers):
+        missing = f"{options.callers} is a file; {BEHIND_CALLERS}"
+    elif options.against and not names:
+        return f"--against OLD wants the new report too: {called.name()} --against {options.against} NEW"
+    return f"{missing}; `{called.name()} --help` tells more"
+
+
 def kind_of(options: argparse.Namespace, names: Sequence[str]) -> str:
     for kind in TAKES:
         if kind.startswith("--") and getattr(options, attribute_of(kind)) not in (None, False):
@@ -76,10 +108,12 @@ def check(options: argparse.Namespace, names: Sequence[str], kind: str) -> None:
         raise Refused("--all and --min exclude each other")
 
 
-def check_page(path: str, inputs: Iterable[str]) -> None:
-    """A page is not written over a report."""
+def check_page(path: str, inputs: Iterable[str], image: str | None) -> None:
+    """A page is not written over what is read."""
     if not os.path.isfile(path):
         return
+    if image and os.path.samefile(path, image):
+        raise Refused(f"{path} is the image, and is not overwritten: --page FILE REPORT...")
     with open(path, "rb") as file:
         is_report = file.read(6) == b"aprof "
     if is_report or any(os.path.samefile(path, one) for one in inputs):
@@ -92,7 +126,7 @@ def named(routines: Collection[Routine], name: str) -> list[Routine]:
     found = found or [routine for routine in routines if routine.is_at(name)]
     if not found:
         near = get_close_matches(name, [routine.label for routine in routines], 1)
-        raise Refused(f"no file and no routine called {name}" + (f"; there is {near[0]}" if near else ""))
+        raise Refused(f"no file and no routine called {name}" + (f"; there is {near[0]}" if near else "") + " (--all lists them)")
     return found
 
 

@@ -20,32 +20,6 @@ BUBBLE = "examples/bubble/report.txt"
 CACHE = "examples/matrix/small.txt"
 CONTEXTS = "rows/two-ways-to-a-routine/report"
 
-# the words, the status, and a part of what standard error says
-MISTAKES: list[tuple[list[str], int, str]] = [
-    ([], 2, "show: a report is wanted; `show --help` tells more"),
-    (["nope"], 2, "show: no file nope"),
-    ([WORDS, "nope"], 2, "show: no file and no routine called nope"),
-    ([WORDS, "--routine", "nope"], 2, "show: no file and no routine called nope"),
-    ([WORDS, "--fail-above", "9", "nope"], 2, "show: no file and no routine called nope"),
-    (["--callers", "nope", CONTEXTS], 2, "show: no routine called nope; the routine goes directly after --callers"),
-    (["--callers", CONTEXTS, "10070"], 2, f"show: {CONTEXTS} is a file; the routine goes directly after --callers"),
-    (["crates"], 2, "show: crates: no file in this folder"),
-    (["rows/two-ways-to-a-routine"], 2, "show: rows/two-ways-to-a-routine/code.s:1: not a report of aprof"),
-    (["README.md"], 2, "show: README.md:1: not a report of aprof"),
-    ([WORDS, CACHE], 2, "show: reports of `aprof cache` can't be joined with others"),
-    ([CACHE, WORDS], 2, "show: reports of `aprof cache` can't be joined with others"),
-    (["--against", CACHE, WORDS], 2, "show: reports of `aprof cache` can't be joined with others"),
-    (["--tree", WORDS], 2, "show: this needs calling contexts, which `aprof contexts` stores"),
-    (["--folded", WORDS], 2, "show: this needs calling contexts"),
-    (["--tree", "--json", CONTEXTS], 2, "not allowed with argument"),
-    (["--min", "200", WORDS], 2, "argument --min: invalid share value: '200'"),
-    (["--top", "0", WORDS], 2, "argument --top: invalid number value: '0'"),
-    (["--fail-above", "x", WORDS], 2, "argument --fail-above: invalid factor value: 'x'"),
-    (["--image", "README.md", WORDS], 2, "show: README.md is no 32-bit little-endian ELF file"),
-    (["--image", "nope", WORDS], 2, "show: nope: No such file or directory"),
-    ([WORDS, "--plot"], 2, "show: --plot wants a routine"),
-]
-
 
 def show(*words: str, status: int = 0, encoding: str = "utf-8") -> str:
     """Standard output, or standard error where the status is to be 2."""
@@ -62,11 +36,6 @@ def show(*words: str, status: int = 0, encoding: str = "utf-8") -> str:
 
 
 class Statuses(unittest.TestCase):
-    def test_mistakes(self) -> None:
-        for words, status, what in MISTAKES:
-            with self.subTest(words=words):
-                self.assertIn(what, show(*words, status=status))
-
     def test_fail_above(self) -> None:
         cases: list[tuple[list[str], int, list[str]]] = [
             ([BUBBLE, "--fail-above", "2.5"], 1, ["bubble_sort grows x4.0, above x2.5 (92.1% of the steps)"]),
@@ -92,11 +61,6 @@ class Statuses(unittest.TestCase):
             done = subprocess.run([ROOT / "show", *words], capture_output=True, text=True, cwd="/", env=environment)
             self.assertEqual((done.returncode, "Traceback" in done.stderr), (status, False))
             self.assertLessEqual(max(map(len, done.stdout.splitlines()), default=0), 80)
-
-    def test_a_reader_that_stops(self) -> None:
-        done = subprocess.run(f"{ROOT}/show --csv {WORDS} | head -n 1", shell=True, capture_output=True, text=True, cwd=ROOT)
-        self.assertEqual(done.stdout, "routine,entry,size,calls,least,most,cost,own,thread,kernel,bare\n")
-        self.assertEqual(done.stderr, "")
 
 
 class Output(unittest.TestCase):

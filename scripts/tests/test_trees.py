@@ -83,7 +83,21 @@ class OpenAtTheEnd(unittest.TestCase):
     def test_more_than_are_sure(self) -> None:
         """A second thread in the same routines is open too, and only the number tells."""
         profile = profile_of(SPINNING, SPINNING, end="deadlock")
-        self.assertEqual(open_lines(profile, 80)[-1], "and 3 more calls, where earlier calls had returned")
+        lines = open_lines(profile, 80)
+        self.assertLessEqual(max(map(len, lines)), 80)
+        self.assertIn(
+            "and 3 more open calls of routines that had returned before: the report can't tell where they stand, "
+            "so these stacks may go deeper",
+            " ".join(line.strip() for line in lines),
+        )
+
+    def test_equal_chains_are_told_once(self) -> None:
+        threads = [Call("main", calls=[Call(name, open=True)]) for name in ("spin", "leaf", "look_up")]
+        profile = profile_of(*threads, end="deadlock")
+        for routine, name in zip(profile.routines, ("main", "phil", "phil", "eat")):
+            routine.shown = name
+        chains = [line for line in open_lines(profile, 80) if line.startswith("open at the end")]
+        self.assertEqual(chains, ["open at the end: main > eat", "open at the end: main > phil"])
 
     def test_long_chains(self) -> None:
         profile = deep(["main"] + ["parse"] * 30_000 + ["leaf"], returned=False)

@@ -73,6 +73,12 @@ class Refusals(unittest.TestCase):
             for words in ((str(other), str(report)), (str(report), str(report))):
                 self.assertIn("is a report, and is not overwritten", show("--page", *words, status=2))
             self.assertEqual(other.read_bytes(), (ROOT / WORDS).read_bytes())
+            image, link = Path(folder, "image"), Path(folder, "link")
+            image.write_bytes((ROOT / WORDS).with_name("words").read_bytes())
+            link.hardlink_to(image)
+            for same in (image, link):
+                said = show("--page", str(same), "--image", str(image), str(report), status=2)
+                self.assertEqual(said, f"show: {same} is the image, and is not overwritten: --page FILE REPORT...\n")
             for new in (page, Path(folder, "new.html")):
                 show("--page", str(new), str(report))
                 self.assertIn("count_file", new.read_text())

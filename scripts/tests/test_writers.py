@@ -1,0 +1,75 @@
+"""Who wrote the input: the orders by it, and the line of all calls of a routine."""
+from __future__ import annotations
+
+import tempfile
+import unittest
+from pathlib import Path
+
+from aprof_show.detail import detail, notes
+from aprof_show.model import Parts, Point, Routine
+from aprof_show.rows import ordered, row_of
+from tests.samples import ADDRESSES, Call, Run
+from tests.test_command import CACHE, show
+
+QUEUE = "examples/queue/report.txt"
+NOTE = (
+    "A WORD is the greatest cost by word of the size; OWN, THREAD, KERNEL: who wrote those words since the thread last had them"
+)
+
+
+def routine_of(name: str, *words: tuple[int, int, int]) -> Routine:
+    """A point for each: what the thread itself, others and the kernel wrote."""
+    points = [Point(sum(three), 1, 9, 9, 9, Parts(*three, 0)) for three in words]
+    return Routine(0x10000, name, points)
+
+
+class Orders(unittest.TestCase):
+    def test_order(self) -> None:
+        routines = [
+            routine_of("alone", (9, 0, 0)),
+            routine_of("reads", (1, 1, 6), (1, 0, 15)),
+            routine_of("takes", (4, 4, 0), (6, 10, 0)),
+            routine_of("empty", (0, 0, 0)),
+            Routine(0x10000, "open"),
+        ]
+        rows = [row_of(routine, 100, None, False) for routine in routines]
+        for by, names in (("thread", "takes reads alone empty open"), ("kernel", "reads takes alone empty open")):
+            with self.subTest(by):
+                self.assertEqual([row.routine.label for row in ordered(rows, by)], names.split())
+
+    def test_column(self) -> None:
+        for by, first in (("thread", "- 46.8% 97.5% 1.0 1 1 448 make_numbers"), ("kernel", "- 52.8% 0.3% 1.0 1 1 971 main")):
+            lines = show(QUEUE, "--by", by).splitlines()
+            self.assertEqual(lines[1].split()[:3], ["GROWTH", "SHARE", by.upper()])
+            self.assertTrue(" ".join(lines[2].split()).startswith(first), lines[2])
+        self.assertNotIn("THREAD", show(QUEUE))
+
+    def test_what_cannot_be(self) -> None:
+        with tempfile.TemporaryDirectory() as folder:
+            path = Path(folder, "report")
+            path.write_text(Run([Call("main", 3)], ADDRESSES).text(version=1))
+            said = "show: --by kernel needs a report of version 2, which tells who wrote the input\n"
+            self.assertEqual(show(str(path), "--by", "kernel", status=2), said)
+        self.assertIn("takes no --by", show(CACHE, "--by", "thread", status=2))
+
+
+class Lines(unittest.TestCase):
+    def lines_of(self, routine: Routine) -> list[str]:
+        return detail(row_of(routine, 100, None, False), 80)
+
+    def test_all_calls(self) -> None:
+        last = self.lines_of(routine_of("takes", (4, 4, 0), (6, 10, 8)))[-1]
+        self.assertEqual(last.split(), ["all", "2", "31%", "44%", "25%"])
+        self.assertNotIn(" all ", "".join(self.lines_of(routine_of("takes", (4, 4, 0)))))
+
+    def test_note(self) -> None:
+        text = show(QUEUE, "take", "put")
+        self.assertEqual(" ".join(text.split()).count(NOTE), 1)
+        self.assertLessEqual(max(map(len, text.splitlines())), 80)
+        bare = row_of(Routine(0x10000, "old", [Point(8, 1, 9, 9, 9, None)]), 100, None, False)
+        self.assertEqual(notes([bare], 80), ["A WORD is the greatest cost by word of the size"])
+        self.assertEqual(notes([row_of(Routine(0x10000, "open"), 100, None, False)], 80), [])
+
+
+if __name__ == "__main__":
+    unittest.main()
