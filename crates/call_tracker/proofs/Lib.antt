@@ -1,2 +1,3 @@
 pub mod KeptCalls
 pub mod Followed
+pub mod Searched

@@ -22,7 +22,7 @@ use trace_model::Event;
 #[derive(Drop)]
 pub struct CallStacks {
     alloc: Global,
-    threads: ByThread<OpenCalls>,
+    threads: ByThread<OpenCalls<OpenCall>>,
     pending: u64,
 }
 
@@ -111,7 +111,7 @@ impl CallStacks {
         ensures refused { OnErr result (self.new ≡ self.old) }
     {
         let mut calls = OpenCalls::new(self.alloc)?;
-        calls.push(entry, None)?;
+        calls.push(OpenCall { entry, back: None })?;
         self.threads.insert(tid, calls)?;
         self.pending += 1;
         Ok(())
@@ -128,7 +128,10 @@ impl CallStacks {
         ensures refused { OnErr result (self.new ≡ self.old) }
     {
         let calls = self.threads.get_mut(tid).unwrap();
-        calls.push(entry, Some(back))?;
+        calls.push(OpenCall {
+            entry,
+            back: Some(back),
+        })?;
         self.pending += 1;
         Ok(())
     }

@@ -5,8 +5,11 @@
 
 mod call_stacks;
 mod jumps;
+mod missed;
 mod open_calls;
+mod returns;
 
 pub use call_stacks::CallStacks;
 pub use jumps::{JumpKind, kind};
 pub use open_calls::{OpenCall, OpenCalls};
+pub use returns::Returns;

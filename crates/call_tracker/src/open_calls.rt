@@ -1,8 +1,10 @@
 //! The open calls of a thread.
-ghost use Rattle.std.specs.Prelude.{◌≡◌, ◌+◌, ◌-◌, ◌≤◌, ◌++◌, ◌∷◌, [], length, slice_get, take, reverse, IsOk, IfOk, OnOk, OnErr};
-ghost use Rattle.call_tracker.specs.Calls.{backs};
+ghost use Rattle.std.specs.Prelude.{◌≡◌, ◌+◌, ◌-◌, ◌≤◌, ◌++◌, ◌∷◌, [], length, map, slice_get, take, reverse, IfNone, IfOk, IfSome, IsOk, OnOk, OnErr};
 ghost use Rattle.trace_model.specs.Activations.{count_returned};
 
+use crate::Returns;
+use crate::missed::Missed;
+use crate::returns::count_returned;
 use guest_words::Addr;
 use std::alloc::{AllocError, Global};
 use std::marker::Model;
@@ -15,45 +17,52 @@ pub struct OpenCall {
     pub back: Option<Addr>,
 }
 
-/// The open calls of a thread. Contracts see them as a list, the outermost first, and beside it the spare room: how many
-/// can be pushed without memory.
-#[derive(Drop)]
-pub struct OpenCalls {
-    calls: Vec<OpenCall>,
+impl Returns for OpenCall {
+    ghost back_of = { λ c. c.back };
+
+    #[inline(always)]
+    fn back(&self) -> Option<Addr> {
+        self.back
+    }
 }
 
-impl Model for OpenCalls {
-    ghost use Rattle.std.specs.Prelude.{◌-◌, vec_len};
-    ghost use Rattle.std.specs.Vec.{vec_capacity};
-    ghost use Rattle.call_tracker.specs.Calls.{CallStack};
+/// The open calls of a thread, each with what its owner keeps of it. Contracts see them as a list, the outermost first, and
+/// beside it the spare room: how many can be pushed without memory.
+///
+/// A return looks at the calls that it ends. One that ends none looks at the calls that began since the last return to its
+/// target that ended none, as long as that target is one of the eight that are remembered, and else at all of them.
+#[derive(Drop)]
+pub struct OpenCalls<C: Returns> {
+    calls: Vec<C>,
+    missed: Missed,
+}
 
-    ghost Value = { CallStack };
+impl<C: Returns> Model for OpenCalls<C> {
+    ghost use Rattle.std.specs.Prelude.{◌-◌, map, vec_len};
+    ghost use Rattle.std.specs.Vec.{vec_capacity};
+    ghost use Rattle.call_tracker.specs.Calls.{CallStack, stack_code};
+    ghost use Rattle.call_tracker.specs.Missed.{AreMissed};
+
+    ghost Value = { CallStack C };
+
+    ghost coded = { stack_code C.code };
 
     ghost view = { λ c. record {
       calls = c.calls.items;
       spare = vec_capacity c.calls - vec_len c.calls;
     } };
+
+    ghost invariant = { λ c. AreMissed (map C.back_of c.calls.items) c.missed };
 }
 
-/// How many of the calls, the outermost first, a return to the target ends.
-fn count_returned(target: Addr, calls: &[OpenCall]) -> usize
-    ensures count { result ≡ count_returned target (backs (reverse calls.now)) }
-    ensures within { result ≤ length calls.now }
-{
-    calls
-        .iter()
-        .rev()
-        .position(|call| call.back == Some(target))
-        .map_or(0, |k| k + 1)
-}
-
-impl OpenCalls {
+impl<C: Returns> OpenCalls<C> {
     /// No call.
-    pub fn new(alloc: Global) -> Result<OpenCalls, AllocError>
+    pub fn new(alloc: Global) -> Result<OpenCalls<C>, AllocError>
         ensures { IfOk result (λ c. c.calls ≡ []) }
     {
         Ok(OpenCalls {
             calls: Vec::new(alloc),
+            missed: Missed::nothing(),
         })
     }
 
@@ -67,19 +76,18 @@ impl OpenCalls {
     }
 
     /// Begins a call. A refused one changes nothing, and none is refused where there is spare room.
-    pub fn push(&mut self, entry: Addr, back: Option<Addr>) -> Result<(), AllocError>
-        ensures ok { OnOk result (self.new.calls
-            ≡ self.old.calls ++ record { entry = entry; back = back } ∷ []) }
+    pub fn push(&mut self, call: C) -> Result<(), AllocError>
+        ensures ok { OnOk result (self.new.calls ≡ self.old.calls ++ call ∷ []) }
         ensures err { OnErr result (self.new.calls ≡ self.old.calls) }
         ensures room { 1 ≤ self.old.spare → IsOk result }
         ensures lowered { self.old.spare ≤ self.new.spare + 1 }
     {
-        self.calls.push(OpenCall { entry, back })?;
+        self.calls.push(call)?;
         Ok(())
     }
 
     /// The innermost call.
-    pub fn top(&self) -> Option<OpenCall>
+    pub fn top(&self) -> Option<C>
         ensures { result ≡ slice_get (reverse self.now.calls) 0 }
     {
         self.calls.last().copied()
@@ -93,24 +101,53 @@ impl OpenCalls {
     }
 
     /// How many calls a return to the target ends: the innermost with that return address and all that it holds, and
-    /// none where no call has it.
-    pub fn ending(&self, target: Addr) -> usize
-        ensures count { result ≡ count_returned target (backs (reverse self.now.calls)) }
-        ensures within { result ≤ length self.now.calls }
+    /// none where no call has it, which is remembered.
+    pub fn ending(&mut self, target: Addr) -> usize
+        ensures count { result ≡ count_returned target (map C.back_of (reverse self.old.calls)) }
+        ensures within { result ≤ length self.old.calls }
+        ensures same { self.new ≡ self.old }
     {
-        count_returned(target, &self.calls)
+        let missed = self.missed.depth_of(target);
+        let ended = count_returned(target, &self.calls[missed..]);
+        if ended == 0 {
+            self.missed.remember(target, self.calls.len());
+        }
+        ended
+    }
+
+    // Ends so many calls, the innermost first.
+    #[inline(always)]
+    fn cut(&mut self, ended: usize)
+        requires { ended ≤ length self.old.calls }
+        ensures calls { self.new.calls ≡ take (length self.old.calls - ended) self.old.calls }
+        ensures spare { self.old.spare + ended ≤ self.new.spare }
+    {
+        let left = self.calls.len() - ended;
+        self.calls.truncate(left);
+        self.missed.keep(left);
     }
 
     /// Returns to the target, and says how many calls that ended.
     pub fn pop_to(&mut self, target: Addr) -> usize
-        ensures count { result ≡ count_returned target (backs (reverse self.old.calls)) }
+        ensures count { result ≡ count_returned target (map C.back_of (reverse self.old.calls)) }
         ensures within { result ≤ length self.old.calls }
         ensures calls { self.new.calls ≡ take (length self.old.calls - result) self.old.calls }
         ensures spare { self.old.spare + result ≤ self.new.spare }
     {
-        let ended = count_returned(target, &self.calls);
-        self.calls.truncate(self.calls.len() - ended);
+        let ended = self.ending(target);
+        self.cut(ended);
         ended
+    }
+
+    /// Takes the innermost call.
+    pub fn pop(&mut self) -> Option<C>
+        ensures some { IfSome result (λ call. self.old.calls ≡ self.new.calls ++ call ∷ []) }
+        ensures none { IfNone result (self.old.calls ≡ []) }
+        ensures spare { self.old.spare ≤ self.new.spare }
+    {
+        let call = self.calls.pop()?;
+        self.missed.keep(self.calls.len());
+        Some(call)
     }
 
     /// Ends all calls, and says how many they were.
@@ -120,7 +157,7 @@ impl OpenCalls {
         ensures spare { self.old.spare + result ≤ self.new.spare }
     {
         let ended = self.calls.len();
-        self.calls.clear();
+        self.cut(ended);
         ended
     }
 }

@@ -4,7 +4,7 @@ use Rattle.std.specs.Prelude.{◌==◌, reverse, Option, None}
 use Rattle.std.specs.Option.{IsSome, option_copied}
 use Rattle.std.proofs.lemmas.List.{length-map, length-reverse}
 use Rattle.guest_words.specs.ByThread.{numbers, value_of, with_value, without_thread}
-use Rattle.guest_words.proofs.ThreadTables.{numbers-with}
+use Rattle.guest_words.proofs.ThreadTables.{numbers-with, with_own}
 use Rattle.trace_model.specs.declared.event_kinds.Event.{Event}
 use Rattle.trace_model.specs.declared.event_kinds.Event.TheVariants.{End, Ret}
 use Rattle.trace_model.specs.declared.activations.Activation.{Activation}
@@ -110,9 +110,13 @@ module _ (t target n : ℕ) (s : State) (live : Live) (c left : Calls) (done mor
     marked = whole.marked;
   }
 
-pub found_there : {A : Type 0} (r : Option (Bor A)) (xs : List (ℕ × A)) (t : ℕ) → option_copied r ≡ value_of xs t → (v : A) → value_of xs t ≡ Some v → IsSome r
-found_there None xs t is v here = absurd (let no : None ≡ Some v = is ∙ here in cc)
-found_there (Some r) xs t is v here = refl
+-- ---- What a return or an end that is refused leaves.
+pub left_as_before : (s old : State) → s ≡ old → (t : ℕ) (v : Calls) → value_of s.calls t ≡ Some v →
+    table_of_state (record s { calls = with_value s.calls t v }) ≡ table_of_state old
+left_as_before s old is t v here = ap (λ (calls : List (ℕ × Calls)). table_of_state (record s { calls = calls })) (with_own s.calls t v here) ∙ ap table_of_state is
+
+pub whole_left : (s : State) (t : ℕ) (v : Calls) → IsWhole s → IsWhole (record s { calls = with_value s.calls t v })
+whole_left s t v whole = record { same = numbers-with s.calls t v ∙ whole.same; marked = whole.marked }
 
 -- ---- The end of a thread.
 without_changed : {X : Type 0} (xs : List (ℕ × X)) (t : ℕ) (v : X) → without_thread (with_value xs t v) t ≡ without_thread xs t

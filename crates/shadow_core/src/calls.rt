@@ -3,6 +3,7 @@ ghost use Rattle.std.specs.Prelude.{◌≡◌, ◌+◌, ◌-◌, ◌<◌, ◌≤
 ghost use Rattle.trace_model.specs.Activations.{count_returned};
 ghost use Rattle.shadow_core.specs.Table.{OpenCall, no_counts};
 
+use call_tracker::{OpenCalls, Returns};
 use guest_words::Addr;
 use std::alloc::{AllocError, Global};
 use std::marker::Model;
@@ -75,23 +76,21 @@ impl BegunCall {
     }
 }
 
-/// How many of the calls, the outermost first, a return to the target ends.
-fn count_returned(target: Addr, calls: &[BegunCall]) -> usize
-    ensures count { result ≡ count_returned target
-        (map (λ (c : OpenCall). c.back) (reverse calls.now)) }
-    ensures within { result ≤ length calls.now }
-{
-    calls
-        .iter()
-        .rev()
-        .position(|call| call.back == Some(target))
-        .map_or(0, |k| k + 1)
+impl Returns for BegunCall {
+    ghost use Rattle.shadow_core.specs.Table.{OpenCall};
+
+    ghost back_of = { λ c. c.back };
+
+    #[inline(always)]
+    fn back(&self) -> Option<Addr> {
+        self.back
+    }
 }
 
 /// The open calls of a thread, and what it has counted. Contracts see the innermost call first.
 #[derive(Drop)]
 pub(crate) struct ThreadCalls {
-    calls: Vec<BegunCall>,
+    calls: OpenCalls<BegunCall>,
     counts: Tally,
 }
 
@@ -101,7 +100,7 @@ impl Model for ThreadCalls {
 
     ghost Value = { Calls };
 
-    ghost view = { λ c. record { list = reverse c.calls.items; counts = c.counts } };
+    ghost view = { λ c. record { list = reverse c.calls.calls; counts = c.counts } };
 }
 
 impl ThreadCalls {
@@ -115,7 +114,7 @@ impl ThreadCalls {
             thread: 0,
             kernel: 0,
         };
-        let mut calls = Vec::new(alloc);
+        let mut calls = OpenCalls::new(alloc)?;
         calls.push(BegunCall {
             entry,
             back: None,
@@ -149,16 +148,17 @@ impl ThreadCalls {
     pub(crate) fn depth(&self) -> usize
         ensures { result ≡ length self.now.list }
     {
-        self.calls.len()
+        self.calls.depth()
     }
 
     /// How many calls a return to the target ends.
-    pub(crate) fn ending(&self, target: Addr) -> usize
+    pub(crate) fn ending(&mut self, target: Addr) -> usize
         ensures count { result ≡ count_returned target
-            (map (λ (c : OpenCall). c.back) self.now.list) }
-        ensures within { result ≤ length self.now.list }
+            (map (λ (c : OpenCall). c.back) self.old.list) }
+        ensures within { result ≤ length self.old.list }
+        ensures same { self.new ≡ self.old }
     {
-        count_returned(target, &self.calls)
+        self.calls.ending(target)
     }
 
     /// Takes the innermost call.

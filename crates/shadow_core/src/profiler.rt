@@ -326,9 +326,9 @@ impl<S: Lanes> Profiler<S> {
             ≤ vec_capacity done.old → IsOk result }
         ensures pages { HasSamePages self.old self.new }
     {
-        let ended = self.calls.get(tid).unwrap().ending(target);
-        done.reserve(ended)?;
         let calls = self.calls.get_mut(tid).unwrap();
+        let ended = calls.ending(target);
+        done.reserve(ended)?;
         end_calls(&mut self.threads, tid, calls, ended, done);
         self.weight += 1;
         Ok(())
@@ -346,9 +346,9 @@ impl<S: Lanes> Profiler<S> {
         ensures refused { OnErr result (table_of_state self.new ≡ table_of_state self.old) }
         ensures kept { OnErr result (done.new.items ≡ done.old.items) }
     {
-        let ended = self.calls.get(tid).unwrap().depth();
-        done.reserve(ended)?;
         let calls = self.calls.get_mut(tid).unwrap();
+        let ended = calls.depth();
+        done.reserve(ended)?;
         end_calls(&mut self.threads, tid, calls, ended, done);
         self.threads.remove(tid);
         self.calls.remove(tid);

@@ -1,0 +1,98 @@
+//! Targets of returns that no open call has.
+ghost use Rattle.std.specs.Prelude.{◌≡◌, ◌<◌, ◌≤◌, [], ℕ, All, List, Option, length, take};
+ghost use Rattle.call_tracker.specs.Missed.{AreMissed, IsMissed};
+
+use guest_words::Addr;
+
+/// How many targets are remembered.
+const PLACES: usize = 8;
+
+/// A target, and how many of the outermost calls are known not to return to it.
+#[derive(Clone, Copy)]
+pub(crate) struct Miss {
+    target: Addr,
+    depth: usize,
+}
+
+/// The targets of the last searches that found no call, each at the place that its address gives. Of calls that began since,
+/// nothing is known.
+#[derive(Clone, Copy)]
+pub(crate) struct Missed {
+    places: [Miss; PLACES],
+    // The fewest calls that were open since the last of these searches.
+    low: usize,
+}
+
+// The place of a target.
+fn place_of(target: Addr) -> usize
+    ensures { result < 8 }
+{
+    (target / 4) as usize % PLACES
+}
+
+impl Missed {
+    /// Nothing is known.
+    pub(crate) fn nothing() -> Missed
+        ensures { AreMissed [] result }
+    {
+        let unknown = Miss {
+            target: 0,
+            depth: 0,
+        };
+        Missed {
+            places: [unknown; PLACES],
+            low: 0,
+        }
+    }
+
+    /// How many of the outermost calls are known not to return to the target.
+    pub(crate) fn depth_of(&self, target: Addr) -> usize
+        ensures within { result ≤ self.now.low }
+        ensures missed { (backs : List (Option ℕ)) → AreMissed backs self.now
+            → IsMissed backs target result }
+    {
+        let miss = self.places[place_of(target)];
+        if miss.target == target {
+            miss.depth.min(self.low)
+        } else {
+            0
+        }
+    }
+
+    // Knows no more of any target than of the calls that were open all the time.
+    fn settle(&mut self)
+        ensures low { self.new.low ≡ self.old.low }
+        ensures count { length self.new.places ≡ length self.old.places }
+        ensures missed { (backs : List (Option ℕ)) → AreMissed backs self.old
+            → AreMissed backs self.new }
+        ensures settled { All (λ miss. miss.depth ≤ self.new.low) self.new.places }
+    {
+        for i in 0..PLACES {
+            let miss = self.places[i];
+            self.places[i] = Miss {
+                target: miss.target,
+                depth: miss.depth.min(self.low),
+            };
+        }
+    }
+
+    /// Remembers that none of the open calls, which are so many, returns to the target.
+    #[cold]
+    pub(crate) fn remember(&mut self, target: Addr, depth: usize)
+        ensures { (backs : List (Option ℕ)) → AreMissed backs self.old → length backs ≡ depth
+            → IsMissed backs target depth → AreMissed backs self.new }
+    {
+        self.settle();
+        self.places[place_of(target)] = Miss { target, depth };
+        self.low = depth;
+    }
+
+    /// Calls ended, and so many are left.
+    #[inline(always)]
+    pub(crate) fn keep(&mut self, depth: usize)
+        ensures { (backs : List (Option ℕ)) → AreMissed backs self.old
+            → AreMissed (take depth backs) self.new }
+    {
+        self.low = self.low.min(depth);
+    }
+}
