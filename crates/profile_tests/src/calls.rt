@@ -43,18 +43,24 @@ fn jumps_go_by_the_link_registers(rt: HostRuntime) -> Result<(), Fail> {
     Ok(())
 }
 
-// A return to an address that no open call has ends nothing, and the next one ends two.
+// Returns to an address that no open call has end nothing, also after such a call came and went, and another ends two.
 #[test]
 fn an_unmatched_return_ends_nothing(rt: HostRuntime) -> Result<(), Fail> {
+    let call = |entry, back| OpenCall { entry, back };
     let mut calls = OpenCalls::new(rt.alloc())?;
-    calls.push(0x10054, None)?;
-    calls.push(0x10060, Some(0x10058))?;
+    calls.push(call(0x10054, None))?;
+    calls.push(call(0x10060, Some(0x10058)))?;
     calls.reserve()?;
-    calls.push(0x1006c, Some(0x10064))?;
+    calls.push(call(0x1006c, Some(0x10064)))?;
+    assert_eq!(rt; calls.pop_to(0x10068), 0);
+    assert_eq!(rt; calls.pop_to(0x10068), 0);
+    calls.push(call(0x10080, Some(0x10068)))?;
+    assert_eq!(rt; calls.pop_to(0x10068), 1);
     assert_eq!(rt; calls.pop_to(0x10068), 0);
     assert_eq!(rt; calls.depth(), 3);
     assert_eq!(rt; calls.ending(0x10058), 2);
-    assert_eq!(rt; calls.pop_to(0x10058), 2);
+    assert_eq!(rt; calls.pop(), Some(call(0x1006c, Some(0x10064))));
+    assert_eq!(rt; calls.pop_to(0x10058), 1);
     assert_eq!(rt; calls.pop_all(), 1);
     assert_eq!(rt; calls.depth(), 0);
     Ok(())
