@@ -1,137 +1,136 @@
--- Instructions that are kept by their addresses.
-use Rattle.std.proofs.Common.{◌≡◌, ◌≢◌, ℕ, zero, suc, ◌+◌, ◌-◌, ◌<◌, ◌≤◌, ◌/◌, ◌%◌, ◌^◌, List, ◌∷◌, length, get_or, set, ap, ap₂, cond, sym, refl, ◌∙◌, subst, arith, inl, inr, Option, Some, Ok, false}
-use Rattle.std.specs.Prelude.{slice_index, slice_index_or}
-use Rattle.std.specs.List.{All}
+-- Instructions that are known: what changes of the memory leave of them.
+use Rattle.std.proofs.Common.{◌≡◌, ℕ, zero, suc, ◌+◌, ◌-◌, ◌*◌, ◌<◌, ◌≤◌, ◌/◌, List, [], ◌∷◌, length, ap, ap₂, cond, sym, refl, ◌∙◌, arith, inl, inr, ◌⊎◌, Bool, Option, Some, None, Result, Ok, Err, true, false}
+use Rattle.std.specs.Prelude.{slice_index, nat_lt}
 use Rattle.std.specs.Option.{option_or}
-use Rattle.std.proofs.lemmas.Bool.{cases_eq, cases_lt}
-use Rattle.std.proofs.lemmas.Bool.Decides.{nat_tests}
-use Rattle.std.proofs.lemmas.List.{get_or_default, get_or-set_other, get_or-set_same}
-use Rattle.std.proofs.lemmas.List.Elements.{All-from_get_or, All-get_or}
+use Rattle.std.proofs.lemmas.Bool.{cases_lt}
 use Rattle.byteorder.specs.Endian.{little_number}
+use Rattle.guest_words.specs.declared.rights.Rights.{Rights}
 use Rattle.guest_memory.specs.declared.refusal.MemError.{MemError}
+use Rattle.guest_memory.specs.declared.refusal.MemError.TheVariants as error
 use Rattle.guest_memory.specs.declared.refusal.Permission.TheVariants as permission
-use Rattle.guest_memory.specs.Memory.{Memory, byte_refusal, bytes_at, first_refusal, is_among, loaded, unless_refused, with_bytes}
-use Rattle.guest_memory.specs.Code.{IsInstructionAt, IsKept, no_place}
-use Rattle.guest_memory.specs.declared.code_cache.Place.{Place}
-use Rattle.rv_isa.specs.Table.{decoded}
+use Rattle.guest_memory.specs.Memory.{Memory, AreFree, byte_refusal, bytes_at, first_refusal, is_among, loaded, number_at, page_refusal, unless_refused, with_bytes, with_pages, with_rights}
+use Rattle.guest_memory.specs.Code.{AgreeBut, IsInstructionAt, instruction_of}
+use Rattle.guest_memory.proofs.Accesses.{refusal_head}
+use Rattle.guest_memory.proofs.PageChanges.{among_none}
+use Rattle.guest_memory.proofs.WrittenBytes.{among_below, among_past}
+use Rattle.rv_isa.specs.declared.instruction.Instr.{Instr}
 
--- the places of a cache with this base hold what memory has
-abbrev pub HoldPlaces : List Place → ℕ → Memory → Type 0
-HoldPlaces places base m =
-    (place at : ℕ) → place < 1024 → at < 2 ^ 32 → (get_or places place no_place).key ≡ base + at → IsKept m place (get_or places place no_place).word at
+-- the instruction of the word at an address, where it can be fetched
+abbrev pub fetched : Memory → ℕ → Option Instr
+fetched m at = instruction_of (loaded m permission.Execute at 4)
 
--- what stands at each place that has a key is an instruction
-abbrev pub AreRight : List Place → Type 0
-AreRight places = All (λ (p : Place). 0 < p.key → decoded p.word ≡ Some p.instruction) places
+-- each instruction that is known is that of its word
+abbrev pub Holds : (ℕ → Option Instr) → Memory → Type 0
+Holds known m = (word : ℕ) (i : Instr) → known word ≡ Some i → fetched m (4 * word) ≡ Some i
 
--- the instruction of a place that has the key of an address
-pub kept_instruction : (places : List Place) (base : ℕ) (m : Memory) → length places ≡ 1024 → 0 < base → AreRight places →
-    HoldPlaces places base m → (place at : ℕ) → place < 1024 → at < 2 ^ 32 → (get_or places place no_place).key ≡ base + at →
-    IsInstructionAt m at (get_or places place no_place).instruction
-kept_instruction places base m whole some right holds place at inside range key =
-    let kept = holds place at inside range key in
-    record {
-      word = (get_or places place no_place).word;
-      loads = kept.loads;
-      stands = All-get_or (λ (p : Place). 0 < p.key → decoded p.word ≡ Some p.instruction) places place no_place (omega (arith, whole, inside)) right (omega (arith, some, key));
-    }
+some_of : {P : Type 0} (o : Option Instr) (i : Instr) → o ≡ None → o ≡ Some i → P
+some_of o i none some = let bad : Some i ≡ None = sym some ∙ none in absurd (cc)
 
--- one more instruction
-pub holds_set : (places : List Place) (base : ℕ) (m : Memory) → length places ≡ 1024 → HoldPlaces places base m → (at : ℕ) (p : Place) →
-    at % 4 ≡ 0 → p.key ≡ base + at → loaded m permission.Execute at 4 ≡ Ok p.word → HoldPlaces (set places (at / 4 % 1024) p) base m
-holds_set places base m whole holds at p even key loads place q inside range is = elim (cases_eq place (at / 4 % 1024)) [
-  | inl same ↦
-      let here : get_or (set places (at / 4 % 1024) p) place no_place ≡ p =
-      ap (λ k. get_or (set places (at / 4 % 1024) p) k no_place) same ∙ get_or-set_same places (at / 4 % 1024) p no_place (omega (arith, whole)) in
-      let keys : base + q ≡ base + at = sym is ∙ ap (λ (d : Place). d.key) here ∙ key in
-      let q_is : q ≡ at = omega (arith, keys) in
-      subst (λ (d : Place). IsKept m place d.word q) (sym here) (record {
-        aligned = ap (λ n. n % 4) q_is ∙ even;
-        here = ap (λ n. n / 4 % 1024) q_is ∙ sym same;
-        loads = ap (λ n. loaded m permission.Execute n 4) q_is ∙ loads;
-      })
-  | inr differs ↦
-      let there : get_or (set places (at / 4 % 1024) p) place no_place ≡ get_or places place no_place = get_or-set_other places (at / 4 % 1024) place p no_place differs in
-      subst (λ (d : Place). IsKept m place d.word q) (sym there) (holds place q inside range (sym (ap (λ (d : Place). d.key) there) ∙ is))
+-- what is known is forgotten, or its word is fetched as before
+pub holds_after : (old new : ℕ → Option Instr) (m n : Memory) → Holds old m
+    → ((word : ℕ) → (new word ≡ None) ⊎ ((new word ≡ old word) × (loaded n permission.Execute (4 * word) 4 ≡ loaded m permission.Execute (4 * word) 4)))
+    → Holds new n
+holds_after old new m n holds each word i is = elim (each word) [
+  | inl none ↦ some_of (new word) i none is
+  | inr same ↦ ap instruction_of same.1 ∙ holds word i (sym same.0 ∙ is)
 ]
 
--- ---- a word that is not written is fetched as before
-among_below : (first count n : ℕ) → n < first → is_among first count n ≡ false
-among_below first count n low = grind (arith, nat_tests, low)
+-- a word that can be fetched and stands for an instruction
+instruction_from : (m : Memory) (at : ℕ) (i : Instr) (r : Result ℕ MemError) → loaded m permission.Execute at 4 ≡ r → instruction_of r ≡ Some i → IsInstructionAt m at i
+instruction_from m at i (Ok word) loads stands = record { word = word; loads = loads; stands = stands }
+instruction_from m at i (Err refusal) loads stands = absurd (cc)
 
-among_above : (first count n : ℕ) → first + count ≤ n → is_among first count n ≡ false
-among_above first count n high = grind (arith, nat_tests, high)
+pub is_instruction : (m : Memory) (at : ℕ) (i : Instr) → fetched m at ≡ Some i → IsInstructionAt m at i
+is_instruction m at i is = instruction_from m at i (loaded m permission.Execute at 4) refl is
 
-refusal_stays : (m : Memory) (at : ℕ) (bytes : List ℕ) (n q : ℕ) →
-    first_refusal (with_bytes m at bytes) permission.Execute q n ≡ first_refusal m permission.Execute q n
-refusal_stays m at bytes zero q = refl
-refusal_stays m at bytes (suc n) q = ap (λ (o : Option MemError). option_or (byte_refusal m permission.Execute q) o) (refusal_stays m at bytes n (q + 1))
+-- ---- memories that agree on some bytes and their pages
+refusal_agrees : (m n : Memory) (count q : ℕ) → ((k : ℕ) → q ≤ k → k < q + count → n.rights (k / 4096) ≡ m.rights (k / 4096)) →
+    first_refusal n permission.Execute q count ≡ first_refusal m permission.Execute q count
+refusal_agrees m n zero q same = refl
+refusal_agrees m n (suc count) q same =
+    ap₂ option_or
+    (ap (λ (r : Option Rights). page_refusal permission.Execute (cond (nat_lt (q / 4096) 1048576) r None)) (same q (omega arith) (omega arith)))
+    (refusal_agrees m n count (q + 1) (λ k low high. same k (omega (arith, low)) (omega (arith, high))))
 
-bytes_stay : (m : Memory) (at : ℕ) (bytes : List ℕ) (n q : ℕ) → ((k : ℕ) → q ≤ k → k < q + n → is_among at (length bytes) k ≡ false) →
-    bytes_at (with_bytes m at bytes) q n ≡ bytes_at m q n
-bytes_stay m at bytes zero q outside = refl
-bytes_stay m at bytes (suc n) q outside =
-    ap₂ (λ (b : ℕ) (bs : List ℕ). b ∷ bs) (ap (λ b. cond b (slice_index bytes (q - at)) (m.byte q)) (outside q (omega arith) (omega arith)))
-    (bytes_stay m at bytes n (q + 1) (λ k low high. outside k (omega (arith, low)) (omega (arith, high))))
+bytes_agree : (m n : Memory) (count q : ℕ) → ((k : ℕ) → q ≤ k → k < q + count → n.byte k ≡ m.byte k) → bytes_at n q count ≡ bytes_at m q count
+bytes_agree m n zero q same = refl
+bytes_agree m n (suc count) q same =
+    ap₂ (λ (b : ℕ) (bs : List ℕ). b ∷ bs) (same q (omega arith) (omega arith))
+    (bytes_agree m n count (q + 1) (λ k low high. same k (omega (arith, low)) (omega (arith, high))))
 
-loads_stay : (m : Memory) (at : ℕ) (bytes : List ℕ) (q : ℕ) → ((k : ℕ) → q ≤ k → k < q + 4 → is_among at (length bytes) k ≡ false) →
-    loaded (with_bytes m at bytes) permission.Execute q 4 ≡ loaded m permission.Execute q 4
-loads_stay m at bytes q outside =
-    ap₂ (λ (o : Option MemError) (n : ℕ). unless_refused o n) (refusal_stays m at bytes 4 q) (ap (little_number 4) (bytes_stay m at bytes 4 q outside))
+loads_agree : (m n : Memory) (q : ℕ) → ((k : ℕ) → q ≤ k → k < q + 4 → n.rights (k / 4096) ≡ m.rights (k / 4096)) →
+    ((k : ℕ) → q ≤ k → k < q + 4 → n.byte k ≡ m.byte k) → loaded n permission.Execute q 4 ≡ loaded m permission.Execute q 4
+loads_agree m n q rights bytes =
+    ap₂ (λ (o : Option MemError) (number : ℕ). unless_refused o number) (refusal_agrees m n 4 q rights) (ap (little_number 4) (bytes_agree m n 4 q bytes))
 
-outside_word : (at q : ℕ) (n w : ℕ) → w % 4 ≡ 0 → at % 4 ≡ 0 → w ≢ at → at ≤ q → q + n ≤ at + 4 → (k : ℕ) → w ≤ k → k < w + 4 →
-    is_among q n k ≡ false
-outside_word at q n w even base differs from to k low high = elim (cases_lt w at) [
-  | inl below ↦ among_below q n k (omega (arith, below, even, base, from, high))
-  | inr above ↦ among_above q n k (omega (arith, above, even, base, to, low, differs))
-]
+-- bytes that are written are none of the word's
+pub loads_stay : (m : Memory) (at : ℕ) (bytes : List ℕ) (word : ℕ) → (4 * word + 4 ≤ at) ⊎ (at + length bytes ≤ 4 * word) →
+    loaded (with_bytes m at bytes) permission.Execute (4 * word) 4 ≡ loaded m permission.Execute (4 * word) 4
+loads_stay m at bytes word apart = loads_agree m (with_bytes m at bytes) (4 * word) (λ k low high. refl) (λ k low high. elim apart [
+  | inl before ↦ ap (λ b. cond b (slice_index bytes (k - at)) (m.byte k)) (among_below at (length bytes) k (omega (arith, before, high)))
+  | inr behind ↦ ap (λ b. cond b (slice_index bytes (k - at)) (m.byte k)) (among_past at (length bytes) k (omega (arith, behind, low)))
+])
 
--- bytes of the word at an address are written
-kept_after : (m : Memory) (at q : ℕ) (bytes : List ℕ) (place word w : ℕ) → at % 4 ≡ 0 → at ≤ q → q + length bytes ≤ at + 4 → w ≢ at →
-    IsKept m place word w → IsKept (with_bytes m q bytes) place word w
-kept_after m at q bytes place word w even from to differs kept = record {
-  aligned = kept.aligned;
-  here = kept.here;
-  loads = loads_stay m q bytes w (outside_word at q (length bytes) w kept.aligned even differs from to) ∙ kept.loads;
+-- no byte is written
+pub holds_unwritten : (known : ℕ → Option Instr) (m : Memory) (at : ℕ) → Holds known m → Holds known (with_bytes m at [])
+holds_unwritten known m at holds word i is =
+    ap instruction_of (loads_agree m (with_bytes m at []) (4 * word) (λ k low high. refl) (λ k low high. ap (λ b. cond b (slice_index [] (k - at)) (m.byte k)) (among_none at k)))
+    ∙ holds word i is
+
+-- a page of its own is none of those that may differ
+pub loads_but : (first count : ℕ) (m n : Memory) (word : ℕ) → AgreeBut first count m n → is_among first count (word / 1024) ≡ false →
+    loaded n permission.Execute (4 * word) 4 ≡ loaded m permission.Execute (4 * word) 4
+loads_but first count m n word agree outside = loads_agree m n (4 * word)
+    (λ k low high. agree.rights (k / 4096) (ap (is_among first count) (page_of_byte k word low high) ∙ outside))
+    (λ k low high. agree.bytes k (ap (is_among first count) (page_of_byte k word low high) ∙ outside)) where
+      page_of_byte : (k word : ℕ) → 4 * word ≤ k → k < 4 * word + 4 → k / 4096 ≡ word / 1024
+      page_of_byte k word low high = omega (arith, low, high)
+
+pub agree_rights : (m : Memory) (first count : ℕ) (rights : Rights) → AgreeBut first count m (with_rights m first count rights)
+agree_rights m first count rights = record {
+  rights = λ page outside. ap (λ b. cond b (Some rights) (m.rights page)) outside;
+  bytes = λ at outside. refl;
 }
 
--- the place of the word has not its key
-pub holds_other : (places : List Place) (base : ℕ) (m : Memory) (at q : ℕ) (bytes : List ℕ) → HoldPlaces places base m →
-    at % 4 ≡ 0 → at ≤ q → q + length bytes ≤ at + 4 → (get_or places (at / 4 % 1024) no_place).key ≢ base + at → HoldPlaces places base (with_bytes m q bytes)
-holds_other places base m at q bytes holds even from to gone place w inside range is =
-    let kept = holds place w inside range is in
-    kept_after m at q bytes place _ w even from to
-    (λ same. gone (ap (λ n. (get_or places (n / 4 % 1024) no_place).key) (sym same) ∙ ap (λ k. (get_or places k no_place).key) kept.here ∙ is ∙ ap (λ n. base + n) same)) kept
+pub agree_pages : (m : Memory) (first count : ℕ) (rights : Option Rights) → AgreeBut first count m (with_pages m first count rights)
+agree_pages m first count rights = record {
+  rights = λ page outside. ap (λ b. cond b rights (m.rights page)) outside;
+  bytes = λ at outside. ap (λ b. cond b 0 (m.byte at)) outside;
+}
 
--- or it is emptied
-pub holds_forgotten : (places : List Place) (base : ℕ) (m : Memory) (at q : ℕ) (bytes : List ℕ) → length places ≡ 1024 → 0 < base →
-    HoldPlaces places base m → at % 4 ≡ 0 → at ≤ q → q + length bytes ≤ at + 4 → HoldPlaces (set places (at / 4 % 1024) no_place) base (with_bytes m q bytes)
-holds_forgotten places base m at q bytes whole some holds even from to place w inside range is = elim (cases_eq place (at / 4 % 1024)) [
-  | inl same ↦
-      let here : get_or (set places (at / 4 % 1024) no_place) place no_place ≡ no_place =
-      ap (λ k. get_or (set places (at / 4 % 1024) no_place) k no_place) same ∙ get_or-set_same places (at / 4 % 1024) no_place no_place (omega (arith, whole)) in
-      let bad : 0 ≡ base + w = sym (ap (λ (d : Place). d.key) here) ∙ is in
-      absurd (omega (arith, bad, some))
-  | inr differs ↦
-      let there : get_or (set places (at / 4 % 1024) no_place) place no_place ≡ get_or places place no_place = get_or-set_other places (at / 4 % 1024) place no_place no_place differs in
-      let kept = holds place w inside range (sym (ap (λ (d : Place). d.key) there) ∙ is) in
-      subst (λ (d : Place). IsKept (with_bytes m q bytes) place d.word w) (sym there)
-      (kept_after m at q bytes place _ w even from to (λ same. differs (sym kept.here ∙ ap (λ n. n / 4 % 1024) same)) kept)
+-- ---- free pages are mapped: none of their words is known
+within_none : {T : Type 0} (test : Bool) (o : Option T) → o ≡ None → cond test o None ≡ None
+within_none true o none = none
+within_none false o none = refl
+
+nothing_fetched : (m : Memory) (word : ℕ) → m.rights (word / 1024) ≡ None → fetched m (4 * word) ≡ None
+nothing_fetched m word free =
+    let page : 4 * word / 4096 ≡ word / 1024 = omega arith in
+    let refused : byte_refusal m permission.Execute (4 * word) ≡ Some error.Unmapped =
+    ap (page_refusal permission.Execute) (within_none (nat_lt (4 * word / 4096) 1048576) (m.rights (4 * word / 4096)) (ap m.rights page ∙ free)) in
+    ap (λ (o : Option MemError). instruction_of (unless_refused o (number_at m (4 * word) 4))) (refusal_head m permission.Execute (4 * word) 4 error.Unmapped refused (omega arith))
+
+among_cases : (first count n : ℕ) → ((first ≤ n) × (n < first + count)) ⊎ (is_among first count n ≡ false)
+among_cases first count n = elim (cases_lt n first) [
+  | inl low ↦ inr (among_below first count n low)
+  | inr from ↦ elim (cases_lt n (first + count)) [ inl high ↦ inl (from, high) | inr past ↦ inr (among_past first count n past) ]
 ]
 
--- no place has the key of an address
-pub holds_none : (places : List Place) (base : ℕ) (m : Memory) → length places ≡ 1024 → All (λ (p : Place). p.key < base) places → HoldPlaces places base m
-holds_none places base m whole below place at inside range is =
-    let low = All-get_or (λ (p : Place). p.key < base) places place no_place (omega (arith, whole, inside)) below in
-    absurd (omega (arith, low, is))
+pub holds_mapped : (known : ℕ → Option Instr) (m : Memory) (first count : ℕ) (rights : Option Rights) → AreFree m first count → Holds known m →
+    Holds known (with_pages m first count rights)
+holds_mapped known m first count rights free holds word i is = elim (among_cases first count (word / 1024)) [
+  | inl inside ↦ some_of (fetched m (4 * word)) i (nothing_fetched m word (free (word / 1024) inside.0 inside.1)) (holds word i is)
+  | inr outside ↦ ap instruction_of (loads_but first count m (with_pages m first count rights) word (agree_pages m first count rights) outside) ∙ holds word i is
+]
 
--- ---- no place
-pub none_right : 0 < no_place.key → decoded no_place.word ≡ Some no_place.instruction
-none_right some = absurd (omega (arith, some))
-
-pub all_none : (P : Place → Type 0) (places : List Place) → P no_place → ((k : ℕ) (d : Place) → k < length places → slice_index_or places k d ≡ no_place) → All P places
-all_none P places holds each = All-from_get_or P places no_place (λ k low. subst P (sym (each k no_place low)) holds)
-
--- what is read at a place
-pub place_read : (places : List Place) (i k : ℕ) (p : Place) → p ≡ get_or places i p → i ≡ k → k < length places → p ≡ get_or places k no_place
-place_read places i k p is same low = is ∙ ap (λ n. get_or places n p) same ∙ get_or_default places k p no_place low
+-- the words of so many pages are forgotten, and these pages may be any
+pub holds_but : (old new : ℕ → Option Instr) (first count : ℕ) (m n : Memory) → AgreeBut first count m n →
+    ((word : ℕ) → first ≤ word / 1024 → word / 1024 < first + count → new word ≡ None) →
+    ((word : ℕ) → (word / 1024 < first) ⊎ (first + count ≤ word / 1024) → new word ≡ old word) → Holds old m → Holds new n
+holds_but old new first count m n agree gone rest holds = holds_after old new m n holds (λ word. elim (cases_lt (word / 1024) first) [
+  | inl low ↦ inr (rest word (inl low), loads_but first count m n word agree (among_below first count (word / 1024) low))
+  | inr from ↦ elim (cases_lt (word / 1024) (first + count)) [
+    | inl high ↦ inl (gone word from high)
+    | inr past ↦ inr (rest word (inr past), loads_but first count m n word agree (among_past first count (word / 1024) past))
+  ]
+])

@@ -5,6 +5,8 @@ pub mod Directories
 pub mod HeldWords
 pub mod KeptCode
 pub mod PageChanges
+pub mod PagesOfCode
 pub mod Pigeons
 pub mod ReadBytes
+pub mod RemovedCode
 pub mod WrittenBytes

@@ -1,12 +1,12 @@
--- The instructions that are kept by their addresses.
-use Rattle.std.specs.Prelude.{◌≡◌, ℕ, ◌+◌, ◌<◌, ◌/◌, ◌%◌, ◌^◌, get_or, Some, Ok}
-use Rattle.guest_memory.specs.Memory.{Memory, loaded}
+-- The instructions that are known.
+use Rattle.std.specs.Prelude.{◌≡◌, ℕ, ◌*◌, ◌/◌, false, Option, Some, None, Result, Ok, Err}
+use Rattle.guest_memory.specs.Memory.{Memory, is_among, loaded}
+use Rattle.guest_memory.specs.CodePages.{known_in}
+use Rattle.guest_memory.specs.declared.refusal.MemError.{MemError}
 use Rattle.guest_memory.specs.declared.refusal.Permission.TheVariants as permission
 use Rattle.guest_memory.specs.declared.code_cache.CodeCache.{CodeCache}
-use Rattle.guest_memory.specs.declared.code_cache.Place.{Place}
 use Rattle.rv_isa.specs.Table.{decoded}
 use Rattle.rv_isa.specs.declared.instruction.Instr.{Instr}
-use Rattle.rv_isa.specs.declared.instruction.Instr.TheVariants.{Ecall}
 
 -- The word that can be fetched at an address stands for the instruction.
 pub record IsInstructionAt (m : Memory) (at : ℕ) (i : Instr) : Type 0 where
@@ -14,20 +14,18 @@ pub record IsInstructionAt (m : Memory) (at : ℕ) (i : Instr) : Type 0 where
   pub loads : loaded m permission.Execute at 4 ≡ Ok word
   pub stands : decoded word ≡ Some i
 
-abbrev pub no_place : Place
-no_place = record { key = 0; word = 0; instruction = Ecall }
+-- the instruction of a word, where it can be fetched
+abbrev pub instruction_of : Result ℕ MemError → Option Instr
+instruction_of (Ok word) = decoded word
+instruction_of (Err refusal) = None
 
-abbrev pub place_at : CodeCache → ℕ → Place
-place_at cache place = get_or cache.places.items place no_place
-
--- The word at a place can be fetched at the address, whose place it is.
-pub record IsKept (m : Memory) (place word at : ℕ) : Type 0 where
-  pub aligned : at % 4 ≡ 0
-  pub here : at / 4 % 1024 ≡ place
-  pub loads : loaded m permission.Execute at 4 ≡ Ok word
-
--- So it is of each place that has the key of an address.
+-- Each instruction that is known is that of its word, which can be fetched.
 abbrev pub HoldsCode : CodeCache → Memory → Type 0
 HoldsCode cache m =
-    (place at : ℕ) → place < 1024 → at < 2 ^ 32 → (place_at cache place).key ≡ cache.base + at
-    → IsKept m place (place_at cache place).word at
+    (word : ℕ) (i : Instr) → known_in cache.places.items cache.pages.items word ≡ Some i
+    → instruction_of (loaded m permission.Execute (4 * word) 4) ≡ Some i
+
+-- Two memories agree but for so many pages, from the first on.
+pub record AgreeBut (first count : ℕ) (m n : Memory) : Type 0 where
+  pub rights : (page : ℕ) → is_among first count page ≡ false → n.rights page ≡ m.rights page
+  pub bytes : (at : ℕ) → is_among first count (at / 4096) ≡ false → n.byte at ≡ m.byte at

@@ -1,4 +1,5 @@
 pub mod Code
+pub mod CodePages
 pub mod Guest
 pub mod Holders
 pub mod Memory

@@ -1,145 +1,172 @@
-//! The instructions that ran lately, by their addresses.
-ghost use Rattle.std.specs.Prelude.{◌≡◌, ◌<◌, ◌≤◌, ◌+◌, ◌/◌, ◌%◌, ◌^◌, ℕ, List, Some, Ok, length, IfOk, IfSome};
-ghost use Rattle.std.specs.List.{All};
-ghost use Rattle.guest_memory.specs.Memory.{Memory, byte_count, loaded, with_bytes};
+//! The guest's code, decoded by page.
+ghost use Rattle.std.specs.Prelude.{◌≡◌, ◌≢◌, ◌<◌, ◌≤◌, ◌+◌, ◌/◌, ◌%◌, ◌^◌, ℕ, List, Some, Ok, get_or, length, IfOk, IfSome, OnOk};
+ghost use Rattle.guest_memory.specs.CodePages.{IsIndex, known_in};
+ghost use Rattle.guest_memory.specs.Memory.{Memory, loaded, with_bytes};
 ghost use Rattle.guest_memory.specs.declared.refusal.Permission.TheVariants as permission;
-ghost use Rattle.rv_isa.specs.Table.{decoded};
+ghost use Rattle.guest_words.specs.declared.limits.TheConstants.{PAGES};
 
-use crate::Size;
+use crate::code_page::{CodePage, PAGE_WORDS};
+use crate::directory::PAGE_SIZE;
 use guest_words::Addr;
+use guest_words::limits::PAGES;
 use rv_isa::{Instr, decode};
 use std::alloc::{AllocError, Global};
 
-// How many instructions are kept.
-const PLACES: usize = 1024;
-
-// How many addresses there are.
-const ADDRESSES: u64 = 0x1_0000_0000;
-
-// A word and its instruction. The key is the sum of an address and of the cache's base, where the word stands there.
-#[derive(Clone, Copy)]
-struct Place {
-    key: u64,
-    word: u32,
-    instruction: Instr,
-}
-
-// No word at no address.
-const NO_PLACE: Place = Place {
-    key: 0,
-    word: 0,
-    instruction: Instr::Ecall,
-};
-
-/// The instructions that ran lately, each at the place that its address gives. The memory that they are of is no part of it
-/// (specs/Code.antt).
+/// The code of the pages that ran, decoded, and an index of it: 16 KiB for each page with code, of which there are no more
+/// than can be mapped, and 2 bytes for each number up to the greatest of such a page. The memory that the code is of is no
+/// part of it (specs/Code.antt).
 #[derive(Drop)]
 pub struct CodeCache {
-    places: Vec<Place>,
-    base: u64,
-    ghost whole: { length places.items ≡ 1024 },
-    ghost right: { All (λ p. 0 < p.key → decoded p.word ≡ Some p.instruction) places.items },
-    ghost below: { All (λ p. p.key < base + 2 ^ 32) places.items },
-    ghost first: { 0 < base },
-    ghost last: { base + 2 ^ 32 ≤ 2 ^ 64 },
-}
-
-// The place of an address.
-#[inline(always)]
-fn place_of(at: Addr) -> usize
-    ensures { result ≡ at / 4 % 1024 }
-{
-    (at / 4) as usize % PLACES
+    // the code of no page, and that of each page that has some
+    pages: Vec<CodePage>,
+    // the place of each page's code, by the page's number: 0 where it has none
+    places: Vec<u16>,
+    ghost index: { IsIndex places.items pages.items },
+    ghost few: { length pages.items ≤ PAGES + 1 },
 }
 
 impl CodeCache {
-    ghost use Rattle.guest_memory.specs.Code.{HoldsCode, IsInstructionAt};
+    ghost use Rattle.guest_memory.specs.Code.{AgreeBut, HoldsCode, IsInstructionAt};
 
-    /// No instruction.
+    /// No instruction is known.
     pub fn new(alloc: Global) -> Result<CodeCache, AllocError>
         ensures { IfOk result (λ cache. (m : Memory) → HoldsCode cache m) }
     {
-        let places = vec![in alloc; NO_PLACE; PLACES]?;
+        let mut pages = Vec::new(alloc);
+        pages.push(CodePage::new(alloc, 0)?)?;
         Ok(CodeCache {
-            places,
-            base: ADDRESSES,
+            pages,
+            places: Vec::new(alloc),
         })
     }
 
-    // The key of an address.
+    // The place of a page's code: 0 where it has none.
     #[inline(always)]
-    fn key(&self, at: Addr) -> u64
-        ensures { result ≡ self.now.base + at }
+    fn place(&self, page: u64) -> usize
+        ensures place { result ≡ get_or self.now.places.items page 0 }
+        ensures inside { result < length self.now.pages.items }
     {
-        self.base + u64::from(at)
+        match self.places.get(page as usize) {
+            Some(place) => usize::from(*place),
+            None => 0,
+        }
     }
 
-    /// The instruction at an address, where it is kept.
+    /// The instruction at an address, where it is known.
     #[inline(always)]
     pub fn find(&self, at: Addr) -> Option<Instr>
         ensures { (m : Memory) → HoldsCode self.now m → IfSome result (IsInstructionAt m at) }
     {
-        let place = &self.places[place_of(at)];
-        if place.key == self.key(at) {
-            Some(place.instruction)
+        if at % 4 == 0 {
+            let place = self.place(u64::from(at >> 12));
+            self.pages[place].instruction((at >> 2) as usize % PAGE_WORDS)
         } else {
             None
         }
     }
 
-    /// Keeps the instruction of the word that stands at an address, where it is one.
-    pub fn keep(&mut self, at: Addr, word: u32)
+    // Makes the index reach to a page.
+    fn reach(&mut self, page: u32) -> Result<(), AllocError>
+        ensures places { (number : ℕ) → get_or self.new.places.items number 0
+            ≡ get_or self.old.places.items number 0 }
+        ensures pages { self.new.pages.items ≡ self.old.pages.items }
+        ensures reached { OnOk result (page < length self.new.places.items) }
+    {
+        if self.places.len() <= page as usize {
+            self.places.resize(page as usize + 1, 0)?;
+        }
+        Ok(())
+    }
+
+    // The place of a page's code, which is made where there is none.
+    fn place_for(&mut self, alloc: Global, page: u32) -> Result<usize, AllocError>
+        ensures known { (word : ℕ) → known_in self.new.places.items self.new.pages.items word
+            ≡ known_in self.old.places.items self.old.pages.items word }
+        ensures some { IfOk result (λ place. 0 < place) }
+        ensures place { IfOk result (λ place. place ≡ get_or self.new.places.items page 0) }
+        ensures inside { IfOk result (λ place. place < length self.new.pages.items) }
+    {
+        let place = self.place(u64::from(page));
+        if place != 0 {
+            return Ok(place);
+        }
+        self.reach(page)?;
+        let next = self.pages.len();
+        if next > PAGES as usize {
+            return Err(AllocError);
+        }
+        self.pages.push(CodePage::new(alloc, page)?)?;
+        self.places[page as usize] = next as u16;
+        Ok(next)
+    }
+
+    /// Lets the instruction of the word that stands at an address be known, where it is one.
+    pub fn learn(&mut self, alloc: Global, at: Addr, word: u32) -> Result<(), AllocError>
         requires { at % 4 ≡ 0 }
         ensures { (m : Memory) → HoldsCode self.old m → loaded m permission.Execute at 4 ≡ Ok word
             → HoldsCode self.new m }
     {
         if let Some(instruction) = decode(word) {
-            let key = self.key(at);
-            self.places[place_of(at)] = Place {
-                key,
-                word,
-                instruction,
-            };
+            let place = self.place_for(alloc, at >> 12)?;
+            self.pages[place].learn((at >> 2) as usize % PAGE_WORDS, instruction);
         }
+        Ok(())
     }
 
-    /// Forgets bytes that were written.
+    /// Forgets the words that were written within a page.
     #[inline(always)]
-    pub fn forget(&mut self, at: Addr, size: Size)
-        ensures { (m : Memory) (bytes : List ℕ) → length bytes ≤ byte_count size
+    pub fn forget_within(&mut self, at: u64, count: usize)
+        requires { at % 4096 + count ≤ 4096 }
+        ensures { (m : Memory) (bytes : List ℕ) → length bytes ≤ count
             → HoldsCode self.old m → HoldsCode self.new (with_bytes m at bytes) }
     {
-        if at as usize % 4 + size.bytes() <= 4 {
-            self.forget_word(at - at % 4);
-        } else {
-            self.forget_all();
+        let place = self.place(at >> 12);
+        if place != 0 {
+            let start = at as usize % PAGE_SIZE;
+            self.pages[place].forget(start / 4, (start + count + 3) / 4);
         }
     }
 
-    // Forgets the word at an address, bytes of which were written.
-    #[inline(always)]
-    fn forget_word(&mut self, at: Addr)
-        requires { at % 4 ≡ 0 }
-        ensures { (m : Memory) (q : ℕ) (bytes : List ℕ) → at ≤ q → q + length bytes ≤ at + 4
-            → HoldsCode self.old m → HoldsCode self.new (with_bytes m q bytes) }
+    /// Forgets the words that were written.
+    pub fn forget(&mut self, at: Addr, count: usize)
+        requires { at + count < 2 ^ 64 }
+        ensures { (m : Memory) (bytes : List ℕ) → length bytes ≡ count
+            → HoldsCode self.old m → HoldsCode self.new (with_bytes m at bytes) }
     {
-        let place = place_of(at);
-        if self.places[place].key == self.key(at) {
-            self.places[place] = NO_PLACE;
+        let mut done = 0;
+        'pages: while done < count {
+            let next = u64::from(at) + done as u64;
+            let here = (count - done).min(PAGE_SIZE - next as usize % PAGE_SIZE);
+            self.forget_within(next, here);
+            done += here;
         }
     }
 
-    /// Forgets all addresses: memory may be any.
-    #[cold]
-    #[inline(never)]
-    pub fn forget_all(&mut self)
-        ensures { (m : Memory) → HoldsCode self.new m }
+    // Forgets the code of a page. The last page's code takes its place.
+    fn forget_page(&mut self, page: u32)
+        ensures gone { (word : ℕ) → word / 1024 ≡ page
+            → known_in self.new.places.items self.new.pages.items word ≡ None }
+        ensures rest { (word : ℕ) → word / 1024 ≢ page
+            → known_in self.new.places.items self.new.pages.items word
+            ≡ known_in self.old.places.items self.old.pages.items word }
     {
-        if self.base <= u64::MAX - 2 * ADDRESSES {
-            self.base += ADDRESSES;
-        } else {
-            self.places.fill(NO_PLACE);
-            self.base = ADDRESSES;
+        let place = self.place(u64::from(page));
+        if place != 0 {
+            let last = self.pages[self.pages.len() - 1].number();
+            self.places[last as usize] = place as u16;
+            self.places[page as usize] = 0;
+            self.pages.swap_remove(place);
+        }
+    }
+
+    /// Forgets the code of pages, which may be any then.
+    pub fn forget_pages(&mut self, first: u32, count: u32)
+        requires { first + count ≤ 2 ^ 20 }
+        ensures { (m n : Memory) → AgreeBut first count m n → HoldsCode self.old m
+            → HoldsCode self.new n }
+    {
+        for k in 0..count {
+            self.forget_page(first + k);
         }
     }
 }

@@ -7,6 +7,7 @@
 
 mod byte_ranges;
 mod code_cache;
+mod code_page;
 mod directory;
 mod memory;
 mod page_ranges;

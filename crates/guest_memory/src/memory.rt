@@ -66,7 +66,6 @@ impl GuestMemory {
         self.directory.reserve(self.alloc, page, count)?;
         self.directory.put_all(page, rights, fresh);
         self.mapped += count;
-        self.code.forget_all();
         Ok(())
     }
 
@@ -77,7 +76,7 @@ impl GuestMemory {
     {
         let taken = self.directory.take_all(self.alloc, page, count);
         self.mapped -= taken;
-        self.code.forget_all();
+        self.code.forget_pages(page, count);
     }
 
     /// Sets the rights of mapped pages.
@@ -87,7 +86,7 @@ impl GuestMemory {
         ensures { memory_of self.new ≡ with_rights (memory_of self.old) page count rights }
     {
         self.directory.set_all_rights(page, count, rights);
-        self.code.forget_all();
+        self.code.forget_pages(page, count);
     }
 
     /// Whether no page of the range is mapped.
@@ -180,7 +179,7 @@ impl GuestMemory {
         self.code.find(at)
     }
 
-    /// Lets the instruction at an address be known, where there is one whose word can be fetched.
+    /// Lets the instruction at an address be known, where there is one whose word can be fetched, and memory for it.
     #[cold]
     #[inline(never)]
     pub fn learn_instruction(&mut self, at: Addr)
@@ -188,7 +187,8 @@ impl GuestMemory {
         ensures { memory_of self.new ≡ memory_of self.old }
     {
         if let Ok(word) = self.fetch(at) {
-            self.code.keep(at, word);
+            // where memory is wanting it stays unknown, and each step of it fetches and decodes its word
+            let _ = self.code.learn(self.alloc, at, word);
         }
     }
 
@@ -222,16 +222,16 @@ impl GuestMemory {
         let bytes = value.to_le_bytes();
         // the code of each size apart
         match size {
-            Size::One => self.store_bytes(at, &bytes[..1], Size::One),
-            Size::Two => self.store_bytes(at, &bytes[..2], Size::Two),
-            Size::Four => self.store_bytes(at, &bytes[..4], Size::Four),
+            Size::One => self.store_bytes(at, &bytes[..1]),
+            Size::Two => self.store_bytes(at, &bytes[..2]),
+            Size::Four => self.store_bytes(at, &bytes[..4]),
         }
     }
 
     // Writes at least one byte, where each of the bytes can be written.
     #[inline(always)]
-    fn store_bytes(&mut self, at: Addr, bytes: &[u8], size: Size) -> Result<(), MemError>
-        requires { length bytes.now ≡ byte_count size }
+    fn store_bytes(&mut self, at: Addr, bytes: &[u8]) -> Result<(), MemError>
+        requires { 0 < length bytes.now }
         ensures result { result ≡ unless_refused (first_refusal
             (memory_of self.old) permission.Write at (length bytes.now)) tt }
         ensures ok { OnOk result (memory_of self.new
@@ -239,9 +239,10 @@ impl GuestMemory {
         ensures err { OnErr result (memory_of self.new ≡ memory_of self.old) }
     {
         if at as usize % PAGE_SIZE + bytes.len() <= PAGE_SIZE {
-            match self.directory.store_within(u64::from(at), bytes) {
+            let first = u64::from(at);
+            match self.directory.store_within(first, bytes) {
                 Ok(()) => {
-                    self.code.forget(at, size);
+                    self.code.forget_within(first, bytes.len());
                     Ok(())
                 }
                 Err(refusal) => Err(refusal),
@@ -268,7 +269,7 @@ impl GuestMemory {
             Some(refusal) => Err(refusal),
             None => {
                 self.directory.write_all(first, bytes);
-                self.code.forget_all();
+                self.code.forget(at, bytes.len());
                 Ok(())
             }
         }
@@ -298,6 +299,6 @@ impl GuestMemory {
         ensures { memory_of self.new ≡ with_bytes (memory_of self.old) at bytes.now }
     {
         self.directory.write_all(u64::from(at), bytes);
-        self.code.forget_all();
+        self.code.forget(at, bytes.len());
     }
 }

@@ -1,20 +1,14 @@
-use Rattle.std.proofs.Common.{arith, subst, sym, ap, ◌∙◌, length, ◌<◌, ◌≡◌, Some}
-use Rattle.rv_isa.specs.Table.{decoded}
-use Rattle.std.proofs.lemmas.List.{length-replicate}
-use Rattle.std.proofs.lemmas.List.Elements.{All-replicate}
-use Rattle.std.specs.List.{All}
-use Rattle.guest_memory.specs.Code.{no_place}
-use Rattle.guest_memory.specs.declared.code_cache.Place.{Place}
-use Rattle.guest_memory.proofs.KeptCode.{AreRight, none_right}
+use Rattle.std.proofs.Common.{◌≡◌, ◌∙◌, ◌∷◌, ◌++◌, [], ℕ, List, None, ap, ap₂, arith, length, replicate, subst, sym}
+use Rattle.guest_memory.specs.CodePages.{IsIndex}
+use Rattle.guest_memory.proofs.PagesOfCode.{Pages, Page, new_index}
 use Rattle.guest_memory.proofs.code_cache.CodeCache.new.Goals as goal
 
 pub invariant_of-result : goal.invariant_of-result
 invariant_of-result c =
-    let is = c.in_ok-places.ensures.items_if_clones_equal (λ y h. h) in
+    let is : c.push.new.self.items ≡ (0, replicate 1024 None) ∷ [] =
+    c.in_ok-push.ensures.items ∙ ap₂ (λ (v : Pages) (p : Page). v ++ p ∷ []) c.new-pages.ensures.items c.in_ok-new.ensures in
     record {
-      whole = ap length is ∙ length-replicate 1024 no_place;
-      right = subst AreRight (sym is) (All-replicate (λ (p : Place). 0 < p.key → decoded p.word ≡ Some p.instruction) 1024 no_place none_right);
-      below = subst (All (λ (p : Place). p.key < 0x200000000)) (sym is) (All-replicate (λ (p : Place). p.key < 0x200000000) 1024 no_place (omega arith));
-      first = omega arith;
-      last = omega arith;
+      index = subst (λ (v : Pages). IsIndex c.new-2.result.items v) (sym is)
+          (subst (λ (places : List ℕ). IsIndex places ((0, replicate 1024 None) ∷ [])) (sym c.new-2.ensures.items) (new_index 0));
+      few = omega (arith, ap length is);
     }

@@ -5,4 +5,4 @@ use Rattle.guest_memory.proofs.memory.GuestMemory.learn_instruction.Goals as goa
 
 pub invariant_of-self-clause-coherent : goal.invariant_of-self-clause-coherent
 unfolding memory_of
-invariant_of-self-clause-coherent c = c.keep.ensures (memory_in c.args.self.now.directory) c.args.self.now.coherent (sym c.fetch.ensures ∙ c.in-Ok.is)
+invariant_of-self-clause-coherent c = c.learn.ensures (memory_in c.args.self.now.directory) c.args.self.now.coherent (sym c.fetch.ensures ∙ c.in-Ok.is)

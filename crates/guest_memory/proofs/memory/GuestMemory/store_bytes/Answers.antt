@@ -7,11 +7,12 @@ use Rattle.guest_memory.proofs.memory.GuestMemory.store_bytes.Goals as goal
 pub invariant_of-self : goal.invariant_of-self
 invariant_of-self c =
     let m = memory_in c.args.self.now.directory in
-    let stored : memory_in c.store_within.new.self ≡ with_bytes m c.args.at c.args.bytes.now = c.in-Ok.ensures.ok ∙ ap (λ at. with_bytes m at c.args.bytes.now) c.from.ensures in
+    let first = c.from-first.result in
+    let stored : memory_in c.store_within.new.self ≡ with_bytes m first c.args.bytes.now = c.in-Ok.ensures.ok in
     record {
       counted = c.args.self.now.counted ∙ ap mapped_pages (sym stored);
       few = c.args.self.now.few;
-      coherent = subst (HoldsCode c.forget.new.self) (sym stored) (c.forget.ensures m c.args.bytes.now (omega (arith, c.requires)) c.args.self.now.coherent);
+      coherent = subst (HoldsCode c.forget_within.new.self) (sym stored) (c.forget_within.ensures m c.args.bytes.now (omega arith) c.args.self.now.coherent);
     }
 
 pub invariant_of-self-in-Err-1 : goal.invariant_of-self-in-Err-1

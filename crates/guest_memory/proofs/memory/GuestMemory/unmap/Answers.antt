@@ -1,4 +1,11 @@
+use Rattle.std.proofs.Common.{None, sym, subst}
+use Rattle.guest_memory.specs.Code.{HoldsCode}
+use Rattle.guest_memory.specs.State.{memory_in}
+use Rattle.guest_memory.proofs.KeptCode.{agree_pages}
 use Rattle.guest_memory.proofs.memory.GuestMemory.unmap.Goals as goal
 
 pub invariant_of-self-clause-coherent : goal.invariant_of-self-clause-coherent
-invariant_of-self-clause-coherent c = c.forget_all.ensures _
+invariant_of-self-clause-coherent c =
+    let m = memory_in c.args.self.now.directory in
+    subst (HoldsCode c.forget_pages.new.self) (sym c.take_all-taken.ensures.memory)
+    (c.forget_pages.ensures m _ (agree_pages m c.args.page c.args.count None) c.args.self.now.coherent)

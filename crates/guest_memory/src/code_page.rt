@@ -1,0 +1,91 @@
+//! The code of one page of the guest, decoded.
+ghost use Rattle.std.specs.Prelude.{◌≡◌, ◌<◌, ◌≤◌, ℕ, List, Option, None, Some, get_or, length, replicate, slice_set, IfOk};
+ghost use Rattle.guest_memory.specs.CodePages.{AreForgotten};
+ghost use Rattle.rv_isa.specs.declared.instruction.Instr.{Instr};
+
+use rv_isa::Instr;
+use std::alloc::{AllocError, Global};
+use std::marker::Model;
+
+/// How many words a page has.
+pub const PAGE_WORDS: usize = 1024;
+
+/// The code of a page: the page's number, and the instruction of each of its words, where it is known. It takes 16 KiB.
+#[derive(Drop)]
+pub struct CodePage {
+    number: u32,
+    instructions: Vec<Option<Instr>>,
+}
+
+impl Model for CodePage {
+    ghost use Rattle.std.specs.Prelude.{◌≡◌, ℕ, List, Option, length};
+    ghost use Rattle.rv_isa.specs.declared.instruction.Instr.{Instr};
+
+    ghost Value = { ℕ × List (Option Instr) };
+
+    ghost view = { λ p. (p.number, p.instructions.items) };
+
+    ghost invariant = { λ p. length p.instructions.items ≡ 1024 };
+}
+
+impl CodePage {
+    /// No instruction of the page is known.
+    pub fn new(alloc: Global, number: u32) -> Result<CodePage, AllocError>
+        ensures { IfOk result (λ p. p ≡ (number, replicate 1024 None)) }
+    {
+        let mut instructions = Vec::new(alloc);
+        instructions.resize(PAGE_WORDS, None)?;
+        Ok(CodePage {
+            number,
+            instructions,
+        })
+    }
+
+    /// The page's number.
+    pub fn number(&self) -> u32
+        ensures { result ≡ self.now.0 }
+    {
+        self.number
+    }
+
+    /// The instruction of a word, where it is known.
+    #[inline(always)]
+    pub fn instruction(&self, word: usize) -> Option<Instr>
+        requires { word < 1024 }
+        ensures { result ≡ get_or self.now.1 word None }
+    {
+        self.instructions[word]
+    }
+
+    /// Lets the instruction of a word be known.
+    pub fn learn(&mut self, word: usize, instruction: Instr)
+        requires { word < 1024 }
+        ensures page { self.new ≡ (self.old.0, slice_set self.old.1 word (Some instruction)) }
+        ensures whole { length self.old.1 ≡ 1024 }
+    {
+        self.instructions[word] = Some(instruction);
+    }
+
+    /// Forgets the words from the first up to the end.
+    #[cold]
+    #[inline(never)]
+    pub fn forget(&mut self, first: usize, end: usize)
+        requires order { first ≤ end }
+        requires inside { end ≤ 1024 }
+        ensures number { self.new.0 ≡ self.old.0 }
+        ensures words { AreForgotten first end self.old.1 self.new.1 }
+    {
+        forget_words(&mut self.instructions, first, end);
+    }
+}
+
+// Forgets the words from the first up to the end.
+fn forget_words(words: &mut [Option<Instr>], first: usize, end: usize)
+    requires order { first ≤ end }
+    requires inside { end ≤ length words.old }
+    ensures { AreForgotten first end words.old words.new }
+{
+    for word in first..end {
+        words[word] = None;
+    }
+}
