@@ -1,0 +1,126 @@
+"""What the guests of bench/ are made of: instructions as words, code with labels, and the executable of a code."""
+from __future__ import annotations
+
+import struct
+from dataclasses import dataclass, field
+
+BASE = 0x10000
+HEADERS = 84
+"""The bytes of the headers, behind which the code begins."""
+STACK = 0x7FC00000
+"""In the middle of the stack: there is room above and below."""
+
+
+def i_type(opcode: int, funct3: int, rd: int, rs1: int, immediate: int) -> int:
+    return (immediate & 0xFFF) << 20 | rs1 << 15 | funct3 << 12 | rd << 7 | opcode
+
+
+def addi(rd: int, rs1: int, immediate: int) -> int:
+    return i_type(0x13, 0, rd, rs1, immediate)
+
+
+def slli(rd: int, rs1: int, count: int) -> int:
+    return i_type(0x13, 1, rd, rs1, count)
+
+
+def add(rd: int, rs1: int, rs2: int) -> int:
+    return rs2 << 20 | rs1 << 15 | rd << 7 | 0x33
+
+
+def lui(rd: int, value: int) -> int:
+    return (value & 0xFFFFF) << 12 | rd << 7 | 0x37
+
+
+def lw(rd: int, offset: int, rs1: int) -> int:
+    return i_type(0x03, 2, rd, rs1, offset)
+
+
+def sw(rs2: int, offset: int, rs1: int) -> int:
+    return (offset >> 5 & 0x7F) << 25 | rs2 << 20 | rs1 << 15 | 2 << 12 | (offset & 0x1F) << 7 | 0x23
+
+
+def branch(funct3: int, rs1: int, rs2: int, offset: int) -> int:
+    return (
+        (offset >> 12 & 1) << 31 | (offset >> 5 & 0x3F) << 25 | rs2 << 20 | rs1 << 15
+        | funct3 << 12 | (offset >> 1 & 0xF) << 8 | (offset >> 11 & 1) << 7 | 0x63
+    )
+
+
+def jal(rd: int, offset: int) -> int:
+    return (
+        (offset >> 20 & 1) << 31 | (offset >> 1 & 0x3FF) << 21 | (offset >> 11 & 1) << 20
+        | (offset >> 12 & 0xFF) << 12 | rd << 7 | 0x6F
+    )
+
+
+def jalr(rd: int, rs1: int) -> int:
+    return i_type(0x67, 0, rd, rs1, 0)
+
+
+ECALL = 0x73
+RETURN = jalr(0, 1)
+BEQ, BNE = 0, 1
+
+
+def number(rd: int, value: int) -> list[int]:
+    """Puts any number into a register, by two instructions."""
+    low = (value & 0xFFF) - (0x1000 if value & 0x800 else 0)
+    return [lui(rd, value - low >> 12), addi(rd, rd, low)]
+
+
+def syscall(nr: int) -> list[int]:
+    """A system call, whose arguments are in x10 to x15."""
+    return [addi(17, 0, nr), ECALL]
+
+
+EXIT = [addi(10, 0, 0), *syscall(94)]
+
+
+@dataclass
+class Code:
+    """Code whose jumps go to labels."""
+
+    words: list[int] = field(default_factory=list)
+    labels: dict[str, int] = field(default_factory=dict)
+    late: list[tuple[int, str, tuple[int, ...]]] = field(default_factory=list)
+    """The places that wait for a label, what stands there, and its registers."""
+
+    def put(self, *words: int) -> None:
+        self.words += words
+
+    def label(self, name: str) -> None:
+        self.labels[name] = len(self.words)
+
+    def jump(self, rd: int, label: str) -> None:
+        self.late.append((len(self.words), label, (rd,)))
+        self.put(0)
+
+    def branch(self, funct3: int, rs1: int, rs2: int, label: str) -> None:
+        self.late.append((len(self.words), label, (funct3, rs1, rs2)))
+        self.put(0)
+
+    def address(self, rd: int, label: str) -> None:
+        """Puts the address of a label into a register."""
+        self.late.append((len(self.words), label, ()))
+        self.put(*number(rd, 0))
+
+    def finish(self) -> list[int]:
+        for place, label, registers in self.late:
+            offset = 4 * (self.labels[label] - place)
+            if not registers:
+                rd = self.words[place] >> 7 & 31
+                self.words[place : place + 2] = number(rd, BASE + HEADERS + 4 * self.labels[label])
+            elif len(registers) == 1:
+                self.words[place] = jal(registers[0], offset)
+            else:
+                self.words[place] = branch(*registers, offset)
+        return self.words
+
+
+def image(code: list[int]) -> bytes:
+    """The file of a code: one segment at 0x10000, which holds the headers and the code, and can be read, written and run."""
+    size = HEADERS + 4 * len(code)
+    header = b"\x7fELF\x01\x01\x01" + bytes(9)
+    header += struct.pack("<HHIIIIIHHHHHH", 2, 243, 1, BASE + HEADERS, 52, 0, 0, 52, 32, 1, 40, 0, 0)
+    header += struct.pack("<IIIIIIII", 1, 0, BASE, BASE, size, size, 7, 4096)
+    return header + struct.pack(f"<{len(code)}I", *code)
