@@ -9,7 +9,7 @@ from aprof_show.joining import add_points
 from aprof_show.marks import growth_text, legend
 from aprof_show.model import Routine
 from aprof_show.rows import Row, ordered
-from aprof_show.table import GREATEST_COST, WITH_CALLEES, Choice, greatest_cost, share_text, steep_lines
+from aprof_show.table import GREATEST_COST, WITH_CALLEES, Choice, greatest_cost, share_text, marked_lines, sure_of
 from aprof_show.terminal import Column, factor_text, plural, short, table
 
 
@@ -64,12 +64,13 @@ def change(pair: Pair, steps: tuple[int, int]) -> float:
 
 @dataclass(frozen=True)
 class Compared:
-    """Which pairs are told, the largest change first, and how many are not: those that changed less, and those that didn't."""
+    """Which pairs are told, the largest change first, and how many are not: those that changed less, and those that didn't.
+    `library` are the C library's routines that changed, as they are now."""
 
     told: list[Pair]
     less: int
     same: int
-    library: list[Pair]
+    library: list[Row]
 
 
 def compared(old: Sequence[Row], new: Sequence[Row], steps: tuple[int, int], choice: Choice, names: Collection[Routine]) -> Compared:
@@ -83,7 +84,8 @@ def compared(old: Sequence[Row], new: Sequence[Row], steps: tuple[int, int], cho
         listed = [pair for pair in shown if choice.all or any(row and choice.has(row) for row in (pair.old, pair.new))]
     changed = [pair for pair in listed if names or choice.all or differs(pair)]
     told = sorted(changed, key=lambda pair: -change(pair, steps))[: choice.top]
-    return Compared(told, len(changed) - len(told), len(listed) - len(changed), [pair for pair in library if differs(pair)])
+    now = [pair.new for pair in library if pair.new and differs(pair)]
+    return Compared(told, len(changed) - len(told), len(listed) - len(changed), now)
 
 
 def against_text(
@@ -106,9 +108,7 @@ def against_text(
         lines.append(f"and {plural(found.less, 'routine')} that changed less: a greater --top")
     if found.same:
         lines.append(f"{plural(found.same, 'routine')} of the same growth, share and cost")
-    if found.library:
-        lines.append(f"and {plural(len(found.library), 'C library routine')} that changed: --library")
-    return lines + steep_lines([pair.new for pair in found.library if pair.new], "in the C library now", "--library", room)
+    return lines + marked_lines(sure_of(found.library), "in the C library now", "--library", room)
 
 
 def texts(row: Row | None) -> tuple[str, str, str]:

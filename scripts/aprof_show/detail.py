@@ -32,7 +32,8 @@ def detail(row: Row, room: int, place: str | None = None) -> list[str]:
     lines += wrapped(cause_sentence(row, row.cause), room) if row.cause else []
     if not routine.points:
         return [*lines, "no call of it had returned at the end"]
-    lines += growth_lines(row, row.growth) if row.growth else ["one size other than 0: nothing to tell of growth"]
+    told = growth_lines(row, row.growth) if row.growth else ["one size other than 0: nothing to tell of growth"]
+    lines += [part for line in told for part in wrapped(line, room)]
     return lines + table(columns_of(routine.points), room)
 
 
@@ -56,7 +57,7 @@ def growth_lines(row: Row, growth: Growth) -> list[str]:
     factor = growth_text(growth).rstrip(" ^")
     verdict = f"growth {factor}, {growth.guess}{weak}"
     if growth.rising is not None:
-        verdict = f"growth {factor}, {factor_text(factor_of(growth.rising))} and rising at the largest sizes: {growth.guess}, watch it"
+        verdict = f"growth {factor}, rising to {factor_text(factor_of(growth.rising))}: {growth.guess}, watch it"
     bent = [
         f"by the mean, as costs at one size differ (up to x{short_ratio(row.spread)}): "
         f"the greatest cost grows {factor_text(factor_of(growth.bent))}"
@@ -65,7 +66,7 @@ def growth_lines(row: Row, growth: Growth) -> list[str]:
         verdict,
         *bent,
         f"all sizes {whole}, the largest sizes {top}, net of the least (size {least_size(row)}) {net}",
-        f"estimates from the fit: about {twice} for a call of size {short(2 * most)}, {tenfold} for one of {short(10 * most)}",
+        f"estimated by the fit: {twice} for a call of size {short(2 * most)}, {tenfold} for one of {short(10 * most)}",
     ]
 
 
@@ -104,7 +105,7 @@ def notes(rows: Iterable[Row], room: int) -> list[str]:
     routines = [row.routine for row in rows if row.routine.points]
     if not routines:
         return []
-    writers = "; who wrote those words since the thread last had them: PLAIN itself or no one, THREAD another, KERNEL the kernel"
+    writers = ". PLAIN: no one else wrote those words since the thread last had them; THREAD: another; KERNEL: the kernel"
     known = any(routine.parts for routine in routines)
     return wrapped("A WORD is the greatest cost by word of the size" + writers * known, room)
 

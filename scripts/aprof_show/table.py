@@ -6,7 +6,7 @@ from dataclasses import dataclass
 
 from aprof_show.causes import Cause
 from aprof_show.heading import head, open_lines, wrapped
-from aprof_show.marks import STEEP, growth_text, legend, marked
+from aprof_show.marks import legend, marked
 from aprof_show.model import Point, Profile, Routine
 from aprof_show.reasons import Reason
 from aprof_show.rows import WRITERS, Row, ordered, written_part
@@ -19,7 +19,7 @@ WITH_CALLEES, ITS_OWN, GREATEST_COST = "WITH\nCALLEES", "ITS\nOWN", "GREATEST\nC
 """Headings. A percentage is of all instructions, with what the routine calls, where nothing else is said."""
 
 NAMED = 3
-"""So many of the superlinear routines that are left out are named."""
+"""So many of the marked routines that are left out are named."""
 
 
 @dataclass(frozen=True)
@@ -49,12 +49,11 @@ def summary(profile: Profile, rows: Sequence[Row], choice: Choice, room: int) ->
     lines = head(profile) + open_lines(profile, room)
     if listed:
         lines += with_causes(table(columns_of(listed, room, choice.by), room), listed, room)
-    lines += legend(marked(row.growth, row.many) for row in listed)
-    if folded:
-        lines += folded_lines(folded, room)
+    under = folded_lines(folded, room) if folded else []
     if hidden:
-        lines += hidden_lines([row for row in others if row not in listed], choice, room)
-    return lines + nameless_lines(profile, listed)
+        under += hidden_lines([row for row in others if row not in listed], choice, room)
+    signs = [marked(row.growth, row.many) for row in listed] + [line for line in under if line.startswith("marked")]
+    return lines + legend(signs) + under + nameless_lines(profile, listed)
 
 
 def with_causes(lines: Sequence[str], rows: Sequence[Row], room: int) -> list[str]:
@@ -156,9 +155,13 @@ def folded_lines(rows: Sequence[Row], room: int) -> list[str]:
         inner = [row for row in rows if row.routine.name and "start" not in row.routine.name]
         most = max(inner or rows, key=lambda row: row.share)
         share = f"largest with callees: {cut(most.routine.label, 24)} {percent(most.share)}"
-    sure = [row for row in rows if not row.uncertain]
     text = f"and {plural(len(rows), 'C library routine')} ({share}): --library"
-    return [*wrapped(text, room), *steep_lines(sure, "in the C library", "--library", room)]
+    return [*wrapped(text, room), *marked_lines(sure_of(rows), "in the C library", "--library", room)]
+
+
+def sure_of(rows: Sequence[Row]) -> list[Row]:
+    """Those whose growth is not uncertain, and those that are called too often whatever their growth."""
+    return [row for row in rows if row.many or not row.uncertain]
 
 
 def hidden_lines(rows: Sequence[Row], choice: Choice, room: int) -> list[str]:
@@ -166,18 +169,19 @@ def hidden_lines(rows: Sequence[Row], choice: Choice, room: int) -> list[str]:
     most = percent(max(row.share for row in rows))
     behind = [row for row in rows if choice.has(row)]
     ways = " and ".join(["a greater --top"] * bool(behind) + ["--all"] * (len(behind) < len(rows)))
-    steep = steep_lines(rows, "among them", ways, room)
-    return [*wrapped(f"and {plural(len(rows), 'routine')} of at most {most} with callees: {ways}", room), *steep]
+    text = f"and {plural(len(rows), 'routine')} of at most {most} with callees: {ways}"
+    return [*wrapped(text, room), *marked_lines(rows, "among them", ways, room)]
 
 
-def steep_lines(rows: Sequence[Row], where: str, ways: str, room: int) -> list[str]:
-    """The superlinear routines among some that are left out, and how they are listed."""
-    steep = ordered([row for row in rows if row.superlinear], None)
-    if not steep:
+def marked_lines(rows: Sequence[Row], where: str, ways: str, room: int) -> list[str]:
+    """The routines with a sign before their growth among some that are left out, and how they are listed. Those that are called
+    too often come first, as no other line has them."""
+    found = sorted(ordered([row for row in rows if row.superlinear or row.many], None), key=lambda row: not row.many)
+    if not found:
         return []
-    names = [f"{cut(row.routine.label, 30)} {growth_text(row.growth).strip()}" for row in steep[:NAMED]]
-    names += [f"{len(steep) - NAMED} more"] * (len(steep) > NAMED)
-    return wrapped(f"{STEEP} superlinear {where}: {', '.join(names)} ({ways})", room)
+    names = [f"{cut(row.routine.label, 30)} {marked(row.growth, row.many).strip()}" for row in found[:NAMED]]
+    names += [f"{len(found) - NAMED} more"] * (len(found) > NAMED)
+    return wrapped(f"marked {where}: {', '.join(names)} ({ways})", room)
 
 
 def nameless_lines(profile: Profile, listed: Sequence[Row]) -> list[str]:

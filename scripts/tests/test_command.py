@@ -87,7 +87,7 @@ class Output(unittest.TestCase):
         self.assertNotIn(" qsort\n", show(WORDS))
         self.assertIn(" qsort\n", show(WORDS, "--library"))
         self.assertEqual(len(show(WORDS, "--all", "--library", "--by", "name").splitlines()), 3 + 70 + 2)
-        self.assertEqual(show(WORDS, "--top", "1").count(" x"), 1 + 1)
+        self.assertEqual(show(WORDS, "--top", "1").count(" x"), 1)
         self.assertIn("and 7 routines of at most", show(WORDS, "--min", "99.99"))
 
     def test_one_routine(self) -> None:

@@ -80,6 +80,17 @@ class Reasons(unittest.TestCase):
                 self.assertEqual(any(line.startswith("*x2.0") and line.endswith(" look_up") for line in text), is_marked)
                 self.assertEqual(any(line.startswith("* harmless itself") for line in text), is_marked)
 
+    def test_the_culprit_of_the_library(self) -> None:
+        """What the C library's line hides is named with its sign, which is explained."""
+        names = ["main", "parse", "_start", "__libc_start_main", "malloc", "free", "strlen"]
+        addresses = {name: 0x10000 + 16 * place for place, name in enumerate(names)}
+        calls = [Call("parse", n, n, [Call("strlen", n, 4 * n) for _ in range(n)]) for n in SIZES]
+        run = Run([Call("_start", 9, 1, [Call("main", 9, 1, [*calls, *map(Call, names[3:6])])])], addresses)
+        profile = join([report_of(run.text(contexts=True))])
+        text = summary(profile, rows_of(profile), Choice(), 80)
+        self.assertIn("marked in the C library: strlen *x2.0 (--library)", text)
+        self.assertTrue(any(line.startswith("* harmless itself") for line in text))
+
     def test_several_reports(self) -> None:
         """A report for each input says the same as one of all."""
         reports = [report_of(Run([Call("main", 9, 1, [through_a_list(n)])], ADDRESSES).text(contexts=True)) for n in SIZES]

@@ -13,8 +13,8 @@ from tests.test_command import CACHE, show
 
 QUEUE = "examples/queue/report.txt"
 NOTE = (
-    "A WORD is the greatest cost by word of the size; who wrote those words since the thread last had them: "
-    "PLAIN itself or no one, THREAD another, KERNEL the kernel"
+    "A WORD is the greatest cost by word of the size. PLAIN: no one else wrote those words since the thread last had them; "
+    "THREAD: another; KERNEL: the kernel"
 )
 
 

@@ -109,20 +109,21 @@ function tellListed(word) {
   byId("count").textContent = table.rows.length === routines.length ? all
     : `${count(table.rows.length)} of ${all}${word ? ` with “${word}”` : ""}`;
   const listed = new Set(table.rows);
-  const left = routines.filter((r) => r.steep && (!r.weak || word) && !listed.has(r));
+  const left = routines.filter((r) => (r.many || (r.steep && (!r.weak || word))) && !listed.has(r));
   byId("unlisted").hidden = !left.length;
   byId("unlisted").textContent = left.length ? unlistedText(left, word) : "";
 }
 
-// the superlinear routines that are not listed, the first of them by name, and how to see them
+// the marked routines that are not listed, the first of them by name, and how to see them
 function unlistedText(left, word) {
   const kinds = [[left.filter((r) => r.library), "of the C library"], [left.filter((r) => !r.named), "without a name"]]
     .filter(([some]) => some.length).map(([some, what]) => `${count(some.length)} ${what}`);
-  const names = left.slice(0, 3).map((r) => `${r.name} ${times(r.growth)}`).join(", ");
+  const first = [...left.filter((r) => r.many), ...left.filter((r) => !r.many)];
+  const names = first.slice(0, 3).map((r) => `${r.name} ${r.many ? "∗" : ""}${times(r.growth)}`).join(", ");
   const way = word ? "clear the filter" : "";
   const ticks = left.some((r) => r.library) && !byId("library").checked ? "tick “C library”" : "";
   const more = left.length > 3 ? ` and ${count(left.length - 3)} more` : "";
-  return `Not listed: ${count(left.length)} superlinear${kinds.length ? ` (${kinds.join(", ")})` : ""}: ${names}${more}. To see them, ${
+  return `Not listed: ${count(left.length)} marked${kinds.length ? ` (${kinds.join(", ")})` : ""}: ${names}${more}. To see them, ${
     [way, ticks].filter(Boolean).join(" and ")}.`;
 }
 
