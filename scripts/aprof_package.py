@@ -20,7 +20,7 @@ TOP = Path(__file__).resolve().parent.parent
 PROGRAM = "crates/aprof/out/aprof"
 STAMP = "crates/aprof/out/launcher.stamp"
 
-TOOLS = ("aprof", "show", "scripts/aprof_launch", "scripts/aprof_show", "examples/musl")
+TOOLS = ("aprof", "show", "scripts/aprof_copy", "scripts/aprof_launch", "scripts/aprof_show", "examples/musl")
 """What runs: it stands in /usr/lib/aprof, in the order of a clone."""
 TEXTS = ("README.md", "docs", "examples")
 """What is read or copied: in /usr/share/doc/aprof."""

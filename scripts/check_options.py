@@ -49,12 +49,13 @@ def of_readme(text: str) -> Options:
 
 
 def of_synopsis(text: str) -> Options:
-    """The man page's synopsis of each command."""
+    """The man page's synopsis of each command. What begins with an option is none."""
     synopsis = text[text.index(".Sh SYNOPSIS") : text.index(".Sh DESCRIPTION")]
     found: Options = {}
     for part in synopsis.split(".Nm\n")[1:]:
-        name = part.split(maxsplit=2)[1]
-        found[name] = {option for line in part.splitlines()[1:] for option in of_macro(line)}
+        macro, name = part.split(maxsplit=2)[:2]
+        if macro == ".Cm":
+            found[name] = {option for line in part.splitlines()[1:] for option in of_macro(line)}
     return found
 
 

@@ -1,5 +1,5 @@
 #!/usr/bin/env bash
-# Profiles the guest by turns of 1, 7 and 10000 steps, and compares the reports. Those of the two short turns are the same.
+# Profiles the guest by turns of 1, 7 and 10000 instructions, and compares the reports. Those of the two short turns are the same.
 set -eu
 cd "$(dirname "$0")"
 PATH=../..:$PATH  # a clone has aprof there

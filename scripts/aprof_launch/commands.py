@@ -65,9 +65,9 @@ STAMPS = Option("--stamps", STAMPS_TEXT, "8|16|32", 8, 32, (8, 16, 32))
 STATS = Option("--stats", "says how often stamps were renumbered")
 GUEST = (
     Option("--stdin", "the program's standard input: empty without it; /dev/stdin for aprof's own", "PATH", use=Use.READ),
-    Option("--quantum", "a turn of a thread has at most Q steps, 1 to 1000000000; 10000 without it", "Q", 1, 10**9),
+    Option("--quantum", "a turn of a thread has at most Q instructions, 1 to 1000000000; 10000 without it", "Q", 1, 10**9),
     Option("--schedule", "takes the turns that --record stored", "PATH", use=Use.READ),
-    Option("--budget", "the run has at most N steps, 1 to 1000000000000; 1000000000 without it", "N", 1, 10**12),
+    Option("--budget", "the run has at most N instructions, 1 to 1000000000000; 1000000000 without it", "N", 1, 10**12),
 )
 RECORD = Option("--record", "stores the turns of the threads", "PATH", use=Use.WRITTEN)
 CACHE = (
@@ -81,7 +81,7 @@ COMMANDS = (
     Command("run", "runs a program and stores its report", (*GUEST, RECORD, STAMPS, STATS, OUTPUT), IMAGE, WORDS),
     Command("contexts", "stores the report and who called whom", (*GUEST, STAMPS, OUTPUT), IMAGE, WORDS),
     Command("cache", "stores the misses of a cache, by routine", (*CACHE, *GUEST, OUTPUT), IMAGE, WORDS),
-    Command("trace", "stores each step, access and call", (*GUEST, OUTPUT), IMAGE, WORDS),
+    Command("trace", "stores each instruction, access and call", (*GUEST, OUTPUT), IMAGE, WORDS),
     Command("replay", "stores the report of a stored trace", (STAMPS, STATS, OUTPUT), "TRACE"),
     Command("demo", "profiles a built-in program of N routines, 1 to 40000", (), "N"),
 )

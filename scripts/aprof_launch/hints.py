@@ -8,10 +8,11 @@ import subprocess
 import sys
 from collections.abc import Callable
 
+from aprof_copy.called import launcher
 from aprof_launch import ends, images, tables
 from aprof_launch.outputs import is_begun_trace, is_whole, refusals
-from aprof_launch.places import has_reader, is_full, takes_nothing, why_unread
-from aprof_launch.usage import called, usage
+from aprof_launch.places import has_reader, is_full, takes_nothing, why_device, why_unread
+from aprof_launch.usage import usage
 from aprof_launch.words import Words
 from aprof_show.address import has_symbols, place_of
 from aprof_show.library import musl_names
@@ -56,8 +57,8 @@ class Hints:
     def bad_words(self) -> list[str]:
         said = [self.read.complaint] if self.read.complaint else []
         if self.read.command is None:
-            return [*said, f"`{called()} help` has the commands"]
-        return [*said, *usage(self.read.command), f"`{called()} help {self.name}` says what they mean"]
+            return [*said, f"`{launcher()} help` has the commands"]
+        return [*said, *usage(self.read.command), f"`{launcher()} help {self.name}` says what they mean"]
 
     def unread(self) -> list[str]:
         for path in self.read.inputs():
@@ -85,8 +86,16 @@ class Hints:
         full = [f"{path}: no space left" for path in self.read.outputs() if takes_nothing(path)]
         full += ["standard output: no space left"] if takes_nothing(1) else []
         full += [f"{path}: the disk is full{self.what_is_there(path)}" for path in self.read.outputs() if is_full(path)]
-        other = "standard output or the report: no room, or the place went during the run; what was written before stands"
-        return again[:1] or full or [other]
+        devices = [f"{path}: {why}" for path in self.read.outputs() if (why := why_device(path))]
+        places = " or ".join(["standard output", *self.read.outputs()])
+        other = f"{places}: no room, or the place went during the run; what was written before stands"
+        return [*(again[:1] or full or devices or [other]), *self.empty_recording()]
+
+    def empty_recording(self) -> list[str]:
+        """What is said of a recording without a turn, where that isn't told with a full disk."""
+        path = self.read.values.get("--record", "")
+        is_empty = os.path.isfile(path) and os.path.getsize(path) == 0
+        return [f"{path} is empty: no turn was stored"] if is_empty and not is_full(path) else []
 
     def what_is_there(self, path: str) -> str:
         """What a full disk left at a path."""
@@ -119,7 +128,7 @@ class Hints:
         if "--record" in self.read.values:
             left["--schedule"] = self.read.values["--record"]
         options = [word for pair in left.items() for word in pair if pair[0] in CONTEXT_OPTIONS]
-        return shlex.join([called(), "contexts", *options, "-o", "contexts.txt", *self.words()])
+        return shlex.join([launcher(), "contexts", *options, "-o", "contexts.txt", *self.words()])
 
     def words(self) -> list[str]:
         words = self.read.positionals
@@ -128,14 +137,14 @@ class Hints:
     def chain(self) -> list[str]:
         """The commands that show which calls were open."""
         is_stored = self.name == "contexts" and os.path.isfile(self.output)
-        show = shlex.join([called(), "show", "--open", "--image", self.image(), self.output if is_stored else "contexts.txt"])
+        show = shlex.join([launcher(), "show", "--open", "--image", self.image(), self.output if is_stored else "contexts.txt"])
         if is_stored:
             return [f"the calls that were open: {show}"]
         return ["the calls that were open:", f"  {self.words_of_contexts()}", f"  {show}"]
 
     def budget(self) -> list[str]:
-        steps = self.read.values.get("--budget", "1000000000")
-        return [f"the run was ended after {steps} steps, and what is stored is of these: --budget N takes more", *self.chain()]
+        budget = self.read.values.get("--budget", "1000000000")
+        return [f"the run was ended after {budget} instructions, and what is stored is of these: --budget N takes more", *self.chain()]
 
     def deadlock(self) -> list[str]:
         waits = "no thread can go on: each waits for a lock, a signal or another's end"

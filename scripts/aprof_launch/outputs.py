@@ -8,6 +8,7 @@ from collections.abc import Iterable
 from pathlib import Path
 
 from aprof_launch.commands import Use
+from aprof_launch.places import why_barred
 from aprof_launch.words import Words
 
 RECORDING = re.compile(rb"(?:[0-9]{1,2} [0-9]+\n)*(?:[0-9]{1,2}(?: [0-9]*)?)?\Z")
@@ -15,17 +16,8 @@ RECORDING = re.compile(rb"(?:[0-9]{1,2} [0-9]+\n)*(?:[0-9]{1,2}(?: [0-9]*)?)?\Z"
 
 def problem(path: str) -> str:
     """Why the path can't be written, or nothing."""
-    try:
-        mode = os.stat(path).st_mode
-    except FileNotFoundError:
-        return problem_of_new(path)
-    except NotADirectoryError:
-        return "no such folder"
-    except OSError as error:
-        return (error.strerror or "").lower()
-    if stat.S_ISDIR(mode):
-        return "it is a folder"
-    return "" if os.access(path, os.W_OK) else "no right to write it"
+    why = why_barred(path, os.W_OK)
+    return why if why is not None else problem_of_new(path)
 
 
 def problem_of_new(path: str) -> str:

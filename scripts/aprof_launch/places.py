@@ -1,22 +1,34 @@
 """Why a file can't be read, a disk be written, or a stream be read by no one."""
 from __future__ import annotations
 
+import errno
 import os
 import select
 import stat
 
 
-def why_unread(path: str) -> str:
-    """Why the file can't be read, or nothing."""
+RIGHTS = {os.R_OK: "read", os.W_OK: "write"}
+
+
+def why_barred(path: str, right: int) -> str | None:
+    """Why what is there can't be used with this right, or nothing; None where there is nothing."""
     try:
         mode = os.stat(path).st_mode
-    except (FileNotFoundError, NotADirectoryError):
-        return "no such file"
+    except FileNotFoundError:
+        return None
+    except NotADirectoryError:
+        return "no such folder"
     except OSError as error:
         return (error.strerror or "").lower()
     if stat.S_ISDIR(mode):
         return "it is a folder"
-    return "" if os.access(path, os.R_OK) else "no right to read it"
+    return "" if os.access(path, right) else f"no right to {RIGHTS[right]} it"
+
+
+def why_unread(path: str) -> str:
+    """Why the file can't be read, or nothing."""
+    why = why_barred(path, os.R_OK)
+    return "no such file" if why is None else why
 
 
 def is_full(path: str) -> bool:
@@ -37,6 +49,21 @@ def takes_nothing(place: str | int) -> bool:
         return isinstance(place, int) and stat.S_ISREG(found.st_mode) and os.statvfs(place).f_bavail == 0
     except OSError:
         return False
+
+
+def why_device(path: str) -> str:
+    """Why what is no plain file may have refused a write, or nothing where the path is a plain file or none. It is opened and not
+    written."""
+    try:
+        mode = os.stat(path).st_mode
+        if stat.S_ISREG(mode) or stat.S_ISDIR(mode):
+            return ""
+        os.close(os.open(path, os.O_WRONLY | os.O_NONBLOCK | os.O_NOCTTY))
+    except FileNotFoundError:
+        return ""
+    except OSError as error:
+        return "a pipe that nobody reads" if error.errno == errno.ENXIO and stat.S_ISFIFO(mode) else (error.strerror or "").lower()
+    return "it is no plain file, and refused what was written"
 
 
 def has_reader(descriptor: int) -> bool:

@@ -5,6 +5,7 @@ import os
 import signal
 from pathlib import Path
 
+from aprof_copy.called import launcher
 from aprof_launch import outputs, usage
 from aprof_launch.printing import print_out, say
 from aprof_launch.words import not_utf8, read_words
@@ -22,7 +23,7 @@ def help_step(words: list[str]) -> int:
     complaint = usage.complaint(words)
     if complaint:
         say(f"aprof: {complaint}")
-        say(f"`{usage.called()} help` has the commands")
+        say(f"`{launcher()} help` has the commands")
         return 1
     return print_out(usage.text_for(words))
 
@@ -70,8 +71,8 @@ def build_step(words: list[str]) -> int:
         return status
     for number in (signal.SIGPIPE, signal.SIGXFSZ):
         signal.signal(number, signal.SIG_DFL)
-    launcher = words[1] if os.access(words[1], os.X_OK) else f"{words[0]}/aprof"
-    os.execve(launcher, [launcher, *words[2:]], os.environ | {"APROF_BUILT": "1"})
+    script = words[1] if os.access(words[1], os.X_OK) else f"{words[0]}/aprof"
+    os.execve(script, [script, *words[2:]], os.environ | {"APROF_BUILT": "1"})
 
 
 def progress_step(words: list[str]) -> int:

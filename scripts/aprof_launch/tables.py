@@ -3,6 +3,8 @@ from __future__ import annotations
 
 import re
 
+from aprof_show import ends
+
 IMAGES: tuple[tuple[tuple[int, ...], str, str], ...] = (
     ((1, 2, 3, 4, 5, 9, 10), "is no whole 32-bit little-endian ELF file", "a compiler for riscv32"),
     ((6, 11), "is not linked (a .o), position-independent, or dynamic", "link it with -static -no-pie (and -fno-pie)"),
@@ -20,15 +22,11 @@ IMAGES: tuple[tuple[tuple[int, ...], str, str], ...] = (
 )
 NO_START = "17 comes also where there is no `_start`: link a C library, or include examples/main.h"
 
-FAULTS = {
-    1: "no instruction of RV32IMA",
-    2: "no code there",
-    3: "no readable byte (a null pointer, or one that is wrong)",
-    4: "no writable byte (a null pointer, a recursion whose stack is full, musl's `abort` or a failed `assert`)",
-    5: "a jump that is not aligned",
-    6: "an atomic operation that is not aligned",
-    7: "EBREAK",
+REMARKS = {
+    3: " (a null pointer, or one that is wrong)",
+    4: " (a null pointer, a recursion whose stack is full, musl's `abort` or a failed `assert`)",
 }
+FAULTS = {kind: f"{what}{REMARKS.get(kind, '')}" for kind, what in enumerate(ends.FAULTS, 1)}
 
 TRACES = {
     1: "its first line is another",

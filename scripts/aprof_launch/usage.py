@@ -1,16 +1,12 @@
 """What `aprof help` prints."""
 from __future__ import annotations
 
-import os
-import shutil
-import subprocess
 import textwrap
-from pathlib import Path
 
+from aprof_copy.called import version
 from aprof_launch.commands import BY_NAME, COMMANDS, Command, Option
 from aprof_launch.words import no_command
 
-TOP = Path(__file__).resolve().parents[2]
 WIDTH = 80
 
 WORDS = """IMAGE is a static executable for RV32IMA. FILE is an argument of it and a file that
@@ -26,13 +22,6 @@ HEAD = """aprof: how the cost of each routine of a program grows with its input
 TAIL = """Of the launcher itself: `--progress` tells on standard error that a run goes on, also
 where that is no terminal; APROF_HINTS=0 in the environment keeps out its hints;
 `aprof --version` prints the version."""
-
-
-def called() -> str:
-    """How the launcher was called, as it can be called again."""
-    name = os.environ.get("APROF_NAME", "./aprof")
-    found = shutil.which("aprof")
-    return "aprof" if found and os.path.exists(name) and os.path.samefile(found, name) else name
 
 
 def shown(option: Option) -> str:
@@ -77,20 +66,6 @@ def whole_help() -> str:
     lines = [HEAD, *(entry(command.name, command.text) for command in COMMANDS)]
     lines += [entry("show", "shows what is stored: `aprof show --help`"), entry("help COMMAND", "the options of a command"), ""]
     return "\n".join([*lines, WORDS, "", TAIL])
-
-
-def version() -> str:
-    """What names this copy: a file VERSION, or else git."""
-    if (TOP / "VERSION").is_file():
-        return (TOP / "VERSION").read_text().strip()
-    if not (TOP / ".git").exists():
-        return "without a version"
-    try:
-        words = ["git", "-C", str(TOP), "describe", "--always", "--dirty"]
-        done = subprocess.run(words, capture_output=True, text=True)
-    except OSError:
-        return "without a version"
-    return done.stdout.strip() or "without a version"
 
 
 def complaint(words: list[str]) -> str:

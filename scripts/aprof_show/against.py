@@ -2,13 +2,14 @@
 from __future__ import annotations
 
 from collections.abc import Collection, Sequence
-from dataclasses import dataclass
+from dataclasses import dataclass, replace
 
 from aprof_show.growth import Growth, growth_of
 from aprof_show.joining import add_points
+from aprof_show.marks import growth_text, legend
 from aprof_show.model import Routine
 from aprof_show.rows import Row, ordered
-from aprof_show.table import Choice, greatest_cost, growth_text, share_text
+from aprof_show.table import GREATEST_COST, WITH_CALLEES, Choice, greatest_cost, share_text, marked_lines, sure_of
 from aprof_show.terminal import Column, factor_text, plural, short, table
 
 
@@ -61,6 +62,32 @@ def change(pair: Pair, steps: tuple[int, int]) -> float:
     return abs(new - old)
 
 
+@dataclass(frozen=True)
+class Compared:
+    """Which pairs are told, the largest change first, and how many are not: those that changed less, and those that didn't.
+    `library` are the C library's routines that changed, as they are now."""
+
+    told: list[Pair]
+    less: int
+    same: int
+    library: list[Row]
+
+
+def compared(old: Sequence[Row], new: Sequence[Row], steps: tuple[int, int], choice: Choice, names: Collection[Routine]) -> Compared:
+    """Routines that have not changed are left out. With names these routines alone, changed or not."""
+    pairs = paired(old, new)
+    library = [] if names or choice.library else [pair for pair in pairs if pair.either.library]
+    if names:
+        listed = [pair for pair in pairs if any(row and row.routine in names for row in (pair.old, pair.new))]
+    else:
+        shown = [pair for pair in pairs if choice.library or not pair.either.library]
+        listed = [pair for pair in shown if choice.all or any(row and choice.has(row) for row in (pair.old, pair.new))]
+    changed = [pair for pair in listed if names or choice.all or differs(pair)]
+    told = sorted(changed, key=lambda pair: -change(pair, steps))[: choice.top]
+    now = [pair.new for pair in library if pair.new and differs(pair)]
+    return Compared(told, len(changed) - len(told), len(listed) - len(changed), now)
+
+
 def against_text(
     old: Sequence[Row],
     new: Sequence[Row],
@@ -69,28 +96,19 @@ def against_text(
     room: int,
     names: Collection[Routine] = (),
 ) -> list[str]:
-    """Growth, share and greatest cost before and after, the largest change first. Routines that have not changed are left out.
-    With names these routines alone, changed or not."""
-    if names:
-        pairs = [pair for pair in paired(old, new) if any(row and row.routine in names for row in (pair.old, pair.new))]
-        listed, changed = pairs, pairs
-    else:
-        pairs = [pair for pair in paired(old, new) if choice.library or not pair.either.library]
-        listed = [pair for pair in pairs if choice.all or any(row and choice.has(row) for row in (pair.old, pair.new))]
-        changed = [pair for pair in listed if choice.all or differs(pair)]
-    changed = sorted(changed, key=lambda pair: -change(pair, steps))
-    told = changed[: choice.top]
-    lines = [f"{steps[0]} steps before, {steps[1]} after"]
-    if told:
-        lines += table(columns_of(told), room)
-    if any(pair.between() for pair in told):
+    """Growth, share and greatest cost before and after, the largest change first."""
+    found = compared(old, new, steps, choice, names)
+    lines = [f"{steps[0]} instructions before, {steps[1]} after"]
+    if found.told:
+        lines += table(columns_of(found.told), room)
+        lines += legend(text for pair in found.told for text in (texts(pair.old)[0], texts_now(pair)[0]))
+    if any(pair.between() for pair in found.told):
         lines.append("a growth behind `-` is that from the one call before to the one call now")
-    if len(told) < len(changed):
-        lines.append(f"and {plural(len(changed) - len(told), 'routine')} that changed less: a greater --top")
-    same = len(listed) - len(changed)
-    if same:
-        lines.append(f"{plural(same, 'routine')} of the same growth, share and cost")
-    return lines
+    if found.less:
+        lines.append(f"and {plural(found.less, 'routine')} that changed less: a greater --top")
+    if found.same:
+        lines.append(f"{plural(found.same, 'routine')} of the same growth, share and cost")
+    return lines + marked_lines(sure_of(found.library), "in the C library now", "--library", room)
 
 
 def texts(row: Row | None) -> tuple[str, str, str]:
@@ -113,7 +131,7 @@ def differs(pair: Pair) -> bool:
 def columns_of(pairs: Sequence[Pair]) -> list[Column]:
     before, after = [texts(pair.old) for pair in pairs], [texts_now(pair) for pair in pairs]
     columns = []
-    for place, heading in enumerate(("GROWTH", "SHARE", "COST")):
+    for place, heading in enumerate(("GROWTH", WITH_CALLEES, GREATEST_COST)):
         columns.append(Column(heading, [row[place] for row in before]))
         columns.append(Column("NOW", [row[place] for row in after]))
     return columns + [Column(" ROUTINE", [f" {pair.either.routine.label}" for pair in pairs], left=True)]
@@ -131,10 +149,19 @@ def above(rows: Sequence[Row], limit: float, named: Collection[Routine], choice:
 
 def above_text(rows: Sequence[Row], limit: float) -> list[str]:
     return [
-        f"{row.routine.label} grows {above_limit(row.growth, limit)} ({share_text(row)} of the steps)"
+        f"{row.routine.label} grows {above_limit(row.growth, limit)} ({share_text(row)} of all instructions with its callees)"
         for row in rows
         if row.growth
     ]
+
+
+def not_judged(rows: Sequence[Row], limit: float, named: Collection[Routine], choice: Choice) -> list[str]:
+    """What is said of routines of the C library whose growth is above the limit, where they don't count."""
+    if named or choice.library:
+        return []
+    left = [row for row in above(rows, limit, named, replace(choice, library=True)) if row.library]
+    text = f"{plural(len(left), 'C library routine')} above {factor_text(limit)} not counted: --library"
+    return [text] if left else []
 
 
 def above_limit(growth: Growth, limit: float) -> str:

@@ -28,6 +28,12 @@ def spread_of(points: Sequence[Point]) -> float:
     return max((point.most / point.least for point in points if point.least), default=1.0)
 
 
+def spread_between(points: Sequence[Point]) -> float:
+    """The ratio of the greatest of all costs to the least."""
+    least = min((point.least for point in points), default=1)
+    return max((point.most for point in points), default=1) / max(least, 1)
+
+
 def by_doublings(spots: Sequence[Spot], amount: int) -> list[Spot]:
     """The largest size, and from each on the dearest spot about a doubling below, sizes rising."""
     found = [spots[-1]]

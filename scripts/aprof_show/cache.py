@@ -20,7 +20,7 @@ def cache_text(report: CacheReport, choice: Choice, room: int, labels: Mapping[i
         if choice.all or max(routine.misses / max(misses, 1), routine.accesses / max(accesses, 1)) >= least
     ][: choice.top]
     rate = percent(misses / accesses) if accesses else "-"
-    lines = [f"{report.steps} steps, end {report.end}, {accesses} accesses, {misses} misses ({rate})"]
+    lines = [f"{report.steps} instructions, end {report.end}, {accesses} accesses, {misses} misses ({rate})"]
     if listed:
         lines += table(columns_of(listed, misses, labels), room)
     if len(listed) < len(report.routines):
@@ -30,9 +30,9 @@ def cache_text(report: CacheReport, choice: Choice, room: int, labels: Mapping[i
 
 def columns_of(routines: list[CacheRoutine], misses: int, labels: Mapping[int, str]) -> list[Column]:
     return [
-        Column("MISSES", [str(routine.misses) for routine in routines]),
-        Column("OF ALL", [percent(routine.misses / max(misses, 1)) for routine in routines]),
-        Column("ACCESSES", [str(routine.accesses) for routine in routines]),
+        Column("ITS OWN\nMISSES", [str(routine.misses) for routine in routines]),
+        Column("OF ALL\nMISSES", [percent(routine.misses / max(misses, 1)) for routine in routines]),
+        Column("ITS OWN\nACCESSES", [str(routine.accesses) for routine in routines]),
         Column("RATE", [percent(routine.misses / routine.accesses) for routine in routines]),
         Column(" ROUTINE", [f" {labels[routine.entry]}" for routine in routines], left=True),
     ]

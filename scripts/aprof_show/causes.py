@@ -1,90 +1,112 @@
 """Where the cost of a routine comes from: the routine below it that has the greatest own cost there.
 
 What is called with a size or two (`strcmp` of short words) doesn't grow by itself: its cost is counted with the next caller that
-has a growth, and it is named only where there is no such caller below the routine.
+has a growth, and it is named only where there is no such caller below the routine. What is told of the one that is found is its
+cost with its callees, as everywhere.
 """
 from __future__ import annotations
 
-from collections.abc import Collection, Iterator, Sequence
-from dataclasses import dataclass
+from collections import Counter
+from collections.abc import Iterator, Mapping, Sequence
+from dataclasses import dataclass, field
 
-from aprof_show.costs import Cost
-from aprof_show.growth import growth_of
-from aprof_show.model import Context, Routine
+from aprof_show.costs import Cost, Way, ways_of
+from aprof_show.growth import GrowthOf
+from aprof_show.joining import points_of
+from aprof_show.model import Context, Measured, Point, Routine
 
 LEAST = 0.25
 """A smaller part of the cost explains nothing."""
 
 
-@dataclass(frozen=True)
-class Cause:
-    """`part` is of the routine's cost, `calls` are those below the routine."""
+@dataclass(eq=False)
+class Cause(Measured):
+    """What a routine's cost comes from. `total` is the cost of the cause's calls below the routine, with their callees, and `part`
+    is that as a part of the routine's. `by` has the same by the routines that the first one calls directly: by the cause itself,
+    where it is one of them. `points` are of these calls."""
 
     routine: Routine
-    part: float
-    calls: int
+    total: int = 0
+    part: float = 0.0
+    by: Counter[Routine] = field(default_factory=Counter)
+    points: list[Point] = field(default_factory=list)
+    contexts: list[Context] = field(default_factory=list)
 
+    @property
+    def dearest_way(self) -> Routine:
+        """What the first routine calls directly and by which most of the cost comes."""
+        return self.by.most_common(1)[0][0]
 
-@dataclass(frozen=True)
-class Place:
-    """A context on the way down: how many are above it, and how deep the innermost call of each routine above is."""
+    @property
+    def is_direct(self) -> bool:
+        """Whether the first routine calls it directly, at least at times."""
+        return self.routine in self.by
 
-    context: Context
-    depth: int
-    above: dict[Routine, int]
+    @property
+    def through(self) -> Routine | None:
+        """The dearest other routine that the first one calls and that leads there."""
+        return next((routine for routine, _ in self.by.most_common() if routine is not self.routine), None)
 
+    @property
+    def more(self) -> int:
+        """How many others there are."""
+        return len(self.by) - self.is_direct - (self.through is not None)
 
-def places_of(roots: Sequence[Context]) -> Iterator[Place]:
-    """All contexts. `above` goes on to change: it is right until the next place is asked for."""
-    above: dict[Routine, int] = {}
-    below: list[tuple[Context, int, int | None, bool]] = [(root, 0, None, False) for root in reversed(roots)]
-    while below:
-        context, depth, before, done = below.pop()
-        if done:
-            if before is None:
-                del above[context.routine]
-            else:
-                above[context.routine] = before
-            continue
-        yield Place(context, depth, above)
-        below.append((context, depth, above.get(context.routine), True))
-        above[context.routine] = depth
-        below.extend((callee, depth + 1, None, False) for callee in reversed(context.callees))
+    def add(self, way: Way, below: Routine, cost: Cost) -> None:
+        """Counts the context at the end of the way, which is below a routine."""
+        context, depths = way.path[-1], way.depths[below]
+        others = way.depths[context.routine][:-1]
+        is_outermost = not others or others[-1] < depths[0]
+        self.total += cost.total if is_outermost else 0
+        self.by[way.path[depths[-1] + 1].routine] += cost.total if is_outermost else 0
+        self.contexts.append(context)
+
+    def close(self, whole: int) -> None:
+        """Sums up what was counted, where the routine's cost is the whole."""
+        self.part = min(self.total / whole, 1.0)
+        self.points = points_of(self.contexts)
 
 
 def causes_of(
-    roots: Sequence[Context], costs: dict[Context, Cost], totals: dict[Routine, int], wanted: Collection[Routine]
+    roots: Sequence[Context], costs: Mapping[Context, Cost], totals: Mapping[Routine, int], growth_of: GrowthOf
 ) -> dict[Routine, Cause]:
-    """The cause of each wanted routine that has one. `totals` are the routines' costs, calls nested in one another once."""
-    owns: dict[Routine, dict[Routine, int]] = {routine: {} for routine in wanted}
-    calls: dict[Routine, dict[Routine, int]] = {routine: {} for routine in wanted}
-    bearers: dict[Context, tuple[Routine, int] | None] = {}
-    grows: dict[Routine, bool] = {}
-    for place in places_of(roots):
-        context, own = place.context, costs[place.context].own
-        bearer = bearers.get(context.caller) if context.caller else None
-        if is_growing(context.routine, grows):
-            bearer = context.routine, place.depth
-        bearers[context] = bearer
-        for routine, depth in place.above.items():
-            if routine not in owns or routine is context.routine:
-                continue
-            is_below = bearer is not None and bearer[1] > depth
-            cause = bearer[0] if bearer and is_below else context.routine
-            owns[routine][cause] = owns[routine].get(cause, 0) + own
-            calls[routine][context.routine] = calls[routine].get(context.routine, 0) + context.calls
-    found: dict[Routine, Cause] = {}
-    for routine, parts in owns.items():
-        if parts and totals.get(routine):
-            cause = max(parts, key=lambda one: parts[one])
-            if parts[cause] >= LEAST * totals[routine]:
-                found[routine] = Cause(cause, parts[cause] / totals[routine], calls[routine].get(cause, 0))
-    return found
+    """The cause of each routine of `totals` that has one; these are the routines' costs, calls nested in one another once."""
+    causes = {routine: Cause(found) for routine, found in dearest_below(roots, costs, totals, growth_of)}
+    callers: dict[Routine, list[Routine]] = {}
+    for routine, cause in causes.items():
+        callers.setdefault(cause.routine, []).append(routine)
+    for way in ways_of(roots):
+        context = way.path[-1]
+        for routine in callers.get(context.routine, ()):
+            if routine in way.depths:
+                causes[routine].add(way, routine, costs[context])
+    for routine, cause in causes.items():
+        cause.close(totals[routine])
+    return causes
 
 
-def is_growing(routine: Routine, known: dict[Routine, bool]) -> bool:
+def dearest_below(
+    roots: Sequence[Context], costs: Mapping[Context, Cost], totals: Mapping[Routine, int], growth_of: GrowthOf
+) -> Iterator[tuple[Routine, Routine]]:
+    """Routines, each with the one below it that bears the most cost, where that explains anything."""
+    borne: dict[Routine, Counter[Routine]] = {routine: Counter() for routine in totals}
+    bearers: list[int | None] = []
+    for way in ways_of(roots):
+        context, depth = way.path[-1], len(way.path) - 1
+        del bearers[depth:]
+        bearers.append(depth if is_growing(context.routine, growth_of) else bearers[-1] if bearers else None)
+        bearer = bearers[-1]
+        for routine, depths in way.depths.items():
+            if routine in borne and routine is not context.routine:
+                place = bearer if bearer is not None and bearer > depths[-1] else depth
+                borne[routine][way.path[place].routine] += costs[context].own
+    for routine, parts in borne.items():
+        [(dearest, cost)] = parts.most_common(1) or [(routine, 0)]
+        if cost and cost >= LEAST * totals[routine]:
+            yield routine, dearest
+
+
+def is_growing(routine: Routine, growth_of: GrowthOf) -> bool:
     """Whether there are sizes enough to tell of its growth."""
-    if routine not in known:
-        growth = growth_of(routine.points)
-        known[routine] = growth is not None and growth.weak is None
-    return known[routine]
+    growth = growth_of(routine)
+    return growth is not None and growth.weak is None

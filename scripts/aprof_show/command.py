@@ -6,8 +6,8 @@ import io
 import sys
 from collections.abc import Iterable, Sequence
 
-from aprof_show import called
-from aprof_show.against import above, above_text, against_text
+from aprof_show import called, page
+from aprof_show.against import above, above_text, against_text, not_judged
 from aprof_show.cache import cache_text
 from aprof_show.data import csv_text, json_text
 from aprof_show.detail import detail, notes
@@ -29,6 +29,7 @@ from aprof_show.terminal import width
 from aprof_show.tree import callers_text, tree_text
 from aprof_show.words import Refused, all_named, called_by, check, check_page, kind_of, sort_words
 
+
 def main(arguments: Sequence[str] | None = None) -> int:
     """The exit status."""
     if sys.stdout is None:
@@ -40,7 +41,7 @@ def main(arguments: Sequence[str] | None = None) -> int:
         status = run(parser().parse_intermixed_args(arguments))
         sys.stdout.flush()
         return status
-    except (Refused, BadReport, BadImage, CannotJoin) as error:
+    except (Refused, BadReport, BadImage, CannotJoin, page.MissingPackage) as error:
         print(f"show: {error}", file=sys.stderr)
     except KeyboardInterrupt:
         return 130
@@ -105,7 +106,7 @@ def show(
 ) -> int:
     if options.page is not None:
         check_page(options.page, [report.path for report in profile.reports], options.image)
-        write_page(options.page, profile, lines)
+        page.write_page(options.page, profile, rows, lines)
     elif options.json:
         print(json_text(profile, rows, wanted))
     elif options.csv:
@@ -154,17 +155,6 @@ def show_contexts(
             print_lines(callers_text(profile, roots, routine, least, width()))
 
 
-def write_page(path: str, profile: Profile, lines: dict[int, str]) -> None:
-    try:
-        from aprof_show import page
-    except ImportError as error:
-        raise Refused("the page is not there yet") from error
-    try:
-        page.write_page(path, profile, lines or None)
-    except page.MissingPackage as error:
-        raise Refused(str(error)) from error
-
-
 def compare(options: argparse.Namespace, new: Profile, new_rows: Sequence[Row], names: Sequence[str]) -> int:
     old = joined(read_all([options.against]))
     demangle(old.routines)
@@ -178,6 +168,7 @@ def compare(options: argparse.Namespace, new: Profile, new_rows: Sequence[Row], 
 
 
 def judge(rows: Sequence[Row], options: argparse.Namespace, wanted: set[Routine]) -> int:
-    found = above(rows, options.fail_above, wanted, choice_of(options))
-    print_lines(above_text(found, options.fail_above))
+    limit, choice = options.fail_above, choice_of(options)
+    found = above(rows, limit, wanted, choice)
+    print_lines([*above_text(found, limit), *not_judged(rows, limit, wanted, choice)])
     return 1 if found else 0

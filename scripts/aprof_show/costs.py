@@ -1,9 +1,8 @@
 """Costs by calling context: what a context costs with what it calls, its own part, and what was open at the end."""
 from __future__ import annotations
 
-from collections import Counter
 from collections.abc import Iterator, Sequence
-from dataclasses import dataclass
+from dataclasses import dataclass, field
 
 from aprof_show.model import Context, Routine
 
@@ -19,11 +18,13 @@ class Cost:
 
 @dataclass
 class RoutineCost:
-    """Sums over a routine's contexts: `total` over those that have no other call of the routine above them."""
+    """Sums over a routine's contexts: `total` over those that have no other call of the routine above them; `nested` says that
+    there are others."""
 
     total: int = 0
     own: int = 0
     open: bool = False
+    nested: bool = False
 
 
 def contexts_of(roots: Sequence[Context]) -> Iterator[Context]:
@@ -46,19 +47,43 @@ def costs_of(roots: Sequence[Context]) -> dict[Context, Cost]:
     return costs
 
 
-def outermost(roots: Sequence[Context]) -> Iterator[tuple[Context, bool]]:
-    """All contexts, each with whether no other call of its routine is above it."""
-    above: Counter[Routine] = Counter()
+@dataclass
+class Way:
+    """The contexts from a first one down to one of those under it, and how deep in it each routine's calls are, rising."""
+
+    path: list[Context] = field(default_factory=list)
+    depths: dict[Routine, list[int]] = field(default_factory=dict)
+
+    def enter(self, context: Context) -> None:
+        self.depths.setdefault(context.routine, []).append(len(self.path))
+        self.path.append(context)
+
+    def leave(self) -> None:
+        routine = self.path.pop().routine
+        self.depths[routine].pop()
+        if not self.depths[routine]:
+            del self.depths[routine]
+
+
+def ways_of(roots: Sequence[Context]) -> Iterator[Way]:
+    """The way to each context. It is one value, which is right until the next is asked for."""
+    way = Way()
     below: list[tuple[Context, bool]] = [(root, False) for root in reversed(roots)]
     while below:
         context, done = below.pop()
         if done:
-            above[context.routine] -= 1
+            way.leave()
             continue
-        yield context, above[context.routine] == 0
-        above[context.routine] += 1
+        way.enter(context)
+        yield way
         below.append((context, True))
         below.extend((callee, False) for callee in reversed(context.callees))
+
+
+def outermost(roots: Sequence[Context]) -> Iterator[tuple[Context, bool]]:
+    """All contexts, each with whether no other call of its routine is above it."""
+    for way in ways_of(roots):
+        yield way.path[-1], len(way.depths[way.path[-1].routine]) == 1
 
 
 def costs_by_routine(roots: Sequence[Context], costs: dict[Context, Cost]) -> dict[Routine, RoutineCost]:
@@ -68,6 +93,7 @@ def costs_by_routine(roots: Sequence[Context], costs: dict[Context, Cost]) -> di
         routine.total += costs[context].total if is_outermost else 0
         routine.own += costs[context].own
         routine.open = routine.open or costs[context].open
+        routine.nested = routine.nested or not is_outermost
     return sums
 
 

@@ -1,14 +1,17 @@
 """A profile as JSON and as CSV. Keys and columns keep their names and meanings; new ones may be added.
 
-JSON: `format` is "aprof-show 1"; `reports` are the files with their `path`, `end`, `steps` and `open`; `routines` have `entry`
-(eight hexadecimal digits), `name` (null where there is none), `label` (as `show` prints it), `library`, `calls`, `cost` (all
-calls, with what they call), `share` and `self_share` (of all steps; null without contexts), `growth` and `points`. `growth` is
-null where there is but one size other than 0, and else has `factor` (times the cost where the size doubles), `exponent`, the
-exponents `whole`, `top`, `net` and `fit`, `rising`, the last one where they rise to it or null, `bent`, that of the greatest cost
-where the mean cost was judged or null, and `weak`, the reason why it is uncertain or null. A point has `size`, `calls`,
-`least`, `most`, `cost`, and `own`, `thread`, `kernel` and `bare`, null in a report of version 1. `contexts`, null without them
-and where routines were named, stand behind their callers: `routine` and `caller` are places in `routines` and `contexts`,
-`caller` null for the outermost ones; `total` and `self` are instructions, and the least that is sure where `open` is true.
+JSON: `format` is "aprof-show 1"; `reports` are the files with their `path`, `end`, `steps` (instructions) and `open`;
+`routines` have `entry` (eight hexadecimal digits), `name` (null where there is none), `label` (as `show` prints it),
+`library`, `calls`, `cost` (all calls, with what they call), `share` and `self_share` (of all instructions; null without
+contexts), `growth` and `points`. `growth` is null where there is but one size other than 0, and else has `factor` (times the
+cost where the size doubles), `exponent`, the exponents `whole`, `top`, `net` and `fit`, `rising`, the last one where they rise
+to it or null, `bent`, that of the greatest cost where the mean cost was judged or null, and `weak`, the reason why it is
+uncertain or null. `cause`, null where none is known, is the routine below with most of the cost: its `entry` and `label`, its
+`share` of this routine's cost, with what it calls, its `calls` from there, whether some are `direct`, and `why` they make the
+routine superlinear, or null. A point has `size`, `calls`, `least`, `most`, `cost`, and `own`, `thread`, `kernel` and `bare`,
+null in a report of version 1. `contexts`, null without them and where routines were named, stand behind their callers:
+`routine` and `caller` are places in `routines` and `contexts`, `caller` null for the outermost ones; `total` and `self` are
+instructions, and the least that is sure where `open` is true.
 """
 from __future__ import annotations
 
@@ -17,9 +20,11 @@ import io
 import json
 from collections.abc import Collection, Sequence
 
+from aprof_show.causes import Cause
 from aprof_show.costs import contexts_of, costs_of
 from aprof_show.growth import Growth
 from aprof_show.model import Context, Point, Profile, Routine
+from aprof_show.reasons import Reason
 from aprof_show.rows import Row
 
 POINT_KEYS = ("size", "calls", "least", "most", "cost", "own", "thread", "kernel", "bare")
@@ -50,7 +55,19 @@ def routine_values(row: Row) -> dict[str, object]:
         "share": row.share,
         "self_share": row.own,
         "growth": growth_values(row.growth) if row.growth else None,
+        "cause": cause_values(row.cause, row.reason) if row.cause else None,
         "points": [dict(zip(POINT_KEYS, point_values(point))) for point in routine.points],
+    }
+
+
+def cause_values(cause: Cause, reason: Reason | None) -> dict[str, object]:
+    return {
+        "entry": f"{cause.routine.entry:08x}",
+        "label": cause.routine.label,
+        "share": cause.part,
+        "calls": cause.calls,
+        "direct": cause.is_direct,
+        "why": reason.text if reason else None,
     }
 
 

@@ -6,12 +6,18 @@ from collections.abc import Iterable, Sequence
 from itertools import groupby
 
 from aprof_show.bends import slope_between
+from aprof_show.causes import Cause
 from aprof_show.growth import Growth, factor_of
 from aprof_show.heading import wrapped
+from aprof_show.marks import growth_text
 from aprof_show.model import Point, sum_of_parts
 from aprof_show.rows import Row
-from aprof_show.table import cause_text, growth_text, projected, share_text, short_ratio
+from aprof_show.table import projected, share_text, short_ratio, sizes_text, way_text
 from aprof_show.terminal import Column, about, factor_text, percent, plural, short, table
+
+
+WRITTEN_BY = ("PLAIN", "THREAD", "KERNEL")
+"""Headings: who wrote the input, as the report has it."""
 
 
 def detail(row: Row, room: int, place: str | None = None) -> list[str]:
@@ -21,14 +27,24 @@ def detail(row: Row, room: int, place: str | None = None) -> list[str]:
     if routine.brief:
         lines.append(f"in full {routine.shown}")
     calls = f"{plural(routine.calls, 'call')}, {plural(len(routine.points), 'size')}"
-    own = f", self {percent(row.own)}" if row.own is not None else ""
-    lines.append(f"{calls}, {share_text(row)} of the steps{own}")
-    if row.cause:
-        lines.append(f"of its cost {cause_text(row.cause)} from here")
+    own = f", {percent(row.own)} its own" if row.own is not None else ""
+    lines.append(f"{calls}, {share_text(row)} of all instructions with its callees{own}")
+    lines += wrapped(cause_sentence(row, row.cause), room) if row.cause else []
     if not routine.points:
         return [*lines, "no call of it had returned at the end"]
-    lines += growth_lines(row, row.growth) if row.growth else ["one size other than 0: nothing to tell of growth"]
+    told = growth_lines(row, row.growth) if row.growth else ["one size other than 0: nothing to tell of growth"]
+    lines += [part for line in told for part in wrapped(line, room)]
     return lines + table(columns_of(routine.points), room)
+
+
+def cause_sentence(row: Row, cause: Cause) -> str:
+    """Where most of its cost comes from, and why that grows faster than its input."""
+    so_far = "" if row.routine.points else " so far"
+    where = f"{percent(cause.part)} of its cost{so_far} is in {cause.routine.label} with its callees"
+    way = way_text(cause)
+    called = f"called {plural(cause.calls, 'time')}{',' if way and not cause.is_direct else ''}"
+    how = f" indirectly{way}" if way and not cause.is_direct else way
+    return f"{where}, {called}{how}" + (f"; {row.reason.text}" if row.reason else "")
 
 
 def growth_lines(row: Row, growth: Growth) -> list[str]:
@@ -38,16 +54,19 @@ def growth_lines(row: Row, growth: Growth) -> list[str]:
     weak = f", uncertain: {growth.weak}" if growth.weak else ""
     most = row.routine.points[-1].size
     twice, tenfold = about(projected(row, 2), projected(row, 10))
-    rising = f", rising: {factor_text(factor_of(growth.rising))} at the largest sizes" if growth.rising is not None else ""
+    factor = growth_text(growth).rstrip(" ^")
+    verdict = f"growth {factor}, {growth.guess}{weak}"
+    if growth.rising is not None:
+        verdict = f"growth {factor}, rising to {factor_text(factor_of(growth.rising))}: {growth.guess}, watch it"
     bent = [
         f"by the mean, as costs at one size differ (up to x{short_ratio(row.spread)}): "
         f"the greatest cost grows {factor_text(factor_of(growth.bent))}"
     ] if growth.bent is not None else []
     return [
-        f"growth {growth_text(growth).strip()}, {growth.guess}{rising}{weak}",
+        verdict,
         *bent,
         f"all sizes {whole}, the largest sizes {top}, net of the least (size {least_size(row)}) {net}",
-        f"a call of size {short(2 * most)} would cost about {twice}, one of {short(10 * most)} about {tenfold}",
+        f"estimated by the fit: {twice} for a call of size {short(2 * most)}, {tenfold} for one of {short(10 * most)}",
     ]
 
 
@@ -64,11 +83,11 @@ def columns_of(points: Sequence[Point]) -> list[Column]:
         Column("LEAST", [short(min(point.least for point in group)) for group in groups]),
         Column("GREATEST", [short(point.most) for point in greatest]),
         Column("A WORD", [f"{point.most / point.size:.1f}" if point.size else "" for point in greatest]),
-        Column("GROWTH", ["", *(step_text(*pair) for pair in zip(greatest, greatest[1:]))]),
+        Column("GROWTH", ["", *(slope_text(*pair) for pair in zip(greatest, greatest[1:]))]),
     ]
     if sum_of_parts(points):
         parts = [parts_of(group) for group in groups] + [parts_of(points)] * (len(groups) > 1)
-        columns += [Column(heading, [row[place] for row in parts]) for place, heading in enumerate(("OWN", "THREAD", "KERNEL"))]
+        columns += [Column(heading, [row[place] for row in parts]) for place, heading in enumerate(WRITTEN_BY)]
         if len(groups) > 1:
             add_totals(columns, points)
     return columns
@@ -86,18 +105,12 @@ def notes(rows: Iterable[Row], room: int) -> list[str]:
     routines = [row.routine for row in rows if row.routine.points]
     if not routines:
         return []
-    writers = "; OWN, THREAD, KERNEL: who wrote those words since the thread last had them"
+    writers = ". PLAIN: no one else wrote those words since the thread last had them; THREAD: another; KERNEL: the kernel"
     known = any(routine.parts for routine in routines)
     return wrapped("A WORD is the greatest cost by word of the size" + writers * known, room)
 
 
-def sizes_text(group: Sequence[Point]) -> str:
-    """The sizes of a doubling that there are."""
-    least, most = group[0].size, group[-1].size
-    return str(least) if least == most else f"{short(least)}-{short(most)}"
-
-
-def step_text(before: Point, after: Point) -> str:
+def slope_text(before: Point, after: Point) -> str:
     """The growth from one line to the next, where the sizes are far enough apart to tell."""
     if not before.size or not before.most or 2 * after.size < 3 * before.size:
         return ""
@@ -111,5 +124,3 @@ def parts_of(group: Sequence[Point]) -> tuple[str, str, str]:
     whole = sum(sums)
     own, thread, kernel = (f"{math.floor(100 * part / whole + 0.5)}%" if whole else "" for part in sums)
     return own, thread, kernel
-
-

@@ -15,13 +15,14 @@ linearly, the mean tells more, and the estimates are of that.
 from __future__ import annotations
 
 import math
-from collections.abc import Sequence
+from collections.abc import Callable, Sequence
 from dataclasses import dataclass, replace
+from functools import cache
 from statistics import median
 
 from aprof_show.bends import Spot, rising_slope, slope_between, spread_of
 from aprof_show.fits import fitted_slope, greatest_by_window
-from aprof_show.model import Point
+from aprof_show.model import Point, Routine
 
 SUPERLINEAR = 2.3
 """From this factor on a growth counts as superlinear: n log n is below it from some thousand words on."""
@@ -62,22 +63,21 @@ class Growth:
 
     @property
     def guess(self) -> str:
-        for bound, text in GUESSES:
-            if self.exponent < bound:
-                return text
-        return "steeper than n^3"
+        """In words; of what rises by what it comes to at the largest sizes."""
+        return next((text for bound, text in GUESSES if self.ahead < bound), "steeper than n^3")
 
 
 GUESSES = (
     (0.2, "about constant"),
     (LINEAR, "less than linear"),
     (1.1, "about linear"),
-    (1.3, "about n log n"),
+    (math.log2(SUPERLINEAR), "about n log n"),
     (1.75, "between n log n and n^2"),
     (2.25, "about n^2"),
     (2.75, "between n^2 and n^3"),
     (3.3, "about n^3"),
 )
+"""Words for exponents up to these. What counts as superlinear is never told as n log n."""
 
 
 def factor_of(exponent: float) -> float:
@@ -99,6 +99,14 @@ def growth_of(points: Sequence[Point]) -> Growth | None:
     if mean is None or mean.exponent < growth.exponent + CLEARLY:
         return growth
     return replace(mean, bent=growth.exponent)
+
+
+GrowthOf = Callable[[Routine], Growth | None]
+
+
+def growths() -> GrowthOf:
+    """The growth of a routine, each found once."""
+    return cache(lambda routine: growth_of(routine.points))
 
 
 def growth_by(spots: list[Spot], smooth: bool) -> Growth | None:

@@ -1,23 +1,13 @@
-"""The lines about a run above its routines: its steps, how it ended, and what was open at the end."""
+"""The lines about a run above its routines: its instructions, how it ended, and what was open at the end."""
 from __future__ import annotations
 
 from collections import Counter
 from textwrap import wrap
 
 from aprof_show.costs import chain_of, chain_text, costs_of, open_ends
+from aprof_show.ends import FAULTS
 from aprof_show.model import Profile, Report
 from aprof_show.terminal import plural
-
-FAULTS = (
-    "no instruction of RV32IMA",
-    "no code there",
-    "no readable byte",
-    "no writable byte",
-    "a jump to an address that is not aligned",
-    "an atomic operation that is not aligned",
-    "EBREAK",
-)
-
 
 def head(profile: Profile) -> list[str]:
     ends = Counter(report.end for report in profile.reports)
@@ -25,7 +15,7 @@ def head(profile: Profile) -> list[str]:
     faults = [fault_line(report) for report in profile.reports if report.end.startswith("fault")]
     reports = f"{len(profile.reports)} reports, " if len(profile.reports) > 1 else ""
     still_open = f"{profile.still_open} still open"
-    return [f"{reports}{profile.steps} steps, {', '.join(texts)}, {still_open}", *faults]
+    return [f"{reports}{profile.steps} instructions, {', '.join(texts)}, {still_open}", *faults]
 
 
 def fault_line(report: Report) -> str:

@@ -46,6 +46,11 @@ def add_points(some: Iterable[Point], others: Iterable[Point]) -> list[Point]:
     return [by_size[size] for size in sorted(by_size)]
 
 
+def points_of(contexts: Iterable[Context]) -> list[Point]:
+    """The points of the calls of all these contexts."""
+    return add_points([], (point for context in contexts for point in context.points))
+
+
 def add_up(one: Point, other: Point) -> Point:
     """The point of the calls of both, which have one size."""
     return Point(

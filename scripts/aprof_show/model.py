@@ -45,12 +45,32 @@ def sum_of_parts(points: Sequence[Point]) -> Parts | None:
     )
 
 
-@dataclass(eq=False)
-class Routine:
-    """A routine with its points, sizes rising. A routine whose calls had all not returned has no point.
+class Measured:
+    """What has points, sizes rising: one whose calls had all not returned has none."""
 
-    `shown` is the name as people write it (demangled, or from `--image`), and `brief` a shorter one where that is enough. `apart` tells apart what has the same label: the
-    address of a static function, or the report of a routine without a name.
+    points: list[Point]
+
+    @property
+    def calls(self) -> int:
+        return sum(point.calls for point in self.points)
+
+    @property
+    def cost(self) -> int:
+        """Summed over all calls that returned, with what they call; those nested in a call of the same routine too."""
+        return sum(point.cost for point in self.points)
+
+    @property
+    def parts(self) -> Parts | None:
+        """Summed over all calls; None where the report doesn't tell, or there is no call."""
+        return sum_of_parts(self.points)
+
+
+@dataclass(eq=False)
+class Routine(Measured):
+    """A routine of a report, or of several that are joined.
+
+    `shown` is the name as people write it (demangled, or from `--image`), and `brief` a shorter one where that is enough.
+    `apart` tells apart what has the same label: the address of a static function, or the report of a routine without a name.
     """
 
     entry: int
@@ -74,38 +94,15 @@ class Routine:
         found = re.fullmatch(r"(0x)?([0-9a-f]{1,8})", word.lower())
         return found is not None and int(found[2], 16) == self.entry
 
-    @property
-    def calls(self) -> int:
-        return sum(point.calls for point in self.points)
-
-    @property
-    def cost(self) -> int:
-        """Summed over all calls, those nested in a call of the same routine too."""
-        return sum(point.cost for point in self.points)
-
-    @property
-    def parts(self) -> Parts | None:
-        """Summed over all calls; None where the report doesn't tell, or there is no call."""
-        return sum_of_parts(self.points)
-
 
 @dataclass(eq=False)
-class Context:
+class Context(Measured):
     """A chain of routines that call one another: the innermost one, its caller's context, and the points of its calls."""
 
     routine: Routine
     caller: Context | None = field(repr=False)
     points: list[Point] = field(default_factory=list)
     callees: list[Context] = field(default_factory=list)
-
-    @property
-    def calls(self) -> int:
-        return sum(point.calls for point in self.points)
-
-    @property
-    def cost(self) -> int:
-        """Of the calls that returned, with what they call."""
-        return sum(point.cost for point in self.points)
 
 
 @dataclass

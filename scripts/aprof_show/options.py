@@ -6,6 +6,7 @@ from difflib import get_close_matches
 from typing import Any, NoReturn
 
 from aprof_show import called
+from aprof_show.marks import MEANINGS
 from aprof_show.rows import ORDERS
 from aprof_show.table import Choice
 from aprof_show.words import Refused
@@ -22,22 +23,33 @@ one longer run.
 """
 
 NOTES = """GROWTH is how many times the greatest cost of a call grows where its size doubles:
-near 2 is linear, near 4 quadratic; `-` where there is but one size other than 0,
-`~` behind it where it rests on less than 4 sizes or on sizes within a factor of 4, and
-`!` before it where it is superlinear, or rises to that at the largest sizes. Where a
-few dear calls bend the greatest cost, it is of the mean: the routine's own lines tell.
-`(62% in look_up, 2496 calls)` says where most of a routine's cost comes from: the
-routine below it with the greatest own cost, with the short calls that it makes.
-SHARE is the part of all steps that is spent in the routine and in what it calls,
-`<=100%` where it calls itself and only `aprof contexts` can tell. SELF is its own
-part. `+` is at least: a call had not returned. SPREAD is the greatest ratio of costs
-at one size.
-POINTS is the number of sizes: a report has a point, with its costs, for each.
-A WORD is the greatest cost divided by the size, which is in words of 4 bytes.
-OWN is the part of the input that its thread or no one wrote: PLAIN in the report.
+near 2 is linear, near 4 quadratic; `-` where there is but one size other than 0.
+Where a few dear calls bend the greatest cost, it is of the mean: the routine's own
+lines tell. Beside it stand
+"""
+
+REST = """WITH CALLEES is the part of all instructions that is spent in the routine and in what
+it calls; ITS OWN, the part in the routine alone. `<=100%` stands where it calls itself
+and only `aprof contexts` can tell; `+` is at least: a call had not returned.
+`(62% in look_up, 2496 calls, each about linear)` says where most of a routine's cost
+comes from: the routine below it with the greatest own cost, with the short calls that
+it makes. The part is of the routine's cost, with look_up's callees; `through X` where
+the routine calls X and that leads there. What each call is like is told where the
+points show that it makes the routine superlinear.
+ESTIMATE is the greatest cost at two and ten times the largest size, by the growth.
+SPREAD is the greatest ratio of costs at one size. POINTS is the number of sizes: a
+report has a point, with its costs, for each. A WORD is the greatest cost divided by
+the size, which is in words of 4 bytes. PLAIN, THREAD and KERNEL are the parts of the
+input that the thread itself or no one, another thread, or the kernel wrote.
 Status 0; 1 where --fail-above finds something (uncertain growths and
 routines of the C library count where they are named); 2 for a bad command line,
 report or image."""
+
+
+def notes() -> str:
+    """What stands below the options."""
+    signs = [f"  {sign} {meaning}" for sign, meaning in MEANINGS.items()]
+    return "\n".join([NOTES.rstrip(), *signs, REST])
 
 
 class Parser(argparse.ArgumentParser):
@@ -56,29 +68,43 @@ class Parser(argparse.ArgumentParser):
 
 
 def parser() -> argparse.ArgumentParser:
-    form, name = argparse.RawDescriptionHelpFormatter, called.name()
+    name = called.name()
     result = Parser(
         prog="show",
         usage=f"{name} [options] REPORT... [ROUTINE]",
         description=HELP.replace("  show ", f"  {name} "),
-        epilog=NOTES,
-        formatter_class=form,
+        epilog=notes(),
+        formatter_class=argparse.RawDescriptionHelpFormatter,
         allow_abbrev=False,
     )
     add = result.add_argument
     add("words", metavar="REPORT | ROUTINE", nargs="*", help="a file, a folder of such files, or a routine's name or address")
-    add("--routine", metavar="NAME", action="append", default=[], help="this routine alone; may be repeated")
-    add("--all", action="store_true", help="all routines")
-    add("--min", metavar="PERCENT", type=share, help="only routines with at least PERCENT of the steps (1 without it, and every superlinear one)")
-    add("--top", metavar="N", type=number, help="at most N routines")
-    add("--by", choices=ORDERS, help="sorts by one of these; thread, kernel: the part of the input that these wrote")
-    add("--library", action="store_true", help="routines of the C library too, each in its own line")
+    add_choices(result)
     add("--image", metavar="IMAGE", help="the executable: for names, files and lines")
     add("--against", metavar="OLD", help="compare with this earlier report, or a folder of them")
     add("--fail-above", metavar="FACTOR", type=factor, help="status 1 if a routine's growth exceeds FACTOR and is not marked ~")
     add("--plot", action="store_true", help="a chart of the routine")
     add("--version", action="store_true", help="the version of aprof")
-    what = result.add_mutually_exclusive_group()
+    add_kinds(result)
+    return result
+
+
+def add_choices(result: argparse.ArgumentParser) -> None:
+    """The options that choose among routines."""
+    add = result.add_argument
+    least = "only routines with at least PERCENT of all instructions with their callees (1 without it, and every superlinear one)"
+    order = "sorts by one of these; share: with its callees, self: its own; thread, kernel: the part of the input that these wrote"
+    add("--routine", metavar="NAME", action="append", default=[], help="this routine alone; may be repeated")
+    add("--all", action="store_true", help="all routines")
+    add("--min", metavar="PERCENT", type=share, help=least)
+    add("--top", metavar="N", type=number, help="at most N routines")
+    add("--by", choices=ORDERS, help=order)
+    add("--library", action="store_true", help="routines of the C library too, each in its own line")
+
+
+def add_kinds(result: argparse.ArgumentParser) -> None:
+    """The options that ask for another kind of output, of which there is one at most."""
+    kinds = result.add_mutually_exclusive_group()
     for option, text in (
         ("--tree", "the calling tree"),
         ("--open", "the calls that had not returned at the end"),
@@ -87,10 +113,9 @@ def parser() -> argparse.ArgumentParser:
         ("--json", "all that is known, as JSON"),
         ("--csv", "all points, as CSV"),
     ):
-        what.add_argument(option, action="store_true", help=text)
-    what.add_argument("--callers", metavar="ROUTINE", help="who calls it, and what that costs")
-    what.add_argument("--page", metavar="FILE", help="writes a page for a browser")
-    return result
+        kinds.add_argument(option, action="store_true", help=text)
+    kinds.add_argument("--callers", metavar="ROUTINE", help="who calls it, and what that costs")
+    kinds.add_argument("--page", metavar="FILE", help="writes a page for a browser")
 
 
 def share(text: str) -> float:

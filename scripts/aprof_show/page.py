@@ -7,21 +7,23 @@ from __future__ import annotations
 import json
 import re
 from collections import Counter
-from collections.abc import Sequence
+from collections.abc import Mapping, Sequence
 from pathlib import Path
 from typing import Any
 
 from aprof_show.costs import chain_text, contexts_of, costs_of, open_ends
+from aprof_show.ends import ended
 from aprof_show.growth import Growth, factor_of, growth_of
-from aprof_show.joining import add_points
+from aprof_show.joining import points_of
 from aprof_show.model import Context, Point, Profile, Report, Routine
 from aprof_show.output import write_text
-from aprof_show.rows import Row, ordered, rows_of
+from aprof_show.rows import Row, ordered
+from aprof_show.table import greatest_cost, is_named, projected
 
 LIBRARY = Path("/usr/share/javascript/chart.js/chart.min.js")
 SOURCES = Path(__file__).parent / "page"
-SCRIPTS = ("format.js", "data.js", "points.js", "axes.js", "charts.js", "pointer.js", "detail.js", "table.js",
-           "contexts.js", "callees.js", "tree.js", "main.js")
+SCRIPTS = ("format.js", "data.js", "points.js", "axes.js", "charts.js", "pointer.js", "detail.js", "badges.js",
+           "table.js", "contexts.js", "callees.js", "tree.js", "main.js")
 CHEAP = 0.01
 
 Json = dict[str, Any]
@@ -33,13 +35,13 @@ class MissingPackage(Exception):
     """A Debian package that the page is made of is not installed."""
 
 
-def write_page(path: str, profile: Profile, lines: dict[int, str] | None = None) -> None:
+def write_page(path: str, profile: Profile, rows: Sequence[Row], lines: Mapping[int, str]) -> None:
     """Writes the page; `lines` has the source line of a routine's entry where it is known."""
     parts = {
         "style": source_of("page.css"),
         "library": library(),
         # a name may have the end of a script in it
-        "profile": json.dumps(json_of(profile, lines or {}), separators=(",", ":")).replace("<", "\\u003c"),
+        "profile": json.dumps(json_of(profile, ordered(rows, None), lines), separators=(",", ":")).replace("<", "\\u003c"),
         "script": "".join(source_of(name) for name in SCRIPTS),
     }
     # in one pass, as what is set in may have such a mark itself
@@ -58,26 +60,21 @@ def library() -> str:
         raise MissingPackage(f"{LIBRARY} is missing, which is in the Debian package libjs-chart.js") from error
 
 
-def json_of(profile: Profile, lines: dict[int, str]) -> Json:
-    rows = ordered(rows_of(profile), None)
-    places = places_of(rows)
+def json_of(profile: Profile, rows: Sequence[Row], lines: Mapping[int, str]) -> Json:
+    places = {row.routine: place for place, row in enumerate(rows)}
     return {
         "reports": [report_json(report) for report in profile.reports],
         "steps": profile.steps,
         "open": profile.still_open,
         "routines": [row_json(row, lines.get(row.routine.entry), places) for row in rows],
         "chains": chains_json(profile.roots or []),
-        "contexts": None if profile.roots is None else contexts_json(profile.roots, rows),
+        "contexts": None if profile.roots is None else contexts_json(profile.roots, rows, places),
         "callers": callers_json(profile.roots or [], places),
     }
 
 
-def places_of(rows: Sequence[Row]) -> Places:
-    return {row.routine: place for place, row in enumerate(rows)}
-
-
 def report_json(report: Report) -> Json:
-    return {"path": report.path, "end": report.end, "steps": report.steps, "open": report.still_open}
+    return {"path": report.path, "end": ended(report.end), "steps": report.steps, "open": report.still_open}
 
 
 def row_json(row: Row, line: str | None, places: Places) -> Json:
@@ -90,19 +87,39 @@ def row_json(row: Row, line: str | None, places: Places) -> Json:
         "top": factor_json(growth.top if growth else None),
         "rising": factor_json(growth.rising if growth else None),
         "bent": factor_json(growth.bent if growth else None),
-        "ahead": factor_json(growth.ahead if growth else None),
         "guess": growth.guess if growth else None,
         "weak": growth.weak if growth else None,
         "steep": row.superlinear,
+        "many": row.many,
+        "named": is_named(routine),
+        "greatest": greatest_cost(routine),
+        "twice": float(f"{projected(row, 2):.2g}"),
         "share": row.share,
         # at least so much where calls were open, at most where nested calls were counted each
         "bound": "≥" if row.open else "" if row.exact else "≤",
         "self": row.own,
-        "cause": [places[row.cause.routine], round(row.cause.part, 4), row.cause.calls] if row.cause else None,
+        "cause": cause_json(row, places),
         "cheap": row.share < CHEAP and not row.superlinear and not row.open,
         "library": row.library,
         "calls": routine.calls,
         "points": columns_of(routine.points),
+    }
+
+
+def cause_json(row: Row, places: Places) -> Json | None:
+    """What it calls that has most of its cost, by which way, and why that grows."""
+    cause = row.cause
+    if cause is None:
+        return None
+    return {
+        "routine": places[cause.routine],
+        "part": round(cause.part, 4),
+        "calls": cause.calls,
+        "way": places[cause.dearest_way],
+        "direct": cause.is_direct,
+        "through": places[cause.through] if cause.through else None,
+        "more": cause.more,
+        "why": row.reason.text if row.reason else None,
     }
 
 
@@ -131,12 +148,11 @@ def columns_of(points: Sequence[Point]) -> list[Any]:
     return [[point.size for point in points], *packed]
 
 
-def contexts_json(roots: Sequence[Context], rows: Sequence[Row]) -> Json:
+def contexts_json(roots: Sequence[Context], rows: Sequence[Row], places: Places) -> Json:
     """A column for each fact, each context before those under it, and which of them were open at the end."""
     costs = costs_of(roots)
     contexts = list(contexts_of(roots))
     numbers = {context: number for number, context in enumerate(contexts)}
-    places = places_of(rows)
     times = Counter(context.routine for context in contexts)
 
     def growth(context: Context) -> Growth | None:
@@ -166,7 +182,3 @@ def callers_json(roots: Sequence[Context], places: Places) -> list[list[Any]]:
         if context.caller:
             pairs.setdefault((places[context.routine], places[context.caller.routine]), []).append(context)
     return [[*pair, growth_json(growth_of(points_of(contexts)))] for pair, contexts in pairs.items() if len(contexts) > 1]
-
-
-def points_of(contexts: Sequence[Context]) -> list[Point]:
-    return add_points([], (point for context in contexts for point in context.points))

@@ -76,7 +76,7 @@ def read_file(path: str) -> Report | CacheReport:
 
 
 def read_head(lines: Lines) -> tuple[str, int]:
-    """How the run ended, and its steps."""
+    """How the run ended, and its instructions."""
     end = lines.match(END, "end exit N, or another end")[1]
     if end.startswith("exit ") and (int(end[5:]) > 255 or str(int(end[5:])) != end[5:]):
         raise lines.bad("expected `end exit N`, N up to 255")

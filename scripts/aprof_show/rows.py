@@ -3,14 +3,15 @@ from __future__ import annotations
 
 import math
 from collections.abc import Sequence
-from dataclasses import dataclass
+from dataclasses import dataclass, field, replace
 
 from aprof_show.bends import spread_of
 from aprof_show.causes import Cause, causes_of
 from aprof_show.costs import RoutineCost, costs_by_routine, costs_of
-from aprof_show.growth import SUPERLINEAR, Growth, growth_of
+from aprof_show.growth import SUPERLINEAR, Growth, GrowthOf, growths
 from aprof_show.library import library_routines
 from aprof_show.model import Profile, Routine
+from aprof_show.reasons import Reason, reason_of
 
 WRITERS = ("thread", "kernel")
 ORDERS = ("growth", "share", "self", "name", *WRITERS)
@@ -18,8 +19,10 @@ ORDERS = ("growth", "share", "self", "name", *WRITERS)
 
 @dataclass(frozen=True, eq=False)
 class Row:
-    """Shares are parts of all steps. `exact` is false where calls nested in one another may have been counted each. `cause` is
-    what it calls that has most of its cost, where its own part is small and there are contexts."""
+    """`share` is the part of all instructions with its callees, and `own` its own. `exact` is false where calls nested in one
+    another may have been counted each. `cause` is what it calls that has most of its cost, where its own part is small and there
+    are contexts; `reason` is why that makes it superlinear. `many` says that it is itself the cause, by the number of its calls, of
+    a routine that is superlinear."""
 
     routine: Routine
     growth: Growth | None
@@ -28,13 +31,15 @@ class Row:
     own: float | None
     open: bool
     spread: float
-    library: bool
+    library: bool = False
     cause: Cause | None = None
+    reason: Reason | None = None
+    many: bool = False
 
     @property
     def weight(self) -> float:
-        """What to look at first: about what it will cost beyond n log n at ten times the size, as a part of all steps, and a
-        little of its share today. What is uncertain counts a tenth, and the less the closer its sizes are."""
+        """What to look at first: about what it will cost beyond n log n at ten times the size, as a part of all instructions, and
+        a little of its share today. What is uncertain counts a tenth, and the less the closer its sizes are."""
         if self.growth is None:
             return 0.0
         excess = max(min(self.growth.ahead, 6.0) - math.log2(SUPERLINEAR), 0.0)
@@ -57,35 +62,58 @@ class Row:
         return self.growth is not None and self.growth.superlinear
 
 
-def rows_of(profile: Profile) -> list[Row]:
+@dataclass
+class Explained:
+    """What the contexts tell of the routines: their costs, and where these come from and why. All is empty without contexts."""
+
     costs: dict[Routine, RoutineCost] | None = None
-    causes: dict[Routine, Cause] = {}
-    if profile.roots is not None:
-        by_context = costs_of(profile.roots)
-        costs = costs_by_routine(profile.roots, by_context)
-        callers = {routine for routine, cost in costs.items() if 2 * cost.own < cost.total}
-        causes = causes_of(profile.roots, by_context, {routine: cost.total for routine, cost in costs.items()}, callers)
-    library = library_routines(profile.reports, profile.routines)
+    causes: dict[Routine, Cause] = field(default_factory=dict)
+    reasons: dict[Routine, Reason] = field(default_factory=dict)
+
+    def many(self) -> set[Routine]:
+        """The causes whose number of calls is what grows."""
+        return {self.causes[routine].routine for routine, reason in self.reasons.items() if reason.is_of_number}
+
+
+def explained(profile: Profile, growth_of: GrowthOf) -> Explained:
+    if profile.roots is None:
+        return Explained()
+    by_context = costs_of(profile.roots)
+    costs = costs_by_routine(profile.roots, by_context)
+    callers = {routine: cost.total for routine, cost in costs.items() if 2 * cost.own < cost.total}
+    causes = causes_of(profile.roots, by_context, callers, growth_of)
+    reasons = {routine: reason_of(routine, growth_of(routine), cause, costs[routine].nested) for routine, cause in causes.items()}
+    return Explained(costs, causes, {routine: reason for routine, reason in reasons.items() if reason})
+
+
+def rows_of(profile: Profile) -> list[Row]:
+    growth_of = growths()
+    known = explained(profile, growth_of)
+    library, many = library_routines(profile.reports, profile.routines), known.many()
     return [
-        row_of(routine, profile.steps, costs, routine in library, causes.get(routine)) for routine in profile.routines
+        replace(
+            row_of(routine, growth_of(routine), profile.steps, known.costs),
+            library=routine in library,
+            cause=known.causes.get(routine),
+            reason=known.reasons.get(routine),
+            many=routine in many,
+        )
+        for routine in profile.routines
     ]
 
 
-def row_of(
-    routine: Routine, steps: int, costs: dict[Routine, RoutineCost] | None, library: bool, cause: Cause | None = None
-) -> Row:
+def row_of(routine: Routine, growth: Growth | None, steps: int, costs: dict[Routine, RoutineCost] | None) -> Row:
+    """By the routine's own points, and by the costs of its contexts where these are known."""
     cost = costs.get(routine, RoutineCost()) if costs is not None else None
     total = cost.total if cost else routine.cost
     return Row(
         routine=routine,
-        growth=growth_of(routine.points),
+        growth=growth,
         share=min(total / steps, 1.0) if steps else 0.0,
         exact=total <= steps,
         own=(cost.own / steps if steps else 0.0) if cost else None,
         open=cost is not None and cost.open,
         spread=spread_of(routine.points),
-        library=library,
-        cause=cause,
     )
 
 
@@ -94,7 +122,7 @@ def ordered(rows: Sequence[Row], by: str | None) -> list[Row]:
     if by == "name":
         return sorted(rows, key=lambda row: (row.routine.label.lower(), row.routine.entry))
     if by == "growth":
-        return sorted(rows, key=lambda row: (-(row.growth.exponent if row.growth else -math.inf), -row.share))
+        return sorted(rows, key=lambda row: (-(row.growth.ahead if row.growth else -math.inf), -row.share))
     if by == "self":
         return sorted(rows, key=lambda row: (-(row.own or 0.0), -row.share))
     if by == "share":

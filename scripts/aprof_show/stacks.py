@@ -16,7 +16,7 @@ OPEN = "[open at the end]"
 
 def folded(profile: Profile, roots: Sequence[Context]) -> Iterator[str]:
     """A line `outer;inner COST` for each chain with its own cost; a routine that calls itself is in it once. The sum is the
-    steps of the run."""
+    instructions of the run."""
     costs = costs_of(roots)
     below = [("", node) for node in reversed(tree_of(roots, costs).values())]
     while below:
@@ -38,7 +38,7 @@ def frame(routine: Routine) -> str:
 
 
 def rest_of(profile: Profile, costs: Mapping[Context, Cost]) -> int:
-    """The steps that no context has for its own: those of calls that had not returned."""
+    """The instructions that no context has for its own: those of calls that had not returned."""
     return profile.steps - sum(cost.own for cost in costs.values())
 
 

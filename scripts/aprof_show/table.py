@@ -5,23 +5,26 @@ from collections.abc import Sequence
 from dataclasses import dataclass
 
 from aprof_show.causes import Cause
-from aprof_show.growth import Growth
-from aprof_show.heading import head, open_lines
-from aprof_show.model import Profile, Routine
+from aprof_show.heading import head, open_lines, wrapped
+from aprof_show.marks import legend, marked
+from aprof_show.model import Point, Profile, Routine
+from aprof_show.reasons import Reason
 from aprof_show.rows import WRITERS, Row, ordered, written_part
-from aprof_show.terminal import Column, cut, factor_text, percent, plural, short, table, with_remarks
+from aprof_show.terminal import Column, cut, percent, plural, short, table, with_remarks
 
 WIDE = 112
 """From so many columns on the table has the greatest cost and what it would be at larger sizes."""
 
+WITH_CALLEES, ITS_OWN, GREATEST_COST = "WITH\nCALLEES", "ITS\nOWN", "GREATEST\nCOST"
+"""Headings. A percentage is of all instructions, with what the routine calls, where nothing else is said."""
 
-STEEP = "!"
-STEEP_LINE = f"{STEEP} superlinear: faster than n log n, at least at the largest sizes"
+NAMED = 3
+"""So many of the marked routines that are left out are named."""
 
 
 @dataclass(frozen=True)
 class Choice:
-    """Which rows to list: at least `least` of all steps, or superlinear; at most `top`."""
+    """Which rows to list: at least `least` of all instructions, or superlinear; at most `top`."""
 
     least: float | None = None
     all: bool = False
@@ -46,47 +49,53 @@ def summary(profile: Profile, rows: Sequence[Row], choice: Choice, room: int) ->
     lines = head(profile) + open_lines(profile, room)
     if listed:
         lines += with_causes(table(columns_of(listed, room, choice.by), room), listed, room)
-    if any(row.superlinear for row in listed):
-        lines.append(STEEP_LINE)
-    if any(row.growth and row.growth.weak for row in listed):
-        lines.append("~ few sizes, or sizes within a factor of 4: the growth is uncertain")
-    if folded:
-        lines.append(folded_line(folded))
+    under = folded_lines(folded, room) if folded else []
     if hidden:
-        lines.append(hidden_line([row for row in others if row not in listed], choice))
-    return lines + stripped_lines(profile)
+        under += hidden_lines([row for row in others if row not in listed], choice, room)
+    signs = [marked(row.growth, row.many) for row in listed] + [line for line in under if line.startswith("marked")]
+    return lines + legend(signs) + under + nameless_lines(profile, listed)
 
 
 def with_causes(lines: Sequence[str], rows: Sequence[Row], room: int) -> list[str]:
     """The lines of a table of rows, with the cause of the first one and of those that are superlinear: behind the name, or below."""
     remarks = [
-        f"({cause_text(row.cause)})" if row.cause and (not number or row.superlinear and not row.uncertain) else ""
+        f"({cause_text(row.cause, row.reason)})" if row.cause and (not number or row.superlinear and not row.uncertain) else ""
         for number, row in enumerate(rows)
     ]
-    return with_remarks(lines, remarks, lines[0].index(" ROUTINE") + 3, room)
+    head = len(lines) - len(rows)
+    return with_remarks(lines, remarks, lines[head - 1].index(" ROUTINE") + 3, room)
 
 
-def cause_text(cause: Cause) -> str:
+def cause_text(cause: Cause, reason: Reason | None) -> str:
     """The part is of the calling routine's cost."""
-    return f"{100 * cause.part:.0f}% in {cut(cause.routine.label, 50)}, {plural(cause.calls, 'call')}"
+    each = f", {reason.brief}" if reason else ""
+    return f"{100 * cause.part:.0f}% in {cut(cause.routine.label, 50)}{way_text(cause)}, {plural(cause.calls, 'call')}{each}"
+
+
+def way_text(cause: Cause) -> str:
+    """How the routine comes to call it, where that isn't directly."""
+    if cause.through is None:
+        return ""
+    more = f" and {plural(cause.more, 'other')}" if cause.more else ""
+    return f"{' directly and' if cause.is_direct else ''} through {cut(cause.through.label, 50)}{more}"
 
 
 def columns_of(rows: Sequence[Row], room: int, by: str | None = None) -> list[Column]:
     columns = [
-        Column("GROWTH", [marked(row.growth) for row in rows]),
-        Column("SHARE", [share_text(row) for row in rows]),
+        Column("GROWTH", [marked(row.growth, row.many) for row in rows]),
+        Column(WITH_CALLEES, [share_text(row) for row in rows]),
     ]
     if rows[0].own is not None:
-        columns.append(Column("SELF", [percent(row.own or 0.0) + "+" * row.open for row in rows]))
+        columns.append(Column(ITS_OWN, [percent(row.own or 0.0) + "+" * row.open for row in rows]))
     if by and by in WRITERS:
-        columns.append(Column(by.upper(), [written_text(row.routine, by) for row in rows]))
+        columns.append(Column(f"INPUT BY\n{by.upper()}", [written_text(row.routine, by) for row in rows]))
     if room >= WIDE:
         columns += projected_columns(rows)
     columns += [
         Column("SPREAD", [short_ratio(row.spread) for row in rows]),
         Column("CALLS", [short(row.routine.calls) for row in rows]),
         Column("POINTS", [str(len(row.routine.points)) for row in rows]),
-        Column("SIZES", [sizes_text(row.routine) for row in rows]),
+        Column("SIZES", [sizes_text(row.routine.points) for row in rows]),
     ]
     return columns + [Column(" ROUTINE", [f" {row.routine.label}{mark(row)}" for row in rows], left=True)]
 
@@ -97,11 +106,11 @@ def written_text(routine: Routine, by: str) -> str:
 
 
 def projected_columns(rows: Sequence[Row]) -> list[Column]:
-    """The greatest cost, and what it would be at twice and at ten times the largest size."""
+    """The greatest cost, and an estimate of it at twice and at ten times the largest size."""
     return [
-        Column("COST", [short(greatest_cost(row.routine)) for row in rows]),
-        Column("AT 2x", [short(projected(row, 2)) if row.growth else "-" for row in rows]),
-        Column("AT 10x", [short(projected(row, 10)) if row.growth else "-" for row in rows]),
+        Column(GREATEST_COST, [short(greatest_cost(row.routine)) for row in rows]),
+        Column("ESTIMATE\nAT 2x", [short(projected(row, 2)) if row.growth else "-" for row in rows]),
+        Column("ESTIMATE\nAT 10x", [short(projected(row, 10)) if row.growth else "-" for row in rows]),
     ]
 
 
@@ -114,20 +123,9 @@ def projected(row: Row, times: int) -> float:
     return float(greatest_cost(row.routine) * times ** min(row.growth.ahead, 20.0)) if row.growth else 0.0
 
 
-def growth_text(growth: Growth | None) -> str:
-    if growth is None:
-        return "- "
-    return factor_text(growth.factor) + ("~" if growth.weak else " ")
-
-
-def marked(growth: Growth | None) -> str:
-    """With the sign before it where it is superlinear."""
-    return (STEEP if growth and growth.superlinear else "") + growth_text(growth)
-
-
 def share_text(row: Row) -> str:
     """With a `+` where a call was open at the end, whose cost isn't known; `<=100%` where the calls nested in one another,
-    which a plain report doesn't tell apart, pass all steps."""
+    which a plain report doesn't tell apart, pass all instructions."""
     return percent(row.share) + "+" * row.open if row.exact else "<=100%"
 
 
@@ -135,10 +133,11 @@ def short_ratio(ratio: float) -> str:
     return f"{ratio:.1f}" if ratio < 10_000 else short(ratio)
 
 
-def sizes_text(routine: Routine) -> str:
-    if not routine.points:
+def sizes_text(points: Sequence[Point]) -> str:
+    """The least and the greatest size."""
+    if not points:
         return "-"
-    least, most = routine.points[0].size, routine.points[-1].size
+    least, most = points[0].size, points[-1].size
     return str(least) if least == most else f"{short(least)}-{short(most)}"
 
 
@@ -148,30 +147,51 @@ def mark(row: Row) -> str:
     return "" if row.growth else "  (one size)"
 
 
-def folded_line(rows: Sequence[Row]) -> str:
-    """What was left out of the C library. Self costs add up; shares with what is called don't, so the largest is told."""
-    steep = sum(row.superlinear and not row.uncertain for row in rows)
+def folded_lines(rows: Sequence[Row], room: int) -> list[str]:
+    """What was left out of the C library. Own costs add up; costs with callees don't, so the largest is told."""
     if rows[0].own is not None:
-        share = f"self {percent(sum(row.own or 0.0 for row in rows))}"
+        share = f"their own: {percent(sum(row.own or 0.0 for row in rows))}"
     else:
         inner = [row for row in rows if row.routine.name and "start" not in row.routine.name]
         most = max(inner or rows, key=lambda row: row.share)
-        share = f"largest: {cut(most.routine.label, 24)} {percent(most.share)}"
-    steep_text = f"; {steep} superlinear" if steep else ""
-    return f"and {plural(len(rows), 'C library routine')} ({share}{steep_text}): --library"
+        share = f"largest with callees: {cut(most.routine.label, 24)} {percent(most.share)}"
+    text = f"and {plural(len(rows), 'C library routine')} ({share}): --library"
+    return [*wrapped(text, room), *marked_lines(sure_of(rows), "in the C library", "--library", room)]
 
 
-def hidden_line(rows: Sequence[Row], choice: Choice) -> str:
+def sure_of(rows: Sequence[Row]) -> list[Row]:
+    """Those whose growth is not uncertain, and those that are called too often whatever their growth."""
+    return [row for row in rows if row.many or not row.uncertain]
+
+
+def hidden_lines(rows: Sequence[Row], choice: Choice, room: int) -> list[str]:
     """What is left out, and how it is listed: it is cheap, or behind the first ones."""
-    steep, surely = sum(row.superlinear for row in rows), any(row.superlinear and not row.uncertain for row in rows)
     most = percent(max(row.share for row in rows))
-    steep_text = f", {steep} superlinear{'' if surely else ' on few sizes'}" if steep else ""
     behind = [row for row in rows if choice.has(row)]
-    ways = ["a greater --top"] * bool(behind) + ["--all"] * (len(behind) < len(rows))
-    return f"and {plural(len(rows), 'routine')} of at most {most}{steep_text}: {' and '.join(ways)}"
+    ways = " and ".join(["a greater --top"] * bool(behind) + ["--all"] * (len(behind) < len(rows)))
+    text = f"and {plural(len(rows), 'routine')} of at most {most} with callees: {ways}"
+    return [*wrapped(text, room), *marked_lines(rows, "among them", ways, room)]
 
 
-def stripped_lines(profile: Profile) -> list[str]:
-    if any(routine.name or routine.shown for routine in profile.routines) or not profile.routines:
+def marked_lines(rows: Sequence[Row], where: str, ways: str, room: int) -> list[str]:
+    """The routines with a sign before their growth among some that are left out, and how they are listed. Those that are called
+    too often come first, as no other line has them."""
+    found = sorted(ordered([row for row in rows if row.superlinear or row.many], None), key=lambda row: not row.many)
+    if not found:
         return []
-    return ["no routine has a name: the image has no symbols (stripped?); build without -s, or name them by --image IMAGE"]
+    names = [f"{cut(row.routine.label, 30)} {marked(row.growth, row.many).strip()}" for row in found[:NAMED]]
+    names += [f"{len(found) - NAMED} more"] * (len(found) > NAMED)
+    return wrapped(f"marked {where}: {', '.join(names)} ({ways})", room)
+
+
+def nameless_lines(profile: Profile, listed: Sequence[Row]) -> list[str]:
+    """How routines without a name are named, where there are any."""
+    if profile.routines and not any(is_named(routine) for routine in profile.routines):
+        return ["no routine has a name: the image has no symbols (stripped?); build without -s, or name them by --image IMAGE"]
+    if any(not is_named(row.routine) for row in listed):
+        return ["a routine without a name is shown by its address: --image IMAGE says where it lies"]
+    return []
+
+
+def is_named(routine: Routine) -> bool:
+    return bool(routine.name or routine.shown)

@@ -6,6 +6,7 @@ import shutil
 import sys
 from collections.abc import Sequence
 from dataclasses import dataclass
+from textwrap import wrap
 
 NARROWEST = 80
 
@@ -26,35 +27,41 @@ def can_print(text: str) -> bool:
 
 @dataclass
 class Column:
-    """A column of a table: its heading over its cells, numbers at the right."""
+    """A column of a table: its heading, of a line or two, over its cells, numbers at the right."""
 
     heading: str
     cells: list[str]
     left: bool = False
 
+    def texts(self, lines_of_head: int) -> list[str]:
+        """All its texts, with so many lines for the heading, which stands at their foot."""
+        head = self.heading.split("\n")
+        return [""] * (lines_of_head - len(head)) + head + self.cells
+
 
 def table(columns: Sequence[Column], room: int) -> list[str]:
     """The lines of a table. Texts of the last column are cut in the middle where the room isn't enough."""
-    widths = [max(len(text) for text in (column.heading, *column.cells)) for column in columns]
+    lines_of_head = max(column.heading.count("\n") + 1 for column in columns)
+    texts = [column.texts(lines_of_head) for column in columns]
+    widths = [max(map(len, cells)) for cells in texts]
     rest = max(room - sum(widths[:-1]) - len(widths) + 1, 16)
     lines = []
-    for row in range(-1, len(columns[0].cells)):
-        texts = [column.heading if row < 0 else column.cells[row] for column in columns]
-        aligned = [
-            text.ljust(wide) if column.left else text.rjust(wide) for column, wide, text in zip(columns, widths, texts)
-        ]
+    for row in zip(*texts):
+        aligned = [text.ljust(wide) if column.left else text.rjust(wide) for column, wide, text in zip(columns, widths, row)]
         lines.append(" ".join([*aligned[:-1], cut(aligned[-1].rstrip(), rest)]).rstrip())
     return lines
 
 
 def with_remarks(lines: Sequence[str], remarks: Sequence[str], place: int, room: int) -> list[str]:
-    """The lines of a table, each but the heading with its remark: behind it where that fits, else below, from `place` on."""
-    told = list(lines[:1])
-    for line, remark in zip(lines[1:], remarks):
+    """The lines of a table, each below the heading with its remark: behind it where that fits, else under it, from `place` on."""
+    head = len(lines) - len(remarks)
+    told = list(lines[:head])
+    for line, remark in zip(lines[head:], remarks):
         if len(line) + 2 + len(remark) <= room:
             told.append(f"{line}  {remark}".rstrip())
         else:
-            told += [line, " " * max(min(place, room - len(remark)), 0) + remark] if remark else [line]
+            indent = " " * min(place, max(room - len(remark), 2))
+            told += [line, *wrap(remark, room, initial_indent=indent, subsequent_indent=f"{indent} ")]
     return told
 
 

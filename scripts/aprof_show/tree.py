@@ -6,11 +6,12 @@ from dataclasses import dataclass, field
 
 from aprof_show.causes import causes_of
 from aprof_show.costs import Cost, costs_of, outermost
-from aprof_show.growth import growth_of
+from aprof_show.growth import growth_of, growths
 from aprof_show.heading import head, open_lines
-from aprof_show.joining import add_points
-from aprof_show.model import Context, Point, Profile, Routine
-from aprof_show.table import STEEP, STEEP_LINE, marked
+from aprof_show.joining import points_of
+from aprof_show.marks import legend, marked
+from aprof_show.model import Context, Profile, Routine
+from aprof_show.table import ITS_OWN, WITH_CALLEES
 from aprof_show.terminal import Column, percent, short, table, with_remarks
 
 DEEPEST = 24
@@ -35,10 +36,7 @@ class Node:
         return sum(context.calls for context in self.contexts)
 
     def growth(self) -> str:
-        points: list[Point] = []
-        for context in self.contexts:
-            points = add_points(points, context.points)
-        return marked(growth_of(points))
+        return marked(growth_of(points_of(self.contexts)))
 
 
 @dataclass(frozen=True)
@@ -100,34 +98,33 @@ def tree_text(
     steps = max(profile.steps, 1)
     not_shown = [below_text(line.node, costs, steps) if line.again else "" for line in lines]
     columns = [
-        Column("TOTAL", [percent(line.node.total / steps) + "+" * line.node.open for line in lines]),
-        Column("SELF", [percent(line.node.own / steps) + "+" * line.node.open for line in lines]),
+        Column(WITH_CALLEES, [percent(line.node.total / steps) + "+" * line.node.open for line in lines]),
+        Column(ITS_OWN, [percent(line.node.own / steps) + "+" * line.node.open for line in lines]),
         Column("GROWTH", [line.node.growth() for line in lines]),
         Column("CALLS", [short(line.node.calls) for line in lines]),
         Column(" ROUTINE", [" " + indented(line) for line in lines], left=True),
     ]
     told = table(columns, room)
-    told = with_remarks(told, not_shown, told[0].index(" ROUTINE") + 3, room)
-    about_again = ["(again) is not followed again; what has most of its cost there is named"] * any(not_shown)
-    return [
-        *head(profile), *open_lines(profile, room), *told, *notes(lines, f"{percent(least)} of the steps"), *about_again,
-    ]
+    told = with_remarks(told, not_shown, told[-len(lines) - 1].index(" ROUTINE") + 3, room)
+    about_again = ["(again) is not followed again; what has most of its cost there is named, with its callees"] * any(not_shown)
+    under = notes(lines, f"{percent(least)} of all instructions")
+    return [*head(profile), *open_lines(profile, room), *told, *under, *about_again]
 
 
 def below_text(node: Node, costs: dict[Context, Cost], steps: int) -> str:
-    """What a node that comes again would show: the routine below with the greatest own cost there, as a part of all steps."""
+    """What a node that comes again would show: the routine below with the greatest own cost there, and its cost with its callees as
+    a part of all instructions."""
     mine = set(node.contexts)
     roots = [context for context in node.contexts if context.caller not in mine]
-    cause = causes_of(roots, costs, {node.routine: node.total}, {node.routine}).get(node.routine)
-    return f"(not shown: {percent(cause.part * node.total / steps)} in {cause.routine.label})" if cause else ""
+    cause = causes_of(roots, costs, {node.routine: node.total}, growths()).get(node.routine) if node.total else None
+    return f"(not shown: {percent(cause.total / steps)} in {cause.routine.label})" if cause else ""
 
 
 def notes(lines: Sequence[Line], least: str) -> list[str]:
     """What the signs in the lines mean, where there are any."""
     left_out = [f"(+N) calls N more routines, each for less than {least}"] if any(line.left_out for line in lines) else []
     uncertain = ["+ at least: a call had not returned"] if any(line.node.open for line in lines) else []
-    steep = [STEEP_LINE] if any(line.node.growth().startswith(STEEP) for line in lines) else []
-    return steep + left_out + uncertain
+    return legend(line.node.growth() for line in lines) + left_out + uncertain
 
 
 def indented(line: Line) -> str:
@@ -166,7 +163,7 @@ def callers_text(profile: Profile, roots: Sequence[Context], routine: Routine, l
     columns = [
         Column("CALLS", [short(line.node.calls) for line in lines]),
         Column("COST", [short(line.node.total) + "+" * line.node.open for line in lines]),
-        Column("SHARE", [percent(line.node.total / steps) for line in lines]),
+        Column(WITH_CALLEES, [percent(line.node.total / steps) for line in lines]),
         Column("GROWTH", [line.node.growth() for line in lines]),
         Column(" CALLED BY", [" " + indented(line) for line in lines], left=True),
     ]

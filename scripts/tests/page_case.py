@@ -7,6 +7,7 @@ from pathlib import Path
 
 from aprof_show import page
 from aprof_show.model import Point, Profile
+from aprof_show.rows import rows_of
 from tests import profiles
 from tests.browser import CHROMIUM, Browser
 
@@ -42,7 +43,8 @@ class PageCase(unittest.TestCase):
 
     def open(self, profile: Profile, fragment: str = "") -> Path:
         path = Path(self.folder.name, f"{self.id().rsplit('.', 1)[1]}.html")
-        page.write_page(str(path), profile, {routine.entry: f"words.c:{routine.name}" for routine in profile.routines})
+        lines = {routine.entry: f"words.c:{routine.name}" for routine in profile.routines}
+        page.write_page(str(path), profile, rows_of(profile), lines)
         self.browser.requests.clear()
         self.browser.open(path, fragment)
         return path

@@ -38,11 +38,11 @@ def show(*words: str, status: int = 0, encoding: str = "utf-8") -> str:
 class Statuses(unittest.TestCase):
     def test_fail_above(self) -> None:
         cases: list[tuple[list[str], int, list[str]]] = [
-            ([BUBBLE, "--fail-above", "2.5"], 1, ["bubble_sort grows x4.0, above x2.5 (92.1% of the steps)"]),
+            ([BUBBLE, "--fail-above", "2.5"], 1, ["bubble_sort grows x4.0, above x2.5 (92.1% of all instructions with its callees)"]),
             ([BUBBLE, "--fail-above", "4.5"], 0, []),
             ([BUBBLE, "--fail-above", "2.5", "--routine", "main"], 0, []),
             ([BUBBLE, "--fail-above", "2.5", "--routine", "bubble_sort", "--routine", "main"], 1, ["bubble_sort"]),
-            ([WORDS, "--fail-above", "2.5"], 0, []),
+            ([WORDS, "--fail-above", "2.5"], 0, ["1 C library routine above x2.5 not counted: --library"]),
             ([WORDS, "--fail-above", "2.2", "--routine", "sort_words"], 1, ["sort_words grows x2.3~"]),
             ([WORDS, "--fail-above", "2.5", "--library"], 1, ["printf_core grows x3.7"]),
             ([WORDS, "--fail-above", "2.5", "--library", "--min", "2"], 0, []),
@@ -80,27 +80,27 @@ class Output(unittest.TestCase):
         """The first line of each table is what to look at first."""
         for example, first in (("bubble", "bubble_sort"), ("routines", "insertion_sort"), ("words", "count_file")):
             lines = show(f"examples/{example}/report.txt").splitlines()
-            self.assertEqual(lines[2].split()[-1], first)
+            self.assertEqual(lines[3].split()[-1], first)
 
     def test_choice_of_rows(self) -> None:
-        self.assertIn("C library routines (largest: qsort 47.1%", show(WORDS))
+        self.assertIn("C library routines (largest with callees: qsort 47.1%", show(WORDS))
         self.assertNotIn(" qsort\n", show(WORDS))
         self.assertIn(" qsort\n", show(WORDS, "--library"))
-        self.assertEqual(len(show(WORDS, "--all", "--library", "--by", "name").splitlines()), 2 + 70 + 2)
-        self.assertEqual(show(WORDS, "--top", "1").count("x"), 1 + 1)
+        self.assertEqual(len(show(WORDS, "--all", "--library", "--by", "name").splitlines()), 3 + 70 + 2)
+        self.assertEqual(show(WORDS, "--top", "1").count(" x"), 1)
         self.assertIn("and 7 routines of at most", show(WORDS, "--min", "99.99"))
 
     def test_one_routine(self) -> None:
         text = show(ROUTINES, "insertion_sort", "sum", "--plot")
-        for part in ("insertion_sort at ", "sum at ", "OWN THREAD KERNEL", "about linear", "greatest cost by size", "n²"):
+        for part in ("insertion_sort at ", "sum at ", "PLAIN THREAD KERNEL", "about linear", "greatest cost by size", "n²"):
             self.assertIn(part, text)
         self.assertEqual(show(ROUTINES, "sum"), show(ROUTINES, "--routine", "sum"))
         self.assertTrue(show(ROUTINES, "sum", "--plot", encoding="ascii").isascii())
 
     def test_several_reports(self) -> None:
         text = show(WORDS, WORDS)
-        self.assertIn("2 reports, 3898180 steps, end exit 0, 0 still open", text)
-        self.assertIn("x1.9   99.5%    1.0    10      5 213-1751  count_file", text)
+        self.assertIn("2 reports, 3898180 instructions, end exit 0, 0 still open", text)
+        self.assertIn("x1.9    99.5%    1.0    10      5 213-1751  count_file", text)
 
     def test_recursion_in_a_plain_report(self) -> None:
         call = Call("parse", 1, 10)
@@ -153,9 +153,9 @@ class Against(unittest.TestCase):
             for power, path in enumerate(paths, 1):
                 path.write_text(run(power).text())
             text = show("--against", *map(str, paths)).splitlines()
-            self.assertEqual(text[0], "6344 steps before, 11676 after")
-            self.assertEqual(text[1].split(), "GROWTH NOW SHARE NOW COST NOW ROUTINE".split())
-            self.assertEqual(text[2].split(), "x2.0 x4.0 2.0% 46.7% 64 4096 look_up".split())
+            self.assertEqual(text[0], "6344 instructions before, 11676 after")
+            self.assertEqual(text[2].split(), "GROWTH NOW CALLEES NOW COST NOW ROUTINE".split())
+            self.assertEqual(text[3].split(), "x2.0 x4.0 2.0% 46.7% 64 4096 look_up".split())
             folder_of = [path.with_name(f"{path.name}-runs") for path in paths]
             for path, runs in zip(paths, folder_of):
                 runs.mkdir()
@@ -163,7 +163,7 @@ class Against(unittest.TestCase):
                 for number in "12":
                     (runs / number).write_bytes(path.read_bytes())
             text = show("--against", *map(str, folder_of)).splitlines()
-            self.assertEqual(text[0], "12688 steps before, 23352 after")
+            self.assertEqual(text[0], "12688 instructions before, 23352 after")
             same = show("--against", WORDS, WORDS)
             self.assertIn("of the same growth, share and cost", same)
             self.assertIn("look_up", show("--against", *map(str, paths), "--fail-above", "3", status=1))

@@ -141,14 +141,16 @@ class Bends(unittest.TestCase):
 
     def test_words_of_it(self) -> None:
         cases = [
-            (points_of([(size, float(cost)) for size, cost in POSTINGS]), "x2.3, about n log n, rising: x2.5 at the largest sizes"),
+            (points_of([(size, float(cost)) for size, cost in POSTINGS]), "growth x2.3, rising to x2.5: between n log n and n^2, watch it"),
             (SPREAD[0][1], "by the mean, as costs at one size differ (up to x8.0): the greatest cost grows x"),
-            (points_of([(n, 10.0 * n) for n in (40_000, 80_000, 160_000, 320_000)]), "about 6.4M, one of 3200000 about 32M"),
+            (points_of([(n, 10.0 * n) for n in (40_000, 80_000, 160_000, 320_000)]), "estimated by the fit: 6.4M for a call of size 640000, 32M for one of 3200000"),
         ]
         for points, part in cases:
             with self.subTest(part):
-                row = row_of(Routine(0x10000, "parse", points), 10**9, None, False)
-                self.assertIn(part, "\n".join(detail(row, 80)))
+                row = row_of(Routine(0x10000, "parse", points), growth_of(points), 10**9, None)
+                lines = detail(row, 80)
+                self.assertIn(part, " ".join(map(str.strip, lines)))
+                self.assertLessEqual(max(map(len, lines)), 80)
 
 
 class FewPoints(unittest.TestCase):

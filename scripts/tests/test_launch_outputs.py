@@ -118,6 +118,30 @@ class Outputs(Launched):
             with patch("aprof_launch.hints.is_full", return_value=True):
                 self.assertEqual(hints.lines(4), [f"k: the disk is full; what is there now {text}", "r: the disk is full"])
 
+    def test_an_empty_recording(self) -> None:
+        """It is told whatever it was that couldn't be written."""
+        record, said = self.folder / "k", "k is empty: no turn was stored"
+        self.addCleanup(os.chdir, os.getcwd())
+        os.chdir(self.folder)
+        for stored, output, lines in (
+            ("", "/dev/full", ["/dev/full: no space left", said]), ("1 10\n", "/dev/full", ["/dev/full: no space left"]),
+        ):  # fmt: skip
+            record.write_text(stored)
+            hints = Hints(read_words(["run", "--record", "k", "-o", output, "bubble"]), "")
+            self.assertEqual(hints.lines(4), lines)
+
+    def test_devices(self) -> None:
+        """The path of what is no plain file is told, and why it can't be opened; nothing is written to it."""
+        pipe = self.folder / "pipe"
+        os.mkfifo(pipe)
+        (self.folder / "plain").write_text("")
+        for path, why in ((str(pipe), "a pipe that nobody reads"), ("/dev/null", "it is no plain file, and refused what was written")):
+            hints = Hints(read_words(["run", "-o", path, str(self.folder / "bubble")]), "")
+            self.assertEqual(hints.lines(4), [f"{path}: {why}"])
+        for path in (str(self.folder / "plain"), str(self.folder / "new")):
+            hints = Hints(read_words(["run", "-o", path, str(self.folder / "bubble")]), "")
+            self.assertIn(f"standard output or {path}: no room", hints.lines(4)[0])
+
     def test_a_reader_that_has_gone(self) -> None:
         """Of standard output: then it is that which couldn't be written."""
         reader, writer = os.pipe()

@@ -9,6 +9,7 @@ from unittest import mock
 
 from aprof_show import page
 from aprof_show.model import Profile, Report
+from aprof_show.rows import rows_of
 from tests import profiles
 from tests.page_case import PageCase, text_of
 
@@ -17,8 +18,9 @@ NAMES = "[...document.querySelectorAll('#routines tbody td.name')].map((cell) =>
 
 class Files(unittest.TestCase):
     def test_a_missing_library_is_named_with_its_package(self) -> None:
+        profile = profiles.sample()
         with mock.patch.object(page, "LIBRARY", Path("/nowhere/chart.js")), self.assertRaises(page.MissingPackage) as caught:
-            page.write_page("/dev/null", profiles.sample())
+            page.write_page("/dev/null", profile, rows_of(profile), {})
         self.assertIn("libjs-chart.js", str(caught.exception))
         self.assertNotIn("\n", str(caught.exception))
 
@@ -32,7 +34,7 @@ class Pages(PageCase):
 
     def test_the_head_tells_runs_ends_and_open_calls(self) -> None:
         self.open(profiles.sample("budget"))
-        self.assertIn("the budget of steps was spent", str(self.ask(text_of("#summary"))))
+        self.assertIn("the budget of instructions was spent", str(self.ask(text_of("#summary"))))
         self.assertIn("_start › main › spin", str(self.ask(text_of("#open"))))
         self.assertIn("out/a", str(self.ask(text_of("#runs tbody"))))
 

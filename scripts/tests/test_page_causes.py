@@ -10,6 +10,7 @@ from tests.page_case import PageCase, text_of
 from tests.samples import ADDRESSES, Call, Run, points_of, report_of
 from tests.test_causes import SIZES, recursive, through_a_list
 from tests.test_growth import POSTINGS, SPREAD
+from tests.test_reasons import linear, squares, through_one
 
 CALLEES = "[...document.querySelectorAll('#callees tbody tr')].map((row) => [...row.cells].map((cell) => cell.textContent))"
 HIDDEN = "document.querySelector('{}').hidden"
@@ -22,13 +23,65 @@ def profile_of(*calls: Call) -> Profile:
 class Causes(PageCase):
     def test_the_cause_is_a_link(self) -> None:
         self.open(profile_of(*map(through_a_list, SIZES)), "#routine=parse")
-        self.assertEqual(self.ask(text_of("#cause")), "Most of its cost, 99.8 %, is in look_up: 238 calls from here.")
+        self.assertEqual(self.ask(text_of("#cause")), "99.8 % of its cost is in look_up with its callees, called 238 times; each of those calls is about linear in its own input, "
+                         "so it is the number of calls that grows.")
         self.browser.click("#cause a")
         self.assertEqual(self.shown(), "look_up")
-        self.assertIn("is in compare: 10,783 calls", str(self.ask(text_of("#cause"))))
+        self.assertIn("is in compare with its callees, called 10,783 times", str(self.ask(text_of("#cause"))))
         self.browser.click("#callees tbody a")
         self.assertEqual(self.shown(), "compare")
         self.assertEqual([self.ask(HIDDEN.format(place)) for place in ("#cause", "#callees")], [True, True])
+
+    def test_the_culprit_is_marked(self) -> None:
+        """In the list of all routines and in that of what is called, and an indirect way is told."""
+        self.open(profile_of(*map(through_one, SIZES)), "#routine=parse")
+        self.assertIn("called 238 times, indirectly through spin; each of those calls", str(self.ask(text_of("#cause"))))
+        self.assertEqual(self.ask(text_of("#callees .culprit .name")), "spin")
+        self.assertEqual(self.ask(text_of("#callees caption")), "What it calls directly")
+        marked = "[...document.querySelectorAll('#routines tr')].filter((row) => row.querySelector('.many')).map((row) => row.cells[5].textContent)"
+        self.assertEqual(self.ask(marked), ["look_up"])
+        self.assertIn("∗×2.0", str(self.ask(text_of("#routines .many b"))))
+
+    def test_the_key_has_what_the_page_uses(self) -> None:
+        """Each badge of the listed routines, and nothing else."""
+        superlinear, uncertain = "superlinear: faster", "uncertain: few sizes"
+        too_often, rising, dash = "harmless itself", "rises from size", "nothing to tell of growth"
+        made = profiles.Made()
+        root = made.context("main", None, profiles.points_of([9000], lambda n: 1e9, calls=1))
+        made.context("rises", root, points_of([(size, float(cost)) for size, cost in POSTINGS]))
+        cases: list[tuple[Profile, list[str]]] = [
+            (profile_of(*map(through_a_list, SIZES)), [superlinear, too_often, dash]),
+            (profile_of(*map(linear, SIZES)), [dash]),
+            (profile_of(*map(squares, SIZES[:3])), [f"superlinear, but {uncertain}", dash]),
+            (made.profile("report"), [superlinear, rising, dash]),
+            (profiles.sample("budget"), [superlinear, f"superlinear, but {uncertain}", dash, "at least: a call was still open"]),
+        ]
+        for profile, wanted in cases:
+            with self.subTest(wanted):
+                self.open(profile)
+                entries = self.ask("[...document.querySelectorAll('#key > span')].map((entry) => entry.textContent)")
+                assert isinstance(entries, list)
+                self.assertEqual([part for part, entry in zip(wanted, entries) if part in entry], wanted, entries)
+                self.assertEqual(len(entries), len(wanted), entries)
+
+    def test_what_is_not_listed_is_told(self) -> None:
+        path = self.open(profiles.sample())
+        self.assertEqual(self.ask(HIDDEN.format("#unlisted")), True)
+        self.browser.press("/")
+        self.browser.type("strlen")
+        self.assertIn("Not listed: 3 marked: add_posting ×4.1, build_index ×3.8, few ×", str(self.ask(text_of("#unlisted"))))
+        self.assertIn("To see them, clear the filter.", str(self.ask(text_of("#unlisted"))))
+        self.browser.open(path)
+        made = profiles.Made()
+        root = made.context("main", None, profiles.points_of([9000], lambda n: 1e9, calls=1))
+        for name in ("memcpy", None, "malloc", "free", "strlen", "memset"):
+            made.context(name, root, profiles.points_of(profiles.over(8, 900, 8), lambda n: n * n))
+        self.open(made.profile("report"))
+        told = str(self.ask(text_of("#unlisted")))
+        self.assertRegex(told, r"^Not listed: 6 marked \(6 of the C library, 1 without a name\): .* and 3 more\.")
+        self.assertIn("To see them, tick “C library”.", told)
+        self.browser.click("#library")
+        self.assertEqual(self.ask(HIDDEN.format("#unlisted")), True)
 
     def test_callees(self) -> None:
         """Dearest first, direct recursion left out, and of a routine with many the first ones."""
@@ -52,7 +105,7 @@ class Causes(PageCase):
         root = made.context("main", None, profiles.points_of([9000], lambda n: 1e9, calls=1))
         made.context("rises", root, points_of([(size, float(cost)) for size, cost in POSTINGS]))
         made.context("bent", root, SPREAD[0][1])
-        for name, part in (("rises", "grows ×2.3: about n log n, rising: ×2.5 at the largest sizes."),
+        for name, part in (("rises", "grows ×2.3, and ×2.5 at the largest sizes, where it still rises: between n log n and n², so watch it."),
                            ("bent", "its mean cost grows ×1.6: less than linear. Costs at one size differ, so that is of the mean; ")):
             with self.subTest(name):
                 self.open(made.profile("report"), f"#routine={name}")
@@ -60,7 +113,7 @@ class Causes(PageCase):
                 steep = "document.querySelector('#facts dd').classList.contains('steep')"
                 self.assertEqual(self.ask(steep), name == "rises")
                 if name == "rises":
-                    self.assertIn("7.47 M → 18.6 M", str(self.ask(text_of("#facts"))))
+                    self.assertIn("greatest cost7.47 Mestimate at twice the size≈ 19 M", str(self.ask(text_of("#facts"))))
 
     def test_without_contexts(self) -> None:
         self.open(profiles.sample(contexts=False), "#routine=main")

@@ -69,14 +69,15 @@ class Listed(unittest.TestCase):
         self.assertEqual([row.routine.label for row in rows if Choice().has(row)], ["main", "square"])
         self.assertEqual([row.routine.label for row in rows if Choice(least=0.01).has(row)], ["main"])
         self.assertEqual(len([row for row in rows if Choice(all=True).has(row)]), 3)
-        self.assertIn("and 1 routine of at most 0.0%: --all", summary(profile, rows, Choice(), 80))
+        self.assertIn("and 1 routine of at most 0.0% with callees: --all", summary(profile, rows, Choice(), 80))
 
     def test_projected(self) -> None:
         row = row_of(profile_of({"square": lambda n: n * n}), "square")
         self.assertAlmostEqual(projected(row, 2) / 4 / 128**2, 1, delta=0.05)
         self.assertAlmostEqual(projected(row, 10) / 100 / 128**2, 1, delta=0.15)
         wide = summary(profile_of({"square": lambda n: n * n}), [row], Choice(), 120)
-        self.assertIn("AT 10x", wide[1])
+        self.assertIn("ESTIMATE ESTIMATE", wide[1])
+        self.assertIn("AT 10x", wide[2])
 
     def test_library(self) -> None:
         """The user's `find` and `printf` stay, as something of the user's is behind them; the library's are folded."""

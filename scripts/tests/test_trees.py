@@ -126,37 +126,39 @@ class Trees(unittest.TestCase):
     def test_tree(self) -> None:
         profile = profile_of(PLAIN)
         self.assertEqual(tree_text(profile, roots_of(profile), 0.35, 80)[1:], [
-            " TOTAL  SELF GROWTH CALLS  ROUTINE",
-            "100.0% 10.0%     -      1  main",
-            " 50.0% 20.0%     -      1    parse (+1)",
-            " 40.0% 40.0%     -      1    leaf",
-            "(+N) calls N more routines, each for less than 35.0% of the steps",
+            "   WITH   ITS",
+            "CALLEES   OWN GROWTH CALLS  ROUTINE",
+            " 100.0% 10.0%     -      1  main",
+            "  50.0% 20.0%     -      1    parse (+1)",
+            "  40.0% 40.0%     -      1    leaf",
+            "(+N) calls N more routines, each for less than 35.0% of all instructions",
         ])
 
     def test_recursion_is_one_line(self) -> None:
         profile = profile_of(RECURSIVE)
-        self.assertEqual(tree_text(profile, roots_of(profile), 0, 80)[2:], [
-            "100.0%  2.8%     -      1  main",
-            " 97.2% 83.3%  x1.7~     3    parse (recursive)",
-            " 13.9% 13.9%     -      1      leaf",
+        self.assertEqual(tree_text(profile, roots_of(profile), 0, 80)[3:], [
+            " 100.0%  2.8%     -      1  main",
+            "  97.2% 83.3%  x1.7~     3    parse (recursive)",
+            "  13.9% 13.9%     -      1      leaf",
+            "~ few sizes, or sizes within a factor of 4: the growth is uncertain",
         ])
 
     def test_recursion_by_another_is_not_followed_again(self) -> None:
         profile = profile_of(MUTUAL)
-        self.assertEqual([line.split("  ")[-1].strip() for line in tree_text(profile, roots_of(profile), 0, 80)[2:]], [
+        self.assertEqual([line.split("  ")[-1].strip() for line in tree_text(profile, roots_of(profile), 0, 80)[3:]], [
             "main", "parse", "leaf", "parse (again)",
         ])
         profile = profile_of(Call("main", calls=[Call("parse", 1, 1, [Call("leaf", 1, 1, [HIDING])])]))
         lines = tree_text(profile, roots_of(profile), 0, 80)
         self.assertEqual([line.split("     1  ")[-1].strip() for line in lines if "again" in line], [
-            "parse (again)  (not shown: 94.0% in look_up)", "(again) is not followed again; what has most of its cost there is named",
+            "parse (again)  (not shown: 95.2% in look_up)", "(again) is not followed again; what has most of its cost there is named, with its callees",
         ])
-        self.assertIn("(not shown: 94.0% in look_up)", [line.strip() for line in tree_text(profile, roots_of(profile), 0, 50)])
+        self.assertIn("(not shown: 95.2% in look_up)", [line.strip() for line in tree_text(profile, roots_of(profile), 0, 50)])
         leaf = next(routine for routine in profile.routines if routine.name == "leaf")
         parse = next(routine for routine in profile.routines if routine.name == "parse")
         for routine, ways in ((leaf, ["leaf", "parse", "main"]), (parse, ["parse (recursive)", "leaf", "main", "main"])):
             text = callers_text(profile, roots_of(profile), routine, 0, 80)
-            self.assertEqual(sorted(line.split("   ")[-1].strip() for line in text[2:]), sorted(ways))
+            self.assertEqual(sorted(line.split("   ")[-1].strip() for line in text[3:]), sorted(ways))
 
     def test_callers(self) -> None:
         profile = profile_of(PLAIN)
@@ -165,8 +167,8 @@ class Trees(unittest.TestCase):
         self.assertEqual((top.total, top.calls), (70, 2))
         self.assertEqual({node.routine.label: node.total for node in top.below.values()}, {"parse": 30, "main": 40})
         text = callers_text(profile, roots_of(profile), leaf, 0.01, 80)
-        self.assertEqual(text[1].split(), ["CALLS", "COST", "SHARE", "GROWTH", "CALLED", "BY"])
-        self.assertEqual([line.split()[-1] for line in text[2:]], ["leaf", "main", "parse", "main"])
+        self.assertEqual(text[2].split(), ["CALLS", "COST", "CALLEES", "GROWTH", "CALLED", "BY"])
+        self.assertEqual([line.split()[-1] for line in text[3:]], ["leaf", "main", "parse", "main"])
 
     def test_callers_of_deep_recursion(self) -> None:
         """Direct and mutual recursion of some thousand levels takes no time that grows with its square."""

@@ -10,6 +10,7 @@ import unittest
 from pathlib import Path
 
 from aprof_show.command import main
+from aprof_show.marks import MEANINGS
 from tests.samples import ADDRESSES, ROOT, Call, Run
 from tests.test_causes import SIZES, through_a_list
 from tests.test_command import BUBBLE, CACHE, CONTEXTS, WORDS, show
@@ -103,13 +104,13 @@ class Names(unittest.TestCase):
 
     def test_against_and_tree(self) -> None:
         text = show("--against", WORDS, WORDS, "find").splitlines()
-        self.assertEqual([line.split()[-1] for line in text[1:]], ["ROUTINE", "find"])
+        self.assertEqual([line.split()[-1] for line in text[2:]], ["ROUTINE", "find"])
         with tempfile.TemporaryDirectory() as folder:
             path = Path(folder, "report")
             path.write_text(Run([Call("main", 9, 1, [through_a_list(n) for n in SIZES])], ADDRESSES).text(contexts=True))
-            lines = show("--tree", str(path), "look_up").splitlines()[2:]
+            lines = show("--tree", str(path), "look_up").splitlines()[3:]
             self.assertEqual([line.split("  ")[-1].strip() for line in lines], ["look_up", "compare"])
-            self.assertTrue(lines[0].startswith("99.8%"))
+            self.assertTrue(lines[0].startswith("  99.8%"))
 
     def test_fail_above(self) -> None:
         self.assertEqual(show(BUBBLE, "--fail-above", "3.98", status=1).split(" (")[0], "bubble_sort grows x3.99, above x3.98")
@@ -118,7 +119,7 @@ class Names(unittest.TestCase):
             path = Path(folder, "report")
             calls = [Call(name, n, n**power // part) for n in SIZES for name, power, part in (("parse", 2, 4), ("leaf", 2, 1))]
             path.write_text(Run([Call("main", 9, 1, calls)], ADDRESSES).text())
-            table = [line.split()[-1] for line in show(str(path)).splitlines()[2:4]]
+            table = [line.split()[-1] for line in show(str(path)).splitlines()[3:5]]
             found = [line.split()[0] for line in show(str(path), "--fail-above", "2.5", status=1).splitlines()]
             self.assertEqual((table, found), (["leaf", "parse"], ["leaf", "parse"]))
 
@@ -126,14 +127,14 @@ class Names(unittest.TestCase):
 class Tables(unittest.TestCase):
     def test_the_sign_of_what_is_superlinear(self) -> None:
         text = show(BUBBLE)
-        self.assertIn("\n !x4.0 ", "\n " + text.splitlines()[2].strip())
+        self.assertIn("\n !x4.0 ", "\n " + text.splitlines()[3].strip())
         self.assertEqual(text.count("! superlinear: "), 1)
         self.assertNotIn("!", show(BUBBLE, "main"))
-        self.assertNotIn("!", show(WORDS, "--top", "1"))
+        self.assertNotIn("!x", show(WORDS, "--top", "1").partition("marked ")[0])
 
     def test_top(self) -> None:
         cases = [
-            (["--top", "2", "--all"], "and 5 routines of at most 100.0%: a greater --top"),
+            (["--top", "2", "--all"], "and 5 routines of at most 100.0% with callees: a greater --top"),
             (["--top", "2"], "a greater --top"),
             (["--min", "50"], ": --all"),
         ]
@@ -146,7 +147,7 @@ class Tables(unittest.TestCase):
 
     def test_help(self) -> None:
         text = show("--help")
-        for word in ("POINTS is", "A WORD is", "OWN is", "PLAIN", "`!` before it"):
+        for word in ("POINTS is", "A WORD is", "PLAIN", "WITH CALLEES is", "ITS OWN", "ESTIMATE is", *map("  {} ".format, MEANINGS)):
             self.assertIn(word, text)
 
 

@@ -13,7 +13,8 @@ from tests.test_command import CACHE, show
 
 QUEUE = "examples/queue/report.txt"
 NOTE = (
-    "A WORD is the greatest cost by word of the size; OWN, THREAD, KERNEL: who wrote those words since the thread last had them"
+    "A WORD is the greatest cost by word of the size. PLAIN: no one else wrote those words since the thread last had them; "
+    "THREAD: another; KERNEL: the kernel"
 )
 
 
@@ -32,7 +33,7 @@ class Orders(unittest.TestCase):
             routine_of("empty", (0, 0, 0)),
             Routine(0x10000, "open"),
         ]
-        rows = [row_of(routine, 100, None, False) for routine in routines]
+        rows = [row_of(routine, None, 100, None) for routine in routines]
         for by, names in (("thread", "takes reads alone empty open"), ("kernel", "reads takes alone empty open")):
             with self.subTest(by):
                 self.assertEqual([row.routine.label for row in ordered(rows, by)], names.split())
@@ -40,8 +41,9 @@ class Orders(unittest.TestCase):
     def test_column(self) -> None:
         for by, first in (("thread", "- 46.8% 97.5% 1.0 1 1 448 make_numbers"), ("kernel", "- 52.8% 0.3% 1.0 1 1 971 main")):
             lines = show(QUEUE, "--by", by).splitlines()
-            self.assertEqual(lines[1].split()[:3], ["GROWTH", "SHARE", by.upper()])
-            self.assertTrue(" ".join(lines[2].split()).startswith(first), lines[2])
+            self.assertEqual(lines[1].split(), ["WITH", "INPUT", "BY"])
+            self.assertEqual(lines[2].split()[:3], ["GROWTH", "CALLEES", by.upper()])
+            self.assertTrue(" ".join(lines[3].split()).startswith(first), lines[3])
         self.assertNotIn("THREAD", show(QUEUE))
 
     def test_what_cannot_be(self) -> None:
@@ -55,20 +57,20 @@ class Orders(unittest.TestCase):
 
 class Lines(unittest.TestCase):
     def lines_of(self, routine: Routine) -> list[str]:
-        return detail(row_of(routine, 100, None, False), 80)
+        return detail(row_of(routine, None, 100, None), 80)
 
     def test_all_calls(self) -> None:
         last = self.lines_of(routine_of("takes", (4, 4, 0), (6, 10, 8)))[-1]
         self.assertEqual(last.split(), ["all", "2", "31%", "44%", "25%"])
-        self.assertNotIn(" all ", "".join(self.lines_of(routine_of("takes", (4, 4, 0)))))
+        self.assertFalse(any(line.split()[0] == "all" for line in self.lines_of(routine_of("takes", (4, 4, 0)))))
 
     def test_note(self) -> None:
         text = show(QUEUE, "take", "put")
         self.assertEqual(" ".join(text.split()).count(NOTE), 1)
         self.assertLessEqual(max(map(len, text.splitlines())), 80)
-        bare = row_of(Routine(0x10000, "old", [Point(8, 1, 9, 9, 9, None)]), 100, None, False)
+        bare = row_of(Routine(0x10000, "old", [Point(8, 1, 9, 9, 9, None)]), None, 100, None)
         self.assertEqual(notes([bare], 80), ["A WORD is the greatest cost by word of the size"])
-        self.assertEqual(notes([row_of(Routine(0x10000, "open"), 100, None, False)], 80), [])
+        self.assertEqual(notes([row_of(Routine(0x10000, "open"), None, 100, None)], 80), [])
 
 
 if __name__ == "__main__":

@@ -1,4 +1,4 @@
-// What a routine calls, dearest first, and which of the routines below it has most of its cost.
+// What a routine calls directly, dearest first, and which of all routines below it has most of its cost, and why that grows.
 const MOST_CALLEES = 8;
 
 const shareOf = (part) => `${percent(part)} %`;
@@ -25,13 +25,19 @@ const nameLink = (routine) => {
   return link;
 };
 
+// how it is called, as parts of a sentence
+function wayOf({ direct, through, more }) {
+  if (through === null) return [];
+  const others = more ? ` and ${plural(more, "other")}` : "";
+  return [direct ? " directly and through " : ", indirectly through ", nameLink(routines[through]), others];
+}
+
 function tellCause(routine) {
-  const cause = byId("cause");
-  cause.hidden = !routine.cause;
-  if (!routine.cause) return;
-  const [place, part, calls] = routine.cause;
-  cause.replaceChildren(`Most of its cost, ${shareOf(part)}, is in `, nameLink(routines[place]), `: ${plural(calls, "call")} from here.`);
-  if (part < 0.5) cause.firstChild.data = `The greatest part of its cost, ${shareOf(part)}, is in `;
+  const { cause } = routine;
+  byId("cause").hidden = !cause;
+  if (!cause) return;
+  byId("cause").replaceChildren(`${shareOf(cause.part)} of its cost${routine.sizes ? "" : " so far"} is in `, nameLink(routines[cause.routine]),
+    ` with its callees, called ${plural(cause.calls, "time")}`, ...wayOf(cause), `${cause.why ? `; ${cause.why}` : ""}.`);
 }
 
 function tellCallees(routine) {
@@ -39,7 +45,8 @@ function tellCallees(routine) {
   byId("callees").hidden = !all.length;
   if (!all.length) return;
   const whole = Math.max(outerCost(contexts.routine.flatMap((one, i) => (one === routine.index ? [i] : []))), 1);
-  byId("callees").tBodies[0].replaceChildren(...all.slice(0, MOST_CALLEES).map((callee) => make("tr", "",
+  const culprit = routine.cause && routines[routine.cause.way];
+  byId("callees").tBodies[0].replaceChildren(...all.slice(0, MOST_CALLEES).map((callee) => make("tr", callee.routine === culprit ? "culprit" : "",
     make("td", "number", partCell(callee.cost / whole)), make("td", "number", count(callee.calls)),
     make("td", "number", growthText(callee.growth)), make("td", "name", nameLink(callee.routine)))));
   const left = all.length - MOST_CALLEES;

@@ -3,9 +3,14 @@ const profile = JSON.parse(byId("profile").textContent);
 const routines = profile.routines;
 const callGrowth = new Map(profile.callers.map(([routine, caller, growth]) => [`${routine} ${caller}`, growth]));
 
+// powers as people write them
+const raised = (text) => text?.replaceAll("^2", "²").replaceAll("^3", "³");
+
 routines.forEach((routine, index) => {
   routine.index = index;
-  routine.guess = routine.guess?.replaceAll("^2", "²").replaceAll("^3", "³");
+  routine.ahead = routine.rising ?? routine.growth;
+  routine.guess = raised(routine.guess);
+  if (routine.cause) routine.cause.why = raised(routine.cause.why);
   const sizes = routine.points[0];
   routine.sizes = sizes.length ? [sizes[0], sizes[sizes.length - 1]] : null;
 });

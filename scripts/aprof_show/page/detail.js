@@ -4,36 +4,35 @@ let wantsLog = true;
 
 // what its growth says, as a sentence
 function verdictOf(routine) {
-  if (!routine.sizes) return "All its calls were still open at the end, so it has no points, and what they cost is not known.";
+  if (!routine.sizes) return "All its calls were still open at the end, so it has no points, and what they cost in the end is not known.";
   if (routine.growth === null) {
     const sizes = routine.sizes[0] === routine.sizes[1] ? "one size" : "one size other than 0";
     return `Its calls have ${sizes}, which says nothing of growth: give the run several inputs, or show several reports at once.`;
   }
-  const top = routine.top !== null && Math.abs(routine.top - routine.growth) >= 0.15
-    ? ` (${times(routine.top)} at the largest sizes)` : "";
-  const more = routine.rising === null ? "" : `, rising: ${times(routine.rising)} at the largest sizes`;
   const bent = routine.bent === null ? ""
     : ` Costs at one size differ, so that is of the mean; the greatest cost grows ${times(routine.bent)}.`;
-  return `Where its input doubles, its ${bent ? "mean" : "greatest"} cost grows ${times(routine.growth)}${more ? "" : top}: ${routine.guess}${more}.${
-    bent}${routine.weak ? ` That rests on ${routine.weak}, and is uncertain.` : ""}`;
+  const weak = routine.weak ? ` That rests on ${routine.weak}, and is uncertain.` : "";
+  return `Where its input doubles, its ${bent ? "mean" : "greatest"} cost grows ${times(routine.growth)}${slopeOf(routine)}.${bent}${weak}`;
 }
 
-// the greatest cost at the largest size, and what it comes to where that doubles
-function aheadOf(routine) {
-  const { most, length } = figure.points;
-  return `${short(most[length - 1])} → ${short(most[length - 1] * routine.ahead)}`;
+// how it goes on at the largest sizes, and what that is
+function slopeOf(routine) {
+  if (routine.rising !== null) return `, and ${times(routine.rising)} at the largest sizes, where it still rises: ${routine.guess}, so watch it`;
+  const differs = routine.top !== null && Math.abs(routine.top - routine.growth) >= 0.15;
+  return `${differs ? ` (${times(routine.top)} at the largest sizes)` : ""}: ${routine.guess}`;
 }
 
 // the greatest ratio between the costs of two calls of one size
 const spreadOf = (points) => points.most.reduce((spread, most, i) => Math.max(spread, points.least[i] ? most / points.least[i] : 1), 1);
 
 function factsOf(routine) {
-  const facts = [["growth", times(routine.growth), routine.steep ? "steep" : ""], ["share of all steps", `${routine.bound}${percent(routine.share)} %`]];
-  if (routine.self !== null) facts.push(["self", `${percent(routine.self)} %`]);
+  const facts = [["growth", times(routine.growth), routine.steep ? "steep" : ""],
+    ["of all instructions, with its callees", `${routine.bound}${percent(routine.share)} %`]];
+  if (routine.self !== null) facts.push(["its own", `${percent(routine.self)} %`]);
   facts.push(["calls", count(routine.calls)]);
-  if (routine.sizes) facts.push([plural(routine.points[0].length, "size"), sizesText(routine)]);
+  if (routine.sizes) facts.push([plural(routine.points[0].length, "size"), sizesText(routine)], ["greatest cost", short(routine.greatest)]);
+  if (routine.growth !== null) facts.push(["estimate at twice the size", `≈ ${short(routine.twice)}`]);
   if (spreadOf(figure.points) >= 1.05) facts.push(["spread at one size", times(spreadOf(figure.points))]);
-  if (routine.growth !== null) facts.push(["greatest → at twice the size", aheadOf(routine)]);
   return facts;
 }
 

@@ -40,17 +40,3 @@ function make(tag, look, ...children) {
 }
 
 const byId = (id) => document.getElementById(id);
-
-const CAUSES = ["", "no instruction", "no code there", "no readable byte", "no writable byte", "a jump that is not aligned",
-  "an atomic operation that is not aligned", "a breakpoint"];
-
-// how a run ended, in words
-function ended(end) {
-  const words = end.split(" ");
-  if (words[0] === "fault") return `fault (${CAUSES[words[1]]}) in thread ${words[2]} at ${words[3]}`;
-  if (words[0] === "budget") return "the budget of steps was spent";
-  if (words[0] === "deadlock") return "deadlock: all threads wait";
-  if (words[0] === "deep") return "too many calls were open at once";
-  if (words[0] === "schedule") return `line ${words[1]} of the schedule can’t be followed`;
-  return end;
-}

@@ -6,12 +6,12 @@ function tellHead() {
   const title = names.length > 90 ? plural(reports.length, "report") : names;
   byId("title").textContent = title;
   document.title = `${title} – aprof`;
-  const ends = [...new Set(reports.map(({ end }) => ended(end)))];
-  const facts = [one ? "" : plural(reports.length, "run"), plural(profile.steps, "step"), ends.join(", "),
+  const ends = [...new Set(reports.map(({ end }) => end))];
+  const facts = [one ? "" : plural(reports.length, "run"), plural(profile.steps, "instruction"), ends.join(", "),
     profile.open ? `${plural(profile.open, "call")} still open` : "no call still open"];
   byId("runs").hidden = one;
   byId("runs").querySelector("tbody").append(...reports.map(({ path, end, steps, open }) => make("tr", "",
-    make("td", "", path), make("td", "number", count(steps)), make("td", "", ended(end)), make("td", "number", count(open)))));
+    make("td", "", path), make("td", "number", count(steps)), make("td", "", end), make("td", "number", count(open)))));
   const { chains } = profile;
   if (!routines.length) facts.push("no call has returned");
   byId("summary").textContent = facts.filter(Boolean).join(" · ");
@@ -30,10 +30,6 @@ function tellCounts() {
   const listed = routines.some((r) => !r.cheap && !r.library);
   if (!listed) byId("library").checked = true;
   if (!routines.some((r) => !r.cheap)) byId("cheap").checked = true;
-  const key = byId("key");
-  const sample = (look, text) => make("span", "", make("span", `rate ${look}`, make("b", "", "×3.9")), ` ${text}`);
-  if (routines.some(({ steep }) => steep)) key.append(sample("steep", "superlinear"));
-  if (routines.some(({ weak }) => weak)) key.append(sample("doubt", "uncertain: few sizes, or within a factor of 4"));
 }
 
 function follow() {

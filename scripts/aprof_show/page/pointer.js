@@ -15,7 +15,7 @@ function numbersOf(points, i) {
   else pairs.push(["least", count(points.least[i])], ["mean", mean(points.mean[i])], ["greatest", count(points.most[i])]);
   if (points.induced) {
     const [own, thread, kernel] = partsOf(points, i);
-    pairs.push(["own", `${percent(own)} %`]);
+    pairs.push(["its thread’s or no one’s", `${percent(own)} %`]);
     if (thread) pairs.push(["other threads’", `${percent(thread)} %`]);
     if (kernel) pairs.push(["the kernel’s", `${percent(kernel)} %`]);
   }
@@ -86,7 +86,7 @@ function moveGuides(i) {
   mark(i);
 }
 
-const STEPS = { ArrowLeft: -1, ArrowRight: 1, ArrowDown: -1, ArrowUp: 1 };
+const MOVES = { ArrowLeft: -1, ArrowRight: 1, ArrowDown: -1, ArrowUp: 1 };
 
 function onKey(event) {
   const last = figure.points ? figure.points.length - 1 : -1;
@@ -95,7 +95,7 @@ function onKey(event) {
   const now = chosenPoint ?? (event.key === "ArrowLeft" ? last + 1 : -1);
   const to = {
     Home: 0, End: last, PageUp: now - far, PageDown: now + far,
-    ...Object.fromEntries(Object.entries(STEPS).map(([key, step]) => [key, now + step])),
+    ...Object.fromEntries(Object.entries(MOVES).map(([key, move]) => [key, now + move])),
   }[event.key];
   if (to !== undefined) {
     mark(Math.min(Math.max(to, 0), last));

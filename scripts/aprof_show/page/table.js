@@ -9,9 +9,9 @@ const sizesText = (routine) => {
 };
 
 const COLUMNS = [
-  { key: "growth", name: "Growth", about: "how many times the cost grows where the size doubles", value: (r) => r.growth ?? -1, cell: growthCell },
-  { key: "share", name: "Share %", about: "its part of all steps, with what it calls", value: (r) => r.share, cell: (r) => partCell(r.share, r.bound) },
-  { key: "self", name: "Self %", about: "its part of all steps without what it calls", value: (r) => r.self, cell: (r) => partCell(r.self), needs: profile.contexts !== null },
+  { key: "growth", name: "Growth", about: "how many times the cost grows where the size doubles", value: (r) => r.ahead ?? -1, cell: growthCell },
+  { key: "share", name: "With callees\u00a0%", about: "its part of all instructions, with what it calls", value: (r) => r.share, cell: (r) => partCell(r.share, r.bound) },
+  { key: "self", name: "Its\u00a0own\u00a0%", about: "its own part of all instructions, without what it calls", value: (r) => r.self, cell: (r) => partCell(r.self), needs: profile.contexts !== null },
   { key: "calls", name: "Calls", about: "calls that returned", value: (r) => r.calls, cell: (r) => (r.calls ? document.createTextNode(short(r.calls)) : make("span", "faint", "open")) },
   { key: "sizes", name: "Sizes", about: "the least and the greatest input size, in words", value: (r) => (r.sizes ? r.sizes[1] : -1), cell: (r) => document.createTextNode(sizesText(r)) },
   { key: "name", name: "Routine", about: "", text: true, value: (r) => r.name.toLowerCase(), cell: nameCell },
@@ -39,20 +39,20 @@ function growthText(growth) {
 }
 
 function growthCell(routine) {
-  const cell = make("span", `rate${routine.steep ? " steep" : ""}${routine.weak ? " doubt" : ""}`);
+  const badges = badgesOf(routine);
+  const cell = make("span", "rate");
   cell.innerHTML = picture(routine); // numbers alone
   const number = make("b", "", times(routine.growth));
-  if (routine.steep) number.append(make("span", "hidden", " superlinear"));
-  if (routine.weak) {
-    cell.title = routine.weak;
-    number.append(make("span", "hidden", ` ${cell.title}`));
-  }
+  for (const badge of badges) badge.put(cell, number);
+  for (const { word } of badges) number.append(make("span", "hidden", ` ${word}`));
+  cell.title = badges.map(({ about }) => about).join("; ");
   cell.append(number);
   return cell;
 }
 
 function partCell(part, bound = "") {
-  const cell = make("span", "part", `${bound.trim()}${percent(part)}`);
+  const cell = make("span", "part", `${bound}${percent(part)}`);
+  if (bound) cell.title = BOUNDS[bound];
   if (part !== null) cell.style.setProperty("--width", `${Math.min(100, 100 * part).toFixed(1)}%`);
   return cell;
 }
@@ -100,16 +100,31 @@ function drawTable() {
   drawMore(CHUNK);
   byId("rows").scrollTop = 0;
   tellListed(word);
+  tellKey(table.rows);
   markRow();
 }
 
 function tellListed(word) {
   const all = plural(routines.length, "routine");
-  const steep = (rows) => rows.filter((r) => r.steep && !r.weak).length;
-  const left = steep(routines) - steep(table.rows);
-  const hidden = left && !word ? `; not listed: ${count(left)} superlinear of the C library` : "";
   byId("count").textContent = table.rows.length === routines.length ? all
-    : `${count(table.rows.length)} of ${all}${word ? ` with “${word}”` : ""}${hidden}`;
+    : `${count(table.rows.length)} of ${all}${word ? ` with “${word}”` : ""}`;
+  const listed = new Set(table.rows);
+  const left = routines.filter((r) => (r.many || (r.steep && (!r.weak || word))) && !listed.has(r));
+  byId("unlisted").hidden = !left.length;
+  byId("unlisted").textContent = left.length ? unlistedText(left, word) : "";
+}
+
+// the marked routines that are not listed, the first of them by name, and how to see them
+function unlistedText(left, word) {
+  const kinds = [[left.filter((r) => r.library), "of the C library"], [left.filter((r) => !r.named), "without a name"]]
+    .filter(([some]) => some.length).map(([some, what]) => `${count(some.length)} ${what}`);
+  const first = [...left.filter((r) => r.many), ...left.filter((r) => !r.many)];
+  const names = first.slice(0, 3).map((r) => `${r.name} ${r.many ? "∗" : ""}${times(r.growth)}`).join(", ");
+  const way = word ? "clear the filter" : "";
+  const ticks = left.some((r) => r.library) && !byId("library").checked ? "tick “C library”" : "";
+  const more = left.length > 3 ? ` and ${count(left.length - 3)} more` : "";
+  return `Not listed: ${count(left.length)} marked${kinds.length ? ` (${kinds.join(", ")})` : ""}: ${names}${more}. To see them, ${
+    [way, ticks].filter(Boolean).join(" and ")}.`;
 }
 
 // first the greatest, then the least, then again what to look at first

@@ -1,5 +1,9 @@
 // A tree that opens, as rows of a table.
-const TREE_COLUMNS = ["Calls", "Share %", "Self %", "Growth", "Routine"];
+const TREE_COLUMNS = [
+  ["Calls", "calls that returned"], ["With callees %", "part of all instructions, with what is called"],
+  ["Its own %", "its own part of all instructions, without what is called"],
+  ["Growth", "how many times the cost of these calls grows where their size doubles"], ["Routine", ""],
+];
 
 function treeRow(node, level, place, of) {
   const row = make("tr", "");
@@ -99,9 +103,10 @@ function showContexts(routine) {
 
 function makeTree() {
   const head = byId("tree").tHead.rows[0];
-  for (const name of TREE_COLUMNS) {
+  for (const [name, about] of TREE_COLUMNS) {
     const cell = make("th", name === "Routine" ? "name" : "number", name);
     cell.scope = "col";
+    cell.title = about;
     head.append(cell);
   }
   byId("tree").addEventListener("keydown", moveInTree);

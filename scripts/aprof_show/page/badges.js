@@ -1,0 +1,33 @@
+// What stands beside or around a growth or a share, and the key that tells of what the listed routines have.
+const BOUNDS = { "≥": "at least: a call was still open at the end", "≤": "at most: calls nested in one another were counted each" };
+
+const lookOf = (name) => (cell) => cell.classList.add(name);
+
+const BADGES = [
+  { has: (r) => r.steep && !r.weak, word: "superlinear", about: "superlinear: faster than n log n, at least at the largest sizes", put: lookOf("steep") },
+  { has: (r) => r.steep && r.weak, word: "superlinear, uncertain", about: "superlinear, but uncertain: few sizes, or sizes within a factor of 4",
+    put: (cell) => cell.classList.add("steep", "doubt") },
+  { has: (r) => !r.steep && r.weak, word: "uncertain", about: "uncertain: few sizes, or sizes within a factor of 4", put: lookOf("doubt") },
+  { has: (r) => r.many, word: "called too often", about: "harmless itself, but called so often that what calls it is superlinear",
+    put: (cell, number) => { cell.classList.add("many"); number.prepend("∗"); } },
+  { has: (r) => r.rising !== null, word: "rising", about: "rises from size to size: steeper than this at larger ones, so watch it",
+    put: (cell, number) => number.append("↑") },
+];
+
+const badgesOf = (routine) => BADGES.filter(({ has }) => has(routine));
+
+// the key: an entry for each badge, bound and dash that these routines have
+function tellKey(rows) {
+  const entry = (sign, text) => make("span", "", sign, ` ${text}`);
+  const entries = BADGES.filter(({ has }) => rows.some(has)).map(({ put, about }) => {
+    const [cell, number] = [make("span", "rate"), make("b", "", "×2.5")];
+    put(cell, number);
+    cell.append(number);
+    return entry(cell, about);
+  });
+  if (rows.some((r) => r.growth === null)) entries.push(entry(make("b", "", MINUS), "one size of input: nothing to tell of growth"));
+  for (const [sign, about] of Object.entries(BOUNDS)) {
+    if (rows.some(({ bound }) => bound === sign)) entries.push(entry(make("b", "", sign), about));
+  }
+  byId("key").replaceChildren(...entries);
+}
