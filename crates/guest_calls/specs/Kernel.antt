@@ -1,5 +1,5 @@
 -- What the kernel keeps of a guest.
-use Rattle.std.specs.Prelude.{ℕ, ◌+◌, ◌-◌, ◌^◌, min, Bool, not, ◌&&◌, ◌||◌, ◌==◌, List, [], ◌∷◌, ◌++◌, map, filter, replicate, slice_set, slice_index_or, Option, Some, None}
+use Rattle.std.specs.Prelude.{ℕ, zero, suc, ◌+◌, ◌-◌, ◌^◌, min, Bool, not, ◌&&◌, ◌||◌, ◌==◌, List, [], ◌∷◌, ◌++◌, map, filter, replicate, slice_set, slice_index_or, Option, Some, None}
 use Rattle.std.specs.List.{list_any}
 use Rattle.futex_table.specs.declared.waiter.Waiter.{Waiter}
 use Rattle.futex_table.specs.Once.{waits}
@@ -67,6 +67,11 @@ last_time = 2 ^ 64 - 1
 -- the time is that of one step later
 abbrev pub later : KernelState → KernelState
 later k = record k { time = min (k.time + step_time) last_time }
+
+-- the time is that of so many steps later
+abbrev pub later_by : ℕ → KernelState → KernelState
+later_by zero k = k
+later_by (suc n) k = later (later_by n k)
 
 -- ---- threads
 abbrev pub is_thread : ℕ → Thread → Bool

@@ -3,7 +3,7 @@ ghost use Rattle.std.specs.Prelude.{◌≡◌, ◌≤◌, ◌+◌, true, None, I
 ghost use Rattle.std.specs.Option.{option_map};
 ghost use Rattle.guest_memory.specs.Guest.{memory_of};
 ghost use Rattle.guest_calls.specs.Invariant.{IsState};
-ghost use Rattle.guest_calls.specs.Kernel.{started, can_run, later, lives, ready};
+ghost use Rattle.guest_calls.specs.Kernel.{started, can_run, later, later_by, lives, ready};
 ghost use Rattle.guest_calls.specs.Pages.{IsBreakFree};
 ghost use Rattle.guest_calls.specs.Waking.{moved_on, next_due, woken_by_time};
 ghost use Rattle.virtual_clock.specs.Order.{IsDue};
@@ -132,6 +132,14 @@ impl Kernel {
         ensures { self.new ≡ record self.old { state = later self.old.state } }
     {
         self.state.tick();
+    }
+
+    /// The time goes on by so many steps.
+    #[inline(always)]
+    pub fn advance_by(&mut self, steps: u64)
+        ensures { self.new ≡ record self.old { state = later_by steps self.old.state } }
+    {
+        self.state.tick_by(steps);
     }
 
     /// Whether the thread lives, does not wait and has no deadline.

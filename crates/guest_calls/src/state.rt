@@ -1,7 +1,7 @@
 //! What the kernel keeps of a guest.
 ghost use Rattle.std.specs.Prelude.{◌≡◌, IfOk};
 ghost use Rattle.guest_calls.specs.Invariant.{IsState};
-ghost use Rattle.guest_calls.specs.Kernel.{can_run, is_blocked, later, lives, ready, started};
+ghost use Rattle.guest_calls.specs.Kernel.{can_run, is_blocked, later, later_by, lives, ready, started};
 
 use crate::Inputs;
 use crate::descriptor::Descriptor;
@@ -96,6 +96,14 @@ impl State {
         ensures { self.new ≡ later self.old }
     {
         self.time = self.time.saturating_add(STEP_TIME);
+    }
+
+    /// The time goes on by so many steps.
+    #[inline(always)]
+    pub fn tick_by(&mut self, steps: u64)
+        ensures { self.new ≡ later_by steps self.old }
+    {
+        self.time = self.time.saturating_add(steps.saturating_mul(STEP_TIME));
     }
 
     /// The time is this one.

@@ -13,3 +13,5 @@ pub mod Limits
 pub mod ClockWakings
 pub mod AllWoken
 pub mod Ranges
+pub mod Handed
+pub mod Carried

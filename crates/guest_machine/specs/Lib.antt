@@ -9,3 +9,6 @@ pub mod Sound
 pub mod Parts
 pub mod Setup
 pub mod Laws
+pub mod Running
+-- What the private parts owe one another.
+pub mod Carrying

@@ -6,28 +6,27 @@ ghost use Rattle.guest_calls.specs.Table.{call};
 ghost use Rattle.guest_machine.specs.Kept.{IsAsBefore, Parts, Steps, machine_of, out_of};
 ghost use Rattle.guest_machine.specs.Machine.{can_run, later};
 ghost use Rattle.guest_machine.specs.Parts.{parts_of};
+ghost use Rattle.guest_machine.specs.Running.{MakesSteps, MayTakeSteps};
 ghost use Rattle.guest_machine.specs.Sound.{IsSound};
-ghost use Rattle.guest_machine.specs.Told.{IsAlone, IsInstruction, IsQuiet, stepped_of, told};
-ghost use Rattle.guest_machine.specs.Step.{access_events, after_call, call_of, executed, faulted, instruction_at, jump_events, next_instruction, pc_of, step};
-ghost use Rattle.guest_machine.specs.declared.stepped.Stepped.TheVariants.{Went};
-ghost use Rattle.trace_model.specs.declared.event_kinds.Event.TheVariants.{Step};
+ghost use Rattle.guest_machine.specs.Told.{IsInstruction, IsQuiet, stepped_of, told};
+ghost use Rattle.guest_machine.specs.Step.{after_call, call_of, executed, faulted, instruction_at, next_instruction, pc_of, step};
 ghost use Rattle.trace_model.specs.EventList.{EventList};
-ghost use Rattle.call_tracker.specs.Links.{kind_of};
 ghost use Rattle.trace_model.specs.declared.event_kinds.Event.{Event};
 
 use crate::answers::apply_answer;
 use crate::hart::{cpu_of, execute_for};
+use crate::known::run_on;
 use crate::step_events::{add_jump, add_step};
-use crate::{Advanced, Stepped};
-use call_tracker::{JumpKind, kind};
+use crate::telling::told;
+use crate::{Advanced, KnownSteps, Stepped};
 use guest_calls::Kernel;
 use guest_memory::{GuestMemory, Reservations};
 use guest_words::limits::{CALL_EVENTS, THREADS};
 use guest_words::{Addr, ByThread, FaultKind, Tid};
-use rv_exec::{Access, Cpu, Outcome};
+use rv_exec::{Cpu, Outcome};
 use rv_isa::{Instr, decode};
 use std::alloc::AllocError;
-use trace_model::{Event, Events};
+use trace_model::{Event, Events, Observer};
 
 /// The room for the events of an instruction: its step, and at most two accesses, or a return and a call.
 const EVENTS_OF_AN_INSTRUCTION: usize = 4;
@@ -59,29 +58,6 @@ fn make_room(events: &mut Events) -> Result<(), AllocError>
         return Ok(());
     }
     events.reserve(EVENTS_OF_AN_INSTRUCTION)
-}
-
-// What is told of an instruction that went.
-#[inline(always)]
-fn told(instruction: &Instr, access: Access, target: Addr, back: Addr) -> Advanced
-    requires alone { IsAlone access (kind_of instruction.now) }
-    ensures events { (tid : ℕ) → told tid result
-        ≡ Step tid ∷ (access_events tid access
-        ++ jump_events (kind_of instruction.now) tid target back) }
-    ensures stepped { stepped_of result ≡ Went }
-    ensures instruction { IsInstruction result }
-    ensures quiet { (new : Parts) (events : EventList) → out_of new ≡ None
-        → IsQuiet result new events events }
-{
-    match access {
-        Access::Nothing => match kind(*instruction) {
-            JumpKind::Nothing => Advanced::Ran,
-            jump => Advanced::Jumped { jump, target, back },
-        },
-        Access::Read { .. } => Advanced::Accessed { access },
-        Access::Write { .. } => Advanced::Accessed { access },
-        Access::Both { .. } => Advanced::Accessed { access },
-    }
 }
 
 #[tactic(auto, unfolding(crate::specs::Kept::machine_of, crate::specs::Step::step))]
@@ -141,35 +117,33 @@ impl Guest {
         }
     }
 
-    /// Runs one step of a thread that can run, where its instruction is known, is no ECALL and does not fault; else nothing
-    /// changes. The events are those that are told.
-    #[inline(always)]
-    pub(crate) fn advance_known(&mut self, tid: Tid) -> Option<Advanced>
+    /// Makes at most so many steps of a thread that can run, while the instruction of each can be known, is no ECALL and does
+    /// not fault, and while the observer takes its events.
+    pub(crate) fn run_known<W: Observer>(
+        &mut self,
+        tid: Tid,
+        most: u64,
+        observer: &mut W,
+    ) -> Result<KnownSteps, AllocError>
         requires sound { IsSound (machine_of (parts_of self.old)) }
         requires can_run { can_run (machine_of (parts_of self.old)) tid ≡ true }
-        ensures step { IfSome result (λ advanced. Steps (step (machine_of (parts_of self.old)) tid)
-            (stepped_of advanced) (parts_of self.new) [] (told tid advanced)) }
-        ensures kept { IfNone result (machine_of (parts_of self.new)
-            ≡ machine_of (parts_of self.old)) }
+        requires next { MayTakeSteps W.stands (W.fits observer.old) observer.old
+            (machine_of (parts_of self.old)) tid most }
+        ensures made { IfOk result (MakesSteps W.stands (W.fits observer.old)
+            (machine_of (parts_of self.old)) tid observer.old (parts_of self.new) observer.new) }
+        ensures most { IfOk result (λ known. known.count ≤ most) }
+        ensures same { W.fits observer.new ≡ W.fits observer.old }
         ensures sound { IsSound (machine_of (parts_of self.new)) }
         ensures spare { length self.new.harts.list + self.new.harts.room
             ≡ length self.old.harts.list + self.old.harts.room }
         ensures entry { self.new.entry ≡ self.old.entry }
-        ensures quiet { IfSome result (λ advanced. out_of (parts_of self.new) ≡ None) }
-        ensures instruction { IfSome result IsInstruction }
     {
-        let pc = cpu_of(&self.harts, tid).pc;
-        match self.memory.known_instruction(pc) {
-            None => {
-                self.memory.learn_instruction(pc);
-                None
-            }
-            Some(Instr::Ecall) => None,
-            Some(instruction) => match self.carry_out(tid, pc, &instruction) {
-                Ok(advanced) => Some(advanced),
-                Err(_) => None,
-            },
-        }
+        let cpu = self.harts.get_mut(tid).unwrap();
+        let (count, observed) = run_on(cpu, &mut self.memory, &mut self.held, tid, most, observer);
+        self.called = false;
+        self.kernel.advance_by(count);
+        let observed = observed?;
+        Ok(KnownSteps { count, observed })
     }
 
     // Calls the kernel, and lets the threads start, wait or end as it answers.

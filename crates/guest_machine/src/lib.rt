@@ -10,6 +10,7 @@ mod answers;
 mod guest;
 mod hart;
 mod image_pages;
+mod known;
 mod laws;
 mod machine;
 mod setup;
@@ -17,11 +18,14 @@ mod stack;
 mod start_memory;
 mod step_events;
 mod stepped;
+mod telling;
 mod waking;
 
+pub use known::KnownSteps;
 pub use laws::{
     every_step_is_in_range, every_step_is_short, every_step_is_traced, every_waking_ends,
 };
 pub use machine::Machine;
 pub use setup::SetupError;
 pub use stepped::{Advanced, Stepped};
+pub use telling::{observe_access, observe_jump, observe_step};

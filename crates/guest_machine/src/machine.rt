@@ -4,14 +4,14 @@ ghost use Rattle.std.specs.Prelude.{◌≡◌, ◌≢◌, ◌≤◌, true, Ok, O
 use crate::guest::Guest;
 use crate::setup::first_guest;
 use crate::stack::strings_length;
-use crate::{Advanced, SetupError, Stepped};
+use crate::{Advanced, KnownSteps, SetupError, Stepped};
 use elf_image::Image;
 use guest_calls::Inputs;
 use guest_words::limits::{PAGES, STACK_PAGES};
 use guest_words::{Addr, ReadyList, Tid};
 use std::alloc::{AllocError, Global};
 use std::marker::Model;
-use trace_model::Events;
+use trace_model::{Events, Observer};
 
 /// A guest between two steps.
 #[derive(Drop)]
@@ -46,11 +46,11 @@ impl Machine {
     ghost use Rattle.rv_isa.specs.declared.instruction.Instr.TheVariants.{Ecall};
     ghost use Rattle.guest_machine.specs.Kept.{machine_of, out_of, IsAsBefore, Steps};
     ghost use Rattle.guest_machine.specs.Machine.{can_run, ready};
-    ghost use Rattle.guest_machine.specs.Told.{IsInstruction, IsQuiet, stepped_of, told};
+    ghost use Rattle.guest_machine.specs.Running.{MakesSteps, MayTakeSteps};
+    ghost use Rattle.guest_machine.specs.Told.{IsQuiet, stepped_of, told};
     ghost use Rattle.std.specs.Prelude.{◌++◌};
     ghost use Rattle.guest_machine.specs.Step.{next_instruction, step};
     ghost use Rattle.guest_machine.specs.Waking.{woken};
-    ghost use Rattle.std.specs.Prelude.{[]};
 
     /// A machine that begins: the image's segments, the argument strings, the first of which is the program's name, the
     /// input files, and what is on standard input.
@@ -91,19 +91,25 @@ impl Machine {
         }
     }
 
-    /// Runs one step of a thread that can run, where its instruction can run and is no ECALL; else nothing changes. The events
-    /// are told by what the instruction did. It takes no memory.
-    #[inline(always)]
-    pub fn advance_known(&mut self, tid: Tid) -> Option<Advanced>
-        requires { can_run (machine_of self.old) tid ≡ true }
-        ensures step { IfSome result (λ advanced. Steps (step (machine_of self.old) tid)
-            (stepped_of advanced) self.new [] (told tid advanced)) }
-        ensures kept { IfNone result (machine_of self.new ≡ machine_of self.old) }
+    /// Makes at most so many steps of a thread that can run, one after the other, while the instruction of each can run and is
+    /// no ECALL, and while the observer takes its events. It takes no memory but the observer's: where that refuses some, nothing
+    /// more is known of either.
+    pub fn run_known<W: Observer>(
+        &mut self,
+        tid: Tid,
+        most: u64,
+        observer: &mut W,
+    ) -> Result<KnownSteps, AllocError>
+        requires can_run { can_run (machine_of self.old) tid ≡ true }
+        requires next { MayTakeSteps W.stands (W.fits observer.old) observer.old
+            (machine_of self.old) tid most }
+        ensures made { IfOk result (MakesSteps W.stands (W.fits observer.old)
+            (machine_of self.old) tid observer.old self.new observer.new) }
+        ensures most { IfOk result (λ known. known.count ≤ most) }
+        ensures same { W.fits observer.new ≡ W.fits observer.old }
         ensures entry { self.new.entry ≡ self.old.entry }
-        ensures quiet { IfSome result (λ advanced. out_of self.new ≡ None) }
-        ensures instruction { IfSome result IsInstruction }
     {
-        self.guest.advance_known(tid)
+        self.guest.run_known(tid, most, observer)
     }
 
     /// Runs one step of a thread that can run. The events of an instruction that went are told by what it did, and those of

@@ -10,13 +10,11 @@ use Rattle.trace_model.specs.Observing.{MayTakeAll}
 use Rattle.trace_model.specs.Profile.{steps}
 use Rattle.thread_sched.specs.TurnRule.{SchedulerState}
 use Rattle.trace_model.proofs.Cut.{cut-fits}
-use Rattle.guest_machine.specs.Kept.{machine_of}
 use Rattle.guest_machine.specs.Laws.{KeepsThreads}
 use Rattle.guest_machine.specs.Machine.{MachineState, can_run}
 use Rattle.guest_machine.specs.Step.{step}
 use Rattle.guest_run.specs.declared.turn_status.TurnStatus.{TurnStatus}
 use Rattle.guest_run.specs.declared.turn_status.TurnStatus.TheVariants.{GoesOn, TurnOver, Ends}
-use Rattle.guest_run.specs.declared.run.Runner.{Runner}
 use Rattle.guest_run.specs.declared.run_error.Channel.{Channel}
 use Rattle.guest_run.specs.declared.run_error.RunError.{RunError}
 use Rattle.guest_run.specs.declared.run_error.RunError.TheVariants.{CannotPut, Memory}
@@ -24,7 +22,7 @@ use Rattle.guest_run.specs.declared.turns.Choice.TheVariants as choice
 use Rattle.guest_run.specs.declared.turns.CurrentTurn.{CurrentTurn}
 use Rattle.guest_run.specs.declared.turns.Recorder.{Recorder}
 use Rattle.guest_run.specs.CurrentTurn.{IsUnderWay, chosen_of, position, recorded}
-use Rattle.guest_run.specs.Going.{Advances, IsGoing, IsOver, IsPastOf, Leads, observed, past_by, with_moves}
+use Rattle.guest_run.specs.Going.{Advances, IsGoing, IsOver, IsPastOf, Leads, Standing, observed, past_by, with_moves}
 use Rattle.guest_run.specs.Going as going
 use Rattle.guest_run.specs.Machine.{Machine, Progress, guest}
 use Rattle.guest_run.specs.Output.{FailsOn, Sinks, with_output, with_sent}
@@ -53,19 +51,19 @@ run-moves machine more at opens to e = ap (go_on machine (run_from machine more)
 
 -- the events of its next step may come
 pub may_take : {W : Type 0} (Stands : W → List Event → Type 0) (fits : List Event → Bool) (first : List Event) (start : Position MachineState)
-    (moves : List Move) (r : Runner) (observer : W) → IsGoing Stands fits first start moves r observer → length moves < RUN_STEPS →
-    (now : MachineState) → KeepsThreads (machine_of r.stepper.machine) now → (tid : ℕ) → can_run now tid ≡ true →
+    (moves : List Move) (r : Standing) (observer : W) → IsGoing Stands fits first start moves r observer → length moves < RUN_STEPS →
+    (now : MachineState) → KeepsThreads r.state now → (tid : ℕ) → can_run now tid ≡ true →
     MayTakeAll Stands fits observer (guest.step now tid).events
 may_take Stands fits first start moves r observer going room now kept tid can = record {
   past = past_by first moves;
   now = going.stands;
   fitting = going.fitting;
-  formed = (past_step now tid (past_by first moves) (past_kept (machine_of r.stepper.machine) now (past_by first moves) kept going.past) can (omega (arith, going.few, room))).formed;
+  formed = (past_step now tid (past_by first moves) (past_kept r.state now (past_by first moves) kept going.past) can (omega (arith, going.few, room))).formed;
 }
 
 -- where the run stands, what the step of a thread gives, and the move that it is
-abbrev at_of : Runner → Position MachineState
-at_of r = position (machine_of r.stepper.machine) r.turn
+abbrev at_of : Standing → Position MachineState
+at_of r = position r.state r.turn
 
 abbrev given_of : MachineState → ℕ → Progress MachineState
 given_of now tid = guest.step now tid
@@ -85,7 +83,7 @@ rest-head now turn opens n (Ends finish) = (record { moves = []; finish = finish
 
 module _ {W : Type 0} (Stands : W → List Event → Type 0) (fits : List Event → Bool) (closed : IsPrefixClosed fits)
     (first : List Event) (start : Position MachineState) (moves : List Move) (before : Sinks)
-    (old : Runner) (watcher : W) (goes : IsGoing Stands fits first start moves old watcher) (mid : Sinks) (put : mid ≡ with_output moves before) where
+    (old : Standing) (watcher : W) (goes : IsGoing Stands fits first start moves old watcher) (mid : Sinks) (put : mid ≡ with_output moves before) where
   whole : (n : ℕ) → observed fits first start (length moves + n) ≡ with_first moves (profiled fits (past_by first moves) (run_from guest n (at_of old)))
   whole n = observed-after fits closed first start (at_of old) moves goes.leads goes.fitting n
 
@@ -94,7 +92,7 @@ module _ {W : Type 0} (Stands : W → List Event → Type 0) (fits : List Event 
   gives_up n = record { earlier = moves; later = _; are = sym (ap (λ (p : Profiled). p.moves) (whole (suc n))); output = put }
 
   -- where no move is made any more, this is observed
-  over-none : (finish : Finish) (n : ℕ) → run_from guest n (at_of old) ≡ record { moves = []; finish = finish } → (new : Runner) → new.recorder ≡ old.recorder →
+  over-none : (finish : Finish) (n : ℕ) → run_from guest n (at_of old) ≡ record { moves = []; finish = finish } → (new : Standing) → new.recorder ≡ old.recorder →
       IsOver Stands (observed fits first start (length moves + n)) before new watcher mid finish
   over-none finish n rest new same =
       let p : Profiled = record { moves = moves ++ []; past = past_by first moves; finish = finish } in
@@ -109,7 +107,7 @@ module _ {W : Type 0} (Stands : W → List Event → Type 0) (fits : List Event 
       })
 
   pub over_stopped : (now : MachineState) (turn : CurrentTurn) (finish : Finish) → chosen guest (at_of old) ≡ chosen_of now turn (choice.Stops finish) →
-      (new : Runner) → new.recorder ≡ old.recorder → (n : ℕ) → IsOver Stands (observed fits first start (length moves + suc n)) before new watcher mid finish
+      (new : Standing) → new.recorder ≡ old.recorder → (n : ℕ) → IsOver Stands (observed fits first start (length moves + suc n)) before new watcher mid finish
   over_stopped now turn finish chose new same n = over-none finish (suc n) (run-stops guest n (at_of old) finish chose) new same
 
   pub over_spent : IsOver Stands (observed fits first start (length moves + 0)) before old watcher mid Budget
@@ -117,7 +115,7 @@ module _ {W : Type 0} (Stands : W → List Event → Type 0) (fits : List Event 
   over_spent = over-none Budget 0 refl old refl
 
   -- ---- a move
-  module _ (now : MachineState) (kept : KeepsThreads (machine_of old.stepper.machine) now) (turn : CurrentTurn) (opens : Bool)
+  module _ (now : MachineState) (kept : KeepsThreads old.state now) (turn : CurrentTurn) (opens : Bool)
       (chose : chosen guest (at_of old) ≡ chosen_of now turn (choice.Moves opens)) (way : IsUnderWay now turn) where
     run-by_status : (n : ℕ) → run_from guest (suc n) (at_of old) ≡ rest_by now turn opens n (given_of now turn.tid).turn_status
     run-by_status n =
@@ -161,15 +159,15 @@ module _ {W : Type 0} (Stands : W → List Event → Type 0) (fits : List Event 
     }
 
     -- the step fails
-    pub step_failed : (new : Runner) (watched : W) (after : Sinks) (e : RunError) → StepEnds Stands fits (given_of now turn.tid) watcher mid new.stepper watched after (Err e) →
+    pub step_failed : (new : Standing) (watched : W) (after : Sinks) (e : RunError) → StepEnds Stands fits (given_of now turn.tid) watcher mid new.state watched after (Err e) →
         Advances Stands fits first start moves before new watched after (Err e)
     step_failed new watched after (CannotPut channel) failed = stops_at_put channel after failed
     step_failed new watched after Memory (inl same) = λ n. subst (IsGivenUp (observed fits first start (length moves + suc n)).moves before) (sym same) (gives_up n)
     step_failed new watched after Memory (inr sent) = gives_up_put after sent
 
     -- ---- the move is made
-    module _ (watched : W) (new : Runner) (after : Sinks) (status : TurnStatus)
-        (is : IsStepped Stands fits (given_of now turn.tid) watcher watched mid new.stepper after status)
+    module _ (watched : W) (new : Standing) (after : Sinks) (status : TurnStatus)
+        (is : IsStepped Stands fits (given_of now turn.tid) watcher watched mid new.state after status)
         (takes : (m : Move) (rest : List Move) → m.opens ≡ opens → m.tid ≡ turn.tid → recorded old.recorder (m ∷ rest) ≡ recorded new.recorder rest) where
       turns-now : (rest : List Move) → recorded new.recorder rest ≡ recording ((moves ++ made_of now turn opens ∷ []) ++ rest)
       turns-now rest =
@@ -230,17 +228,17 @@ module _ {W : Type 0} (Stands : W → List Event → Type 0) (fits : List Event 
               position_after (position now turn) (given_of now turn.tid).state k ≡ at_of new
           same k turns left =
               ap (λ (m : MachineState). let q : Position MachineState = record { state = m; turns = turn.scheduler; left = k } in q) (sym is.state)
-              ∙ ap (λ l. let q : Position MachineState = record { state = machine_of new.stepper.machine; turns = turn.scheduler; left = l } in q) (sym left)
-              ∙ ap (λ s. let q : Position MachineState = record { state = machine_of new.stepper.machine; turns = s; left = new.turn.left } in q) (sym turns)
+              ∙ ap (λ l. let q : Position MachineState = record { state = new.state; turns = turn.scheduler; left = l } in q) (sym left)
+              ∙ ap (λ s. let q : Position MachineState = record { state = new.state; turns = s; left = new.turn.left } in q) (sym turns)
 
       module _ (room : length moves < RUN_STEPS) (made_one : new.recorder.made ≤ old.recorder.made + 1) where
         goes-on : fits (past_after (past_by first moves) (given_of now turn.tid).events) ≡ true → Leads start (moves ++ made_of now turn opens ∷ []) (at_of new) →
-            (0 < new.turn.left → IsUnderWay (machine_of new.stepper.machine) new.turn) → (0 < new.turn.left → 0 < new.recorder.made) →
+            (0 < new.turn.left → IsUnderWay new.state new.turn) → (0 < new.turn.left → 0 < new.recorder.made) →
             going.GoesOn Stands fits first start moves before new watched after
         goes-on fit leads ways began =
             let next = past_after (past_by first moves) (given_of now turn.tid).events in
             let there : next ≡ past_by first (moves ++ made_of now turn opens ∷ []) = sym (past-last first moves (made_of now turn opens)) in
-            let past = past_step now turn.tid (past_by first moves) (past_kept (machine_of old.stepper.machine) now (past_by first moves) kept goes.past) way.able (omega (arith, goes.few, room)) in
+            let past = past_step now turn.tid (past_by first moves) (past_kept old.state now (past_by first moves) kept goes.past) way.able (omega (arith, goes.few, room)) in
             let count = length-append moves (made_of now turn opens ∷ []) in
             record {
               move = made_of now turn opens;
@@ -248,7 +246,7 @@ module _ {W : Type 0} (Stands : W → List Event → Type 0) (fits : List Event 
                 leads = leads;
                 stands = subst (Stands watched) (cut-fits fits next fit ∙ there) seen.0;
                 fitting = ap fits (sym there) ∙ fit;
-                past = subst (λ p. IsPastOf p (machine_of new.stepper.machine)) there (subst (IsPastOf next) (sym is.state) past);
+                past = subst (λ p. IsPastOf p new.state) there (subst (IsPastOf next) (sym is.state) past);
                 few = subst (λ p. steps p ≤ length (moves ++ made_of now turn opens ∷ [])) there (omega (arith, step_adds now turn.tid (past_by first moves), goes.few, count));
                 turns = turns-now;
                 made = omega (arith, made_one, goes.made, count);
@@ -281,6 +279,6 @@ module _ {W : Type 0} (Stands : W → List Event → Type 0) (fits : List Event 
             (leads-on (pred turn.left) (λ n. run-by_status n ∙ ap (rest_by now turn opens n) (sym fit.1 ∙ e)) turns (less ∙ sym (pred-minus turn.left)))
             (λ some. record {
               last = tid ∙ way.last ∙ ap (λ (k : SchedulerState). k.last) (sym turns);
-              able = ap (can_run (machine_of new.stepper.machine)) tid ∙ ap (λ (k : MachineState). can_run k turn.tid) is.state ∙ able;
+              able = ap (can_run new.state) tid ∙ ap (λ (k : MachineState). can_run k turn.tid) is.state ∙ able;
             })
             (λ some. began)

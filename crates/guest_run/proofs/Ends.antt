@@ -16,7 +16,7 @@ use Rattle.guest_run.specs.declared.run.Turned.{Turned}
 use Rattle.guest_run.specs.declared.run_error.RunError.{RunError}
 use Rattle.guest_run.specs.declared.run_error.RunError.TheVariants.{CannotPut, Memory}
 use Rattle.guest_run.specs.CurrentTurn.{position, recorded, with_present}
-use Rattle.guest_run.specs.Going.{Advances, GoesOn, IsGoing, IsNewRunner, IsOver, IsPastOf, MayAdvance, Remains, TurnEnds, observed}
+use Rattle.guest_run.specs.Going.{Advances, GoesOn, IsGoing, IsNewRunner, IsOver, IsPastOf, MayAdvance, Remains, Standing, TurnEnds, observed, standing_of}
 use Rattle.guest_run.specs.Machine.{guest}
 use Rattle.guest_run.specs.Output.{Sinks, with_output}
 use Rattle.guest_run.specs.Profiled.{Profiled, first_past}
@@ -32,12 +32,12 @@ pub not_begun : (p : Profiled) (before : Sinks) → IsGivenUp p.moves before bef
 not_begun p before = record { earlier = []; later = p.moves; are = refl; output = sym (output-none before) }
 
 -- all of it is observed, but the recording wants memory
-over_given_up : {W : Type 0} (Stands : W → List Event → Type 0) (p : Profiled) (before : Sinks) (r : Runner) (observer : W) (after : Sinks) (finish : Finish) →
+over_given_up : {W : Type 0} (Stands : W → List Event → Type 0) (p : Profiled) (before : Sinks) (r : Standing) (observer : W) (after : Sinks) (finish : Finish) →
     IsOver Stands p before r observer after finish → IsGivenUp p.moves before after
 over_given_up Stands p before r observer after finish over = record { earlier = p.moves; later = []; are = append-nil p.moves; output = over.output }
 
 -- so the run ends where all of it is observed
-pub ends_over : {W : Type 0} (Stands : W → List Event → Type 0) (p : Profiled) (before : Sinks) (r : Runner) (observer : W) (after : Sinks) (finish : Finish) →
+pub ends_over : {W : Type 0} (Stands : W → List Event → Type 0) (p : Profiled) (before : Sinks) (r : Standing) (observer : W) (after : Sinks) (finish : Finish) →
     IsOver Stands p before r observer after finish → (result : Result Ended RunError) →
     IfOk result (λ ended. (ended.recording ≡ recorded r.recorder []) × (ended.finish ≡ finish)) → IfErr result (λ e. e ≡ Memory) →
     RunEnds Stands p before observer after result
@@ -47,7 +47,7 @@ ends_over Stands p before r observer after finish over (Err e) none is =
     subst (λ (why : RunError). RunEnds Stands p before observer after (Err why)) (sym is) (over_given_up Stands p before r observer after finish over)
 
 module _ {W : Type 0} (Stands : W → List Event → Type 0) (fits : List Event → Bool) (first : List Event) (begin : Position MachineState)
-    (before : Sinks) (count : ℕ) (r : Runner) (observer : W) (now : Sinks) (remains : Remains Stands fits first begin before count r observer now) where
+    (before : Sinks) (count : ℕ) (r : Standing) (observer : W) (now : Sinks) (remains : Remains Stands fits first begin before count r observer now) where
   pub may_advance : count < RUN_STEPS → MayAdvance Stands fits r observer
   may_advance room = record {
     first = first;
@@ -57,7 +57,7 @@ module _ {W : Type 0} (Stands : W → List Event → Type 0) (fits : List Event 
     room = omega (arith, room, remains.count_is);
   }
 
-  remains_next : (new : Runner) (watched : W) (after : Sinks) → GoesOn Stands fits first begin remains.moves before new watched after →
+  remains_next : (new : Standing) (watched : W) (after : Sinks) → GoesOn Stands fits first begin remains.moves before new watched after →
       Remains Stands fits first begin before (count + 1) new watched after
   remains_next new watched after goes = record {
     moves = remains.moves ++ goes.move ∷ [];
@@ -67,7 +67,7 @@ module _ {W : Type 0} (Stands : W → List Event → Type 0) (fits : List Event 
   }
 
   -- the run goes on so, by the same test of its observer
-  pub advances_by : (same : List Event → Bool) → same ≡ fits → count < RUN_STEPS → (new : Runner) (watched : W) (after : Sinks) (end : Result (Option Finish) RunError) →
+  pub advances_by : (same : List Event → Bool) → same ≡ fits → count < RUN_STEPS → (new : Standing) (watched : W) (after : Sinks) (end : Result (Option Finish) RunError) →
       ((first' : List Event) (begin' : Position MachineState) (moves : List Move) (before' : Sinks) → IsGoing Stands same first' begin' moves r observer →
       length moves < RUN_STEPS → now ≡ with_output moves before' → Advances Stands same first' begin' moves before' new watched after end) →
       Advances Stands fits first begin remains.moves before new watched after end
@@ -75,7 +75,7 @@ module _ {W : Type 0} (Stands : W → List Event → Type 0) (fits : List Event 
       subst (λ (test : List Event → Bool). IsGoing Stands test first begin remains.moves r observer → Advances Stands test first begin remains.moves before new watched after end) is
       (λ going. advances first begin remains.moves before going (omega (arith, room, remains.count_is)) remains.output) remains.going
 
-  pub next_by : (new : Runner) (watched : W) (after : Sinks) (end : Option Finish) → end ≡ None →
+  pub next_by : (new : Standing) (watched : W) (after : Sinks) (end : Option Finish) → end ≡ None →
       Advances Stands fits first begin remains.moves before new watched after (Ok end) → Remains Stands fits first begin before (count + 1) new watched after
   next_by new watched after None is goes = remains_next new watched after goes
   next_by new watched after (Some finish) is over = absurd (cc)
@@ -91,14 +91,14 @@ module _ {W : Type 0} (Stands : W → List Event → Type 0) (fits : List Event 
   budget-by : (budget : ℕ) → count < budget → length remains.moves + suc (budget - (count + 1)) ≡ budget
   budget-by budget low = omega (arith, remains.count_is, low)
 
-  pub over_by : (budget : ℕ) → count < budget → (new : Runner) (watched : W) (after : Sinks) (finish : Finish) →
+  pub over_by : (budget : ℕ) → count < budget → (new : Standing) (watched : W) (after : Sinks) (finish : Finish) →
       ((n : ℕ) → IsOver Stands (observed fits first begin (length remains.moves + suc n)) before new watched after finish) →
       IsOver Stands (observed fits first begin budget) before new watched after finish
   over_by budget low new watched after finish over =
       subst (λ n. IsOver Stands (observed fits first begin n) before new watched after finish) (budget-by budget low) (over (budget - (count + 1)))
 
   -- it is given up by the next move
-  pub ends_failed : (budget : ℕ) → count < budget → (new : Runner) (watched : W) (after : Sinks) (e : RunError) →
+  pub ends_failed : (budget : ℕ) → count < budget → (new : Standing) (watched : W) (after : Sinks) (e : RunError) →
       Advances Stands fits first begin remains.moves before new watched after (Err e) → RunEnds Stands (observed fits first begin budget) before watched after (Err e)
   ends_failed budget low new watched after (CannotPut channel) fails =
       subst (λ n. StopsAtPut channel (observed fits first begin n).moves before after) (budget-by budget low) (fails (budget - (count + 1)))
@@ -107,13 +107,13 @@ module _ {W : Type 0} (Stands : W → List Event → Type 0) (fits : List Event 
 
 -- the same test of an observer
 pub remains_same : {W : Type 0} (Stands : W → List Event → Type 0) (fits same : List Event → Bool) → same ≡ fits → (first : List Event) (begin : Position MachineState)
-    (before : Sinks) (count : ℕ) (r : Runner) (observer : W) (now : Sinks) → Remains Stands fits first begin before count r observer now →
+    (before : Sinks) (count : ℕ) (r : Standing) (observer : W) (now : Sinks) → Remains Stands fits first begin before count r observer now →
     Remains Stands same first begin before count r observer now
 remains_same Stands fits same is first begin before count r observer now remains =
     subst (λ (test : List Event → Bool). Remains Stands test first begin before count r observer now) (sym is) remains
 
 pub turn_same : {W : Type 0} (Stands : W → List Event → Type 0) (fits same : List Event → Bool) → same ≡ fits → (first : List Event) (begin : Position MachineState)
-    (before : Sinks) (budget : ℕ) (r : Runner) (observer : W) (after : Sinks) (result : Result Turned RunError) →
+    (before : Sinks) (budget : ℕ) (r : Standing) (observer : W) (after : Sinks) (result : Result Turned RunError) →
     TurnEnds Stands same first begin before budget r observer after result → TurnEnds Stands fits first begin before budget r observer after result
 turn_same Stands fits same is first begin before budget r observer after result ends =
     subst (λ (test : List Event → Bool). TurnEnds Stands test first begin before budget r observer after result) is ends
@@ -140,7 +140,7 @@ past_first parts at =
 pub remains_first : {W : Type 0} (Stands : W → List Event → Type 0) (fits : List Event → Bool) (parts : Parts) (turns : SchedulerState)
     (before : Sinks) (r : Runner) (observer : W) → IsAtStart parts → IsNewRunner parts turns r →
     Stands observer (first_past parts.entry) → fits (first_past parts.entry) ≡ true →
-    Remains Stands fits (first_past parts.entry) (start turns (machine_of parts)) before 0 r observer before
+    Remains Stands fits (first_past parts.entry) (start turns (machine_of parts)) before 0 (standing_of r) observer before
 remains_first Stands fits parts turns before r observer at new stands fitting = record {
   moves = [];
   going = record {

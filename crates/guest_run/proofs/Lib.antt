@@ -1,4 +1,3 @@
-pub mod Handed
 pub mod Able
 pub mod Chosen
 pub mod Watched

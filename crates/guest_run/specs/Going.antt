@@ -1,9 +1,7 @@
 -- A run that goes on, as the program makes it.
-use Rattle.std.specs.Prelude.{◌≡◌, ℕ, suc, ◌+◌, ◌-◌, ◌<◌, ◌≤◌, Bool, true, false, List, [], ◌∷◌, ◌++◌, length, Option, Some, None, Result, Ok, Err, All}
-use Rattle.std.specs.declared.alloc.AllocError.{AllocError}
+use Rattle.std.specs.Prelude.{◌≡◌, ℕ, suc, ◌+◌, ◌-◌, ◌<◌, ◌≤◌, Bool, true, List, [], ◌∷◌, ◌++◌, length, Option, Some, None, Result, Ok, Err, All}
 use Rattle.guest_words.specs.declared.limits.TheConstants.{RUN_STEPS}
 use Rattle.guest_words.specs.declared.endings.Finish.{Finish}
-use Rattle.guest_words.specs.declared.endings.Finish.TheVariants.{Deep}
 use Rattle.trace_model.specs.declared.event_kinds.Event.{Event}
 use Rattle.trace_model.specs.Cut.{past_after}
 use Rattle.trace_model.specs.Parts.{IsShort, parts}
@@ -13,13 +11,12 @@ use Rattle.thread_sched.specs.TurnRule.{SchedulerState}
 use Rattle.guest_machine.specs.Kept.{Parts, machine_of}
 use Rattle.guest_machine.specs.Laws.{IsWithinLimits, StandsFor}
 use Rattle.guest_machine.specs.Machine.{MachineState}
-use Rattle.guest_run.specs.declared.run.KnownMoves.{KnownMoves}
+use Rattle.guest_machine.specs.Running.{after_steps}
 use Rattle.guest_run.specs.declared.run.Runner.{Runner}
 use Rattle.guest_run.specs.declared.run.Turned.{Turned}
 use Rattle.guest_run.specs.declared.run.Turned.TheVariants as turned
 use Rattle.guest_run.specs.declared.run_error.RunError.{RunError}
 use Rattle.guest_run.specs.declared.run_error.RunError.TheVariants.{CannotPut, Memory}
-use Rattle.guest_run.specs.declared.stepper.Stepper.{Stepper}
 use Rattle.guest_run.specs.declared.turns.CurrentTurn.{CurrentTurn}
 use Rattle.guest_run.specs.declared.turns.Recorder.{Recorder}
 use Rattle.guest_run.specs.CurrentTurn.{IsUnderWay, position, recorded}
@@ -48,18 +45,27 @@ pub record IsPastOf (past : List Event) (m : MachineState) : Type 0 where
 abbrev pub past_by : List Event → List Move → List Event
 past_by first moves = past_after first (events_of moves)
 
+-- Where a run stands: the state of its machine, the present turn and the recording so far.
+pub record Standing : Type 0 where
+  pub state : MachineState
+  pub turn : CurrentTurn
+  pub recorder : Recorder
+
+abbrev pub standing_of : Runner → Standing
+standing_of r = record { state = machine_of r.stepper.machine; turn = r.turn; recorder = r.recorder }
+
 -- The run that began there made these moves so far; the observer has their events, which fit; the recording has their turns;
 -- and the thread whose turn goes on can run, as it made a move of it.
 pub record IsGoing {W : Type 0} (Stands : W → List Event → Type 0) (fits : List Event → Bool) (first : List Event)
-    (start : Position MachineState) (moves : List Move) (r : Runner) (observer : W) : Type 0 where
-  pub leads : Leads start moves (position (machine_of r.stepper.machine) r.turn)
+    (start : Position MachineState) (moves : List Move) (r : Standing) (observer : W) : Type 0 where
+  pub leads : Leads start moves (position r.state r.turn)
   pub stands : Stands observer (past_by first moves)
   pub fitting : fits (past_by first moves) ≡ true
-  pub past : IsPastOf (past_by first moves) (machine_of r.stepper.machine)
+  pub past : IsPastOf (past_by first moves) r.state
   pub few : steps (past_by first moves) ≤ length moves
   pub turns : (rest : List Move) → recorded r.recorder rest ≡ recording (moves ++ rest)
   pub made : r.recorder.made ≤ length moves
-  pub way : 0 < r.turn.left → IsUnderWay (machine_of r.stepper.machine) r.turn
+  pub way : 0 < r.turn.left → IsUnderWay r.state r.turn
   pub began : 0 < r.turn.left → 0 < r.recorder.made
 
 -- No move was made.
@@ -71,7 +77,7 @@ pub record IsNewRunner (machine : Parts) (turns : SchedulerState) (r : Runner) :
   pub made : r.recorder.made ≡ 0
 
 -- The run may make one more move.
-pub record MayAdvance {W : Type 0} (Stands : W → List Event → Type 0) (fits : List Event → Bool) (r : Runner) (observer : W) : Type 0 where
+pub record MayAdvance {W : Type 0} (Stands : W → List Event → Type 0) (fits : List Event → Bool) (r : Standing) (observer : W) : Type 0 where
   pub first : List Event
   pub start : Position MachineState
   pub moves : List Move
@@ -84,14 +90,14 @@ observed fits first start n = profiled fits first (run_from guest n start)
 
 -- So many moves were made, and the run goes on.
 pub record Remains {W : Type 0} (Stands : W → List Event → Type 0) (fits : List Event → Bool) (first : List Event) (start : Position MachineState)
-    (before : Sinks) (count : ℕ) (r : Runner) (observer : W) (now : Sinks) : Type 0 where
+    (before : Sinks) (count : ℕ) (r : Standing) (observer : W) (now : Sinks) : Type 0 where
   pub moves : List Move
   pub going : IsGoing Stands fits first start moves r observer
   pub output : now ≡ with_output moves before
   pub count_is : length moves ≡ count
 
 -- It is so of some run.
-pub record RemainsSome {W : Type 0} (Stands : W → List Event → Type 0) (fits : List Event → Bool) (count : ℕ) (r : Runner) (observer : W) (now : Sinks) : Type 0 where
+pub record RemainsSome {W : Type 0} (Stands : W → List Event → Type 0) (fits : List Event → Bool) (count : ℕ) (r : Standing) (observer : W) (now : Sinks) : Type 0 where
   pub first : List Event
   pub start : Position MachineState
   pub before : Sinks
@@ -99,13 +105,13 @@ pub record RemainsSome {W : Type 0} (Stands : W → List Event → Type 0) (fits
 
 -- One more move was made, and the run goes on.
 pub record GoesOn {W : Type 0} (Stands : W → List Event → Type 0) (fits : List Event → Bool) (first : List Event)
-    (start : Position MachineState) (moves : List Move) (before : Sinks) (r : Runner) (observer : W) (after : Sinks) : Type 0 where
+    (start : Position MachineState) (moves : List Move) (before : Sinks) (r : Standing) (observer : W) (after : Sinks) : Type 0 where
   pub move : Move
   pub going : IsGoing Stands fits first start (moves ++ move ∷ []) r observer
   pub output : after ≡ with_output (moves ++ move ∷ []) before
 
 -- This is all that is observed of the run.
-pub record IsOver {W : Type 0} (Stands : W → List Event → Type 0) (p : Profiled) (before : Sinks) (r : Runner) (observer : W) (after : Sinks) (finish : Finish) : Type 0 where
+pub record IsOver {W : Type 0} (Stands : W → List Event → Type 0) (p : Profiled) (before : Sinks) (r : Standing) (observer : W) (after : Sinks) (finish : Finish) : Type 0 where
   pub past : Stands observer p.past
   pub output : after ≡ with_output p.moves before
   pub turns : recorded r.recorder [] ≡ recording p.moves
@@ -113,7 +119,7 @@ pub record IsOver {W : Type 0} (Stands : W → List Event → Type 0) (p : Profi
 
 -- How a run goes on that made these moves so far: by one more move, to its end, or not for a put that failed or want of memory.
 abbrev pub Advances : {W : Type 0} → (W → List Event → Type 0) → (List Event → Bool) → List Event → Position MachineState → List Move → Sinks →
-    Runner → W → Sinks → Result (Option Finish) RunError → Type 0
+    Standing → W → Sinks → Result (Option Finish) RunError → Type 0
 Advances Stands fits first start moves before r observer after (Ok None) = GoesOn Stands fits first start moves before r observer after
 Advances Stands fits first start moves before r observer after (Ok (Some finish)) =
     (n : ℕ) → IsOver Stands (observed fits first start (length moves + suc n)) before r observer after finish
@@ -123,26 +129,25 @@ Advances Stands fits first start moves before r observer after (Err Memory) =
     (n : ℕ) → IsGivenUp (observed fits first start (length moves + suc n)).moves before after
 
 -- Whatever moves a run made that goes on, it advances by one more.
-abbrev pub MakesAMove : {W : Type 0} → (W → List Event → Type 0) → (List Event → Bool) → Runner → W → Sinks →
-    Runner → W → Sinks → Result (Option Finish) RunError → Type 0
+abbrev pub MakesAMove : {W : Type 0} → (W → List Event → Type 0) → (List Event → Bool) → Standing → W → Sinks →
+    Standing → W → Sinks → Result (Option Finish) RunError → Type 0
 MakesAMove Stands fits old observed now new observer after result =
     (first : List Event) (start : Position MachineState) (moves : List Move) (before : Sinks)
     → IsGoing Stands fits first start moves old observed → length moves < RUN_STEPS → now ≡ with_output moves before
     → Advances Stands fits first start moves before new observer after result
 
--- a run
-abbrev pub runner : Stepper → CurrentTurn → Recorder → Runner
-runner stepper turn recorder = record { stepper = stepper; turn = turn; recorder = recorder }
-
--- the run after so many further moves of its turn, as its counts say it
-abbrev pub moved : Stepper → CurrentTurn → Recorder → ℕ → Runner
-moved stepper turn recorder n =
-    runner stepper (record turn { left = turn.left - n }) (record recorder { made = recorder.made + n })
+-- where it stands after so many further moves of its turn
+abbrev pub moved : Standing → ℕ → Standing
+moved s n = record {
+  state = after_steps s.state s.turn.tid n;
+  turn = record s.turn { left = s.turn.left - n };
+  recorder = record s.recorder { made = s.recorder.made + n };
+}
 
 -- How a run goes on with moves of a turn: it remains after so many moves in all, or its budget shows how it ended or why it was
 -- given up.
 abbrev pub TurnEnds : {W : Type 0} → (W → List Event → Type 0) → (List Event → Bool) → List Event → Position MachineState → Sinks → ℕ →
-    Runner → W → Sinks → Result Turned RunError → Type 0
+    Standing → W → Sinks → Result Turned RunError → Type 0
 TurnEnds Stands fits first start before budget r observer after (Ok (turned.GoesOn count)) = Remains Stands fits first start before count r observer after
 TurnEnds Stands fits first start before budget r observer after (Ok (turned.Ends finish)) =
     IsOver Stands (observed fits first start budget) before r observer after finish
@@ -150,8 +155,8 @@ TurnEnds Stands fits first start before budget r observer after (Err e) =
     RunEnds Stands (observed fits first start budget) before observer after (Err e)
 
 -- Whatever run remains after so many moves, it goes on so with moves of a turn.
-abbrev pub MakesMoves : {W : Type 0} → (W → List Event → Type 0) → (List Event → Bool) → ℕ → ℕ → Runner → W → Sinks →
-    Runner → W → Sinks → Result Turned RunError → Type 0
+abbrev pub MakesMoves : {W : Type 0} → (W → List Event → Type 0) → (List Event → Bool) → ℕ → ℕ → Standing → W → Sinks →
+    Standing → W → Sinks → Result Turned RunError → Type 0
 MakesMoves Stands fits made budget old observed now new observer after result =
     (first : List Event) (start : Position MachineState) (before : Sinks)
     → Remains Stands fits first start before made old observed now
@@ -161,44 +166,3 @@ MakesMoves Stands fits made budget old observed now new observer after result =
 abbrev pub IsCounted : ℕ → ℕ → Result Turned RunError → Type 0
 IsCounted made budget (Ok (turned.GoesOn count)) = (made ≤ count) × (count ≤ budget)
 IsCounted made budget other = Unit {0}
-
--- ---- moves of known instructions
--- So many moves were made, and so many more may follow in the turn.
-pub record RemainsWith {W : Type 0} (Stands : W → List Event → Type 0) (fits : List Event → Bool) (first : List Event) (start : Position MachineState)
-    (before : Sinks) (made most : ℕ) (r : Runner) (observer : W) (now : Sinks) : Type 0 where
-  pub remains : Remains Stands fits first start before made r observer now
-  pub left : most ≤ r.turn.left
-  pub room : made + most ≤ RUN_STEPS
-
--- It is so of some run with this turn.
-pub record MayMakeMoves {W : Type 0} (Stands : W → List Event → Type 0) (fits : List Event → Bool) (turn : CurrentTurn) (most : ℕ)
-    (stepper : Stepper) (observer : W) : Type 0 where
-  pub recorder : Recorder
-  pub first : List Event
-  pub start : Position MachineState
-  pub before : Sinks
-  pub made : ℕ
-  pub now : Sinks
-  pub remains : RemainsWith Stands fits first start before made most (runner stepper turn recorder) observer now
-
--- After so many known moves the run remains, or the last one was refused, and that is all that the budget shows.
-abbrev pub AfterKnown : {W : Type 0} → (W → List Event → Type 0) → (List Event → Bool) → List Event → Position MachineState → Sinks → ℕ → ℕ →
-    Runner → W → Sinks → Bool → Type 0
-AfterKnown Stands fits first start before made budget r observer now true = IsOver Stands (observed fits first start budget) before r observer now Deep
-AfterKnown Stands fits first start before made budget r observer now false = Remains Stands fits first start before made r observer now
-
--- How a run goes on by known moves, whatever budget allows them; no byte goes out.
-abbrev pub KnownEnds : {W : Type 0} → (W → List Event → Type 0) → (List Event → Bool) → List Event → Position MachineState → Sinks → ℕ → ℕ →
-    CurrentTurn → Recorder → Stepper → W → Sinks → Result KnownMoves AllocError → Type 0
-KnownEnds Stands fits first start before made budget turn recorder stepper observer now (Ok known) =
-    AfterKnown Stands fits first start before (made + known.count) budget (moved stepper turn recorder known.count) observer now known.is_refused
-KnownEnds Stands fits first start before made budget turn recorder stepper observer now (Err e) =
-    RunEnds Stands (observed fits first start budget) before observer now (Err Memory)
-
--- Whatever run remains with this turn, it goes on so.
-abbrev pub MakesKnownMoves : {W : Type 0} → (W → List Event → Type 0) → (List Event → Bool) → CurrentTurn → ℕ →
-    Stepper → W → Stepper → W → Result KnownMoves AllocError → Type 0
-MakesKnownMoves Stands fits turn most old watcher new observer result =
-    (recorder : Recorder) (first : List Event) (start : Position MachineState) (before : Sinks) (made budget : ℕ) (now : Sinks)
-    → RemainsWith Stands fits first start before made most (runner old turn recorder) watcher now → made + most ≤ budget
-    → KnownEnds Stands fits first start before made budget turn recorder new observer now result

@@ -4,7 +4,7 @@ ghost use Rattle.trace_model.specs.declared.event_kinds.Event.{Event};
 ghost use Rattle.guest_machine.specs.Kept.{machine_of};
 ghost use Rattle.guest_run.specs.declared.run_error.RunError.TheVariants.{Memory};
 ghost use Rattle.guest_run.specs.CurrentTurn.{recorded};
-ghost use Rattle.guest_run.specs.Going.{IsCounted, IsNewRunner, MakesAMove, MakesKnownMoves, MakesMoves, MayAdvance, MayMakeMoves, RemainsSome};
+ghost use Rattle.guest_run.specs.Going.{IsCounted, IsNewRunner, MakesAMove, MakesMoves, MayAdvance, RemainsSome, standing_of};
 ghost use Rattle.guest_run.specs.Machine.{guest};
 ghost use Rattle.guest_run.specs.Output.{Sinks, sinks};
 ghost use Rattle.guest_run.specs.Profiled.{first_past, profiled};
@@ -27,13 +27,6 @@ use trace_model::{Event, Observed, Observer};
 pub struct Ended {
     pub finish: Finish,
     pub recording: Recording,
-}
-
-// Moves of a turn whose instructions were known: how many, and whether the observer refused the last one.
-#[derive(Clone, Copy)]
-struct KnownMoves {
-    count: u64,
-    is_refused: bool,
 }
 
 // A run after moves of a turn: it goes on after so many moves, or is at its end.
@@ -68,40 +61,6 @@ fn observe_start<W: Observer>(observer: &mut W, entry: Addr) -> Result<(), Alloc
     }
 }
 
-// Makes at most so many moves of a turn, while their instructions are known.
-fn step_while_known<W: Observer>(
-    stepper: &mut Stepper,
-    turn: &CurrentTurn,
-    most: u64,
-    observer: &mut W,
-) -> Result<KnownMoves, AllocError>
-    requires { MayMakeMoves W.stands (W.fits observer.old) turn.now most stepper.old observer.old }
-    ensures moves { MakesKnownMoves W.stands (W.fits observer.old) turn.now most
-        stepper.old observer.old stepper.new observer.new result }
-    ensures count { IfOk result (λ known. known.count ≤ most) }
-    ensures same { W.fits observer.new ≡ W.fits observer.old }
-{
-    let tid = turn.tid;
-    let mut count = 0;
-    'moves: while count < most {
-        match stepper.step_known(tid, observer)? {
-            Some(Observed::Taken) => {}
-            Some(Observed::Refused) => {
-                return Ok(KnownMoves {
-                    count: count + 1,
-                    is_refused: true,
-                });
-            }
-            None => break 'moves,
-        }
-        count += 1;
-    }
-    Ok(KnownMoves {
-        count,
-        is_refused: false,
-    })
-}
-
 impl Runner {
     /// A run that made no move.
     fn new(alloc: Global, machine: Machine, turns: Sched) -> Result<Runner, AllocError>
@@ -123,10 +82,10 @@ impl Runner {
         out: &mut O,
         err: &mut E,
     ) -> Result<Option<Finish>, RunError>
-        requires { MayAdvance W.stands (W.fits observer.old) self.old observer.old }
+        requires { MayAdvance W.stands (W.fits observer.old) (standing_of self.old) observer.old }
         ensures advances { MakesAMove W.stands (W.fits observer.old)
-            self.old observer.old (sinks (O.state out.old) (E.state err.old))
-            self.new observer.new (sinks (O.state out.new) (E.state err.new)) result }
+            (standing_of self.old) observer.old (sinks (O.state out.old) (E.state err.old))
+            (standing_of self.new) observer.new (sinks (O.state out.new) (E.state err.new)) result }
         ensures same { W.fits observer.new ≡ W.fits observer.old }
         ensures made { IfOk result (λ end. self.new.recorder.made ≤ self.old.recorder.made + 1) }
     {
@@ -158,27 +117,31 @@ impl Runner {
         observer: &mut W,
     ) -> Result<Turned, RunError>
         requires remains { (now : Sinks)
-            × RemainsSome W.stands (W.fits observer.old) made self.old observer.old now }
+            × RemainsSome W.stands (W.fits observer.old) made (standing_of self.old) observer.old now }
         requires budget { made ≤ budget }
         requires limit { budget ≤ RUN_STEPS }
         ensures ends { (now : Sinks) → MakesMoves W.stands (W.fits observer.old) made budget
-            self.old observer.old now self.new observer.new now result }
+            (standing_of self.old) observer.old now (standing_of self.new) observer.new now result }
         ensures count { IsCounted made budget result }
         ensures same { W.fits observer.new ≡ W.fits observer.old }
         ensures made { IfOk result (λ end. self.new.recorder.made ≤ RUN_STEPS) }
     {
         let most = self.turn.left.min(budget - made);
-        let known = step_while_known(&mut self.stepper, &self.turn, most, observer)?;
+        if most == 0 {
+            return Ok(Turned::GoesOn { count: made });
+        }
+        let tid = self.turn.tid;
+        let known = self.stepper.machine.run_known(tid, most, observer)?;
         self.turn.left -= known.count;
         self.recorder.made += known.count;
-        if known.is_refused {
-            return Ok(Turned::Ends {
+        match known.observed {
+            Observed::Taken => Ok(Turned::GoesOn {
+                count: made + known.count,
+            }),
+            Observed::Refused => Ok(Turned::Ends {
                 finish: Finish::Deep,
-            });
+            }),
         }
-        Ok(Turned::GoesOn {
-            count: made + known.count,
-        })
     }
 
     /// Makes moves, from so many on: the next one, and those that follow it in its turn while the budget lasts.
@@ -190,13 +153,13 @@ impl Runner {
         out: &mut O,
         err: &mut E,
     ) -> Result<Turned, RunError>
-        requires remains { RemainsSome W.stands (W.fits observer.old) made self.old observer.old
+        requires remains { RemainsSome W.stands (W.fits observer.old) made (standing_of self.old) observer.old
             (sinks (O.state out.old) (E.state err.old)) }
         requires budget { made < budget }
         requires limit { budget ≤ RUN_STEPS }
         ensures ends { MakesMoves W.stands (W.fits observer.old) made budget
-            self.old observer.old (sinks (O.state out.old) (E.state err.old))
-            self.new observer.new (sinks (O.state out.new) (E.state err.new)) result }
+            (standing_of self.old) observer.old (sinks (O.state out.old) (E.state err.old))
+            (standing_of self.new) observer.new (sinks (O.state out.new) (E.state err.new)) result }
         ensures count { IsCounted (made + 1) budget result }
         ensures same { W.fits observer.new ≡ W.fits observer.old }
         ensures made { IfOk result (λ end. self.new.recorder.made ≤ RUN_STEPS) }

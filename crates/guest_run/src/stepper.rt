@@ -9,17 +9,15 @@ ghost use Rattle.guest_machine.specs.Step.{StepResult, access_events, jump_event
 ghost use Rattle.guest_run.specs.declared.turn_status.TurnStatus.TheVariants.{Ends};
 ghost use Rattle.guest_run.specs.Machine.{guest, progress_of};
 ghost use Rattle.guest_run.specs.Output.{sinks};
-ghost use Rattle.guest_run.specs.Steps.{KnownStepEnds, PutEndsOn, PutsSent, StepEnds};
+ghost use Rattle.guest_run.specs.Steps.{PutEndsOn, PutsSent, StepEnds};
 
 use crate::turn_status::turn_status_of;
 use crate::{Channel, RunError, TurnStatus};
-use call_tracker::JumpKind;
-use guest_machine::{Advanced, Machine, Stepped};
-use guest_words::{Addr, Finish, Tid};
+use guest_machine::{Advanced, Machine, Stepped, observe_access, observe_jump, observe_step};
+use guest_words::{Finish, Tid};
 use host_io::{PutError, Sink};
-use rv_exec::Access;
 use std::alloc::{AllocError, Global};
-use trace_model::{Event, Events, Observed, Observer, feed};
+use trace_model::{Events, Observed, Observer, feed};
 
 /// A machine, with room for the events of a step.
 #[derive(Drop)]
@@ -72,34 +70,6 @@ impl Stepper {
         })
     }
 
-    /// Runs one step of a thread that can run, where its instruction is known, is no ECALL and does not fault: its events are
-    /// handed out, and no byte goes out. Else no step is made.
-    #[inline(always)]
-    pub(crate) fn step_known<W: Observer>(
-        &mut self,
-        tid: Tid,
-        observer: &mut W,
-    ) -> Result<Option<Observed>, AllocError>
-        requires can_run { can_run (machine_of self.old.machine) tid ≡ true }
-        requires next { MayTakeAll W.stands (W.fits observer.old) observer.old
-            (guest.step (machine_of self.old.machine) tid).events }
-        ensures ends { KnownStepEnds W.stands (W.fits observer.old) (machine_of self.old.machine)
-            (guest.step (machine_of self.old.machine) tid) observer.old self.new observer.new result }
-        ensures same { W.fits observer.new ≡ W.fits observer.old }
-    {
-        match self.machine.advance_known(tid) {
-            Some(Advanced::Ran) => Ok(Some(observe_step(tid, observer)?)),
-            Some(Advanced::Accessed { access }) => {
-                Ok(Some(observe_access(tid, access, observer)?))
-            }
-            Some(Advanced::Jumped { jump, target, back }) => {
-                Ok(Some(observe_jump(tid, jump, target, back, observer)?))
-            }
-            Some(Advanced::Other { .. }) => unreachable!(),
-            None => Ok(None),
-        }
-    }
-
     /// Runs one step of a thread that can run: first its bytes are put, then its events are handed out.
     #[inline(always)]
     pub(crate) fn step<W: Observer, O: Sink, E: Sink>(
@@ -115,7 +85,8 @@ impl Stepper {
         ensures ends { StepEnds W.stands (W.fits observer.old)
             (guest.step (machine_of self.old.machine) tid)
             observer.old (sinks (O.state out.old) (E.state err.old))
-            self.new observer.new (sinks (O.state out.new) (E.state err.new)) result }
+            (machine_of self.new.machine) observer.new
+            (sinks (O.state out.new) (E.state err.new)) result }
         ensures same { W.fits observer.new ≡ W.fits observer.old }
     {
         self.events.clear();
@@ -151,7 +122,8 @@ impl Stepper {
         ensures ends { (r : StepResult) → Steps r stepped self.old.machine [] self.old.events.list
             → StepEnds W.stands (W.fits observer.old) (progress_of tid r)
             observer.old (sinks (O.state out.old) (E.state err.old))
-            self.new observer.new (sinks (O.state out.new) (E.state err.new)) result }
+            (machine_of self.new.machine) observer.new
+            (sinks (O.state out.new) (E.state err.new)) result }
         ensures same { W.fits observer.new ≡ W.fits observer.old }
     {
         put_outgoing(&self.machine, out, err)?;
@@ -170,113 +142,5 @@ fn status_of(observed: Observed, status: TurnStatus) -> TurnStatus
         Observed::Refused => TurnStatus::Ends {
             finish: Finish::Deep,
         },
-    }
-}
-
-// Hands out two events.
-#[inline(always)]
-fn observe_two<W: Observer>(
-    first: Event,
-    second: Event,
-    observer: &mut W,
-) -> Result<Observed, AllocError>
-    requires { MayTakeAll W.stands (W.fits observer.old) observer.old (first ∷ second ∷ []) }
-    ensures observed { IfOk result (ObservesAll W.stands (W.fits observer.old)
-        (first ∷ second ∷ []) observer.old observer.new) }
-    ensures same { W.fits observer.new ≡ W.fits observer.old }
-{
-    match observer.observe(first)? {
-        Observed::Taken => observer.observe(second),
-        Observed::Refused => Ok(Observed::Refused),
-    }
-}
-
-// Hands out three events.
-#[inline(never)]
-fn observe_three<W: Observer>(
-    first: Event,
-    second: Event,
-    third: Event,
-    observer: &mut W,
-) -> Result<Observed, AllocError>
-    requires { MayTakeAll W.stands (W.fits observer.old) observer.old
-        (first ∷ second ∷ third ∷ []) }
-    ensures observed { IfOk result (ObservesAll W.stands (W.fits observer.old)
-        (first ∷ second ∷ third ∷ []) observer.old observer.new) }
-    ensures same { W.fits observer.new ≡ W.fits observer.old }
-{
-    match observer.observe(first)? {
-        Observed::Taken => observe_two(second, third, observer),
-        Observed::Refused => Ok(Observed::Refused),
-    }
-}
-
-// Hands out a step.
-#[inline(always)]
-fn observe_step<W: Observer>(tid: Tid, observer: &mut W) -> Result<Observed, AllocError>
-    requires { MayTakeAll W.stands (W.fits observer.old) observer.old (Step tid ∷ []) }
-    ensures observed { IfOk result (ObservesAll W.stands (W.fits observer.old)
-        (Step tid ∷ []) observer.old observer.new) }
-    ensures same { W.fits observer.new ≡ W.fits observer.old }
-{
-    observer.observe(Event::Step { tid })
-}
-
-// Hands out a step and its accesses.
-#[inline(never)]
-fn observe_access<W: Observer>(
-    tid: Tid,
-    access: Access,
-    observer: &mut W,
-) -> Result<Observed, AllocError>
-    requires { MayTakeAll W.stands (W.fits observer.old) observer.old
-        (Step tid ∷ access_events tid access) }
-    ensures observed { IfOk result (ObservesAll W.stands (W.fits observer.old)
-        (Step tid ∷ access_events tid access) observer.old observer.new) }
-    ensures same { W.fits observer.new ≡ W.fits observer.old }
-{
-    let step = Event::Step { tid };
-    match access {
-        Access::Nothing => observe_step(tid, observer),
-        Access::Read { first, count } => {
-            observe_two(step, Event::Read { tid, first, count }, observer)
-        }
-        Access::Write { first, count } => {
-            observe_two(step, Event::Write { tid, first, count }, observer)
-        }
-        Access::Both { word } => {
-            let first = word;
-            let count = 1;
-            let read = Event::Read { tid, first, count };
-            observe_three(step, read, Event::Write { tid, first, count }, observer)
-        }
-    }
-}
-
-// Hands out a step, and the calls and returns of its jump.
-#[inline(never)]
-fn observe_jump<W: Observer>(
-    tid: Tid,
-    jump: JumpKind,
-    target: Addr,
-    back: Addr,
-    observer: &mut W,
-) -> Result<Observed, AllocError>
-    requires { MayTakeAll W.stands (W.fits observer.old) observer.old
-        (Step tid ∷ jump_events jump tid target back) }
-    ensures observed { IfOk result (ObservesAll W.stands (W.fits observer.old)
-        (Step tid ∷ jump_events jump tid target back) observer.old observer.new) }
-    ensures same { W.fits observer.new ≡ W.fits observer.old }
-{
-    let step = Event::Step { tid };
-    let entry = target;
-    match jump {
-        JumpKind::Nothing => observe_step(tid, observer),
-        JumpKind::Push => observe_two(step, Event::Call { tid, entry, back }, observer),
-        JumpKind::Pop => observe_two(step, Event::Ret { tid, target }, observer),
-        JumpKind::PopPush => {
-            let call = Event::Call { tid, entry, back };
-            observe_three(step, Event::Ret { tid, target }, call, observer)
-        }
     }
 }

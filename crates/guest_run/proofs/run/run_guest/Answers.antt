@@ -2,7 +2,7 @@ use Rattle.std.proofs.Common.{Err, Ok, ◌+◌, subst, ◌∙◌, arith}
 use Rattle.std.proofs.lemmas.Result.{err_from_is_err_and}
 use Rattle.guest_words.specs.declared.endings.Finish.TheVariants.{Budget}
 use Rattle.guest_machine.specs.Kept.{machine_of}
-use Rattle.guest_run.specs.Going.{IsCounted, TurnEnds}
+use Rattle.guest_run.specs.Going.{IsCounted, TurnEnds, standing_of}
 use Rattle.guest_run.specs.declared.run.Turned.{Turned}
 use Rattle.guest_run.specs.Machine.{guest}
 use Rattle.guest_run.specs.Output.{sinks}
@@ -42,9 +42,9 @@ returns-in_err-made-clause-ends g c =
     let after = sinks (g.O.Sink.state c.take_turn.new.out) (g.E.Sink.state c.take_turn.new.err) in
     let fits = g.W.Observer.fits c.args.observer.now in
     rw (p.1, p.2) (turn_same g.W.Observer.stands fits (g.W.Observer.fits c.run.observer) c.run.invariant.same first begin before c.args.budget
-    c.take_turn.new.self c.take_turn.new.observer after (Err c.in_err-made.field-0.0)
+    (standing_of c.take_turn.new.self) c.take_turn.new.observer after (Err c.in_err-made.field-0.0)
     (c.in_err-made.ensures.ends first begin before
-    (remains_same g.W.Observer.stands fits (g.W.Observer.fits c.run.observer) c.run.invariant.same first begin before c.run.count c.run.runner c.run.observer now c.run.invariant.remains)))
+    (remains_same g.W.Observer.stands fits (g.W.Observer.fits c.run.observer) c.run.invariant.same first begin before c.run.count (standing_of c.run.runner) c.run.observer now c.run.invariant.remains)))
 
 pub returns-in-Ends-clause-ends : goal.returns-in-Ends-clause-ends
 returns-in-Ends-clause-ends g c =
@@ -55,11 +55,11 @@ returns-in-Ends-clause-ends g c =
     let after = sinks (g.O.Sink.state c.take_turn.new.out) (g.E.Sink.state c.take_turn.new.err) in
     let fits = g.W.Observer.fits c.args.observer.now in
     let ends = turn_same g.W.Observer.stands fits (g.W.Observer.fits c.run.observer) c.run.invariant.same first begin before c.args.budget
-    c.take_turn.new.self c.take_turn.new.observer after (Ok c.in_ok-made.field-0)
+    (standing_of c.take_turn.new.self) c.take_turn.new.observer after (Ok c.in_ok-made.field-0)
     (c.in_ok-made.ensures.ends first begin before
-    (remains_same g.W.Observer.stands fits (g.W.Observer.fits c.run.observer) c.run.invariant.same first begin before c.run.count c.run.runner c.run.observer now c.run.invariant.remains)) in
-    let over = subst (λ (t : Turned). TurnEnds g.W.Observer.stands fits first begin before c.args.budget c.take_turn.new.self c.take_turn.new.observer after (Ok t)) c.in-Ends.is ends in
-    ends_over g.W.Observer.stands _ before c.take_turn.new.self c.take_turn.new.observer after c.in-Ends.finish over
+    (remains_same g.W.Observer.stands fits (g.W.Observer.fits c.run.observer) c.run.invariant.same first begin before c.run.count (standing_of c.run.runner) c.run.observer now c.run.invariant.remains)) in
+    let over = subst (λ (t : Turned). TurnEnds g.W.Observer.stands fits first begin before c.args.budget (standing_of c.take_turn.new.self) c.take_turn.new.observer after (Ok t)) c.in-Ends.is ends in
+    ends_over g.W.Observer.stands _ before (standing_of c.take_turn.new.self) c.take_turn.new.observer after c.in-Ends.finish over
     c.finish.result c.finish.ensures.ended c.finish.ensures.refused
 
 pub run-preserved : goal.run-preserved
@@ -71,10 +71,10 @@ run-preserved g c =
     let after = sinks (g.O.Sink.state c.take_turn.new.out) (g.E.Sink.state c.take_turn.new.err) in
     let fits = g.W.Observer.fits c.args.observer.now in
     let ends = turn_same g.W.Observer.stands fits (g.W.Observer.fits c.run.observer) c.run.invariant.same first begin before c.args.budget
-    c.take_turn.new.self c.take_turn.new.observer after (Ok c.in_ok-made.field-0)
+    (standing_of c.take_turn.new.self) c.take_turn.new.observer after (Ok c.in_ok-made.field-0)
     (c.in_ok-made.ensures.ends first begin before
-    (remains_same g.W.Observer.stands fits (g.W.Observer.fits c.run.observer) c.run.invariant.same first begin before c.run.count c.run.runner c.run.observer now c.run.invariant.remains)) in
-    let remains = subst (λ (t : Turned). TurnEnds g.W.Observer.stands fits first begin before c.args.budget c.take_turn.new.self c.take_turn.new.observer after (Ok t)) c.in-GoesOn.is ends in
+    (remains_same g.W.Observer.stands fits (g.W.Observer.fits c.run.observer) c.run.invariant.same first begin before c.run.count (standing_of c.run.runner) c.run.observer now c.run.invariant.remains)) in
+    let remains = subst (λ (t : Turned). TurnEnds g.W.Observer.stands fits first begin before c.args.budget (standing_of c.take_turn.new.self) c.take_turn.new.observer after (Ok t)) c.in-GoesOn.is ends in
     let counted = subst (λ (t : Turned). IsCounted (c.run.count + 1) c.args.budget (Ok t)) c.in-GoesOn.is c.in_ok-made.ensures.count in
     record {
       remains = remains;
@@ -86,8 +86,8 @@ pub returns-clause-ends : goal.returns-clause-ends
 returns-clause-ends g c =
     let remains = c.run.invariant.remains in
     let now = sinks (g.O.Sink.state c.run.out) (g.E.Sink.state c.run.err) in
-    ends_over g.W.Observer.stands _ (sinks (g.O.Sink.state c.args.out.now) (g.E.Sink.state c.args.err.now)) c.run.runner c.run.observer now Budget
+    ends_over g.W.Observer.stands _ (sinks (g.O.Sink.state c.args.out.now) (g.E.Sink.state c.args.err.now)) (standing_of c.run.runner) c.run.observer now Budget
     (ends_spent g.W.Observer.stands (g.W.Observer.fits c.args.observer.now) (first_past c.args.machine.entry) (start c.args.turns (machine_of c.args.machine))
-    (sinks (g.O.Sink.state c.args.out.now) (g.E.Sink.state c.args.err.now)) c.run.count c.run.runner c.run.observer now remains
+    (sinks (g.O.Sink.state c.args.out.now) (g.E.Sink.state c.args.err.now)) c.run.count (standing_of c.run.runner) c.run.observer now remains
     (g.W.Observer.fits_closed c.args.observer.now) c.args.budget (omega (arith, c.run.invariant.most, c.run-test.false)))
     c.finish-2.result c.finish-2.ensures.ended c.finish-2.ensures.refused

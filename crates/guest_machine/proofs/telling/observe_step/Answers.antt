@@ -1,7 +1,7 @@
 use Rattle.std.proofs.lemmas.Result.{IfOk-weaker}
 use Rattle.trace_model.specs.declared.event_kinds.Event.TheVariants.{Step}
-use Rattle.guest_run.proofs.Handed.{observes_one}
-use Rattle.guest_run.proofs.stepper.observe_step.Goals as goal
+use Rattle.guest_machine.proofs.Handed.{observes_one}
+use Rattle.guest_machine.proofs.telling.observe_step.Goals as goal
 
 pub returns-clause-observed : goal.returns-clause-observed
 returns-clause-observed g c =

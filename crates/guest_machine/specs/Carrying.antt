@@ -1,0 +1,41 @@
+-- Steps of a thread on its registers, the memory and the reservations alone.
+use Rattle.std.specs.Prelude.{◌≡◌, ℕ, Bool, true, List, None}
+use Rattle.rv_exec.specs.Effects.{ExecState}
+use Rattle.trace_model.specs.declared.event_kinds.Event.{Event}
+use Rattle.guest_calls.specs.Kernel.{later_by}
+use Rattle.guest_machine.specs.declared.stepped.Stepped.TheVariants.{Went}
+use Rattle.guest_machine.specs.Machine.{MachineState, can_run, later}
+use Rattle.guest_machine.specs.Running.{AllGoOn, MayTakeSteps, after_steps}
+use Rattle.guest_machine.specs.Sound.{IsSound}
+use Rattle.guest_machine.specs.Step.{StepResult, exec_state_of, step, with_exec_state}
+
+-- It is what a thread of a sound machine, which can run, works on.
+pub record IsStateOf (c : ExecState) (tid : ℕ) (m : MachineState) : Type 0 where
+  pub state : exec_state_of m tid ≡ c
+  pub sound : IsSound m
+  pub able : can_run m tid ≡ true
+
+-- the machine so many steps later, whose thread has this state
+abbrev pub carried : MachineState → ℕ → ExecState → ℕ → MachineState
+carried m tid c n = with_exec_state (record m { kernel = later_by n m.kernel }) tid c
+
+-- an instruction went that left this state
+abbrev pub went_to : MachineState → ℕ → ExecState → List Event → StepResult
+went_to m tid c events = record { machine = with_exec_state (later m) tid c; events = events; out = None; outcome = Went }
+
+-- The thread's step is an instruction that went and left this state, with these events.
+pub record StepsTo (m : MachineState) (tid : ℕ) (c : ExecState) (events : List Event) : Type 0 where
+  pub is : step m tid ≡ went_to m tid c events
+  pub of : IsStateOf c tid (with_exec_state (later m) tid c)
+
+-- So many steps left this state, after each of which the thread goes on.
+pub record Carries (m : MachineState) (tid : ℕ) (c : ExecState) (count : ℕ) : Type 0 where
+  pub all : AllGoOn m tid count
+  pub machine : carried m tid c count ≡ after_steps m tid count
+  pub of : IsStateOf c tid (after_steps m tid count)
+
+-- It is what a thread of some machine works on, so many of whose steps may be observed.
+pub record MayCarry {O : Type 0} (Stands : O → List Event → Type 0) (fits : List Event → Bool) (o : O) (c : ExecState) (tid most : ℕ) : Type 0 where
+  pub machine : MachineState
+  pub of : IsStateOf c tid machine
+  pub next : MayTakeSteps Stands fits o machine tid most
