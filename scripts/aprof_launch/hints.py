@@ -144,7 +144,8 @@ class Hints:
 
     def budget(self) -> list[str]:
         budget = self.read.values.get("--budget", "1000000000")
-        return [f"the run was ended after {budget} instructions, and what is stored is of these: --budget N takes more", *self.chain()]
+        ended = f"the run was ended after {budget} instructions, and what is stored is of these"
+        return [f"{ended}: --budget N takes more", *self.chain()]
 
     def deadlock(self) -> list[str]:
         waits = "no thread can go on: each waits for a lock, a signal or another's end"

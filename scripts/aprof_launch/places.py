@@ -52,8 +52,8 @@ def takes_nothing(place: str | int) -> bool:
 
 
 def why_device(path: str) -> str:
-    """Why what is no plain file may have refused a write, or nothing where the path is a plain file or none. It is opened and not
-    written."""
+    """Why what is no plain file may have refused a write, or nothing where the path is a plain file or none. It is opened, and
+    not written."""
     try:
         mode = os.stat(path).st_mode
         if stat.S_ISREG(mode) or stat.S_ISDIR(mode):
@@ -62,7 +62,8 @@ def why_device(path: str) -> str:
     except FileNotFoundError:
         return ""
     except OSError as error:
-        return "a pipe that nobody reads" if error.errno == errno.ENXIO and stat.S_ISFIFO(mode) else (error.strerror or "").lower()
+        is_unread = error.errno == errno.ENXIO and stat.S_ISFIFO(mode)
+        return "a pipe that nobody reads" if is_unread else (error.strerror or "").lower()
     return "it is no plain file, and refused what was written"
 
 

@@ -9,7 +9,7 @@ from aprof_show.joining import add_points
 from aprof_show.marks import growth_text, legend
 from aprof_show.model import Routine
 from aprof_show.rows import Row, ordered
-from aprof_show.table import GREATEST_COST, WITH_CALLEES, Choice, greatest_cost, share_text, marked_lines, sure_of
+from aprof_show.table import GREATEST_COST, WITH_CALLEES, Choice, greatest_cost, marked_lines, share_text, sure_of
 from aprof_show.terminal import Column, factor_text, plural, short, table
 
 
@@ -73,7 +73,9 @@ class Compared:
     library: list[Row]
 
 
-def compared(old: Sequence[Row], new: Sequence[Row], steps: tuple[int, int], choice: Choice, names: Collection[Routine]) -> Compared:
+def compared(
+    old: Sequence[Row], new: Sequence[Row], steps: tuple[int, int], choice: Choice, names: Collection[Routine]
+) -> Compared:
     """Routines that have not changed are left out. With names these routines alone, changed or not."""
     pairs = paired(old, new)
     library = [] if names or choice.library else [pair for pair in pairs if pair.either.library]

@@ -21,9 +21,9 @@ LEAST = 0.25
 
 @dataclass(eq=False)
 class Cause(Measured):
-    """What a routine's cost comes from. `total` is the cost of the cause's calls below the routine, with their callees, and `part`
-    is that as a part of the routine's. `by` has the same by the routines that the first one calls directly: by the cause itself,
-    where it is one of them. `points` are of these calls."""
+    """What a routine's cost comes from. `total` is the cost of the cause's calls below the routine, with their callees, and
+    `part` is that as a part of the routine's. `by` has the same by the routines that the first one calls directly: by the cause
+    itself, where it is one of them. `points` are of these calls."""
 
     routine: Routine
     total: int = 0

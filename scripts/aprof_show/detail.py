@@ -29,7 +29,10 @@ def detail(row: Row, room: int, place: str | None = None) -> list[str]:
     calls = f"{plural(routine.calls, 'call')}, {plural(len(routine.points), 'size')}"
     own = f", {percent(row.own)} its own" if row.own is not None else ""
     lines.append(f"{calls}, {share_text(row)} of all instructions with its callees{own}")
-    lines += wrapped(cause_sentence(row, row.cause), room) if row.cause else []
+    if row.cause:
+        lines += wrapped(cause_sentence(row, row.cause), room)
+    elif row.superlinear and row.own is None:
+        lines.append("`aprof contexts` in place of `aprof run` stores where that comes from")
     if not routine.points:
         return [*lines, "no call of it had returned at the end"]
     told = growth_lines(row, row.growth) if row.growth else ["one size other than 0: nothing to tell of growth"]
@@ -42,15 +45,12 @@ def cause_sentence(row: Row, cause: Cause) -> str:
     so_far = "" if row.routine.points else " so far"
     where = f"{percent(cause.part)} of its cost{so_far} is in {cause.routine.label} with its callees"
     way = way_text(cause)
-    called = f"called {plural(cause.calls, 'time')}{',' if way and not cause.is_direct else ''}"
-    how = f" indirectly{way}" if way and not cause.is_direct else way
-    return f"{where}, {called}{how}" + (f"; {row.reason.text}" if row.reason else "")
+    how = f",{'' if cause.is_direct else ' indirectly'}{way}" if way else ""
+    return f"{where}, called {plural(cause.calls, 'time')}{how}" + (f"; {row.reason.text}" if row.reason else "")
 
 
 def growth_lines(row: Row, growth: Growth) -> list[str]:
     """The verdict, what it comes from, and what larger sizes would cost."""
-    net = "-" if growth.net is None else factor_text(factor_of(growth.net))
-    whole, top = factor_text(factor_of(growth.whole)), factor_text(factor_of(growth.top))
     weak = f", uncertain: {growth.weak}" if growth.weak else ""
     most = row.routine.points[-1].size
     twice, tenfold = about(projected(row, 2), projected(row, 10))
@@ -65,13 +65,20 @@ def growth_lines(row: Row, growth: Growth) -> list[str]:
     return [
         verdict,
         *bent,
-        f"all sizes {whole}, the largest sizes {top}, net of the least (size {least_size(row)}) {net}",
+        estimates_text(growth),
         f"estimated by the fit: {twice} for a call of size {short(2 * most)}, {tenfold} for one of {short(10 * most)}",
     ]
 
 
-def least_size(row: Row) -> int:
-    return next(point.size for point in row.routine.points if point.size)
+def estimates_text(growth: Growth) -> str:
+    """What the growth is the median of."""
+    estimates = (
+        (growth.top, "at the largest sizes"),
+        (growth.net, "without the least call's size and cost"),
+        (growth.fit, "by a line through all"),
+    )
+    known = [f"{factor_text(factor_of(exponent))} {what}" for exponent, what in estimates if exponent is not None]
+    return f"{'the median of ' if len(known) > 1 else ''}{', '.join(known)}"
 
 
 def columns_of(points: Sequence[Point]) -> list[Column]:

@@ -13,7 +13,6 @@ from aprof_show.reading import NotAReport, read_file
 from aprof_show.source import lines_of_image, name_routines, read_symbols
 from aprof_show.words import Refused
 
-
 ROUTINE_HINT = " (for a routine called as a file: --routine NAME)"
 FOLDER_HINT = ": all files of a folder must be reports"
 

@@ -11,28 +11,27 @@ COMMON = 0.25
 
 EVERYWHERE = frozenset({"main", "_start"})
 
+Addresses = dict[str, set[int]]
+"""Those of each name."""
 
-Places = dict[str, set[int]]
-"""Names with their addresses."""
 
-
-def places_of(reports: Sequence[Report]) -> Places:
-    places: Places = {}
+def addresses_of(reports: Sequence[Report]) -> Addresses:
+    addresses: Addresses = {}
     for report in reports:
         for routine in report.routines:
             if routine.name is not None:
-                places.setdefault(routine.name, set()).add(routine.entry)
-    return places
+                addresses.setdefault(routine.name, set()).add(routine.entry)
+    return addresses
 
 
-def few_names(some: Places, others: Places) -> bool:
+def few_names(some: Addresses, others: Addresses) -> bool:
     """Whether there is hardly a name in common, of those that are the programs' own."""
-    mine, yours = (places.keys() - musl_names() - EVERYWHERE for places in (some, others))
+    mine, yours = (names.keys() - musl_names() - EVERYWHERE for names in (some, others))
     fewer = min(len(mine), len(yours))
     return fewer > 0 and len(mine & yours) < COMMON * fewer
 
 
-def clash(some: Places, others: Places) -> bool:
+def clash(some: Addresses, others: Addresses) -> bool:
     """Whether most names of both are at other addresses, or an address has another name."""
     common = some.keys() & others.keys()
     moved = sum(not some[name] & others[name] for name in common)
@@ -43,9 +42,9 @@ def clash(some: Places, others: Places) -> bool:
 
 def strangers(reports: Sequence[Report]) -> Iterator[str]:
     """Warnings about reports that are joined, each compared with the first one."""
-    first = places_of(reports[:1])
+    first = addresses_of(reports[:1])
     for report in reports[1:]:
-        other = places_of([report])
+        other = addresses_of([report])
         if clash(first, other):
             what = "hardly a routine in common" if few_names(first, other) else "most routines at other addresses"
             yield f"{reports[0].path} and {report.path} have {what}: of different programs or builds?"
@@ -54,5 +53,5 @@ def strangers(reports: Sequence[Report]) -> Iterator[str]:
 
 def strange_pair(old: Sequence[Report], new: Sequence[Report]) -> Iterator[str]:
     """A warning about reports that are compared. Another build has other addresses, but names in common."""
-    if few_names(places_of(old), places_of(new)):
+    if few_names(addresses_of(old), addresses_of(new)):
         yield f"{old[0].path} and {new[0].path} have hardly a routine in common: of different programs?"

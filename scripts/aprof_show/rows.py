@@ -21,8 +21,8 @@ ORDERS = ("growth", "share", "self", "name", *WRITERS)
 class Row:
     """`share` is the part of all instructions with its callees, and `own` its own. `exact` is false where calls nested in one
     another may have been counted each. `cause` is what it calls that has most of its cost, where its own part is small and there
-    are contexts; `reason` is why that makes it superlinear. `many` says that it is itself the cause, by the number of its calls, of
-    a routine that is superlinear."""
+    are contexts; `reason` is why that makes it superlinear. `many` says that it is such a cause itself, by the number of its
+    calls."""
 
     routine: Routine
     growth: Growth | None

@@ -57,7 +57,7 @@ def summary(profile: Profile, rows: Sequence[Row], choice: Choice, room: int) ->
 
 
 def with_causes(lines: Sequence[str], rows: Sequence[Row], room: int) -> list[str]:
-    """The lines of a table of rows, with the cause of the first one and of those that are superlinear: behind the name, or below."""
+    """The lines of a table of rows, with the causes of the first one and of superlinear ones: behind the name, or below."""
     remarks = [
         f"({cause_text(row.cause, row.reason)})" if row.cause and (not number or row.superlinear and not row.uncertain) else ""
         for number, row in enumerate(rows)

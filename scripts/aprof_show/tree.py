@@ -112,8 +112,8 @@ def tree_text(
 
 
 def below_text(node: Node, costs: dict[Context, Cost], steps: int) -> str:
-    """What a node that comes again would show: the routine below with the greatest own cost there, and its cost with its callees as
-    a part of all instructions."""
+    """What a node that comes again would show: the routine below with the greatest own cost there, and what that costs with its
+    callees, as a part of all instructions."""
     mine = set(node.contexts)
     roots = [context for context in node.contexts if context.caller not in mine]
     cause = causes_of(roots, costs, {node.routine: node.total}, growths()).get(node.routine) if node.total else None

@@ -36,7 +36,6 @@ REASONS = {
     "--callers": "its routine goes directly behind it",
 }
 
-
 BEHIND_CALLERS = "the routine goes directly after --callers: --callers ROUTINE REPORT..."
 
 

@@ -52,7 +52,7 @@ CASES: list[tuple[Callable[[int], Call], str]] = [
     (linear, "called 248 times"),
     (recursive, "called 10 times"),
     (through_one, f"called 238 times, indirectly through spin; each of those calls is about linear in its own input, {NUMBER}"),
-    (through_two, f"called 248 times directly and through spin and 1 other; each of those calls is about linear in its own input, {NUMBER}"),
+    (through_two, f"called 248 times, directly and through spin and 1 other; each of those calls is about linear in its own input, {NUMBER}"),
 ]
 
 

@@ -29,7 +29,7 @@ const nameLink = (routine) => {
 function wayOf({ direct, through, more }) {
   if (through === null) return [];
   const others = more ? ` and ${plural(more, "other")}` : "";
-  return [direct ? " directly and through " : ", indirectly through ", nameLink(routines[through]), others];
+  return [direct ? ", directly and through " : ", indirectly through ", nameLink(routines[through]), others];
 }
 
 function tellCause(routine) {

@@ -27,13 +27,19 @@ const spreadOf = (points) => points.most.reduce((spread, most, i) => Math.max(sp
 
 function factsOf(routine) {
   const facts = [["growth", times(routine.growth), routine.steep ? "steep" : ""],
-    ["of all instructions, with its callees", `${routine.bound}${percent(routine.share)} %`]];
-  if (routine.self !== null) facts.push(["its own", `${percent(routine.self)} %`]);
+    ["with its callees", `${routine.bound}${percent(routine.share)} %`, "", "part of all instructions, with what it calls"]];
+  if (routine.self !== null) facts.push(["its own", `${percent(routine.self)} %`, "", "its own part of all instructions, without what it calls"]);
   facts.push(["calls", count(routine.calls)]);
   if (routine.sizes) facts.push([plural(routine.points[0].length, "size"), sizesText(routine)], ["greatest cost", short(routine.greatest)]);
   if (routine.growth !== null) facts.push(["estimate at twice the size", `≈ ${short(routine.twice)}`]);
   if (spreadOf(figure.points) >= 1.05) facts.push(["spread at one size", times(spreadOf(figure.points))]);
   return facts;
+}
+
+function factOf([name, text, look = "", about = ""]) {
+  const fact = make("div", "", make("dt", "", name), make("dd", look, text));
+  fact.title = about;
+  return fact;
 }
 
 function tellGuides() {
@@ -79,7 +85,7 @@ function showRoutine(routine) {
   byId("verdict").textContent = verdictOf(routine);
   tellCause(routine);
   tellCallees(routine);
-  byId("facts").replaceChildren(...factsOf(routine).map(([name, text, look]) => make("div", "", make("dt", "", name), make("dd", look, text))));
+  byId("facts").replaceChildren(...factsOf(routine).map(factOf));
   byId("figure").hidden = points.length === 0;
   byId("plots").setAttribute("aria-label", `Cost of ${routine.name} by size, ${plural(points.length, "point")}`);
   byId("said").textContent = "";
