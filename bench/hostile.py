@@ -1,6 +1,7 @@
 #!/usr/bin/env python3
 """bench/hostile.py PROGRAM: executables that are made to cost much, each with the time and the most memory that it took:
-65534 load headers, and 400000 symbols of as many values, whose names are long and overlap in a string table of 1 MiB."""
+65534 load headers; 400000 symbols of as many values, whose names are long and overlap in a string table of 1 MiB; and a routine
+of 100000 sizes that fall one by one. Of the last, the host's instructions for one of the guest's are counted too, on shorter runs."""
 import os
 import pathlib
 import struct
@@ -8,6 +9,8 @@ import subprocess
 import sys
 import tempfile
 import time
+
+import run
 
 TOP = pathlib.Path(__file__).resolve().parent.parent
 
@@ -41,6 +44,24 @@ def symbols(count):
     return bytes(file)
 
 
+def falling(levels):
+    """A routine that writes a word and calls itself; the innermost one reads the words of all. So the sizes fall by one from
+    each that ends to the next."""
+    leaf = [run.addi(5, 2, 0), run.lw(6, 4, 5), run.addi(5, 5, 16), run.branch(1, 5, 9, -8), run.jal(0, -28)]
+    down = [run.addi(2, 2, -16), run.sw(1, 0, 2), run.sw(0, 4, 2), run.branch(0, 10, 0, 24), run.addi(10, 10, -1), run.jal(1, -20)]
+    back = [run.lw(1, 0, 2), run.addi(2, 2, 16), run.RETURN]
+    begin = run.number(10, levels) + [run.addi(9, 2, 0), run.jal(1, 4 * (1 + len(run.EXIT)))] + run.EXIT
+    return run.image(begin + down + back + leaf)
+
+
+def count_falling():
+    """Host instructions for one of the guest's, as the levels grow."""
+    for levels in (2500, 5000):
+        with tempfile.TemporaryDirectory() as folder:
+            (few, less), (many, more) = (run.host(falling(count), folder, []) for count in (levels, 2 * levels))
+        print(f"from {levels} to {2 * levels} falling sizes: {(more - less) / (many - few):.0f} host instructions a step")
+
+
 def measure(program, name, image):
     with tempfile.TemporaryDirectory() as folder:
         path = os.path.join(folder, "img")
@@ -58,6 +79,9 @@ def main():
     program = os.path.abspath(sys.argv[1])
     measure(program, "65534 headers", headers())
     measure(program, "400000 symbols", symbols(400_000))
+    measure(program, "100000 falling sizes", falling(100_000))
+    run.PROGRAM = program
+    count_falling()
 
 
 main()

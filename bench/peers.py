@@ -74,4 +74,5 @@ def main():
         print("| %s | %d | %.3f | %.1f | %.0f |" % (name, ran[name], seconds, seconds * 1e9 / ran[name], seconds / taken["the host"]))
 
 
-main()
+if __name__ == "__main__":
+    main()

@@ -6,14 +6,18 @@ second ratio above the first. The figures are of one run on one machine; docs/PE
 bench/run.py --long [PROGRAM] times runs of some 100 million steps, with the most memory of each.
 
 bench/run.py --host [PROGRAM] counts the host's instructions for one of the guest's in place of time: by callgrind, as the
-difference of two lengths of run, so that neither the start of the program nor the machine's load changes the figure."""
+difference of two lengths of run, so that neither the start of the program nor the machine's load changes the figure. Where
+clang is installed, the last row is of the C source that bench/peers.py compares."""
 import os
 import re
+import shutil
 import struct
 import subprocess
 import sys
 import tempfile
 import time
+
+import peers
 
 HERE = os.path.dirname(os.path.abspath(__file__))
 WORDS = [word for word in sys.argv[1:] if word not in ("--host", "--long")]
@@ -85,6 +89,12 @@ def counting(steps):
     return number(8, steps // 2) + [addi(8, 8, -1), branch(1, 8, 0, -4)] + EXIT
 
 
+def straight(steps):
+    """A loop of 2048 instructions behind one another: eight KiB of code, in three pages."""
+    body = [addi(10, 10, 1)] * 2048 + [addi(8, 8, -1)]
+    return number(8, steps // 2051) + body + [branch(0, 8, 0, 8), jal(0, -4 * (len(body) + 1))] + EXIT
+
+
 def calling(steps):
     """A loop that calls an empty routine."""
     loop = [jal(1, 24), addi(8, 8, -1), branch(1, 8, 0, -8)]
@@ -139,6 +149,13 @@ def copying(steps):
     return begin + loop + [branch(1, 8, 0, -4 * len(loop))] + EXIT
 
 
+def mapping(steps):
+    """A loop that maps a page and unmaps it again."""
+    loop = [addi(10, 0, 0), lui(11, 1), addi(12, 0, 3), addi(13, 0, 0x22), addi(14, 0, -1), addi(15, 0, 0), addi(17, 0, 222), ECALL]
+    loop += [lui(11, 1), addi(17, 0, 215), ECALL, addi(8, 8, -1)]
+    return number(8, steps // 13) + loop + [branch(1, 8, 0, -4 * len(loop))] + EXIT
+
+
 GUESTS = [
     ("a loop", counting, 5_000_000),
     ("calls and returns", calling, 20_000),
@@ -153,21 +170,23 @@ GUESTS = [
 # A row is left out where the program refuses its options.
 COUNTED = [
     ("a loop", counting, 20_000, []),
+    ("2048 instructions in a loop", straight, 20_510, []),
     ("a load and a store, 1 page", lambda steps: touching(steps, 1), 20_000, []),
     ("a load and a store, 1024 pages", lambda steps: touching(steps, 1024), 20_000, []),
     ("calls and returns", calling, 2_000, []),
     ("recursion, 1000 deep", recursing, 8_000, []),
     ("two threads and a futex", handing, 20_000, []),
     ("64 KiB read and written", copying, 32, []),
+    ("a page mapped and unmapped", mapping, 13_000, []),
     ("calls that store and load, stamps of 8 bits", renumbering, 20_000, ["--stamps", "8"]),
 ]
 
 
-def words(code, folder, options=()):
+def words(guest, folder, options=()):
     """The command line of a run, whose standard input is as long as a guest wants it."""
     path, report, stdin = (os.path.join(folder, name) for name in ("guest", "report", "stdin"))
     with open(path, "wb") as file:
-        file.write(image(code))
+        file.write(guest)
     if not os.path.exists(stdin):
         with open(stdin, "wb") as file:
             file.write(bytes(16 * 65536))
@@ -184,7 +203,7 @@ def steps_of(folder):
 
 def run(code, folder):
     """The steps of a run and its seconds, the least of three."""
-    command = words(code, folder)
+    command = words(image(code), folder)
     best = None
     for _ in range(3):
         began = time.monotonic()
@@ -196,14 +215,26 @@ def run(code, folder):
 
 def is_refused(options, folder):
     """Whether the program refuses these options, for a guest that ends at once."""
-    return bool(options) and subprocess.run(words(EXIT, folder, options), capture_output=True).returncode != 0
+    return bool(options) and subprocess.run(words(image(EXIT), folder, options), capture_output=True).returncode != 0
 
 
-def host(code, folder, options):
+def host(guest, folder, options):
     """The steps of a run and the host's instructions."""
-    counting = ["valgrind", "--tool=callgrind", "--callgrind-out-file=/dev/null", *words(code, folder, options)]
+    counting = ["valgrind", "--tool=callgrind", "--callgrind-out-file=/dev/null", *words(guest, folder, options)]
     said = subprocess.run(counting, check=True, stdout=subprocess.DEVNULL, stderr=subprocess.PIPE, text=True).stderr
     return steps_of(folder), int(re.search(r"Collected : (\d+)", said)[1])
+
+
+def count_row(name, guests, folder, options):
+    """Prints the host's instructions for one of the guest's, from the shorter to the longer of two runs."""
+    (few, less), (many, more) = (host(guest, folder, options) for guest in guests)
+    print("| %s | %d to %d | %.0f |" % (name, few, many, (more - less) / (many - few)), flush=True)
+
+
+def mixed(rounds, folder):
+    """The executable of bench/peers/mixed.c."""
+    with open(peers.build(folder, rounds)[1], "rb") as file:
+        return file.read()
 
 
 def count():
@@ -215,8 +246,9 @@ def count():
             if is_refused(options, folder):
                 print("| %s | | not with this program |" % name, flush=True)
                 continue
-            (few, less), (many, more) = (host(make(length), folder, options) for length in (steps, 2 * steps))
-            print("| %s | %d to %d | %.0f |" % (name, few, many, (more - less) / (many - few)), flush=True)
+            count_row(name, [image(make(length)) for length in (steps, 2 * steps)], folder, options)
+        if shutil.which("clang"):
+            count_row("bench/peers/mixed.c", [mixed(rounds, folder) for rounds in (1, 2)], folder, [])
 
 
 def measure():
@@ -264,9 +296,10 @@ def long_runs():
             print("| %s | %d | %.1f | %.0f | %.1f MiB |" % (name, made, seconds, seconds / made * 1e9, most / 1024), flush=True)
 
 
-if "--host" in sys.argv:
-    count()
-elif "--long" in sys.argv:
-    long_runs()
-else:
-    measure()
+if __name__ == "__main__":
+    if "--host" in sys.argv:
+        count()
+    elif "--long" in sys.argv:
+        long_runs()
+    else:
+        measure()
