@@ -11,6 +11,7 @@ import tempfile
 import time
 
 import run
+from guests import EXIT, RETURN, addi, branch, image, jal, lw, number, sw
 
 TOP = pathlib.Path(__file__).resolve().parent.parent
 
@@ -47,11 +48,11 @@ def symbols(count):
 def falling(levels):
     """A routine that writes a word and calls itself; the innermost one reads the words of all. So the sizes fall by one from
     each that ends to the next."""
-    leaf = [run.addi(5, 2, 0), run.lw(6, 4, 5), run.addi(5, 5, 16), run.branch(1, 5, 9, -8), run.jal(0, -28)]
-    down = [run.addi(2, 2, -16), run.sw(1, 0, 2), run.sw(0, 4, 2), run.branch(0, 10, 0, 24), run.addi(10, 10, -1), run.jal(1, -20)]
-    back = [run.lw(1, 0, 2), run.addi(2, 2, 16), run.RETURN]
-    begin = run.number(10, levels) + [run.addi(9, 2, 0), run.jal(1, 4 * (1 + len(run.EXIT)))] + run.EXIT
-    return run.image(begin + down + back + leaf)
+    leaf = [addi(5, 2, 0), lw(6, 4, 5), addi(5, 5, 16), branch(1, 5, 9, -8), jal(0, -28)]
+    down = [addi(2, 2, -16), sw(1, 0, 2), sw(0, 4, 2), branch(0, 10, 0, 24), addi(10, 10, -1), jal(1, -20)]
+    back = [lw(1, 0, 2), addi(2, 2, 16), RETURN]
+    begin = number(10, levels) + [addi(9, 2, 0), jal(1, 4 * (1 + len(EXIT)))] + EXIT
+    return image(begin + down + back + leaf)
 
 
 def count_falling():

@@ -11,77 +11,17 @@ clang is installed, the last row is of the C source that bench/peers.py compares
 import os
 import re
 import shutil
-import struct
 import subprocess
 import sys
 import tempfile
 import time
 
 import peers
+from guests import ECALL, EXIT, RETURN, STACK, add, addi, branch, image, jal, lw, number, sw
 
 HERE = os.path.dirname(os.path.abspath(__file__))
 WORDS = [word for word in sys.argv[1:] if word not in ("--host", "--long")]
 PROGRAM = WORDS[0] if WORDS else os.path.join(HERE, "../crates/aprof/out/aprof")
-
-
-def i_type(opcode, funct3, rd, rs1, immediate):
-    return (immediate & 0xFFF) << 20 | rs1 << 15 | funct3 << 12 | rd << 7 | opcode
-
-
-def addi(rd, rs1, immediate):
-    return i_type(0x13, 0, rd, rs1, immediate)
-
-
-def add(rd, rs1, rs2):
-    return rs2 << 20 | rs1 << 15 | rd << 7 | 0x33
-
-
-def lui(rd, value):
-    return (value & 0xFFFFF) << 12 | rd << 7 | 0x37
-
-
-def lw(rd, offset, rs1):
-    return i_type(0x03, 2, rd, rs1, offset)
-
-
-def sw(rs2, offset, rs1):
-    return (offset >> 5 & 0x7F) << 25 | rs2 << 20 | rs1 << 15 | 2 << 12 | (offset & 0x1F) << 7 | 0x23
-
-
-def branch(funct3, rs1, rs2, offset):
-    return (
-        (offset >> 12 & 1) << 31 | (offset >> 5 & 0x3F) << 25 | rs2 << 20 | rs1 << 15
-        | funct3 << 12 | (offset >> 1 & 0xF) << 8 | (offset >> 11 & 1) << 7 | 0x63
-    )
-
-
-def jal(rd, offset):
-    return (
-        (offset >> 20 & 1) << 31 | (offset >> 1 & 0x3FF) << 21 | (offset >> 11 & 1) << 20
-        | (offset >> 12 & 0xFF) << 12 | rd << 7 | 0x6F
-    )
-
-
-ECALL = 0x73
-RETURN = i_type(0x67, 0, 0, 1, 0)
-
-
-def number(rd, value):
-    """Puts any number into a register, by two instructions."""
-    low = (value & 0xFFF) - (0x1000 if value & 0x800 else 0)
-    return [lui(rd, value - low >> 12), addi(rd, rd, low)]
-
-
-EXIT = [addi(17, 0, 94), addi(10, 0, 0), ECALL]
-
-
-def image(code):
-    """The file of a code: one segment at 0x10000, which holds the headers of 84 bytes and the code."""
-    size = 84 + 4 * len(code)
-    header = b"\x7fELF\x01\x01\x01" + bytes(9)
-    header += struct.pack("<HHIIIIIHHHHHH", 2, 243, 1, 0x10054, 52, 0, 0, 52, 32, 1, 40, 0, 0)
-    header += struct.pack("<IIIIIIII", 1, 0, 0x10000, 0x10000, size, size, 7, 4096)
-    return header + struct.pack("<%dI" % len(code), *code)
 
 
 def counting(steps):
@@ -105,13 +45,13 @@ def renumbering(steps):
     """A loop that calls a routine which stores a word of the stack and loads it: each call takes a new stamp."""
     loop = [jal(1, 24), addi(8, 8, -1), branch(1, 8, 0, -8)]
     routine = [sw(8, 0, 6), lw(10, 0, 6), RETURN]
-    return number(8, steps // 6) + number(6, 0x7FC00000) + loop + EXIT + routine
+    return number(8, steps // 6) + number(6, STACK) + loop + EXIT + routine
 
 
 def touching(steps, pages):
     """A loop that loads and stores one word of each of some pages of the stack, one after another."""
     # x9 walks down from x6, a page at a time, to x7
-    begin = number(8, steps // 5) + number(6, 0x7FC00000) + number(7, 0x7FC00000 - 4096 * pages) + number(5, -4096) + [addi(9, 6, 0)]
+    begin = number(8, steps // 5) + number(6, STACK) + number(7, STACK - 4096 * pages) + number(5, -4096) + [addi(9, 6, 0)]
     loop = [add(9, 9, 5), branch(1, 9, 7, 8), addi(9, 6, 0), lw(10, 0, 9), sw(10, 0, 9), addi(8, 8, -1), branch(1, 8, 0, -24)]
     return begin + loop + EXIT
 
@@ -123,7 +63,7 @@ def futex(operation, value):
 
 def handing(steps):
     """Two threads that hand a word to each other: each waits while it is the other's, and wakes the other."""
-    begin = number(6, 0x7FC00000) + number(8, steps // 30)
+    begin = number(6, STACK) + number(8, steps // 30)
     clone = number(10, 0x10900) + [addi(17, 0, 220), ECALL, addi(13, 0, 0), addi(17, 0, 422)]
     wait, wake = futex(0, 1), futex(1, 1)
     parent = [lw(11, 0, 6), branch(0, 11, 0, 24)] + wait + [jal(0, -24)]
@@ -144,16 +84,9 @@ def recursing(steps):
 
 def copying(steps):
     """A loop that reads 64 KiB from standard input and writes them again."""
-    begin = number(8, steps // 8) + number(11, 0x7FC00000) + number(12, 65536)
+    begin = number(8, steps // 8) + number(11, STACK) + number(12, 65536)
     loop = [addi(10, 0, 0), addi(17, 0, 63), ECALL, addi(10, 0, 1), addi(17, 0, 64), ECALL, addi(8, 8, -1)]
     return begin + loop + [branch(1, 8, 0, -4 * len(loop))] + EXIT
-
-
-def mapping(steps):
-    """A loop that maps a page and unmaps it again."""
-    loop = [addi(10, 0, 0), lui(11, 1), addi(12, 0, 3), addi(13, 0, 0x22), addi(14, 0, -1), addi(15, 0, 0), addi(17, 0, 222), ECALL]
-    loop += [lui(11, 1), addi(17, 0, 215), ECALL, addi(8, 8, -1)]
-    return number(8, steps // 13) + loop + [branch(1, 8, 0, -4 * len(loop))] + EXIT
 
 
 GUESTS = [
@@ -177,7 +110,6 @@ COUNTED = [
     ("recursion, 1000 deep", recursing, 8_000, []),
     ("two threads and a futex", handing, 20_000, []),
     ("64 KiB read and written", copying, 32, []),
-    ("a page mapped and unmapped", mapping, 13_000, []),
     ("calls that store and load, stamps of 8 bits", renumbering, 20_000, ["--stamps", "8"]),
 ]
 
