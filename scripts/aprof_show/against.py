@@ -9,7 +9,8 @@ from aprof_show.joining import add_points
 from aprof_show.marks import growth_text, legend
 from aprof_show.model import Routine
 from aprof_show.rows import Row, ordered
-from aprof_show.table import GREATEST_COST, WITH_CALLEES, Choice, greatest_cost, marked_lines, share_text, sure_of
+from aprof_show.table import GREATEST_COST, NAMED, WITH_CALLEES, Choice, greatest_cost, share_text
+from aprof_show.table import marked_lines, marked_of, signs_of, sure_of
 from aprof_show.terminal import Column, factor_text, plural, short, table
 
 
@@ -100,17 +101,19 @@ def against_text(
 ) -> list[str]:
     """Growth, share and greatest cost before and after, the largest change first."""
     found = compared(old, new, steps, choice, names)
+    library = sure_of(found.library)
     lines = [f"{steps[0]} instructions before, {steps[1]} after"]
     if found.told:
         lines += table(columns_of(found.told), room)
-        lines += legend(text for pair in found.told for text in (texts(pair.old)[0], texts_now(pair)[0]))
+    growths = [text for pair in found.told for text in (texts(pair.old)[0], texts_now(pair)[0])]
+    lines += legend([*growths, *signs_of(marked_of(library)[:NAMED])])
     if any(pair.between() for pair in found.told):
         lines.append("a growth behind `-` is that from the one call before to the one call now")
     if found.less:
         lines.append(f"and {plural(found.less, 'routine')} that changed less: a greater --top")
     if found.same:
         lines.append(f"{plural(found.same, 'routine')} of the same growth, share and cost")
-    return lines + marked_lines(sure_of(found.library), "in the C library now", "--library", room)
+    return lines + marked_lines(library, "in the C library now", "--library", room)
 
 
 def texts(row: Row | None) -> tuple[str, str, str]:

@@ -29,6 +29,7 @@ class Kind(Enum):
 
     NUMBER = "so it is the number of calls that grows"
     NUMBER_OR_SIZE = "so it is the number of calls, or what each of them reads, that grows"
+    SIZE = "so it is what each of them reads that grows"
     EACH = "so look there first"
 
 
@@ -51,7 +52,7 @@ class Reason:
 
     @property
     def is_of_number(self) -> bool:
-        return self.kind is not Kind.EACH
+        return self.kind in (Kind.NUMBER, Kind.NUMBER_OR_SIZE)
 
 
 def reason_of(routine: Routine, growth: Growth | None, cause: Cause, nested: bool) -> Reason | None:
@@ -70,6 +71,8 @@ def reason_of(routine: Routine, growth: Growth | None, cause: Cause, nested: boo
     if each is None or each.weak:
         return None
     is_within = cause.points[-1].size <= routine.points[-1].size
+    if cause.calls <= routine.calls:
+        return None if is_within else Reason(each.guess, Kind.SIZE)
     return Reason(each.guess, Kind.NUMBER if is_within else Kind.NUMBER_OR_SIZE)
 
 

@@ -45,15 +45,15 @@ def summary(profile: Profile, rows: Sequence[Row], choice: Choice, room: int) ->
     folded = [row for row in rows if row.library and not choice.library]
     others = [row for row in rows if not row.library or choice.library]
     listed = ordered([row for row in others if choice.has(row)], choice.by)[: choice.top]
-    hidden = len(others) - len(listed)
+    shown = set(listed)
+    hidden = [row for row in others if row not in shown]
     lines = head(profile) + open_lines(profile, room)
     if listed:
         lines += with_causes(table(columns_of(listed, room, choice.by), room), listed, room)
-    under = folded_lines(folded, room) if folded else []
-    if hidden:
-        under += hidden_lines([row for row in others if row not in listed], choice, room)
-    signs = [marked(row.growth, row.many) for row in listed] + [line for line in under if line.startswith("marked")]
-    return lines + legend(signs) + under + nameless_lines(profile, listed)
+    lines += legend(signs_of([*listed, *marked_of(sure_of(folded))[:NAMED], *marked_of(hidden)[:NAMED]]))
+    lines += folded_lines(folded, room) if folded else []
+    lines += hidden_lines(hidden, choice, room) if hidden else []
+    return lines + nameless_lines(profile, listed)
 
 
 def with_causes(lines: Sequence[str], rows: Sequence[Row], room: int) -> list[str]:
@@ -82,7 +82,7 @@ def way_text(cause: Cause) -> str:
 
 def columns_of(rows: Sequence[Row], room: int, by: str | None = None) -> list[Column]:
     columns = [
-        Column("GROWTH", [marked(row.growth, row.many) for row in rows]),
+        Column("GROWTH", signs_of(rows)),
         Column(WITH_CALLEES, [share_text(row) for row in rows]),
     ]
     if rows[0].own is not None:
@@ -173,10 +173,18 @@ def hidden_lines(rows: Sequence[Row], choice: Choice, room: int) -> list[str]:
     return [*wrapped(text, room), *marked_lines(rows, "among them", ways, room)]
 
 
+def signs_of(rows: Sequence[Row]) -> list[str]:
+    return [marked(row.growth, row.many) for row in rows]
+
+
+def marked_of(rows: Sequence[Row]) -> list[Row]:
+    """Those with a sign before their growth. What is called too often comes first, as no other line has it."""
+    return sorted(ordered([row for row in rows if row.superlinear or row.many], None), key=lambda row: not row.many)
+
+
 def marked_lines(rows: Sequence[Row], where: str, ways: str, room: int) -> list[str]:
-    """The routines with a sign before their growth among some that are left out, and how they are listed. Those that are called
-    too often come first, as no other line has them."""
-    found = sorted(ordered([row for row in rows if row.superlinear or row.many], None), key=lambda row: not row.many)
+    """The marked ones of some routines that are left out, and how they are listed."""
+    found = marked_of(rows)
     if not found:
         return []
     names = [f"{cut(row.routine.label, 30)} {marked(row.growth, row.many).strip()}" for row in found[:NAMED]]

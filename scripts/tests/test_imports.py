@@ -6,6 +6,8 @@ import unittest
 from collections.abc import Iterator, Mapping
 from pathlib import Path
 
+from aprof_package import TOOLS
+
 SCRIPTS = Path(__file__).resolve().parents[1]
 PACKAGES = ("aprof_copy", "aprof_show", "aprof_launch")
 """Each imports only those before it."""
@@ -40,6 +42,9 @@ class Imports(unittest.TestCase):
     def test_modules(self) -> None:
         self.assertEqual(circle(modules()), [])
         self.assertEqual(circle({"a": {"b"}, "b": {"c"}, "c": {"b"}, "d": set()}), ["a", "b", "c"])
+
+    def test_they_are_packed(self) -> None:
+        self.assertLessEqual({f"scripts/{package}" for package in PACKAGES}, set(TOOLS))
 
     def test_packages(self) -> None:
         for name, others in modules().items():

@@ -21,6 +21,11 @@ def scans(n: int) -> Call:
     return Call("parse", n, n, [Call("look_up", 2 * n, 4 * n) for _ in range(n)])
 
 
+def a_table(n: int) -> Call:
+    """One call that reads a table of n squared words, which the routine made."""
+    return Call("parse", n, n, [Call("look_up", n * n, 4 * n * n)])
+
+
 def squares(n: int) -> Call:
     return Call("parse", n, n, [Call("look_up", n, 3 * n * n)])
 
@@ -47,6 +52,7 @@ CASES: list[tuple[Callable[[int], Call], str]] = [
     (through_a_list, f"called 238 times; each of those calls is about linear in its own input, {NUMBER}"),
     (comparisons, f"called 21824 times; each of those calls costs at most 9 instructions, {NUMBER}"),
     (scans, f"called 248 times; each of those calls is about linear in its own input, {NUMBER_OR_SIZE}"),
+    (a_table, "called 5 times; each of those calls is about linear in its own input, so it is what each of them reads that grows"),
     (squares, "called 5 times; each of those calls is itself about n^2 in its own input, so look there first"),
     (own_work, "called 5 times"),
     (linear, "called 248 times"),
@@ -73,7 +79,7 @@ class Reasons(unittest.TestCase):
 
     def test_marks(self) -> None:
         """The culprit has a sign, and only where its number is what grows."""
-        for tree, is_marked in ((through_a_list, True), (scans, True), (squares, False), (linear, False)):
+        for tree, is_marked in ((through_a_list, True), (scans, True), (a_table, False), (squares, False), (linear, False)):
             with self.subTest(tree.__name__):
                 profile = profile_of(tree)
                 text = summary(profile, rows_of(profile), Choice(all=True), 80)

@@ -10,8 +10,8 @@ const sizesText = (routine) => {
 
 const COLUMNS = [
   { key: "growth", name: "Growth", about: "how many times the cost grows where the size doubles", value: (r) => r.ahead ?? -1, cell: growthCell },
-  { key: "share", name: "With callees\u00a0%", about: "its part of all instructions, with what it calls", value: (r) => r.share, cell: (r) => partCell(r.share, r.bound) },
-  { key: "self", name: "Its\u00a0own\u00a0%", about: "its own part of all instructions, without what it calls", value: (r) => r.self, cell: (r) => partCell(r.self), needs: profile.contexts !== null },
+  { key: "share", name: "With callees\u00a0%", about: "its part of all instructions, with its callees", value: (r) => r.share, cell: (r) => partCell(r.share, r.bound) },
+  { key: "self", name: "Its\u00a0own\u00a0%", about: "its own part of all instructions, without its callees", value: (r) => r.self, cell: (r) => partCell(r.self), needs: profile.contexts !== null },
   { key: "calls", name: "Calls", about: "calls that returned", value: (r) => r.calls, cell: (r) => (r.calls ? document.createTextNode(short(r.calls)) : make("span", "faint", "open")) },
   { key: "sizes", name: "Sizes", about: "the least and the greatest input size, in words", value: (r) => (r.sizes ? r.sizes[1] : -1), cell: (r) => document.createTextNode(sizesText(r)) },
   { key: "name", name: "Routine", about: "", text: true, value: (r) => r.name.toLowerCase(), cell: nameCell },

@@ -1,7 +1,7 @@
 // A tree that opens, as rows of a table.
 const TREE_COLUMNS = [
-  ["Calls", "calls that returned"], ["With callees %", "part of all instructions, with what is called"],
-  ["Its own %", "its own part of all instructions, without what is called"],
+  ["Calls", "calls that returned"], ["With callees %", "part of all instructions, with its callees"],
+  ["Its own %", "its own part of all instructions, without its callees"],
   ["Growth", "how many times the cost of these calls grows where their size doubles"], ["Routine", ""],
 ];
 
