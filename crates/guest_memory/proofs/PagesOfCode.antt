@@ -1,7 +1,7 @@
 -- Code by page, and its index.
-use Rattle.std.proofs.Common.{◌≡◌, ◌≢◌, ℕ, zero, ◌+◌, ◌-◌, ◌*◌, ◌<◌, ◌≤◌, ◌/◌, ◌%◌, List, [], ◌∷◌, ◌++◌, length, get_or, set, replicate, ap, sym, refl, ◌∙◌, arith, inl, inr, ◌⊎◌, Option, Some, None, Ok}
+use Rattle.std.proofs.Common.{◌≡◌, ◌≢◌, ℕ, ◌+◌, ◌*◌, ◌<◌, ◌≤◌, ◌/◌, ◌%◌, List, [], ◌∷◌, ◌++◌, length, get_or, set, replicate, ap, sym, refl, ◌∙◌, arith, inl, inr, ◌⊎◌, Option, Some, None, Ok}
 use Rattle.std.proofs.lemmas.Bool.{cases_eq, cases_lt}
-use Rattle.std.proofs.lemmas.List.{get_or-set_other, get_or-set_same, get_or_past, length-set, get_or-replicate, length-replicate, get_or_append_left, get_or-append_right, get_or_push, length_push}
+use Rattle.std.proofs.lemmas.List.{get_or-set_other, get_or-set_same, get_or_past, length-set, get_or-replicate, length-replicate, get_or_append_left, get_or_push, length_push}
 use Rattle.guest_memory.specs.declared.refusal.Permission.TheVariants as permission
 use Rattle.guest_memory.specs.Memory.{Memory, loaded, with_bytes}
 use Rattle.guest_memory.specs.Code.{instruction_of}
@@ -138,17 +138,6 @@ index_same old new pages same index = record {
   numbered = λ n h. ap (λ k. (page_at pages k).0) (same n) ∙ index.numbered n (omega (arith, same n, h));
   indexed = λ k h low. same (page_at pages k).0 ∙ index.indexed k h low;
 }
-
-pub grown : (places : List ℕ) (n number : ℕ) → get_or (places ++ replicate {A = ℕ} n 0) number 0 ≡ get_or places number 0
-grown places n number = elim (cases_lt number (length places)) [
-  | inl low ↦ get_or_append_left places (replicate {A = ℕ} n 0) 0 number low
-  | inr past ↦ get_or-append_right places (replicate {A = ℕ} n 0) (length places) number 0 refl past ∙ zeros n (number - length places) ∙ sym (get_or_past places number 0 past)
-] where
-  zeros : (n k : ℕ) → get_or {A = ℕ} (replicate {A = ℕ} n 0) k 0 ≡ zero
-  zeros n k = elim (cases_lt k n) [
-    | inl low ↦ get_or-replicate {A = ℕ} n k 0 0 low
-    | inr past ↦ let size : length (replicate {A = ℕ} n 0) ≡ n = length-replicate {A = ℕ} n 0 in get_or_past {X = ℕ} (replicate {A = ℕ} n 0) k 0 (omega (arith, size, past))
-  ]
 
 -- ---- the first pages: that of no page, of which nothing is known
 pub blank_page : (n word : ℕ) → get_or (replicate n (let none : Option Instr = None in none)) word None ≡ None
