@@ -1,7 +1,7 @@
 -- Code by page, and its index.
-use Rattle.std.proofs.Common.{◌≡◌, ◌≢◌, ℕ, zero, ◌+◌, ◌-◌, ◌*◌, ◌<◌, ◌≤◌, ◌/◌, ◌%◌, List, [], ◌∷◌, ◌++◌, length, get_or, set, replicate, ap, sym, refl, ◌∙◌, arith, inl, inr, ◌⊎◌, Option, Some, None, Ok}
+use Rattle.std.proofs.Common.{◌≡◌, ◌≢◌, ℕ, ◌+◌, ◌*◌, ◌<◌, ◌≤◌, ◌/◌, ◌%◌, List, [], ◌∷◌, ◌++◌, length, get_or, set, replicate, ap, sym, refl, ◌∙◌, arith, inl, inr, ◌⊎◌, Option, Some, None, Ok}
 use Rattle.std.proofs.lemmas.Bool.{cases_eq, cases_lt}
-use Rattle.std.proofs.lemmas.List.{get_or-set_other, get_or-set_same, get_or_past, length-set, get_or-replicate, length-replicate, get_or_append_left, get_or-append_right, get_or_push, length_push}
+use Rattle.std.proofs.lemmas.List.{get_or-set_other, get_or-set_same, get_or_past, get_or-replicate, length-replicate, get_or_append_left, get_or_push}
 use Rattle.guest_memory.specs.declared.refusal.Permission.TheVariants as permission
 use Rattle.guest_memory.specs.Memory.{Memory, loaded, with_bytes}
 use Rattle.guest_memory.specs.Code.{instruction_of}
@@ -42,26 +42,6 @@ known_there : (places : List ℕ) (pages : Pages) (place : ℕ) (p : Page) (word
     known_in places (set pages place p) word ≡ known_in places pages word
 known_there places pages place p word differs =
     ap (λ (q : Page). get_or q.1 (word % 1024) None) (get_or-set_other pages place (get_or places (word / 1024) 0) p no_code differs)
-
-number_kept : (pages : Pages) (place : ℕ) (p : Page) (k : ℕ) → place < length pages → p.0 ≡ (page_at pages place).0 → (page_at (set pages place p) k).0 ≡ (page_at pages k).0
-number_kept pages place p k inside same = elim (cases_eq k place) [
-  | inl here ↦
-      ap (λ j. (page_at (set pages place p) j).0) here ∙ ap (λ (q : Page). q.0) (get_or-set_same pages place p no_code inside)
-      ∙ same ∙ ap (λ j. (page_at pages j).0) (sym here)
-  | inr there ↦ ap (λ (q : Page). q.0) (get_or-set_other pages place k p no_code there)
-]
-
-pub index_set : (places : List ℕ) (pages : Pages) (place : ℕ) (p : Page) → IsIndex places pages → 0 < place → place < length pages → p.0 ≡ (page_at pages place).0 →
-    IsIndex places (set pages place p)
-index_set places pages place p index some inside same =
-    let size = length-set pages place p in
-    record {
-      first = omega (arith, size, index.first);
-      blank = λ word. ap (λ (q : Page). get_or q.1 word None) (get_or-set_other pages place 0 p no_code (λ e. absurd (omega (arith, e, some)))) ∙ index.blank word;
-      placed = λ n h. let old = index.placed n h in omega (arith, size, old);
-      numbered = λ n h. number_kept pages place p (get_or places n 0) inside same ∙ index.numbered n h;
-      indexed = λ k h low. ap (λ n. get_or places n 0) (number_kept pages place p k inside same) ∙ index.indexed k h (omega (arith, size, low));
-    }
 
 -- one more instruction
 pub holds_learned : (places : List ℕ) (pages : Pages) (m : Memory) → IsIndex places pages → Holds (known_in places pages) m →
@@ -139,17 +119,6 @@ index_same old new pages same index = record {
   indexed = λ k h low. same (page_at pages k).0 ∙ index.indexed k h low;
 }
 
-pub grown : (places : List ℕ) (n number : ℕ) → get_or (places ++ replicate {A = ℕ} n 0) number 0 ≡ get_or places number 0
-grown places n number = elim (cases_lt number (length places)) [
-  | inl low ↦ get_or_append_left places (replicate {A = ℕ} n 0) 0 number low
-  | inr past ↦ get_or-append_right places (replicate {A = ℕ} n 0) (length places) number 0 refl past ∙ zeros n (number - length places) ∙ sym (get_or_past places number 0 past)
-] where
-  zeros : (n k : ℕ) → get_or {A = ℕ} (replicate {A = ℕ} n 0) k 0 ≡ zero
-  zeros n k = elim (cases_lt k n) [
-    | inl low ↦ get_or-replicate {A = ℕ} n k 0 0 low
-    | inr past ↦ let size : length (replicate {A = ℕ} n 0) ≡ n = length-replicate {A = ℕ} n 0 in get_or_past {X = ℕ} (replicate {A = ℕ} n 0) k 0 (omega (arith, size, past))
-  ]
-
 -- ---- the first pages: that of no page, of which nothing is known
 pub blank_page : (n word : ℕ) → get_or (replicate n (let none : Option Instr = None in none)) word None ≡ None
 blank_page n word = elim (cases_lt word n) [
@@ -175,39 +144,6 @@ added_before pages page k low = get_or_append_left pages ((page, replicate 1024 
 
 added_last : (pages : Pages) (page : ℕ) → page_at (added pages page) (length pages) ≡ (page, replicate 1024 None)
 added_last pages page = get_or_push pages (page, replicate 1024 None) no_code (length pages) refl
-
-pub index_added : (places : List ℕ) (pages : Pages) (page : ℕ) → IsIndex places pages → page < length places → get_or places page 0 ≡ 0 →
-    IsIndex (set places page (length pages)) (added pages page)
-index_added places pages page index low none =
-    let size : length (added pages page) ≡ length pages + 1 = length_push pages (page, replicate 1024 None) in
-    let here : get_or (set places page (length pages)) page 0 ≡ length pages = get_or-set_same places page (length pages) 0 low in
-    let there = λ (n : ℕ) (differs : n ≢ page). get_or-set_other places page n (length pages) 0 differs in
-    record {
-      first = omega (arith, size);
-      blank = λ word. ap (λ (q : Page). get_or q.1 word None) (added_before pages page 0 index.first) ∙ index.blank word;
-      placed = λ n h. elim (cases_eq n page) [
-        | inl same ↦ let at : get_or (set places page (length pages)) n 0 ≡ length pages = ap (λ k. get_or (set places page (length pages)) k 0) same ∙ here in omega (arith, at, size)
-        | inr differs ↦ omega (arith, there n differs, inside places pages index n, size)
-      ];
-      numbered = λ n h. elim (cases_eq n page) [
-        | inl same ↦
-            ap (λ k. (page_at (added pages page) k).0) (ap (λ k. get_or (set places page (length pages)) k 0) same ∙ here)
-            ∙ ap (λ (q : Page). q.0) (added_last pages page) ∙ sym same
-        | inr differs ↦
-            ap (λ k. (page_at (added pages page) k).0) (there n differs) ∙ ap (λ (q : Page). q.0) (added_before pages page (get_or places n 0) (inside places pages index n))
-            ∙ index.numbered n (omega (arith, there n differs, h))
-      ];
-      indexed = λ k h below. elim (cases_lt k (length pages)) [
-        | inl old ↦
-            let back : get_or places (page_at pages k).0 0 ≡ k = index.indexed k h old in
-            let differs : (page_at pages k).0 ≢ page = λ same. let bad : k ≡ 0 = sym back ∙ ap (λ n. get_or places n 0) same ∙ none in absurd (omega (arith, bad, h)) in
-            ap (λ (q : Page). get_or (set places page (length pages)) q.0 0) (added_before pages page k old) ∙ there (page_at pages k).0 differs ∙ back
-        | inr new ↦
-            let last : k ≡ length pages = omega (arith, new, below, size) in
-            ap (λ j. get_or (set places page (length pages)) (page_at (added pages page) j).0 0) last
-            ∙ ap (λ (q : Page). get_or (set places page (length pages)) q.0 0) (added_last pages page) ∙ here ∙ sym last
-      ];
-    }
 
 pub known_added : (places : List ℕ) (pages : Pages) (page : ℕ) → IsIndex places pages → page < length places → get_or places page 0 ≡ 0 → (word : ℕ) →
     known_in (set places page (length pages)) (added pages page) word ≡ known_in places pages word

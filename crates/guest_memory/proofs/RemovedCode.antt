@@ -1,9 +1,9 @@
 -- Code by page, and its index, where a page's code is dropped.
-use Rattle.std.proofs.Common.{◌≡◌, ◌≢◌, ℕ, ◌+◌, ◌-◌, ◌<◌, ◌/◌, ◌%◌, List, length, get_or, set, ap, sym, ◌∙◌, arith, inl, inr, None}
+use Rattle.std.proofs.Common.{◌≡◌, ◌≢◌, ℕ, ◌+◌, ◌-◌, ◌<◌, List, length, get_or, set, ap, sym, ◌∙◌, arith, inl, inr, None}
 use Rattle.std.proofs.lemmas.Bool.{cases_eq, cases_lt}
 use Rattle.std.proofs.lemmas.List.{get_or-set_other, get_or-set_same, length-set}
-use Rattle.guest_memory.specs.CodePages.{IsIndex, known_in, page_at}
-use Rattle.guest_memory.proofs.PagesOfCode.{Page, Pages, inside, none_known, same_page, within}
+use Rattle.guest_memory.specs.CodePages.{IsIndex, page_at}
+use Rattle.guest_memory.proofs.PagesOfCode.{Page, Pages, inside, same_page, within}
 
 -- the number of the last page with code
 abbrev pub last_number : Pages → ℕ
@@ -116,22 +116,3 @@ index_removed places pages rest page place r =
             ∙ other_at places pages page place (page_at pages k).0 differs unmoved ∙ back
       ];
     }
-
-pub none_removed : (places : List ℕ) (pages rest : Pages) (page place : ℕ) → Removes places pages rest page place → (word : ℕ) → word / 1024 ≡ page →
-    known_in (without places pages page place) rest word ≡ None
-none_removed places pages rest page place r word same =
-    none_known (without places pages page place) rest (index_removed places pages rest page place r) word
-    (ap (λ k. get_or (without places pages page place) k 0) same ∙ gone_at places pages rest page place r)
-
-pub known_removed : (places : List ℕ) (pages rest : Pages) (page place : ℕ) → Removes places pages rest page place → (word : ℕ) → word / 1024 ≢ page →
-    known_in (without places pages page place) rest word ≡ known_in places pages word
-known_removed places pages rest page place r word differs = elim (cases_eq (word / 1024) (last_number pages)) [
-  | inl last ↦
-      let apart : last_number pages ≢ page = λ e. differs (last ∙ e) in
-      ap (λ k. get_or (page_at rest k).1 (word % 1024) None) (ap (λ k. get_or (without places pages page place) k 0) last ∙ moved_at places pages rest page place r apart)
-      ∙ ap (λ (q : Page). get_or q.1 (word % 1024) None) (r.moved (inner places pages rest page place r apart))
-      ∙ ap (λ k. get_or (page_at pages k).1 (word % 1024) None) (sym (ap (λ k. get_or places k 0) last ∙ (last_at places pages r.index place r.some (bound places pages rest page place r))))
-  | inr unmoved ↦
-      ap (λ k. get_or (page_at rest k).1 (word % 1024) None) (other_at places pages page place (word / 1024) differs unmoved)
-      ∙ ap (λ (q : Page). get_or q.1 (word % 1024) None) (kept_at places pages rest page place r (word / 1024) differs unmoved)
-]

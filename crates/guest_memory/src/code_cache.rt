@@ -12,7 +12,7 @@ use guest_words::limits::PAGES;
 use rv_isa::{Instr, decode};
 use std::alloc::{AllocError, Global};
 
-/// The code of the pages that ran, decoded, and an index of it: 16 KiB for each page with code, of which there are no more
+/// The code of the pages that ran, decoded, and an index of it: 12 KiB for each page with code, of which there are no more
 /// than can be mapped, and 2 bytes for each number up to the greatest of such a page. The memory that the code is of is no
 /// part of it (specs/Code.antt).
 #[derive(Drop)]
@@ -92,6 +92,7 @@ impl CodeCache {
         }
         self.reach(page)?;
         let next = self.pages.len();
+        // no more pages have code than can be mapped, so that each place is a number of 16 bits
         if next > PAGES as usize {
             return Err(AllocError);
         }

@@ -10,7 +10,7 @@ use std::marker::Model;
 /// How many words a page has.
 pub const PAGE_WORDS: usize = 1024;
 
-/// The code of a page: the page's number, and the instruction of each of its words, where it is known. It takes 16 KiB.
+/// The code of a page: the page's number, and the instruction of each of its words, where it is known. It takes 12 KiB.
 #[derive(Drop)]
 pub struct CodePage {
     number: u32,
