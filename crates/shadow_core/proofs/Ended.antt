@@ -1,7 +1,6 @@
 -- Returns of a profiler.
-use Rattle.std.proofs.Common.{◌≡◌, Bool, Bor, false, not, [], ◌∷◌, ℕ, ◌+◌, ◌-◌, ◌<◌, ◌^◌, true, List, ◌++◌, length, drop, map, refl, sym, ap, subst, ◌∙◌, arith, cond, Some}
-use Rattle.std.specs.Prelude.{◌==◌, reverse, Option, None}
-use Rattle.std.specs.Option.{IsSome, option_copied}
+use Rattle.std.proofs.Common.{◌≡◌, Bool, false, not, [], ◌∷◌, ℕ, ◌+◌, ◌-◌, ◌<◌, ◌^◌, true, List, ◌++◌, length, drop, map, refl, sym, ap, subst, ◌∙◌, arith, cond, Some}
+use Rattle.std.specs.Prelude.{◌==◌, reverse}
 use Rattle.std.proofs.lemmas.List.{length-map, length-reverse}
 use Rattle.guest_words.specs.ByThread.{numbers, value_of, with_value, without_thread}
 use Rattle.guest_words.proofs.ThreadTables.{numbers-with, with_own}

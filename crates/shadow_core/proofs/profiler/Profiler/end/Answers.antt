@@ -1,11 +1,11 @@
-use Rattle.std.proofs.Common.{◌≡◌, ◌∙◌, ◌++◌, Some, ap, arith, length, sym}
+use Rattle.std.proofs.Common.{◌≡◌, ◌∙◌, ◌++◌, Some, ap, arith, sym}
 use Rattle.std.specs.Prelude.{is_some}
 use Rattle.std.specs.Option.{option_copied_mut}
 use Rattle.guest_words.specs.ByThread.{value_of}
 use Rattle.trace_model.specs.declared.event_kinds.Event.TheVariants.{End}
 use Rattle.shadow_core.specs.Records.{finished}
 use Rattle.shadow_core.specs.Renewal.{bounded_tick}
-use Rattle.shadow_core.specs.State.{Calls, State, table_of_state}
+use Rattle.shadow_core.specs.State.{State, table_of_state}
 use Rattle.shadow_core.specs.Ticks.{table_after}
 use Rattle.shadow_core.proofs.Ended.{all_recorded, left_as_before, may_end, thread_ended, whole_ended, whole_left}
 use Rattle.shadow_core.proofs.Profiled.{alive_here, found, on_err}
