@@ -51,6 +51,12 @@ def fetch(recipes: Sequence[Recipe], folder: Path) -> None:
         subprocess.run(command, stdout=log, stderr=subprocess.STDOUT)
 
 
+def last_line(log: Path) -> str:
+    """The last line of a log that says something."""
+    lines = [line.strip() for line in log.read_text(errors="replace").splitlines() if line.strip()] if log.exists() else []
+    return f"{lines[-1] if lines else 'nothing was said'} ({log})"
+
+
 def build(recipe: Recipe, sources: Path, guests: Path) -> Path:
     """The guest of a recipe, built unless this very line has built it before. It is built in a copy of the source, so that an
     earlier build leaves nothing in it."""
@@ -60,7 +66,7 @@ def build(recipe: Recipe, sources: Path, guests: Path) -> Path:
     if guest.exists() and said.exists() and said.read_text() == recipe.make:
         return guest
     if not source.is_dir():
-        raise LeftOut(f"its package {recipe.package} could not be fetched, see {sources / 'fetch.log'}")
+        raise LeftOut(f"its package {recipe.package} could not be fetched: {last_line(sources / 'fetch.log')}")
     guests.mkdir(parents=True, exist_ok=True)
     work = guests / "work"
     shutil.rmtree(work, ignore_errors=True)
@@ -71,6 +77,6 @@ def build(recipe: Recipe, sources: Path, guests: Path) -> Path:
         done = subprocess.run(["bash", "-c", recipe.make], cwd=work, env={**os.environ, **names}, stdout=file, stderr=subprocess.STDOUT)
     shutil.rmtree(work)
     if done.returncode or not guest.exists():
-        raise LeftOut(f"it could not be built, see {log}")
+        raise LeftOut(f"it could not be built: {last_line(log)}")
     said.write_text(recipe.make)
     return guest

@@ -10,6 +10,7 @@ that the guest made at the least size and that answer ENOSYS, see real/refused.p
 from __future__ import annotations
 
 import argparse
+import shutil
 import sys
 from collections.abc import Sequence
 from pathlib import Path
@@ -89,6 +90,9 @@ def main(words: Sequence[str]) -> int:
     recipes, folder, program = chosen(options.only), options.folder.resolve(), options.program.resolve()
     if not program.exists():
         raise SystemExit(f"bench/real.py: there is no {program}; ./aprof builds it")
+    host = options.host and shutil.which("valgrind") is not None
+    if host != options.host:
+        print("bench/real.py: host instructions are not counted: no valgrind (Debian's package valgrind)", file=sys.stderr)
     building.compiler()
     building.fetch(recipes, folder / "sources")
     left_out = []
@@ -98,7 +102,7 @@ def main(words: Sequence[str]) -> int:
         try:
             guest = building.build(recipe, folder / "sources", folder / "guests")
             bench = Bench(program, recipe, guest, folder / "runs" / guest.name)
-            print(row(measure(bench, options.sizes, options.host)), flush=True)
+            print(row(measure(bench, options.sizes, host)), flush=True)
         except building.LeftOut as reason:
             left_out.append(f"{recipe.name} is left out: {reason}")
             print(left_out[-1], file=sys.stderr, flush=True)

@@ -58,16 +58,16 @@ def people(scale: int) -> bytes:
 
 
 def document(scale: int) -> bytes:
-    """An XML document of 20 paragraphs times the scale, each inside the one before it, with attributes, comments and entities."""
-    count = 20 * scale
+    """An XML document of 60 paragraphs times the scale, each inside the one before it, with attributes, comments and entities."""
+    count = 60 * scale
     opened = [f'<part n="{k}" name="{line[:20]}"><!-- {line} -->{line} &amp; &#65;' for k, line in enumerate(lines(count))]
     return ('<?xml version="1.0"?>\n' + "\n".join(opened) + "\n" + "</part>" * count + "\n").encode()
 
 
 def statements(scale: int) -> bytes:
-    """SQL that fills a table of 10 rows times the scale, indexes one column, groups, and joins the table to itself by another."""
+    """SQL that fills a table of 6 rows times the scale, indexes one column, groups, and joins the table to itself by another."""
     draw = numbers(1000)
-    rows = [f"INSERT INTO t VALUES ({k}, '{word}', {next(draw)});" for k, word in enumerate(words(10 * scale))]
+    rows = [f"INSERT INTO t VALUES ({k}, '{word}', {next(draw)});" for k, word in enumerate(words(6 * scale))]
     queries = [
         "SELECT count(*), min(word), max(amount) FROM t;",
         "SELECT word, sum(amount) AS s FROM t GROUP BY word ORDER BY s DESC LIMIT 3;",
@@ -81,7 +81,7 @@ def script(scale: int) -> bytes:
     """A Lua script that counts and sorts words, inserts at the front of a list, and joins strings."""
     return f"""local seed, count, list = {SEED}, {{}}, {{}}
 local function draw(n) seed = (seed * 1103 + 12345) % 2147483; return seed % n end
-for i = 1, {20 * scale} do
+for i = 1, {14 * scale} do
   local word = string.char(97 + draw(26), 97 + draw(26))
   count[word] = (count[word] or 0) + 1
   table.insert(list, 1, word)

@@ -72,15 +72,15 @@ class Bench:
         self.made: set[str] = set()
         folder.mkdir(parents=True, exist_ok=True)
 
-    def words(self, command: str, scale: int, report: str, image: Path | None = None) -> list[str | Path]:
-        """The command line of a run."""
+    def words(self, command: str, scale: int, report: str, image: Path | None = None, behind: Sequence[str] = ()) -> list[str | Path]:
+        """The command line of a run, of the recipe's guest and words unless others are given."""
         name = f"in-{scale}"
         if name not in self.made:
             (self.folder / name).write_bytes(self.recipe.maker(scale))
             self.made.add(name)
-        takes_file = "INPUT" in self.recipe.words
-        behind = [name if word == "INPUT" else word for word in self.recipe.words]
-        stdin = [] if takes_file else ["--stdin", name]
+        behind = behind or self.recipe.words
+        stdin = [] if "INPUT" in behind else ["--stdin", name]
+        behind = [name if word == "INPUT" else word for word in behind]
         return [self.program, command, *stdin, "-o", report, image or self.guest, *behind]
 
     def run(self, command: str, scale: int) -> Run:

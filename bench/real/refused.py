@@ -7,7 +7,7 @@ from __future__ import annotations
 import re
 import struct
 import subprocess
-from collections.abc import Iterator
+from collections.abc import Iterator, Sequence
 from pathlib import Path
 from typing import TYPE_CHECKING
 
@@ -94,28 +94,55 @@ def waiting_routines(guest: Path) -> set[int]:
     return {int(line.split()[0], 16) for line in said.splitlines() if line.split()[-1] in ("__syscall_cp", "__syscall_cp_c", "syscall")}
 
 
-def calls(bench: Bench, scale: int) -> str:
-    """The names of the calls that answer ENOSYS in a run."""
-    image = bytearray(bench.guest.read_bytes())
-    taken = known()
-    asked = {at: site for at, site in sites(bytes(image), waiting_routines(bench.guest)).items() if site[1] not in taken}
-    before = {offset: bytes(image[offset : offset + 4]) for offset, _ in asked.values()}
-    for offset in before:
-        image[offset : offset + 4] = struct.pack("<I", EBREAK)
-    path, report = bench.folder / "asked", bench.folder / "asked-report"
-    found: set[int] = set()
-    while True:
-        path.write_bytes(image)
+class Probe:
+    """An executable whose unknown calls of the kernel are breakpoints, each until it is reached."""
+
+    def __init__(self, bench: Bench, scale: int) -> None:
+        self.bench, self.scale = bench, scale
+        self.image = bytearray(bench.guest.read_bytes())
+        every = sites(bytes(self.image), waiting_routines(bench.guest))
+        taken = known()
+        self.asked = {at: site for at, site in every.items() if site[1] not in taken}
+        self.before = {offset: bytes(self.image[offset : offset + 4]) for offset, _ in self.asked.values()}
+        for offset in self.before:
+            self.put(offset, struct.pack("<I", EBREAK))
+
+    def put(self, offset: int, word: bytes) -> None:
+        """Changes an instruction."""
+        self.image[offset : offset + 4] = word
+
+    def end(self, words: Sequence[str]) -> str:
+        """How a run by these words ends."""
+        path, report = self.bench.folder / "asked", self.bench.folder / "asked-report"
+        path.write_bytes(self.image)
         report.unlink(missing_ok=True)
-        subprocess.run(bench.words("run", scale, report.name, path), cwd=bench.folder, capture_output=True)
-        end = report.read_text().splitlines()[1] if report.exists() else "no report"
-        fault = re.fullmatch(r"end fault 7 \d+ ([0-9a-f]{8})", end)
-        if not fault:
-            break
-        offset, number = asked.pop(int(fault[1], 16))
-        image[offset : offset + 4] = before[offset]
-        found.add(number)
-    if end != f"end exit {bench.recipe.status}":
-        raise LeftOut(f"the run that looks for refused calls ended with {end}")
+        command = self.bench.words("run", self.scale, report.name, path, words)
+        subprocess.run(command, cwd=self.bench.folder, capture_output=True)
+        return report.read_text().splitlines()[1].removeprefix("end ") if report.exists() else "no report"
+
+    def numbers(self, words: Sequence[str]) -> tuple[set[int], str]:
+        """The numbers of the unknown calls that a run makes, and how it ends when they are answered."""
+        found: set[int] = set()
+        while fault := re.fullmatch(r"fault 7 \d+ ([0-9a-f]{8})", end := self.end(words)):
+            offset, number = self.asked.pop(int(fault[1], 16))
+            self.put(offset, self.before[offset])
+            found.add(number)
+        return found, end
+
+
+def told(numbers: set[int]) -> str:
+    """The names of calls."""
     named = names()
-    return ", ".join(named.get(number, str(number)) for number in sorted(found)) or "none"
+    return ", ".join(named.get(number, str(number)) for number in sorted(numbers)) or "none"
+
+
+def calls(bench: Bench, scale: int) -> str:
+    """The names of the calls that answer ENOSYS in a run, and in one that reads its input as a file, if there is such a one."""
+    expected = f"exit {bench.recipe.status}"
+    found, end = Probe(bench, scale).numbers(bench.recipe.words)
+    if end != expected:
+        raise LeftOut(f"the run that looks for refused calls ended with {end}")
+    if not bench.recipe.by_file:
+        return told(found)
+    more, end = Probe(bench, scale).numbers(bench.recipe.by_file)
+    return f"{told(found)}; a file: {told(more)}" + (f" ({end})" if end != expected else "")
