@@ -1,5 +1,5 @@
 #!/usr/bin/env python3
-"""Builds C programs that no one here wrote, from Debian's source packages, profiles them, and prints a table; see real/command.py."""
+"""Builds C programs that no one here wrote from Debian's source packages, profiles them and prints a table: see --help."""
 from __future__ import annotations
 
 import sys

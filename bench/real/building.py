@@ -74,7 +74,8 @@ def build(recipe: Recipe, sources: Path, guests: Path) -> Path:
     names = {"CC": str(compiler()), "GUEST": str(guest), "DRIVERS": str(Path(__file__).parent / "drivers")}
     log = guest.with_suffix(".log")
     with log.open("w") as file:
-        done = subprocess.run(["bash", "-c", recipe.make], cwd=work, env={**os.environ, **names}, stdout=file, stderr=subprocess.STDOUT)
+        command = ["bash", "-c", recipe.make]
+        done = subprocess.run(command, cwd=work, env={**os.environ, **names}, stdout=file, stderr=subprocess.STDOUT)
     shutil.rmtree(work)
     if done.returncode or not guest.exists():
         raise LeftOut(f"it could not be built: {last_line(log)}")

@@ -1,6 +1,6 @@
-"""bench/real.py [--only NAME ...] [--sizes 1,10,100] [--program PATH] [--folder PATH] [--no-host]: builds C programs that no one here
-wrote from Debian's source packages, profiles each at some sizes of input, and prints a Markdown table. A program that can't be
-fetched, built or run is left out with a line that says why.
+"""bench/real.py [--only NAME ...] [--sizes 1,10,100] [--program PATH] [--folder PATH] [--no-host]: builds C programs that no one
+here wrote from Debian's source packages, profiles each at some sizes of input, and prints a Markdown table. A program that can't
+be fetched, built or run is left out with a line that says why.
 
 Steps are the guest's instructions. Seconds are the processor's, of `aprof run` at the greatest size; beside it stand its
 nanoseconds a step, most memory, and points. Host instructions a step are counted by callgrind, as the difference of the two least
@@ -58,11 +58,11 @@ def measure(bench: Bench, sizes: Sequence[int], host: bool) -> list[str]:
 
 def chosen(names: Sequence[str]) -> list[Recipe]:
     """The recipes of these names, or all; the first word of a name is enough."""
-    unknown = [name for name in names if not any(name in (recipe.name, recipe.name.split()[0]) for recipe in RECIPES)]
+    unknown = set(names) - {name for recipe in RECIPES for name in (recipe.name, recipe.name.split()[0])}
     if unknown:
         every = ", ".join(recipe.name.split()[0] for recipe in RECIPES)
-        raise SystemExit(f"bench/real.py: no program {unknown[0]}; there are {every}")
-    return [recipe for recipe in RECIPES if not names or recipe.name in names or recipe.name.split()[0] in names]
+        raise SystemExit(f"bench/real.py: no program {min(unknown)}; there are {every}")
+    return [recipe for recipe in RECIPES if not names or {recipe.name, recipe.name.split()[0]} & set(names)]
 
 
 def scales(text: str) -> list[int]:
@@ -75,7 +75,8 @@ def scales(text: str) -> list[int]:
 
 def options_of(words: Sequence[str]) -> argparse.Namespace:
     """The options of the command line."""
-    parser = argparse.ArgumentParser(prog="bench/real.py", description=__doc__, formatter_class=argparse.RawDescriptionHelpFormatter)
+    shape = argparse.RawDescriptionHelpFormatter
+    parser = argparse.ArgumentParser(prog="bench/real.py", description=__doc__, formatter_class=shape)
     parser.add_argument("--only", metavar="NAME", action="append", default=[], help="this program alone; may be repeated")
     parser.add_argument("--sizes", type=scales, default=[1, 10, 100], help="1,10,100 unless given")
     parser.add_argument("--program", type=Path, default=building.TOP / "crates/aprof/out/aprof", help="the built aprof")

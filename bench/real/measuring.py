@@ -72,7 +72,8 @@ class Bench:
         self.made: set[str] = set()
         folder.mkdir(parents=True, exist_ok=True)
 
-    def words(self, command: str, scale: int, report: str, image: Path | None = None, behind: Sequence[str] = ()) -> list[str | Path]:
+    def words(self, command: str, scale: int, report: str,
+              image: Path | None = None, behind: Sequence[str] = ()) -> list[str | Path]:
         """The command line of a run, of the recipe's guest and words unless others are given."""
         name = f"in-{scale}"
         if name not in self.made:
@@ -100,8 +101,8 @@ class Bench:
         """The host's instructions of a run, by callgrind."""
         counting = ["valgrind", "--tool=callgrind", "--callgrind-out-file=/dev/null"]
         command = [*counting, *self.words("run", scale, "counted")]
-        said = subprocess.run(command, cwd=self.folder, stdout=subprocess.DEVNULL, stderr=subprocess.PIPE, text=True, errors="replace").stderr
-        found = re.search(r"Collected : (\d+)", said)
+        ran = subprocess.run(command, cwd=self.folder, stdout=subprocess.DEVNULL, stderr=subprocess.PIPE)
+        found = re.search(rb"Collected : (\d+)", ran.stderr)
         if not found:
             raise LeftOut(f"valgrind on aprof run at {scale} counted nothing")
         return int(found[1])

@@ -25,10 +25,12 @@ class Recipe:
 
 
 LUA_HEADER = """echo '#define DEB_HOST_MULTIARCH "riscv32-linux-musl"' > src/lua5.4-deb-multiarch.h"""
-EXPAT_HEADER = "printf '#define %s\\n' 'XML_NS 1' 'XML_DTD 1' 'XML_CONTEXT_BYTES 1024' 'BYTEORDER 1234' XML_DEV_URANDOM > expat/expat_config.h"
+EXPAT_HEADER = ("printf '#define %s\\n' 'XML_NS 1' 'XML_DTD 1' 'XML_CONTEXT_BYTES 1024' 'BYTEORDER 1234' XML_DEV_URANDOM "
+                "> expat/expat_config.h")
 EXPAT_FILES = "expat/lib/xmlparse.c expat/lib/xmlrole.c expat/lib/xmltok.c expat/xmlwf/{xmlwf,xmlfile,codepage,unixfilemap}.c"
 AWK = ('{ for (k = 1; k <= NF; k++) count[$k]++; all = all substr($1, 1, 1); gsub(/[aeiou]/, "-"); dashes += length($0) } '
-       'END { for (word in count) if (count[word] > most) { most = count[word]; first = word }; print NR, dashes, length(all), first, most }')
+       'END { for (word in count) if (count[word] > most) { most = count[word]; first = word } '
+       'print NR, dashes, length(all), first, most }')
 
 PATTERN = r"=(?:\w+ )+ends"
 LIKE = f"={' '.join(inputs.words(2))}"
@@ -66,6 +68,10 @@ RECIPES = (
            # Its config.sub is older than this processor, and any other one tells it that programs can't be run.
            f"{CONFIGURE} --host=arm-linux --disable-shared --disable-nls && make && cp src/agrep $GUEST",
            inputs.short_text, ("=-2", "=-c", LIKE), by_file=("=-2", "=-c", LIKE, "INPUT")),
+    Recipe("nettle-hash", "nettle",
+           f"{CONFIGURE} --host=riscv32-linux-musl --disable-shared --disable-public-key --disable-openssl "
+           "--disable-documentation && make libnettle.a && make -C tools nettle-hash && cp tools/nettle-hash $GUEST",
+           inputs.text, ("=-a", "=sha256"), by_file=("=-a", "=sha256", "INPUT")),
     Recipe("tcc -E", "tcc",
            "./configure --cpu=x86_64 --cc=clang && $CC -DONE_SOURCE=1 -DTCC_TARGET_X86_64 -DCONFIG_TCC_STATIC -o $GUEST tcc.c",
            inputs.source, ("=-E", "INPUT")),

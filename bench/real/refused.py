@@ -91,7 +91,8 @@ def sites(image: bytes, waiting: set[int]) -> dict[int, tuple[int, int]]:
 def waiting_routines(guest: Path) -> set[int]:
     """The addresses of the C library's routines that take the number of a call of the kernel."""
     said = subprocess.run(["llvm-nm", guest], capture_output=True, text=True).stdout
-    return {int(line.split()[0], 16) for line in said.splitlines() if line.split()[-1] in ("__syscall_cp", "__syscall_cp_c", "syscall")}
+    taking = ("__syscall_cp", "__syscall_cp_c", "syscall")
+    return {int(line.split()[0], 16) for line in said.splitlines() if line.split()[-1] in taking}
 
 
 class Probe:
