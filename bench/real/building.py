@@ -22,7 +22,8 @@ for package; do
   rm -rf "$folder/$package"
   mkdir -p "$folder/$package"
   cd "$folder/$package"
-  apt-get source --download-only "$package" && dpkg-source --no-check -x *.dsc source || rm -rf "$folder/$package"
+  { apt-get source --download-only "$package" && dpkg-source --no-check -x *.dsc source; } > "../$package.log" 2>&1 ||
+    rm -rf "$folder/$package"
 done
 """
 """apt works in a folder and with a list of its own, as for the C library. It checks what it loads; the unpacking need not again."""
@@ -66,7 +67,8 @@ def build(recipe: Recipe, sources: Path, guests: Path) -> Path:
     if guest.exists() and said.exists() and said.read_text() == recipe.make:
         return guest
     if not source.is_dir():
-        raise LeftOut(f"its package {recipe.package} could not be fetched: {last_line(sources / 'fetch.log')}")
+        own, common = sources / f"{recipe.package}.log", sources / "fetch.log"
+        raise LeftOut(f"its package {recipe.package} could not be fetched: {last_line(own if own.exists() else common)}")
     guests.mkdir(parents=True, exist_ok=True)
     work = guests / "work"
     shutil.rmtree(work, ignore_errors=True)

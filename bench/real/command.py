@@ -106,6 +106,5 @@ def main(words: Sequence[str]) -> int:
             print(row(measure(bench, options.sizes, host)), flush=True)
         except building.LeftOut as reason:
             left_out.append(f"{recipe.name} is left out: {reason}")
-            print(left_out[-1], file=sys.stderr, flush=True)
     print("".join(f"\n{line}" for line in left_out))
     return 1 if left_out else 0
