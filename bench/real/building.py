@@ -52,6 +52,11 @@ def fetch(recipes: Sequence[Recipe], folder: Path) -> None:
         subprocess.run(command, stdout=log, stderr=subprocess.STDOUT)
 
 
+def version(recipe: Recipe, sources: Path) -> str:
+    """The package of a recipe with its version, by the name of its description."""
+    return " ".join(next((sources / recipe.package).glob("*.dsc")).stem.split("_", 1))
+
+
 def last_line(log: Path) -> str:
     """The last line of a log that says something."""
     lines = [line.strip() for line in log.read_text(errors="replace").splitlines() if line.strip()] if log.exists() else []

@@ -35,7 +35,7 @@ def row(cells: Sequence[str]) -> str:
 
 
 def measure(bench: Bench, sizes: Sequence[int], host: bool) -> list[str]:
-    """The cells of a program."""
+    """The cells of a program, behind its name."""
     runs: list[Run] = [bench.run("run", size) for size in sizes]
     last, steps = runs[-1], [run.report.steps for run in runs]
     contexts = bench.run("contexts", sizes[len(sizes) // 2])
@@ -43,7 +43,6 @@ def measure(bench: Bench, sizes: Sequence[int], host: bool) -> list[str]:
     if host and len(sizes) > 1 and steps[1] > steps[0]:
         counted = f"{(bench.host(sizes[1]) - bench.host(sizes[0])) / (steps[1] - steps[0]):.0f}"
     return [
-        bench.recipe.name,
         " / ".join(millions(number) for number in steps),
         f"{last.seconds:.1f}",
         f"{last.seconds / last.report.steps * 1e9:.0f}",
@@ -103,7 +102,8 @@ def main(words: Sequence[str]) -> int:
         try:
             guest = building.build(recipe, folder / "sources", folder / "guests")
             bench = Bench(program, recipe, guest, folder / "runs" / guest.name)
-            print(row(measure(bench, options.sizes, host)), flush=True)
+            name = f"{recipe.name} ({building.version(recipe, folder / 'sources')})"
+            print(row([name, *measure(bench, options.sizes, host)]), flush=True)
         except building.LeftOut as reason:
             left_out.append(f"{recipe.name} is left out: {reason}")
     print("".join(f"\n{line}" for line in left_out))

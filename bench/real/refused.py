@@ -1,7 +1,8 @@
 """Which calls of the kernel answer ENOSYS in a run, found by the program itself: each `ecall` of the guest whose number the written
 kernel doesn't have is made an `ebreak`, and the run ends with fault 7 at the first that is reached; that one is noted and made an
 `ecall` again, and so on until the guest ends as before. A number is known where `li a7` stands before the `ecall`, or `li a0`
-before a call of the C library's `__syscall_cp`, through which its waiting calls go."""
+before a call of the C library's `__syscall_cp`, through which its waiting calls go. How many others there are is told, if any;
+what is refused by another answer than ENOSYS, as a file that is opened for writing, is not looked at."""
 from __future__ import annotations
 
 import re
@@ -69,22 +70,18 @@ def target(code: list[int], at: int, address: int) -> int | None:
     return None
 
 
-def sites(image: bytes, waiting: set[int]) -> dict[int, tuple[int, int]]:
-    """By address, the offset in the file and the number of each call of the kernel whose number is known; waiting are the
-    addresses of the routines that take it as their first argument."""
-    found = {}
+def sites(image: bytes, waiting: set[int]) -> dict[int, tuple[int, int | None]]:
+    """By address, the offset in the file and the number, if it is known, of each call of the kernel; waiting are the addresses of
+    the routines that take it as their first argument."""
+    found: dict[int, tuple[int, int | None]] = {}
     for address, offset, size in sections(image):
         code = list(struct.unpack_from(f"<{size // 4}I", image, offset))
         for k, word in enumerate(code):
             here = address + 4 * k
             if word == ECALL:
-                number = constant(code, k, A7)
+                found[here] = offset + 4 * k, constant(code, k, A7)
             elif word & 127 in (JAL, JALR) and target(code, k, here) in waiting:
-                number = constant(code, k, A0)
-            else:
-                continue
-            if number is not None:
-                found[here] = offset + 4 * k, number
+                found[here] = offset + 4 * k, constant(code, k, A0)
     return found
 
 
@@ -101,9 +98,11 @@ class Probe:
     def __init__(self, bench: Bench, scale: int) -> None:
         self.bench, self.scale = bench, scale
         self.image = bytearray(bench.guest.read_bytes())
-        every = sites(bytes(self.image), waiting_routines(bench.guest))
-        taken = known()
-        self.asked = {at: site for at, site in every.items() if site[1] not in taken}
+        waiting, taken = waiting_routines(bench.guest), known()
+        every = sites(bytes(self.image), waiting)
+        # The one `ecall` of the waiting routines has the numbers of the calls that lead there.
+        self.unknown = [number for _, number in every.values()].count(None) - bool(waiting)
+        self.asked = {at: (offset, number) for at, (offset, number) in every.items() if number is not None and number not in taken}
         self.before = {offset: bytes(self.image[offset : offset + 4]) for offset, _ in self.asked.values()}
         for offset in self.before:
             self.put(offset, struct.pack("<I", EBREAK))
@@ -140,10 +139,12 @@ def told(numbers: set[int]) -> str:
 def calls(bench: Bench, scale: int) -> str:
     """The names of the calls that answer ENOSYS in a run, and in one that reads its input as a file, if there is such a one."""
     expected = f"exit {bench.recipe.status}"
-    found, end = Probe(bench, scale).numbers(bench.recipe.words)
+    probe = Probe(bench, scale)
+    found, end = probe.numbers(bench.recipe.words)
     if end != expected:
         raise LeftOut(f"the run that looks for refused calls ended with {end}")
+    told_first = told(found) + (f" ({probe.unknown} of unknown number)" if probe.unknown else "")
     if not bench.recipe.by_file:
-        return told(found)
+        return told_first
     more, end = Probe(bench, scale).numbers(bench.recipe.by_file)
-    return f"{told(found)}; a file: {told(more)}" + (f" ({end})" if end != expected else "")
+    return f"{told_first}; a file: {told(more)}" + (f" ({end})" if end != expected else "")

@@ -72,7 +72,7 @@ class Refused(unittest.TestCase):
 
     def test_numbers_before_calls(self) -> None:
         image = executable([LI_A7_STATX, NOP, refused.ECALL, LI_A7, refused.ECALL, MV_A7_A0, refused.ECALL])
-        self.assertEqual(refused.sites(image, set()), {0x10008: (92, 291), 0x10010: (100, 63)})
+        self.assertEqual(refused.sites(image, set()), {0x10008: (92, 291), 0x10010: (100, 63), 0x10018: (108, None)})
 
     def test_calls_of_waiting_routines(self) -> None:
         forward = [LI_A0, 0x00000097, 0x010080E7, LI_A0, 0x008000EF]
