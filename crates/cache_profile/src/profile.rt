@@ -193,6 +193,8 @@ impl<K: Shaped> Observer for CacheProfile<K> {
 
     ghost fits_closed = { λ profile e past fits. refl };
 
+    ghost steps_fit = { λ profile tid past fits. refl };
+
     // It takes every event that may come next. Steps and fills need no memory.
     fn observe(&mut self, e: Event) -> Result<Observed, AllocError>
         requires { MayCome self.old e }

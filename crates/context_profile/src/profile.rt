@@ -131,7 +131,7 @@ impl<S: Lanes> ContextProfile<S> {
 
 impl<S: Lanes> Observer for ContextProfile<S> {
     ghost use Rattle.trace_model.specs.Depth.{is_within};
-    ghost use Rattle.trace_model.proofs.Cut.{within_closed};
+    ghost use Rattle.trace_model.proofs.Cut.{steps_within, within_closed};
     ghost use Rattle.context_profile.specs.Kept.{AreContextsOf};
 
     ghost stands = { AreContextsOf S.MAX };
@@ -139,6 +139,8 @@ impl<S: Lanes> Observer for ContextProfile<S> {
     ghost fits = { λ _. is_within S.MAX };
 
     ghost fits_closed = { λ _. within_closed S.MAX };
+
+    ghost steps_fit = { λ _. steps_within S.MAX };
 
     // What is too deep is refused, and wants no memory.
     #[inline(always)]

@@ -1,5 +1,5 @@
 -- Steps of a thread on its registers, the memory and the reservations alone.
-use Rattle.std.proofs.Common.{◌≡◌, ℕ, suc, ◌+◌, ◌-◌, ◌<◌, ◌%◌, ◌^◌, Bool, true, false, cond, List, [], ◌∷◌, ◌++◌, Some, Ok, refl, sym, ap, subst, ◌∙◌, arith}
+use Rattle.std.proofs.Common.{◌≡◌, ℕ, suc, ◌+◌, ◌-◌, ◌<◌, ◌%◌, ◌^◌, Bool, true, false, cond, List, [], ◌∷◌, ◌++◌, reverse, Some, Ok, refl, sym, ap, subst, ◌∙◌, arith, append-nil, append_assoc}
 use Rattle.std.specs.Prelude.{◌==◌, is_some}
 use Rattle.guest_words.specs.ByThread.{value_of}
 use Rattle.guest_words.specs.declared.limits.TheConstants.{THREADS}
@@ -18,16 +18,19 @@ use Rattle.trace_model.specs.declared.event_kinds.Event.{Event}
 use Rattle.trace_model.specs.declared.event_kinds.Event.TheVariants.{Step}
 use Rattle.trace_model.specs.declared.observer.Observed.TheVariants.{Taken, Refused}
 use Rattle.trace_model.specs.Cut.{cut, past_after}
-use Rattle.trace_model.specs.Observing.{MayTakeAll, ObservesAll}
+use Rattle.trace_model.specs.Observing.{MayTakeAll, ObservesAll, StepsFit}
 use Rattle.trace_model.specs.WellFormed.{IsWellFormed}
 use Rattle.trace_model.proofs.Cut.{cut-fits, past_after-append}
+use Rattle.trace_model.proofs.Feeding.{formed-earlier}
 use Rattle.call_tracker.specs.Links.{kind_of}
 use Rattle.guest_calls.specs.Kernel.{later_by}
-use Rattle.guest_machine.specs.Carrying.{Carries, IsStateOf, StepsTo, carried, went_to}
+use Rattle.guest_machine.specs.Carrying.{Carries, GoesWith, IsStateOf, StepsTo, carried, went_to}
 use Rattle.guest_machine.specs.Machine.{Hart, MachineState, can_run, later, registers_of, with_registers}
 use Rattle.guest_machine.specs.Running.{MayTakeSteps, ObservesSteps, after_steps, events_of_steps}
 use Rattle.guest_machine.specs.Sound.{IsSound}
 use Rattle.guest_machine.specs.Step.{StepResult, access_events, decoded_or_illegal, exec_state_of, executed, instruction_at, instruction_in, jump_events, step, with_exec_state}
+use Rattle.guest_machine.specs.Told.{steps_of}
+use Rattle.guest_machine.proofs.Handed.{fits_on, past_of_steps}
 use Rattle.guest_machine.proofs.Executed.{executed-went, sound-state, unchanged}
 use Rattle.guest_machine.proofs.Holders.{HoldAtMost-others, lives_kept}
 use Rattle.guest_machine.proofs.Registers.{pc_aligned, registers_are, value-with_registers}
@@ -133,36 +136,106 @@ module _ (m : MachineState) (tid : ℕ) (c : ExecState) (n : ℕ) (so_far : Carr
   events-there : events_of_steps m tid (suc n) ≡ events_of_steps m tid n ++ events
   events-there = ap (λ (r : StepResult). events_of_steps m tid n ++ r.events) steps.is
 
-  module _ {O : Type 0} (Stands : O → List Event → Type 0) (fits : List Event → Bool) (old mid : O)
-      (seen : ObservesSteps Stands fits m tid old mid n Taken) where
-    -- they may come
-    pub may_take_next : (most : ℕ) → n < most → MayTakeSteps Stands fits old m tid most → MayTakeAll Stands fits mid events
-    may_take_next most low may =
+-- ---- more steps in a row, with their events
+pub goes_none : (m : MachineState) (tid n : ℕ) (c : ExecState) → Carries m tid c n → GoesWith m tid n c 0 []
+goes_none m tid n c carries =
+    let same : n ≡ n + 0 = omega arith in
+    record { carries = subst (Carries m tid c) same carries; told = ap (events_of_steps m tid) (sym same) ∙ sym (append-nil (events_of_steps m tid n)) }
+
+goes_one_more : (m : MachineState) (tid n k : ℕ) (c : ExecState) (events : List Event) → GoesWith m tid n c k events → (new : ExecState) (more : List Event) →
+    StepsTo (after_steps m tid (n + k)) tid new more → GoesWith m tid n new (k + 1) (events ++ more)
+goes_one_more m tid n k c events goes new more steps = record {
+  carries = subst (Carries m tid new) (let e : n + k + 1 ≡ n + (k + 1) = omega arith in e) (carries_one_more m tid c (n + k) goes.carries new more steps);
+  told =
+      ap (events_of_steps m tid) (let e : n + (k + 1) ≡ suc (n + k) = omega arith in e)
+      ∙ events-there m tid c (n + k) goes.carries new more steps
+      ∙ ap (λ es. es ++ more) goes.told
+      ∙ append_assoc (events_of_steps m tid n) events more;
+}
+
+-- a step that did nothing beside, and one that did
+pub goes_plainly : (m : MachineState) (tid n k : ℕ) (c : ExecState) → GoesWith m tid n c k (steps_of tid k) → (new : ExecState) →
+    StepsTo (after_steps m tid (n + k)) tid new (Step tid ∷ []) → GoesWith m tid n new (k + 1) (steps_of tid (k + 1))
+goes_plainly m tid n k c goes new steps =
+    subst (λ j. GoesWith m tid n new (k + 1) (steps_of tid j)) (let e : suc k ≡ k + 1 = omega arith in e)
+    (goes_one_more m tid n k c (steps_of tid k) goes new (Step tid ∷ []) steps)
+
+step_then : (tid k : ℕ) (done : List Event) → steps_of tid k ++ Step tid ∷ done ≡ steps_of tid (k + 1) ++ done
+step_then tid k done =
+    sym (append_assoc (steps_of tid k) (Step tid ∷ []) done) ∙ ap (λ j. steps_of tid j ++ done) (let e : suc k ≡ k + 1 = omega arith in e)
+
+pub goes_then : (m : MachineState) (tid n k : ℕ) (c : ExecState) → GoesWith m tid n c k (steps_of tid k) → (new : ExecState) (done : List Event) →
+    StepsTo (after_steps m tid (n + k)) tid new (Step tid ∷ done) → GoesWith m tid n new (k + 1) (steps_of tid (k + 1) ++ done)
+goes_then m tid n k c goes new done steps =
+    subst (GoesWith m tid n new (k + 1)) (step_then tid k done) (goes_one_more m tid n k c (steps_of tid k) goes new (Step tid ∷ done) steps)
+
+-- ---- and what an observer has of them
+module _ {O : Type 0} (Stands : O → List Event → Type 0) (fits : List Event → Bool) (fit : StepsFit fits) (m : MachineState) (tid n k : ℕ) (c : ExecState)
+    (plain : GoesWith m tid n c k (steps_of tid k)) (old mid : O) (seen : ObservesSteps Stands fits m tid old mid n Taken) where
+  abbrev here : List Event → List Event
+  here past = past_after past (events_of_steps m tid n)
+
+  fits_plain : (past : List Event) → Stands old past → fits past ≡ true → fits (past_after past (events_of_steps m tid (n + k))) ≡ true
+  fits_plain past stood fitting =
+      ap fits (ap (past_after past) plain.told ∙ past_after-append past (events_of_steps m tid n) (steps_of tid k) ∙ past_of_steps tid k (here past))
+      ∙ fits_on fits fit tid k (here past) (seen past stood fitting).1
+
+  abbrev last : List Event
+  last = (step (after_steps m tid (n + k)) tid).events
+
+  formed_next : (most : ℕ) → n + k < most → (may : MayTakeSteps Stands fits old m tid most) →
+      IsWellFormed (past_after (here may.past) (steps_of tid k ++ last))
+  formed_next most low may =
+      subst IsWellFormed
+      (ap (past_after may.past) (ap (λ es. es ++ last) plain.told ∙ append_assoc (events_of_steps m tid n) (steps_of tid k) last)
+      ∙ past_after-append may.past (events_of_steps m tid n) (steps_of tid k ++ last))
+      (may.formed (n + k) low plain.carries.all (fits_plain may.past may.now may.fitting))
+
+  -- the steps that did nothing beside
+  pub may_take_plain : (most : ℕ) → n + k < most → MayTakeSteps Stands fits old m tid most → MayTakeAll Stands fits mid (steps_of tid k)
+  may_take_plain most low may =
+      let now = seen may.past may.now may.fitting in
+      record {
+        past = here may.past;
+        now = now.0;
+        fitting = now.1;
+        formed = formed-earlier (reverse last) (past_after (here may.past) (steps_of tid k))
+        (subst IsWellFormed (past_after-append (here may.past) (steps_of tid k) last) (formed_next most low may));
+      }
+
+  module _ (j : ℕ) (events : List Event) (new : ExecState) (goes : GoesWith m tid n new j events) where
+    whole : (past : List Event) → past_after (here past) events ≡ past_after past (events_of_steps m tid (n + j))
+    whole past = sym (ap (past_after past) goes.told ∙ past_after-append past (events_of_steps m tid n) events)
+
+    pub observes_more : (watched : O) → ObservesAll Stands fits events mid watched Taken → ObservesSteps Stands fits m tid old watched (n + j) Taken
+    observes_more watched observes past stood fitting =
+        let before = seen past stood fitting in
+        let now = observes (here past) before.0 before.1 in
+        let same = whole past in
+        (subst (Stands watched) (cut-fits fits _ now.1 ∙ same) now.0, ap fits (sym same) ∙ now.1)
+
+  module _ (done : List Event) (new : ExecState) (steps : StepsTo (after_steps m tid (n + k)) tid new (Step tid ∷ done)) where
+    -- and one that did
+    pub may_take_then : (most : ℕ) → n + k < most → MayTakeSteps Stands fits old m tid most → MayTakeAll Stands fits mid (steps_of tid (k + 1) ++ done)
+    may_take_then most low may =
         let now = seen may.past may.now may.fitting in
         record {
-          past = past_after may.past (events_of_steps m tid n);
+          past = here may.past;
           now = now.0;
           fitting = now.1;
-          formed = subst IsWellFormed (ap (past_after may.past) events-there ∙ past_after-append may.past (events_of_steps m tid n) events) (may.formed n low so_far.all now.1);
+          formed = subst (λ es. IsWellFormed (past_after (here may.past) es))
+          (ap (λ (r : StepResult). steps_of tid k ++ r.events) steps.is ∙ step_then tid k done) (formed_next most low may);
         }
 
-    whole : (past : List Event) → past_after (past_after past (events_of_steps m tid n)) events ≡ past_after past (events_of_steps m tid (suc n))
-    whole past = sym (ap (past_after past) events-there ∙ past_after-append past (events_of_steps m tid n) events)
-
-    pub observes_one_more : (watched : O) → ObservesAll Stands fits events mid watched Taken → ObservesSteps Stands fits m tid old watched (n + 1) Taken
-    observes_one_more watched observes =
-        subst (λ k. ObservesSteps Stands fits m tid old watched k Taken) (let e : suc n ≡ n + 1 = omega arith in e)
-        (λ past stood fitting.
-        let before = seen past stood fitting in
-        let now = observes (past_after past (events_of_steps m tid n)) before.0 before.1 in
-        let same = whole past in
-        (subst (Stands watched) (cut-fits fits _ now.1 ∙ same) now.0, ap fits (sym same) ∙ now.1))
-
-    pub observes_last : (watched : O) → ObservesAll Stands fits events mid watched Refused → ObservesSteps Stands fits m tid old watched (n + 1) Refused
+    pub observes_last : (watched : O) → ObservesAll Stands fits (steps_of tid (k + 1) ++ done) mid watched Refused →
+        ObservesSteps Stands fits m tid old watched (n + (k + 1)) Refused
     observes_last watched observes =
-        subst (λ k. ObservesSteps Stands fits m tid old watched k Refused) (let e : suc n ≡ n + 1 = omega arith in e)
+        let goes = goes_then m tid n k c plain new done steps in
+        let after : n + (k + 1) ≡ suc (n + k) = omega arith in
+        subst (λ j. ObservesSteps Stands fits m tid old watched j Refused) (sym after)
         (λ past stood fitting.
         let before = seen past stood fitting in
-        let now = observes (past_after past (events_of_steps m tid n)) before.0 before.1 in
-        let same = whole past in
-        (before.1, subst (λ p. Stands watched (cut fits p)) same now.0, ap fits (sym same) ∙ now.1))
+        let now = observes (here past) before.0 before.1 in
+        let same : past_after (here past) (steps_of tid (k + 1) ++ done) ≡ past_after past (events_of_steps m tid (suc (n + k))) =
+        whole (k + 1) (steps_of tid (k + 1) ++ done) new goes past ∙ ap (λ j. past_after past (events_of_steps m tid j)) after in
+        (fits_plain past stood fitting, subst (λ p. Stands watched (cut fits p)) same now.0, ap fits (sym same) ∙ now.1))

@@ -1,11 +1,15 @@
 -- Events handed to an observer, one by one.
-use Rattle.std.proofs.Common.{◌≡◌, Bool, false, List, [], ◌∷◌, reverse, sym, subst}
+use Rattle.std.proofs.Common.{◌≡◌, ℕ, zero, suc, Bool, true, false, List, [], ◌∷◌, ◌++◌, reverse, refl, ap, sym, subst, ◌∙◌}
 use Rattle.trace_model.specs.declared.event_kinds.Event.{Event}
 use Rattle.trace_model.specs.declared.observer.Observed.{Observed}
 use Rattle.trace_model.specs.declared.observer.Observed.TheVariants.{Taken, Refused}
-use Rattle.trace_model.specs.Cut.{IsPrefixClosed, cut}
-use Rattle.trace_model.specs.Observing.{Observes, ObservesAll}
-use Rattle.trace_model.proofs.Cut.{cut-fits, cut-here, fits-earlier, past_after-cons}
+use Rattle.trace_model.specs.declared.event_kinds.Event.TheVariants.{Step}
+use Rattle.trace_model.specs.Cut.{IsPrefixClosed, cut, past_after}
+use Rattle.trace_model.specs.Observing.{MayStepBy, MayTakeAll, Observes, ObservesAll, StepsBy, StepsFit, is_taken, with_steps}
+use Rattle.trace_model.specs.WellFormed.{IsWellFormed}
+use Rattle.trace_model.proofs.Cut.{cut-fits, cut-here, fits-earlier, past_after-append, past_after-cons}
+use Rattle.trace_model.proofs.Feeding.{formed-earlier}
+use Rattle.guest_machine.specs.Told.{steps_of}
 
 -- an event that is refused, and so those behind it
 pub observes_none : {W : Type 0} (Stands : W → List Event → Type 0) (fits : List Event → Bool) (old : W) (e : Event) (events : List Event) (mid : W) →
@@ -22,3 +26,45 @@ observes_one Stands fits old e new Taken closed first = λ past stood fitting.
     let now = first past stood in
     (subst (Stands new) (sym (cut-fits fits (e ∷ past) now.1)) now.0, now.1)
 observes_one Stands fits old e new Refused closed first = observes_none Stands fits old e [] new closed first
+
+-- no event
+pub observes_nothing : {W : Type 0} (Stands : W → List Event → Type 0) (fits : List Event → Bool) (old : W) → ObservesAll Stands fits [] old old Taken
+observes_nothing Stands fits old = λ past stood fitting. (subst (Stands old) (sym (cut-fits fits past fitting)) stood, fitting)
+
+-- ---- steps in a row, and then other events
+pub past_of_steps : (tid n : ℕ) (past : List Event) → past_after past (steps_of tid n) ≡ with_steps tid n past
+past_of_steps tid zero past = refl
+past_of_steps tid (suc n) past =
+    past_after-append past (steps_of tid n) (Step tid ∷ []) ∙ ap (λ (p : List Event). Step tid ∷ p) (past_of_steps tid n past)
+
+pub past_of_all : (tid n : ℕ) (past events : List Event) → past_after past (steps_of tid n ++ events) ≡ past_after (with_steps tid n past) events
+past_of_all tid n past events =
+    past_after-append past (steps_of tid n) events ∙ ap (λ (p : List Event). past_after p events) (past_of_steps tid n past)
+
+pub fits_on : (fits : List Event → Bool) → StepsFit fits → (tid n : ℕ) (past : List Event) → fits past ≡ true → fits (with_steps tid n past) ≡ true
+fits_on fits fit tid zero past is = is
+fits_on fits fit tid (suc n) past is = fit tid (with_steps tid n past) (fits_on fits fit tid n past is)
+
+module _ {W : Type 0} (Stands : W → List Event → Type 0) (fits : List Event → Bool) (fit : StepsFit fits) (tid n : ℕ) (events : List Event) (old : W) where
+  pub may_step : MayTakeAll Stands fits old (steps_of tid n ++ events) → MayStepBy Stands fits old tid n
+  may_step may = record {
+    past = may.past;
+    now = may.now;
+    fitting = may.fitting;
+    formed = formed-earlier (reverse events) (with_steps tid n may.past) (subst IsWellFormed (past_of_all tid n may.past events) may.formed);
+  }
+
+  module _ (mid : W) (steps : StepsBy Stands fits tid n old mid) where
+    pub may_go_on : MayTakeAll Stands fits old (steps_of tid n ++ events) → MayTakeAll Stands fits mid events
+    may_go_on may = record {
+      past = with_steps tid n may.past;
+      now = steps may.past may.now may.fitting;
+      fitting = fits_on fits fit tid n may.past may.fitting;
+      formed = subst IsWellFormed (past_of_all tid n may.past events) may.formed;
+    }
+
+    pub observes_on : (new : W) (observed : Observed) → ObservesAll Stands fits events mid new observed → ObservesAll Stands fits (steps_of tid n ++ events) old new observed
+    observes_on new observed rest = λ past stood fitting.
+        let now = rest (with_steps tid n past) (steps past stood fitting) (fits_on fits fit tid n past fitting) in
+        let same = sym (past_of_all tid n past events) in
+        (subst (λ (p : List Event). Stands new (cut fits p)) same now.0, subst (λ (p : List Event). fits p ≡ is_taken observed) same now.1)

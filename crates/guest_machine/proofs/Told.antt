@@ -19,11 +19,11 @@ use Rattle.guest_machine.specs.Machine.{MachineState}
 use Rattle.guest_machine.specs.declared.stepped.Stepped.{Stepped}
 use Rattle.guest_machine.specs.Kept.{Parts, Steps, machine_of}
 use Rattle.guest_machine.specs.Step.{StepResult, access_events, faulted, jump_events, pc_of, went}
-use Rattle.guest_machine.specs.Told.{IsAlone, IsQuiet, stepped_of, told}
+use Rattle.guest_machine.specs.Told.{IsAlone, IsInstruction, IsQuiet, done_by, stepped_of, told}
 use Rattle.guest_machine.proofs.Executed.{Steps-faulted}
 use Rattle.guest_machine.specs.declared.stepped.Stepped.TheVariants.{Faulted}
 use Rattle.guest_machine.specs.declared.stepped.Advanced.{Advanced}
-use Rattle.guest_machine.specs.declared.stepped.Advanced.TheVariants.{Other}
+use Rattle.guest_machine.specs.declared.stepped.Advanced.TheVariants.{Ran, Accessed, Jumped, Other}
 use Rattle.trace_model.specs.EventList.{EventList}
 
 -- an outcome whose access, if there is one, is no call and no return
@@ -55,6 +55,13 @@ effect_alone tid _ c = tt
 
 pub is_alone : (tid : ℕ) (i : Instr) (old new : ExecState) (accessed : Access) → (Went accessed, new) ≡ effect tid i old → IsAlone accessed (kind_of i)
 is_alone tid i old new accessed e = subst (λ (p : Outcome × ExecState). IsAloneIn p.0 (kind_of i)) (sym e) (effect_alone tid i old)
+
+-- an instruction is told by its step and what it did beside
+pub told_done : (tid : ℕ) (a : Advanced) → IsInstruction a → told tid a ≡ Step tid ∷ done_by tid a
+told_done tid Ran is = refl
+told_done tid (Accessed accessed) is = refl
+told_done tid (Jumped jump target back) is = refl
+told_done tid (Other outcome) is = absurd is
 
 -- what is told is what the step gives
 pub told-went : (m : MachineState) (tid : ℕ) (i : Instr) (accessed : Access) (c : ExecState) (before events : List Event) (target pc : ℕ) →

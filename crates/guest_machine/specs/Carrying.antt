@@ -1,11 +1,11 @@
 -- Steps of a thread on its registers, the memory and the reservations alone.
-use Rattle.std.specs.Prelude.{◌≡◌, ℕ, Bool, true, List, None}
+use Rattle.std.specs.Prelude.{◌≡◌, ℕ, ◌+◌, Bool, true, List, ◌++◌, None}
 use Rattle.rv_exec.specs.Effects.{ExecState}
 use Rattle.trace_model.specs.declared.event_kinds.Event.{Event}
 use Rattle.guest_calls.specs.Kernel.{later_by}
 use Rattle.guest_machine.specs.declared.stepped.Stepped.TheVariants.{Went}
 use Rattle.guest_machine.specs.Machine.{MachineState, can_run, later}
-use Rattle.guest_machine.specs.Running.{AllGoOn, MayTakeSteps, after_steps}
+use Rattle.guest_machine.specs.Running.{AllGoOn, MayTakeSteps, after_steps, events_of_steps}
 use Rattle.guest_machine.specs.Sound.{IsSound}
 use Rattle.guest_machine.specs.Step.{StepResult, exec_state_of, step, with_exec_state}
 
@@ -33,6 +33,11 @@ pub record Carries (m : MachineState) (tid : ℕ) (c : ExecState) (count : ℕ) 
   pub all : AllGoOn m tid count
   pub machine : carried m tid c count ≡ after_steps m tid count
   pub of : IsStateOf c tid (after_steps m tid count)
+
+-- After `n` steps so many more left this state, with these events.
+pub record GoesWith (m : MachineState) (tid n : ℕ) (c : ExecState) (more : ℕ) (events : List Event) : Type 0 where
+  pub carries : Carries m tid c (n + more)
+  pub told : events_of_steps m tid (n + more) ≡ events_of_steps m tid n ++ events
 
 -- It is what a thread of some machine works on, so many of whose steps may be observed.
 pub record MayCarry {O : Type 0} (Stands : O → List Event → Type 0) (fits : List Event → Bool) (o : O) (c : ExecState) (tid most : ℕ) : Type 0 where

@@ -1,5 +1,5 @@
 -- A step whose events are told by what it did, or added to a list.
-use Rattle.std.specs.Prelude.{◌≡◌, ℕ, List, [], ◌∷◌, None}
+use Rattle.std.specs.Prelude.{◌≡◌, ℕ, zero, suc, List, [], ◌∷◌, ◌++◌, None}
 use Rattle.rv_exec.specs.declared.outcome.Access.{Access}
 use Rattle.rv_exec.specs.declared.outcome.Access.TheVariants as access
 use Rattle.call_tracker.specs.declared.jumps.JumpKind.{JumpKind}
@@ -20,6 +20,18 @@ told tid Ran = Step tid ∷ []
 told tid (Accessed accessed) = Step tid ∷ access_events tid accessed
 told tid (Jumped jump target back) = Step tid ∷ jump_events jump tid target back
 told tid (Other outcome) = []
+
+-- what an instruction did beside its step: its accesses, its calls and returns
+abbrev pub done_by : ℕ → Advanced → List Event
+done_by tid Ran = []
+done_by tid (Accessed accessed) = access_events tid accessed
+done_by tid (Jumped jump target back) = jump_events jump tid target back
+done_by tid (Other outcome) = []
+
+-- so many steps of the thread
+abbrev pub steps_of : ℕ → ℕ → List Event
+steps_of tid zero = []
+steps_of tid (suc n) = steps_of tid n ++ Step tid ∷ []
 
 -- what became of the thread
 abbrev pub stepped_of : Advanced → Stepped

@@ -28,4 +28,4 @@ pub use laws::{
 pub use machine::Machine;
 pub use setup::SetupError;
 pub use stepped::{Advanced, Stepped};
-pub use telling::{observe_access, observe_jump, observe_step};
+pub use telling::observe_told;

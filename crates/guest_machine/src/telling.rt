@@ -1,5 +1,5 @@
 //! What is told of an instruction that went, and how an observer is told.
-ghost use Rattle.std.specs.Prelude.{◌≡◌, ◌++◌, ◌∷◌, [], ℕ, List, None, IfOk};
+ghost use Rattle.std.specs.Prelude.{◌≡◌, ◌≤◌, ◌++◌, ◌∷◌, [], ℕ, List, None, IfOk};
 ghost use Rattle.trace_model.specs.declared.event_kinds.Event.TheVariants.{Step};
 ghost use Rattle.trace_model.specs.EventList.{EventList};
 ghost use Rattle.trace_model.specs.Observing.{MayTakeAll, ObservesAll};
@@ -7,7 +7,7 @@ ghost use Rattle.call_tracker.specs.Links.{kind_of};
 ghost use Rattle.guest_machine.specs.declared.stepped.Stepped.TheVariants.{Went};
 ghost use Rattle.guest_machine.specs.Kept.{Parts, out_of};
 ghost use Rattle.guest_machine.specs.Step.{access_events, jump_events};
-ghost use Rattle.guest_machine.specs.Told.{IsAlone, IsInstruction, IsQuiet, stepped_of, told};
+ghost use Rattle.guest_machine.specs.Told.{IsAlone, IsInstruction, IsQuiet, done_by, stepped_of, steps_of, told};
 
 use crate::Advanced;
 use call_tracker::{JumpKind, kind};
@@ -40,6 +40,17 @@ pub(crate) fn told(instruction: &Instr, access: Access, target: Addr, back: Addr
     }
 }
 
+// Hands out an event.
+#[inline(always)]
+fn observe_one<W: Observer>(e: Event, observer: &mut W) -> Result<Observed, AllocError>
+    requires { MayTakeAll W.stands (W.fits observer.old) observer.old (e ∷ []) }
+    ensures observed { IfOk result (ObservesAll W.stands (W.fits observer.old)
+        (e ∷ []) observer.old observer.new) }
+    ensures same { W.fits observer.new ≡ W.fits observer.old }
+{
+    observer.observe(e)
+}
+
 // Hands out two events.
 #[inline(always)]
 fn observe_two<W: Observer>(
@@ -58,71 +69,38 @@ fn observe_two<W: Observer>(
     }
 }
 
-// Hands out three events.
-#[inline(never)]
-fn observe_three<W: Observer>(
-    first: Event,
-    second: Event,
-    third: Event,
-    observer: &mut W,
-) -> Result<Observed, AllocError>
-    requires { MayTakeAll W.stands (W.fits observer.old) observer.old
-        (first ∷ second ∷ third ∷ []) }
-    ensures observed { IfOk result (ObservesAll W.stands (W.fits observer.old)
-        (first ∷ second ∷ third ∷ []) observer.old observer.new) }
-    ensures same { W.fits observer.new ≡ W.fits observer.old }
-{
-    match observer.observe(first)? {
-        Observed::Taken => observe_two(second, third, observer),
-        Observed::Refused => Ok(Observed::Refused),
-    }
-}
-
-/// Hands out a step.
+/// Hands out the accesses of an instruction.
 #[inline(always)]
-pub fn observe_step<W: Observer>(tid: Tid, observer: &mut W) -> Result<Observed, AllocError>
-    requires { MayTakeAll W.stands (W.fits observer.old) observer.old (Step tid ∷ []) }
-    ensures observed { IfOk result (ObservesAll W.stands (W.fits observer.old)
-        (Step tid ∷ []) observer.old observer.new) }
-    ensures same { W.fits observer.new ≡ W.fits observer.old }
-{
-    observer.observe(Event::Step { tid })
-}
-
-/// Hands out a step and its accesses.
-#[inline(never)]
-pub fn observe_access<W: Observer>(
+fn hand_access<W: Observer>(
     tid: Tid,
     access: Access,
     observer: &mut W,
 ) -> Result<Observed, AllocError>
-    requires { MayTakeAll W.stands (W.fits observer.old) observer.old
-        (Step tid ∷ access_events tid access) }
+    requires { MayTakeAll W.stands (W.fits observer.old) observer.old (access_events tid access) }
     ensures observed { IfOk result (ObservesAll W.stands (W.fits observer.old)
-        (Step tid ∷ access_events tid access) observer.old observer.new) }
+        (access_events tid access) observer.old observer.new) }
     ensures same { W.fits observer.new ≡ W.fits observer.old }
 {
-    let step = Event::Step { tid };
     match access {
-        Access::Nothing => observe_step(tid, observer),
+        Access::Nothing => Ok(Observed::Taken),
         Access::Read { first, count } => {
-            observe_two(step, Event::Read { tid, first, count }, observer)
+            observe_one(Event::Read { tid, first, count }, observer)
         }
         Access::Write { first, count } => {
-            observe_two(step, Event::Write { tid, first, count }, observer)
+            observe_one(Event::Write { tid, first, count }, observer)
         }
         Access::Both { word } => {
             let first = word;
             let count = 1;
             let read = Event::Read { tid, first, count };
-            observe_three(step, read, Event::Write { tid, first, count }, observer)
+            observe_two(read, Event::Write { tid, first, count }, observer)
         }
     }
 }
 
-/// Hands out a step, and the calls and returns of its jump.
-#[inline(never)]
-pub fn observe_jump<W: Observer>(
+/// Hands out the calls and the returns of a jump.
+#[inline(always)]
+fn hand_jump<W: Observer>(
     tid: Tid,
     jump: JumpKind,
     target: Addr,
@@ -130,20 +108,86 @@ pub fn observe_jump<W: Observer>(
     observer: &mut W,
 ) -> Result<Observed, AllocError>
     requires { MayTakeAll W.stands (W.fits observer.old) observer.old
-        (Step tid ∷ jump_events jump tid target back) }
+        (jump_events jump tid target back) }
     ensures observed { IfOk result (ObservesAll W.stands (W.fits observer.old)
-        (Step tid ∷ jump_events jump tid target back) observer.old observer.new) }
+        (jump_events jump tid target back) observer.old observer.new) }
     ensures same { W.fits observer.new ≡ W.fits observer.old }
 {
-    let step = Event::Step { tid };
     let entry = target;
     match jump {
-        JumpKind::Nothing => observe_step(tid, observer),
-        JumpKind::Push => observe_two(step, Event::Call { tid, entry, back }, observer),
-        JumpKind::Pop => observe_two(step, Event::Ret { tid, target }, observer),
+        JumpKind::Nothing => Ok(Observed::Taken),
+        JumpKind::Push => observe_one(Event::Call { tid, entry, back }, observer),
+        JumpKind::Pop => observe_one(Event::Ret { tid, target }, observer),
         JumpKind::PopPush => {
             let call = Event::Call { tid, entry, back };
-            observe_three(step, Event::Ret { tid, target }, call, observer)
+            observe_two(Event::Ret { tid, target }, call, observer)
         }
+    }
+}
+
+// Hands out so many steps of a thread, and the accesses of the last. It stands apart, as the next does, since the code of the
+// loop over known instructions is then short enough to be inlined.
+#[inline(never)]
+fn observe_access<W: Observer>(
+    tid: Tid,
+    steps: u64,
+    access: Access,
+    observer: &mut W,
+) -> Result<Observed, AllocError>
+    requires some { 1 ≤ steps }
+    requires next { MayTakeAll W.stands (W.fits observer.old) observer.old
+        (steps_of tid steps ++ access_events tid access) }
+    ensures observed { IfOk result (ObservesAll W.stands (W.fits observer.old)
+        (steps_of tid steps ++ access_events tid access) observer.old observer.new) }
+    ensures same { W.fits observer.new ≡ W.fits observer.old }
+{
+    observer.observe_steps(tid, steps)?;
+    hand_access(tid, access, observer)
+}
+
+// Hands out so many steps of a thread, and the calls and the returns of the last.
+#[inline(never)]
+fn observe_jump<W: Observer>(
+    tid: Tid,
+    steps: u64,
+    jump: JumpKind,
+    target: Addr,
+    back: Addr,
+    observer: &mut W,
+) -> Result<Observed, AllocError>
+    requires some { 1 ≤ steps }
+    requires next { MayTakeAll W.stands (W.fits observer.old) observer.old
+        (steps_of tid steps ++ jump_events jump tid target back) }
+    ensures observed { IfOk result (ObservesAll W.stands (W.fits observer.old)
+        (steps_of tid steps ++ jump_events jump tid target back) observer.old observer.new) }
+    ensures same { W.fits observer.new ≡ W.fits observer.old }
+{
+    observer.observe_steps(tid, steps)?;
+    hand_jump(tid, jump, target, back, observer)
+}
+
+/// Hands out so many steps of a thread that made instructions, and then what the last of them did beside.
+#[inline(always)]
+pub fn observe_told<W: Observer>(
+    tid: Tid,
+    steps: u64,
+    advanced: Advanced,
+    observer: &mut W,
+) -> Result<Observed, AllocError>
+    requires instruction { IsInstruction advanced }
+    requires some { 1 ≤ steps }
+    requires next { MayTakeAll W.stands (W.fits observer.old) observer.old
+        (steps_of tid steps ++ done_by tid advanced) }
+    ensures observed { IfOk result (ObservesAll W.stands (W.fits observer.old)
+        (steps_of tid steps ++ done_by tid advanced) observer.old observer.new) }
+    ensures same { W.fits observer.new ≡ W.fits observer.old }
+{
+    match advanced {
+        Advanced::Ran => observe_access(tid, steps, Access::Nothing, observer),
+        Advanced::Accessed { access } => observe_access(tid, steps, access, observer),
+        Advanced::Jumped { jump, target, back } => {
+            observe_jump(tid, steps, jump, target, back, observer)
+        }
+        Advanced::Other { .. } => unreachable!(),
     }
 }

@@ -26,7 +26,7 @@ pub struct CodeCache {
 }
 
 impl CodeCache {
-    ghost use Rattle.guest_memory.specs.Code.{AgreeBut, HoldsCode, IsInstructionAt};
+    ghost use Rattle.guest_memory.specs.Code.{AgreeBut, HoldsCode, IsInstructionAt, KnowsPage};
 
     /// No instruction is known.
     pub fn new(alloc: Global) -> Result<CodeCache, AllocError>
@@ -63,6 +63,16 @@ impl CodeCache {
         } else {
             None
         }
+    }
+
+    /// What is known of the code of an address's page, by its words.
+    #[inline(always)]
+    pub fn code_of(&self, at: Addr) -> &[Option<Instr>]
+        ensures known { (m : Memory) → HoldsCode self.now m → KnowsPage result.now (at / 4096) m }
+        ensures length { length result.now ≡ 1024 }
+    {
+        let place = self.place(u64::from(at >> 12));
+        self.pages[place].instructions()
     }
 
     // Makes the index reach to a page.

@@ -1,12 +1,12 @@
 //! The memory of a guest: calls on pages and on bytes.
 #![tactic(auto, unfolding(crate::specs::Guest::memory_of))]
 
-ghost use Rattle.std.specs.Prelude.{◌≡◌, ◌<◌, ◌≤◌, ◌+◌, ◌%◌, ℕ, length, take, IfOk, IfSome, IfNone, OnOk, OnErr, IsTrue, ◌↔◌, true, None};
+ghost use Rattle.std.specs.Prelude.{◌≡◌, ◌<◌, ◌≤◌, ◌+◌, ◌/◌, ◌%◌, ℕ, length, take, IfOk, IfSome, IfNone, OnOk, OnErr, IsTrue, ◌↔◌, true, None};
 ghost use Rattle.std.specs.Int.{to_le_bytes, w32};
 ghost use Rattle.std.specs.Option.{is_none};
 ghost use Rattle.guest_memory.specs.Memory.{IsFreeRange, AreFree, AreMapped, ArePagesMapped, MapEnds, no_memory, with_pages, with_rights, byte_count, bytes_at, first_refusal, loaded, mapped_pages, unless_refused, with_bytes};
 ghost use Rattle.guest_memory.specs.State.{memory_in};
-ghost use Rattle.guest_memory.specs.Code.{HoldsCode, IsInstructionAt};
+ghost use Rattle.guest_memory.specs.Code.{HoldsCode, IsInstructionAt, KnowsPage};
 ghost use Rattle.guest_memory.specs.declared.refusal.Permission.TheVariants as permission;
 ghost use Rattle.guest_words.specs.declared.limits.TheConstants.{PAGES};
 
@@ -179,16 +179,26 @@ impl GuestMemory {
         self.code.find(at)
     }
 
-    /// Lets the instruction at an address be known, where there is one whose word can be fetched, and memory for it.
+    /// What is known of the code of an address's page: for each of its 1024 words, the instruction that stands there.
+    #[inline(always)]
+    pub fn known_code(&self, at: Addr) -> &[Option<Instr>]
+        ensures known { KnowsPage result.now (at / 4096) (memory_of self.now) }
+        ensures length { length result.now ≡ 1024 }
+    {
+        self.code.code_of(at)
+    }
+
+    /// Decodes the instruction at an address, which is known from then on, where there is one whose word can be fetched. It
+    /// allocates 12 KiB for the first of a page.
     #[cold]
     #[inline(never)]
-    pub fn learn_instruction(&mut self, at: Addr)
+    pub fn learn_instruction(&mut self, at: Addr) -> Result<(), AllocError>
         requires { at % 4 ≡ 0 }
         ensures { memory_of self.new ≡ memory_of self.old }
     {
-        if let Ok(word) = self.fetch(at) {
-            // where memory is wanting it stays unknown, and each step of it fetches and decodes its word
-            let _ = self.code.learn(self.alloc, at, word);
+        match self.fetch(at) {
+            Ok(word) => self.code.learn(self.alloc, at, word),
+            Err(_) => Ok(()),
         }
     }
 

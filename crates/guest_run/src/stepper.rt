@@ -13,7 +13,7 @@ ghost use Rattle.guest_run.specs.Steps.{PutEndsOn, PutsSent, StepEnds};
 
 use crate::turn_status::turn_status_of;
 use crate::{Channel, RunError, TurnStatus};
-use guest_machine::{Advanced, Machine, Stepped, observe_access, observe_jump, observe_step};
+use guest_machine::{Advanced, Machine, Stepped, observe_told};
 use guest_words::{Finish, Tid};
 use host_io::{PutError, Sink};
 use std::alloc::{AllocError, Global};
@@ -91,19 +91,11 @@ impl Stepper {
     {
         self.events.clear();
         match self.machine.advance(tid, &mut self.events)? {
-            Advanced::Ran => {
-                let observed = observe_step(tid, observer)?;
-                Ok(status_of(observed, TurnStatus::GoesOn))
-            }
-            Advanced::Accessed { access } => {
-                let observed = observe_access(tid, access, observer)?;
-                Ok(status_of(observed, TurnStatus::GoesOn))
-            }
-            Advanced::Jumped { jump, target, back } => {
-                let observed = observe_jump(tid, jump, target, back, observer)?;
-                Ok(status_of(observed, TurnStatus::GoesOn))
-            }
             Advanced::Other { stepped } => self.finish_step(tid, stepped, observer, out, err),
+            instruction => {
+                let observed = observe_told(tid, 1, instruction, observer)?;
+                Ok(status_of(observed, TurnStatus::GoesOn))
+            }
         }
     }
 

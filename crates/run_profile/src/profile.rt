@@ -117,7 +117,7 @@ impl<S: Lanes> Observer for Profile<S> {
     ghost use Rattle.trace_model.specs.Depth.{is_within};
     ghost use Rattle.trace_model.specs.Profile.{ended};
     ghost use Rattle.trace_model.specs.Observing.{MayTake, Observes, StandsAsBefore};
-    ghost use Rattle.trace_model.proofs.Cut.{within_closed};
+    ghost use Rattle.trace_model.proofs.Cut.{steps_within, within_closed};
     ghost use Rattle.run_profile.specs.Profile.{IsProfileOf};
 
     ghost stands = { IsProfileOf S.MAX };
@@ -125,6 +125,8 @@ impl<S: Lanes> Observer for Profile<S> {
     ghost fits = { λ _. is_within S.MAX };
 
     ghost fits_closed = { λ _. within_closed S.MAX };
+
+    ghost steps_fit = { λ _. steps_within S.MAX };
 
     #[inline(always)]
     fn observe(&mut self, e: Event) -> Result<Observed, AllocError>

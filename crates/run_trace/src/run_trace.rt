@@ -96,7 +96,7 @@ impl RunTrace {
 
 impl Observer for RunTrace {
     ghost use Rattle.trace_model.specs.Depth.{is_within};
-    ghost use Rattle.trace_model.proofs.Cut.{within_closed};
+    ghost use Rattle.trace_model.proofs.Cut.{steps_within, within_closed};
     ghost use Rattle.stamps.specs.declared.width.StampBits.TheVariants.{B32};
     ghost use Rattle.stamps.specs.Widths.{greatest};
     ghost use Rattle.run_trace.specs.Kept.{IsTraceOf};
@@ -106,6 +106,8 @@ impl Observer for RunTrace {
     ghost fits = { λ _. is_within (greatest B32) };
 
     ghost fits_closed = { λ _. within_closed (greatest B32) };
+
+    ghost steps_fit = { λ _. steps_within (greatest B32) };
 
     // What is too deep is refused, and wants no memory.
     fn observe(&mut self, e: Event) -> Result<Observed, AllocError>

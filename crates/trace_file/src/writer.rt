@@ -248,6 +248,8 @@ impl Observer for TraceWriter {
 
     ghost fits_closed = { λ w e past fits. refl };
 
+    ghost steps_fit = { λ w tid past fits. refl };
+
     fn observe(&mut self, e: Event) -> Result<Observed, AllocError>
         requires { MayCome self.old.order e }
         ensures observed { IfOk result (Observes IsTextOf (λ past. true) e self.old self.new) }

@@ -4,8 +4,10 @@ use Rattle.std.proofs.lemmas.Bool.{le-leb, leb-true, cases_Bool, and_parts, and_
 use Rattle.std.proofs.lemmas.List.{length-drop, reverse-append}
 use Rattle.std.proofs.Math.Seq.{drop-nil}
 use Rattle.trace_model.specs.declared.event_kinds.Event.{Event}
+use Rattle.trace_model.specs.declared.event_kinds.Event.TheVariants.{Step}
 use Rattle.trace_model.specs.Cut.{IsPrefixClosed, cut, past_after}
 use Rattle.trace_model.specs.Depth.{is_within, pending}
+use Rattle.trace_model.specs.Observing.{StepsFit}
 use Rattle.trace_model.specs.Laws.{CutIsTheLongestPrefix, EachPrefixIsWithin, WithinIsOfEachPrefix}
 
 -- ---- the test by the greatest stamp
@@ -33,6 +35,15 @@ within_is_of_each past most = (within_each past most, each_within past most)
 
 pub within_closed : (most : ℕ) → IsPrefixClosed (is_within most)
 within_closed most e past is = (and_parts (leb (3 * (pending (e ∷ past) + 1)) most) (is_within most past) is).1
+
+-- a step opens nothing
+pub steps_within : (most : ℕ) → StepsFit (is_within most)
+steps_within most tid past is =
+    and_from (leb (3 * (pending (Step tid ∷ past) + 1)) most) (is_within most past) (ap (λ n. leb (3 * (n + 1)) most) (let e : pending (Step tid ∷ past) ≡ pending past = omega arith in e) ∙ now past is) is
+  where
+    now : (past : List Event) → is_within most past ≡ true → leb (3 * (pending past + 1)) most ≡ true
+    now [] is = is
+    now (e ∷ past) is = (and_parts (leb (3 * (pending (e ∷ past) + 1)) most) (is_within most past) is).0
 
 -- ---- pasts that grow
 pub past_after-append : (past events more : List Event) → past_after past (events ++ more) ≡ past_after (past_after past events) more

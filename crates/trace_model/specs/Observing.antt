@@ -1,6 +1,7 @@
 -- What an observer of events owes. A past is the list of the events so far, the newest first.
-use Rattle.std.specs.Prelude.{◌≡◌, Bool, true, false, List, ◌∷◌}
+use Rattle.std.specs.Prelude.{◌≡◌, ℕ, zero, suc, Bool, true, false, List, ◌∷◌}
 use Rattle.trace_model.specs.declared.event_kinds.Event.{Event}
+use Rattle.trace_model.specs.declared.event_kinds.Event.TheVariants.{Step}
 use Rattle.trace_model.specs.declared.observer.Observed.{Observed}
 use Rattle.trace_model.specs.declared.observer.Observed.TheVariants.{Taken, Refused}
 use Rattle.trace_model.specs.Cut.{cut, past_after}
@@ -38,3 +39,24 @@ abbrev pub ObservesAll : {O : Type 0} → (O → List Event → Type 0) → (Lis
 ObservesAll Stands fits events old new observed =
     (past : List Event) → Stands old past → fits past ≡ true →
     Stands new (cut fits (past_after past events)) × (fits (past_after past events) ≡ is_taken observed)
+
+-- ---- Steps of a thread in a row.
+-- the past with so many more steps of the thread
+abbrev pub with_steps : ℕ → ℕ → List Event → List Event
+with_steps tid zero past = past
+with_steps tid (suc n) past = Step tid ∷ with_steps tid n past
+
+-- Where a past fits, it does so with one more step.
+abbrev pub StepsFit : (List Event → Bool) → Type 0
+StepsFit fits = (tid : ℕ) (past : List Event) → fits past ≡ true → fits (Step tid ∷ past) ≡ true
+
+-- It stands for some past that fits and after which so many steps of the thread may come.
+pub record MayStepBy {O : Type 0} (Stands : O → List Event → Type 0) (fits : List Event → Bool) (o : O) (tid count : ℕ) : Type 0 where
+  pub past : List Event
+  pub now : Stands o past
+  pub fitting : fits past ≡ true
+  pub formed : IsWellFormed (with_steps tid count past)
+
+-- Whatever past that fits it stood for, it stands for that with the steps.
+abbrev pub StepsBy : {O : Type 0} → (O → List Event → Type 0) → (List Event → Bool) → ℕ → ℕ → O → O → Type 0
+StepsBy Stands fits tid count old new = (past : List Event) → Stands old past → fits past ≡ true → Stands new (with_steps tid count past)

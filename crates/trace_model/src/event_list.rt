@@ -96,6 +96,8 @@ impl Observer for Events {
 
     ghost fits_closed = { λ events e past fits. refl };
 
+    ghost steps_fit = { λ events tid past fits. refl };
+
     fn observe(&mut self, e: Event) -> Result<Observed, AllocError> {
         self.reserve(1)?;
         self.push(e);

@@ -1,10 +1,11 @@
 //! What takes the events of a run.
-ghost use Rattle.std.specs.Prelude.{◌≡◌, Bool, List, IfOk, OnErr};
+ghost use Rattle.std.specs.Prelude.{◌≡◌, ◌≤◌, Bool, List, IfOk, OnErr, OnOk};
 ghost use Rattle.trace_model.specs.declared.event_kinds.Event.{Event};
 ghost use Rattle.trace_model.specs.Cut.{IsPrefixClosed};
-ghost use Rattle.trace_model.specs.Observing.{MayTake, MayTakeAll, Observes, ObservesAll, StandsAsBefore};
+ghost use Rattle.trace_model.specs.Observing.{MayStepBy, MayTake, MayTakeAll, Observes, ObservesAll, StandsAsBefore, StepsBy, StepsFit};
 
 use crate::Event;
+use guest_words::Tid;
 use std::alloc::AllocError;
 
 /// Whether an observer took an event.
@@ -25,12 +26,31 @@ pub trait Observer {
 
     ghost fits_closed: { (o : Self) → IsPrefixClosed (fits o) };
 
+    /// A step opens nothing, so it fits where the past does.
+    ghost steps_fit: { (o : Self) → StepsFit (fits o) };
+
     /// Takes the next event, or refuses it where the past with it does not fit.
     fn observe(&mut self, e: Event) -> Result<Observed, AllocError>
         requires { MayTake stands self.old e }
         ensures observed { IfOk result (Observes stands (fits self.old) e self.old self.new) }
         ensures refused { OnErr result (StandsAsBefore stands self.old self.new) }
         ensures same { fits self.new ≡ fits self.old };
+
+    /// Takes so many steps of a thread in a row, none of which it refuses: one by one, where nothing is quicker.
+    fn observe_steps(&mut self, tid: Tid, count: u64) -> Result<(), AllocError>
+        requires may { MayStepBy stands (fits self.old) self.old tid count }
+        requires some { 1 ≤ count }
+        ensures stepped { OnOk result (StepsBy stands (fits self.old) tid count self.old self.new) }
+        ensures same { fits self.new ≡ fits self.old }
+    {
+        for _ in 0..count {
+            match self.observe(Event::Step { tid })? {
+                Observed::Taken => {}
+                Observed::Refused => unreachable!(),
+            }
+        }
+        Ok(())
+    }
 }
 
 /// Hands events to an observer, up to the first that it refuses.

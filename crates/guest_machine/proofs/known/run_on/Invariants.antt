@@ -6,8 +6,8 @@ use Rattle.guest_machine.specs.Machine.{MachineState}
 use Rattle.guest_machine.specs.Running.{ObservesSteps}
 use Rattle.guest_machine.proofs.known.run_on.Given as goal
 
-abbrev pub invariant-steps : goal.invariant-steps
-invariant-steps g l = record {
+abbrev pub invariant-stretches : goal.invariant-stretches
+invariant-stretches g l = record {
   carried : (m : MachineState) → IsStateOf (exec_state_of l.fn.cpu l.fn.memory l.fn.held) l.fn.tid m
       → Carries m l.fn.tid (exec_state_of l.cpu l.memory l.held) l.count;
   observed : (m : MachineState) → IsStateOf (exec_state_of l.fn.cpu l.fn.memory l.fn.held) l.fn.tid m
@@ -16,5 +16,5 @@ invariant-steps g l = record {
   most : l.count ≤ l.fn.most;
 }
 
-abbrev pub decreases-steps : goal.decreases-steps
-decreases-steps g l = l.most - l.count
+abbrev pub decreases-stretches : goal.decreases-stretches
+decreases-stretches g l = l.most - l.count

@@ -1,15 +1,11 @@
-use Rattle.std.proofs.Common.{◌≡◌, ◌∙◌, ◌*◌, ◌/◌, ◌%◌, Option, Some, None, ap, arith, get_or, refl, subst, sym, IfSome}
+use Rattle.std.proofs.Common.{◌≡◌, ◌∙◌, ◌*◌, ◌/◌, ◌%◌, Some, None, ap, arith, get_or, subst, sym}
 use Rattle.std.proofs.lemmas.List.{get_or_read}
 use Rattle.guest_memory.specs.Code.{IsInstructionAt}
 use Rattle.guest_memory.specs.CodePages.{known_in, no_code, page_at}
 use Rattle.guest_memory.proofs.KeptCode.{is_instruction}
-use Rattle.guest_memory.proofs.PagesOfCode.{Page}
+use Rattle.guest_memory.proofs.PagesOfCode.{Page, if_some}
 use Rattle.rv_isa.specs.declared.instruction.Instr.{Instr}
 use Rattle.guest_memory.proofs.code_cache.CodeCache.find.Goals as goal
-
-if_some : (P : Instr → Type 0) (o : Option Instr) → ((i : Instr) → o ≡ Some i → P i) → IfSome o P
-if_some P None each = tt
-if_some P (Some i) each = each i refl
 
 pub returns-then-at-eq0 : goal.returns-then-at-eq0
 returns-then-at-eq0 c = λ m holds.

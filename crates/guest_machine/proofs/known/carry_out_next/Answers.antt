@@ -1,0 +1,1 @@
+use Rattle.guest_machine.proofs.known.carry_out_next.Goals as goal
