@@ -8,7 +8,7 @@ use Rattle.trace_model.specs.Cut.{IsPrefixClosed, cut, past_after}
 use Rattle.trace_model.specs.Observing.{MayStepBy, MayTakeAll, Observes, ObservesAll, StepsBy, StepsFit, is_taken, with_steps}
 use Rattle.trace_model.specs.WellFormed.{IsWellFormed}
 use Rattle.trace_model.proofs.Cut.{cut-fits, cut-here, fits-earlier, past_after-append, past_after-cons}
-use Rattle.trace_model.proofs.Feeding.{formed-earlier}
+use Rattle.trace_model.proofs.Feeding.{fits_on, formed-earlier}
 use Rattle.guest_machine.specs.Told.{steps_of}
 
 -- an event that is refused, and so those behind it
@@ -40,10 +40,6 @@ past_of_steps tid (suc n) past =
 pub past_of_all : (tid n : ℕ) (past events : List Event) → past_after past (steps_of tid n ++ events) ≡ past_after (with_steps tid n past) events
 past_of_all tid n past events =
     past_after-append past (steps_of tid n) events ∙ ap (λ (p : List Event). past_after p events) (past_of_steps tid n past)
-
-pub fits_on : (fits : List Event → Bool) → StepsFit fits → (tid n : ℕ) (past : List Event) → fits past ≡ true → fits (with_steps tid n past) ≡ true
-fits_on fits fit tid zero past is = is
-fits_on fits fit tid (suc n) past is = fit tid (with_steps tid n past) (fits_on fits fit tid n past is)
 
 module _ {W : Type 0} (Stands : W → List Event → Type 0) (fits : List Event → Bool) (fit : StepsFit fits) (tid n : ℕ) (events : List Event) (old : W) where
   pub may_step : MayTakeAll Stands fits old (steps_of tid n ++ events) → MayStepBy Stands fits old tid n

@@ -1,12 +1,15 @@
 -- Steps of a thread on its registers, the memory and the reservations alone.
-use Rattle.std.specs.Prelude.{◌≡◌, ℕ, ◌+◌, Bool, true, List, ◌++◌, None}
+use Rattle.std.specs.Prelude.{◌≡◌, ℕ, ◌+◌, Bool, true, List, ◌∷◌, ◌++◌, None}
 use Rattle.rv_exec.specs.Effects.{ExecState}
 use Rattle.trace_model.specs.declared.event_kinds.Event.{Event}
+use Rattle.trace_model.specs.declared.event_kinds.Event.TheVariants.{Step}
 use Rattle.guest_calls.specs.Kernel.{later_by}
+use Rattle.guest_machine.specs.declared.stepped.Advanced.{Advanced}
 use Rattle.guest_machine.specs.declared.stepped.Stepped.TheVariants.{Went}
 use Rattle.guest_machine.specs.Machine.{MachineState, can_run, later}
 use Rattle.guest_machine.specs.Running.{AllGoOn, MayTakeSteps, after_steps, events_of_steps}
 use Rattle.guest_machine.specs.Sound.{IsSound}
+use Rattle.guest_machine.specs.Told.{done_by}
 use Rattle.guest_machine.specs.Step.{StepResult, exec_state_of, step, with_exec_state}
 
 -- It is what a thread of a sound machine, which can run, works on.
@@ -27,6 +30,10 @@ went_to m tid c events = record { machine = with_exec_state (later m) tid c; eve
 pub record StepsTo (m : MachineState) (tid : ℕ) (c : ExecState) (events : List Event) : Type 0 where
   pub is : step m tid ≡ went_to m tid c events
   pub of : IsStateOf c tid (with_exec_state (later m) tid c)
+
+-- On whatever machine the thread works on the old state, its step is an instruction that went, did this and left the new one.
+abbrev pub IsStepOf : ExecState → ExecState → ℕ → Advanced → Type 0
+IsStepOf old new tid advanced = (m : MachineState) → IsStateOf old tid m → StepsTo m tid new (Step tid ∷ done_by tid advanced)
 
 -- So many steps left this state, after each of which the thread goes on.
 pub record Carries (m : MachineState) (tid : ℕ) (c : ExecState) (count : ℕ) : Type 0 where

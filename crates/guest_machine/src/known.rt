@@ -1,17 +1,16 @@
 //! Steps of one thread in a row, while their instructions are known.
-ghost use Rattle.std.specs.Prelude.{◌≡◌, ◌≤◌, ◌%◌, ◌∷◌, ℕ, IfOk, IfSome, IfNone, OnErr, OnOk};
+ghost use Rattle.std.specs.Prelude.{◌≡◌, ◌≤◌, ◌/◌, ◌%◌, ◌∷◌, ℕ, None, get_or, length, IfOk, IfSome, IfNone, OnErr, OnOk};
 ghost use Rattle.guest_memory.specs.Code.{IsInstructionAt};
 ghost use Rattle.guest_memory.specs.Guest.{memory_of};
 ghost use Rattle.guest_memory.specs.Reserved.{Reserved};
 ghost use Rattle.rv_exec.specs.Effects.{exec_state_of};
 ghost use Rattle.rv_exec.specs.Plain.{state_with};
-ghost use Rattle.trace_model.specs.declared.event_kinds.Event.TheVariants.{Step};
 ghost use Rattle.trace_model.specs.declared.observer.Observed.TheVariants.{Taken};
 ghost use Rattle.trace_model.specs.Observing.{MayTakeAll, ObservesAll};
-ghost use Rattle.guest_machine.specs.Carrying.{Carries, GoesWith, IsStateOf, MayCarry, StepsTo};
+ghost use Rattle.guest_machine.specs.Carrying.{Carries, GoesWith, IsStateOf, IsStepOf, MayCarry};
 ghost use Rattle.guest_machine.specs.Machine.{MachineState};
 ghost use Rattle.guest_machine.specs.Running.{ObservesSteps};
-ghost use Rattle.guest_machine.specs.Told.{IsInstruction, done_by, steps_of};
+ghost use Rattle.guest_machine.specs.Told.{IsInstruction, steps_of};
 
 use crate::Advanced;
 use crate::telling::{observe_told, told};
@@ -54,6 +53,15 @@ fn learned_instruction(memory: &mut GuestMemory, at: Addr) -> Result<Option<Inst
     Ok(memory.known_instruction(at))
 }
 
+// The instruction at an address in its page's code, where it is known.
+#[inline(always)]
+fn instruction_in(code: &[Option<Instr>], at: Addr) -> Option<Instr>
+    requires { length code.now ≡ 1024 }
+    ensures { result ≡ get_or code.now (at / 4 % 1024) None }
+{
+    code[(at >> 2) as usize % 1024]
+}
+
 // Makes at most so many steps of a thread with these registers, as long as their instructions are known, lie in one page and
 // touch registers alone. It says how many, and the instruction that comes next, where that is known and is none of these.
 #[inline(always)]
@@ -75,11 +83,11 @@ fn run_plain(cpu: &mut Cpu, memory: &GuestMemory, most: u64) -> (u64, Option<Ins
         if at >> 12 != page {
             return (count, None);
         }
-        let Some(instruction) = code[(at >> 2) as usize % 1024] else {
+        let Some(instruction) = instruction_in(code, at) else {
             return (count, None);
         };
         if !execute_plain(cpu, instruction) {
-            return (count, Some(instruction));
+            return (count, instruction_in(code, at));
         }
         count += 1;
     }
@@ -97,9 +105,8 @@ fn carry_out(
 ) -> Option<Advanced>
     requires state { (m : MachineState) × IsStateOf (exec_state_of cpu.old memory.old held.old) tid m }
     requires known { IsInstructionAt (memory_of memory.old) cpu.old.pc instruction }
-    ensures step { IfSome result (λ advanced. (m : MachineState)
-        → IsStateOf (exec_state_of cpu.old memory.old held.old) tid m
-        → StepsTo m tid (exec_state_of cpu.new memory.new held.new) (Step tid ∷ done_by tid advanced)) }
+    ensures step { IfSome result (IsStepOf (exec_state_of cpu.old memory.old held.old)
+        (exec_state_of cpu.new memory.new held.new) tid) }
     ensures kept { IfNone result (exec_state_of cpu.new memory.new held.new
         ≡ exec_state_of cpu.old memory.old held.old) }
     ensures instruction { IfSome result IsInstruction }
@@ -123,9 +130,9 @@ fn carry_out_next(
 ) -> Result<Option<Advanced>, AllocError>
     requires state { (m : MachineState) × IsStateOf (exec_state_of cpu.old memory.old held.old) tid m }
     requires known { IfSome found (IsInstructionAt (memory_of memory.old) cpu.old.pc) }
-    ensures step { IfOk result (λ next. IfSome next (λ advanced. (m : MachineState)
-        → IsStateOf (exec_state_of cpu.old memory.old held.old) tid m
-        → StepsTo m tid (exec_state_of cpu.new memory.new held.new) (Step tid ∷ done_by tid advanced))) }
+    ensures step { IfOk result (λ next. IfSome next
+        (IsStepOf (exec_state_of cpu.old memory.old held.old)
+        (exec_state_of cpu.new memory.new held.new) tid)) }
     ensures kept { IfOk result (λ next. IfNone next (exec_state_of cpu.new memory.new held.new
         ≡ exec_state_of cpu.old memory.old held.old)) }
     ensures refused { OnErr result (exec_state_of cpu.new memory.new held.new

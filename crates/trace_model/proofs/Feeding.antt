@@ -1,8 +1,10 @@
 -- Events handed to an observer, one after the other.
-use Rattle.std.proofs.Common.{◌≡◌, ℕ, ◌+◌, ◌<◌, ◌≤◌, Bool, true, false, List, [], ◌∷◌, ◌++◌, length, get_or, take, drop, reverse, sym, ap, subst, ◌∙◌}
+use Rattle.std.proofs.Common.{◌≡◌, ℕ, zero, suc, ◌+◌, ◌<◌, ◌≤◌, arith, inl, inr, Bool, true, false, List, [], ◌∷◌, ◌++◌, length, get_or, take, drop, reverse, sym, ap, subst, ◌∙◌}
+use Rattle.std.proofs.lemmas.Bool.{cases_eq}
 use Rattle.std.proofs.lemmas.List.{take_all, take-append-drop, take_more}
 use Rattle.trace_model.specs.declared.event_kinds.Event.{Event}
 use Rattle.trace_model.specs.Cut.{IsPrefixClosed, cut, past_after}
+use Rattle.trace_model.specs.Observing.{StepsFit, with_steps}
 use Rattle.trace_model.specs.WellFormed.{IsWellFormed}
 use Rattle.trace_model.proofs.Cut.{cut-here, fits-earlier, past_after-append}
 
@@ -35,3 +37,15 @@ module _ (past events : List Event) (i : ℕ) (e : Event) (low : i < length even
 
 pub taken-all : (past events : List Event) (i : ℕ) → length events ≤ i → past_after past (take i events) ≡ past_after past events
 taken-all past events i all = ap (past_after past) (take_all i events all)
+
+-- ---- steps of a thread in a row
+pub fits_on : (fits : List Event → Bool) → StepsFit fits → (tid n : ℕ) (past : List Event) → fits past ≡ true → fits (with_steps tid n past) ≡ true
+fits_on fits fit tid zero past is = is
+fits_on fits fit tid (suc n) past is = fit tid (with_steps tid n past) (fits_on fits fit tid n past is)
+
+pub steps_formed : (tid n k : ℕ) (past : List Event) → k < n → IsWellFormed (with_steps tid n past) → IsWellFormed (with_steps tid (suc k) past)
+steps_formed tid zero k past low formed = absurd (omega (arith, low))
+steps_formed tid (suc n) k past low formed = elim (cases_eq k n) [
+  | inl last ↦ subst (λ j. IsWellFormed (with_steps tid (suc j) past)) (sym last) formed
+  | inr before ↦ steps_formed tid n k past (omega (arith, low, before)) formed.2
+]
