@@ -12,6 +12,6 @@ returns-in-Other-clause-ends g c =
     let machine = c.advance.new.self in
     let events = c.advance.new.events.list in
     let cleared = c.clear.new.self.list in
-    let steps = subst (λ (a : Advanced). Steps r (stepped_of a) machine cleared (events ++ told c.args.tid a)) c.in-Other.is c.in_ok-advance.ensures.step in
+    let steps = subst (λ (a : Advanced). Steps r (stepped_of a) machine cleared (events ++ told c.args.tid a)) c.in-Other.is c.in_ok-instruction.ensures.step in
     let added = subst (λ (es : List Event). Steps r c.in-Other.stepped machine cleared es) (append-nil events) steps in
     c.finish_step.ensures.ends r (subst (λ (es : List Event). Steps r c.in-Other.stepped machine es events) c.clear.ensures.list added)
