@@ -14,7 +14,7 @@ use Rattle.shadow_core.proofs.StateEvents.{still_there}
 use Rattle.shadow_core.proofs.StateTicks.{ticks_by_parts}
 
 pub as_large : (s : Stamped) → IsAsLarge s s
-as_large s = record { spare = refl; frames = refl; covered = λ w. refl }
+as_large s = record { spare = refl; frames = refl; covered = λ w. refl; calls = refl }
 
 -- without a tick
 pub stays : (most : ℕ) (old : Clock) → old.counter ≤ most → IsAdvanced most false old old
@@ -53,6 +53,7 @@ left old live writes all = record {
           spare = each.spare;
           frames = ap length each.frames ∙ length-map was.frames (λ (f : Frame). record f { start = _ });
           covered = each.covered;
+          calls = each.calls;
         },
       );
   marks = all.marks;

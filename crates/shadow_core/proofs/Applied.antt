@@ -17,15 +17,16 @@ use Rattle.trace_model.specs.Observing.{MayTake}
 use Rattle.trace_model.specs.Profile.{done_of}
 use Rattle.shadow_pages.specs.Pages as pages
 use Rattle.shadow_pages.specs.Pages.{AreCovered, Page, page_of, stamp_at, stamp_in}
-use Rattle.stamp_renumber.specs.Threads.{Stamped, all_starts, pages_of}
+use Rattle.stamp_renumber.specs.Threads.{Stamped, all_starts, calls_of, pages_of}
 use Rattle.shadow_core.specs.Applying.{AreInUse, DeepDoesNotFit, IsTaken, NeedsNoMemory, access_of, is_too_deep}
 use Rattle.shadow_core.specs.Past.{call_of}
 use Rattle.shadow_core.specs.Profiling.{StandsFor}
 use Rattle.shadow_core.specs.Records.{finished}
 use Rattle.shadow_core.specs.Renewal.{bounded_tick}
 use Rattle.shadow_core.specs.Stands.{Stands}
-use Rattle.shadow_core.specs.State.{Calls, State, as_thread, as_threads, calls_of, table_of_state}
-use Rattle.shadow_core.specs.Table.{OpenCall, Table, Thread, empty_table}
+use Rattle.shadow_core.specs.State.{State, as_thread, as_threads, table_of_state}
+use Rattle.call_tracker.specs.ThreadCalls.{CountedCall, no_counts}
+use Rattle.shadow_core.specs.Table.{Table, Thread, empty_table}
 use Rattle.shadow_core.specs.Ticks.{table_after, table_at}
 use Rattle.shadow_core.proofs.Profiled.{may_advance, there_too}
 use Rattle.shadow_core.proofs.Room.{fits_by_frames, allows_what_may_follow}
@@ -96,21 +97,21 @@ pub are_covered : (ps : List Page) (first count : ℕ) → AreInUse (stamp_at ps
 are_covered ps first count used w low high = used_covered ps w (used w (in_range first count w low high))
 
 -- the table's access stamps of a thread are those of its pages
-access_as : (calls : List (ℕ × Calls)) (live : List (ℕ × Stamped)) (t l : ℕ) →
-    option_map_or (λ (thread : Thread). thread.access) (value_of (as_threads calls live) t) (λ l. 0) l ≡ stamp_at (pages_of live t) l
-access_as calls [] t l = refl
-access_as calls (x ∷ live) t l = by (x.0 == t) (access_as calls live t l)
+access_as : (live : List (ℕ × Stamped)) (t l : ℕ) →
+    option_map_or (λ (thread : Thread). thread.access) (value_of (as_threads live) t) (λ l. 0) l ≡ stamp_at (pages_of live t) l
+access_as [] t l = refl
+access_as (x ∷ live) t l = by (x.0 == t) (access_as live t l)
   where
     by : (b : Bool) →
-        option_map_or (λ (thread : Thread). thread.access) (value_of (as_threads calls live) t) (λ l. 0) l ≡ stamp_at (pages_of live t) l →
-        option_map_or (λ (thread : Thread). thread.access) (cond b (Some (as_thread calls x.0 x.1)) (value_of (as_threads calls live) t)) (λ l. 0) l
+        option_map_or (λ (thread : Thread). thread.access) (value_of (as_threads live) t) (λ l. 0) l ≡ stamp_at (pages_of live t) l →
+        option_map_or (λ (thread : Thread). thread.access) (cond b (Some (as_thread x.1)) (value_of (as_threads live) t)) (λ l. 0) l
         ≡ stamp_at (option_map_or (λ (s : Stamped). s.pages) (cond b (Some x.1) (value_of live t)) []) l
     by true later = refl
     by false later = later
 
 own_covered : (s : State) (t first count : ℕ) → AreInUse (access_of (table_of_state s) t) first count → AreCovered (pages_of s.live.threads t) first count
 own_covered s t first count used w low high =
-    used_covered (pages_of s.live.threads t) w (subst (λ n. 0 < n) (access_as s.calls s.live.threads t w) (used w (in_range first count w low high)))
+    used_covered (pages_of s.live.threads t) w (subst (λ n. 0 < n) (access_as s.live.threads t w) (used w (in_range first count w low high)))
 
 module _ (s : State) (e : Event) (t first count held capacity : ℕ) where
   pub read_covered : e ≡ Read t first count → NeedsNoMemory e (table_of_state s) held capacity → AreCovered (pages_of s.live.threads t) first count
@@ -124,19 +125,17 @@ module _ (s : State) (e : Event) (t first count held capacity : ℕ) where
 
 -- ---- Room for what a return ends.
 -- the open calls of a thread of the table
-calls_as : (calls : List (ℕ × Calls)) (live : List (ℕ × Stamped)) (t : ℕ) (thread : Thread) → value_of (as_threads calls live) t ≡ Some thread → thread.calls ≡ (calls_of calls t).list
-calls_as calls [] t thread is = absurd (cc)
-calls_as calls (x ∷ live) t thread is = by (x.0 == t) refl is (calls_as calls live t thread)
+calls_as : (live : List (ℕ × Stamped)) (t : ℕ) (thread : Thread) → value_of (as_threads live) t ≡ Some thread → thread.calls ≡ (calls_of live t).list
+calls_as [] t thread is = absurd (cc)
+calls_as (x ∷ live) t thread is = by (x.0 == t) is (calls_as live t thread)
   where
-    by : (b : Bool) → (x.0 == t) ≡ b → cond b (Some (as_thread calls x.0 x.1)) (value_of (as_threads calls live) t) ≡ Some thread →
-        (value_of (as_threads calls live) t ≡ Some thread → thread.calls ≡ (calls_of calls t).list) → thread.calls ≡ (calls_of calls t).list
-    by true here found later =
-        let own : as_thread calls x.0 x.1 ≡ thread = cc in
-        let number : x.0 ≡ t = grind (arith, nat_tests, here) in
-        sym (ap (λ (th : Thread). th.calls) own) ∙ ap (λ n. (calls_of calls n).list) number
-    by false here found later = later found
+    by : (b : Bool) → cond b (Some (as_thread x.1)) (value_of (as_threads live) t) ≡ Some thread →
+        (value_of (as_threads live) t ≡ Some thread → thread.calls ≡ (calls_of live t).list) →
+        thread.calls ≡ (option_map_or (λ (s : Stamped). s.calls) (cond b (Some x.1) (value_of live t)) (record { list = []; counts = no_counts; spare = 0 })).list
+    by true found later = let own : as_thread x.1 ≡ thread = cc in sym (ap (λ (th : Thread). th.calls) own)
+    by false found later = later found
 
-backs_of : (past : List Event) (t : ℕ) (opens : List Activation) → map (λ (o : OpenCall). o.back) (map (call_of past t) opens) ≡ backs opens
+backs_of : (past : List Event) (t : ℕ) (opens : List Activation) → map (λ (o : CountedCall). o.back) (map (call_of past t) opens) ≡ backs opens
 backs_of past t [] = refl
 backs_of past t (a ∷ opens) = ap (λ bs. a.back ∷ bs) (backs_of past t opens)
 
@@ -148,7 +147,7 @@ few_returned target bs = by (position_or_len (is_back target) bs) (length bs)
 
 -- as many are recorded as a return ends calls
 pub returned_fits : (most t target held capacity : ℕ) (e : Event) (s : State) → e ≡ Ret t target → MayTake (StandsFor most) s e → NeedsNoMemory e (table_of_state s) held capacity →
-    held + count_returned target (map (λ (o : OpenCall). o.back) (calls_of s.calls t).list) ≤ capacity
+    held + count_returned target (map (λ (o : CountedCall). o.back) (calls_of s.live.threads t).list) ≤ capacity
 returned_fits most t target held capacity e s is any_may any_needs =
     let may = subst (λ k. MayTake (StandsFor most) s k) is any_may in
     let needs = subst (λ k. NeedsNoMemory k (table_of_state s) held capacity) is any_needs in
@@ -156,9 +155,9 @@ returned_fits most t target held capacity e s is any_may any_needs =
     let opens = open_calls may.past t in
     let there = there_too table.threads table.threads refl t (may.now.agrees.live t ∙ may.formed.0.0) in
     let stands = may.now.agrees.threads t there.0 there.1 in
-    let list : (calls_of s.calls t).list ≡ map (call_of may.past t) opens = sym (calls_as s.calls s.live.threads t there.0 there.1) ∙ stands.calls in
-    let count : count_returned target (map (λ (o : OpenCall). o.back) (calls_of s.calls t).list) ≡ count_returned target (backs opens) =
-    ap (λ (cs : List OpenCall). count_returned target (map (λ (o : OpenCall). o.back) cs)) list ∙ ap (count_returned target) (backs_of may.past t opens) in
+    let list : (calls_of s.live.threads t).list ≡ map (call_of may.past t) opens = sym (calls_as s.live.threads t there.0 there.1) ∙ stands.calls in
+    let count : count_returned target (map (λ (o : CountedCall). o.back) (calls_of s.live.threads t).list) ≡ count_returned target (backs opens) =
+    ap (λ (cs : List CountedCall). count_returned target (map (λ (o : CountedCall). o.back) cs)) list ∙ ap (count_returned target) (backs_of may.past t opens) in
     let few = few_returned target (backs opens) in
     let n = count_ending (Ret t target) t (backs opens) in
     let own : n ≡ count_returned target (backs opens) = own_test t (count_returned target (backs opens)) 0 in

@@ -17,7 +17,7 @@ use Rattle.trace_model.specs.Causes.{Plain, OtherThread, Kernel, is_by, counts_b
 use Rattle.trace_model.proofs.Causes.{is_foreign, counts_by_is}
 use Rattle.trace_model.proofs.Positions.{since_more, since_none, before_more, before_all}
 use Rattle.shadow_stack.specs.declared.sums.Sums.{Sums}
-use Rattle.shadow_core.specs.Table.{Counts}
+use Rattle.call_tracker.specs.ThreadCalls.{Counts}
 use Rattle.shadow_core.specs.Past.{is_by_others, is_filled, counts_of, call_of, sums_of}
 use Rattle.shadow_core.proofs.Frames.{same_sums, with_gains}
 

@@ -17,7 +17,8 @@ use Rattle.stamp_lanes.specs.Plain.{Place}
 use Rattle.shadow_stack.specs.declared.sums.Sums.{Sums}
 use Rattle.shadow_stack.specs.Frames.{starts_of}
 use Rattle.shadow_core.specs.Frames.{no_sums, frames_after_reads, frames_after_pops}
-use Rattle.shadow_core.specs.Table.{Counts, OpenCall, Thread, Table, places_read, count_pops, with_frame}
+use Rattle.call_tracker.specs.ThreadCalls.{CountedCall, Counts}
+use Rattle.shadow_core.specs.Table.{Thread, Table, places_read, count_pops, with_frame}
 use Rattle.shadow_core.specs.Past.{is_by_others, counts_of, call_of, sums_of}
 use Rattle.shadow_core.specs.Stands.{totals, IsStartOf, IsFalling, outermost, ThreadStands}
 use Rattle.shadow_core.proofs.Frames.{starts-reads, starts-pops, totals-reads, totals-pops, Tells, with_gains, zip-map}
@@ -186,13 +187,13 @@ begun_stands e table table' past t thread a one counter write last positive belo
     }
 
 -- ---- an event that ends activations, but not all
-map-backs : (past : List Event) (t : ℕ) (calls : List Activation) → map (λ (c : OpenCall). c.back) (map (call_of past t) calls) ≡ backs calls
+map-backs : (past : List Event) (t : ℕ) (calls : List Activation) → map (λ (c : CountedCall). c.back) (map (call_of past t) calls) ≡ backs calls
 map-backs past t [] = refl
 map-backs past t (a ∷ calls) = ap (λ bs. a.back ∷ bs) (map-backs past t calls)
 
-pub backs-stand : (past : List Event) (t : ℕ) (calls : List OpenCall) → calls ≡ map (call_of past t) (open_calls past t) →
-    map (λ (c : OpenCall). c.back) calls ≡ backs (open_calls past t)
-backs-stand past t calls is = ap (map (λ (c : OpenCall). c.back)) is ∙ map-backs past t (open_calls past t)
+pub backs-stand : (past : List Event) (t : ℕ) (calls : List CountedCall) → calls ≡ map (call_of past t) (open_calls past t) →
+    map (λ (c : CountedCall). c.back) calls ≡ backs (open_calls past t)
+backs-stand past t calls is = ap (map (λ (c : CountedCall). c.back)) is ∙ map-backs past t (open_calls past t)
 
 pub popped_stands : (e : Event) (table table' : Table) (past : List Event) (t : ℕ) (thread : Thread) → ((at : ℕ) → begun e t at ≡ []) →
     words_read e t ≡ [] → steps_run e t ≡ 0 → ((l : ℕ) → touch e t l ≡ Untouched) →

@@ -22,7 +22,8 @@ use Rattle.trace_model.specs.WellFormed.{is_live, greatest_start, IsWellFormed}
 use Rattle.trace_model.proofs.Pairs.{contains_first}
 use Rattle.stamp_lanes.specs.Plain.{is_by_thread, is_by_kernel}
 use Rattle.shadow_stack.specs.Frames.{starts_of}
-use Rattle.shadow_core.specs.Table.{Counts, Thread, Table, with_frame, changed, count_pops, event_after, no_thread, places_read, stamped, thread_after_read, thread_after_ret}
+use Rattle.call_tracker.specs.ThreadCalls.{Counts}
+use Rattle.shadow_core.specs.Table.{Thread, Table, with_frame, changed, count_pops, event_after, no_thread, places_read, stamped, thread_after_read, thread_after_ret}
 use Rattle.shadow_core.specs.Ticks.{ticks}
 use Rattle.shadow_core.specs.Past.{is_by_others, is_filled, counts_of}
 use Rattle.shadow_core.specs.Stands.{IsStartOf, outermost, ThreadStands, HasStart, Agrees}

@@ -11,7 +11,7 @@ use Rattle.trace_model.specs.Events.{thread_of}
 use Rattle.trace_model.specs.Activations.{is_back, count_returned, open_calls, backs}
 use Rattle.trace_model.specs.Sizes.{last_touch}
 use Rattle.trace_model.specs.WellFormed.{is_live, greatest_start, MayFollow, IsWellFormed}
-use Rattle.shadow_core.specs.Table.{no_counts}
+use Rattle.call_tracker.specs.ThreadCalls.{no_counts}
 use Rattle.shadow_core.specs.Past.{is_by_others, is_written, writes_word, counts_of}
 use Rattle.shadow_core.proofs.Events.{apart, open_calls-apart}
 use Rattle.shadow_core.proofs.Inside.{counts_idle}

@@ -3,25 +3,23 @@ use Rattle.std.proofs.Common.{◌≡◌, ℕ, ◌+◌, ◌<◌, ◌≤◌, List,
 use Rattle.shadow_stack.specs.declared.sums.Sums.{Sums}
 use Rattle.std.proofs.lemmas.List.{length-drop, length_push, reverse-reverse}
 use Rattle.trace_model.specs.declared.slow_profile.Done.{Done}
-use Rattle.stamp_renumber.specs.Threads.{Live, Stamped, frames_of, pages_of, stamped}
+use Rattle.stamp_renumber.specs.Threads.{Live, Stamped, calls_of, frames_of, pages_of, stamped}
+use Rattle.stamp_renumber.proofs.Changed.{unchanged}
 use Rattle.guest_words.specs.ByThread.{value_of, with_value}
 use Rattle.std.proofs.lemmas.Int.{ints}
 use Rattle.std.proofs.lemmas.List.Elements.{All-head, All-tail}
 use Rattle.shadow_core.specs.Allows.{AreWithin, IsWithin}
 use Rattle.std.specs.Prelude.{Option, None, is_some, reverse}
-use Rattle.std.specs.Option.{option_map_or}
-use Rattle.guest_words.proofs.ThreadTables.{with_own}
-use Rattle.shadow_core.proofs.Accessed.{its_frames, its_pages}
+use Rattle.shadow_core.proofs.Accessed.{its_pages}
 use Rattle.shadow_core.specs.Frames.{frames_after_pops}
 use Rattle.shadow_core.proofs.Reading.{All-reverse}
 use Rattle.shadow_core.proofs.Reversed.{pops_in_order}
 use Rattle.shadow_core.proofs.StateEvents.{last_change_counts, stamped_value}
 use Rattle.shadow_stack.specs.Frames.{FitsPop, Frame, IsPopped, added_to_last}
 use Rattle.shadow_core.specs.Ending.{IsEnded}
-use Rattle.shadow_core.specs.State.{Calls}
 use Rattle.shadow_core.specs.Parts.{ArePopped}
 use Rattle.shadow_core.specs.Records.{record_of, records}
-use Rattle.shadow_core.specs.Table.{Counts, OpenCall}
+use Rattle.call_tracker.specs.ThreadCalls.{CountedCall, Counts}
 
 -- one frame more
 pub popped_more : (fs gs hs : List Frame) (sums : List Sums) (s : Sums) → ArePopped fs sums gs → IsPopped gs (Some s) hs → ArePopped fs (sums ++ s ∷ []) hs
@@ -29,7 +27,7 @@ popped_more fs gs hs [] s same last = (hs, subst (λ (xs : List Frame). IsPopped
 popped_more fs gs hs (x ∷ sums) s some last = (some.0, some.1, popped_more some.0 gs hs sums s some.2 last)
 
 -- and the records of more
-pub records_split : (t : ℕ) (counts : Counts) (sums more : List Sums) (calls : List OpenCall) →
+pub records_split : (t : ℕ) (counts : Counts) (sums more : List Sums) (calls : List CountedCall) →
     records t counts (sums ++ more) calls ≡ records t counts sums calls ++ records t counts more (drop (length sums) calls)
 records_split t counts [] more calls = refl
 records_split t counts (x ∷ sums) [] [] = refl
@@ -68,12 +66,12 @@ fits_pop (f ∷ g ∷ h ∷ frames) within =
     fits_pop (g ∷ h ∷ frames) (All-tail (λ (k : Frame). IsWithin (2 ^ 62 - 1) k.sums.plain × IsWithin (2 ^ 62 - 1) k.sums.bare) f (g ∷ h ∷ frames) within)
 
 -- calls ended, and one more
-pub ended_more : (t n : ℕ) (a b c : Live) (begun left rest : Calls) (done more most : List Done) (was : Stamped) → value_of a.threads t ≡ Some was →
-    IsEnded t n a b begun left done more → IsEnded t 1 b c left rest more most → IsEnded t (n + 1) a c begun rest done most
-ended_more t n a b c begun left rest done more most was here first one = by one.sums one.count one.frames one.recorded
+pub ended_more : (t n : ℕ) (a b c : Live) (done more most : List Done) (was : Stamped) → value_of a.threads t ≡ Some was →
+    IsEnded t n a b done more → IsEnded t 1 b c more most → IsEnded t (n + 1) a c done most
+ended_more t n a b c done more most was here first one = by one.sums one.count one.frames one.recorded
   where
-    by : (sums : List Sums) → length sums ≡ 1 → ArePopped (frames_of b.threads t) sums (frames_of c.threads t) → most ≡ more ++ records t left.counts sums left.list →
-        IsEnded t (n + 1) a c begun rest done most
+    by : (sums : List Sums) → length sums ≡ 1 → ArePopped (frames_of b.threads t) sums (frames_of c.threads t) →
+        most ≡ more ++ records t (calls_of b.threads t).counts sums (calls_of b.threads t).list → IsEnded t (n + 1) a c done most
     by [] none popped recorded = absurd (omega (arith, none))
     by (s ∷ r ∷ sums) many popped recorded = absurd (omega (arith, many))
     by (s ∷ []) count popped recorded =
@@ -81,6 +79,7 @@ ended_more t n a b c begun left rest done more most was here first one = by one.
         let middle = stamped b.threads t (frames_of b.threads t) (pages_of a.threads t) in
         let there : value_of b.threads t ≡ Some middle =
         ap (λ (xs : List (ℕ × Stamped)). value_of xs t) first.threads ∙ stamped_value a.threads t was middle here in
+        let begun = calls_of a.threads t in
         let ds = records t begun.counts first.sums begun.list in
         record {
           sums = first.sums ++ s ∷ [];
@@ -90,61 +89,49 @@ ended_more t n a b c begun left rest done more most was here first one = by one.
               one.threads
               ∙ (λ i. with_value (first.threads i) t (stamped c.threads t (frames_of c.threads t) (its_pages b.threads t middle there i)))
               ∙ last_change_counts a.threads t middle (stamped c.threads t (frames_of c.threads t) (pages_of a.threads t));
-          rest =
-              one.rest
-              ∙ ap (λ (k : Calls). record k { list = drop 1 k.list }) first.rest
-              ∙ ap (λ (os : List OpenCall). record begun { list = os }) (drop-drop 1 n begun.list);
+          list = one.list ∙ ap (λ (os : List CountedCall). drop 1 os) first.list ∙ drop-drop 1 n begun.list;
+          counts = one.counts ∙ first.counts;
           recorded =
               recorded
-              ∙ (λ i. first.recorded i ++ records t (first.rest i).counts (s ∷ []) (first.rest i).list)
+              ∙ (λ i. first.recorded i ++ records t (first.counts i) (s ∷ []) (first.list i))
               ∙ append_assoc done ds (records t begun.counts (s ∷ []) (drop n begun.list))
               ∙ ap (λ (ds : List Done). done ++ ds)
               (ap (λ k. ds ++ records t begun.counts (s ∷ []) (drop k begun.list)) (sym first.count) ∙ sym (records_split t begun.counts first.sums (s ∷ []) begun.list));
         }
 
-pub one_ended : (t : ℕ) (a b : Live) (begun rest : Calls) (done more : List Done) (s : Sums) (call : OpenCall) → IsPopped (frames_of a.threads t) (Some s) (frames_of b.threads t) →
-    b.threads ≡ with_value a.threads t (stamped b.threads t (frames_of b.threads t) (pages_of a.threads t)) → begun.list ≡ call ∷ rest.list → rest.counts ≡ begun.counts →
-    more ≡ done ++ record_of t begun.counts s call ∷ [] → IsEnded t 1 a b begun rest done more
-one_ended t a b begun rest done more s call popped threads same counted recorded =
+pub one_ended : (t : ℕ) (a b : Live) (done more : List Done) (s : Sums) (call : CountedCall) → IsPopped (frames_of a.threads t) (Some s) (frames_of b.threads t) →
+    b.threads ≡ with_value a.threads t (stamped b.threads t (frames_of b.threads t) (pages_of a.threads t)) →
+    (calls_of a.threads t).list ≡ call ∷ (calls_of b.threads t).list → (calls_of b.threads t).counts ≡ (calls_of a.threads t).counts →
+    more ≡ done ++ record_of t (calls_of a.threads t).counts s call ∷ [] → IsEnded t 1 a b done more
+one_ended t a b done more s call popped threads same counted recorded =
     record {
       sums = s ∷ [];
       count = refl;
       frames = (frames_of b.threads t, popped, refl);
       threads = threads;
-      rest = (λ i. record { list = sym (ap (λ (os : List OpenCall). drop 1 os) same) i; counts = counted i });
-      recorded = recorded ∙ ap (λ (os : List OpenCall). done ++ records t begun.counts (s ∷ []) os) (sym same);
+      list = sym (ap (λ (os : List CountedCall). drop 1 os) same);
+      counts = counted;
+      recorded = recorded ∙ ap (λ (os : List CountedCall). done ++ records t (calls_of a.threads t).counts (s ∷ []) os) (sym same);
     }
 
-pub none_ended : (t : ℕ) (a : Live) (begun : Calls) (done : List Done) → is_some (value_of a.threads t) ≡ true → IsEnded t 0 a a begun begun done done
-none_ended t a begun done lives = record {
+pub none_ended : (t : ℕ) (a : Live) (done : List Done) → is_some (value_of a.threads t) ≡ true → IsEnded t 0 a a done done
+none_ended t a done lives = record {
   sums = [];
   count = refl;
   frames = refl;
-  threads = sym (by (value_of a.threads t) refl lives);
-  rest = refl;
+  threads = unchanged a.threads t lives;
+  list = refl;
+  counts = refl;
   recorded = sym (append-nil done);
 }
-  where
-    by : (o : Option Stamped) → value_of a.threads t ≡ o → is_some o ≡ true → with_value a.threads t (stamped a.threads t (frames_of a.threads t) (pages_of a.threads t)) ≡ a.threads
-    by None none lives = absurd (cc)
-    by (Some was) here lives =
-        (λ i. with_value a.threads t (record {
-          frames = its_frames a.threads t was here i;
-          spare = option_map_or (λ (s : Stamped). s.spare) (here i) 0;
-          pages = its_pages a.threads t was here i;
-        }))
-        ∙ with_own a.threads t was here
 
 -- ---- What one more end asks, after so many.
-module _ (t n m : ℕ) (a b : Live) (begun left : Calls) (done more : List Done) (lives : is_some (value_of a.threads t) ≡ true) (ended : IsEnded t n a b begun left done more) where
+module _ (t n m : ℕ) (a b : Live) (done more : List Done) (lives : is_some (value_of a.threads t) ≡ true) (ended : IsEnded t n a b done more) where
   pub frames_left : m ≤ length (frames_of a.threads t) → n < m → 1 ≤ length (frames_of b.threads t)
   frames_left most few = omega (arith, popped_length (frames_of a.threads t) (frames_of b.threads t) ended.sums ended.frames, ended.count, most, few)
 
-  pub calls_left : m ≤ length begun.list → n < m → 1 ≤ length left.list
-  calls_left most few = omega (arith, ap (λ (k : Calls). length k.list) ended.rest, length-drop n begun.list, most, few)
-
-  pub counts_left : left.counts ≡ begun.counts
-  counts_left = ap (λ (k : Calls). k.counts) ended.rest
+  pub calls_left : m ≤ length (calls_of a.threads t).list → n < m → 1 ≤ length (calls_of b.threads t).list
+  calls_left most few = omega (arith, ap (λ (os : List CountedCall). length os) ended.list, length-drop n (calls_of a.threads t).list, most, few)
 
   pub sums_left : ((k : ℕ) → AreWithin (2 ^ 62 - 1) (frames_after_pops k (reverse (frames_of a.threads t)))) → AreWithin (2 ^ 62 - 1) (frames_of b.threads t)
   sums_left all =
@@ -154,19 +141,19 @@ module _ (t n m : ℕ) (a b : Live) (begun left : Calls) (done more : List Done)
       subst (λ (gs : List Frame). AreWithin (2 ^ 62 - 1) gs) (reverse-reverse fs)
       (All-reverse (λ (k : Frame). IsWithin (2 ^ 62 - 1) k.sums.plain × IsWithin (2 ^ 62 - 1) k.sums.bare) (reverse fs) turned)
 
-pub lives_on : (t n : ℕ) (a b : Live) (begun left : Calls) (done more : List Done) → is_some (value_of a.threads t) ≡ true → IsEnded t n a b begun left done more →
+pub lives_on : (t n : ℕ) (a b : Live) (done more : List Done) → is_some (value_of a.threads t) ≡ true → IsEnded t n a b done more →
     is_some (value_of b.threads t) ≡ true
-lives_on t n a b begun left done more lives ended = by (value_of a.threads t) refl lives
+lives_on t n a b done more lives ended = by (value_of a.threads t) refl lives
   where
     by : (o : Option Stamped) → value_of a.threads t ≡ o → is_some o ≡ true → is_some (value_of b.threads t) ≡ true
     by None none some = absurd (cc)
     by (Some was) here some =
         ap is_some (ap (λ (xs : List (ℕ × Stamped)). value_of xs t) ended.threads ∙ stamped_value a.threads t was (stamped b.threads t (frames_of b.threads t) (pages_of a.threads t)) here)
 
-pub ended_on : (t n : ℕ) (a b c : Live) (begun left rest : Calls) (done more most : List Done) → is_some (value_of a.threads t) ≡ true →
-    IsEnded t n a b begun left done more → IsEnded t 1 b c left rest more most → IsEnded t (n + 1) a c begun rest done most
-ended_on t n a b c begun left rest done more most lives first one = by (value_of a.threads t) refl lives
+pub ended_on : (t n : ℕ) (a b c : Live) (done more most : List Done) → is_some (value_of a.threads t) ≡ true →
+    IsEnded t n a b done more → IsEnded t 1 b c more most → IsEnded t (n + 1) a c done most
+ended_on t n a b c done more most lives first one = by (value_of a.threads t) refl lives
   where
-    by : (o : Option Stamped) → value_of a.threads t ≡ o → is_some o ≡ true → IsEnded t (n + 1) a c begun rest done most
+    by : (o : Option Stamped) → value_of a.threads t ≡ o → is_some o ≡ true → IsEnded t (n + 1) a c done most
     by None none some = absurd (cc)
-    by (Some was) here some = ended_more t n a b c begun left rest done more most was here first one
+    by (Some was) here some = ended_more t n a b c done more most was here first one

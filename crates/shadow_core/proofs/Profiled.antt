@@ -3,21 +3,22 @@ use Rattle.std.proofs.Common.{◌≡◌, Ok, Err, ℕ, ◌+◌, ◌*◌, ◌<◌
 use Rattle.std.specs.Prelude.{◌==◌, ◌&&◌, not, nat_lt, is_some, reverse, OnErr, OnOk, Option, Result}
 use Rattle.std.specs.Option.{IsSome, option_copied_mut}
 use Rattle.std.proofs.lemmas.Bool.Decides.{nat_tests}
-use Rattle.guest_words.proofs.ThreadTables.{numbers-with}
-use Rattle.guest_words.specs.ByThread.{IsRising, numbers, value_of, with_value}
+use Rattle.guest_words.specs.ByThread.{IsRising, numbers, value_of}
 use Rattle.trace_model.specs.declared.event_kinds.Event.{Event}
 use Rattle.trace_model.specs.declared.event_kinds.Event.TheVariants.{Step}
 use Rattle.trace_model.specs.Observing.{MayTake}
 use Rattle.trace_model.specs.WellFormed.{is_live, last_step, weight, weight_of}
-use Rattle.stamp_renumber.specs.Threads.{Stamped, all_starts}
-use Rattle.shadow_pages.specs.Pages.{stamp_at}
+use Rattle.call_tracker.specs.ThreadCalls.{Calls}
+use Rattle.stamp_renumber.specs.LentThread.{with_calls}
+use Rattle.stamp_renumber.specs.Threads.{Live, Stamped, all_starts, calls_of, frames_of, pages_of, spare_of}
 use Rattle.shadow_core.specs.Ticks.{is_switch, ticks, table_after}
 use Rattle.shadow_core.specs.Renewal.{bounded_tick}
 use Rattle.shadow_core.specs.Counting.{counter_of, renumberings}
 use Rattle.shadow_core.specs.Stands.{Agrees}
-use Rattle.shadow_core.specs.State.{Calls, State, table_of_state}
+use Rattle.shadow_core.specs.State.{State, as_thread, table_of_state}
 use Rattle.shadow_core.specs.StateRows.{Has}
-use Rattle.shadow_core.specs.Profiling.{Clock, IsAdvanced, IsWhole, StandsFor, with_clock}
+use Rattle.shadow_core.specs.Profiling.{Clock, IsAdvanced, StandsFor, with_clock}
+use Rattle.shadow_core.proofs.Accessed.{its_calls, its_frames, its_pages}
 use Rattle.shadow_core.proofs.Counted.{room, so_far}
 use Rattle.shadow_core.proofs.Room.{counts_stay_within}
 use Rattle.shadow_core.proofs.StateEvents.{event_is_made}
@@ -75,30 +76,28 @@ there_too {A} {B} (x ∷ old) (y ∷ new) same t here =
     by true here later = (y.1, refl)
     by false here later = later here
 
--- A live thread has stamps and calls.
+-- A live thread is one of the state's.
 pub record IsAlive (s : State) (t : ℕ) : Type 0 where
   pub was : Stamped
-  pub calls : Calls
-  pub has : Has s t was calls
+  pub has : Has s t was
 
-pub alive : (s : State) (t : ℕ) (past : List Event) → Agrees (table_of_state s) past → IsWhole s → is_live past t ≡ true → IsAlive s t
-alive s t past agrees whole lives =
+pub alive : (s : State) (t : ℕ) (past : List Event) → Agrees (table_of_state s) past → is_live past t ≡ true → IsAlive s t
+alive s t past agrees lives =
     let live : is_some (value_of s.live.threads t) ≡ true = sym (life_is_told s t) ∙ agrees.live t ∙ lives in
     let own = there_too s.live.threads s.live.threads refl t live in
-    let calls = there_too s.live.threads s.calls whole.same t live in
-    record { was = own.0; calls = calls.0; has = record { rising = subst IsRising (numbers_are_told s) agrees.rising; stamps = own.1; calls = calls.1 } }
+    record { was = own.0; has = record { rising = subst IsRising (numbers_are_told s) agrees.rising; stamps = own.1 } }
 
--- a thread of the state after a tick
-pub has_after : (most : ℕ) (ticks : Bool) (s : State) (t : ℕ) (was : Stamped) (c : Calls) (old new : Clock) → IsAdvanced most ticks old new →
-    old.live ≡ s.live → Has s t was c → (is : Stamped) × Has (with_clock new s) t is c
-has_after most ticks s t was c old new step same has =
-    let found = step.each t was (ap (λ (l : Rattle.stamp_renumber.specs.Threads.Live). value_of l.threads t) same ∙ has.stamps) in (
+-- a thread of the state after a tick, with the calls that it had
+pub has_after : (most : ℕ) (ticks : Bool) (s : State) (t : ℕ) (was : Stamped) (old new : Clock) → IsAdvanced most ticks old new →
+    old.live ≡ s.live → Has s t was → (is : Stamped) × Has (with_clock new s) t is × (is.calls ≡ was.calls)
+has_after most ticks s t was old new step same has =
+    let found = step.each t was (ap (λ (l : Live). value_of l.threads t) same ∙ has.stamps) in (
       found.0,
       record {
-        rising = subst IsRising (sym (step.same ∙ ap (λ (l : Rattle.stamp_renumber.specs.Threads.Live). numbers l.threads) same)) has.rising;
+        rising = subst IsRising (sym (step.same ∙ ap (λ (l : Live). numbers l.threads) same)) has.rising;
         stamps = found.1;
-        calls = has.calls;
       },
+      found.2.calls,
     )
 
 -- the state's clock
@@ -106,64 +105,71 @@ abbrev pub clock_of : State → Clock
 clock_of s = record { counter = s.counter; writes = s.writes; live = s.live; renumbered = s.renumbered }
 
 -- ---- Steps.
-pub few_steps : (s : State) (t : ℕ) (past : List Event) (was : Stamped) (c : Calls) → Agrees (table_of_state s) past → weight past < 2 ^ 62 → Has s t was c →
-    c.counts.steps + 1 < 2 ^ 64
-few_steps s t past was c agrees light has =
-    let counts = counts_stay_within (table_of_state s) past t (record { frames = reverse was.frames; calls = c.list; access = stamp_at was.pages; counts = c.counts }) agrees (thread_is_told s t was c has) in
+pub few_steps : (s : State) (t : ℕ) (past : List Event) (was : Stamped) → Agrees (table_of_state s) past → weight past < 2 ^ 62 → Has s t was →
+    was.calls.counts.steps + 1 < 2 ^ 64
+few_steps s t past was agrees light has =
+    let counts = counts_stay_within (table_of_state s) past t (as_thread was) agrees (thread_is_told s t was has) in
     omega (arith, counts.0, light)
 
-pub step_made : (most t : ℕ) (s : State) (was : Stamped) (c : Calls) (new : Clock) → Has s t was c → IsAdvanced most (is_switch s.last t) (clock_of s) new →
-    table_of_state (record (with_clock new s) {
-      calls = with_value s.calls t (record c { counts = record c.counts { steps = c.counts.steps + 1 } });
-      last = Some t;
-      weight = s.weight + 1;
-    })
+-- the calls with one step more
+abbrev pub one_step : Calls → Calls
+one_step c = record c { counts = record c.counts { steps = c.counts.steps + 1 } }
+
+pub step_made : (most t : ℕ) (s : State) (was : Stamped) (after : Calls) (new : Clock) → Has s t was → IsAdvanced most (is_switch s.last t) (clock_of s) new →
+    after ≡ one_step (calls_of new.live.threads t) →
+    table_of_state (record (with_clock new s) { live = with_calls new.live t after; last = Some t; weight = s.weight + 1 })
     ≡ table_after (bounded_tick most) (Step t) (table_of_state s)
-step_made most t s was c new has step =
+step_made most t s was after new has step more =
     let now = with_clock new s in
-    let here = has_after most (is_switch s.last t) s t was c (clock_of s) new step refl has in
-    let changed : State = record now { calls = with_value s.calls t (record c { counts = record c.counts { steps = c.counts.steps + 1 } }); last = Some t } in
-    event_is_made most (Step t) s now changed (step.table s) (steps_by_parts now t here.0 c here.1)
+    let live = with_calls new.live t after in
+    let here = has_after most (is_switch s.last t) s t was (clock_of s) new step refl has in
+    let threads = new.live.threads in
+    let is : Stamped = record { frames = frames_of threads t; spare = spare_of threads t; pages = pages_of threads t; calls = after } in
+    let own = its_calls threads t here.0 here.1.stamps in
+    event_is_made most (Step t) s now (record now { live = live; last = Some t }) (step.table s)
+    (steps_by_parts now t live here.0 is here.1 refl (its_frames threads t here.0 here.1.stamps) (its_pages threads t here.0 here.1.stamps)
+    (ap (λ (k : Calls). k.list) (more ∙ ap one_step own)) (ap (λ (k : Calls). k.counts) (more ∙ ap one_step own)))
 
 -- ---- What the code finds.
 pub found : {A : Type 0} (r : Option (MutBor A)) (xs : List (ℕ × A)) (t : ℕ) → option_copied_mut r ≡ value_of xs t → (v : A) → value_of xs t ≡ Some v → IsSome r
 found None xs t is v here = absurd (let no : None ≡ Some v = is ∙ here in cc)
 found (Some r) xs t is v here = refl
 
-pub alive_for_step : (most t : ℕ) (s : State) → MayTake (StandsFor most) s (Step t) → IsWhole s → IsAlive s t
-alive_for_step most t s may whole = alive s t may.past may.now.agrees whole may.formed.0
+pub alive_for_step : (most t : ℕ) (s : State) → MayTake (StandsFor most) s (Step t) → IsAlive s t
+alive_for_step most t s may = alive s t may.past may.now.agrees may.formed.0
 
--- the thread has the calls that the code found
-pub has_found : (s : State) (t : ℕ) (was : Stamped) (c now : Calls) → Has s t was c → value_of s.calls t ≡ Some now → Has s t was now
-has_found s t was c now has here = record { rising = has.rising; stamps = has.stamps; calls = here }
+-- the thread lives after a tick
+pub lives_after : (most t : ℕ) (ticks : Bool) (s : State) (new : Clock) → MayTake (StandsFor most) s (Step t) → IsAdvanced most ticks (clock_of s) new →
+    is_some (value_of new.live.threads t) ≡ true
+lives_after most t b s new may step =
+    let a = alive_for_step most t s may in
+    let here = has_after most b s t a.was (clock_of s) new step refl a.has in
+    ap is_some here.1.stamps
 
-pub whole_after : (most : ℕ) (ticks : Bool) (s : State) (new : Clock) (t : ℕ) (v : Calls) → IsWhole s → IsAdvanced most ticks (clock_of s) new →
-    IsWhole (record (with_clock new s) { calls = with_value s.calls t v })
-whole_after most ticks s new t v whole step = record {
-  same = numbers-with s.calls t v ∙ whole.same ∙ sym step.same;
-  marked = λ w h. whole.marked w (sym (step.covered w) ∙ h);
-}
+-- and a step more can be counted
+pub step_fits : (most t : ℕ) (ticks : Bool) (s : State) (lent : Calls) (new : Clock) → MayTake (StandsFor most) s (Step t) → IsAdvanced most ticks (clock_of s) new →
+    lent ≡ calls_of new.live.threads t → lent.counts.steps + 1 < 2 ^ 64
+step_fits most t b s lent new may step is =
+    let a = alive_for_step most t s may in
+    let here = has_after most b s t a.was (clock_of s) new step refl a.has in
+    let own : lent ≡ a.was.calls = is ∙ its_calls new.live.threads t here.0 here.1.stamps ∙ here.2 in
+    let few = few_steps s t may.past a.was may.now.agrees (omega (arith, may.formed.1)) a.has in
+    omega (arith, few, ap (λ (k : Calls). k.counts.steps) own)
 
-pub step_fits : (most t : ℕ) (s : State) (c : Calls) → MayTake (StandsFor most) s (Step t) → IsWhole s → value_of s.calls t ≡ Some c → c.counts.steps + 1 < 2 ^ 64
-step_fits most t s c may whole here =
-    let a = alive_for_step most t s may whole in
-    few_steps s t may.past a.was c may.now.agrees (omega (arith, may.formed.1)) (has_found s t a.was a.calls c a.has here)
-
-pub stepped : (most t : ℕ) (ticks : Bool) (s : State) (c after : Calls) (new : Clock) → MayTake (StandsFor most) s (Step t) → IsWhole s → value_of s.calls t ≡ Some c →
-    ticks ≡ is_switch s.last t → IsAdvanced most ticks (clock_of s) new → after ≡ record c { counts = record c.counts { steps = c.counts.steps + 1 } } →
-    table_of_state (record (with_clock new s) { calls = with_value s.calls t after; last = Some t; weight = s.weight + 1 })
+pub stepped : (most t : ℕ) (ticks : Bool) (s : State) (lent after : Calls) (new : Clock) → MayTake (StandsFor most) s (Step t) →
+    ticks ≡ is_switch s.last t → IsAdvanced most ticks (clock_of s) new → lent ≡ calls_of new.live.threads t → after ≡ one_step lent →
+    table_of_state (record (with_clock new s) { live = with_calls new.live t after; last = Some t; weight = s.weight + 1 })
     ≡ table_after (bounded_tick most) (Step t) (table_of_state s)
-stepped most t b s c after new may whole here is step more =
-    let a = alive_for_step most t s may whole in
-    ap (λ (k : Calls). table_of_state (record (with_clock new s) { calls = with_value s.calls t k; last = Some t; weight = s.weight + 1 })) more
-    ∙ step_made most t s a.was c new (has_found s t a.was a.calls c a.has here) (subst (λ (b : Bool). IsAdvanced most b (clock_of s) new) is step)
+stepped most t b s lent after new may is step lends more =
+    let a = alive_for_step most t s may in
+    step_made most t s a.was after new a.has (subst (λ (b : Bool). IsAdvanced most b (clock_of s) new) is step) (more ∙ ap one_step lends)
 
 -- no tick changes nothing
 not_advanced : (most : ℕ) (clock : Clock) → clock.counter ≤ most → IsAdvanced most false clock clock
 not_advanced most clock within = record {
   table = λ s. refl;
   same = refl;
-  each = λ t was here. (was, here, record { spare = refl; frames = refl; covered = λ w. refl });
+  each = λ t was here. (was, here, record { spare = refl; frames = refl; covered = λ w. refl; calls = refl });
   marks = refl;
   covered = λ w. refl;
   within = within;
@@ -172,17 +178,22 @@ not_advanced most clock within = record {
 no_switch : (t : ℕ) → is_switch (Some t) t ≡ false
 no_switch t = grind (arith, nat_tests)
 
+-- no tick, where there was none
+pub stands_still : (most t : ℕ) (s : State) → MayTake (StandsFor most) s (Step t) → IsAdvanced most false (clock_of s) (clock_of s)
+stands_still most t s may = not_advanced most (clock_of s) (may_advance most (Step t) s may).within
+
 -- a step of the thread that made the last one
-pub stepped_on : (most t : ℕ) (s now : State) (c after : Calls) (heavier : ℕ) → s ≡ now → MayTake (StandsFor most) now (Step t) → IsWhole s → value_of s.calls t ≡ Some c →
-    now.last ≡ Some t → after ≡ record c { counts = record c.counts { steps = c.counts.steps + 1 } } → heavier ≡ s.weight + 1 →
-    table_of_state (record s { calls = with_value s.calls t after; weight = heavier }) ≡ table_after (bounded_tick most) (Step t) (table_of_state now)
-stepped_on most t s now c after heavier is may whole here runs more weighed =
+pub stepped_on : (most t : ℕ) (s now : State) (lent after : Calls) (heavier : ℕ) → s ≡ now → MayTake (StandsFor most) now (Step t) → lent ≡ calls_of s.live.threads t →
+    now.last ≡ Some t → after ≡ one_step lent → heavier ≡ s.weight + 1 →
+    table_of_state (record s { live = with_calls s.live t after; weight = heavier }) ≡ table_after (bounded_tick most) (Step t) (table_of_state now)
+stepped_on most t s now lent after heavier is may lends runs more weighed =
     let mine : MayTake (StandsFor most) s (Step t) = subst (λ (k : State). MayTake (StandsFor most) k (Step t)) (sym is) may in
     let last : s.last ≡ Some t = ap (λ (k : State). k.last) is ∙ runs in
     let still : false ≡ is_switch s.last t = sym (ap (λ l. is_switch l t) last ∙ no_switch t) in
-    ap (λ l. table_of_state (record s { calls = with_value s.calls t after; last = l; weight = heavier })) last
-    ∙ ap (λ n. table_of_state (record s { calls = with_value s.calls t after; last = Some t; weight = n })) weighed
-    ∙ stepped most t false s c after (clock_of s) mine whole here still (not_advanced most (clock_of s) (may_advance most (Step t) s mine).within) more
+    let live = with_calls s.live t after in
+    ap (λ l. table_of_state (record s { live = live; last = l; weight = heavier })) last
+    ∙ ap (λ n. table_of_state (record s { live = live; last = Some t; weight = n })) weighed
+    ∙ stepped most t false s lent after (clock_of s) mine still (stands_still most t s mine) lends more
     ∙ ap (λ (k : State). table_after (bounded_tick most) (Step t) (table_of_state k)) is
 
 -- a tick may come, by the fields that the code has
@@ -190,8 +201,8 @@ pub advance_here : (most : ℕ) (e : Event) (s now : State) → s ≡ now → Ma
 advance_here most e s now is may = may_advance most e s (subst (λ (k : State). MayTake (StandsFor most) k e) (sym is) may)
 
 -- a thread lives, by the fields that the code has
-pub alive_here : (most : ℕ) (e : Event) (t : ℕ) (s now : State) → s ≡ now → (may : MayTake (StandsFor most) now e) → IsWhole s → is_live may.past t ≡ true → IsAlive s t
-alive_here most e t s now is may whole lives = alive s t may.past (subst (λ (k : State). Agrees (table_of_state k) may.past) (sym is) may.now.agrees) whole lives
+pub alive_here : (most : ℕ) (e : Event) (t : ℕ) (s now : State) → s ≡ now → (may : MayTake (StandsFor most) now e) → is_live may.past t ≡ true → IsAlive s t
+alive_here most e t s now is may lives = alive s t may.past (subst (λ (k : State). Agrees (table_of_state k) may.past) (sym is) may.now.agrees) lives
 
 -- and so it is one of the threads with stamps
 pub lives_here : (s : State) (t : ℕ) → IsAlive s t → is_some (value_of s.live.threads t) ≡ true

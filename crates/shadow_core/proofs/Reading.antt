@@ -16,7 +16,8 @@ use Rattle.shadow_stack.specs.declared.sums.Sums.{Sums}
 use Rattle.stamp_lanes.specs.Plain.{Place, is_foreign}
 use Rattle.shadow_stack.specs.Frames.{Frame, FitsSums, IsLastAtMost, added, plus, starts_of}
 use Rattle.shadow_pages.specs.Pages.{Page, covers, in_range, stamp_at}
-use Rattle.stamp_renumber.specs.Threads.{Live, Stamped, frames_of, pages_of, spare_of, stamped}
+use Rattle.stamp_renumber.specs.Threads.{Live, Stamped, calls_of, frames_of, pages_of, spare_of, stamped}
+use Rattle.call_tracker.specs.ThreadCalls.{no_counts}
 use Rattle.stamp_renumber.specs.LentThread.{with_pages}
 use Rattle.stamp_renumber.proofs.Changed.{length_changed, unchanged}
 use Rattle.shadow_core.specs.Frames.{added_to_top, negated, taken_at, gain, frames_after_read, frames_after_reads}
@@ -44,7 +45,7 @@ one_fits most (suc i) by (f ∷ fs) room within small = one_fits most i by fs ro
 
 -- ---- a change of the thread
 pub not_changed : (live : Live) (t : ℕ) → is_some (value_of live.threads t) ≡ true → IsChanged live live t (frames_of live.threads t) (pages_of live.threads t)
-not_changed live t lives = record { threads = unchanged live.threads t lives; kept = omega arith; marks = refl }
+not_changed live t lives = record { threads = unchanged live.threads t lives; calls = refl; kept = omega arith; marks = refl }
 
 with_twice : (xs : List (ℕ × Stamped)) (t : ℕ) (a b : Stamped) → with_value (with_value xs t a) t b ≡ with_value xs t b
 with_twice [] t a b = refl
@@ -79,6 +80,7 @@ module _ (old new : Live) (t : ℕ) (frames : List Frame) (pages : List Page) (l
   pub changed_twice : (last : Live) (frames' : List Frame) (pages' : List Page) → IsChanged new last t frames' pages' → IsChanged old last t frames' pages'
   changed_twice last frames' pages' next = record {
     threads = next.threads ∙ ap (λ xs. with_value xs t (stamped last.threads t frames' pages')) h.threads ∙ with_twice old.threads t (stamped new.threads t frames pages) (stamped last.threads t frames' pages');
+    calls = next.calls ∙ h.calls;
     kept = omega (arith, h.kept, next.kept);
     marks = next.marks ∙ h.marks;
   }
@@ -87,6 +89,7 @@ module _ (old new : Live) (t : ℕ) (frames : List Frame) (pages : List Page) (l
   pub changed_own : IsChanged old new t (frames_of new.threads t) (pages_of new.threads t)
   changed_own = record {
     threads = h.threads ∙ (λ i. with_value old.threads t (stamped new.threads t (sym frames_changed i) (sym pages_changed i)));
+    calls = h.calls;
     kept = h.kept;
     marks = h.marks;
   }
@@ -163,9 +166,12 @@ in_one w v = grind (arith, nat_tests)
 -- the thread's pages are lent and written
 pub lent_changed : (live : Live) (t : ℕ) (pages : List Page) → is_some (value_of live.threads t) ≡ true → IsChanged live (with_pages live t pages) t (frames_of live.threads t) pages
 lent_changed live t pages lives =
-    let new : Stamped = record { frames = frames_of live.threads t; spare = spare_of live.threads t; pages = pages } in
-    let room : spare_of (with_value live.threads t new) t ≡ spare_of live.threads t = ap (λ (o : Option Stamped). option_map_or (λ (s : Stamped). s.spare) o 0) (with_found live.threads t new lives) in record {
-      threads = λ i. with_value live.threads t (record { frames = frames_of live.threads t; spare = sym room i; pages = pages });
+    let new : Stamped = record { frames = frames_of live.threads t; spare = spare_of live.threads t; pages = pages; calls = calls_of live.threads t } in
+    let room : spare_of (with_value live.threads t new) t ≡ spare_of live.threads t = ap (λ (o : Option Stamped). option_map_or (λ (s : Stamped). s.spare) o 0) (with_found live.threads t new lives) in
+    let calls : calls_of (with_value live.threads t new) t ≡ calls_of live.threads t =
+    ap (λ (o : Option Stamped). option_map_or (λ (s : Stamped). s.calls) o (record { list = []; counts = no_counts; spare = 0 })) (with_found live.threads t new lives) in record {
+      threads = λ i. with_value live.threads t (record { frames = frames_of live.threads t; spare = sym room i; pages = pages; calls = sym calls i });
+      calls = calls;
       kept = omega (arith, room);
       marks = refl;
     }

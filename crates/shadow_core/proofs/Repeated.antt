@@ -5,26 +5,25 @@ use Rattle.std.specs.Prelude.{◌==◌, ◌&&◌, not, count_by, reverse}
 use Rattle.std.specs.List.{range_with_len}
 use Rattle.std.proofs.lemmas.Bool.Decides.{nat_tests}
 use Rattle.std.proofs.lemmas.Int.{ints}
-use Rattle.guest_words.specs.ByThread.{with_value}
 use Rattle.guest_words.proofs.ThreadTables.{with_own}
 use Rattle.trace_model.specs.declared.event_kinds.Event.TheVariants.{Read, Write}
 use Rattle.trace_model.specs.Observing.{MayTake}
 use Rattle.stamp_lanes.specs.Plain.{Place, is_by_kernel, is_by_thread, is_foreign}
 use Rattle.shadow_stack.specs.Frames.{Frame, plus, starts_of}
 use Rattle.shadow_pages.specs.Pages.{in_range, stamp_at}
+use Rattle.call_tracker.specs.ThreadCalls.{Calls}
 use Rattle.stamp_renumber.specs.Threads.{frames_of, pages_of}
 use Rattle.shadow_core.specs.Frames.{added_to_top, frames_after_read, gain, negated, taken_at}
-use Rattle.shadow_core.specs.Profiling.{IsWhole, StandsFor}
+use Rattle.shadow_core.specs.Profiling.{StandsFor}
 use Rattle.shadow_core.specs.Reading.{IsChanged, IsRead, places_at}
 use Rattle.shadow_core.specs.Renewal.{bounded_tick}
 use Rattle.shadow_core.specs.Stands.{IsFalling}
-use Rattle.shadow_core.specs.State.{Calls, State, table_of_state}
-use Rattle.shadow_core.specs.Table.{Thread}
+use Rattle.shadow_core.specs.State.{State, as_thread, table_of_state}
 use Rattle.shadow_core.specs.Ticks.{table_after}
-use Rattle.shadow_core.proofs.Accessed.{written}
+use Rattle.shadow_core.proofs.Accessed.{its_calls, written}
 use Rattle.shadow_core.proofs.Frames.{same_sums}
 use Rattle.shadow_core.proofs.Profiled.{IsAlive, alive_here, lives_here}
-use Rattle.shadow_core.proofs.ReadEvents.{MayRead, frames_had, may_read, read_made, with_found}
+use Rattle.shadow_core.proofs.ReadEvents.{MayRead, frames_had, may_read, pages_had, read_made, with_found}
 use Rattle.shadow_core.proofs.Reading.{in_one, not_changed}
 use Rattle.shadow_core.proofs.StateTold.{thread_is_told}
 
@@ -64,13 +63,13 @@ found_none c =
     let kernel : c.counts.kernel + 0 ≡ c.counts.kernel = omega arith in
     λ i. record c { counts = record c.counts { thread = thread i; kernel = kernel i } }
 
-pub read_again : (most t w count : ℕ) (s now : State) (heavier : ℕ) → s ≡ now → MayTake (StandsFor most) now (Read t w count) → IsWhole s → count ≡ 1 →
+pub read_again : (most t w count : ℕ) (s now : State) (heavier : ℕ) → s ≡ now → MayTake (StandsFor most) now (Read t w count) → count ≡ 1 →
     stamp_at (pages_of s.live.threads t) w ≡ s.counter → heavier ≡ s.weight + 2 →
     table_of_state (record s { weight = heavier }) ≡ table_after (bounded_tick most) (Read t w count) (table_of_state now)
-read_again most t w count s now heavier is may whole one own weighed =
-    ap (λ calls. table_of_state (record s { calls = calls; weight = heavier })) (sym kept)
-    ∙ ap (λ n. table_of_state (record s { calls = with_value s.calls t (with_found 0 0 m.calls); weight = n })) weighed
-    ∙ read_made most t w 1 0 0 s s.live m.was m.calls m.has read threads kernels
+read_again most t w count s now heavier is may one own weighed =
+    ap (λ n. table_of_state (record s { weight = n })) weighed
+    ∙ read_made most t w 1 0 0 s s.live s.live m.was m.has read threads kernels m.was (sym (with_own s.live.threads t m.was m.has.stamps)) (sym had) (sym (pages_had s t m.was m.has))
+    (sym (found_none m.was.calls) ∙ ap (with_found 0 0) (sym (its_calls s.live.threads t m.was m.has.stamps)))
     ∙ ap (λ n. table_after (bounded_tick most) (Read t w n) (table_of_state s)) (sym one)
     ∙ ap (λ (k : State). table_after (bounded_tick most) (Read t w count) (table_of_state k)) is
   where
@@ -78,10 +77,7 @@ read_again most t w count s now heavier is may whole one own weighed =
     here = subst (λ (k : State). MayTake (StandsFor most) k (Read t w count)) (sym is) may
 
     m : MayRead s t w count
-    m = may_read most t w count s here whole
-
-    kept : with_value s.calls t (with_found 0 0 m.calls) ≡ s.calls
-    kept = ap (λ (c : Calls). with_value s.calls t c) (found_none m.calls) ∙ with_own s.calls t m.calls m.has.calls
+    m = may_read most t w count s here
 
     p : Place
     p = record { own = stamp_at (pages_of s.live.threads t) w; write = stamp_at s.writes w; mark = stamp_at s.marks w }
@@ -97,11 +93,10 @@ read_again most t w count s now heavier is may whole one own weighed =
 
     falling : IsFalling (s.counter + 1) (starts_of (reverse m.was.frames))
     falling =
-        let thread : Thread = record { frames = reverse m.was.frames; calls = m.calls.list; access = stamp_at m.was.pages; counts = m.calls.counts } in
-        (here.now.agrees.threads t thread (thread_is_told s t m.was m.calls m.has)).falling
+        (here.now.agrees.threads t (as_thread m.was) (thread_is_told s t m.was m.has)).falling
 
     had : frames_of s.live.threads t ≡ m.was.frames
-    had = frames_had s t m.was m.calls m.has
+    had = frames_had s t m.was m.has
 
     unmoved : reverse (frames_of s.live.threads t) ≡ frames_after_read p (reverse (frames_of s.live.threads t))
     unmoved =
@@ -116,18 +111,18 @@ read_again most t w count s now heavier is may whole one own weighed =
       covered = λ v. refl;
     }
 
-pub write_again : (most t w count : ℕ) (s now : State) (heavier : ℕ) → s ≡ now → MayTake (StandsFor most) now (Write t w count) → IsWhole s → count ≡ 1 →
+pub write_again : (most t w count : ℕ) (s now : State) (heavier : ℕ) → s ≡ now → MayTake (StandsFor most) now (Write t w count) → count ≡ 1 →
     stamp_at (pages_of s.live.threads t) w ≡ s.counter → stamp_at s.writes w ≡ s.counter → stamp_at s.marks w ≡ 0 → heavier ≡ s.weight + 1 →
     table_of_state (record s { weight = heavier }) ≡ table_after (bounded_tick most) (Write t w count) (table_of_state now)
-write_again most t w count s now heavier is may whole one own wrote unmarked weighed =
+write_again most t w count s now heavier is may one own wrote unmarked weighed =
     ap (λ n. table_of_state (record s { weight = n })) weighed
-    ∙ written most t w 1 s a.was a.calls s.live s.live s.writes s.marks s.writes s.marks a.has unchanged (λ l. refl) (λ l. refl) (λ l. refl) unchanged
+    ∙ written most t w 1 s a.was s.live s.live s.writes s.marks s.writes s.marks a.has unchanged (λ l. refl) (λ l. refl) (λ l. refl) unchanged
     (same_stamps (stamp_at (pages_of s.live.threads t)) w s.counter own) (same_stamps (stamp_at s.writes) w s.counter wrote) (same_stamps (stamp_at s.marks) w 0 unmarked)
     ∙ ap (λ n. table_after (bounded_tick most) (Write t w n) (table_of_state s)) (sym one)
     ∙ ap (λ (k : State). table_after (bounded_tick most) (Write t w count) (table_of_state k)) is
   where
     a : IsAlive s t
-    a = alive_here most (Write t w count) t s now is may whole may.formed.0.0.0
+    a = alive_here most (Write t w count) t s now is may may.formed.0.0.0
 
     unchanged : IsChanged s.live s.live t (frames_of s.live.threads t) (pages_of s.live.threads t)
     unchanged = not_changed s.live t (lives_here s t a)

@@ -17,7 +17,8 @@ use Rattle.trace_model.proofs.Bounds.{weight-append, pairs-le-weight, cost-le-we
 use Rattle.shadow_stack.specs.declared.sums.Sums.{Sums}
 use Rattle.shadow_stack.specs.Frames.{Frame, plus}
 use Rattle.shadow_core.specs.Frames.{no_sums, frames_after_reads, frames_after_pops}
-use Rattle.shadow_core.specs.Table.{Counts, Table, places_read}
+use Rattle.call_tracker.specs.ThreadCalls.{Counts}
+use Rattle.shadow_core.specs.Table.{Table, places_read}
 use Rattle.shadow_core.specs.Renewal.{all_starts}
 use Rattle.shadow_core.specs.Past.{sums_of}
 use Rattle.shadow_core.specs.Stands.{totals, Agrees}

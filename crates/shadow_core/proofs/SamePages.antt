@@ -7,7 +7,9 @@ use Rattle.guest_words.specs.ByThread.{numbers, value_of, with_value}
 use Rattle.guest_words.proofs.ThreadTables.{value_of-with}
 use Rattle.shadow_stack.specs.Frames.{Frame}
 use Rattle.shadow_pages.specs.Pages.{Page, covers}
-use Rattle.stamp_renumber.specs.Threads.{Live, Stamped, pages_of, stamped}
+use Rattle.call_tracker.specs.ThreadCalls.{Calls}
+use Rattle.stamp_renumber.specs.LentThread.{with_calls}
+use Rattle.stamp_renumber.specs.Threads.{Live, Stamped, frames_of, pages_of, spare_of, stamped}
 use Rattle.shadow_core.specs.Applying.{HasSamePages}
 use Rattle.shadow_core.specs.Profiling.{Clock, IsAdvanced}
 use Rattle.shadow_core.specs.Reading.{IsChanged}
@@ -33,6 +35,12 @@ with_alike xs t new lives alike u w = found (value_of xs t) refl lives
         by : (b : Bool) → (t == u) ≡ b → shown (cond b (Some new) (value_of xs u)) ≡ shown (value_of xs u)
         by true is = alike w ∙ ap (λ v. shown (value_of xs v)) (let e : t ≡ u = grind (arith, nat_tests, is) in e)
         by false is = refl
+
+-- a thread has other calls
+pub calls_alike : (live : Live) (t : ℕ) (k : Calls) → is_some (value_of live.threads t) ≡ true → AlikeIn live.threads (with_calls live t k).threads
+calls_alike live t k lives =
+    let new : Stamped = record { frames = frames_of live.threads t; spare = spare_of live.threads t; pages = pages_of live.threads t; calls = k } in
+    with_alike live.threads t new lives (λ w. refl)
 
 -- a thread changed, whose pages hold the same words
 pub changed_alike : (old new : Live) (t : ℕ) (frames : List Frame) (pages : List Page) → is_some (value_of old.threads t) ≡ true → IsChanged old new t frames pages

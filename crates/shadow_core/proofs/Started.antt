@@ -1,26 +1,28 @@
 -- Starts of a profiler.
 use Rattle.std.proofs.Common.{◌≡◌, ℕ, ◌+◌, ◌*◌, ◌/◌, ◌<◌, ◌≤◌, Bool, true, false, not, cond, ltb, List, [], ◌∷◌, ◌++◌, length, map, refl, sym, ap, subst, ◌∙◌, Some, None, arith}
-use Rattle.std.specs.Prelude.{◌==◌, All, is_some}
+use Rattle.std.specs.Prelude.{◌==◌, All, Option, is_some}
+use Rattle.std.specs.Option.{option_map_or}
 use Rattle.std.proofs.lemmas.Bool.Decides.{nat_tests}
 use Rattle.std.proofs.lemmas.Bool.{eq-eqb}
 use Rattle.std.proofs.lemmas.List.{length-append, map-append}
 use Rattle.std.proofs.lemmas.List.Elements.{All-cons, All-head, All-nil, All-same, All-tail, All-weaker}
 use Rattle.guest_words.specs.ByThread.{IsRising, numbers, value_of, with_value, without_thread}
-use Rattle.guest_words.proofs.ThreadTables.{numbers-with, rising_pushed, value_of-pushed}
+use Rattle.guest_words.proofs.ThreadTables.{rising_pushed, value_of-pushed}
 use Rattle.trace_model.specs.declared.event_kinds.Event.TheVariants.{Start}
 use Rattle.trace_model.specs.Observing.{MayTake}
 use Rattle.trace_model.specs.WellFormed.{greatest_start}
 use Rattle.shadow_stack.specs.Frames.{Frame, new_frame, starts_of}
 use Rattle.shadow_pages.specs.Pages.{Page, covers, page_of}
 use Rattle.stamp_renumber.specs.Classes.{new_write}
-use Rattle.stamp_renumber.specs.Threads.{Live, Stamped, frames_of, pages_of, stamped}
+use Rattle.stamp_renumber.specs.Threads.{HasRoom, Live, Stamped, calls_of, frames_of, pages_of, spare_of, stamped}
 use Rattle.stamp_renumber.specs.Threads as parts
-use Rattle.shadow_core.specs.Table.{Table, Thread, no_counts}
+use Rattle.call_tracker.specs.ThreadCalls.{Calls, no_counts}
+use Rattle.shadow_core.specs.Table.{Table, Thread}
 use Rattle.shadow_core.specs.Renewal.{all_starts, bounded_tick, plain_tick, renewed, renewed_thread}
 use Rattle.shadow_core.specs.Ticks.{table_after}
-use Rattle.shadow_core.specs.State.{Calls, State, as_thread, as_threads, table_of_state}
-use Rattle.shadow_core.specs.Profiling.{Clock, IsAdvanced, IsWhole, StandsFor, with_clock}
-use Rattle.shadow_core.proofs.Accessed.{its_frames, its_pages}
+use Rattle.shadow_core.specs.State.{State, as_thread, as_threads, table_of_state}
+use Rattle.shadow_core.specs.Profiling.{Clock, IsAdvanced, StandsFor, with_clock}
+use Rattle.shadow_core.proofs.Accessed.{its_calls, its_frames, its_pages}
 use Rattle.shadow_core.proofs.Begun.{clock_with}
 use Rattle.shadow_core.proofs.Profiled.{MayAdvance, advance_here}
 use Rattle.shadow_core.proofs.StateEvents.{event_is_made}
@@ -168,47 +170,45 @@ module _ (most t : ℕ) (s : State) (more : Live) (new : Clock) (below : All (λ
   ticked =
       let was = stamped more.threads t [] [] in
       let large : State = record s { live = more } in
-      let come = ap (as_threads s.calls) added ∙ threads_come s.live.threads s.calls s.calls t was below (λ u other. refl) in
+      let come = ap as_threads added ∙ threads_come s.live.threads t was in
       let all = All-same (λ n. n < t) (numbers (table_of_state s).threads) (numbers s.live.threads) (numbers_are_told s) below in
-      ap (λ (xs : List (ℕ × Thread)). record (table_of_state (with_clock new large)) { threads = xs }) (threads_go new.live.threads s.calls s.calls t (λ u other. refl))
+      ap (λ (xs : List (ℕ × Thread)). record (table_of_state (with_clock new large)) { threads = xs }) (threads_go new.live.threads t)
       ∙ ap (without t) (step.table large)
       ∙ ap (λ (xs : List (ℕ × Thread)). without t (bounded_tick most (record (table_of_state s) { threads = xs }))) come
-      ∙ tick_without most t (as_thread s.calls t was) (table_of_state s) all refl
+      ∙ tick_without most t (as_thread was) (table_of_state s) all refl
 
-  pub started : (entry start number : ℕ) (live : Live) (first : Calls) → IsWhole s → start ≡ new.counter → number ≡ t →
+  -- its calls are what they were
+  its_own : calls_of new.live.threads t ≡ calls_of more.threads t
+  its_own =
+      let found = step.each t (stamped more.threads t [] []) here in
+      its_calls new.live.threads t found.0 found.1 ∙ found.2.calls
+
+  start_lives : is_some (value_of new.live.threads t) ≡ true
+  start_lives = ap is_some (step.each t (stamped more.threads t [] []) here).1
+
+  -- and there is room for the first
+  start_room : HasRoom more t → HasRoom new.live t
+  start_room room =
+      let found = step.each t (stamped more.threads t [] []) here in
+      let spare : spare_of new.live.threads t ≡ spare_of more.threads t = ap (λ (o : Option Stamped). option_map_or (λ (x : Stamped). x.spare) o 0) found.1 ∙ found.2.spare in
+      (omega (arith, room.0, spare), omega (arith, room.1, ap (λ (k : Calls). k.spare) its_own), omega (arith, room.2, step.marks))
+
+  started : (entry start number : ℕ) (live : Live) → start ≡ new.counter → number ≡ t →
+      (calls_of more.threads t).list ≡ [] → (calls_of more.threads t).counts ≡ no_counts →
       live.threads ≡ with_value new.live.threads t (stamped live.threads t (frames_of new.live.threads t ++ new_frame start ∷ []) (pages_of new.live.threads t)) →
-      first ≡ record { list = record { entry = entry; back = None; earlier = no_counts } ∷ []; counts = no_counts } →
-      table_of_state (record (with_clock new s) { live = live; calls = s.calls ++ (t, first) ∷ []; greatest = number; weight = s.weight + 1 })
+      (calls_of live.threads t).list ≡ record { entry = entry; back = None; earlier = (calls_of new.live.threads t).counts } ∷ (calls_of new.live.threads t).list →
+      (calls_of live.threads t).counts ≡ (calls_of new.live.threads t).counts →
+      table_of_state (record (with_clock new s) { live = live; greatest = number; weight = s.weight + 1 })
       ≡ table_after (bounded_tick most) (Start t entry) (table_of_state s)
-  started entry start number live first whole begins own pushed is =
-      let made : Calls = record { list = record { entry = entry; back = None; earlier = no_counts } ∷ []; counts = no_counts } in
+  started entry start number live begins own none uncounted pushed list counts =
       let stamps = stamped live.threads t (frames_of new.live.threads t ++ new_frame start ∷ []) (pages_of new.live.threads t) in
       let frames : stamps.frames ≡ new_frame new.counter ∷ [] = (λ i. no_frames i ++ new_frame (begins i) ∷ []) in
-      let calls = All-same (λ n. n < t) (numbers s.calls) (numbers s.live.threads) whole.same below in
-      (λ i. table_of_state (record (with_clock new s) { live = live; calls = s.calls ++ (t, is i) ∷ []; greatest = own i; weight = s.weight + 1 }))
-      ∙ event_is_made most (Start t entry) s rest (record rest { live = live; calls = s.calls ++ (t, made) ∷ []; greatest = t }) ticked
-      (starts_by_parts rest t entry live stamps last.below calls (pushed ∙ last.change stamps) frames no_pages)
-
-  pub started_with : (entry start number : ℕ) (live : Live) (first : Calls) (calls : List (ℕ × Calls)) → IsWhole s → start ≡ new.counter → number ≡ t →
-      live.threads ≡ with_value new.live.threads t (stamped live.threads t (frames_of new.live.threads t ++ new_frame start ∷ []) (pages_of new.live.threads t)) →
-      first ≡ record { list = record { entry = entry; back = None; earlier = no_counts } ∷ []; counts = no_counts } → calls ≡ s.calls ++ (t, first) ∷ [] →
-      table_of_state (record (with_clock new s) { live = live; calls = calls; greatest = number; weight = s.weight + 1 })
-      ≡ table_after (bounded_tick most) (Start t entry) (table_of_state s)
-  started_with entry start number live first calls whole begins own pushed is came =
-      ap (λ (cs : List (ℕ × Calls)). table_of_state (record (with_clock new s) { live = live; calls = cs; greatest = number; weight = s.weight + 1 })) came
-      ∙ started entry start number live first whole begins own pushed is
-
-  pub whole_started : (number start weight : ℕ) (live : Live) (stamps : Stamped) (first : Calls) → IsWhole s → live.threads ≡ with_value new.live.threads t stamps →
-      IsWhole (record (with_clock new s) { live = live; calls = s.calls ++ (t, first) ∷ []; greatest = number; weight = weight })
-  whole_started number start weight live stamps first whole pushed = record {
-    same =
-        map-append (λ (x : ℕ × Calls). x.0) s.calls ((t, first) ∷ [])
-        ∙ ap (λ (ns : List ℕ). ns ++ t ∷ []) whole.same
-        ∙ sym (map-append (λ (x : ℕ × Stamped). x.0) s.live.threads ((t, stamped more.threads t [] []) ∷ []))
-        ∙ sym one_more
-        ∙ sym (ap (λ (xs : List (ℕ × Stamped)). numbers xs) pushed ∙ numbers-with new.live.threads t stamps);
-    marked = λ w h. whole.marked w (sym (step.covered w) ∙ h);
-  }
+      let no_list = ap (λ (k : Calls). k.list) its_own ∙ none in
+      let zero = ap (λ (k : Calls). k.counts) its_own ∙ uncounted in
+      (λ i. table_of_state (record (with_clock new s) { live = live; greatest = own i; weight = s.weight + 1 }))
+      ∙ event_is_made most (Start t entry) s rest (record rest { live = live; greatest = t }) ticked
+      (starts_by_parts rest t entry live stamps (pushed ∙ last.change stamps) frames no_pages
+      (list ∙ (λ i. record { entry = entry; back = None; earlier = zero i } ∷ no_list i)) (counts ∙ zero))
 
 -- ---- What the event asks.
 pub start_above : (most t entry : ℕ) (s now : State) → s ≡ now → MayTake (StandsFor most) now (Start t entry) → All (λ n. n < t) (numbers s.live.threads)
@@ -251,3 +251,26 @@ pub first_above : (most t entry start : ℕ) (s now : State) (more : Live) (new 
     All (λ r. r < start) (starts_of (frames_of new.live.threads t))
 first_above most t entry start s now more new is may added step =
     none_below (frames_of new.live.threads t) start (no_frames most t s more new (start_above most t entry s now is may) added step)
+
+-- ---- The same by the fields that the code has.
+module _ (most t entry : ℕ) (s now : State) (more : Live) (new : Clock) (is : s ≡ now) (may : MayTake (StandsFor most) now (Start t entry))
+    (added : more.threads ≡ s.live.threads ++ (t, stamped more.threads t [] []) ∷ []) (step : IsAdvanced most true (clock_with s more) new) where
+  above : All (λ n. n < t) (numbers s.live.threads)
+  above = start_above most t entry s now is may
+
+  pub lives_started : is_some (value_of new.live.threads t) ≡ true
+  lives_started = start_lives most t s more new above added step
+
+  pub room_started : HasRoom more t → HasRoom new.live t
+  room_started = start_room most t s more new above added step
+
+  pub started_here : (start number : ℕ) (live : Live) → start ≡ new.counter → number ≡ t →
+      (calls_of more.threads t).list ≡ [] → (calls_of more.threads t).counts ≡ no_counts →
+      live.threads ≡ with_value new.live.threads t (stamped live.threads t (frames_of new.live.threads t ++ new_frame start ∷ []) (pages_of new.live.threads t)) →
+      (calls_of live.threads t).list ≡ record { entry = entry; back = None; earlier = (calls_of new.live.threads t).counts } ∷ (calls_of new.live.threads t).list →
+      (calls_of live.threads t).counts ≡ (calls_of new.live.threads t).counts →
+      table_of_state (record (with_clock new s) { live = live; greatest = number; weight = s.weight + 1 })
+      ≡ table_after (bounded_tick most) (Start t entry) (table_of_state now)
+  started_here start number live begins own none uncounted pushed list counts =
+      started most t s more new above added step entry start number live begins own none uncounted pushed list counts
+      ∙ ap (λ (k : State). table_after (bounded_tick most) (Start t entry) (table_of_state k)) is

@@ -8,9 +8,9 @@ use Rattle.stamp_renumber.specs.Threads.{Stamped}
 use Rattle.shadow_core.specs.Table.{event_after}
 use Rattle.shadow_core.specs.Renewal.{bounded_tick}
 use Rattle.shadow_core.specs.State.{table_of_state}
-use Rattle.shadow_core.specs.StateEvents.{StampsAreTold, TickIsMade, NoTickIsMade, EventIsMade, ThreadsStay, ChangedIsThere, StampedIsThere, LastChangeCounts}
+use Rattle.shadow_core.specs.StateEvents.{StampsAreTold, TickIsMade, NoTickIsMade, EventIsMade, ThreadsStay, StampedIsThere, LastChangeCounts}
 use Rattle.shadow_core.proofs.StateRows.{weighs_by_parts}
-use Rattle.shadow_core.proofs.StateThreads.{calls_change, own_test}
+use Rattle.shadow_core.proofs.StateThreads.{own_test}
 use Rattle.shadow_core.proofs.StateTold.{frames_are_told}
 
 pub stamps_are_told : StampsAreTold
@@ -41,24 +41,18 @@ still_there (x ∷ old) (y ∷ new) same t was here =
     by false here later = later here
 
 pub threads_stay : ThreadsStay
-threads_stay s live writes t was c all h =
+threads_stay s live writes t was all h =
     let found = still_there s.live.threads live.threads all.same t was h.stamps in
-    (found.0, record { rising = subst IsRising (sym all.same) h.rising; stamps = found.1; calls = h.calls })
+    (found.0, record { rising = subst IsRising (sym all.same) h.rising; stamps = found.1 }, (all.each t was found.0 h.stamps found.1).calls)
 
 pub stamped_value : (live : List (ℕ × Stamped)) (t : ℕ) (was is : Stamped) → value_of live t ≡ Some was → value_of (with_value live t is) t ≡ Some is
 stamped_value live t was is found = value_of-with live t is was found t ∙ own_test t (Some is) (value_of live t)
 
 pub stamped_is_there : StampedIsThere
-stamped_is_there s live t was is c h threads = record {
+stamped_is_there s live t was is h threads = record {
   rising = subst IsRising (sym (ap numbers threads ∙ numbers-with s.live.threads t is)) h.rising;
   stamps = ap (λ (xs : List (ℕ × Stamped)). value_of xs t) threads ∙ stamped_value s.live.threads t was is h.stamps;
-  calls = h.calls;
 }
-
-pub changed_is_there : ChangedIsThere
-changed_is_there s live t was is c now h threads =
-    let there = stamped_is_there s live t was is c h threads in
-    record { rising = there.rising; stamps = there.stamps; calls = (calls_change s.calls t c now h.calls).0 }
 
 pub last_change_counts : LastChangeCounts
 last_change_counts [] t was is = refl

@@ -17,7 +17,7 @@ use Rattle.stamp_renumber.specs.Threads as parts
 use Rattle.stamp_renumber.specs.declared.ticks.Ticked.{Ticked}
 use Rattle.shadow_core.specs.Table.{Thread}
 use Rattle.shadow_core.specs.Renewal.{all_starts, renewed_thread, renewed, plain_tick}
-use Rattle.shadow_core.specs.State.{Calls, State, as_thread, as_threads, table_of_state}
+use Rattle.shadow_core.specs.State.{State, as_thread, as_threads, table_of_state}
 use Rattle.shadow_core.specs.StateTicks.{CountsPlainly, RenewsAll, TicksByParts}
 
 pub counts_plainly : CountsPlainly
@@ -32,32 +32,32 @@ map-reverse f (x ∷ xs) =
     ∙ sym (map-append f (reverse xs) (x ∷ []))
     ∙ ap (map f) (sym (reverse-append (x ∷ []) xs))
 
-sum-starts : (f : ℕ → ℕ) (calls : List (ℕ × Calls)) (xs : List (ℕ × Stamped)) → sum_by f (all_starts (as_threads calls xs)) ≡ sum_by f (parts.all_starts xs)
-sum-starts f calls [] = refl
-sum-starts f calls (x ∷ xs) =
+sum-starts : (f : ℕ → ℕ) (xs : List (ℕ × Stamped)) → sum_by f (all_starts (as_threads xs)) ≡ sum_by f (parts.all_starts xs)
+sum-starts f [] = refl
+sum-starts f (x ∷ xs) =
     let own = starts_of x.1.frames in
     let turned : sum_by f (starts_of (reverse x.1.frames)) ≡ sum_by f own =
     ap (sum_by f) (sym (map-reverse (λ (g : Frame). g.start) x.1.frames)) ∙ sum_by-IsPermutation f own (reverse own) (IsPermutation-reverse own) in
-    sum_by-append f (starts_of (reverse x.1.frames)) (all_starts (as_threads calls xs))
-    ∙ (λ i. turned i + sum-starts f calls xs i)
+    sum_by-append f (starts_of (reverse x.1.frames)) (all_starts (as_threads xs))
+    ∙ (λ i. turned i + sum-starts f xs i)
     ∙ sym (sum_by-append f own (parts.all_starts xs))
 
-pub length-starts : (calls : List (ℕ × Calls)) (xs : List (ℕ × Stamped)) → length (all_starts (as_threads calls xs)) ≡ length (parts.all_starts xs)
-length-starts calls [] = refl
-length-starts calls (x ∷ xs) =
+pub length-starts : (xs : List (ℕ × Stamped)) → length (all_starts (as_threads xs)) ≡ length (parts.all_starts xs)
+length-starts [] = refl
+length-starts (x ∷ xs) =
     let own = x.1.frames in
     omega (
       arith,
-      length-append (starts_of (reverse own)) (all_starts (as_threads calls xs)),
+      length-append (starts_of (reverse own)) (all_starts (as_threads xs)),
       length-append (starts_of own) (parts.all_starts xs),
       length-map (reverse own) (λ (g : Frame). g.start),
       length-map own (λ (g : Frame). g.start),
       length-reverse own,
-      length-starts calls xs,
+      length-starts xs,
     )
 
-same_classes : (calls : List (ℕ × Calls)) (xs : List (ℕ × Stamped)) → class (parts.all_starts xs) ≡ class (all_starts (as_threads calls xs))
-same_classes calls xs = λ i s. sym (sum-starts (λ start. cond (leb start s) 1 0) calls xs) i
+same_classes : (xs : List (ℕ × Stamped)) → class (parts.all_starts xs) ≡ class (all_starts (as_threads xs))
+same_classes xs = λ i s. sym (sum-starts (λ start. cond (leb start s) 1 0) xs) i
 
 -- ---- each thread
 rising_tail : (n : ℕ) (ns : List ℕ) → IsRising (n ∷ ns) → IsRising ns
@@ -74,13 +74,13 @@ behind n (x ∷ xs) t v rising here = by (x.0 == t) refl here (λ later. behind 
     by false is here later = omega (arith, later here, rising.0)
 
 module _ (starts table_starts : List ℕ) (classes : class starts ≡ class table_starts) (writes : List Page) where
-  renewed-as : (calls : List (ℕ × Calls)) (t : ℕ) (was is : Stamped) → IsThreadRenumbered starts writes was is →
-      as_thread calls t is ≡ renewed_thread table_starts (stamp_at writes) (as_thread calls t was)
-  renewed-as calls t was is h =
+  renewed-as : (was is : Stamped) → IsThreadRenumbered starts writes was is →
+      as_thread is ≡ renewed_thread table_starts (stamp_at writes) (as_thread was)
+  renewed-as was is h =
       let frames = ap (reverse {A = Frame}) h.frames
       ∙ map-reverse (λ (f : Frame). record f { start = 3 * class starts f.start }) was.frames
       ∙ (λ i. map (λ (f : Frame). record f { start = 3 * classes i f.start }) (reverse was.frames)) in
-      let access : (l : ℕ) → stamp_at is.pages l ≡ (renewed_thread table_starts (stamp_at writes) (as_thread calls t was)).access l =
+      let access : (l : ℕ) → stamp_at is.pages l ≡ (renewed_thread table_starts (stamp_at writes) (as_thread was)).access l =
       λ l. h.stamps l
       ∙ (λ i. plain.renewed (record {
         own = stamp_at was.pages l;
@@ -88,21 +88,21 @@ module _ (starts table_starts : List ℕ) (classes : class starts ≡ class tabl
         write = stamp_at writes l;
         write_class = classes i (stamp_at writes l);
       })) in
-      λ i. record { frames = frames i; calls = (as_thread calls t was).calls; access = λ l. access l i; counts = (as_thread calls t was).counts }
+      λ i. record { frames = frames i; calls = (h.calls i).list; access = λ l. access l i; counts = (h.calls i).counts }
 
-  threads-renewed : (calls : List (ℕ × Calls)) (old new : List (ℕ × Stamped)) → numbers new ≡ numbers old → IsRising (numbers old) →
+  threads-renewed : (old new : List (ℕ × Stamped)) → numbers new ≡ numbers old → IsRising (numbers old) →
       ((t : ℕ) (was is : Stamped) → value_of old t ≡ Some was → value_of new t ≡ Some is → IsThreadRenumbered starts writes was is) →
-      as_threads calls new ≡ map (λ (x : ℕ × Thread). (x.0, renewed_thread table_starts (stamp_at writes) x.1)) (as_threads calls old)
-  threads-renewed calls [] [] same rising each = refl
-  threads-renewed calls [] (y ∷ new) same rising each = absurd (cc)
-  threads-renewed calls (x ∷ old) [] same rising each = absurd (cc)
-  threads-renewed calls (x ∷ old) (y ∷ new) same rising each =
+      as_threads new ≡ map (λ (x : ℕ × Thread). (x.0, renewed_thread table_starts (stamp_at writes) x.1)) (as_threads old)
+  threads-renewed [] [] same rising each = refl
+  threads-renewed [] (y ∷ new) same rising each = absurd (cc)
+  threads-renewed (x ∷ old) [] same rising each = absurd (cc)
+  threads-renewed (x ∷ old) (y ∷ new) same rising each =
       let first : y.0 ≡ x.0 = cc in
       let rest : numbers new ≡ numbers old = cc in
       let one : IsThreadRenumbered starts writes x.1 y.1 =
       each x.0 x.1 y.1 (ap (λ b. cond b (Some x.1) (value_of old x.0)) (eq-eqb x.0 x.0 refl)) (ap (λ b. cond b (Some y.1) (value_of new x.0)) (eq-eqb y.0 x.0 first)) in
-      let head = ap (λ n. as_thread calls n y.1) first ∙ renewed-as calls x.0 x.1 y.1 one in
-      let tail = threads-renewed calls old new rest (rising_tail x.0 (numbers old) rising) (λ t was is here there.
+      let head = renewed-as x.1 y.1 one in
+      let tail = threads-renewed old new rest (rising_tail x.0 (numbers old) rising) (λ t was is here there.
       let up : x.0 < t = behind x.0 old t was rising here in
       let other : (x.0 == t) ≡ false = grind (arith, nat_tests, up) in
       each t was is (ap (λ b. cond b (Some x.1) (value_of old t)) other ∙ here)
@@ -113,9 +113,9 @@ pub renews_all : RenewsAll
 renews_all s live writes rising all =
     let table = table_of_state s in
     let starts = all_starts table.threads in
-    let classes = same_classes s.calls s.live.threads in
-    let long = sym (length-starts s.calls s.live.threads) in
-    let threads = threads-renewed (parts.all_starts s.live.threads) starts classes s.writes s.calls s.live.threads live.threads all.same rising all.each in
+    let classes = same_classes s.live.threads in
+    let long = sym (length-starts s.live.threads) in
+    let threads = threads-renewed (parts.all_starts s.live.threads) starts classes s.writes s.live.threads live.threads all.same rising all.each in
     let write : (l : ℕ) → stamp_at writes l ≡ (renewed table).write l =
     λ l. all.stamps l ∙ (λ i. cond (stamp_at s.writes l == 0) 0 (3 * classes i (stamp_at s.writes l) + 1)) in
     λ i. record {

@@ -8,7 +8,7 @@ use Rattle.trace_model.specs.Events.{covers}
 use Rattle.trace_model.specs.Sizes.{since, before, bare, cost}
 use Rattle.trace_model.specs.Causes.{Plain, OtherThread, Kernel, is_by, part, caused}
 use Rattle.shadow_stack.specs.declared.sums.Sums.{Sums}
-use Rattle.shadow_core.specs.Table.{Counts, OpenCall}
+use Rattle.call_tracker.specs.ThreadCalls.{CountedCall, Counts}
 
 -- the event writes the word
 abbrev pub writes_word : Event → ℕ → Bool
@@ -37,7 +37,7 @@ abbrev pub counts_of : List Event → ℕ → Counts
 counts_of past t = record { steps = cost past t; thread = caused OtherThread past t; kernel = caused Kernel past t }
 
 -- what is kept of an open activation: the counts are those with the event that began it
-abbrev pub call_of : List Event → ℕ → Activation → OpenCall
+abbrev pub call_of : List Event → ℕ → Activation → CountedCall
 call_of past t a = record { entry = a.entry; back = a.back; earlier = counts_of (before past (a.at + 1)) t }
 
 -- the plain part of its size, and its plain read memory size

@@ -12,9 +12,8 @@ use Rattle.shadow_core.specs.State.{State, table_of_state}
 abbrev pub StandsFor : ℕ → State → List Event → Type 0
 StandsFor most s past = Stands most (table_of_state s) past
 
--- Each thread with stamps has calls, and each word that has a write stamp has a mark.
+-- Each word that has a write stamp has a mark.
 pub record IsWhole (s : State) : Type 0 where
-  pub same : numbers s.calls ≡ numbers s.live.threads
   pub marked : (w : ℕ) → covers s.writes w ≡ true → covers s.marks w ≡ true
 
 -- What a tick changes.
@@ -27,11 +26,12 @@ pub record Clock : Type 0 where
 abbrev pub with_clock : Clock → State → State
 with_clock clock s = record s { counter = clock.counter; writes = clock.writes; live = clock.live; renumbered = clock.renumbered }
 
--- A thread has as many frames as before, and the room and the pages that it had.
+-- A thread has as many frames as before, and the room, the pages and the calls that it had.
 pub record IsAsLarge (was is : Stamped) : Type 0 where
   pub spare : is.spare ≡ was.spare
   pub frames : length is.frames ≡ length was.frames
   pub covered : (w : ℕ) → covers is.pages w ≡ covers was.pages w
+  pub calls : is.calls ≡ was.calls
 
 -- The counter ticked, where it was to tick, whatever else the state has. The same threads live, and no room is lost.
 pub record IsAdvanced (most : ℕ) (ticks : Bool) (old new : Clock) : Type 0 where

@@ -6,7 +6,7 @@ use Rattle.stamp_lanes.specs.Plain.{Place}
 use Rattle.shadow_stack.specs.declared.sums.Sums.{Sums}
 use Rattle.shadow_stack.specs.Frames.{Frame}
 use Rattle.shadow_pages.specs.Pages.{Page, covers, in_range, stamp_at}
-use Rattle.stamp_renumber.specs.Threads.{Live, frames_of, pages_of, spare_of, stamped}
+use Rattle.stamp_renumber.specs.Threads.{Live, calls_of, frames_of, pages_of, spare_of, stamped}
 use Rattle.shadow_core.specs.Frames.{frames_after_reads}
 use Rattle.shadow_core.specs.Allows.{IsWithin}
 
@@ -14,9 +14,10 @@ use Rattle.shadow_core.specs.Allows.{IsWithin}
 abbrev pub AreSmall : Sums → Type 0
 AreSmall by = IsWithin 1 by.plain × IsWithin 1 by.bare
 
--- The thread has these frames and pages. No other thread changes, and no room is lost.
+-- The thread has these frames and pages, and the calls that it had. No other thread changes, and no room is lost.
 pub record IsChanged (old new : Live) (t : ℕ) (frames : List Frame) (pages : List Page) : Type 0 where
   pub threads : new.threads ≡ with_value old.threads t (stamped new.threads t frames pages)
+  pub calls : calls_of new.threads t ≡ calls_of old.threads t
   pub kept : spare_of old.threads t ≤ spare_of new.threads t
   pub marks : new.marks ≡ old.marks
 

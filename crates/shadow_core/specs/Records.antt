@@ -6,7 +6,8 @@ use Rattle.trace_model.specs.declared.event_kinds.Event.TheVariants.{Ret, End}
 use Rattle.trace_model.specs.declared.slow_profile.Done.{Done}
 use Rattle.shadow_stack.specs.declared.sums.Sums.{Sums}
 use Rattle.shadow_core.specs.Frames.{popped}
-use Rattle.shadow_core.specs.Table.{Counts, OpenCall, Thread, Table, count_pops}
+use Rattle.call_tracker.specs.ThreadCalls.{CountedCall, Counts}
+use Rattle.shadow_core.specs.Table.{Thread, Table, count_pops}
 use Rattle.shadow_core.specs.Ticks.{table_at, table_of}
 
 -- a number, and 0 for one below it
@@ -15,7 +16,7 @@ nat_of (pos n) = n
 nat_of (negsuc n) = 0
 
 -- the sums are those of the popped frame, and the counts those of the thread now
-abbrev pub record_of : ℕ → Counts → Sums → OpenCall → Done
+abbrev pub record_of : ℕ → Counts → Sums → CountedCall → Done
 record_of t counts sums call =
     let plain = nat_of sums.plain in
     let by_thread = counts.thread - call.earlier.thread in
@@ -32,7 +33,7 @@ record_of t counts sums call =
     }
 
 -- each sum with its call
-abbrev pub records : ℕ → Counts → List Sums → List OpenCall → List Done
+abbrev pub records : ℕ → Counts → List Sums → List CountedCall → List Done
 records t counts (s ∷ sums) (c ∷ calls) = record_of t counts s c ∷ records t counts sums calls
 records t counts sums calls = []
 

@@ -11,7 +11,7 @@ use Rattle.shadow_core.specs.Table.{row}
 use Rattle.shadow_core.specs.Ticks.{ticks, table_at, table_after}
 use Rattle.shadow_core.specs.Renewal.{bounded_tick}
 use Rattle.shadow_core.specs.Allows.{has_stamps}
-use Rattle.shadow_core.specs.State.{Calls, State, table_of_state}
+use Rattle.shadow_core.specs.State.{State, table_of_state}
 use Rattle.shadow_core.specs.StateRows.{Has}
 use Rattle.shadow_core.specs.StateTicks.{renumbered_to}
 
@@ -37,18 +37,13 @@ EventIsMade = (most : ℕ) (e : Event) (s now new : State) → table_of_state no
 
 -- a thread is still there after all stamps were renumbered, with the calls that it had
 abbrev pub ThreadsStay : Type 0
-ThreadsStay = (s : State) (live : Live) (writes : List Page) (t : ℕ) (was : Stamped) (c : Calls) → IsRenumbered s.live live s.writes writes → Has s t was c →
-    (is : Stamped) × Has (renumbered_to live writes s) t is c
+ThreadsStay = (s : State) (live : Live) (writes : List Page) (t : ℕ) (was : Stamped) → IsRenumbered s.live live s.writes writes → Has s t was →
+    (is : Stamped) × Has (renumbered_to live writes s) t is × (is.calls ≡ was.calls)
 
 -- a changed thread is there with what it was changed to
-abbrev pub ChangedIsThere : Type 0
-ChangedIsThere = (s : State) (live : Live) (t : ℕ) (was is : Stamped) (c now : Calls) → Has s t was c → live.threads ≡ with_value s.live.threads t is →
-    Has (record s { live = live; calls = with_value s.calls t now }) t is now
-
--- so where its calls stay
 abbrev pub StampedIsThere : Type 0
-StampedIsThere = (s : State) (live : Live) (t : ℕ) (was is : Stamped) (c : Calls) → Has s t was c → live.threads ≡ with_value s.live.threads t is →
-    Has (record s { live = live }) t is c
+StampedIsThere = (s : State) (live : Live) (t : ℕ) (was is : Stamped) → Has s t was → live.threads ≡ with_value s.live.threads t is →
+    Has (record s { live = live }) t is
 
 -- the last of two changes of a thread counts
 abbrev pub LastChangeCounts : Type 0

@@ -8,29 +8,15 @@ use Rattle.trace_model.specs.declared.event_kinds.Event.TheVariants.{Step, Read,
 use Rattle.trace_model.specs.Events.{covers}
 use Rattle.trace_model.specs.Activations.{count_ending}
 use Rattle.trace_model.specs.WellFormed.{weight_of}
+use Rattle.call_tracker.specs.ThreadCalls.{Counts, CountedCall, no_counts}
 use Rattle.stamp_lanes.specs.Plain.{Place, is_by_thread, is_by_kernel}
 use Rattle.shadow_stack.specs.Frames.{Frame, new_frame}
 use Rattle.shadow_core.specs.Frames.{frames_after_reads, frames_after_pops}
 
--- What a thread has counted: its steps, and the words that it read where another thread, or the kernel, had written last.
-pub record Counts : Type 0 where
-  pub steps : ℕ
-  pub thread : ℕ
-  pub kernel : ℕ
-
-abbrev pub no_counts : Counts
-no_counts = record { steps = 0; thread = 0; kernel = 0 }
-
--- What is kept of an open activation beside its frame: entry and return address, and the thread's counts when it began.
-pub record OpenCall : Type 0 where
-  pub entry : ℕ
-  pub back : Option ℕ
-  pub earlier : Counts
-
 -- A thread: its frames and open calls, which are as many; the stamp of its last access of each word, 0 for none; its counts.
 pub record Thread : Type 0 where
   pub frames : List Frame
-  pub calls : List OpenCall
+  pub calls : List CountedCall
   pub access : ℕ → ℕ
   pub counts : Counts
 

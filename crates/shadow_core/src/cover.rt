@@ -2,7 +2,8 @@
 ghost use Rattle.std.specs.Prelude.{◌≡◌, ◌+◌, ◌^◌, ◌<◌, ◌≤◌, ◌++◌, ◌∷◌, [], ℕ, true, is_some, All, IsOk, OnErr, OnOk};
 ghost use Rattle.guest_words.specs.ByThread.{numbers, value_of};
 ghost use Rattle.shadow_pages.specs.Pages.{AreCovered, covers, stamp_at};
-ghost use Rattle.stamp_renumber.specs.Threads.{frames_of, pages_of, spare_of, stamped};
+ghost use Rattle.call_tracker.specs.ThreadCalls.{no_counts};
+ghost use Rattle.stamp_renumber.specs.Threads.{HasRoom, calls_of, frames_of, pages_of, stamped};
 ghost use Rattle.shadow_core.specs.Reading.{IsChanged};
 
 use guest_words::{Tid, Word};
@@ -109,12 +110,14 @@ fn cover_all_own<S: Lanes>(
     threads.shadow_mut(tid).reserve(first, count)
 }
 
-/// One more thread, whose number is above all others, with room for its first frame. A refused one changes no thread.
+/// One more thread, whose number is above all others, with room for its first frame and call. A refused one changes no thread.
 pub(crate) fn add_with_room<S: Lanes>(threads: &mut Threads<S>, tid: Tid) -> Result<(), AllocError>
     requires above { All (λ n. n < tid) (numbers threads.old.threads) }
     ensures ok { OnOk result (threads.new.threads
         ≡ threads.old.threads ++ (tid, stamped threads.new.threads tid [] []) ∷ []) }
-    ensures room { OnOk result ((1 ≤ spare_of threads.new.threads tid) × (1 ≤ threads.new.marks)) }
+    ensures room { OnOk result (HasRoom threads.new tid) }
+    ensures list { OnOk result ((calls_of threads.new.threads tid).list ≡ []) }
+    ensures counts { OnOk result ((calls_of threads.new.threads tid).counts ≡ no_counts) }
     ensures err { OnErr result (threads.new.threads ≡ threads.old.threads) }
 {
     threads.add(tid)?;

@@ -2,13 +2,13 @@
 ghost use Rattle.std.specs.Prelude.{◌≡◌, ◌+◌, ◌-◌, ◌<◌, ◌≤◌, ◌^◌, ℕ, is_some, length, reverse, true, vec_len};
 ghost use Rattle.std.specs.Vec.{vec_capacity};
 ghost use Rattle.guest_words.specs.ByThread.{value_of};
-ghost use Rattle.stamp_renumber.specs.Threads.{frames_of};
+ghost use Rattle.stamp_renumber.specs.Threads.{calls_of, frames_of};
 ghost use Rattle.shadow_core.specs.Allows.{AreWithin};
 ghost use Rattle.shadow_core.specs.Ending.{IsEnded};
 ghost use Rattle.shadow_core.specs.Frames.{frames_after_pops};
 ghost use Rattle.shadow_core.specs.Records.{nat_of, record_of};
 
-use crate::calls::{BegunCall, Tally, ThreadCalls};
+use call_tracker::{BegunCall, Tally};
 use guest_words::Tid;
 use shadow_stack::Sums;
 use stamp_lanes::Lanes;
@@ -48,24 +48,22 @@ pub(crate) fn done_with(tid: Tid, counts: Tally, sums: Sums, call: BegunCall) ->
 fn end_call<S: Lanes>(
     threads: &mut Threads<S>,
     tid: Tid,
-    calls: &mut ThreadCalls,
     done: &mut Vec<Done>,
 )
     requires lives { is_some (value_of threads.old.threads tid) ≡ true }
     requires frames { 1 ≤ length (frames_of threads.old.threads tid) }
-    requires calls { 1 ≤ length calls.old.list }
+    requires calls { 1 ≤ length (calls_of threads.old.threads tid).list }
     requires sums { AreWithin (2 ^ 62 - 1) (frames_of threads.old.threads tid) }
-    requires thread { calls.old.counts.thread < 2 ^ 62 }
-    requires kernel { calls.old.counts.kernel < 2 ^ 62 }
+    requires thread { (calls_of threads.old.threads tid).counts.thread < 2 ^ 62 }
+    requires kernel { (calls_of threads.old.threads tid).counts.kernel < 2 ^ 62 }
     requires room { vec_len done.old + 1 ≤ vec_capacity done.old }
-    ensures ended { IsEnded tid 1 threads.old threads.new calls.old calls.new done.old.items done.new.items }
+    ensures ended { IsEnded tid 1 threads.old threads.new done.old.items done.new.items }
     ensures capacity { vec_capacity done.old ≤ vec_capacity done.new }
     ensures count { vec_len done.new ≡ vec_len done.old + 1 }
 {
-    let sums = threads.pop(tid).unwrap();
-    let counts = calls.counts();
-    let call = calls.pop().unwrap();
-    done.push(done_with(tid, counts, sums, call)).unwrap();
+    let ended = threads.end(tid);
+    let recorded = done_with(tid, ended.counts, ended.sums, ended.call);
+    done.push(recorded).unwrap();
 }
 
 /// Ends so many calls of the thread, the innermost first, and records them. There is room for the records.
@@ -73,24 +71,23 @@ fn end_call<S: Lanes>(
 pub(crate) fn end_calls<S: Lanes>(
     threads: &mut Threads<S>,
     tid: Tid,
-    calls: &mut ThreadCalls,
     ended: usize,
     done: &mut Vec<Done>,
 )
     requires lives { is_some (value_of threads.old.threads tid) ≡ true }
     requires frames { ended ≤ length (frames_of threads.old.threads tid) }
-    requires calls { ended ≤ length calls.old.list }
+    requires calls { ended ≤ length (calls_of threads.old.threads tid).list }
     requires sums { (n : ℕ) → AreWithin (2 ^ 62 - 1)
         (frames_after_pops n (reverse (frames_of threads.old.threads tid))) }
-    requires thread { calls.old.counts.thread < 2 ^ 62 }
-    requires kernel { calls.old.counts.kernel < 2 ^ 62 }
+    requires thread { (calls_of threads.old.threads tid).counts.thread < 2 ^ 62 }
+    requires kernel { (calls_of threads.old.threads tid).counts.kernel < 2 ^ 62 }
     requires room { vec_len done.old + ended ≤ vec_capacity done.old }
-    ensures { IsEnded tid ended threads.old threads.new calls.old calls.new done.old.items done.new.items }
+    ensures { IsEnded tid ended threads.old threads.new done.old.items done.new.items }
 {
     if ended == 1 {
-        end_call(threads, tid, calls, done);
+        end_call(threads, tid, done);
     } else {
-        end_many(threads, tid, calls, ended, done);
+        end_many(threads, tid, ended, done);
     }
 }
 
@@ -100,23 +97,22 @@ pub(crate) fn end_calls<S: Lanes>(
 fn end_many<S: Lanes>(
     threads: &mut Threads<S>,
     tid: Tid,
-    calls: &mut ThreadCalls,
     ended: usize,
     done: &mut Vec<Done>,
 )
     requires lives { is_some (value_of threads.old.threads tid) ≡ true }
     requires frames { ended ≤ length (frames_of threads.old.threads tid) }
-    requires calls { ended ≤ length calls.old.list }
+    requires calls { ended ≤ length (calls_of threads.old.threads tid).list }
     requires sums { (n : ℕ) → AreWithin (2 ^ 62 - 1)
         (frames_after_pops n (reverse (frames_of threads.old.threads tid))) }
-    requires thread { calls.old.counts.thread < 2 ^ 62 }
-    requires kernel { calls.old.counts.kernel < 2 ^ 62 }
+    requires thread { (calls_of threads.old.threads tid).counts.thread < 2 ^ 62 }
+    requires kernel { (calls_of threads.old.threads tid).counts.kernel < 2 ^ 62 }
     requires room { vec_len done.old + ended ≤ vec_capacity done.old }
-    ensures { IsEnded tid ended threads.old threads.new calls.old calls.new done.old.items done.new.items }
+    ensures { IsEnded tid ended threads.old threads.new done.old.items done.new.items }
 {
     let mut count = 0;
     while count < ended {
-        end_call(threads, tid, calls, done);
+        end_call(threads, tid, done);
         count += 1;
     }
 }

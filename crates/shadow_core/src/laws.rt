@@ -5,11 +5,11 @@ ghost use Rattle.shadow_core.specs.Applying.{DeepDoesNotFit};
 ghost use Rattle.shadow_core.specs.Observing.{TakesEvents};
 ghost use Rattle.shadow_core.specs.Bulk.{ReadsAtOnce};
 ghost use Rattle.shadow_core.specs.Worked.{WorkedTables};
-ghost use Rattle.shadow_core.specs.StateEvents.{ChangedIsThere, EventIsMade, LastChangeCounts, NoTickIsMade, StampedIsThere, StampsAreTold, ThreadsStay, TickIsMade};
+ghost use Rattle.shadow_core.specs.StateEvents.{EventIsMade, LastChangeCounts, NoTickIsMade, StampedIsThere, StampsAreTold, ThreadsStay, TickIsMade};
 ghost use Rattle.shadow_core.specs.StateTold.{EmptyIsTold, FramesAreTold, LifeIsTold, NumbersAreTold, PagesAreNotTold, RoomIsNotTold, ThreadIsTold};
 ghost use Rattle.shadow_core.specs.StateWords.{CountsNextWord, ReadsAllWords, ReadsNextWord, StampsNone, StampsNotYet, StampsOneMore};
 ghost use Rattle.shadow_core.specs.StateRows.{CallsByParts, EndsByParts, FillsByParts, FinishesByParts, ReadsByParts, ReturnsByParts, StartsByParts, StepsByParts, WeighsByParts, WritesByParts};
-ghost use Rattle.shadow_core.specs.StateThreads.{CallsChange, CallsCome, CallsGo, LastChanges, ThreadsChange, ThreadsChangeByCalls, ThreadsCome, ThreadsGo};
+ghost use Rattle.shadow_core.specs.StateThreads.{LastChanges, ThreadsChange, ThreadsCome, ThreadsGo};
 ghost use Rattle.shadow_core.specs.StateTicks.{CountsPlainly, RenewsAll, TicksByParts};
 ghost use Rattle.shadow_core.specs.Parts.{AddsAtTheLast, AddsToTheTop, CountsGoOn, PopsGoOn, PopsInOrder, PopsTheTop, PushesInFront, ReadsGoOn, ReadsOneMore, ReadsWhereFound, TakesWhereFound};
 
@@ -89,13 +89,9 @@ pub fn a_tick_is_by_parts()
     ensures tick { TicksByParts }
 {}
 
-/// A change of one thread's stamps or calls is one of its thread in the table, and threads come and go in both.
+/// A change of one thread's parts is one of its thread in the table, and threads come and go in both.
 pub fn threads_are_by_parts()
-    ensures calls { CallsChange }
-    ensures calls_come { CallsCome }
-    ensures calls_go { CallsGo }
     ensures change { ThreadsChange }
-    ensures by_calls { ThreadsChangeByCalls }
     ensures come { ThreadsCome }
     ensures go { ThreadsGo }
     ensures last { LastChanges }
@@ -143,7 +139,6 @@ pub fn events_are_by_parts()
     ensures no_tick { NoTickIsMade }
     ensures event { EventIsMade }
     ensures threads { ThreadsStay }
-    ensures changed { ChangedIsThere }
     ensures stamped { StampedIsThere }
     ensures last { LastChangeCounts }
 {}

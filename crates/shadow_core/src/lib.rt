@@ -5,7 +5,6 @@
 
 mod advance;
 mod apply_error;
-mod calls;
 mod cover;
 mod endings;
 mod laws;

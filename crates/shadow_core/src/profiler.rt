@@ -7,26 +7,26 @@ ghost use Rattle.trace_model.specs.Activations.{count_returned};
 ghost use Rattle.trace_model.specs.Depth.{count_begun, pending};
 ghost use Rattle.trace_model.specs.Observing.{MayTake};
 ghost use Rattle.shadow_pages.specs.Pages.{AreCovered};
-ghost use Rattle.stamp_renumber.specs.Threads.{all_starts, pages_of};
+ghost use Rattle.stamp_renumber.specs.Threads.{all_starts, calls_of, pages_of};
 ghost use Rattle.shadow_core.specs.declared.apply_error.ApplyError.TheVariants.{Memory, TooDeep};
 ghost use Rattle.shadow_core.specs.Applying.{HasSamePages, IsTaken, NeedsNoMemory, is_too_deep};
 ghost use Rattle.shadow_core.specs.Counting.{renumberings};
 ghost use Rattle.shadow_core.specs.Profiling.{StandsFor};
-ghost use Rattle.shadow_core.specs.State.{calls_of, table_of_state};
+ghost use Rattle.shadow_core.specs.State.{table_of_state};
 ghost use Rattle.shadow_core.specs.Records.{finished};
 ghost use Rattle.shadow_core.specs.Renewal.{bounded_tick};
-ghost use Rattle.shadow_core.specs.Table.{OpenCall, empty_table};
+ghost use Rattle.call_tracker.specs.ThreadCalls.{CountedCall};
+ghost use Rattle.shadow_core.specs.Table.{empty_table};
 ghost use Rattle.shadow_core.specs.Ticks.{is_switch, table_after};
 
 use crate::ApplyError;
 use crate::advance::advance;
-use crate::calls::ThreadCalls;
 use crate::cover::{add_with_room, cover, cover_own};
 use crate::endings::end_calls;
 use crate::reads::{is_fresh, read};
 use crate::rows::ZeroRows;
 use crate::writes::{fill, is_written, write};
-use guest_words::{Addr, ByThread, Tid, Word};
+use guest_words::{Addr, Tid, Word};
 use shadow_pages::Shadow;
 use stamp_lanes::Lanes;
 use stamp_renumber::Threads;
@@ -42,7 +42,6 @@ pub struct Profiler<S: Lanes> {
     writes: Shadow<S>,
     marks: Shadow<u8>,
     threads: Threads<S>,
-    calls: ByThread<ThreadCalls>,
     last: Option<Tid>,
     greatest: u32,
     weight: u64,
@@ -61,7 +60,6 @@ impl<S: Lanes> Model for Profiler<S> {
       writes = p.writes.pages;
       marks = p.marks.pages;
       live = p.threads;
-      calls = p.calls.list;
       last = p.last;
       greatest = p.greatest;
       weight = p.weight;
@@ -73,7 +71,6 @@ impl<S: Lanes> Model for Profiler<S> {
       writes = p.writes.pages;
       marks = p.marks.pages;
       live = p.threads;
-      calls = p.calls.list;
       last = p.last;
       greatest = p.greatest;
       weight = p.weight;
@@ -93,7 +90,6 @@ impl<S: Lanes> Profiler<S> {
             writes: Shadow::new(alloc)?,
             marks: Shadow::new(alloc)?,
             threads: Threads::new(alloc)?,
-            calls: ByThread::new(alloc),
             last: None,
             greatest: 0,
             weight: 0,
@@ -125,9 +121,10 @@ impl<S: Lanes> Profiler<S> {
     pub fn access_pages(&self, tid: Tid) -> usize
         ensures { result ≡ length (pages_of self.now.live.threads tid) }
     {
-        match self.calls.get(tid) {
-            Some(_) => self.threads.shadow(tid).pages(),
-            None => 0,
+        if self.threads.lives(tid) {
+            self.threads.shadow(tid).pages()
+        } else {
+            0
         }
     }
 
@@ -155,7 +152,7 @@ impl<S: Lanes> Profiler<S> {
         ensures table { table_of_state self.new ≡ table_after (bounded_tick S.MAX) (Step tid)
             (table_of_state self.old) }
     {
-        self.calls.get_mut(tid).unwrap().add_step();
+        self.threads.calls_mut(tid).add_steps(1);
         self.weight += 1;
     }
 
@@ -175,7 +172,7 @@ impl<S: Lanes> Profiler<S> {
             &mut self.counter,
             &mut self.renumbered,
         );
-        self.calls.get_mut(tid).unwrap().add_step();
+        self.threads.calls_mut(tid).add_steps(1);
         self.last = Some(tid);
         self.weight += 1;
     }
@@ -270,10 +267,7 @@ impl<S: Lanes> Profiler<S> {
             ≡ table_after (bounded_tick S.MAX) (Start tid entry) (table_of_state self.old)) }
         ensures refused { OnErr result (table_of_state self.new ≡ table_of_state self.old) }
     {
-        let calls = ThreadCalls::first(self.alloc, entry)?;
-        self.calls.reserve(1)?;
         add_with_room(&mut self.threads, tid)?;
-        self.calls.insert(tid, calls).unwrap();
         advance(
             true,
             &mut self.threads,
@@ -282,7 +276,7 @@ impl<S: Lanes> Profiler<S> {
             &mut self.renumbered,
         );
         let now = S::from_number(self.counter);
-        self.threads.push(tid, now).unwrap();
+        self.threads.begin(tid, now, entry, None);
         self.greatest = tid.number();
         self.weight += 1;
         Ok(())
@@ -297,7 +291,6 @@ impl<S: Lanes> Profiler<S> {
         ensures refused { OnErr result (table_of_state self.new ≡ table_of_state self.old) }
     {
         self.threads.reserve(tid)?;
-        self.calls.get_mut(tid).unwrap().push(entry, back)?;
         advance(
             true,
             &mut self.threads,
@@ -306,7 +299,7 @@ impl<S: Lanes> Profiler<S> {
             &mut self.renumbered,
         );
         let now = S::from_number(self.counter);
-        self.threads.push(tid, now).unwrap();
+        self.threads.begin(tid, now, entry, Some(back));
         self.weight += 1;
         Ok(())
     }
@@ -322,14 +315,13 @@ impl<S: Lanes> Profiler<S> {
         ensures refused { OnErr result (table_of_state self.new ≡ table_of_state self.old) }
         ensures kept { OnErr result (done.new.items ≡ done.old.items) }
         ensures no_memory { vec_len done.old + count_returned target
-            (map (λ (c : OpenCall). c.back) (calls_of self.old.calls tid).list)
+            (map (λ (c : CountedCall). c.back) (calls_of self.old.live.threads tid).list)
             ≤ vec_capacity done.old → IsOk result }
         ensures pages { HasSamePages self.old self.new }
     {
-        let calls = self.calls.get_mut(tid).unwrap();
-        let ended = calls.ending(target);
+        let ended = self.threads.calls_mut(tid).ending(target);
         done.reserve(ended)?;
-        end_calls(&mut self.threads, tid, calls, ended, done);
+        end_calls(&mut self.threads, tid, ended, done);
         self.weight += 1;
         Ok(())
     }
@@ -346,12 +338,10 @@ impl<S: Lanes> Profiler<S> {
         ensures refused { OnErr result (table_of_state self.new ≡ table_of_state self.old) }
         ensures kept { OnErr result (done.new.items ≡ done.old.items) }
     {
-        let calls = self.calls.get_mut(tid).unwrap();
-        let ended = calls.depth();
+        let ended = self.threads.frames(tid).depth();
         done.reserve(ended)?;
-        end_calls(&mut self.threads, tid, calls, ended, done);
+        end_calls(&mut self.threads, tid, ended, done);
         self.threads.remove(tid);
-        self.calls.remove(tid);
         self.weight += 1;
         Ok(())
     }
@@ -399,7 +389,7 @@ impl<S: Lanes> Profiler<S> {
             &self.zeros,
             now,
         );
-        let calls = self.calls.get_mut(tid).unwrap();
+        let calls = self.threads.calls_mut(tid);
         calls.add_found(found.thread, found.kernel);
         self.weight += 1 + u64::from(count);
         Ok(())

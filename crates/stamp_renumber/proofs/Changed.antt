@@ -10,7 +10,8 @@ use Rattle.guest_words.proofs.ThreadTables.{numbers-with, rising_pushed, rising_
 use Rattle.shadow_stack.specs.declared.sums.Sums.{Sums}
 use Rattle.shadow_stack.specs.Frames.{Frame, IsPopped, added, added_to_last, starts_of}
 use Rattle.stamp_renumber.specs.Kept.{IsKept}
-use Rattle.stamp_renumber.specs.Threads.{Stamped, all_starts, frames_of, pages_of, spare_of, stamped}
+use Rattle.call_tracker.specs.ThreadCalls.{Calls, no_counts}
+use Rattle.stamp_renumber.specs.Threads.{Stamped, all_starts, calls_of, frames_of, pages_of, spare_of, stamped}
 
 -- ---- how many frames there are
 pub starts_long : (x : ℕ × Stamped) (xs : List (ℕ × Stamped)) → length (all_starts (x ∷ xs)) ≡ length x.1.frames + length (all_starts xs)
@@ -96,6 +97,9 @@ kept_without xs t n m a b kept =
     record { rising = rising_without xs t kept.rising; counted = omega arith; starts_fit = omega arith; renewed_fit = omega arith }
 
 -- ---- one thread, which has a value
+abbrev calls_in : Option Stamped → Calls
+calls_in o = option_map_or (λ (s : Stamped). s.calls) o (record { list = []; counts = no_counts; spare = 0 })
+
 module _ (xs threads : List (ℕ × Stamped)) (is : xs ≡ threads) (t : ℕ) (old : Stamped) (here : value_of xs t ≡ Some old) where
   there : value_of threads t ≡ Some old
   there = ap (λ ys. value_of ys t) (sym is) ∙ here
@@ -109,6 +113,9 @@ module _ (xs threads : List (ℕ × Stamped)) (is : xs ≡ threads) (t : ℕ) (o
   pub spare_was : spare_of threads t ≡ old.spare
   spare_was = ap (λ (o : Option Stamped). option_map_or (λ (s : Stamped). s.spare) o 0) there
 
+  pub calls_were : calls_of threads t ≡ old.calls
+  calls_were = ap calls_in there
+
   now : (new : Stamped) → value_of (with_value xs t new) t ≡ Some new
   now new = value_of-with xs t new old here t ∙ ap (λ b. cond b (Some new) (value_of xs t)) (eq-eqb t t refl)
 
@@ -118,29 +125,35 @@ module _ (xs threads : List (ℕ × Stamped)) (is : xs ≡ threads) (t : ℕ) (o
   pub spare_is : (new : Stamped) → spare_of (with_value xs t new) t ≡ new.spare
   spare_is new = ap (λ (o : Option Stamped). option_map_or (λ (s : Stamped). s.spare) o 0) (now new)
 
+  pub calls_are : (new : Stamped) → calls_of (with_value xs t new) t ≡ new.calls
+  calls_are new = ap calls_in (now new)
+
   pub changed_to : (new : Stamped) (frames : List Frame) → new.frames ≡ frames → new.pages ≡ old.pages →
       with_value xs t new ≡ with_value threads t (stamped (with_value xs t new) t frames (pages_of threads t))
   changed_to new frames f p =
       ap (λ ys. with_value ys t new) is
       ∙ ap (λ (s : Stamped). with_value threads t s)
-      ((λ i. record { frames = f i; spare = sym (spare_is new) i; pages = (p ∙ sym pages_were) i }))
+      ((λ i. record { frames = f i; spare = sym (spare_is new) i; pages = (p ∙ sym pages_were) i; calls = sym (calls_are new) i }))
 
 -- a thread as it was
 pub unchanged : (threads : List (ℕ × Stamped)) (t : ℕ) → is_some (value_of threads t) ≡ true → threads ≡ with_value threads t (stamped threads t (frames_of threads t) (pages_of threads t))
 unchanged threads t lives = by (value_of threads t) refl lives
   where
     by : (o : Option Stamped) → value_of threads t ≡ o → is_some o ≡ true →
-        threads ≡ with_value threads t (record { frames = option_map_or (λ (s : Stamped). s.frames) o []; spare = option_map_or (λ (s : Stamped). s.spare) o 0; pages = option_map_or (λ (s : Stamped). s.pages) o [] })
+        threads ≡ with_value threads t (record { frames = option_map_or (λ (s : Stamped). s.frames) o []; spare = option_map_or (λ (s : Stamped). s.spare) o 0; pages = option_map_or (λ (s : Stamped). s.pages) o []; calls = calls_in o })
     by None here lives = absurd (cc)
     by (Some s) here lives = sym (with_own threads t s here)
 
 -- one thread more
+pub added_calls : (xs : List (ℕ × Stamped)) (t : ℕ) (new : Stamped) → All (λ k. k < t) (numbers xs) → calls_of (xs ++ (t, new) ∷ []) t ≡ new.calls
+added_calls xs t new above = ap calls_in (value_of-pushed xs t new above t ∙ ap (λ b. cond b (Some new) (value_of xs t)) (eq-eqb t t refl))
+
 pub added_thread : (xs threads : List (ℕ × Stamped)) (is : xs ≡ threads) (t : ℕ) (new : Stamped) → All (λ k. k < t) (numbers xs) → new.frames ≡ [] → new.pages ≡ [] →
     xs ++ (t, new) ∷ [] ≡ threads ++ (t, stamped (xs ++ (t, new) ∷ []) t [] []) ∷ []
 added_thread xs threads is t new above f p =
     let now : value_of (xs ++ (t, new) ∷ []) t ≡ Some new = value_of-pushed xs t new above t ∙ ap (λ b. cond b (Some new) (value_of xs t)) (eq-eqb t t refl) in
     let spare : new.spare ≡ spare_of (xs ++ (t, new) ∷ []) t = sym (ap (λ (o : Option Stamped). option_map_or (λ (s : Stamped). s.spare) o 0) now) in
-    ap₂ (λ (ys : List (ℕ × Stamped)) (s : Stamped). ys ++ (t, s) ∷ []) is (λ i. record { frames = f i; spare = spare i; pages = p i })
+    ap₂ (λ (ys : List (ℕ × Stamped)) (s : Stamped). ys ++ (t, s) ∷ []) is (λ i. record { frames = f i; spare = spare i; pages = p i; calls = sym (added_calls xs t new above) i })
 
 -- ---- a frame taken
 length_added : (by : Sums) (frames : List Frame) → length (added_to_last by frames) ≡ length frames

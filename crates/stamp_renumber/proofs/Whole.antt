@@ -150,4 +150,5 @@ module _ (xs ys : List ℕ) (same : IsPermutation xs ys) where
     spare = is.spare;
     stamps = λ w. is.stamps w ∙ same_access (stamp_at old.pages w) (stamp_at writes w);
     covered = is.covered;
+    calls = is.calls;
   }

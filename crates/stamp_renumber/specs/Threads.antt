@@ -1,17 +1,19 @@
--- The live threads, with their frames and the stamps of their accesses.
-use Rattle.std.specs.Prelude.{ℕ, List, []}
+-- The live threads, with their frames, their calls and the stamps of their accesses.
+use Rattle.std.specs.Prelude.{ℕ, ◌≤◌, List, []}
 use Rattle.std.specs.List.{flat_map}
 use Rattle.std.specs.Option.{option_map_or}
 use Rattle.shadow_stack.specs.Frames.{Frame, starts_of}
 use Rattle.shadow_pages.specs.Pages.{Page}
 use Rattle.guest_words.specs.ByThread.{value_of}
+use Rattle.call_tracker.specs.ThreadCalls.{Calls, no_counts}
 
--- What is kept of a thread: its frames, the outermost first, how many more can be pushed without memory, and the pages of its
--- access stamps.
+-- What is kept of a thread: its frames, the outermost first, how many more can be pushed without memory, the pages of its
+-- access stamps, and its calls, with what it has counted.
 pub record Stamped : Type 0 where
   pub frames : List Frame
   pub spare : ℕ
   pub pages : List Page
+  pub calls : Calls
 
 -- The live threads by rising number, and for how many more frames there is room to mark them in a renumbering.
 pub record Live : Type 0 where
@@ -34,6 +36,14 @@ spare_of threads t = option_map_or (λ (s : Stamped). s.spare) (value_of threads
 abbrev pub pages_of : List (ℕ × Stamped) → ℕ → List Page
 pages_of threads t = option_map_or (λ (s : Stamped). s.pages) (value_of threads t) []
 
--- a thread with these frames and pages, and the room that it has among the threads
+-- its calls
+abbrev pub calls_of : List (ℕ × Stamped) → ℕ → Calls
+calls_of threads t = option_map_or (λ (s : Stamped). s.calls) (value_of threads t) (record { list = []; counts = no_counts; spare = 0 })
+
+-- there is room for one more frame of the thread, for its mark and for its call
+abbrev pub HasRoom : Live → ℕ → Type 0
+HasRoom live t = (1 ≤ spare_of live.threads t) × (1 ≤ (calls_of live.threads t).spare) × (1 ≤ live.marks)
+
+-- a thread with these frames and pages, and the room and the calls that it has among the threads
 abbrev pub stamped : List (ℕ × Stamped) → ℕ → List Frame → List Page → Stamped
-stamped threads t frames pages = record { frames = frames; spare = spare_of threads t; pages = pages }
+stamped threads t frames pages = record { frames = frames; spare = spare_of threads t; pages = pages; calls = calls_of threads t }

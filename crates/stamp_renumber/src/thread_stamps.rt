@@ -1,14 +1,17 @@
 //! What is kept of a thread.
-ghost use Rattle.std.specs.Prelude.{◌≡◌, ◌≤◌, ◌<◌, ◌+◌, ◌*◌, ◌++◌, ◌∷◌, [], All, Contains, IfOk, IfSome, IsOk, OnErr, OnOk, length, map, slice_get};
+ghost use Rattle.std.specs.Prelude.{◌≡◌, ◌≤◌, ◌<◌, ◌+◌, ◌*◌, ◌++◌, ◌∷◌, [], All, Contains, IfOk, IfSome, OnOk, Some, length, map, slice_get};
 ghost use Rattle.std.specs.Borrow.{sem};
 ghost use Rattle.std.specs.Vec.{vec_capacity};
 ghost use Rattle.std.specs.List.Sorted.{IsNonDecreasingBy};
 ghost use Rattle.shadow_stack.specs.Frames.{FitsPop, FitsSums, IsPopped, added, new_frame, plus, starts_of};
+ghost use Rattle.call_tracker.specs.ThreadCalls.{no_counts};
 ghost use Rattle.stamp_renumber.specs.Renumbered.{IsThreadRenumbered};
 
 use crate::frames::renew_frames;
 use crate::pages::renew_accesses;
 use crate::rows::WorkRows;
+use call_tracker::{BegunCall, Tally, ThreadCalls};
+use guest_words::Addr;
 use shadow_pages::Shadow;
 use shadow_stack::{Frames, Sums};
 use stamp_lanes::Lanes;
@@ -16,11 +19,20 @@ use stamps::Stamp;
 use std::alloc::{AllocError, Global};
 use std::marker::Model;
 
-/// The frames of a thread, and the stamps of its accesses.
+/// A call that ended: what it was, the sums of its frame, and what its thread has counted.
+#[derive(Clone, Copy)]
+pub struct EndedCall {
+    pub call: BegunCall,
+    pub sums: Sums,
+    pub counts: Tally,
+}
+
+/// The frames of a thread, the stamps of its accesses, and its calls.
 #[derive(Drop)]
 pub(crate) struct ThreadStamps<S: Stamp> {
     frames: Frames<S>,
     shadow: Shadow<S>,
+    calls: ThreadCalls,
 }
 
 impl<S: Stamp> Model for ThreadStamps<S> {
@@ -32,20 +44,24 @@ impl<S: Stamp> Model for ThreadStamps<S> {
       frames = t.frames.list;
       spare = t.frames.spare;
       pages = t.shadow.pages;
+      calls = t.calls;
     } };
 }
 
 impl<S: Stamp> ThreadStamps<S> {
-    ghost use Rattle.stamp_renumber.specs.LentShadow.{LendsShadow};
+    ghost use Rattle.stamp_renumber.specs.LentShadow.{LendsCalls, LendsShadow};
 
-    /// No frame, and no stamp.
+    /// No frame, no stamp and no call.
     pub(crate) fn new(alloc: Global) -> Result<ThreadStamps<S>, AllocError>
         ensures frames { IfOk result (λ t. t.frames ≡ []) }
         ensures pages { IfOk result (λ t. t.pages ≡ []) }
+        ensures list { IfOk result (λ t. t.calls.list ≡ []) }
+        ensures counts { IfOk result (λ t. t.calls.counts ≡ no_counts) }
     {
         Ok(ThreadStamps {
             frames: Frames::new(alloc),
             shadow: Shadow::new(alloc)?,
+            calls: ThreadCalls::new(alloc)?,
         })
     }
 
@@ -71,27 +87,43 @@ impl<S: Stamp> ThreadStamps<S> {
         &mut self.shadow
     }
 
-    /// Makes the room for one more frame.
-    pub(crate) fn reserve(&mut self) -> Result<(), AllocError>
-        ensures room { OnOk result (1 ≤ self.new.spare) }
-        ensures frames { self.new.frames ≡ self.old.frames }
-        ensures pages { self.new.pages ≡ self.old.pages }
-        ensures kept { self.old.spare ≤ self.new.spare }
+    /// Its calls, for writing.
+    pub(crate) fn calls_mut(&mut self) -> &mut ThreadCalls
+        ensures* writes_back { sem 𝓛 (LendsCalls S.row S.Stamp self.entry result) }
+        ensures value { result.now ≡ self.old.calls }
     {
-        self.frames.reserve()
+        &mut self.calls
     }
 
-    /// One more frame.
-    pub(crate) fn push(&mut self, start: S) -> Result<(), AllocError>
-        requires { All (λ s. s < S.number_of start) (starts_of self.old.frames) }
-        ensures ok { OnOk result (self.new.frames
-            ≡ self.old.frames ++ new_frame (S.number_of start) ∷ []) }
-        ensures err { OnErr result (self.new.frames ≡ self.old.frames) }
+    /// Makes the room for one more frame and for its call.
+    pub(crate) fn reserve(&mut self) -> Result<(), AllocError>
+        ensures room { OnOk result ((1 ≤ self.new.spare) × (1 ≤ self.new.calls.spare)) }
+        ensures frames { self.new.frames ≡ self.old.frames }
         ensures pages { self.new.pages ≡ self.old.pages }
-        ensures room { 1 ≤ self.old.spare → IsOk result }
+        ensures list { self.new.calls.list ≡ self.old.calls.list }
+        ensures counts { self.new.calls.counts ≡ self.old.calls.counts }
+        ensures kept { self.old.spare ≤ self.new.spare }
+    {
+        self.frames.reserve()?;
+        self.calls.reserve()
+    }
+
+    /// One more frame, with its call. There is room for both.
+    #[inline(always)]
+    pub(crate) fn push(&mut self, start: S, entry: Addr, back: Option<Addr>)
+        requires above { All (λ s. s < S.number_of start) (starts_of self.old.frames) }
+        requires room { 1 ≤ self.old.spare }
+        requires call { 1 ≤ self.old.calls.spare }
+        ensures frames { self.new.frames
+            ≡ self.old.frames ++ new_frame (S.number_of start) ∷ [] }
+        ensures pages { self.new.pages ≡ self.old.pages }
+        ensures list { self.new.calls.list
+            ≡ record { entry = entry; back = back; earlier = self.old.calls.counts } ∷ self.old.calls.list }
+        ensures counts { self.new.calls.counts ≡ self.old.calls.counts }
         ensures lowered { self.old.spare ≤ self.new.spare + 1 }
     {
-        self.frames.push(start)
+        self.calls.push(entry, back).unwrap();
+        self.frames.push(start).unwrap();
     }
 
     /// Adds to the sums of the frame at the place.
@@ -100,24 +132,38 @@ impl<S: Stamp> ThreadStamps<S> {
         requires fits { IfSome (slice_get self.old.frames i) (λ f. FitsSums (plus f.sums by)) }
         ensures frames { self.new.frames ≡ added i by self.old.frames }
         ensures pages { self.new.pages ≡ self.old.pages }
+        ensures calls { self.new.calls ≡ self.old.calls }
         ensures kept { self.old.spare ≤ self.new.spare }
     {
         self.frames.add(i, by);
     }
 
-    /// Takes the innermost frame.
-    pub(crate) fn pop(&mut self) -> Option<Sums>
-        requires { FitsPop self.old.frames }
-        ensures popped { IsPopped self.old.frames result self.new.frames }
+    /// Takes the innermost frame and the innermost call. There is one of both.
+    #[inline(always)]
+    pub(crate) fn pop(&mut self) -> EndedCall
+        requires frames { 1 ≤ length self.old.frames }
+        requires calls { 1 ≤ length self.old.calls.list }
+        requires fits { FitsPop self.old.frames }
+        ensures popped { IsPopped self.old.frames (Some result.sums) self.new.frames }
         ensures pages { self.new.pages ≡ self.old.pages }
+        ensures list { self.old.calls.list ≡ result.call ∷ self.new.calls.list }
+        ensures counts { self.new.calls.counts ≡ self.old.calls.counts }
+        ensures counted { result.counts ≡ self.old.calls.counts }
         ensures kept { self.old.spare ≤ self.new.spare }
     {
-        self.frames.pop()
+        let sums = self.frames.pop().unwrap();
+        let call = self.calls.pop().unwrap();
+        EndedCall {
+            call,
+            sums,
+            counts: self.calls.counts(),
+        }
     }
 }
 
 impl<S: Lanes> ThreadStamps<S> {
-    /// Gives the frames their new starts and the words their new access stamps. The write stamps are still the old ones.
+    /// Gives the frames their new starts and the words their new access stamps. The write stamps are still the old ones, and the
+    /// calls stay.
     pub(crate) fn renumber(
         &mut self,
         writes: &Shadow<S>,

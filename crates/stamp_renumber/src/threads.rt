@@ -1,25 +1,27 @@
 //! The live threads.
-ghost use Rattle.std.specs.Prelude.{◌≡◌, ◌≤◌, ◌<◌, ◌+◌, ◌*◌, ◌++◌, ◌∷◌, [], true, All, IfOk, IfSome, IsOk, OnErr, OnOk, is_some, length, slice_get};
+ghost use Rattle.std.specs.Prelude.{◌≡◌, ◌≤◌, ◌<◌, ◌+◌, ◌*◌, ◌++◌, ◌∷◌, [], Some, true, All, IfOk, IfSome, IsOk, OnErr, OnOk, is_some, length, slice_get};
 ghost use Rattle.std.specs.Borrow.{sem};
 ghost use Rattle.guest_words.specs.ByThread.{numbers, value_of, with_value, without_thread};
 ghost use Rattle.shadow_stack.specs.Frames.{FitsPop, FitsSums, IsPopped, added, new_frame, plus, starts_of};
-ghost use Rattle.stamp_renumber.specs.Threads.{all_starts, frames_of, pages_of, spare_of, stamped};
+ghost use Rattle.call_tracker.specs.ThreadCalls.{no_counts};
+ghost use Rattle.stamp_renumber.specs.Threads.{HasRoom, all_starts, calls_of, frames_of, pages_of, spare_of, stamped};
 ghost use Rattle.stamp_renumber.specs.Ticks.{IsRenumbered};
 
 use crate::pages::renew_writes;
 use crate::renumbering::{renumber_threads, sorted_starts};
 use crate::rows::WorkRows;
-use crate::thread_stamps::ThreadStamps;
-use guest_words::{ByThread, Tid};
+use crate::thread_stamps::{EndedCall, ThreadStamps};
+use call_tracker::ThreadCalls;
+use guest_words::{Addr, ByThread, Tid};
 use shadow_pages::Shadow;
 use shadow_stack::{Frames, Sums};
 use stamp_lanes::Lanes;
 use std::alloc::{AllocError, Global};
 use std::marker::Model;
 
-/// Live threads, each with its frames and the stamps of its accesses. A renumbering takes no memory: the threads hold work rows
-/// for it from the start, and room for the starts of all their frames, `frames` of them and `marks` more. No call but `push`
-/// lowers the room for frames and their marks.
+/// Live threads, each with its frames, the stamps of its accesses and its calls. A renumbering takes no memory: the threads hold
+/// work rows for it from the start, and room for the starts of all their frames, `frames` of them and `marks` more. No call but
+/// `begin` lowers the room for frames and their marks.
 #[derive(Drop)]
 pub struct Threads<S: Lanes> {
     alloc: Global,
@@ -45,7 +47,7 @@ impl<S: Lanes> Model for Threads<S> {
 }
 
 impl<S: Lanes> Threads<S> {
-    ghost use Rattle.stamp_renumber.specs.LentThread.{LendsStamps};
+    ghost use Rattle.stamp_renumber.specs.LentThread.{LendsCalls, LendsStamps};
 
     /// No thread.
     pub fn new(alloc: Global) -> Result<Threads<S>, AllocError>
@@ -69,11 +71,13 @@ impl<S: Lanes> Threads<S> {
         self.frames
     }
 
-    /// One more thread, whose number is above all others.
+    /// One more thread, whose number is above all others. It has no frame and no call.
     pub fn add(&mut self, tid: Tid) -> Result<(), AllocError>
         requires above { All (λ n. n < tid) (numbers self.old.threads) }
         ensures ok { OnOk result (self.new.threads
             ≡ self.old.threads ++ (tid, stamped self.new.threads tid [] []) ∷ []) }
+        ensures list { OnOk result ((calls_of self.new.threads tid).list ≡ []) }
+        ensures counts { OnOk result ((calls_of self.new.threads tid).counts ≡ no_counts) }
         ensures err { OnErr result (self.new ≡ self.old) }
         ensures marks { self.new.marks ≡ self.old.marks }
     {
@@ -119,14 +123,18 @@ impl<S: Lanes> Threads<S> {
         Ok(())
     }
 
-    /// Makes the room for one more frame of the thread and for its mark.
+    /// Makes the room for one more frame of the thread, for its mark and for its call.
     #[inline(always)]
     pub fn reserve(&mut self, tid: Tid) -> Result<(), AllocError>
         requires lives { is_some (value_of self.old.threads tid) ≡ true }
-        ensures room { OnOk result ((1 ≤ spare_of self.new.threads tid) × (1 ≤ self.new.marks)) }
+        ensures room { OnOk result (HasRoom self.new tid) }
         ensures threads { self.new.threads ≡ with_value self.old.threads tid
             (stamped self.new.threads tid (frames_of self.old.threads tid)
             (pages_of self.old.threads tid)) }
+        ensures list { (calls_of self.new.threads tid).list
+            ≡ (calls_of self.old.threads tid).list }
+        ensures counts { (calls_of self.new.threads tid).counts
+            ≡ (calls_of self.old.threads tid).counts }
         ensures kept { spare_of self.old.threads tid ≤ spare_of self.new.threads tid }
         ensures marks { self.old.marks ≤ self.new.marks }
     {
@@ -134,30 +142,29 @@ impl<S: Lanes> Threads<S> {
         self.threads.get_mut(tid).unwrap().reserve()
     }
 
-    /// One more frame of the thread, inside all its others. It is not refused where there is room for it and its mark.
+    /// Begins a call of the thread: one more frame, inside all its others, with its call. There is room for it.
     #[inline(always)]
-    pub fn push(&mut self, tid: Tid, start: S) -> Result<(), AllocError>
+    pub fn begin(&mut self, tid: Tid, start: S, entry: Addr, back: Option<Addr>)
         requires lives { is_some (value_of self.old.threads tid) ≡ true }
         requires above { All (λ s. s < S.number_of start)
             (starts_of (frames_of self.old.threads tid)) }
-        ensures ok { OnOk result (self.new.threads
+        requires room { HasRoom self.old tid }
+        ensures threads { self.new.threads
             ≡ with_value self.old.threads tid
             (stamped self.new.threads tid
             (frames_of self.old.threads tid ++ new_frame (S.number_of start) ∷ [])
-            (pages_of self.old.threads tid))) }
-        ensures err { OnErr result (self.new.threads
-            ≡ with_value self.old.threads tid
-            (stamped self.new.threads tid (frames_of self.old.threads tid)
-            (pages_of self.old.threads tid))) }
-        ensures room { 1 ≤ spare_of self.old.threads tid → 1 ≤ self.old.marks → IsOk result }
+            (pages_of self.old.threads tid)) }
+        ensures list { (calls_of self.new.threads tid).list
+            ≡ record { entry = entry; back = back; earlier = (calls_of self.old.threads tid).counts } ∷ (calls_of self.old.threads tid).list }
+        ensures counts { (calls_of self.new.threads tid).counts
+            ≡ (calls_of self.old.threads tid).counts }
         ensures lowered { spare_of self.old.threads tid ≤ spare_of self.new.threads tid + 1 }
-        ensures marks { self.old.marks ≤ self.new.marks + 1 }
+        ensures marks { self.old.marks ≡ self.new.marks + 1 }
     {
-        self.reserve_mark()?;
-        self.threads.get_mut(tid).unwrap().push(start)?;
+        let thread = self.threads.get_mut(tid).unwrap();
+        thread.push(start, entry, back);
         self.frames += 1;
         self.marks -= 1;
-        Ok(())
     }
 
     /// Adds to the sums of the thread's frame at the place.
@@ -169,29 +176,46 @@ impl<S: Lanes> Threads<S> {
         ensures threads { self.new.threads ≡ with_value self.old.threads tid
             (stamped self.new.threads tid (added i by (frames_of self.old.threads tid))
             (pages_of self.old.threads tid)) }
+        ensures calls { calls_of self.new.threads tid ≡ calls_of self.old.threads tid }
         ensures kept { spare_of self.old.threads tid ≤ spare_of self.new.threads tid }
         ensures marks { self.new.marks ≡ self.old.marks }
     {
         self.threads.get_mut(tid).unwrap().add(i, by);
     }
 
-    /// Takes the thread's innermost frame, and adds its sums to the frame below.
+    /// Ends the thread's innermost call: its frame is popped, and its sums are added to the frame below. There is a frame, and a
+    /// call.
     #[inline(always)]
-    pub fn pop(&mut self, tid: Tid) -> Option<Sums>
+    pub fn end(&mut self, tid: Tid) -> EndedCall
         requires lives { is_some (value_of self.old.threads tid) ≡ true }
+        requires frames { 1 ≤ length (frames_of self.old.threads tid) }
+        requires calls { 1 ≤ length (calls_of self.old.threads tid).list }
         requires fits { FitsPop (frames_of self.old.threads tid) }
-        ensures popped { IsPopped (frames_of self.old.threads tid) result
+        ensures popped { IsPopped (frames_of self.old.threads tid) (Some result.sums)
             (frames_of self.new.threads tid) }
         ensures threads { self.new.threads ≡ with_value self.old.threads tid
             (stamped self.new.threads tid (frames_of self.new.threads tid)
             (pages_of self.old.threads tid)) }
+        ensures list { (calls_of self.old.threads tid).list
+            ≡ result.call ∷ (calls_of self.new.threads tid).list }
+        ensures counts { (calls_of self.new.threads tid).counts
+            ≡ (calls_of self.old.threads tid).counts }
+        ensures counted { result.counts ≡ (calls_of self.old.threads tid).counts }
         ensures kept { spare_of self.old.threads tid ≤ spare_of self.new.threads tid }
-        ensures marks { self.old.marks ≤ self.new.marks }
+        ensures marks { self.new.marks ≡ self.old.marks + 1 }
     {
-        let sums = self.threads.get_mut(tid).unwrap().pop()?;
+        let thread = self.threads.get_mut(tid).unwrap();
+        let ended = thread.pop();
         self.frames -= 1;
         self.marks += 1;
-        Some(sums)
+        ended
+    }
+
+    /// Whether the thread lives.
+    pub fn lives(&self, tid: Tid) -> bool
+        ensures { result ≡ is_some (value_of self.now.threads tid) }
+    {
+        self.threads.get(tid).is_some()
     }
 
     /// The thread's frames.
@@ -224,6 +248,17 @@ impl<S: Lanes> Threads<S> {
     {
         let thread = self.threads.get_mut(tid).unwrap();
         thread.shadow_mut()
+    }
+
+    /// The thread's calls, for writing.
+    #[inline(always)]
+    pub fn calls_mut(&mut self, tid: Tid) -> &mut ThreadCalls
+        requires { is_some (value_of self.old.threads tid) ≡ true }
+        ensures* writes_back { sem 𝓛 (LendsCalls S.row S.Stamp self.entry tid result) }
+        ensures value { result.now ≡ calls_of self.old.threads tid }
+    {
+        let thread = self.threads.get_mut(tid).unwrap();
+        thread.calls_mut()
     }
 
     /// Gives all stamps their new numbers, and says how many frames there are.

@@ -1,4 +1,4 @@
-use Rattle.std.proofs.Common.{ap}
+use Rattle.std.proofs.Common.{◌∙◌, ap}
 use Rattle.std.specs.Prelude.{is_some}
 use Rattle.shadow_core.proofs.Profiled.{on_err, on_ok}
 use Rattle.shadow_core.proofs.Started.{added_here, room_came, taken_out}
@@ -18,3 +18,9 @@ pub returns-else-is_err-clause-ok : goal.returns-else-is_err-clause-ok
 returns-else-is_err-clause-ok g c =
     on_ok c.reserve-reserved.result
     (room_came c.args.threads.now.threads c.add.new.self.threads c.reserve-reserved.new.self.threads c.args.tid c.requires.above c.in_ok-add.ensures.ok c.reserve-reserved.ensures.threads)
+
+pub returns-else-is_err-clause-list : goal.returns-else-is_err-clause-list
+returns-else-is_err-clause-list g c = on_ok c.reserve-reserved.result (c.reserve-reserved.ensures.list ∙ c.in_ok-add.ensures.list)
+
+pub returns-else-is_err-clause-counts : goal.returns-else-is_err-clause-counts
+returns-else-is_err-clause-counts g c = on_ok c.reserve-reserved.result (c.reserve-reserved.ensures.counts ∙ c.in_ok-add.ensures.counts)

@@ -3,5 +3,5 @@ use Rattle.shadow_core.proofs.endings.end_calls.Goals as goal
 
 pub end_call-requires-clause-sums : goal.end_call-requires-clause-sums
 end_call-requires-clause-sums g c =
-    let none = none_ended c.args.tid c.args.threads.now c.args.calls.now c.args.done.now.items c.requires.lives in
-    sums_left c.args.tid 0 c.args.ended _ _ _ _ _ _ c.requires.lives none c.requires.sums
+    let none = none_ended c.args.tid c.args.threads.now c.args.done.now.items c.requires.lives in
+    sums_left c.args.tid 0 c.args.ended _ _ _ _ c.requires.lives none c.requires.sums

@@ -8,7 +8,7 @@ use Rattle.shadow_core.proofs.endings.end_many.Given as goal
 abbrev pub invariant-loop-count : goal.invariant-loop-count
 invariant-loop-count g l = record {
   few : l.count ≤ l.ended;
-  ended : IsEnded l.tid l.count l.fn.threads l.threads l.fn.calls l.calls l.fn.done.items l.done.items;
+  ended : IsEnded l.tid l.count l.fn.threads l.threads l.fn.done.items l.done.items;
   lives : is_some (value_of l.threads.threads l.tid) ≡ true;
   room : vec_len l.done + (l.ended - l.count) ≤ vec_capacity l.done;
 }

@@ -1,4 +1,4 @@
-use Rattle.shadow_core.proofs.StateEvents.{stamps_are_told, tick_is_made, no_tick_is_made, event_is_made, threads_stay, changed_is_there, stamped_is_there, last_change_counts}
+use Rattle.shadow_core.proofs.StateEvents.{stamps_are_told, tick_is_made, no_tick_is_made, event_is_made, threads_stay, stamped_is_there, last_change_counts}
 use Rattle.shadow_core.proofs.laws.events_are_by_parts.Goals as goal
 
 pub returns-clause-stamps : goal.returns-clause-stamps
@@ -15,9 +15,6 @@ returns-clause-event c = event_is_made
 
 pub returns-clause-threads : goal.returns-clause-threads
 returns-clause-threads c = threads_stay
-
-pub returns-clause-changed : goal.returns-clause-changed
-returns-clause-changed c = changed_is_there
 
 pub returns-clause-stamped : goal.returns-clause-stamped
 returns-clause-stamped c = stamped_is_there

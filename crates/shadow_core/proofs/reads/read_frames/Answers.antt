@@ -45,7 +45,7 @@ returns-then-number-clause-frames g c =
     let size = ap (λ (s : Stack). length s.list) c.frames.ensures in
     moved c.args.threads.now c.take.new.threads c.add_sum.new.self c.args.tid (c.depth-top.result - 1) p c.last_at_most-place.result c.gain_of-gain.result c.frames-then-number.result.now.list
     c.requires.lives c.gain_of-gain.ensures.value c.take.ensures
-    (record { threads = c.add_sum.ensures.threads; kept = c.add_sum.ensures.kept; marks = c.add_sum.ensures.marks })
+    (record { threads = c.add_sum.ensures.threads; calls = c.add_sum.ensures.calls; kept = c.add_sum.ensures.kept; marks = c.add_sum.ensures.marks })
     (ap (λ (s : Stack). s.list) c.frames-then-number.ensures) c.last_at_most-place.ensures (omega (arith, size, c.depth-top.ensures, c.requires.some))
 
 pub returns-then-number-clause-changed : goal.returns-then-number-clause-changed
@@ -55,7 +55,7 @@ returns-then-number-clause-changed g c =
     let size = ap (λ (s : Stack). length s.list) c.frames.ensures in
     moved_alone c.args.threads.now c.take.new.threads c.add_sum.new.self c.args.tid (c.depth-top.result - 1) p c.last_at_most-place.result c.gain_of-gain.result c.frames-then-number.result.now.list
     c.requires.lives c.gain_of-gain.ensures.value c.take.ensures
-    (record { threads = c.add_sum.ensures.threads; kept = c.add_sum.ensures.kept; marks = c.add_sum.ensures.marks })
+    (record { threads = c.add_sum.ensures.threads; calls = c.add_sum.ensures.calls; kept = c.add_sum.ensures.kept; marks = c.add_sum.ensures.marks })
     (ap (λ (s : Stack). s.list) c.frames-then-number.ensures) c.last_at_most-place.ensures (omega (arith, size, c.depth-top.ensures, c.requires.some))
 
 pub returns-else-number-clause-frames : goal.returns-else-number-clause-frames

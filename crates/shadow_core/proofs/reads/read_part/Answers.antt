@@ -107,7 +107,7 @@ returns-clause-read g c =
           (read_at_once old t pages write marks c.args.first n (f c.args.now) bulk c.requires.lives stamps covered
           w.add_sum.new.self (c.depth-top.result - 1) (f c.start_at-start.result) w.sums_of_bulk.result c.frames-2.result.now.list
           w.if-bulk-eq0.true w.sums_of_bulk.ensures
-          (record { threads = w.add_sum.ensures.threads; kept = w.add_sum.ensures.kept; marks = w.add_sum.ensures.marks })
+          (record { threads = w.add_sum.ensures.threads; calls = w.add_sum.ensures.calls; kept = w.add_sum.ensures.kept; marks = w.add_sum.ensures.marks })
           counts (ap (λ (s : Stack). s.list) c.frames-2.ensures) c.start_at-start.ensures.start c.start_at-start.ensures.rising c.requires.starts
           (omega (arith, size, c.depth-top.ensures, c.requires.depth)))
       | else-bulk-eq0 w ↦

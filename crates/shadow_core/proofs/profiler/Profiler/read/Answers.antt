@@ -6,9 +6,9 @@ use Rattle.shadow_core.proofs.profiler.Profiler.read.Goals as goal
 
 pub is_fresh-requires : goal.is_fresh-requires
 is_fresh-requires g c =
-    let a = alive_here g.S.Stamp.MAX (Read c.args.tid c.args.first c.args.count) c.args.tid _ _ c.self.view_is c.requires c.self.invariant c.requires.formed.0.0.0 in
+    let a = alive_here g.S.Stamp.MAX (Read c.args.tid c.args.first c.args.count) c.args.tid _ _ c.self.view_is c.requires c.requires.formed.0.0.0 in
     record { lives = lives_here _ c.args.tid a }
 
 pub returns-then-is_fresh-clause-table : goal.returns-then-is_fresh-clause-table
 returns-then-is_fresh-clause-table g c =
-    read_again g.S.Stamp.MAX c.args.tid c.args.first c.args.count _ _ _ c.self.view_is c.requires c.self.invariant (omega (arith, c.if-count-eq1.true)) (c.is_fresh.ensures c.if-is_fresh.true) (omega arith)
+    read_again g.S.Stamp.MAX c.args.tid c.args.first c.args.count _ _ _ c.self.view_is c.requires (omega (arith, c.if-count-eq1.true)) (c.is_fresh.ensures c.if-is_fresh.true) (omega arith)

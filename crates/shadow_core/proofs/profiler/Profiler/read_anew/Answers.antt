@@ -1,33 +1,27 @@
 use Rattle.std.proofs.Common.{◌≡◌, ◌≤◌, ◌∙◌, ap, refl, subst, sym, arith}
-use Rattle.std.specs.Option.{option_copied_mut}
 use Rattle.trace_model.specs.declared.event_kinds.Event.TheVariants.{Read}
 use Rattle.shadow_pages.specs.Pages.{AreCovered, covers, stamp_at}
 use Rattle.stamp_lanes.specs.Plain.{is_by_kernel, is_by_thread}
 use Rattle.stamp_renumber.specs.Threads.{pages_of}
 use Rattle.shadow_core.specs.State.{State, table_of_state}
-use Rattle.shadow_core.proofs.Accessed.{own_room, whole_changed}
+use Rattle.shadow_core.proofs.Accessed.{own_room}
 use Rattle.shadow_core.proofs.PartReads.{count_few}
-use Rattle.shadow_core.proofs.Profiled.{advance_here, alive_here, found, lives_here, on_err}
-use Rattle.shadow_core.proofs.ReadEvents.{found_fits, may_read_there, read_whole, whole_read}
+use Rattle.shadow_core.proofs.Profiled.{advance_here, alive_here, lives_here, on_err}
+use Rattle.shadow_core.proofs.ReadEvents.{found_fits, found_lives, may_read_there, read_whole}
 use Rattle.shadow_core.proofs.Reading.{lives_changed}
-use Rattle.shadow_core.proofs.SamePages.{changed_alike, seen_same}
+use Rattle.shadow_core.proofs.SamePages.{calls_alike, changed_alike, seen_same}
 use Rattle.shadow_core.proofs.profiler.Profiler.read_anew.Goals as goal
 
 pub cover_own-requires-clause-lives : goal.cover_own-requires-clause-lives
 cover_own-requires-clause-lives g c =
-    let a = alive_here g.S.Stamp.MAX (Read c.args.tid c.args.first c.args.count) c.args.tid _ _ c.self.view_is c.requires c.self.invariant c.requires.formed.0.0.0 in
+    let a = alive_here g.S.Stamp.MAX (Read c.args.tid c.args.first c.args.count) c.args.tid _ _ c.self.view_is c.requires c.requires.formed.0.0.0 in
     lives_here _ c.args.tid a
-
-pub invariant_of-self : goal.invariant_of-self
-invariant_of-self g c =
-    let whole = whole_changed _ c.args.tid c.cover_own.new.threads _ _ c.self.invariant c.in_err-cover_own.ensures.changed in
-    record { same = whole.same; marked = whole.marked }
 
 pub returns-in_err-cover_own-clause-refused : goal.returns-in_err-cover_own-clause-refused
 returns-in_err-cover_own-clause-refused g c =
-    let a = alive_here g.S.Stamp.MAX (Read c.args.tid c.args.first c.args.count) c.args.tid _ _ c.self.view_is c.requires c.self.invariant c.requires.formed.0.0.0 in
+    let a = alive_here g.S.Stamp.MAX (Read c.args.tid c.args.first c.args.count) c.args.tid _ _ c.self.view_is c.requires c.requires.formed.0.0.0 in
     on_err c.from_residual.result
-    (own_room _ c.args.tid a.was a.calls c.cover_own.new.threads a.has c.in_err-cover_own.ensures.changed c.in_err-cover_own.ensures.stamps
+    (own_room _ c.args.tid a.was c.cover_own.new.threads a.has c.in_err-cover_own.ensures.changed c.in_err-cover_own.ensures.stamps
     ∙ ap table_of_state c.self.view_is)
 
 pub from_number-now-requires : goal.from_number-now-requires
@@ -35,24 +29,24 @@ from_number-now-requires g c = (advance_here g.S.Stamp.MAX (Read c.args.tid c.ar
 
 pub read-found-requires-clause-lives : goal.read-found-requires-clause-lives
 read-found-requires-clause-lives g c =
-    (may_read_there g.S.Stamp.MAX c.args.tid c.args.first c.args.count _ _ c.cover_own.new.threads c.self.view_is c.requires c.self.invariant c.in_ok-cover_own.ensures.changed c.in_ok-cover_own.ensures.stamps).lives
+    (may_read_there g.S.Stamp.MAX c.args.tid c.args.first c.args.count _ _ c.cover_own.new.threads c.self.view_is c.requires c.in_ok-cover_own.ensures.changed c.in_ok-cover_own.ensures.stamps).lives
 
 pub read-found-requires-clause-depth : goal.read-found-requires-clause-depth
 read-found-requires-clause-depth g c =
-    (may_read_there g.S.Stamp.MAX c.args.tid c.args.first c.args.count _ _ c.cover_own.new.threads c.self.view_is c.requires c.self.invariant c.in_ok-cover_own.ensures.changed c.in_ok-cover_own.ensures.stamps).depth
+    (may_read_there g.S.Stamp.MAX c.args.tid c.args.first c.args.count _ _ c.cover_own.new.threads c.self.view_is c.requires c.in_ok-cover_own.ensures.changed c.in_ok-cover_own.ensures.stamps).depth
 
 pub read-found-requires-clause-starts : goal.read-found-requires-clause-starts
 read-found-requires-clause-starts g c =
-    (may_read_there g.S.Stamp.MAX c.args.tid c.args.first c.args.count _ _ c.cover_own.new.threads c.self.view_is c.requires c.self.invariant c.in_ok-cover_own.ensures.changed c.in_ok-cover_own.ensures.stamps).starts
+    (may_read_there g.S.Stamp.MAX c.args.tid c.args.first c.args.count _ _ c.cover_own.new.threads c.self.view_is c.requires c.in_ok-cover_own.ensures.changed c.in_ok-cover_own.ensures.stamps).starts
 
 pub read-found-requires-clause-sums : goal.read-found-requires-clause-sums
 read-found-requires-clause-sums g c =
-    (may_read_there g.S.Stamp.MAX c.args.tid c.args.first c.args.count _ _ c.cover_own.new.threads c.self.view_is c.requires c.self.invariant c.in_ok-cover_own.ensures.changed c.in_ok-cover_own.ensures.stamps).sums
+    (may_read_there g.S.Stamp.MAX c.args.tid c.args.first c.args.count _ _ c.cover_own.new.threads c.self.view_is c.requires c.in_ok-cover_own.ensures.changed c.in_ok-cover_own.ensures.stamps).sums
 
-pub unwrap-calls-requires : goal.unwrap-calls-requires
-unwrap-calls-requires g c =
-    let a = alive_here g.S.Stamp.MAX (Read c.args.tid c.args.first c.args.count) c.args.tid _ _ c.self.view_is c.requires c.self.invariant c.requires.formed.0.0.0 in
-    found c.get_mut.result c.self.inside.calls.list c.args.tid c.get_mut.ensures.found a.calls a.has.calls
+pub calls_mut-calls-requires : goal.calls_mut-calls-requires
+calls_mut-calls-requires g c =
+    found_lives g.S.Stamp.MAX c.args.tid c.args.first c.args.count _ _ c.cover_own.new.threads c.self.view_is c.requires c.in_ok-cover_own.ensures.changed c.in_ok-cover_own.ensures.stamps
+    c.read-found.new.threads c.read-found.result.thread c.read-found.result.kernel _ c.read-found.ensures.read
 
 pub add_found-requires-clause-thread : goal.add_found-requires-clause-thread
 add_found-requires-clause-thread g c =
@@ -61,8 +55,9 @@ add_found-requires-clause-thread g c =
     let marks = stamp_at c.self.inside.marks.pages in
     let few : c.read-found.result.thread ≤ c.args.count = omega (arith, c.read-found.ensures.thread, count_few is_by_thread own write marks c.args.first c.args.count) in
     let few' : c.read-found.result.kernel ≤ c.args.count = omega (arith, c.read-found.ensures.kernel, count_few is_by_kernel own write marks c.args.first c.args.count) in
-    (found_fits g.S.Stamp.MAX c.args.tid c.args.first c.args.count _ _ c.cover_own.new.threads c.self.view_is c.requires c.self.invariant c.in_ok-cover_own.ensures.changed c.in_ok-cover_own.ensures.stamps
-    c.read-found.result.thread c.read-found.result.kernel c.unwrap-calls.result.now (sym c.get_mut.ensures.found ∙ ap option_copied_mut c.unwrap-calls.ensures) few few').0
+    (found_fits g.S.Stamp.MAX c.args.tid c.args.first c.args.count _ _ c.cover_own.new.threads c.self.view_is c.requires c.in_ok-cover_own.ensures.changed c.in_ok-cover_own.ensures.stamps
+    c.read-found.new.threads c.read-found.result.thread c.read-found.result.kernel _ c.read-found.ensures.read
+    c.calls_mut-calls.result.now c.calls_mut-calls.ensures.value few few').0
 
 pub add_found-requires-clause-kernel : goal.add_found-requires-clause-kernel
 add_found-requires-clause-kernel g c =
@@ -71,28 +66,23 @@ add_found-requires-clause-kernel g c =
     let marks = stamp_at c.self.inside.marks.pages in
     let few : c.read-found.result.thread ≤ c.args.count = omega (arith, c.read-found.ensures.thread, count_few is_by_thread own write marks c.args.first c.args.count) in
     let few' : c.read-found.result.kernel ≤ c.args.count = omega (arith, c.read-found.ensures.kernel, count_few is_by_kernel own write marks c.args.first c.args.count) in
-    (found_fits g.S.Stamp.MAX c.args.tid c.args.first c.args.count _ _ c.cover_own.new.threads c.self.view_is c.requires c.self.invariant c.in_ok-cover_own.ensures.changed c.in_ok-cover_own.ensures.stamps
-    c.read-found.result.thread c.read-found.result.kernel c.unwrap-calls.result.now (sym c.get_mut.ensures.found ∙ ap option_copied_mut c.unwrap-calls.ensures) few few').1
-
-pub invariant_of-self-2 : goal.invariant_of-self-2
-invariant_of-self-2 g c =
-    let whole = whole_read g.S.Stamp.MAX c.args.tid c.args.first c.args.count _ _ c.cover_own.new.threads c.self.view_is c.requires c.self.invariant c.in_ok-cover_own.ensures.changed c.in_ok-cover_own.ensures.stamps
-    c.read-found.new.threads c.read-found.result.thread c.read-found.result.kernel _ c.read-found.ensures.read c.add_found.new.self 0 in
-    record { same = whole.same; marked = whole.marked }
+    (found_fits g.S.Stamp.MAX c.args.tid c.args.first c.args.count _ _ c.cover_own.new.threads c.self.view_is c.requires c.in_ok-cover_own.ensures.changed c.in_ok-cover_own.ensures.stamps
+    c.read-found.new.threads c.read-found.result.thread c.read-found.result.kernel _ c.read-found.ensures.read
+    c.calls_mut-calls.result.now c.calls_mut-calls.ensures.value few few').1
 
 pub returns-clause-table : goal.returns-clause-table
 returns-clause-table g c =
     let number : g.S.Stamp.number_of c.from_number-now.result ≡ c.self.inside.counter =
     ap g.S.Stamp.number_of c.from_number-now.ensures
     ∙ g.met.S.Stamp.number_back c.self.inside.counter (advance_here g.S.Stamp.MAX (Read c.args.tid c.args.first c.args.count) _ _ c.self.view_is c.requires).within in
-    read_whole g.S.Stamp.MAX c.args.tid c.args.first c.args.count _ _ c.cover_own.new.threads c.self.view_is c.requires c.self.invariant c.in_ok-cover_own.ensures.changed c.in_ok-cover_own.ensures.stamps
-    c.read-found.new.threads c.read-found.result.thread c.read-found.result.kernel _ c.read-found.ensures.read c.unwrap-calls.result.now c.add_found.new.self _
-    (sym c.get_mut.ensures.found ∙ ap option_copied_mut c.unwrap-calls.ensures) number c.read-found.ensures.thread c.read-found.ensures.kernel c.add_found.ensures (omega (arith, c.from.ensures))
+    read_whole g.S.Stamp.MAX c.args.tid c.args.first c.args.count _ _ c.cover_own.new.threads c.self.view_is c.requires c.in_ok-cover_own.ensures.changed c.in_ok-cover_own.ensures.stamps
+    c.read-found.new.threads c.read-found.result.thread c.read-found.result.kernel _ c.read-found.ensures.read
+    c.calls_mut-calls.result.now c.add_found.new.self _ c.calls_mut-calls.ensures.value number c.read-found.ensures.thread c.read-found.ensures.kernel c.add_found.ensures (omega (arith, c.from.ensures))
 
 pub returns-clause-pages : goal.returns-clause-pages
 returns-clause-pages g c = λ own.
     let t = c.args.tid in
-    let a = alive_here g.S.Stamp.MAX (Read t c.args.first c.args.count) t _ _ c.self.view_is c.requires c.self.invariant c.requires.formed.0.0.0 in
+    let a = alive_here g.S.Stamp.MAX (Read t c.args.first c.args.count) t _ _ c.self.view_is c.requires c.requires.formed.0.0.0 in
     let lives = lives_here _ t a in
     let old = c.self.inside.threads in
     let mid = c.cover_own.new.threads in
@@ -103,6 +93,7 @@ returns-clause-pages g c = λ own.
       writes = λ w. refl;
       marks = λ w. refl;
       accesses = λ u w.
-          changed_alike mid c.read-found.new.threads t _ _ (lives_changed old mid t _ _ lives roomy) read.changed read.covered u w
+          calls_alike c.read-found.new.threads t c.add_found.new.self (lives_changed mid c.read-found.new.threads t _ _ (lives_changed old mid t _ _ lives roomy) read.changed) u w
+          ∙ changed_alike mid c.read-found.new.threads t _ _ (lives_changed old mid t _ _ lives roomy) read.changed read.covered u w
           ∙ changed_alike old mid t _ _ lives roomy (λ v. ap (λ ps. covers ps v) kept) u w;
     })

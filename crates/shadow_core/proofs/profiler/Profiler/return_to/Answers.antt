@@ -1,107 +1,150 @@
-use Rattle.std.proofs.Common.{◌≡◌, ◌∙◌, ◌++◌, Some, [], Option, ap, arith, length, map, refl, sym}
-use Rattle.std.specs.Prelude.{is_some}
-use Rattle.std.specs.Option.{option_copied_mut, option_map_or}
+use Rattle.std.proofs.Common.{◌≡◌, ◌≤◌, ◌∙◌, ◌++◌, ap, arith, length, refl, subst, sym}
 use Rattle.guest_words.specs.ByThread.{value_of}
 use Rattle.trace_model.specs.declared.event_kinds.Event.TheVariants.{Ret}
-use Rattle.trace_model.specs.Activations.{count_returned}
+use Rattle.call_tracker.specs.ThreadCalls.{Calls}
+use Rattle.shadow_pages.specs.Pages.{covers}
+use Rattle.stamp_renumber.specs.LentThread.{with_calls}
+use Rattle.stamp_renumber.specs.Threads.{Live, calls_of, frames_of, pages_of}
+use Rattle.shadow_core.specs.Ending.{IsEnded}
 use Rattle.shadow_core.specs.Records.{finished}
 use Rattle.shadow_core.specs.Renewal.{bounded_tick}
-use Rattle.shadow_core.specs.State.{Calls, State, calls_of, table_of_state}
-use Rattle.shadow_core.specs.Table.{OpenCall, no_counts}
+use Rattle.shadow_core.specs.State.{State, table_of_state}
 use Rattle.shadow_core.specs.Ticks.{table_after}
-use Rattle.shadow_core.proofs.Ended.{left_as_before, may_end, recorded, returned, whole_left, whole_returned}
-use Rattle.shadow_core.proofs.Profiled.{alive_here, found, on_err}
-use Rattle.shadow_pages.specs.Pages.{covers}
-use Rattle.stamp_renumber.specs.Threads.{pages_of}
-use Rattle.shadow_core.proofs.SamePages.{with_alike, seen_same}
+use Rattle.shadow_core.proofs.Ended.{MayEndIn, left_as_before, may_end, recorded, returned, returned_by, same_calls}
+use Rattle.shadow_core.proofs.Profiled.{on_err}
+use Rattle.shadow_core.proofs.SamePages.{seen_same, with_alike}
 use Rattle.shadow_core.proofs.profiler.Profiler.return_to.Goals as goal
 
-pub unwrap-calls-requires : goal.unwrap-calls-requires
-unwrap-calls-requires g c =
-    let a = alive_here g.S.Stamp.MAX (Ret c.args.tid c.args.target) c.args.tid _ _ c.self.view_is c.requires c.self.invariant c.requires.formed.0.0 in
-    found c.get_mut.result c.self.inside.calls.list c.args.tid c.get_mut.ensures.found a.calls a.has.calls
+pub calls_mut-requires : goal.calls_mut-requires
+calls_mut-requires g c =
+    let t = c.args.tid in
+    let may = may_end g.S.Stamp.MAX t (Ret t c.args.target) _ _ c.self.view_is c.requires c.requires.formed.0.0 in
+    may.can.lives
 
 pub end_calls-requires-clause-lives : goal.end_calls-requires-clause-lives
 end_calls-requires-clause-lives g c =
-    let two : value_of c.self.inside.calls.list c.args.tid ≡ Some c.ending-ended.new.self = sym c.get_mut.ensures.found ∙ ap option_copied_mut c.unwrap-calls.ensures ∙ ap Some (sym c.ending-ended.ensures.same) in
-    let may = may_end g.S.Stamp.MAX c.args.tid (Ret c.args.tid c.args.target) _ _ c.ending-ended.new.self c.self.view_is c.requires c.self.invariant c.requires.formed.0.0 two in
-    ap is_some may.has.stamps
+    let t = c.args.tid in
+    let may = may_end g.S.Stamp.MAX t (Ret t c.args.target) _ _ c.self.view_is c.requires c.requires.formed.0.0 in
+    let same : with_calls c.self.inside.threads t c.ending-ended.new.self ≡ c.self.inside.threads =
+    same_calls c.self.inside.threads t c.ending-ended.new.self may.can.lives (c.ending-ended.ensures.same ∙ c.calls_mut.ensures.value) in
+    let can : MayEndIn (with_calls c.self.inside.threads t c.ending-ended.new.self) t = subst (λ (l : Live). MayEndIn l t) (sym same) may.can in
+    can.lives
 
 pub end_calls-requires-clause-frames : goal.end_calls-requires-clause-frames
 end_calls-requires-clause-frames g c =
-    let two : value_of c.self.inside.calls.list c.args.tid ≡ Some c.ending-ended.new.self = sym c.get_mut.ensures.found ∙ ap option_copied_mut c.unwrap-calls.ensures ∙ ap Some (sym c.ending-ended.ensures.same) in
-    let may = may_end g.S.Stamp.MAX c.args.tid (Ret c.args.tid c.args.target) _ _ c.ending-ended.new.self c.self.view_is c.requires c.self.invariant c.requires.formed.0.0 two in
-    omega (arith, may.frames, c.ending-ended.ensures.within, ap (λ (k : Calls). length k.list) c.ending-ended.ensures.same)
+    let t = c.args.tid in
+    let may = may_end g.S.Stamp.MAX t (Ret t c.args.target) _ _ c.self.view_is c.requires c.requires.formed.0.0 in
+    let same : with_calls c.self.inside.threads t c.ending-ended.new.self ≡ c.self.inside.threads =
+    same_calls c.self.inside.threads t c.ending-ended.new.self may.can.lives (c.ending-ended.ensures.same ∙ c.calls_mut.ensures.value) in
+    let can : MayEndIn (with_calls c.self.inside.threads t c.ending-ended.new.self) t = subst (λ (l : Live). MayEndIn l t) (sym same) may.can in
+    omega (
+      arith,
+      can.frames,
+      ap (λ (l : Live). length (calls_of l.threads t).list) same,
+      c.ending-ended.ensures.within,
+      ap (λ (k : Calls). length k.list) c.calls_mut.ensures.value,
+    )
+
+pub end_calls-requires-clause-calls : goal.end_calls-requires-clause-calls
+end_calls-requires-clause-calls g c =
+    let t = c.args.tid in
+    let may = may_end g.S.Stamp.MAX t (Ret t c.args.target) _ _ c.self.view_is c.requires c.requires.formed.0.0 in
+    let same : with_calls c.self.inside.threads t c.ending-ended.new.self ≡ c.self.inside.threads =
+    same_calls c.self.inside.threads t c.ending-ended.new.self may.can.lives (c.ending-ended.ensures.same ∙ c.calls_mut.ensures.value) in
+    omega (
+      arith,
+      ap (λ (l : Live). length (calls_of l.threads t).list) same,
+      c.ending-ended.ensures.within,
+      ap (λ (k : Calls). length k.list) c.calls_mut.ensures.value,
+    )
 
 pub end_calls-requires-clause-sums : goal.end_calls-requires-clause-sums
 end_calls-requires-clause-sums g c =
-    let two : value_of c.self.inside.calls.list c.args.tid ≡ Some c.ending-ended.new.self = sym c.get_mut.ensures.found ∙ ap option_copied_mut c.unwrap-calls.ensures ∙ ap Some (sym c.ending-ended.ensures.same) in
-    let may = may_end g.S.Stamp.MAX c.args.tid (Ret c.args.tid c.args.target) _ _ c.ending-ended.new.self c.self.view_is c.requires c.self.invariant c.requires.formed.0.0 two in
-    may.sums
+    let t = c.args.tid in
+    let may = may_end g.S.Stamp.MAX t (Ret t c.args.target) _ _ c.self.view_is c.requires c.requires.formed.0.0 in
+    let same : with_calls c.self.inside.threads t c.ending-ended.new.self ≡ c.self.inside.threads =
+    same_calls c.self.inside.threads t c.ending-ended.new.self may.can.lives (c.ending-ended.ensures.same ∙ c.calls_mut.ensures.value) in
+    let can : MayEndIn (with_calls c.self.inside.threads t c.ending-ended.new.self) t = subst (λ (l : Live). MayEndIn l t) (sym same) may.can in
+    can.sums
 
 pub end_calls-requires-clause-thread : goal.end_calls-requires-clause-thread
 end_calls-requires-clause-thread g c =
-    let two : value_of c.self.inside.calls.list c.args.tid ≡ Some c.ending-ended.new.self = sym c.get_mut.ensures.found ∙ ap option_copied_mut c.unwrap-calls.ensures ∙ ap Some (sym c.ending-ended.ensures.same) in
-    let may = may_end g.S.Stamp.MAX c.args.tid (Ret c.args.tid c.args.target) _ _ c.ending-ended.new.self c.self.view_is c.requires c.self.invariant c.requires.formed.0.0 two in
-    may.thread
+    let t = c.args.tid in
+    let may = may_end g.S.Stamp.MAX t (Ret t c.args.target) _ _ c.self.view_is c.requires c.requires.formed.0.0 in
+    let same : with_calls c.self.inside.threads t c.ending-ended.new.self ≡ c.self.inside.threads =
+    same_calls c.self.inside.threads t c.ending-ended.new.self may.can.lives (c.ending-ended.ensures.same ∙ c.calls_mut.ensures.value) in
+    let can : MayEndIn (with_calls c.self.inside.threads t c.ending-ended.new.self) t = subst (λ (l : Live). MayEndIn l t) (sym same) may.can in
+    can.thread
 
 pub end_calls-requires-clause-kernel : goal.end_calls-requires-clause-kernel
 end_calls-requires-clause-kernel g c =
-    let two : value_of c.self.inside.calls.list c.args.tid ≡ Some c.ending-ended.new.self = sym c.get_mut.ensures.found ∙ ap option_copied_mut c.unwrap-calls.ensures ∙ ap Some (sym c.ending-ended.ensures.same) in
-    let may = may_end g.S.Stamp.MAX c.args.tid (Ret c.args.tid c.args.target) _ _ c.ending-ended.new.self c.self.view_is c.requires c.self.invariant c.requires.formed.0.0 two in
-    may.kernel
-
-pub invariant_of-self-2 : goal.invariant_of-self-2
-invariant_of-self-2 g c =
-    let two : value_of c.self.inside.calls.list c.args.tid ≡ Some c.ending-ended.new.self = sym c.get_mut.ensures.found ∙ ap option_copied_mut c.unwrap-calls.ensures ∙ ap Some (sym c.ending-ended.ensures.same) in
-    let may = may_end g.S.Stamp.MAX c.args.tid (Ret c.args.tid c.args.target) _ _ c.ending-ended.new.self c.self.view_is c.requires c.self.invariant c.requires.formed.0.0 two in
-    let count = c.ending-ended.ensures.count ∙ ap (λ (k : Calls). count_returned c.args.target (map (λ (o : OpenCall). o.back) k.list)) (sym c.ending-ended.ensures.same) in
-    let whole = whole_returned c.args.tid c.args.target c.ending-ended.result _ c.end_calls.new.threads c.ending-ended.new.self c.end_calls.new.calls c.reserve.new.self.items c.end_calls.new.done.items may count c.end_calls.ensures 0 c.self.invariant in
-    record { same = whole.same; marked = whole.marked }
+    let t = c.args.tid in
+    let may = may_end g.S.Stamp.MAX t (Ret t c.args.target) _ _ c.self.view_is c.requires c.requires.formed.0.0 in
+    let same : with_calls c.self.inside.threads t c.ending-ended.new.self ≡ c.self.inside.threads =
+    same_calls c.self.inside.threads t c.ending-ended.new.self may.can.lives (c.ending-ended.ensures.same ∙ c.calls_mut.ensures.value) in
+    let can : MayEndIn (with_calls c.self.inside.threads t c.ending-ended.new.self) t = subst (λ (l : Live). MayEndIn l t) (sym same) may.can in
+    can.kernel
 
 pub returns-clause-table : goal.returns-clause-table
 returns-clause-table g c =
-    let two : value_of c.self.inside.calls.list c.args.tid ≡ Some c.ending-ended.new.self = sym c.get_mut.ensures.found ∙ ap option_copied_mut c.unwrap-calls.ensures ∙ ap Some (sym c.ending-ended.ensures.same) in
-    let may = may_end g.S.Stamp.MAX c.args.tid (Ret c.args.tid c.args.target) _ _ c.ending-ended.new.self c.self.view_is c.requires c.self.invariant c.requires.formed.0.0 two in
-    let count = c.ending-ended.ensures.count ∙ ap (λ (k : Calls). count_returned c.args.target (map (λ (o : OpenCall). o.back) k.list)) (sym c.ending-ended.ensures.same) in
-    returned c.args.tid c.args.target c.ending-ended.result _ c.end_calls.new.threads c.ending-ended.new.self c.end_calls.new.calls c.reserve.new.self.items c.end_calls.new.done.items may count c.end_calls.ensures g.S.Stamp.MAX
-    ∙ ap (λ (k : State). table_after (bounded_tick g.S.Stamp.MAX) (Ret c.args.tid c.args.target) (table_of_state k)) c.self.view_is
+    let t = c.args.tid in
+    let may = may_end g.S.Stamp.MAX t (Ret t c.args.target) _ _ c.self.view_is c.requires c.requires.formed.0.0 in
+    let same : with_calls c.self.inside.threads t c.ending-ended.new.self ≡ c.self.inside.threads =
+    same_calls c.self.inside.threads t c.ending-ended.new.self may.can.lives (c.ending-ended.ensures.same ∙ c.calls_mut.ensures.value) in
+    let ended : IsEnded t c.ending-ended.result c.self.inside.threads c.end_calls.new.threads c.reserve.new.self.items c.end_calls.new.done.items =
+    subst (λ (l : Live). IsEnded t c.ending-ended.result l c.end_calls.new.threads c.reserve.new.self.items c.end_calls.new.done.items) same c.end_calls.ensures in
+    let count = c.ending-ended.ensures.count ∙ ap (returned_by c.args.target) c.calls_mut.ensures.value in
+    returned t c.args.target c.ending-ended.result _ c.end_calls.new.threads c.reserve.new.self.items c.end_calls.new.done.items may count ended g.S.Stamp.MAX
+    ∙ ap (λ (k : State). table_after (bounded_tick g.S.Stamp.MAX) (Ret t c.args.target) (table_of_state k)) c.self.view_is
 
 pub returns-clause-done : goal.returns-clause-done
 returns-clause-done g c =
-    let two : value_of c.self.inside.calls.list c.args.tid ≡ Some c.ending-ended.new.self = sym c.get_mut.ensures.found ∙ ap option_copied_mut c.unwrap-calls.ensures ∙ ap Some (sym c.ending-ended.ensures.same) in
-    let may = may_end g.S.Stamp.MAX c.args.tid (Ret c.args.tid c.args.target) _ _ c.ending-ended.new.self c.self.view_is c.requires c.self.invariant c.requires.formed.0.0 two in
-    let count = c.ending-ended.ensures.count ∙ ap (λ (k : Calls). count_returned c.args.target (map (λ (o : OpenCall). o.back) k.list)) (sym c.ending-ended.ensures.same) in
-    recorded c.args.tid c.args.target c.ending-ended.result _ c.end_calls.new.threads c.ending-ended.new.self c.end_calls.new.calls c.reserve.new.self.items c.end_calls.new.done.items may count c.end_calls.ensures
-    ∙ (λ i. c.in_ok-reserve.ensures.items i ++ finished (Ret c.args.tid c.args.target) (table_of_state (c.self.view_is i)))
+    let t = c.args.tid in
+    let may = may_end g.S.Stamp.MAX t (Ret t c.args.target) _ _ c.self.view_is c.requires c.requires.formed.0.0 in
+    let same : with_calls c.self.inside.threads t c.ending-ended.new.self ≡ c.self.inside.threads =
+    same_calls c.self.inside.threads t c.ending-ended.new.self may.can.lives (c.ending-ended.ensures.same ∙ c.calls_mut.ensures.value) in
+    let ended : IsEnded t c.ending-ended.result c.self.inside.threads c.end_calls.new.threads c.reserve.new.self.items c.end_calls.new.done.items =
+    subst (λ (l : Live). IsEnded t c.ending-ended.result l c.end_calls.new.threads c.reserve.new.self.items c.end_calls.new.done.items) same c.end_calls.ensures in
+    let count = c.ending-ended.ensures.count ∙ ap (returned_by c.args.target) c.calls_mut.ensures.value in
+    recorded t c.args.target c.ending-ended.result _ c.end_calls.new.threads c.reserve.new.self.items c.end_calls.new.done.items may count ended
+    ∙ (λ i. c.in_ok-reserve.ensures.items i ++ finished (Ret t c.args.target) (table_of_state (c.self.view_is i)))
 
 pub returns-in_err-reserve-clause-no_memory : goal.returns-in_err-reserve-clause-no_memory
 returns-in_err-reserve-clause-no_memory g c = λ fits.
-    let t = c.args.tid in
-    let one : value_of c.args.self.now.calls t ≡ Some c.unwrap-calls.result.now =
-    sym (ap (λ (s : State). value_of s.calls t) c.self.view_is) ∙ sym c.get_mut.ensures.found ∙ ap option_copied_mut c.unwrap-calls.ensures in
-    let own : calls_of c.args.self.now.calls t ≡ c.unwrap-calls.result.now =
-    ap (λ (o : Option Calls). option_map_or (λ (k : Calls). k) o (record { list = []; counts = no_counts })) one in
-    let same = ap (λ (k : Calls). count_returned c.args.target (map (λ (o : OpenCall). o.back) k.list)) own in
-    absurd (omega (arith, fits, c.in_err-reserve.ensures.full, c.ending-ended.ensures.count, same))
+    let own = sym (ap (λ (s : State). returned_by c.args.target (calls_of s.live.threads c.args.tid)) c.self.view_is) ∙ sym (ap (returned_by c.args.target) c.calls_mut.ensures.value) in
+    absurd (omega (arith, fits, c.in_err-reserve.ensures.full, c.ending-ended.ensures.count, own))
 
 pub returns-clause-pages : goal.returns-clause-pages
 returns-clause-pages g c =
     let t = c.args.tid in
-    let two : value_of c.self.inside.calls.list t ≡ Some c.ending-ended.new.self = sym c.get_mut.ensures.found ∙ ap option_copied_mut c.unwrap-calls.ensures ∙ ap Some (sym c.ending-ended.ensures.same) in
-    let may = may_end g.S.Stamp.MAX t (Ret t c.args.target) _ _ c.ending-ended.new.self c.self.view_is c.requires c.self.invariant c.requires.formed.0.0 two in
+    let may = may_end g.S.Stamp.MAX t (Ret t c.args.target) _ _ c.self.view_is c.requires c.requires.formed.0.0 in
+    let same : with_calls c.self.inside.threads t c.ending-ended.new.self ≡ c.self.inside.threads =
+    same_calls c.self.inside.threads t c.ending-ended.new.self may.can.lives (c.ending-ended.ensures.same ∙ c.calls_mut.ensures.value) in
+    let ended : IsEnded t c.ending-ended.result c.self.inside.threads c.end_calls.new.threads c.reserve.new.self.items c.end_calls.new.done.items =
+    subst (λ (l : Live). IsEnded t c.ending-ended.result l c.end_calls.new.threads c.reserve.new.self.items c.end_calls.new.done.items) same c.end_calls.ensures in
+    let count = c.ending-ended.ensures.count ∙ ap (returned_by c.args.target) c.calls_mut.ensures.value in
     seen_same c.self.view_is (record {
       writes = λ w. refl;
       marks = λ w. refl;
-      accesses = λ u w. ap (λ xs. covers (pages_of xs u) w) c.end_calls.ensures.threads ∙ with_alike c.self.inside.threads.threads t _ (ap is_some may.has.stamps) (λ v. refl) u w;
+      accesses = λ u w. ap (λ xs. covers (pages_of xs u) w) ended.threads ∙ with_alike c.self.inside.threads.threads t _ may.can.lives (λ v. refl) u w;
     })
 
-pub invariant_of-self : goal.invariant_of-self
-invariant_of-self g c =
-    let whole = whole_left _ c.args.tid c.ending-ended.new.self c.self.invariant in
-    record { same = whole.same; marked = whole.marked }
+pub returns-in_err-reserve-clause-pages : goal.returns-in_err-reserve-clause-pages
+returns-in_err-reserve-clause-pages g c =
+    let t = c.args.tid in
+    let may = may_end g.S.Stamp.MAX t (Ret t c.args.target) _ _ c.self.view_is c.requires c.requires.formed.0.0 in
+    let same : with_calls c.self.inside.threads t c.ending-ended.new.self ≡ c.self.inside.threads =
+    same_calls c.self.inside.threads t c.ending-ended.new.self may.can.lives (c.ending-ended.ensures.same ∙ c.calls_mut.ensures.value) in
+    seen_same c.self.view_is (record {
+      writes = λ w. refl;
+      marks = λ w. refl;
+      accesses = λ u w. ap (λ (l : Live). covers (pages_of l.threads u) w) same;
+    })
 
 pub returns-in_err-reserve-clause-refused : goal.returns-in_err-reserve-clause-refused
 returns-in_err-reserve-clause-refused g c =
-    let two : value_of c.self.inside.calls.list c.args.tid ≡ Some c.ending-ended.new.self = sym c.get_mut.ensures.found ∙ ap option_copied_mut c.unwrap-calls.ensures ∙ ap Some (sym c.ending-ended.ensures.same) in
-    on_err c.from_residual.result (left_as_before _ _ c.self.view_is c.args.tid c.ending-ended.new.self two)
+    let t = c.args.tid in
+    let may = may_end g.S.Stamp.MAX t (Ret t c.args.target) _ _ c.self.view_is c.requires c.requires.formed.0.0 in
+    let same : with_calls c.self.inside.threads t c.ending-ended.new.self ≡ c.self.inside.threads =
+    same_calls c.self.inside.threads t c.ending-ended.new.self may.can.lives (c.ending-ended.ensures.same ∙ c.calls_mut.ensures.value) in
+    on_err c.from_residual.result (left_as_before _ _ c.self.view_is _ same)

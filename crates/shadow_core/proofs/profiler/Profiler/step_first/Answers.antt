@@ -1,13 +1,12 @@
 use Rattle.std.proofs.Common.{◌∙◌, ap, refl, sym, subst}
-use Rattle.std.specs.Option.{option_copied_mut}
 use Rattle.trace_model.specs.declared.event_kinds.Event.TheVariants.{Step}
 use Rattle.trace_model.specs.Observing.{MayTake}
 use Rattle.shadow_core.specs.State.{State, table_of_state}
 use Rattle.shadow_core.specs.Renewal.{bounded_tick}
 use Rattle.shadow_core.specs.Ticks.{table_after}
 use Rattle.shadow_core.specs.Profiling.{StandsFor}
-use Rattle.shadow_core.proofs.Profiled.{may_advance, alive_for_step, found, step_fits, stepped, whole_after}
-use Rattle.shadow_core.proofs.SamePages.{advanced_alike, seen_same}
+use Rattle.shadow_core.proofs.Profiled.{lives_after, may_advance, step_fits, stepped}
+use Rattle.shadow_core.proofs.SamePages.{advanced_alike, calls_alike, seen_same}
 use Rattle.shadow_core.proofs.profiler.Profiler.step_first.Goals as goal
 
 pub advance-requires-clause-within : goal.advance-requires-clause-within
@@ -26,33 +25,34 @@ pub advance-requires-clause-few : goal.advance-requires-clause-few
 advance-requires-clause-few g c =
     (may_advance g.S.Stamp.MAX _ _ (subst (λ (k : State). MayTake (StandsFor g.S.Stamp.MAX) k (Step c.args.tid)) (sym c.self.view_is) c.requires)).few
 
-pub unwrap-requires : goal.unwrap-requires
-unwrap-requires g c =
+pub calls_mut-requires : goal.calls_mut-requires
+calls_mut-requires g c =
     let may = subst (λ (k : State). MayTake (StandsFor g.S.Stamp.MAX) k (Step c.args.tid)) (sym c.self.view_is) c.requires in
-    let a = alive_for_step g.S.Stamp.MAX c.args.tid _ may c.self.invariant in
-    found c.get_mut.result c.self.inside.calls.list c.args.tid c.get_mut.ensures.found a.calls a.has.calls
+    lives_after g.S.Stamp.MAX c.args.tid c.is_switch.result _ _ may c.advance.ensures
 
-pub add_step-requires : goal.add_step-requires
-add_step-requires g c =
+pub add_steps-requires : goal.add_steps-requires
+add_steps-requires g c =
     let may = subst (λ (k : State). MayTake (StandsFor g.S.Stamp.MAX) k (Step c.args.tid)) (sym c.self.view_is) c.requires in
-    step_fits g.S.Stamp.MAX c.args.tid _ c.unwrap.result.now may c.self.invariant (sym c.get_mut.ensures.found ∙ ap option_copied_mut c.unwrap.ensures)
+    step_fits g.S.Stamp.MAX c.args.tid c.is_switch.result _ c.calls_mut.result.now _ may c.advance.ensures c.calls_mut.ensures.value
 
 pub invariant_of-self : goal.invariant_of-self
-invariant_of-self g c =
-    let may = subst (λ (k : State). MayTake (StandsFor g.S.Stamp.MAX) k (Step c.args.tid)) (sym c.self.view_is) c.requires in
-    let whole = whole_after g.S.Stamp.MAX c.is_switch.result _ _ c.args.tid c.add_step.new.self c.self.invariant c.advance.ensures in
-    record { same = whole.same; marked = whole.marked }
+invariant_of-self g c = record { marked = λ w h. c.self.invariant.marked w (sym (c.advance.ensures.covered w) ∙ h) }
 
 pub returns-clause-table : goal.returns-clause-table
 returns-clause-table g c =
     let may = subst (λ (k : State). MayTake (StandsFor g.S.Stamp.MAX) k (Step c.args.tid)) (sym c.self.view_is) c.requires in
-    stepped g.S.Stamp.MAX c.args.tid c.is_switch.result _ c.unwrap.result.now c.add_step.new.self _ may c.self.invariant
-    (sym c.get_mut.ensures.found ∙ ap option_copied_mut c.unwrap.ensures) c.is_switch.ensures c.advance.ensures c.add_step.ensures
+    stepped g.S.Stamp.MAX c.args.tid c.is_switch.result _ c.calls_mut.result.now c.add_steps.new.self _ may
+    c.is_switch.ensures c.advance.ensures c.calls_mut.ensures.value c.add_steps.ensures
     ∙ ap (λ (k : State). table_after (bounded_tick g.S.Stamp.MAX) (Step c.args.tid) (table_of_state k)) c.self.view_is
 
 pub returns-clause-pages : goal.returns-clause-pages
-returns-clause-pages g c = seen_same c.self.view_is (record {
-  writes = c.advance.ensures.covered;
-  marks = λ w. refl;
-  accesses = advanced_alike g.S.Stamp.MAX c.is_switch.result _ _ c.advance.ensures;
-})
+returns-clause-pages g c =
+    let may = subst (λ (k : State). MayTake (StandsFor g.S.Stamp.MAX) k (Step c.args.tid)) (sym c.self.view_is) c.requires in
+    let lives = lives_after g.S.Stamp.MAX c.args.tid c.is_switch.result _ _ may c.advance.ensures in
+    seen_same c.self.view_is (record {
+      writes = c.advance.ensures.covered;
+      marks = λ w. refl;
+      accesses = λ u w.
+          calls_alike c.advance.new.threads c.args.tid c.add_steps.new.self lives u w
+          ∙ advanced_alike g.S.Stamp.MAX c.is_switch.result _ _ c.advance.ensures u w;
+    })

@@ -5,7 +5,7 @@ use Rattle.stamp_renumber.specs.Threads.{pages_of}
 use Rattle.shadow_core.specs.Renewal.{bounded_tick}
 use Rattle.shadow_core.specs.State.{State, table_of_state}
 use Rattle.shadow_core.specs.Ticks.{table_after}
-use Rattle.shadow_core.proofs.Accessed.{all_room, own_room, whole_changed, written}
+use Rattle.shadow_core.proofs.Accessed.{all_room, own_room, written}
 use Rattle.shadow_core.proofs.Profiled.{advance_here, alive_here, lives_here, on_err}
 use Rattle.shadow_core.proofs.Reading.{lives_changed}
 use Rattle.shadow_core.proofs.SamePages.{changed_alike, seen_same}
@@ -13,58 +13,45 @@ use Rattle.shadow_core.proofs.profiler.Profiler.write_anew.Goals as goal
 
 pub cover_own-requires-clause-lives : goal.cover_own-requires-clause-lives
 cover_own-requires-clause-lives g c =
-    let a = alive_here g.S.Stamp.MAX (Write c.args.tid c.args.first c.args.count) c.args.tid _ _ c.self.view_is c.requires c.self.invariant c.requires.formed.0.0.0 in
+    let a = alive_here g.S.Stamp.MAX (Write c.args.tid c.args.first c.args.count) c.args.tid _ _ c.self.view_is c.requires c.requires.formed.0.0.0 in
     lives_here _ c.args.tid a
-
-pub invariant_of-self : goal.invariant_of-self
-invariant_of-self g c =
-    let whole = whole_changed _ c.args.tid c.cover_own.new.threads _ _ c.self.invariant c.in_err-cover_own.ensures.changed in
-    record { same = whole.same; marked = whole.marked }
 
 pub returns-in_err-cover_own-clause-refused : goal.returns-in_err-cover_own-clause-refused
 returns-in_err-cover_own-clause-refused g c =
-    let a = alive_here g.S.Stamp.MAX (Write c.args.tid c.args.first c.args.count) c.args.tid _ _ c.self.view_is c.requires c.self.invariant c.requires.formed.0.0.0 in
+    let a = alive_here g.S.Stamp.MAX (Write c.args.tid c.args.first c.args.count) c.args.tid _ _ c.self.view_is c.requires c.requires.formed.0.0.0 in
     on_err c.from_residual.result
-    (own_room _ c.args.tid a.was a.calls c.cover_own.new.threads a.has c.in_err-cover_own.ensures.changed c.in_err-cover_own.ensures.stamps
+    (own_room _ c.args.tid a.was c.cover_own.new.threads a.has c.in_err-cover_own.ensures.changed c.in_err-cover_own.ensures.stamps
     ∙ ap table_of_state c.self.view_is)
-
-pub invariant_of-self-in_err-cover : goal.invariant_of-self-in_err-cover
-invariant_of-self-in_err-cover g c =
-    let whole = whole_changed _ c.args.tid c.cover_own.new.threads _ _ c.self.invariant c.in_ok-cover_own.ensures.changed in
-    record { same = whole.same; marked = c.in_err-cover.ensures.marked }
 
 pub returns-in_err-cover-clause-refused : goal.returns-in_err-cover-clause-refused
 returns-in_err-cover-clause-refused g c =
-    let a = alive_here g.S.Stamp.MAX (Write c.args.tid c.args.first c.args.count) c.args.tid _ _ c.self.view_is c.requires c.self.invariant c.requires.formed.0.0.0 in
+    let a = alive_here g.S.Stamp.MAX (Write c.args.tid c.args.first c.args.count) c.args.tid _ _ c.self.view_is c.requires c.requires.formed.0.0.0 in
     on_err c.from_residual-in_err-cover.result
-    (all_room _ c.args.tid a.was a.calls c.cover_own.new.threads c.cover.new.writes.pages c.cover.new.marks.pages a.has
+    (all_room _ c.args.tid a.was c.cover_own.new.threads c.cover.new.writes.pages c.cover.new.marks.pages a.has
     c.in_ok-cover_own.ensures.changed c.in_ok-cover_own.ensures.stamps c.in_err-cover.ensures.stamps c.in_err-cover.ensures.kinds
     ∙ ap table_of_state c.self.view_is)
 
-pub from_number-now-requires : goal.from_number-now-requires
-from_number-now-requires g c = (advance_here g.S.Stamp.MAX (Write c.args.tid c.args.first c.args.count) _ _ c.self.view_is c.requires).within
+pub invariant_of-self-in_err-cover : goal.invariant_of-self-in_err-cover
+invariant_of-self-in_err-cover g c = record { marked = c.in_err-cover.ensures.marked }
 
 pub invariant_of-self-2 : goal.invariant_of-self-2
-invariant_of-self-2 g c =
-    let more = whole_changed _ c.args.tid c.cover_own.new.threads _ _ c.self.invariant c.in_ok-cover_own.ensures.changed in
-    let whole = whole_changed _ c.args.tid c.write.new.threads _ _ more c.write.ensures.changed in
-    record {
-      same = whole.same;
-      marked = λ w h. c.write.ensures.marks.covered w ∙ c.in_ok-cover.ensures.marked w (sym (c.write.ensures.writes.covered w) ∙ h);
-    }
+invariant_of-self-2 g c = record { marked = λ w h. c.write.ensures.marks.covered w ∙ c.in_ok-cover.ensures.marked w (sym (c.write.ensures.writes.covered w) ∙ h) }
+
+pub from_number-now-requires : goal.from_number-now-requires
+from_number-now-requires g c = (advance_here g.S.Stamp.MAX (Write c.args.tid c.args.first c.args.count) _ _ c.self.view_is c.requires).within
 
 pub returns-clause-table : goal.returns-clause-table
 returns-clause-table g c =
     let first = c.args.first in
     let count = c.args.count in
     let t = c.args.tid in
-    let a = alive_here g.S.Stamp.MAX (Write t first count) t _ _ c.self.view_is c.requires c.self.invariant c.requires.formed.0.0.0 in
+    let a = alive_here g.S.Stamp.MAX (Write t first count) t _ _ c.self.view_is c.requires c.requires.formed.0.0.0 in
     let fits = (advance_here g.S.Stamp.MAX (Write t first count) _ _ c.self.view_is c.requires).within in
     let number : g.S.Stamp.number_of c.from_number-now.result ≡ c.self.inside.counter =
     ap g.S.Stamp.number_of c.from_number-now.ensures ∙ g.met.S.Stamp.number_back c.self.inside.counter fits in
     let own = c.in_ok-cover_own.ensures in
     let covered = c.in_ok-cover.ensures in
-    written g.S.Stamp.MAX t first count _ a.was a.calls c.cover_own.new.threads c.write.new.threads c.cover.new.writes.pages c.cover.new.marks.pages
+    written g.S.Stamp.MAX t first count _ a.was c.cover_own.new.threads c.write.new.threads c.cover.new.writes.pages c.cover.new.marks.pages
     c.write.new.writes.pages c.write.new.marks.pages a.has own.changed own.stamps covered.stamps covered.kinds c.write.ensures.changed
     (λ w. c.write.ensures.access.stamps w ∙ ap (λ (n : ℕ). cond (in_range first count w) n (stamp_at (pages_of c.cover_own.new.threads.threads t) w)) number)
     (λ w. c.write.ensures.writes.stamps w ∙ ap (λ (n : ℕ). cond (in_range first count w) n (stamp_at c.cover.new.writes.pages w)) number)
@@ -76,7 +63,7 @@ returns-clause-pages g c = λ own all.
     let first = c.args.first in
     let count = c.args.count in
     let t = c.args.tid in
-    let a = alive_here g.S.Stamp.MAX (Write t first count) t _ _ c.self.view_is c.requires c.self.invariant c.requires.formed.0.0.0 in
+    let a = alive_here g.S.Stamp.MAX (Write t first count) t _ _ c.self.view_is c.requires c.requires.formed.0.0.0 in
     let lives = lives_here _ t a in
     let old = c.self.inside.threads in
     let mid = c.cover_own.new.threads in

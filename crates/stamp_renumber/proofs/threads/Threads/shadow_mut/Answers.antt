@@ -12,4 +12,4 @@ invariant_of-self-lent g c =
     let t = c.args.tid in
     let old : Stamped = c.unwrap-thread.result.now in
     let here : value_of xs t ≡ Some old = sym c.get_mut.ensures.found ∙ ap option_copied_mut c.unwrap-thread.ensures in
-    kept_changed xs t old (record { frames = old.frames; spare = old.spare; pages = w.pages }) c.self.inside.frames c.self.inside.marks _ _ _ _ c.self.invariant here (omega arith) (omega arith)
+    kept_changed xs t old (record { frames = old.frames; spare = old.spare; pages = w.pages; calls = old.calls }) c.self.inside.frames c.self.inside.marks _ _ _ _ c.self.invariant here (omega arith) (omega arith)

@@ -1,23 +1,23 @@
 //! The open calls of a thread, and what it counts.
-ghost use Rattle.std.specs.Prelude.{◌≡◌, ◌+◌, ◌-◌, ◌<◌, ◌≤◌, ◌^◌, ◌∷◌, [], None, Some, IfNone, IfOk, IfSome, OnErr, OnOk, length, map, reverse};
+ghost use Rattle.std.specs.Prelude.{◌≡◌, ◌+◌, ◌-◌, ◌<◌, ◌≤◌, ◌^◌, ◌∷◌, [], IfNone, IfOk, IfSome, IsOk, OnErr, OnOk, length, map};
 ghost use Rattle.trace_model.specs.Activations.{count_returned};
-ghost use Rattle.shadow_core.specs.Table.{OpenCall, no_counts};
+ghost use Rattle.call_tracker.specs.ThreadCalls.{CountedCall, no_counts};
 
-use call_tracker::{OpenCalls, Returns};
+use crate::{OpenCalls, Returns};
 use guest_words::Addr;
 use std::alloc::{AllocError, Global};
 use std::marker::Model;
 
 /// What a thread has counted: its steps, and the words that it read where another thread, or the kernel, had written last.
 #[derive(Clone, Copy)]
-pub(crate) struct Tally {
+pub struct Tally {
     steps: u64,
     thread: u64,
     kernel: u64,
 }
 
 impl Model for Tally {
-    ghost use Rattle.shadow_core.specs.Table.{Counts};
+    ghost use Rattle.call_tracker.specs.ThreadCalls.{Counts};
 
     ghost Value = { Counts };
 
@@ -28,7 +28,7 @@ impl Model for Tally {
 
 impl Tally {
     /// What was counted since: steps, words of other threads and words of the kernel.
-    pub(crate) fn since(self, earlier: Tally) -> (u64, u64, u64)
+    pub fn since(self, earlier: Tally) -> (u64, u64, u64)
         ensures steps { result.0 ≡ self.steps - earlier.steps }
         ensures thread { result.1 ≡ self.thread - earlier.thread }
         ensures kernel { result.2 ≡ self.kernel - earlier.kernel }
@@ -44,16 +44,16 @@ impl Tally {
 /// A call that has begun and not ended: the entry of its routine, its return address, if it has one, and what its thread had
 /// counted when it began.
 #[derive(Clone, Copy)]
-pub(crate) struct BegunCall {
+pub struct BegunCall {
     entry: Addr,
     back: Option<Addr>,
     earlier: Tally,
 }
 
 impl Model for BegunCall {
-    ghost use Rattle.shadow_core.specs.Table.{OpenCall};
+    ghost use Rattle.call_tracker.specs.ThreadCalls.{CountedCall};
 
-    ghost Value = { OpenCall };
+    ghost Value = { CountedCall };
 
     ghost view = { λ c. record { entry = c.entry; back = c.back; earlier = c.earlier } };
 
@@ -62,14 +62,14 @@ impl Model for BegunCall {
 
 impl BegunCall {
     /// The entry of its routine.
-    pub(crate) fn entry(self) -> Addr
+    pub fn entry(self) -> Addr
         ensures { result ≡ self.entry }
     {
         self.entry
     }
 
     /// What its thread had counted when it began.
-    pub(crate) fn earlier(self) -> Tally
+    pub fn earlier(self) -> Tally
         ensures { result ≡ self.earlier }
     {
         self.earlier
@@ -77,7 +77,7 @@ impl BegunCall {
 }
 
 impl Returns for BegunCall {
-    ghost use Rattle.shadow_core.specs.Table.{OpenCall};
+    ghost use Rattle.call_tracker.specs.ThreadCalls.{CountedCall};
 
     ghost back_of = { λ c. c.back };
 
@@ -87,74 +87,87 @@ impl Returns for BegunCall {
     }
 }
 
-/// The open calls of a thread, and what it has counted. Contracts see the innermost call first.
+/// The open calls of a thread, and what it has counted. Contracts see the innermost call first, and beside the calls the room:
+/// how many more can begin without memory.
 #[derive(Drop)]
-pub(crate) struct ThreadCalls {
+pub struct ThreadCalls {
     calls: OpenCalls<BegunCall>,
     counts: Tally,
 }
 
 impl Model for ThreadCalls {
     ghost use Rattle.std.specs.Prelude.{reverse};
-    ghost use Rattle.shadow_core.specs.State.{Calls};
+    ghost use Rattle.call_tracker.specs.ThreadCalls.{Calls};
 
     ghost Value = { Calls };
 
-    ghost view = { λ c. record { list = reverse c.calls.calls; counts = c.counts } };
+    ghost view = { λ c. record {
+      list = reverse c.calls.calls;
+      counts = c.counts;
+      spare = c.calls.spare;
+    } };
 }
 
 impl ThreadCalls {
-    /// The first call of a thread, which has counted nothing.
-    pub(crate) fn first(alloc: Global, entry: Addr) -> Result<ThreadCalls, AllocError>
-        ensures { IfOk result (λ c. c
-            ≡ record { list = record { entry = entry; back = None; earlier = no_counts } ∷ []; counts = no_counts }) }
+    /// No call, and nothing counted.
+    pub fn new(alloc: Global) -> Result<ThreadCalls, AllocError>
+        ensures list { IfOk result (λ c. c.list ≡ []) }
+        ensures counts { IfOk result (λ c. c.counts ≡ no_counts) }
     {
-        let counts = Tally {
-            steps: 0,
-            thread: 0,
-            kernel: 0,
-        };
-        let mut calls = OpenCalls::new(alloc)?;
-        calls.push(BegunCall {
-            entry,
-            back: None,
-            earlier: counts,
-        })?;
-        Ok(ThreadCalls { calls, counts })
+        Ok(ThreadCalls {
+            calls: OpenCalls::new(alloc)?,
+            counts: Tally {
+                steps: 0,
+                thread: 0,
+                kernel: 0,
+            },
+        })
     }
 
-    /// One more call inside all the others. A refused one changes nothing.
-    pub(crate) fn push(&mut self, entry: Addr, back: Addr) -> Result<(), AllocError>
-        ensures ok { OnOk result (self.new
-            ≡ record self.old { list = record { entry = entry; back = Some back; earlier = self.old.counts } ∷ self.old.list }) }
-        ensures err { OnErr result (self.new ≡ self.old) }
+    /// Makes the room for one more call.
+    pub fn reserve(&mut self) -> Result<(), AllocError>
+        ensures room { OnOk result (1 ≤ self.new.spare) }
+        ensures list { self.new.list ≡ self.old.list }
+        ensures counts { self.new.counts ≡ self.old.counts }
+        ensures kept { self.old.spare ≤ self.new.spare }
+    {
+        self.calls.reserve()
+    }
+
+    /// One more call inside all the others. It is not refused where there is room, and a refused one changes nothing.
+    pub fn push(&mut self, entry: Addr, back: Option<Addr>) -> Result<(), AllocError>
+        ensures ok { OnOk result (self.new.list
+            ≡ record { entry = entry; back = back; earlier = self.old.counts } ∷ self.old.list) }
+        ensures err { OnErr result (self.new.list ≡ self.old.list) }
+        ensures counts { self.new.counts ≡ self.old.counts }
+        ensures room { 1 ≤ self.old.spare → IsOk result }
+        ensures lowered { self.old.spare ≤ self.new.spare + 1 }
     {
         self.calls.push(BegunCall {
             entry,
-            back: Some(back),
+            back,
             earlier: self.counts,
-        })?;
-        Ok(())
+        })
     }
 
     /// What it has counted.
-    pub(crate) fn counts(&self) -> Tally
+    pub fn counts(&self) -> Tally
         ensures { result ≡ self.now.counts }
     {
         self.counts
     }
 
-    /// How many calls there are.
-    pub(crate) fn depth(&self) -> usize
+    /// How many calls are open.
+    pub fn depth(&self) -> usize
         ensures { result ≡ length self.now.list }
     {
         self.calls.depth()
     }
 
     /// How many calls a return to the target ends.
-    pub(crate) fn ending(&mut self, target: Addr) -> usize
+    pub fn ending(&mut self, target: Addr) -> usize
         ensures count { result ≡ count_returned target
-            (map (λ (c : OpenCall). c.back) self.old.list) }
+            (map (λ (c : CountedCall). c.back) self.old.list) }
         ensures within { result ≤ length self.old.list }
         ensures same { self.new ≡ self.old }
     {
@@ -162,29 +175,30 @@ impl ThreadCalls {
     }
 
     /// Takes the innermost call.
-    pub(crate) fn pop(&mut self) -> Option<BegunCall>
+    pub fn pop(&mut self) -> Option<BegunCall>
         ensures some { IfSome result (λ c. self.old.list ≡ c ∷ self.new.list) }
         ensures none { IfNone result (self.old.list ≡ []) }
         ensures counts { self.new.counts ≡ self.old.counts }
+        ensures kept { self.old.spare ≤ self.new.spare }
     {
         self.calls.pop()
     }
 
-    /// One more step.
-    pub(crate) fn add_step(&mut self)
-        requires { self.old.counts.steps + 1 < 2 ^ 64 }
-        ensures { self.new ≡ record self.old { counts = record self.old.counts { steps = self.old.counts.steps + 1 } } }
+    /// So many more steps.
+    pub fn add_steps(&mut self, steps: u64)
+        requires { self.old.counts.steps + steps < 2 ^ 64 }
+        ensures { self.new ≡ record self.old { counts = record self.old.counts { steps = self.old.counts.steps + steps } } }
     {
         let counts = self.counts;
         self.counts = Tally {
-            steps: counts.steps + 1,
+            steps: counts.steps + steps,
             thread: counts.thread,
             kernel: counts.kernel,
         };
     }
 
     /// The words that a read found written by another thread, and by the kernel.
-    pub(crate) fn add_found(&mut self, thread: u64, kernel: u64)
+    pub fn add_found(&mut self, thread: u64, kernel: u64)
         requires thread { self.old.counts.thread + thread < 2 ^ 64 }
         requires kernel { self.old.counts.kernel + kernel < 2 ^ 64 }
         ensures { self.new ≡ record self.old { counts = record self.old.counts { thread = self.old.counts.thread + thread; kernel = self.old.counts.kernel + kernel } } }
