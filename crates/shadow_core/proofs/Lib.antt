@@ -32,6 +32,7 @@ pub mod ReadEvents
 pub mod Repeated
 pub mod Begun
 pub mod Started
+pub mod Stepped
 pub mod Popped
 pub mod Ended
 pub mod SamePages

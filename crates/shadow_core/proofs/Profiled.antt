@@ -175,7 +175,7 @@ not_advanced most clock within = record {
   within = within;
 }
 
-no_switch : (t : ℕ) → is_switch (Some t) t ≡ false
+pub no_switch : (t : ℕ) → is_switch (Some t) t ≡ false
 no_switch t = grind (arith, nat_tests)
 
 -- no tick, where there was none

@@ -1,5 +1,5 @@
 -- When the counter ticks, and the table after events by a way to tick.
-use Rattle.std.specs.Prelude.{ℕ, Bool, true, false, not, if◌then◌else◌, nat_eq, List, [], ◌∷◌, Option, Some, None}
+use Rattle.std.specs.Prelude.{ℕ, zero, suc, Bool, true, false, not, if◌then◌else◌, nat_eq, List, [], ◌∷◌, Option, Some, None}
 use Rattle.trace_model.specs.declared.event_kinds.Event.{Event}
 use Rattle.trace_model.specs.declared.event_kinds.Event.TheVariants.{Step, Fill, Call, Start}
 use Rattle.shadow_core.specs.Table.{Table, empty_table, event_after}
@@ -23,6 +23,11 @@ table_at tick e table = if ticks e table.last then tick table else table
 
 abbrev pub table_after : (Table → Table) → Event → Table → Table
 table_after tick e table = event_after e (table_at tick e table)
+
+-- and after so many steps of a thread in a row
+abbrev pub table_after_steps : (Table → Table) → ℕ → ℕ → Table → Table
+table_after_steps tick t zero table = table
+table_after_steps tick t (suc n) table = table_after tick (Step t) (table_after_steps tick t n table)
 
 -- the table after all events of the past
 abbrev pub table_of : (Table → Table) → List Event → Table

@@ -4,8 +4,8 @@ ghost use Rattle.trace_model.specs.declared.event_kinds.Event.{Event};
 ghost use Rattle.trace_model.specs.declared.event_kinds.Event.TheVariants.{Call, End, Fill, Read, Ret, Start, Step, Write};
 ghost use Rattle.std.specs.Vec.{vec_capacity};
 ghost use Rattle.trace_model.specs.Activations.{count_returned};
-ghost use Rattle.trace_model.specs.Depth.{count_begun, pending};
-ghost use Rattle.trace_model.specs.Observing.{MayTake};
+ghost use Rattle.trace_model.specs.Depth.{count_begun, is_within, pending};
+ghost use Rattle.trace_model.specs.Observing.{MayStepBy, MayTake, with_steps};
 ghost use Rattle.shadow_pages.specs.Pages.{AreCovered};
 ghost use Rattle.stamp_renumber.specs.Threads.{all_starts, calls_of, pages_of};
 ghost use Rattle.shadow_core.specs.declared.apply_error.ApplyError.TheVariants.{Memory, TooDeep};
@@ -17,7 +17,7 @@ ghost use Rattle.shadow_core.specs.Records.{finished};
 ghost use Rattle.shadow_core.specs.Renewal.{bounded_tick};
 ghost use Rattle.call_tracker.specs.ThreadCalls.{CountedCall};
 ghost use Rattle.shadow_core.specs.Table.{empty_table};
-ghost use Rattle.shadow_core.specs.Ticks.{is_switch, table_after};
+ghost use Rattle.shadow_core.specs.Ticks.{is_switch, table_after, table_after_steps};
 
 use crate::ApplyError;
 use crate::advance::advance;
@@ -137,23 +137,58 @@ impl<S: Lanes> Profiler<S> {
             (table_of_state self.old) }
     {
         if is_running(self.last, tid) {
-            self.step_on(tid);
+            self.steps_on(tid, 1);
         } else {
             self.step_first(tid);
         }
     }
 
-    // A step of the thread that made the last one.
+    /// Takes so many steps of a thread in a row, none of which is refused. Nothing is allocated, and no page of stamps comes.
     #[inline(always)]
-    fn step_on(&mut self, tid: Tid)
-        requires may { MayTake (StandsFor S.MAX) self.old (Step tid) }
+    pub fn take_steps(&mut self, tid: Tid, count: u64)
+        requires may { MayStepBy (StandsFor S.MAX) (is_within S.MAX) self.old tid count }
+        requires some { 1 ≤ count }
+        ensures pages { HasSamePages self.old self.new }
+        ensures table { table_of_state self.new ≡ table_after_steps (bounded_tick S.MAX) tid count
+            (table_of_state self.old) }
+        ensures stands { (past : List Event) → StandsFor S.MAX self.old past
+            → StandsFor S.MAX self.new (with_steps tid count past) }
+    {
+        if is_running(self.last, tid) {
+            self.steps_on(tid, count);
+        } else {
+            self.steps_first(tid, count);
+        }
+    }
+
+    // Steps of the thread that made the last one.
+    #[inline(always)]
+    fn steps_on(&mut self, tid: Tid, count: u64)
+        requires may { MayStepBy (StandsFor S.MAX) (is_within S.MAX) self.old tid count }
+        requires some { 1 ≤ count }
         requires runs { self.old.last ≡ Some tid }
         ensures pages { HasSamePages self.old self.new }
-        ensures table { table_of_state self.new ≡ table_after (bounded_tick S.MAX) (Step tid)
+        ensures table { table_of_state self.new ≡ table_after_steps (bounded_tick S.MAX) tid count
             (table_of_state self.old) }
     {
-        self.threads.calls_mut(tid).add_steps(1);
-        self.weight += 1;
+        self.threads.calls_mut(tid).add_steps(count);
+        self.weight += count;
+    }
+
+    // The first steps of a thread after those of another, or of all.
+    #[cold]
+    #[inline(never)]
+    fn steps_first(&mut self, tid: Tid, count: u64)
+        requires may { MayStepBy (StandsFor S.MAX) (is_within S.MAX) self.old tid count }
+        requires some { 1 ≤ count }
+        ensures pages { HasSamePages self.old self.new }
+        ensures table { table_of_state self.new ≡ table_after_steps (bounded_tick S.MAX) tid count
+            (table_of_state self.old) }
+    {
+        self.step_first(tid);
+        if count > 1 {
+            self.steps_on(tid, count - 1);
+        }
     }
 
     // The first step of a thread after that of another, or of all.
