@@ -1,5 +1,5 @@
 -- The profile of a run that goes on.
-use Rattle.std.proofs.Common.{◌≡◌, ℕ, ◌+◌, ◌<◌, ◌≤◌, ◌^◌, Bool, true, false, List, [], ◌∷◌, ◌++◌, length, take, refl, sym, ap, subst, ◌∙◌, arith, append_assoc, length-append}
+use Rattle.std.proofs.Common.{◌≡◌, ℕ, zero, suc, ◌+◌, ◌<◌, ◌≤◌, ◌^◌, Bool, true, false, List, [], ◌∷◌, ◌++◌, length, take, refl, sym, ap, subst, ◌∙◌, arith, append_assoc, length-append}
 use Rattle.std.specs.Prelude.{not}
 use Rattle.std.specs.List.{All}
 use Rattle.std.proofs.lemmas.List.{append-nil, length-take, take-append-le, take_all}
@@ -9,7 +9,8 @@ use Rattle.trace_model.specs.declared.event_kinds.Event.TheVariants.{Step}
 use Rattle.trace_model.specs.declared.slow_profile.Done.{Done}
 use Rattle.trace_model.specs.Depth.{is_within}
 use Rattle.trace_model.specs.Profile.{HasParts, done, ended, steps}
-use Rattle.trace_model.specs.WellFormed.{IsLight, weight}
+use Rattle.trace_model.specs.Observing.{MayStepBy, with_steps}
+use Rattle.trace_model.specs.WellFormed.{IsLight, IsWellFormed, weight}
 use Rattle.trace_model.proofs.Causes.{done_has_parts}
 use Rattle.cost_points.proofs.Small.{few_done}
 use Rattle.cost_points.specs.Contents.{TableContents, contents_of}
@@ -132,6 +133,39 @@ refused most e k new after past p same kept deep = (
   },
   does_not_fit most e k.stamps past p.stands deep,
 )
+
+-- ---- Steps in a row.
+done_steps : (tid n : ℕ) (past : List Event) → done past ≡ done (with_steps tid n past)
+done_steps tid zero past = refl
+done_steps tid (suc n) past = done_steps tid n past ∙ sym (append-nil (done (with_steps tid n past)))
+
+steps_more : (tid n : ℕ) (past : List Event) → steps (with_steps tid n past) ≡ steps past + n
+steps_more tid zero past = omega arith
+steps_more tid (suc n) past = omega (arith, steps_more tid n past)
+
+light_before : (tid n : ℕ) (past : List Event) → IsLight (with_steps tid n past) → IsLight past
+light_before tid zero past light = light
+light_before tid (suc n) past light = light_before tid n past (omega (arith, light))
+
+pub of_light : (most tid n : ℕ) (k : Kept) → MayStepBy (IsProfileOf most) (is_within most) k tid n → 1 ≤ n → IsOfLight most k
+of_light most tid zero k may some = absurd (omega (arith, some))
+of_light most tid (suc n) k may some = record { past = may.past; now = may.now; light = light_before tid (suc n) may.past may.formed.1 }
+
+pub few_more : (tid n : ℕ) (past : List Event) (had : ℕ) → 1 ≤ n → IsWellFormed (with_steps tid n past) → had ≡ steps past → had + n < 2 ^ 64
+few_more tid zero past had some formed is = absurd (omega (arith, some))
+few_more tid (suc n) past had some formed is =
+    omega (arith, is, steps-le-weight (with_steps tid (suc n) past), steps_more tid (suc n) past, formed.1)
+
+pub stepped : (most tid n : ℕ) (k : Kept) (new : State) (past : List Event) → IsProfileOf most k past → StandsFor most new (with_steps tid n past) →
+    IsProfileOf most (record k { stamps = new; steps = k.steps + n }) (with_steps tid n past)
+stepped most tid n k new past p stands = record {
+  stands = stands;
+  earlier = p.earlier;
+  all = p.all ∙ done_steps tid n past;
+  inside = p.inside;
+  points = p.points;
+  steps_are = omega (arith, p.steps_are, steps_more tid n past);
+}
 
 -- ---- What the run comes to.
 pub comes_to : (most : ℕ) (k : Kept) (past : List Event) → IsProfileOf most k past → k.ended ≡ [] → k.points ≡ contents_of (done past)

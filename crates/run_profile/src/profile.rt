@@ -7,6 +7,7 @@ ghost use Rattle.run_profile.specs.Profile.{AreTotalsOf, IsOfLight, IsProfileOf}
 use crate::Totals;
 use crate::points::add_ended;
 use cost_points::Table;
+use guest_words::Tid;
 use shadow_core::{ApplyError, Profiler};
 use stamp_lanes::Lanes;
 use std::alloc::{AllocError, Global};
@@ -112,11 +113,11 @@ impl<S: Lanes> Profile<S> {
 }
 
 impl<S: Lanes> Observer for Profile<S> {
-    ghost use Rattle.std.specs.Prelude.{true, Ok, OnErr};
+    ghost use Rattle.std.specs.Prelude.{true, ◌≤◌, Ok, OnErr, OnOk};
     ghost use Rattle.shadow_core.specs.Applying.{is_too_deep};
     ghost use Rattle.trace_model.specs.Depth.{is_within};
     ghost use Rattle.trace_model.specs.Profile.{ended};
-    ghost use Rattle.trace_model.specs.Observing.{MayTake, Observes, StandsAsBefore};
+    ghost use Rattle.trace_model.specs.Observing.{MayStepBy, MayTake, Observes, StandsAsBefore, StepsBy};
     ghost use Rattle.trace_model.proofs.Cut.{steps_within, within_closed};
     ghost use Rattle.run_profile.specs.Profile.{IsProfileOf};
 
@@ -147,5 +148,17 @@ impl<S: Lanes> Observer for Profile<S> {
             Err(ApplyError::TooDeep { .. }) => Ok(Observed::Refused),
             Err(ApplyError::Memory) => Err(AllocError),
         }
+    }
+
+    #[inline(always)]
+    fn observe_steps(&mut self, tid: Tid, count: u64) -> Result<(), AllocError>
+        requires may { MayStepBy (IsProfileOf S.MAX) (is_within S.MAX) self.old tid count }
+        requires some { 1 ≤ count }
+        ensures stepped { OnOk result (StepsBy (IsProfileOf S.MAX) (is_within S.MAX) tid count self.old self.new) }
+    {
+        self.settle()?;
+        self.profiler.take_steps(tid, count);
+        self.steps += count;
+        Ok(())
     }
 }
