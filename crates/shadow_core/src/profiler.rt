@@ -37,7 +37,6 @@ use trace_model::{Done, Event};
 /// A profiler: it keeps the stamp table of the events so far, and no event.
 #[derive(Drop)]
 pub struct Profiler<S: Lanes> {
-    alloc: Global,
     counter: u32,
     writes: Shadow<S>,
     marks: Shadow<u8>,
@@ -85,7 +84,6 @@ impl<S: Lanes> Profiler<S> {
         ensures stands { 3 ≤ S.MAX → IfOk result (λ p. StandsFor S.MAX p []) }
     {
         Ok(Profiler {
-            alloc,
             counter: 0,
             writes: Shadow::new(alloc)?,
             marks: Shadow::new(alloc)?,
