@@ -1,7 +1,6 @@
 -- Writes and fills of a profiler.
-use Rattle.std.proofs.Common.{◌≡◌, ℕ, ◌+◌, true, List, [], Option, sym, ap, ◌∙◌, Some}
+use Rattle.std.proofs.Common.{◌≡◌, ℕ, ◌+◌, true, List, [], Option, ap, ◌∙◌, Some}
 use Rattle.std.specs.Option.{option_map_or}
-use Rattle.shadow_stack.specs.Frames.{Frame}
 use Rattle.guest_words.specs.ByThread.{value_of}
 use Rattle.trace_model.specs.declared.event_kinds.Event.TheVariants.{Fill, Write}
 use Rattle.shadow_pages.specs.Pages.{Page, stamp_at}

@@ -17,6 +17,7 @@ use Rattle.trace_model.specs.Observing.{MayTake}
 use Rattle.trace_model.specs.Profile.{done_of}
 use Rattle.shadow_pages.specs.Pages as pages
 use Rattle.shadow_pages.specs.Pages.{AreCovered, Page, page_of, stamp_at, stamp_in}
+use Rattle.stamp_renumber.specs.Returned.{returned_by}
 use Rattle.stamp_renumber.specs.Threads.{Stamped, all_starts, calls_of, pages_of}
 use Rattle.shadow_core.specs.Applying.{AreInUse, DeepDoesNotFit, IsTaken, NeedsNoMemory, access_of, is_too_deep}
 use Rattle.shadow_core.specs.Past.{call_of}
@@ -25,7 +26,7 @@ use Rattle.shadow_core.specs.Records.{finished}
 use Rattle.shadow_core.specs.Renewal.{bounded_tick}
 use Rattle.shadow_core.specs.Stands.{Stands}
 use Rattle.shadow_core.specs.State.{State, as_thread, as_threads, table_of_state}
-use Rattle.call_tracker.specs.ThreadCalls.{CountedCall, no_counts}
+use Rattle.call_tracker.specs.ThreadCalls.{Calls, CountedCall, no_counts}
 use Rattle.shadow_core.specs.Table.{Table, Thread, empty_table}
 use Rattle.shadow_core.specs.Ticks.{table_after, table_at}
 use Rattle.shadow_core.proofs.Profiled.{may_advance, there_too}
@@ -144,6 +145,10 @@ few_returned target bs = by (position_or_len (is_back target) bs) (length bs)
   where
     by : (k n : ℕ) → cond (nat_lt k n) (k + 1) 0 ≤ n
     by k n = grind (arith, nat_tests)
+
+-- a return ends at most all calls
+pub few_ended : (target : ℕ) (k : Calls) → returned_by target k ≤ length k.list
+few_ended target k = omega (arith, few_returned target (map (λ (o : CountedCall). o.back) k.list), length-map k.list (λ (o : CountedCall). o.back))
 
 -- as many are recorded as a return ends calls
 pub returned_fits : (most t target held capacity : ℕ) (e : Event) (s : State) → e ≡ Ret t target → MayTake (StandsFor most) s e → NeedsNoMemory e (table_of_state s) held capacity →

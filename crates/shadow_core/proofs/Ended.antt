@@ -1,5 +1,5 @@
 -- Returns of a profiler.
-use Rattle.std.proofs.Common.{◌≡◌, Bool, false, not, [], ◌∷◌, ℕ, ◌+◌, ◌-◌, ◌<◌, ◌^◌, true, List, ◌++◌, length, drop, map, refl, sym, ap, subst, ◌∙◌, arith, cond, Some}
+use Rattle.std.proofs.Common.{◌≡◌, Bool, false, not, [], ◌∷◌, ℕ, ◌+◌, ◌-◌, ◌<◌, ◌^◌, true, List, ◌++◌, length, drop, map, refl, sym, ap, subst, ◌∙◌, arith, cond}
 use Rattle.std.specs.Prelude.{◌==◌, is_some, reverse}
 use Rattle.std.proofs.lemmas.List.{length-map, length-reverse}
 use Rattle.guest_words.specs.ByThread.{value_of, with_value, without_thread}
@@ -7,12 +7,13 @@ use Rattle.trace_model.specs.declared.event_kinds.Event.{Event}
 use Rattle.trace_model.specs.declared.event_kinds.Event.TheVariants.{End, Ret}
 use Rattle.trace_model.specs.declared.activations.Activation.{Activation}
 use Rattle.trace_model.specs.declared.slow_profile.Done.{Done}
-use Rattle.trace_model.specs.Activations.{count_returned, open_calls}
+use Rattle.trace_model.specs.Activations.{open_calls}
 use Rattle.trace_model.specs.Observing.{MayTake}
 use Rattle.trace_model.specs.WellFormed.{is_live, weight}
-use Rattle.shadow_stack.specs.Frames.{Frame}
+use Rattle.shadow_stack.specs.Frames.{FitsPop, Frame}
 use Rattle.stamp_renumber.specs.LentThread.{with_calls}
 use Rattle.stamp_renumber.specs.Threads.{Live, Stamped, calls_of, frames_of, pages_of, stamped}
+use Rattle.stamp_renumber.specs.Returned.{returned_by}
 use Rattle.stamp_renumber.proofs.Changed.{unchanged}
 use Rattle.shadow_core.specs.Allows.{AreWithin}
 use Rattle.shadow_core.specs.Ending.{IsEnded}
@@ -28,6 +29,7 @@ use Rattle.shadow_core.specs.State.{State, as_thread, table_of_state}
 use Rattle.shadow_core.specs.StateRows.{Has}
 use Rattle.shadow_core.specs.Profiling.{StandsFor}
 use Rattle.shadow_core.proofs.Accessed.{its_calls, its_frames, its_pages}
+use Rattle.shadow_core.proofs.Popped.{fits_pop, none_ended, sums_left}
 use Rattle.shadow_core.proofs.Profiled.{alive}
 use Rattle.shadow_core.proofs.Reading.{within_more}
 use Rattle.shadow_core.proofs.Room.{counts_stay_within, pops_stay_within}
@@ -87,10 +89,6 @@ may_end most t e s now is may lives =
       };
     }
 
--- how many calls a return ends
-abbrev pub returned_by : ℕ → Calls → ℕ
-returned_by target k = count_returned target (map (λ (o : CountedCall). o.back) k.list)
-
 module _ (t target n : ℕ) (s : State) (live : Live) (done more : List Done) (may : MayEnd s t)
     (count : n ≡ returned_by target (calls_of s.live.threads t)) (ended : IsEnded t n s.live live done more) where
   own : calls_of s.live.threads t ≡ may.was.calls
@@ -116,6 +114,10 @@ module _ (t target n : ℕ) (s : State) (live : Live) (done more : List Done) (m
       ended.recorded
       ∙ ap (λ (k : Calls). done ++ records t k.counts ended.sums k.list) own
       ∙ ap (λ (ds : List Done). done ++ ds) (sym (finishes_by_parts (Ret t target) s t may.was ended.sums (frames_of live.threads t) may.has popped ending))
+
+-- a pop of the thread's frames fits
+pub may_pop : (live : Live) (t : ℕ) → MayEndIn live t → FitsPop (frames_of live.threads t)
+may_pop live t can = fits_pop (frames_of live.threads t) (sums_left t 0 0 live live [] [] can.lives (none_ended t live [] can.lives) can.sums)
 
 -- ---- The calls of a thread, lent and not changed.
 pub same_calls : (live : Live) (t : ℕ) (k : Calls) → is_some (value_of live.threads t) ≡ true → k ≡ calls_of live.threads t → with_calls live t k ≡ live

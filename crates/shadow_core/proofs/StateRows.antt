@@ -1,5 +1,5 @@
 -- The rows of the table, by the state's parts.
-use Rattle.std.proofs.Common.{◌≡◌, ℕ, ◌+◌, List, [], ◌∷◌, ◌++◌, drop, length, reverse, Some, None, refl, sym, ap, ◌∙◌}
+use Rattle.std.proofs.Common.{◌≡◌, ℕ, ◌+◌, List, [], ◌∷◌, ◌++◌, drop, reverse, Some, None, sym, ap, ◌∙◌}
 use Rattle.guest_words.specs.ByThread.{value_of, with_value}
 use Rattle.trace_model.specs.WellFormed.{weight_of}
 use Rattle.shadow_stack.specs.declared.sums.Sums.{Sums}

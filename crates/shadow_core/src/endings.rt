@@ -1,5 +1,5 @@
 //! What is recorded of calls that end.
-ghost use Rattle.std.specs.Prelude.{◌≡◌, ◌+◌, ◌-◌, ◌<◌, ◌≤◌, ◌^◌, ℕ, is_some, length, reverse, true, vec_len};
+ghost use Rattle.std.specs.Prelude.{◌≡◌, ◌+◌, ◌-◌, ◌<◌, ◌≤◌, ◌^◌, ◌++◌, ◌∷◌, [], ℕ, is_some, length, reverse, true, vec_len};
 ghost use Rattle.std.specs.Vec.{vec_capacity};
 ghost use Rattle.guest_words.specs.ByThread.{value_of};
 ghost use Rattle.stamp_renumber.specs.Threads.{calls_of, frames_of};
@@ -12,7 +12,7 @@ use call_tracker::{BegunCall, Tally};
 use guest_words::Tid;
 use shadow_stack::Sums;
 use stamp_lanes::Lanes;
-use stamp_renumber::Threads;
+use stamp_renumber::{EndedCall, Threads};
 use trace_model::Done;
 
 /// A number, and 0 for one below it.
@@ -24,7 +24,7 @@ fn nat_of(n: i64) -> u64
 
 /// What is recorded of a call of the thread that ends, with the sums of its frame, by what the thread has counted.
 #[inline(always)]
-pub(crate) fn done_with(tid: Tid, counts: Tally, sums: Sums, call: BegunCall) -> Done
+fn done_with(tid: Tid, counts: Tally, sums: Sums, call: BegunCall) -> Done
     requires { nat_of sums.plain + (counts.thread - call.earlier.thread)
         + (counts.kernel - call.earlier.kernel) < 2 ^ 64 }
     ensures { result ≡ record_of tid counts sums call }
@@ -43,13 +43,24 @@ pub(crate) fn done_with(tid: Tid, counts: Tally, sums: Sums, call: BegunCall) ->
     }
 }
 
+/// Records a call of the thread that ended. There is room for the record.
+#[inline(always)]
+pub(crate) fn record_call(tid: Tid, ended: EndedCall, done: &mut Vec<Done>)
+    requires thread { ended.counts.thread < 2 ^ 62 }
+    requires kernel { ended.counts.kernel < 2 ^ 62 }
+    requires room { vec_len done.old + 1 ≤ vec_capacity done.old }
+    ensures recorded { done.new.items
+        ≡ done.old.items ++ record_of tid ended.counts ended.sums ended.call ∷ [] }
+    ensures capacity { vec_capacity done.old ≤ vec_capacity done.new }
+    ensures count { vec_len done.new ≡ vec_len done.old + 1 }
+{
+    let recorded = done_with(tid, ended.counts, ended.sums, ended.call);
+    done.push(recorded).unwrap();
+}
+
 /// Ends the innermost call of the thread, and records it. There is room for the record.
 #[inline(always)]
-fn end_call<S: Lanes>(
-    threads: &mut Threads<S>,
-    tid: Tid,
-    done: &mut Vec<Done>,
-)
+fn end_call<S: Lanes>(threads: &mut Threads<S>, tid: Tid, done: &mut Vec<Done>)
     requires lives { is_some (value_of threads.old.threads tid) ≡ true }
     requires frames { 1 ≤ length (frames_of threads.old.threads tid) }
     requires calls { 1 ≤ length (calls_of threads.old.threads tid).list }
@@ -62,8 +73,7 @@ fn end_call<S: Lanes>(
     ensures count { vec_len done.new ≡ vec_len done.old + 1 }
 {
     let ended = threads.end(tid);
-    let recorded = done_with(tid, ended.counts, ended.sums, ended.call);
-    done.push(recorded).unwrap();
+    record_call(tid, ended, done);
 }
 
 /// Ends so many calls of the thread, the innermost first, and records them. There is room for the records.
@@ -94,12 +104,7 @@ pub(crate) fn end_calls<S: Lanes>(
 // The same, one after the other.
 #[cold]
 #[inline(never)]
-fn end_many<S: Lanes>(
-    threads: &mut Threads<S>,
-    tid: Tid,
-    ended: usize,
-    done: &mut Vec<Done>,
-)
+fn end_many<S: Lanes>(threads: &mut Threads<S>, tid: Tid, ended: usize, done: &mut Vec<Done>)
     requires lives { is_some (value_of threads.old.threads tid) ≡ true }
     requires frames { ended ≤ length (frames_of threads.old.threads tid) }
     requires calls { ended ≤ length (calls_of threads.old.threads tid).list }

@@ -22,14 +22,14 @@ ghost use Rattle.shadow_core.specs.Ticks.{is_switch, table_after, table_after_st
 use crate::ApplyError;
 use crate::advance::advance;
 use crate::cover::{add_with_room, cover, cover_own};
-use crate::endings::end_calls;
+use crate::endings::{end_calls, record_call};
 use crate::reads::{is_fresh, read};
 use crate::rows::ZeroRows;
 use crate::writes::{fill, is_written, write};
 use guest_words::{Addr, Tid, Word};
 use shadow_pages::Shadow;
 use stamp_lanes::Lanes;
-use stamp_renumber::Threads;
+use stamp_renumber::{Returned, Threads};
 use std::alloc::{AllocError, Global};
 use std::marker::Model;
 use trace_model::{Done, Event};
@@ -37,7 +37,6 @@ use trace_model::{Done, Event};
 /// A profiler: it keeps the stamp table of the events so far, and no event.
 #[derive(Drop)]
 pub struct Profiler<S: Lanes> {
-    alloc: Global,
     counter: u32,
     writes: Shadow<S>,
     marks: Shadow<u8>,
@@ -85,7 +84,6 @@ impl<S: Lanes> Profiler<S> {
         ensures stands { 3 ≤ S.MAX → IfOk result (λ p. StandsFor S.MAX p []) }
     {
         Ok(Profiler {
-            alloc,
             counter: 0,
             writes: Shadow::new(alloc)?,
             marks: Shadow::new(alloc)?,
@@ -342,6 +340,70 @@ impl<S: Lanes> Profiler<S> {
     // A return of the thread that runs: the calls that it ends are recorded.
     #[inline(never)]
     fn return_to(&mut self, tid: Tid, target: Addr, done: &mut Vec<Done>) -> Result<(), AllocError>
+        requires { MayTake (StandsFor S.MAX) self.old (Ret tid target) }
+        ensures table { OnOk result (table_of_state self.new
+            ≡ table_after (bounded_tick S.MAX) (Ret tid target) (table_of_state self.old)) }
+        ensures done { OnOk result (done.new.items
+            ≡ done.old.items ++ finished (Ret tid target) (table_of_state self.old)) }
+        ensures refused { OnErr result (table_of_state self.new ≡ table_of_state self.old) }
+        ensures kept { OnErr result (done.new.items ≡ done.old.items) }
+        ensures no_memory { vec_len done.old + count_returned target
+            (map (λ (c : CountedCall). c.back) (calls_of self.old.live.threads tid).list)
+            ≤ vec_capacity done.old → IsOk result }
+        ensures pages { HasSamePages self.old self.new }
+    {
+        if done.len() < done.capacity() {
+            self.return_with_room(tid, target, done)
+        } else {
+            self.return_full(tid, target, done)
+        }
+    }
+
+    // The same, where the list has room for a record. A return mostly ends one call, and then looks the thread up once.
+    #[inline(always)]
+    fn return_with_room(
+        &mut self,
+        tid: Tid,
+        target: Addr,
+        done: &mut Vec<Done>,
+    ) -> Result<(), AllocError>
+        requires may { MayTake (StandsFor S.MAX) self.old (Ret tid target) }
+        requires room { vec_len done.old + 1 ≤ vec_capacity done.old }
+        ensures table { OnOk result (table_of_state self.new
+            ≡ table_after (bounded_tick S.MAX) (Ret tid target) (table_of_state self.old)) }
+        ensures done { OnOk result (done.new.items
+            ≡ done.old.items ++ finished (Ret tid target) (table_of_state self.old)) }
+        ensures refused { OnErr result (table_of_state self.new ≡ table_of_state self.old) }
+        ensures kept { OnErr result (done.new.items ≡ done.old.items) }
+        ensures no_memory { vec_len done.old + count_returned target
+            (map (λ (c : CountedCall). c.back) (calls_of self.old.live.threads tid).list)
+            ≤ vec_capacity done.old → IsOk result }
+        ensures pages { HasSamePages self.old self.new }
+    {
+        match self.threads.return_to(tid, target) {
+            Returned::One(ended) => {
+                record_call(tid, ended, done);
+                self.weight += 1;
+                Ok(())
+            }
+            Returned::Many(count) => {
+                done.reserve(count)?;
+                end_calls(&mut self.threads, tid, count, done);
+                self.weight += 1;
+                Ok(())
+            }
+        }
+    }
+
+    // The same, where the list may have none.
+    #[cold]
+    #[inline(never)]
+    fn return_full(
+        &mut self,
+        tid: Tid,
+        target: Addr,
+        done: &mut Vec<Done>,
+    ) -> Result<(), AllocError>
         requires { MayTake (StandsFor S.MAX) self.old (Ret tid target) }
         ensures table { OnOk result (table_of_state self.new
             ≡ table_after (bounded_tick S.MAX) (Ret tid target) (table_of_state self.old)) }

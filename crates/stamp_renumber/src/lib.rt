@@ -13,6 +13,6 @@ mod threads;
 mod ticks;
 
 pub use laws::{renumbering_keeps_order, ticks_stay_above};
-pub use thread_stamps::EndedCall;
+pub use thread_stamps::{EndedCall, Returned};
 pub use threads::Threads;
 pub use ticks::{Ticked, tick};

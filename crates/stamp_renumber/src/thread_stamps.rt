@@ -6,6 +6,7 @@ ghost use Rattle.std.specs.List.Sorted.{IsNonDecreasingBy};
 ghost use Rattle.shadow_stack.specs.Frames.{FitsPop, FitsSums, IsPopped, added, new_frame, plus, starts_of};
 ghost use Rattle.call_tracker.specs.ThreadCalls.{no_counts};
 ghost use Rattle.stamp_renumber.specs.Renumbered.{IsThreadRenumbered};
+ghost use Rattle.stamp_renumber.specs.Returned.{returned_by};
 
 use crate::frames::renew_frames;
 use crate::pages::renew_accesses;
@@ -25,6 +26,13 @@ pub struct EndedCall {
     pub call: BegunCall,
     pub sums: Sums,
     pub counts: Tally,
+}
+
+/// What a return ends: one call, which then has ended, or so many, which are still open.
+#[derive(Clone, Copy)]
+pub enum Returned {
+    One(EndedCall),
+    Many(usize),
 }
 
 /// The frames of a thread, the stamps of its accesses, and its calls.
@@ -93,6 +101,16 @@ impl<S: Stamp> ThreadStamps<S> {
         ensures value { result.now ≡ self.old.calls }
     {
         &mut self.calls
+    }
+
+    /// How many calls a return to the target ends.
+    #[inline(always)]
+    pub(crate) fn ending(&mut self, target: Addr) -> usize
+        ensures count { result ≡ returned_by target self.old.calls }
+        ensures within { result ≤ length self.old.calls.list }
+        ensures same { self.new ≡ self.old }
+    {
+        self.calls.ending(target)
     }
 
     /// Makes the room for one more frame and for its call.

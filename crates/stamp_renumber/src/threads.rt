@@ -4,13 +4,14 @@ ghost use Rattle.std.specs.Borrow.{sem};
 ghost use Rattle.guest_words.specs.ByThread.{numbers, value_of, with_value, without_thread};
 ghost use Rattle.shadow_stack.specs.Frames.{FitsPop, FitsSums, IsPopped, added, new_frame, plus, starts_of};
 ghost use Rattle.call_tracker.specs.ThreadCalls.{no_counts};
+ghost use Rattle.stamp_renumber.specs.Returned.{IsReturned};
 ghost use Rattle.stamp_renumber.specs.Threads.{HasRoom, all_starts, calls_of, frames_of, pages_of, spare_of, stamped};
 ghost use Rattle.stamp_renumber.specs.Ticks.{IsRenumbered};
 
 use crate::pages::renew_writes;
 use crate::renumbering::{renumber_threads, sorted_starts};
 use crate::rows::WorkRows;
-use crate::thread_stamps::{EndedCall, ThreadStamps};
+use crate::thread_stamps::{EndedCall, Returned, ThreadStamps};
 use call_tracker::ThreadCalls;
 use guest_words::{Addr, ByThread, Tid};
 use shadow_pages::Shadow;
@@ -209,6 +210,27 @@ impl<S: Lanes> Threads<S> {
         self.frames -= 1;
         self.marks += 1;
         ended
+    }
+
+    /// A return of the thread to the target. Where it ends one call, that call is ended; else the answer is how many it ends. The
+    /// thread has a frame for each call.
+    #[inline(always)]
+    pub fn return_to(&mut self, tid: Tid, target: Addr) -> Returned
+        requires lives { is_some (value_of self.old.threads tid) ≡ true }
+        requires frames { length (calls_of self.old.threads tid).list
+            ≤ length (frames_of self.old.threads tid) }
+        requires fits { FitsPop (frames_of self.old.threads tid) }
+        ensures { IsReturned tid target self.old self.new result }
+    {
+        let thread = self.threads.get_mut(tid).unwrap();
+        let count = thread.ending(target);
+        if count != 1 {
+            return Returned::Many(count);
+        }
+        let innermost = thread.pop();
+        self.frames -= 1;
+        self.marks += 1;
+        Returned::One(innermost)
     }
 
     /// Whether the thread lives.

@@ -1,8 +1,8 @@
-use Rattle.std.proofs.Common.{◌≡◌, ◌≤◌, ◌<◌, ◌+◌, ◌^◌, ◌++◌, ◌∷◌, [], ◌∙◌, ℕ, List, length, ap, sym, subst, arith, rules, Some, All}
+use Rattle.std.proofs.Common.{◌≡◌, ◌≤◌, ◌<◌, ◌+◌, ◌++◌, ◌∷◌, [], ◌∙◌, List, length, ap, sym, subst, arith, Some, All}
 use Rattle.std.specs.Option.{option_copied_mut}
 use Rattle.std.proofs.lemmas.List.{length_push}
 use Rattle.guest_words.specs.ByThread.{value_of}
-use Rattle.call_tracker.specs.ThreadCalls.{Calls, CountedCall}
+use Rattle.call_tracker.specs.ThreadCalls.{Calls}
 use Rattle.shadow_stack.specs.Frames.{Frame, new_frame, starts_of}
 use Rattle.stamp_renumber.specs.Threads.{Live, Stamped, frames_of}
 use Rattle.stamp_renumber.proofs.Changed.{calls_are, calls_were, changed_to, frames_were, kept_changed, spare_is, spare_was}

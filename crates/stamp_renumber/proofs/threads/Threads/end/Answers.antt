@@ -1,7 +1,7 @@
-use Rattle.std.proofs.Common.{◌≡◌, ◌≤◌, ◌∙◌, ◌∷◌, ℕ, List, length, ap, sym, subst, arith, Some}
+use Rattle.std.proofs.Common.{◌≡◌, ◌∙◌, ◌∷◌, List, length, ap, sym, subst, arith, Some}
 use Rattle.std.specs.Option.{option_copied_mut}
 use Rattle.guest_words.specs.ByThread.{value_of}
-use Rattle.call_tracker.specs.ThreadCalls.{Calls, CountedCall}
+use Rattle.call_tracker.specs.ThreadCalls.{Calls}
 use Rattle.shadow_stack.specs.Frames.{FitsPop, Frame, IsPopped}
 use Rattle.stamp_renumber.specs.Threads.{Live, Stamped, frames_of}
 use Rattle.stamp_renumber.proofs.Changed.{calls_are, calls_were, changed_to, frames_are, frames_were, kept_changed, popped_one, spare_is, spare_was, starts_of_one}

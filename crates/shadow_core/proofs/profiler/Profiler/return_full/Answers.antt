@@ -1,19 +1,19 @@
-use Rattle.std.proofs.Common.{◌≡◌, ◌≤◌, ◌∙◌, ◌++◌, ap, arith, length, refl, subst, sym}
-use Rattle.guest_words.specs.ByThread.{value_of}
+use Rattle.std.proofs.Common.{◌≡◌, ◌∙◌, ◌++◌, ap, arith, length, refl, subst, sym}
 use Rattle.trace_model.specs.declared.event_kinds.Event.TheVariants.{Ret}
 use Rattle.call_tracker.specs.ThreadCalls.{Calls}
 use Rattle.shadow_pages.specs.Pages.{covers}
 use Rattle.stamp_renumber.specs.LentThread.{with_calls}
-use Rattle.stamp_renumber.specs.Threads.{Live, calls_of, frames_of, pages_of}
+use Rattle.stamp_renumber.specs.Returned.{returned_by}
+use Rattle.stamp_renumber.specs.Threads.{Live, calls_of, pages_of}
 use Rattle.shadow_core.specs.Ending.{IsEnded}
 use Rattle.shadow_core.specs.Records.{finished}
 use Rattle.shadow_core.specs.Renewal.{bounded_tick}
 use Rattle.shadow_core.specs.State.{State, table_of_state}
 use Rattle.shadow_core.specs.Ticks.{table_after}
-use Rattle.shadow_core.proofs.Ended.{MayEndIn, left_as_before, may_end, recorded, returned, returned_by, same_calls}
+use Rattle.shadow_core.proofs.Ended.{MayEndIn, left_as_before, may_end, recorded, returned, same_calls}
 use Rattle.shadow_core.proofs.Profiled.{on_err}
 use Rattle.shadow_core.proofs.SamePages.{seen_same, with_alike}
-use Rattle.shadow_core.proofs.profiler.Profiler.return_to.Goals as goal
+use Rattle.shadow_core.proofs.profiler.Profiler.return_full.Goals as goal
 
 pub calls_mut-requires : goal.calls_mut-requires
 calls_mut-requires g c =
