@@ -222,12 +222,13 @@ impl Table {
     }
 
     /// The entry and the points of a routine, the routines by rising entry and the points by rising size.
-    pub fn routine(&self, i: usize) -> (Addr, &[Point])
+    pub fn routine(&self, alloc: Global, i: usize) -> Result<(Addr, Vec<Point>), AllocError>
         requires { i < length self.now.routines }
-        ensures { slice_get self.now.routines i
-            ≡ Some (record { entry = result.0; points = result.1.now }) }
+        ensures { IfOk result (λ r. slice_get self.now.routines i
+            ≡ Some (record { entry = r.0; points = r.1.items })) }
     {
         let routine = &self.routines[i];
-        (routine.entry, &routine.points)
+        let points = routine.points(alloc)?;
+        Ok((routine.entry, points))
     }
 }
