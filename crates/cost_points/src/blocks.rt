@@ -75,9 +75,9 @@ pub(crate) fn search<T: Keyed>(blocks: &[Vec<T>], key: u64) -> Result<Place, Pla
     }
 }
 
-/// The same, with a look at the place where a key was found last.
+/// The same, with a look at the place where a key was found last. It becomes the place where this one is found.
 #[inline(always)]
-pub(crate) fn find<T: Keyed>(blocks: &[Vec<T>], last: Place, key: u64) -> Result<Place, Place>
+pub(crate) fn find<T: Keyed>(blocks: &[Vec<T>], last: &mut Place, key: u64) -> Result<Place, Place>
     requires filled { IsFilled (map (λ b. b.items) blocks.now) }
     requires rising { IsRising (map T.key_of (joined (map (λ b. b.items) blocks.now))) }
     ensures { MatchResult result
@@ -87,10 +87,14 @@ pub(crate) fn find<T: Keyed>(blocks: &[Vec<T>], last: Place, key: u64) -> Result
     if last.block < blocks.len() {
         let block = &blocks[last.block];
         if last.at < block.len() && block[last.at].key() == key {
-            return Ok(last);
+            return Ok(*last);
         }
     }
-    search(blocks, key)
+    let found = search(blocks, key);
+    if let Ok(place) = found {
+        *last = place;
+    }
+    found
 }
 
 /// Cuts a block in two. A refusal changes no item.

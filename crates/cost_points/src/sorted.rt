@@ -113,9 +113,8 @@ fn add_one(points: &mut Vec<Vec<Point>>, last: &mut Place, ended: &Done) -> Resu
     ensures no_memory { (place : ℕ) → IsAt (map (λ p. p.size) (joined (map (λ b. b.items) points.old.items)))
         ended.now.size place → IsOk result }
 {
-    match blocks::find(points, *last, ended.size) {
+    match blocks::find(points, last, ended.size) {
         Ok(place) => {
-            *last = place;
             let block = &mut points[place.block];
             let point = &mut block[place.at];
             point.add_one(ended);
