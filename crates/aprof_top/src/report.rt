@@ -41,9 +41,8 @@ fn named_routines<N: RoutineNames>(
 {
     let mut routines = Vec::new(alloc);
     for i in 0..table.routines() {
-        let (entry, points) = table.routine(i);
+        let (entry, points) = table.routine(alloc, i)?;
         let name = names.name_at(alloc, entry)?;
-        let points = Vec::from_slice(alloc, points)?;
         routines.push(Routine {
             entry,
             name,

@@ -33,9 +33,9 @@ fn push_context(text: &mut Vec<u8>, tree: &Tree, n: u32) -> Result<(), AllocErro
     ensures { (past : List Event) → StandsFor tree.now past
         → OnOk result (text.new.items ≡ text.old.items ++ context_text past (numbered (contexts past) n)) }
 {
-    let (depth, entry, points) = tree.at(n);
+    let (depth, entry, points) = tree.at(n)?;
     push_context_line(text, depth, entry)?;
-    push_points(text, points)
+    push_points(text, &points)
 }
 
 /// Appends the lines of all contexts.

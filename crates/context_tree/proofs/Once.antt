@@ -1,9 +1,8 @@
 -- Facts that have at most one proof.
-use Rattle.std.proofs.Common.{◌≡◌, ℕ, ◌*◌, List, Option, Some, None}
+use Rattle.std.proofs.Common.{ℕ, ◌*◌, List, Option, Some, None}
 use Rattle.std.specs.Prelude.{IfSome}
 use Rattle.std.proofs.Props.{props}
 use Rattle.cost_points.specs.declared.point.Point.{Point}
-use Rattle.cost_points.specs.declared.point.Split.{Split}
 use Rattle.cost_points.specs.Search.{HasRoom, HasSplitRoom}
 use Rattle.cost_points.specs.Valid.{IsPoint, IsSplit}
 use Rattle.context_tree.specs.declared.order.Links.{Links}

@@ -1,14 +1,13 @@
 -- The points of the contexts of a routine, put together size by size, are those of the routine.
-use Rattle.std.proofs.Common.{◌≡◌, ℕ, ◌<◌, ◌≤◌, ◌≢◌, Bool, true, false, cond, List, [], ◌∷◌, ◌++◌, length, get_or, map, refl, sym, ap, ap₂, ◌∙◌, subst, arith, append_assoc}
+use Rattle.std.proofs.Common.{◌≡◌, ℕ, ◌<◌, ◌≤◌, ◌≢◌, Bool, true, false, cond, List, [], ◌∷◌, ◌++◌, length, map, refl, sym, ap, ◌∙◌, subst, arith, append_assoc}
 use Rattle.std.specs.Prelude.{◌==◌, ◌||◌}
 use Rattle.std.specs.List.{All, filter, flat_map, fold, list_any}
 use Rattle.std.proofs.lemmas.Bool.Decides.{nat_tests}
 use Rattle.std.proofs.lemmas.List.{append-nil}
-use Rattle.std.proofs.lemmas.List.Elements.{All-cons, All-head, All-nil, All-tail, All-weaker, filter-append}
+use Rattle.std.proofs.lemmas.List.Elements.{All-cons, All-head, All-nil, All-tail, filter-append}
 use Rattle.std.proofs.lemmas.List.Sums.{fold-append}
 use Rattle.trace_model.specs.declared.event_kinds.Event.{Event}
 use Rattle.trace_model.specs.declared.slow_profile.Done.{Done}
-use Rattle.trace_model.specs.Profile.{done}
 use Rattle.cost_points.specs.declared.point.Point.{Point}
 use Rattle.cost_points.specs.Contents.{TableContents}
 use Rattle.cost_points.specs.Keys.{IsRising, grouped, rising}
@@ -19,7 +18,7 @@ use Rattle.cost_points.proofs.Merged.{sized-more}
 use Rattle.cost_points.proofs.Rising.{IsRising-above, IsRising-rising, IsRising-tail}
 use Rattle.context_tree.specs.Contexts.{contexts}
 use Rattle.context_tree.specs.Laws.{context_points, is_of, routine_points, together, with_more}
-use Rattle.context_tree.specs.Points.{done_in_context, members_of, points_from, points_in}
+use Rattle.context_tree.specs.Points.{done_in_context, members_of, points_from}
 use Rattle.context_tree.proofs.AddingUp.{members_named}
 use Rattle.context_tree.proofs.Standing.{have_places}
 use Rattle.context_tree.proofs.Summing.{all_end, by_context, points_are, sized_by_size}

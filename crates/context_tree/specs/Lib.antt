@@ -5,6 +5,7 @@ pub mod Order
 pub mod Points
 pub mod Links
 pub mod Ways
+pub mod Pending
 pub mod Branches
 pub mod Trees
 pub mod Laws

@@ -160,12 +160,12 @@ impl Branches {
 
     /// The depth, the entry and the points of a context, the contexts in the order of the text. It takes `i` steps: to go through
     /// all of them, take `next_in_order` and `at`.
-    pub(crate) fn context(&self, i: usize) -> (u32, Addr, &[Point])
+    pub(crate) fn context(&self, i: usize) -> Result<(u32, Addr, Vec<Point>), AllocError>
         requires stands { ∥ IsOfSome self.now ∥₁ }
         requires within { i < length self.now.places }
         ensures { (past : List Event) (ordered : List (List ℕ)) → StandsFor self.now past
             → IsInOrder (contexts past) ordered
-            → IsShown past (slice_index_or ordered i []) result.0 result.1 result.2.now }
+            → IfOk result (λ c. IsShown past (slice_index_or ordered i []) c.0 c.1 c.2.items) }
     {
         self.at(self.number_at(i))
     }
@@ -189,17 +189,18 @@ impl Branches {
     }
 
     /// The depth of the context of a number, which is 0 where it has one entry, its entry, and its points.
-    pub(crate) fn at(&self, n: u32) -> (u32, Addr, &[Point])
+    pub(crate) fn at(&self, n: u32) -> Result<(u32, Addr, Vec<Point>), AllocError>
         requires linked { IsLinked self.now.places self.now.links }
         requires long { length self.now.points ≡ length self.now.places }
         requires some { 1 ≤ n }
         requires within { n ≤ length self.now.places }
         ensures { (past : List Event) → StandsFor self.now past
-            → IsShown past (numbered (contexts past) n) result.0 result.1 result.2.now }
+            → IfOk result (λ c. IsShown past (numbered (contexts past) n) c.0 c.1 c.2.items) }
     {
         let (_, entry) = self.numbers.place(n);
         let depth = self.links[n as usize].depth - 1;
-        (depth, entry, self.points[n as usize - 1].list())
+        let points = self.points[n as usize - 1].list(self.alloc)?;
+        Ok((depth, entry, points))
     }
 
     /// The points of all contexts together, by routine: those of all activations that ended.
@@ -211,7 +212,8 @@ impl Branches {
         let mut table = Table::new(alloc)?;
         for i in 0..self.numbers.len() {
             let (_, entry) = self.numbers.place(i as u32 + 1);
-            add_points(&mut table, entry, self.points[i].list())?;
+            let points = self.points[i].list(alloc)?;
+            add_points(&mut table, entry, &points)?;
         }
         Ok(table)
     }

@@ -1,32 +1,65 @@
 //! The points of contexts, by number.
-ghost use Rattle.std.specs.Prelude.{◌≡◌, ◌≤◌, ◌+◌, ◌++◌, [], List, ℕ, length, map, IsOk, OnOk};
+ghost use Rattle.std.specs.Prelude.{◌≡◌, ◌≤◌, ◌+◌, ◌++◌, [], List, ℕ, length, map, IfOk, IsOk, OnErr, OnOk};
 ghost use Rattle.std.specs.List.{All};
 ghost use Rattle.trace_model.specs.declared.slow_profile.Done.{Done};
 ghost use Rattle.context_tree.specs.Numbers.{StandsFor};
+ghost use Rattle.cost_points.specs.Search.{HasRoom};
+ghost use Rattle.context_tree.specs.Pending.{known, with_point};
 ghost use Rattle.context_tree.specs.Points.{points_of};
 ghost use Rattle.context_tree.specs.Ways.{ArePoints, HasSpare, IsWay, lists, tagged, up, with_ended};
 
 use crate::ContextNumbers;
-use cost_points::{Point, insert_point};
+use cost_points::{Point, SortedPoints, insert_point};
 use std::alloc::{AllocError, Global};
 use std::marker::Model;
 use trace_model::Done;
 
 /// The points of a context, sizes rising. Contracts see them as a list, and beside it the room: how many can be added without
-/// memory.
+/// memory. The point of the last activation may stand apart, so that it takes no memory to add it: it joins the others as room
+/// is made for the next one.
 #[derive(Drop)]
 pub(crate) struct ContextPoints {
-    points: Vec<Point>,
+    alloc: Global,
+    earlier: Option<SortedPoints>,
+    last: Option<Point>,
 }
 
 impl Model for ContextPoints {
-    ghost use Rattle.std.specs.Prelude.{◌-◌, vec_len};
-    ghost use Rattle.std.specs.Vec.{vec_capacity};
+    ghost use Rattle.std.specs.Option.{ForSome};
+    ghost use Rattle.context_tree.specs.Pending.{MayJoin, known, with_last};
     ghost use Rattle.context_tree.specs.Ways.{PointList};
 
     ghost Value = { PointList };
 
-    ghost view = { λ c. record { points = c.points.items; room = vec_capacity c.points - vec_len c.points } };
+    ghost view = { λ c. with_last c.last (known c.earlier) };
+
+    ghost invariant = { λ c. ForSome c.last (MayJoin (known c.earlier)) };
+}
+
+/// The point joins the points.
+fn join(alloc: Global, points: &mut Option<SortedPoints>, point: Point) -> Result<(), AllocError>
+    requires points { ArePoints (known points.old) }
+    requires fits { HasRoom point }
+    ensures ok { OnOk result (known points.new ≡ with_point point (known points.old)) }
+    ensures err { OnErr result (known points.new ≡ known points.old) }
+{
+    match points {
+        Some(points) => points.add(point),
+        None => {
+            *points = Some(SortedPoints::of_one(alloc, point)?);
+            Ok(())
+        }
+    }
+}
+
+/// The points in one piece.
+fn in_one(alloc: Global, points: &Option<SortedPoints>) -> Result<Vec<Point>, AllocError>
+    ensures { IfOk result (λ all. all.items ≡ known points.now) }
+{
+    match points {
+        Some(points) => points.list(alloc),
+        None => Ok(Vec::new(alloc)),
+    }
 }
 
 impl ContextPoints {
@@ -35,15 +68,22 @@ impl ContextPoints {
         ensures { result.points ≡ [] }
     {
         ContextPoints {
-            points: Vec::new(alloc),
+            alloc,
+            earlier: None,
+            last: None,
         }
     }
 
     /// The points.
-    pub(crate) fn list(&self) -> &[Point]
-        ensures { result.now ≡ self.now.points }
+    pub(crate) fn list(&self, alloc: Global) -> Result<Vec<Point>, AllocError>
+        ensures { IfOk result (λ points. points.items ≡ self.now.points) }
     {
-        &self.points
+        let mut points = in_one(alloc, &self.earlier)?;
+        if let Some(point) = self.last {
+            points.reserve(1)?;
+            insert_point(&mut points, point);
+        }
+        Ok(points)
     }
 
     /// Makes room for one point.
@@ -51,7 +91,11 @@ impl ContextPoints {
         ensures room { OnOk result (1 ≤ self.new.room) }
         ensures points { self.new.points ≡ self.old.points }
     {
-        self.points.reserve(1)
+        if let Some(point) = self.last {
+            join(self.alloc, &mut self.earlier, point)?;
+            self.last = None;
+        }
+        Ok(())
     }
 
     /// Adds an activation that ended. There is room, so it takes no memory.
@@ -60,7 +104,7 @@ impl ContextPoints {
         requires points { ArePoints self.old.points }
         ensures { self.new.points ≡ with_ended ended self.old.points }
     {
-        insert_point(&mut self.points, Point::of_one(ended));
+        self.last = Some(Point::of_one(ended));
     }
 }
 

@@ -117,21 +117,21 @@ impl Tree {
 
     /// The depth, the entry and the points of a context, the contexts in the order of the text. It takes `i` steps: to go through
     /// all of them, take `next_in_order` and `at`.
-    pub fn context(&self, i: usize) -> (u32, Addr, &[Point])
+    pub fn context(&self, i: usize) -> Result<(u32, Addr, Vec<Point>), AllocError>
         requires { i < length self.now.branches.places }
         ensures { (past : List Event) (ordered : List (List ℕ)) → StandsFor self.now past
             → IsInOrder (contexts past) ordered
-            → IsShown past (slice_index_or ordered i []) result.0 result.1 result.2.now }
+            → IfOk result (λ c. IsShown past (slice_index_or ordered i []) c.0 c.1 c.2.items) }
     {
         self.branches.context(i)
     }
 
     /// The depth of the context of a number, which is 0 where it has one entry, its entry, and its points.
-    pub fn at(&self, n: u32) -> (u32, Addr, &[Point])
+    pub fn at(&self, n: u32) -> Result<(u32, Addr, Vec<Point>), AllocError>
         requires some { 1 ≤ n }
         requires within { n ≤ length self.now.branches.places }
         ensures { (past : List Event) → StandsFor self.now past
-            → IsShown past (numbered (contexts past) n) result.0 result.1 result.2.now }
+            → IfOk result (λ c. IsShown past (numbered (contexts past) n) c.0 c.1 c.2.items) }
     {
         self.branches.at(n)
     }

@@ -2,6 +2,7 @@ pub mod Rising
 pub mod Grouped
 pub mod Searched
 pub mod Put
+pub mod InBlocks
 pub mod Merged
 pub mod Tables
 pub mod Bounds

@@ -10,13 +10,13 @@ use Rattle.cost_points.proofs.Grouped.{having, having_none, having_some}
 use Rattle.cost_points.proofs.Rising.{IsRising-above, IsRising-rising, IsRising-tail, insert_above, insert_below, insert_same, order, rising_push}
 
 module _ {B : Type 0} (key : B → ℕ) (k : ℕ) (change : B → B) (new : B) where
-  put_below : (x : B) (xs : List B) → k < key x → put key k change new (x ∷ xs) ≡ new ∷ x ∷ xs
+  pub put_below : (x : B) (xs : List B) → k < key x → put key k change new (x ∷ xs) ≡ new ∷ x ∷ xs
   put_below x xs h = grind (arith, nat_tests)
 
-  put_same : (x : B) (xs : List B) → k ≡ key x → put key k change new (x ∷ xs) ≡ change x ∷ xs
+  pub put_same : (x : B) (xs : List B) → k ≡ key x → put key k change new (x ∷ xs) ≡ change x ∷ xs
   put_same x xs h = grind (arith, nat_tests)
 
-  put_above : (x : B) (xs : List B) → key x < k → put key k change new (x ∷ xs) ≡ x ∷ put key k change new xs
+  pub put_above : (x : B) (xs : List B) → key x < k → put key k change new (x ∷ xs) ≡ x ∷ put key k change new xs
   put_above x xs h = grind (arith, nat_tests)
 
   -- what holds of the new value, of those that stay, and of one that is changed

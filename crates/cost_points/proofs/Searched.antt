@@ -1,5 +1,5 @@
 -- What a binary search by a key finds among rising keys.
-use Rattle.std.proofs.Common.{◌≡◌, ℕ, ◌<◌, ◌≤◌, List, length, get_or, map, Result, Ok, Err, sym, ap, ◌∙◌, arith}
+use Rattle.std.proofs.Common.{◌≡◌, ℕ, ◌<◌, ◌≤◌, List, [], ◌∷◌, length, get_or, map, Result, Ok, Err, sym, ap, ◌∙◌, arith}
 use Rattle.std.specs.List.Sorted.{IsSearchInRange, IsBinarySearchResult, IsNonDecreasingBy}
 use Rattle.std.specs.Ordering.{nat_cmp, ordering_index}
 use Rattle.std.proofs.lemmas.Cmp.{ranked}
@@ -44,6 +44,11 @@ module _ {X : Type 0} (label : X → ℕ) (d : X) (xs : List X) (up : IsRising (
         let above : x < label (get_or xs j d) = ranked _ x _ (sym ((parted comparisons_rise).1 j d le within)) in
         omega (arith, above, labelled j within);
   }
+
+pub searched_in : {X : Type 0} (label : X → ℕ) (xs : List X) → IsRising (map label xs) → (x : ℕ) (r : Result ℕ ℕ) → IsSearchInRange r (length xs) → IsBinarySearchResult (λ y. nat_cmp (label y) x) xs r → FindsKey (map label xs) x r
+searched_in label [] up x (Ok at) inside parted = absurd (omega (arith, inside))
+searched_in label [] up x (Err at) inside parted = record { in_range = inside; smaller = λ j lt. absurd (omega (arith, inside, lt)); greater = λ j le lt. absurd (omega (arith, lt)) }
+searched_in label (y ∷ ys) up x r inside parted = searched label y (y ∷ ys) up x r inside parted
 
 -- A key that stands at a place would go at none.
 pub apart : (keys : List ℕ) (key i j : ℕ) → IsAt keys key i → IsInsertionPoint keys key j → ⊥

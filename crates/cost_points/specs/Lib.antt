@@ -2,5 +2,6 @@ pub mod Keys
 pub mod Points
 pub mod Merging
 pub mod Search
+pub mod Joined
 pub mod Contents
 pub mod Valid

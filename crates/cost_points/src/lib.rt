@@ -4,10 +4,12 @@
 //! added to it.
 #![tactic(auto)]
 
+mod blocks;
 mod point;
 mod routine;
+mod sorted;
 mod table;
 
 pub use point::{Point, Split};
-pub use routine::insert_point;
+pub use sorted::{SortedPoints, insert_point};
 pub use table::Table;

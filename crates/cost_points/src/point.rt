@@ -120,10 +120,11 @@ impl Point {
         requires { HasRoom self.old }
         ensures { self.new ≡ merged self.old (point_of ended.now.size (ended.now ∷ [])) }
     {
+        let cost = ended.cost;
         self.calls += 1;
-        self.least = self.least.min(ended.cost);
-        self.most = self.most.max(ended.cost);
-        self.sum += u128::from(ended.cost);
+        self.least = self.least.min(cost);
+        self.most = self.most.max(cost);
+        self.sum += u128::from(cost);
         if let Some(split) = &mut self.split {
             split.add_one(ended);
         }

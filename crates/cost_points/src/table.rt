@@ -49,19 +49,23 @@ fn search(routines: &[RoutinePoints], entry: Addr) -> Result<usize, usize>
     routines.binary_search_by_key(&entry, |routine| routine.entry)
 }
 
-/// The same, with a look at the place where a routine was found last.
+/// The same, with a look at the place where a routine was found last. It becomes the place where this one is found.
 #[inline(always)]
-fn find(routines: &[RoutinePoints], last: usize, entry: Addr) -> Result<usize, usize>
+fn find(routines: &[RoutinePoints], last: &mut usize, entry: Addr) -> Result<usize, usize>
     requires { IsRising (map (λ r. r.entry) routines.now) }
     ensures { FindsKey (map (λ r. r.entry) routines.now) entry result }
 {
-    if last < routines.len() {
-        let routine = &routines[last];
+    if *last < routines.len() {
+        let routine = &routines[*last];
         if routine.entry == entry {
-            return Ok(last);
+            return Ok(*last);
         }
     }
-    search(routines, entry)
+    let found = search(routines, entry);
+    if let Ok(at) = found {
+        *last = at;
+    }
+    found
 }
 
 /// One more activation among the routines, the last of which was found at a place.
@@ -82,9 +86,8 @@ fn add_one(
         → r.entry ≡ ended.now.entry → IsAt (map (λ p. p.size) r.points) ended.now.size place
         → IsOk result }
 {
-    match find(routines, *last, ended.entry) {
+    match find(routines, last, ended.entry) {
         Ok(at) => {
-            *last = at;
             let routine = &mut routines[at];
             routine.add_one(ended)
         }
@@ -222,12 +225,13 @@ impl Table {
     }
 
     /// The entry and the points of a routine, the routines by rising entry and the points by rising size.
-    pub fn routine(&self, i: usize) -> (Addr, &[Point])
+    pub fn routine(&self, alloc: Global, i: usize) -> Result<(Addr, Vec<Point>), AllocError>
         requires { i < length self.now.routines }
-        ensures { slice_get self.now.routines i
-            ≡ Some (record { entry = result.0; points = result.1.now }) }
+        ensures { IfOk result (λ r. slice_get self.now.routines i
+            ≡ Some (record { entry = r.0; points = r.1.items })) }
     {
         let routine = &self.routines[i];
-        (routine.entry, &routine.points)
+        let points = routine.points(alloc)?;
+        Ok((routine.entry, points))
     }
 }

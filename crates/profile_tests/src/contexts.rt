@@ -152,7 +152,9 @@ fn contexts_in_the_order_of_the_text(rt: HostRuntime) -> Result<(), Fail> {
         (3, 2, 0x10070, 2),
     ] {
         assert!(rt; i < tree.contexts());
-        assert_eq!(rt; tree.context(i), (depth, entry, [point(cost)].as_slice()));
+        let (shown_depth, shown_entry, points) = tree.context(i)?;
+        assert_eq!(rt; (shown_depth, shown_entry), (depth, entry));
+        assert_eq!(rt; points.as_slice(), [point(cost)].as_slice());
     }
     Ok(())
 }

@@ -58,7 +58,8 @@ fn the_calls_of_a_deep_recursion_are_one_point(rt: HostRuntime) -> Result<(), Fa
         sum: 668,
         split: Some(NOTHING),
     };
-    assert_eq!(rt; table.routine(0), (0x10054, [whole].as_slice()));
+    let (entry, points) = table.routine(rt.alloc(), 0)?;
+    assert_eq!(rt; (entry, points.as_slice()), (0x10054, [whole].as_slice()));
     let deep = Point {
         size: 0,
         calls: 83,
@@ -67,7 +68,8 @@ fn the_calls_of_a_deep_recursion_are_one_point(rt: HostRuntime) -> Result<(), Fa
         sum: 27805,
         split: Some(NOTHING),
     };
-    assert_eq!(rt; table.routine(1), (0x10068, [deep].as_slice()));
+    let (entry, points) = table.routine(rt.alloc(), 1)?;
+    assert_eq!(rt; (entry, points.as_slice()), (0x10068, [deep].as_slice()));
     Ok(())
 }
 
@@ -116,7 +118,8 @@ fn points_are_by_size(rt: HostRuntime) -> Result<(), Fail> {
             bare: 4,
         }),
     };
-    assert_eq!(rt; table.routine(0), (0x10068, [small, large].as_slice()));
+    let (entry, points) = table.routine(rt.alloc(), 0)?;
+    assert_eq!(rt; (entry, points.as_slice()), (0x10068, [small, large].as_slice()));
     Ok(())
 }
 
@@ -155,6 +158,7 @@ fn a_point_joins_another(rt: HostRuntime) -> Result<(), Fail> {
             bare: 4,
         }),
     };
-    assert_eq!(rt; table.routine(0), (0x10068, [whole].as_slice()));
+    let (entry, points) = table.routine(rt.alloc(), 0)?;
+    assert_eq!(rt; (entry, points.as_slice()), (0x10068, [whole].as_slice()));
     Ok(())
 }

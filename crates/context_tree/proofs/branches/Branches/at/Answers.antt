@@ -25,8 +25,8 @@ returns c = λ past stands.
     in
     let context = c.place-entry.ensures.context (contexts past) s.contexts_are in
     let inside : c.args.n - 1 < length c.self.inside.points.items = omega (arith, c.requires.some, within, many, s.contexts_are.long, length-map c.self.inside.points.items (λ (p : PointList). p.points)) in
-    let read : c.list.result.now ≡ get_or (lists c.self.inside.points.items) (c.args.n - 1) [] =
-    c.list.ensures ∙ there_is c.self.inside.points.items (c.args.n - 1) inside c.index-2.result.now c.index-2.result.now c.index-2.ensures
+    let read : c.in_ok-points.points.items ≡ get_or (lists c.self.inside.points.items) (c.args.n - 1) [] =
+    c.in_ok-points.ensures ∙ there_is c.self.inside.points.items (c.args.n - 1) inside c.index-2.result.now c.index-2.result.now c.index-2.ensures
     in
     record {
       depth_is = omega (arith, ap (λ (x : Links). x.depth) links_is, depth, ap length context, length-append (numbered (contexts past) c.place-entry.result.0) (c.place-entry.result.1 ∷ []));

@@ -1,4 +1,4 @@
-use Rattle.std.proofs.Common.{ℕ, List, subst}
+use Rattle.std.proofs.Common.{ℕ, IfOk, List, subst}
 use Rattle.std.proofs.Math.Logic.{∥∥₁_elim}
 use Rattle.std.proofs.Props.{props}
 use Rattle.context_tree.specs.Trees.{IsShown}
@@ -14,4 +14,4 @@ at-requires-clause-long c = ∥∥₁_elim c.requires.stands (hlevel props) (λ 
 
 pub returns : goal.returns
 returns c = λ past ordered stands in_order.
-    subst (λ (d : List ℕ). IsShown past d c.at.result.0 c.at.result.1 c.at.result.2.now) (c.number_at.ensures.listed past ordered stands in_order) (c.at.ensures past stands)
+    subst (λ (d : List ℕ). IfOk c.at.result (λ r. IsShown past d r.0 r.1 r.2.items)) (c.number_at.ensures.listed past ordered stands in_order) (c.at.ensures past stands)

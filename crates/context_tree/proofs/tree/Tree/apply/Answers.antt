@@ -1,6 +1,5 @@
-use Rattle.std.proofs.Common.{List, ◌∷◌, sym, subst}
-use Rattle.trace_model.specs.declared.event_kinds.Event.{Event}
-use Rattle.context_tree.specs.Trees.{AreEnded, Kept, MayCome, StandsFor}
+use Rattle.std.proofs.Common.{sym, subst}
+use Rattle.context_tree.specs.Trees.{AreEnded, Kept, MayCome}
 use Rattle.context_tree.proofs.Growing.{formed_next, goes_on, takes, whole}
 use Rattle.context_tree.proofs.tree.Tree.apply.Goals as goal
 

@@ -4,7 +4,7 @@ use Rattle.cost_points.specs.declared.point.Point.{Point}
 use Rattle.cost_points.specs.Merging.{merged}
 use Rattle.cost_points.specs.Search.{IsAt, IsInsertionPoint}
 use Rattle.cost_points.proofs.Put.{put_at, put_in}
-use Rattle.cost_points.proofs.routine.insert_point.Goals as goal
+use Rattle.cost_points.proofs.sorted.insert_point.Goals as goal
 
 taken : {T E : Type 0} {X : Type 0} (r : Result T E) (a b : X) → IsOk r → cond (is_ok r) a b ≡ a
 taken (Ok v) a b ok = refl

@@ -2,7 +2,7 @@ use Rattle.std.proofs.Common.{rules, None}
 use Rattle.std.proofs.lemmas.List.Sorted.{answers_always}
 use Rattle.cost_points.specs.declared.point.Point.{Point}
 use Rattle.cost_points.proofs.Searched.{searched}
-use Rattle.cost_points.proofs.routine.search.Goals as goal
+use Rattle.cost_points.proofs.sorted.search.Goals as goal
 
 pub returns : goal.returns
 returns c =

@@ -1,0 +1,171 @@
+//! Items by rising key, in blocks: one more moves the rest of a block, and no other item.
+ghost use Rattle.std.specs.Prelude.{◌≡◌, ◌<◌, ◌≤◌, [], ℕ, get_or, length, map, IfOk, MatchResult, OnErr, OnOk};
+ghost use Rattle.cost_points.specs.Joined.{IsBetween, IsBlockOf, IsFilled, IsGapOf, IsPlaceOf, cut, joined, with_item};
+ghost use Rattle.cost_points.specs.Keys.{IsRising};
+ghost use Rattle.cost_points.specs.Search.{FindsKey};
+
+use crate::Point;
+use std::alloc::{AllocError, Global};
+
+/// How many items a block has at most, and how many of them stay where it is cut in two.
+const MOST: usize = 128;
+
+const HALF: usize = 64;
+
+/// What stands in blocks, by its key.
+pub(crate) trait Keyed {
+    ghost key_of: { Self → ℕ };
+
+    fn key(&self) -> u64
+        ensures { result ≡ key_of self.now };
+}
+
+/// A place of an item: its block, and the place in that.
+#[derive(Clone, Copy, Debug, PartialEq, Eq)]
+pub(crate) struct Place {
+    pub block: usize,
+    pub at: usize,
+}
+
+impl Place {
+    /// The first one.
+    pub(crate) const FIRST: Place = Place { block: 0, at: 0 };
+}
+
+/// The block that the key belongs into.
+fn block_of<T: Keyed>(blocks: &[Vec<T>], key: u64) -> usize
+    requires filled { IsFilled (map (λ b. b.items) blocks.now) }
+    requires rising { IsRising (map T.key_of (joined (map (λ b. b.items) blocks.now))) }
+    ensures { IsBlockOf T.key_of (map (λ b. b.items) blocks.now) key result }
+{
+    let mut low = 0;
+    let mut high = blocks.len();
+    'halve: while high - low > 1 {
+        let middle = low + (high - low) / 2;
+        let block = &blocks[middle];
+        if block[0].key() <= key {
+            low = middle;
+        } else {
+            high = middle;
+        }
+    }
+    low
+}
+
+/// Where in a block the key stands, or where it would go.
+fn search_block<T: Keyed>(block: &[T], key: u64) -> Result<usize, usize>
+    requires { IsRising (map T.key_of block.now) }
+    ensures { FindsKey (map T.key_of block.now) key result }
+{
+    block.binary_search_by_key(&key, |item| item.key())
+}
+
+/// Where the key stands, or where it would go.
+pub(crate) fn search<T: Keyed>(blocks: &[Vec<T>], key: u64) -> Result<Place, Place>
+    requires filled { IsFilled (map (λ b. b.items) blocks.now) }
+    requires rising { IsRising (map T.key_of (joined (map (λ b. b.items) blocks.now))) }
+    ensures { MatchResult result
+        (λ p. IsPlaceOf T.key_of (map (λ b. b.items) blocks.now) key p.block p.at)
+        (λ p. IsGapOf T.key_of (map (λ b. b.items) blocks.now) key p.block p.at) }
+{
+    let block = block_of(blocks, key);
+    match search_block(&blocks[block], key) {
+        Ok(at) => Ok(Place { block, at }),
+        Err(at) => Err(Place { block, at }),
+    }
+}
+
+/// The same, with a look at the place where a key was found last. It becomes the place where this one is found.
+#[inline(always)]
+pub(crate) fn find<T: Keyed>(blocks: &[Vec<T>], last: &mut Place, key: u64) -> Result<Place, Place>
+    requires filled { IsFilled (map (λ b. b.items) blocks.now) }
+    requires rising { IsRising (map T.key_of (joined (map (λ b. b.items) blocks.now))) }
+    ensures { MatchResult result
+        (λ p. IsPlaceOf T.key_of (map (λ b. b.items) blocks.now) key p.block p.at)
+        (λ p. IsGapOf T.key_of (map (λ b. b.items) blocks.now) key p.block p.at) }
+{
+    if last.block < blocks.len() {
+        let block = &blocks[last.block];
+        if last.at < block.len() && block[last.at].key() == key {
+            return Ok(*last);
+        }
+    }
+    let found = search(blocks, key);
+    if let Ok(place) = found {
+        *last = place;
+    }
+    found
+}
+
+/// Cuts a block in two. A refusal changes no item.
+fn cut_block<T: Drop>(blocks: &mut Vec<Vec<T>>, b: usize) -> Result<(), AllocError>
+    requires inside { b < length blocks.old.items }
+    requires long { 128 ≤ length (get_or (map (λ v. v.items) blocks.old.items) b []) }
+    ensures ok { OnOk result (map (λ v. v.items) blocks.new.items
+        ≡ cut 64 b (map (λ v. v.items) blocks.old.items)) }
+    ensures err { OnErr result (map (λ v. v.items) blocks.new.items
+        ≡ map (λ v. v.items) blocks.old.items) }
+{
+    blocks.reserve(1)?;
+    let block = &mut blocks[b];
+    let upper = block.split_off(HALF)?;
+    let _ = blocks.insert(b + 1, upper);
+    Ok(())
+}
+
+/// Makes a block shorter than the longest, and says where its place is then. A refusal changes no item.
+fn shorten<T: Drop>(blocks: &mut Vec<Vec<T>>, place: Place) -> Result<Place, AllocError>
+    requires inside { place.block < length blocks.old.items }
+    requires at { place.at ≤ length (get_or (map (λ v. v.items) blocks.old.items) place.block []) }
+    requires filled { IsFilled (map (λ v. v.items) blocks.old.items) }
+    ensures block { IfOk result (λ p. p.block < length blocks.new.items) }
+    ensures at { IfOk result (λ p. p.at ≤ length (get_or (map (λ v. v.items) blocks.new.items) p.block [])) }
+    ensures same { (x : T) → IfOk result (λ p. with_item (map (λ v. v.items) blocks.new.items) p.block p.at x
+        ≡ with_item (map (λ v. v.items) blocks.old.items) place.block place.at x) }
+    ensures items { joined (map (λ v. v.items) blocks.new.items) ≡ joined (map (λ v. v.items) blocks.old.items) }
+    ensures filled { IsFilled (map (λ v. v.items) blocks.new.items) }
+{
+    if blocks[place.block].len() < MOST {
+        return Ok(place);
+    }
+    cut_block(blocks, place.block)?;
+    if place.at <= HALF {
+        return Ok(place);
+    }
+    Ok(Place {
+        block: place.block + 1,
+        at: place.at - HALF,
+    })
+}
+
+/// One item more, at a place. A refusal changes no item.
+pub(crate) fn insert<T: Drop>(
+    blocks: &mut Vec<Vec<T>>,
+    place: Place,
+    item: T,
+) -> Result<Place, AllocError>
+    requires inside { place.block < length blocks.old.items }
+    requires at { place.at ≤ length (get_or (map (λ v. v.items) blocks.old.items) place.block []) }
+    requires filled { IsFilled (map (λ v. v.items) blocks.old.items) }
+    ensures ok { OnOk result (joined (map (λ v. v.items) blocks.new.items)
+        ≡ with_item (map (λ v. v.items) blocks.old.items) place.block place.at item) }
+    ensures err { OnErr result (joined (map (λ v. v.items) blocks.new.items)
+        ≡ joined (map (λ v. v.items) blocks.old.items)) }
+    ensures filled { IsFilled (map (λ v. v.items) blocks.new.items) }
+{
+    let place = shorten(blocks, place)?;
+    let block = &mut blocks[place.block];
+    block.insert(place.at, item)?;
+    Ok(place)
+}
+
+/// All items, by rising key.
+pub(crate) fn items(alloc: Global, blocks: &[Vec<Point>]) -> Result<Vec<Point>, AllocError>
+    ensures { IfOk result (λ all. all.items ≡ joined (map (λ b. b.items) blocks.now)) }
+{
+    let mut all = Vec::new(alloc);
+    for i in 0..blocks.len() {
+        all.extend_from_slice(&blocks[i])?;
+    }
+    Ok(all)
+}

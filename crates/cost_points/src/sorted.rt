@@ -1,0 +1,195 @@
+//! Points by rising size.
+ghost use Rattle.std.specs.Prelude.{◌≡◌, ◌<◌, [], ◌∷◌, ℕ, map, vec_len, IfOk, IsOk, OnOk, OnErr};
+ghost use Rattle.std.specs.List.{All};
+ghost use Rattle.std.specs.Vec.{vec_capacity};
+ghost use Rattle.cost_points.specs.Joined.{IsFilled, IsGapOf, joined};
+ghost use Rattle.cost_points.specs.Keys.{IsRising, put};
+ghost use Rattle.cost_points.specs.Merging.{merged};
+ghost use Rattle.cost_points.specs.Points.{point_of};
+ghost use Rattle.cost_points.specs.Search.{FindsKey, HasRoom, IsAt};
+
+use crate::Point;
+use crate::blocks::{self, Keyed, Place};
+use std::alloc::{AllocError, Global};
+use std::marker::Model;
+use trace_model::Done;
+
+/// Points by rising size, at least one. A new one moves the rest of a block, and no others: no order of sizes makes them
+/// quadratic. Contracts see them as a list.
+#[derive(Drop)]
+pub struct SortedPoints {
+    points: Vec<Vec<Point>>,
+    // The place of the point that was found last.
+    last: Place,
+}
+
+impl Model for SortedPoints {
+    ghost use Rattle.std.specs.Prelude.{List, map};
+    ghost use Rattle.cost_points.specs.declared.point.Point.{Point};
+    ghost use Rattle.cost_points.specs.Joined.{IsFilled, joined};
+
+    ghost Value = { List Point };
+
+    ghost view = { λ s. joined (map (λ b. b.items) s.points.items) };
+
+    ghost invariant = { λ s. IsFilled (map (λ b. b.items) s.points.items) };
+}
+
+impl Keyed for Point {
+    ghost key_of = { λ p. p.size };
+
+    #[inline(always)]
+    fn key(&self) -> u64 {
+        self.size
+    }
+}
+
+/// Where the point of the size is, or where it would go.
+fn search(points: &[Point], size: u64) -> Result<usize, usize>
+    requires { IsRising (map (λ p. p.size) points.now) }
+    ensures { FindsKey (map (λ p. p.size) points.now) size result }
+{
+    points.binary_search_by_key(&size, |point| point.size)
+}
+
+/// One more point among points whose sizes rise: the one of its size takes it in, and where there is none it is a new one.
+/// There is room for one more, so it takes no memory.
+pub fn insert_point(points: &mut Vec<Point>, point: Point)
+    requires spare { vec_len points.old < vec_capacity points.old }
+    requires rising { IsRising (map (λ p. p.size) points.old.items) }
+    requires room { All HasRoom points.old.items }
+    requires fits { HasRoom point }
+    ensures { points.new.items ≡ put (λ q. q.size) point.size
+        (λ q. merged q point) point points.old.items }
+{
+    match search(points, point.size) {
+        Ok(at) => points[at] = points[at].merged(point),
+        Err(at) => {
+            let _ = points.insert(at, point);
+        }
+    }
+}
+
+/// One more point among blocks of points.
+fn add_to(points: &mut Vec<Vec<Point>>, point: Point) -> Result<(), AllocError>
+    requires filled { IsFilled (map (λ b. b.items) points.old.items) }
+    requires rising { IsRising (map (λ p. p.size) (joined (map (λ b. b.items) points.old.items))) }
+    requires room { All HasRoom (joined (map (λ b. b.items) points.old.items)) }
+    requires fits { HasRoom point }
+    ensures ok { OnOk result (joined (map (λ b. b.items) points.new.items)
+        ≡ put (λ q. q.size) point.size (λ q. merged q point) point
+        (joined (map (λ b. b.items) points.old.items))) }
+    ensures err { OnErr result (joined (map (λ b. b.items) points.new.items)
+        ≡ joined (map (λ b. b.items) points.old.items)) }
+    ensures filled { IsFilled (map (λ b. b.items) points.new.items) }
+    ensures no_memory { (place : ℕ) → IsAt (map (λ p. p.size) (joined (map (λ b. b.items) points.old.items)))
+        point.size place → IsOk result }
+{
+    match blocks::search(points, point.size) {
+        Ok(place) => {
+            let block = &mut points[place.block];
+            block[place.at] = block[place.at].merged(point);
+            Ok(())
+        }
+        Err(place) => {
+            blocks::insert(points, place, point)?;
+            Ok(())
+        }
+    }
+}
+
+/// One more activation among blocks of points, the last of which was found at a place.
+#[inline(always)]
+fn add_one(points: &mut Vec<Vec<Point>>, last: &mut Place, ended: &Done) -> Result<(), AllocError>
+    requires filled { IsFilled (map (λ b. b.items) points.old.items) }
+    requires rising { IsRising (map (λ p. p.size) (joined (map (λ b. b.items) points.old.items))) }
+    requires room { All HasRoom (joined (map (λ b. b.items) points.old.items)) }
+    ensures ok { OnOk result (joined (map (λ b. b.items) points.new.items)
+        ≡ put (λ q. q.size) ended.now.size (λ q. merged q (point_of ended.now.size (ended.now ∷ [])))
+        (point_of ended.now.size (ended.now ∷ [])) (joined (map (λ b. b.items) points.old.items))) }
+    ensures err { OnErr result (joined (map (λ b. b.items) points.new.items)
+        ≡ joined (map (λ b. b.items) points.old.items)) }
+    ensures filled { IsFilled (map (λ b. b.items) points.new.items) }
+    ensures no_memory { (place : ℕ) → IsAt (map (λ p. p.size) (joined (map (λ b. b.items) points.old.items)))
+        ended.now.size place → IsOk result }
+{
+    match blocks::find(points, last, ended.size) {
+        Ok(place) => {
+            let block = &mut points[place.block];
+            let point = &mut block[place.at];
+            point.add_one(ended);
+            Ok(())
+        }
+        Err(place) => add_size(points, last, place, ended),
+    }
+}
+
+/// The first activation of its size: a new point at its place.
+#[cold]
+#[inline(never)]
+fn add_size(
+    points: &mut Vec<Vec<Point>>,
+    last: &mut Place,
+    place: Place,
+    ended: &Done,
+) -> Result<(), AllocError>
+    requires filled { IsFilled (map (λ b. b.items) points.old.items) }
+    requires gap { IsGapOf (λ p. p.size) (map (λ b. b.items) points.old.items) ended.now.size place.block place.at }
+    ensures ok { OnOk result (joined (map (λ b. b.items) points.new.items)
+        ≡ put (λ q. q.size) ended.now.size (λ q. merged q (point_of ended.now.size (ended.now ∷ [])))
+        (point_of ended.now.size (ended.now ∷ [])) (joined (map (λ b. b.items) points.old.items))) }
+    ensures err { OnErr result (joined (map (λ b. b.items) points.new.items)
+        ≡ joined (map (λ b. b.items) points.old.items)) }
+    ensures filled { IsFilled (map (λ b. b.items) points.new.items) }
+{
+    *last = blocks::insert(points, place, Point::of_one(*ended))?;
+    Ok(())
+}
+
+impl SortedPoints {
+    /// One point.
+    pub fn of_one(alloc: Global, point: Point) -> Result<SortedPoints, AllocError>
+        ensures { IfOk result (λ s. s ≡ point ∷ []) }
+    {
+        let mut block = Vec::new(alloc);
+        block.push(point)?;
+        let mut points = Vec::new(alloc);
+        points.push(block)?;
+        Ok(SortedPoints {
+            points,
+            last: Place::FIRST,
+        })
+    }
+
+    /// One more point: the one of its size takes it in, and where there is none it is a new one.
+    pub fn add(&mut self, point: Point) -> Result<(), AllocError>
+        requires rising { IsRising (map (λ p. p.size) self.old) }
+        requires room { All HasRoom self.old }
+        requires fits { HasRoom point }
+        ensures ok { OnOk result (self.new ≡ put (λ q. q.size) point.size (λ q. merged q point) point self.old) }
+        ensures err { OnErr result (self.new ≡ self.old) }
+        ensures no_memory { (place : ℕ) → IsAt (map (λ p. p.size) self.old) point.size place → IsOk result }
+    {
+        add_to(&mut self.points, point)
+    }
+
+    /// One more activation.
+    #[inline(always)]
+    pub fn add_one(&mut self, ended: &Done) -> Result<(), AllocError>
+        requires rising { IsRising (map (λ p. p.size) self.old) }
+        requires room { All HasRoom self.old }
+        ensures ok { OnOk result (self.new ≡ put (λ q. q.size) ended.now.size (λ q. merged q (point_of ended.now.size (ended.now ∷ [])))
+            (point_of ended.now.size (ended.now ∷ [])) self.old) }
+        ensures err { OnErr result (self.new ≡ self.old) }
+        ensures no_memory { (place : ℕ) → IsAt (map (λ p. p.size) self.old) ended.now.size place → IsOk result }
+    {
+        add_one(&mut self.points, &mut self.last, ended)
+    }
+
+    /// The points, by rising size.
+    pub fn list(&self, alloc: Global) -> Result<Vec<Point>, AllocError>
+        ensures { IfOk result (λ points. points.items ≡ self.now) }
+    {
+        blocks::items(alloc, &self.points)
+    }
+}
