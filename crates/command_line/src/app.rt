@@ -1,6 +1,6 @@
 //! The fixed command line.
 ghost use Rattle.std.specs.Prelude.{◌≡◌, IfOk, false};
-ghost use Rattle.clap.specs.Words.{app_of, rule_of};
+ghost use Rattle.clap.specs.Words.{App, app_of, rule_of, with_subcommand};
 ghost use Rattle.clap.specs.declared.builder.command.Command.TheViews.{out-Command};
 ghost use Rattle.command_line.specs.App.{the_app, top_app, guest_app, run_app, demo_app, trace_app, cache_app, replay_app, contexts_app, flag_rule, output_rule, required_option, required_rule, value_rule, word_rule};
 
@@ -142,15 +142,27 @@ fn top_command<'a>(alloc: Global) -> Command<'a>
         .disable_version_flag(true)
 }
 
+// The command with the subcommand, where that was made.
+fn with_made<'a>(
+    command: Command<'a>,
+    made: Result<Command<'a>, AllocError>,
+) -> Result<Command<'a>, AllocError>
+    ensures { (top : App) (sub : App) → app_of command.entry ≡ top
+        → IfOk made.entry (λ c. app_of c ≡ sub)
+        → IfOk made.entry (λ c. (out-Command c).has_globals ≡ false)
+        → IfOk result (λ c. app_of c ≡ with_subcommand top sub.top) }
+{
+    command.subcommand(made?)
+}
+
 /// The whole command.
 pub(crate) fn whole_command<'a>(alloc: Global) -> Result<Command<'a>, AllocError>
     ensures { IfOk result (λ c. app_of c ≡ the_app) }
 {
-    top_command(alloc)
-        .subcommand(run_subcommand(alloc)?)?
-        .subcommand(demo_subcommand(alloc)?)?
-        .subcommand(guest_subcommand(alloc, "trace")?)?
-        .subcommand(cache_subcommand(alloc)?)?
-        .subcommand(replay_subcommand(alloc)?)?
-        .subcommand(contexts_subcommand(alloc)?)
+    let command = with_made(top_command(alloc), run_subcommand(alloc))?;
+    let command = with_made(command, demo_subcommand(alloc))?;
+    let command = with_made(command, guest_subcommand(alloc, "trace"))?;
+    let command = with_made(command, cache_subcommand(alloc))?;
+    let command = with_made(command, replay_subcommand(alloc))?;
+    with_made(command, contexts_subcommand(alloc))
 }

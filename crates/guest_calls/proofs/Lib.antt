@@ -4,6 +4,7 @@ pub mod Blocked
 pub mod Carrying
 pub mod ClockCalls
 pub mod CloneCall
+pub mod Cloned
 pub mod Leaving
 pub mod PageCalls
 pub mod PartLists

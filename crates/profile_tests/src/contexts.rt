@@ -1,5 +1,5 @@
 //! A routine that is called in two ways: its numbers, and its places in the order of the text.
-ghost use Rattle.std.specs.Prelude.{List, IfOk};
+ghost use Rattle.std.specs.Prelude.{[], List, IfOk};
 ghost use Rattle.trace_model.specs.declared.event_kinds.Event.{Event};
 ghost use Rattle.context_tree.specs.Trees.{StandsFor};
 ghost use Rattle.shadow_core.specs.Profiling.{StandsFor as Stamps};
@@ -27,11 +27,15 @@ fn number_of(
 #[test]
 fn two_ways_to_a_routine(rt: HostRuntime) -> Result<(), Fail> {
     let mut numbers = ContextNumbers::new(rt.alloc());
-    assert_eq!(rt; number_of(&rt, &mut numbers, 0, 0x10054)?, 1);
-    assert_eq!(rt; number_of(&rt, &mut numbers, 1, 0x10070)?, 2);
-    assert_eq!(rt; number_of(&rt, &mut numbers, 1, 0x10068)?, 3);
-    assert_eq!(rt; number_of(&rt, &mut numbers, 3, 0x10070)?, 4);
-    assert_eq!(rt; number_of(&rt, &mut numbers, 1, 0x10070)?, 2);
+    for (above, entry, number) in [
+        (0u32, 0x10054u32, 1u32),
+        (1, 0x10070, 2),
+        (1, 0x10068, 3),
+        (3, 0x10070, 4),
+        (1, 0x10070, 2),
+    ] {
+        assert_eq!(rt; number_of(&rt, &mut numbers, above, entry)?, number);
+    }
     assert_eq!(rt; numbers.len(), 4);
     Ok(())
 }
@@ -90,12 +94,31 @@ fn apply(
     Ok(())
 }
 
-// The tree of a routine f and its caller that both call g, which reads a word.
-fn two_ways(alloc: Global) -> Result<Tree, Fail> {
-    let mut profiler = Profiler::<u32>::new(alloc)?;
-    let mut tree = Tree::new(alloc)?;
-    let mut done = Vec::new(alloc);
-    for e in [
+// The profiler and the tree take the events in turn, each where it may come next.
+fn apply_each(
+    profiler: &mut Profiler<u32>,
+    tree: &mut Tree,
+    done: &mut Vec<Done>,
+    events: &[Event],
+) -> Result<(), Fail>
+    requires { (past : List Event) × (Stamps 4294967295 profiler.old past
+        × StandsFor tree.old past) }
+    ensures { IfOk result (λ _. (past : List Event)
+        × (Stamps 4294967295 profiler.new past × StandsFor tree.new past)) }
+{
+    for e in events {
+        apply(profiler, tree, done, e)?;
+    }
+    Ok(())
+}
+
+// The tree takes the events of a routine f and its caller that both call g, which reads a word. Each function here holds one
+// value with a destructor where it may end early: the proof of one that holds three took five times as long.
+fn grow_two_ways(alloc: Global, tree: &mut Tree) -> Result<(), Fail>
+    requires { StandsFor tree.old [] }
+    ensures { IfOk result (λ _. (past : List Event) × StandsFor tree.new past) }
+{
+    let events = [
         start(0x10054),
         step(),
         step(),
@@ -117,9 +140,16 @@ fn two_ways(alloc: Global) -> Result<Tree, Fail> {
         step(),
         step(),
         end(),
-    ] {
-        apply(&mut profiler, &mut tree, &mut done, &e)?;
-    }
+    ];
+    let mut profiler = Profiler::<u32>::new(alloc)?;
+    let mut done = Vec::new(alloc);
+    apply_each(&mut profiler, tree, &mut done, &events)
+}
+
+// Their tree.
+fn two_ways(alloc: Global) -> Result<Tree, Fail> {
+    let mut tree = Tree::new(alloc)?;
+    grow_two_ways(alloc, &mut tree)?;
     Ok(tree)
 }
 
