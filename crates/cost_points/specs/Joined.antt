@@ -1,54 +1,13 @@
--- Items by rising key, in blocks that stand one behind another.
-use Rattle.std.specs.Prelude.{ℕ, suc, ◌<◌, ◌≤◌, List, [], ◌∷◌, ◌++◌, drop, get_or, length, map, take}
-use Rattle.std.specs.List.{All, insert}
-use Rattle.cost_points.specs.Search.{IsAt, IsInsertionPoint}
+-- Items in blocks that stand one behind another.
+use Rattle.std.specs.Prelude.{ℕ, ◌≤◌, List, [], ◌∷◌, ◌++◌, drop, length}
+use Rattle.std.specs.List.{All}
 
 -- the items of all blocks
 abbrev pub joined : {A : Type 0} → List (List A) → List A
 joined [] = []
 joined (b ∷ bs) = b ++ joined bs
 
--- the items of the blocks before block b
-abbrev pub before : {A : Type 0} → ℕ → List (List A) → List A
-before b bs = joined (take b bs)
-
--- the items of the blocks behind block b
-abbrev pub behind : {A : Type 0} → ℕ → List (List A) → List A
-behind b bs = joined (drop (suc b) bs)
-
--- the items with one more, which takes a place of block b
-abbrev pub with_item : {A : Type 0} → List (List A) → ℕ → ℕ → A → List A
-with_item bs b at x = before b bs ++ (insert (get_or bs b []) at x ++ behind b bs)
-
--- the blocks, where block b is cut behind its first n items
-abbrev pub cut : {A : Type 0} → ℕ → ℕ → List (List A) → List (List A)
-cut n b bs = take b bs ++ (take n (get_or bs b []) ∷ drop n (get_or bs b []) ∷ drop (suc b) bs)
-
 -- There is a block, and none but the first may be empty.
 pub record IsFilled {A : Type 0} (bs : List (List A)) : Type 0 where
   pub some : 1 ≤ length bs
   pub each : All (λ b. 1 ≤ length b) (drop 1 bs)
-
--- The key belongs into block b: the keys before it are smaller, and those behind it greater.
-pub record IsBlockOf {A : Type 0} (key : A → ℕ) (bs : List (List A)) (x b : ℕ) : Type 0 where
-  pub inside : b < length bs
-  pub smaller : All (λ a. key a < x) (before b bs)
-  pub greater : All (λ a. x < key a) (behind b bs)
-
--- The key stands at a place of block b.
-pub record IsPlaceOf {A : Type 0} (key : A → ℕ) (bs : List (List A)) (x b at : ℕ) : Type 0 where
-  pub block : IsBlockOf key bs x b
-  pub here : IsAt (map key (get_or bs b [])) x at
-
--- The key would go at a place of block b.
-pub record IsGapOf {A : Type 0} (key : A → ℕ) (bs : List (List A)) (x b at : ℕ) : Type 0 where
-  pub block : IsBlockOf key bs x b
-  pub here : IsInsertionPoint (map key (get_or bs b [])) x at
-
--- What a search by halves between two blocks knows: the key is not below the first item of the lower block, if that is not
--- the first one, and below the first item of the upper one, if there is such a block.
-pub record IsBetween {A : Type 0} (key : A → ℕ) (bs : List (List A)) (x low high : ℕ) : Type 0 where
-  pub apart : low < high
-  pub inside : high ≤ length bs
-  pub reached : 0 < low → (d : A) → key (get_or (get_or bs low []) 0 d) ≤ x
-  pub beyond : high < length bs → (d : A) → x < key (get_or (get_or bs high []) 0 d)

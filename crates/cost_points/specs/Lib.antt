@@ -1,3 +1,4 @@
+-- What a reader has to believe.
 pub mod Keys
 pub mod Points
 pub mod Merging
@@ -5,3 +6,5 @@ pub mod Search
 pub mod Joined
 pub mod Contents
 pub mod Valid
+-- What the private parts owe one another.
+pub mod Places

@@ -1,21 +1,24 @@
 //! Items by rising key, in blocks: one more moves the rest of a block, and no other item.
 ghost use Rattle.std.specs.Prelude.{◌≡◌, ◌<◌, ◌≤◌, [], ℕ, get_or, length, map, IfOk, MatchResult, OnErr, OnOk};
-ghost use Rattle.cost_points.specs.Joined.{IsBetween, IsBlockOf, IsFilled, IsGapOf, IsPlaceOf, cut, joined, with_item};
+ghost use Rattle.cost_points.specs.Joined.{IsFilled, joined};
+ghost use Rattle.cost_points.specs.Places.{IsBetween, IsBlockOf, IsGapOf, IsPlaceOf, cut, with_item};
 ghost use Rattle.cost_points.specs.Keys.{IsRising};
 ghost use Rattle.cost_points.specs.Search.{FindsKey};
 
 use crate::Point;
 use std::alloc::{AllocError, Global};
 
-/// How many items a block has at most, and how many of them stay where it is cut in two.
+/// How many items a block has at most.
 const MOST: usize = 128;
 
+/// How many items stay in a block that is cut in two.
 const HALF: usize = 64;
 
 /// What stands in blocks, by its key.
 pub(crate) trait Keyed {
     ghost key_of: { Self → ℕ };
 
+    /// The key.
     fn key(&self) -> u64
         ensures { result ≡ key_of self.now };
 }

@@ -2,7 +2,8 @@
 ghost use Rattle.std.specs.Prelude.{◌≡◌, ◌<◌, [], ◌∷◌, ℕ, map, vec_len, IfOk, IsOk, OnOk, OnErr};
 ghost use Rattle.std.specs.List.{All};
 ghost use Rattle.std.specs.Vec.{vec_capacity};
-ghost use Rattle.cost_points.specs.Joined.{IsFilled, IsGapOf, joined};
+ghost use Rattle.cost_points.specs.Joined.{IsFilled, joined};
+ghost use Rattle.cost_points.specs.Places.{IsGapOf};
 ghost use Rattle.cost_points.specs.Keys.{IsRising, put};
 ghost use Rattle.cost_points.specs.Merging.{merged};
 ghost use Rattle.cost_points.specs.Points.{point_of};
@@ -14,8 +15,8 @@ use std::alloc::{AllocError, Global};
 use std::marker::Model;
 use trace_model::Done;
 
-/// Points by rising size, at least one. A new one moves the rest of a block, and no others: no order of sizes makes them
-/// quadratic. Contracts see them as a list.
+/// Points by rising size, at least one, in blocks: a new one moves the rest of its block, and no other point. Contracts see
+/// them as a list.
 #[derive(Drop)]
 pub struct SortedPoints {
     points: Vec<Vec<Point>>,
@@ -70,8 +71,8 @@ pub fn insert_point(points: &mut Vec<Point>, point: Point)
     }
 }
 
-/// One more point among blocks of points.
-fn add_to(points: &mut Vec<Vec<Point>>, point: Point) -> Result<(), AllocError>
+/// One more point among blocks of points, the last of which was found at a place.
+fn add_to(points: &mut Vec<Vec<Point>>, last: &mut Place, point: Point) -> Result<(), AllocError>
     requires filled { IsFilled (map (λ b. b.items) points.old.items) }
     requires rising { IsRising (map (λ p. p.size) (joined (map (λ b. b.items) points.old.items))) }
     requires room { All HasRoom (joined (map (λ b. b.items) points.old.items)) }
@@ -85,14 +86,14 @@ fn add_to(points: &mut Vec<Vec<Point>>, point: Point) -> Result<(), AllocError>
     ensures no_memory { (place : ℕ) → IsAt (map (λ p. p.size) (joined (map (λ b. b.items) points.old.items)))
         point.size place → IsOk result }
 {
-    match blocks::search(points, point.size) {
+    match blocks::find(points, last, point.size) {
         Ok(place) => {
             let block = &mut points[place.block];
             block[place.at] = block[place.at].merged(point);
             Ok(())
         }
         Err(place) => {
-            blocks::insert(points, place, point)?;
+            *last = blocks::insert(points, place, point)?;
             Ok(())
         }
     }
@@ -170,7 +171,7 @@ impl SortedPoints {
         ensures err { OnErr result (self.new ≡ self.old) }
         ensures no_memory { (place : ℕ) → IsAt (map (λ p. p.size) self.old) point.size place → IsOk result }
     {
-        add_to(&mut self.points, point)
+        add_to(&mut self.points, &mut self.last, point)
     }
 
     /// One more activation.

@@ -18,7 +18,7 @@ use std::marker::Model;
 use trace_model::Done;
 
 /// The points of the activations that were added. Contracts see how many these are, and their routines. Looking up a
-/// routine and a size is logarithmic; a new routine or a new size moves those above it.
+/// routine and a size is logarithmic. A new size moves the rest of a block; a new routine moves those above it.
 #[derive(Drop)]
 pub struct Table {
     alloc: Global,

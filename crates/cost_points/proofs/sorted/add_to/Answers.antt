@@ -1,6 +1,6 @@
 use Rattle.std.proofs.Common.{Global, List, Vec, ap, map, refl, set, subst, ◌∙◌}
 use Rattle.cost_points.specs.declared.point.Point.{Point}
-use Rattle.cost_points.specs.Joined.{IsGapOf, IsPlaceOf}
+use Rattle.cost_points.specs.Places.{IsGapOf, IsPlaceOf}
 use Rattle.cost_points.specs.Merging.{merged}
 use Rattle.cost_points.specs.Search.{HasRoom}
 use Rattle.cost_points.proofs.InBlocks.{filled_changed, item_changed, item_has, nowhere, put_new}
@@ -24,14 +24,14 @@ returns-in-Ok-clause-filled c =
     let place = subst (λ (vs : List (Vec Point Global)). IsPlaceOf (λ p. p.size) (map (λ b. b.items) vs) c.args.point.size c.in-Ok.place.block c.in-Ok.place.at) c.deref.ensures.value c.in-Ok.ensures in
     filled_changed (λ b. b.items) (λ (q : Point). q.size) c.args.points.now.items c.args.point.size c.in-Ok.place.block c.in-Ok.place.at c.index_mut-block.result.now _ c.merged.result c.requires.filled place c.index_mut-block.ensures.value refl
 
-pub returns-in_err-insert-in-Err-clause-no_memory : goal.returns-in_err-insert-in-Err-clause-no_memory
-returns-in_err-insert-in-Err-clause-no_memory c place stands =
+pub returns-in_err-last-in-Err-clause-no_memory : goal.returns-in_err-last-in-Err-clause-no_memory
+returns-in_err-last-in-Err-clause-no_memory c place stands =
     let gap = subst (λ (vs : List (Vec Point Global)). IsGapOf (λ p. p.size) (map (λ b. b.items) vs) c.args.point.size c.in-Err.place.block c.in-Err.place.at) c.deref.ensures.value c.in-Err.ensures in
     absurd (nowhere (λ (q : Point). q.size) (map (λ b. b.items) c.args.points.now.items) c.args.point.size c.in-Err.place.block c.in-Err.place.at place gap stands)
 
-pub returns-in_ok-insert-in-Err-clause-ok : goal.returns-in_ok-insert-in-Err-clause-ok
-returns-in_ok-insert-in-Err-clause-ok c =
+pub returns-in_ok-last-in-Err-clause-ok : goal.returns-in_ok-last-in-Err-clause-ok
+returns-in_ok-last-in-Err-clause-ok c =
     let p = c.args.point in
     let bs = map (λ b. b.items) c.args.points.now.items in
     let gap = subst (λ (vs : List (Vec Point Global)). IsGapOf (λ p. p.size) (map (λ b. b.items) vs) c.args.point.size c.in-Err.place.block c.in-Err.place.at) c.deref.ensures.value c.in-Err.ensures in
-    c.in_ok-insert-in-Err.ensures.ok ∙ put_new (λ (q : Point). q.size) p.size (λ q. merged q c.args.point) p bs c.in-Err.place.block c.in-Err.place.at gap
+    c.in_ok-last-in-Err.ensures.ok ∙ put_new (λ (q : Point). q.size) p.size (λ q. merged q c.args.point) p bs c.in-Err.place.block c.in-Err.place.at gap
