@@ -63,7 +63,7 @@ clone_does caller state after memory last held kept left events all between flag
     let c = asked caller state memory held in
     let number = state.last_tid + 1 in
     let both : guest_of last kept all ≡ filled_where (has (arg c 0) sets_child) (arg c 4) number
-        (filled_where (has (arg c 0) sets_parent) (arg c 2) number (guest_of memory held events)) = cc in
+    (filled_where (has (arg c 0) sets_parent) (arg c 2) number (guest_of memory held events)) = cc in
     let parts = both ∙ filled_twice (has (arg c 0) sets_parent) (has (arg c 0) sets_child) (arg c 2) (arg c 4) number c.memory c.held events.list in
     let left_of : reserved_by left ≡ without_thread (reserved_by kept) number = cc in
     subst (λ (r : CallResult). Does r (Born tid child) after last left events all) (sym same) (record {

@@ -1,4 +1,4 @@
-use Rattle.std.proofs.Common.{◌≡◌, None, sym, ◌∙◌}
+use Rattle.std.proofs.Common.{None, sym, ◌∙◌}
 use Rattle.std.proofs.lemmas.Result.{err_from_is_err_and}
 use Rattle.elf_image.specs.Tests.{first_of, kind_tests, table_tests}
 use Rattle.elf_image.proofs.FirstTests.{in_first, in_second, in_third, of_header, passed_by, refused_by}

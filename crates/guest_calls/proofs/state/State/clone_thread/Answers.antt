@@ -1,5 +1,4 @@
-use Rattle.std.proofs.Common.{◌≡◌, ℕ, Bool, true, false, ap, ap₂, sym, ◌∙◌}
-use Rattle.guest_memory.specs.Guest.{memory_of}
+use Rattle.std.proofs.Common.{◌≡◌, ℕ, true, false, ap, ap₂, sym, ◌∙◌}
 use Rattle.guest_calls.specs.Clone.{are_flags_taken, child_registers, is_denied, sets_child, sets_parent, with_thread}
 use Rattle.guest_calls.specs.Outcome.{asked, guest_of}
 use Rattle.guest_calls.specs.Results.{arg, has}
