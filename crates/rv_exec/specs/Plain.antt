@@ -1,5 +1,5 @@
 -- Instructions that touch registers alone.
-use Rattle.std.specs.Prelude.{ℕ, Bool, true, false, nat_eq}
+use Rattle.std.specs.Prelude.{Bool, true, false, nat_eq}
 use Rattle.guest_memory.specs.Memory.{Memory}
 use Rattle.guest_memory.specs.Reserved.{Reserved}
 use Rattle.rv_isa.specs.declared.instruction.Instr.{Instr}

@@ -1,4 +1,4 @@
-use Rattle.std.proofs.Common.{◌∙◌, ◌-◌, ap, drop, length, map, reverse, sym, take}
+use Rattle.std.proofs.Common.{◌∙◌, ap, drop, map, reverse, sym}
 use Rattle.std.proofs.lemmas.List.{length-map, take_rest}
 use Rattle.trace_model.specs.Activations.{count_returned}
 use Rattle.call_tracker.specs.Calls.{CallStack}

@@ -1,10 +1,9 @@
-use Rattle.std.proofs.Common.{◌≡◌, ◌∙◌, ◌*◌, ◌/◌, ◌%◌, Some, None, ap, arith, get_or, subst, sym}
+use Rattle.std.proofs.Common.{◌≡◌, ◌∙◌, ◌*◌, ◌/◌, ◌%◌, None, ap, arith, get_or, subst, sym}
 use Rattle.std.proofs.lemmas.List.{get_or_read}
 use Rattle.guest_memory.specs.Code.{IsInstructionAt}
 use Rattle.guest_memory.specs.CodePages.{known_in, no_code, page_at}
 use Rattle.guest_memory.proofs.KeptCode.{is_instruction}
 use Rattle.guest_memory.proofs.PagesOfCode.{Page, if_some}
-use Rattle.rv_isa.specs.declared.instruction.Instr.{Instr}
 use Rattle.guest_memory.proofs.code_cache.CodeCache.find.Goals as goal
 
 pub returns-then-at-eq0 : goal.returns-then-at-eq0

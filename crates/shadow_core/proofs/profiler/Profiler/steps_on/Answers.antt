@@ -29,7 +29,7 @@ returns-clause-pages g c =
       writes = λ w. refl;
       marks = λ w. refl;
       accesses = calls_alike c.self.inside.threads c.args.tid c.add_steps.new.self
-      (lives_here _ c.args.tid (alive_for_step g.S.Stamp.MAX c.args.tid _ (may_step_once g.S.Stamp.MAX c.args.tid c.args.count _ may c.requires.some)));
+          (lives_here _ c.args.tid (alive_for_step g.S.Stamp.MAX c.args.tid _ (may_step_once g.S.Stamp.MAX c.args.tid c.args.count _ may c.requires.some)));
     })
 
 pub overflow_add-self : goal.overflow_add-self
