@@ -1,4 +1,4 @@
-use Rattle.std.proofs.Common.{◌≡◌, ◌++◌, [], sym, subst, append-nil, arith}
+use Rattle.std.proofs.Common.{◌≡◌, [], sym, subst, append-nil, arith}
 use Rattle.trace_model.specs.declared.observer.Observed.TheVariants.{Taken}
 use Rattle.trace_model.specs.Observing.{MayTakeAll, ObservesAll}
 use Rattle.guest_machine.specs.Told.{steps_of}

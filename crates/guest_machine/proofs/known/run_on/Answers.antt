@@ -1,6 +1,6 @@
 use Rattle.std.proofs.Common.{◌≡◌, ◌+◌, ◌<◌, ◌++◌, IfNone, IfOk, IfSome, OnOk, Option, Result, Ok, Err, refl, subst, sym, ◌∙◌, arith}
 use Rattle.guest_memory.specs.ReservedBy.{reserved_by}
-use Rattle.rv_exec.specs.Effects.{ExecState, exec_state_of}
+use Rattle.rv_exec.specs.Effects.{exec_state_of}
 use Rattle.trace_model.specs.Observing.{MayTakeAll, ObservesAll}
 use Rattle.trace_model.specs.declared.observer.Observed.{Observed}
 use Rattle.trace_model.specs.declared.observer.Observed.TheVariants.{Refused, Taken}

@@ -1,4 +1,4 @@
-use Rattle.std.proofs.Common.{refl, Option, ◌≡◌, ◌+◌, ◌/◌, ◌%◌, ◌∙◌, IfSome, ap, subst, sym, arith}
+use Rattle.std.proofs.Common.{refl, Option, ◌≡◌, ◌+◌, ◌%◌, ◌∙◌, IfSome, ap, subst, sym, arith}
 use Rattle.guest_memory.specs.Code.{IsInstructionAt}
 use Rattle.guest_memory.specs.Guest.{memory_of}
 use Rattle.rv_exec.specs.Plain.{state_with}

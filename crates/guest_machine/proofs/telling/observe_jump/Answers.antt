@@ -1,8 +1,7 @@
-use Rattle.std.proofs.Common.{◌++◌, subst, sym}
+use Rattle.std.proofs.Common.{subst, sym}
 use Rattle.std.proofs.lemmas.Result.{IfOk-weaker}
 use Rattle.trace_model.specs.Observing.{MayTakeAll, ObservesAll}
 use Rattle.guest_machine.specs.Step.{jump_events}
-use Rattle.guest_machine.specs.Told.{steps_of}
 use Rattle.guest_machine.proofs.Handed.{may_go_on, may_step, observes_on}
 use Rattle.guest_machine.proofs.telling.observe_jump.Goals as goal
 
