@@ -1,21 +1,16 @@
 -- Steps of a thread on its registers, the memory and the reservations alone.
-use Rattle.std.proofs.Common.{◌≡◌, ℕ, suc, ◌+◌, ◌-◌, ◌<◌, ◌/◌, ◌%◌, ◌^◌, Bool, true, false, cond, None, get_or, List, [], ◌∷◌, ◌++◌, reverse, Some, Ok, refl, sym, ap, subst, ◌∙◌, arith, append-nil, append_assoc}
-use Rattle.std.specs.Prelude.{◌==◌, is_some, IfSome, Option}
-use Rattle.std.proofs.lemmas.Bool.{true≢false}
-use Rattle.std.proofs.lemmas.Bool.Decides.{nat_tests}
+use Rattle.std.proofs.Common.{◌≡◌, ℕ, suc, ◌+◌, ◌-◌, ◌<◌, ◌%◌, ◌^◌, Bool, true, false, cond, List, [], ◌∷◌, ◌++◌, reverse, Some, Ok, refl, sym, ap, subst, ◌∙◌, arith, append-nil, append_assoc}
+use Rattle.std.specs.Prelude.{◌==◌, is_some}
 use Rattle.guest_words.specs.ByThread.{value_of}
 use Rattle.guest_words.specs.declared.limits.TheConstants.{THREADS}
-use Rattle.guest_memory.specs.Code.{IsInstructionAt, KnowsPage}
+use Rattle.guest_memory.specs.Code.{IsInstructionAt}
 use Rattle.guest_memory.specs.Memory.{Memory}
-use Rattle.guest_memory.specs.Reserved.{HoldAtMost, Reserved, without_thread}
+use Rattle.guest_memory.specs.Reserved.{HoldAtMost, without_thread}
 use Rattle.rv_isa.specs.declared.instruction.Instr.{Instr}
-use Rattle.rv_isa.specs.declared.instruction.Instr.TheVariants.{Jal, Jalr}
 use Rattle.rv_exec.specs.Effects.{ExecState, effect}
 use Rattle.rv_exec.specs.Laws.{KeepsUnlessWent}
-use Rattle.rv_exec.specs.Plain.{is_plain, state_with}
 use Rattle.rv_exec.specs.Registers.{Registers}
 use Rattle.rv_exec.specs.declared.outcome.Access.{Access}
-use Rattle.rv_exec.specs.declared.outcome.Access.TheVariants as access
 use Rattle.rv_exec.specs.declared.outcome.Outcome.{Outcome}
 use Rattle.rv_exec.specs.declared.outcome.Outcome.TheVariants as outcome
 use Rattle.rv_exec.proofs.CallerLemmas.{effect_kept}
@@ -27,9 +22,7 @@ use Rattle.trace_model.specs.Observing.{MayTakeAll, ObservesAll, StepsFit}
 use Rattle.trace_model.specs.WellFormed.{IsWellFormed}
 use Rattle.trace_model.proofs.Cut.{cut-fits, past_after-append}
 use Rattle.trace_model.proofs.Feeding.{fits_on, formed-earlier}
-use Rattle.call_tracker.specs.Links.{is_link, kind_of}
-use Rattle.call_tracker.specs.declared.jumps.JumpKind.{JumpKind}
-use Rattle.call_tracker.specs.declared.jumps.JumpKind.TheVariants as jumps
+use Rattle.call_tracker.specs.Links.{kind_of}
 use Rattle.guest_calls.specs.Kernel.{later_by}
 use Rattle.guest_machine.specs.Carrying.{Carries, GoesWith, IsStateOf, StepsTo, carried, went_to}
 use Rattle.guest_machine.specs.Machine.{Hart, MachineState, can_run, later, registers_of, with_registers}
@@ -166,31 +159,6 @@ pub goes_plainly : (m : MachineState) (tid n k : ℕ) (c : ExecState) → GoesWi
 goes_plainly m tid n k c goes new steps =
     subst (λ j. GoesWith m tid n new (k + 1) (steps_of tid j)) (let e : suc k ≡ k + 1 = omega arith in e)
     (goes_one_more m tid n k c (steps_of tid k) goes new (Step tid ∷ []) steps)
-
--- an instruction that touches registers alone is no call and no return
-plain_kind : (i : Instr) → is_plain i ≡ true → kind_of i ≡ jumps.Nothing
-plain_kind (Jal rd offset) plain = by (is_link rd) refl
-  where
-    by : (b : Bool) → is_link rd ≡ b → cond b jumps.Push jumps.Nothing ≡ jumps.Nothing
-    by true link = absurd (true≢false (sym link ∙ ap is_link (let zero : rd ≡ 0 = grind (arith, nat_tests, plain) in zero)))
-    by false link = refl
-plain_kind (Jalr rd base offset) plain = absurd (cc)
-plain_kind _ plain = refl
-
-pub goes_on_plainly : (m : MachineState) (tid n k : ℕ) (memory : Memory) (held : Reserved) (old new : Registers) (i : Instr) →
-    GoesWith m tid n (state_with old memory held) k (steps_of tid k) → IsInstructionAt memory old.pc i → is_plain i ≡ true →
-    effect tid i (state_with old memory held) ≡ (outcome.Went access.Nothing, state_with new memory held) →
-    GoesWith m tid n (state_with new memory held) (k + 1) (steps_of tid (k + 1))
-goes_on_plainly m tid n k memory held old new i goes is plain effects =
-    goes_plainly m tid n k (state_with old memory held) goes (state_with new memory held)
-    (steps_to (after_steps m tid (n + k)) tid (state_with old memory held) goes.carries.of i (known_is memory old.pc i is) access.Nothing
-    (state_with new memory held) (sym effects) (Step tid ∷ [])
-    (ap (λ (jump : JumpKind). Step tid ∷ jump_events jump tid new.pc ((old.pc + 4) % 2 ^ 32)) (sym (plain_kind i plain))))
-
--- what is known of a page stands at each of its addresses
-pub knows_there : (code : List (Option Instr)) (page : ℕ) (memory : Memory) → KnowsPage code page memory → (at : ℕ) → at / 4096 ≡ page → at % 4 ≡ 0 →
-    (found : Option Instr) → found ≡ get_or code (at / 4 % 1024) None → IfSome found (IsInstructionAt memory at)
-knows_there code page memory knows at here even found is = subst (λ (o : Option Instr). IfSome o (IsInstructionAt memory at)) (sym is) (knows at here even)
 
 step_then : (tid k : ℕ) (done : List Event) → steps_of tid k ++ Step tid ∷ done ≡ steps_of tid (k + 1) ++ done
 step_then tid k done =

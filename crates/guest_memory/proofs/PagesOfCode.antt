@@ -1,5 +1,5 @@
 -- Code by page, and its index.
-use Rattle.std.proofs.Common.{◌≡◌, ◌≢◌, ℕ, ◌+◌, ◌*◌, ◌<◌, ◌≤◌, ◌/◌, ◌%◌, List, [], ◌∷◌, ◌++◌, length, get_or, set, replicate, ap, sym, refl, ◌∙◌, arith, inl, inr, ◌⊎◌, Option, Some, None, Ok, IfSome}
+use Rattle.std.proofs.Common.{◌≡◌, ◌≢◌, ℕ, zero, suc, ◌+◌, ◌*◌, ◌<◌, ◌≤◌, ◌/◌, ◌%◌, List, [], ◌∷◌, ◌++◌, length, get_or, set, replicate, ap, sym, refl, ◌∙◌, arith, inl, inr, ◌⊎◌, Option, Some, None, Ok, IfSome}
 use Rattle.std.proofs.lemmas.Bool.{cases_eq, cases_lt}
 use Rattle.std.proofs.lemmas.List.{get_or-set_other, get_or-set_same, get_or_past, get_or-replicate, length-replicate, get_or_append_left, get_or_push}
 use Rattle.guest_memory.specs.declared.refusal.Permission.TheVariants as permission
@@ -35,6 +35,14 @@ same_page places pages index a b some same =
 -- where a page's place is 0, none of its words is known
 pub none_known : (places : List ℕ) (pages : Pages) → IsIndex places pages → (word : ℕ) → get_or places (word / 1024) 0 ≡ 0 → known_in places pages word ≡ None
 none_known places pages index word none = ap (λ k. get_or (page_at pages k).1 (word % 1024) None) none ∙ index.blank (word % 1024)
+
+-- what a page at a place has of a word of its own is what is known
+pub none_or_known : (places : List ℕ) (pages : Pages) → IsIndex places pages → (place word : ℕ) (i : Instr) → place < length pages →
+    (page_at pages place).0 ≡ word / 1024 → get_or (page_at pages place).1 (word % 1024) None ≡ Some i → known_in places pages word ≡ Some i
+none_or_known places pages index zero word i inside number is = absurd (let no : None ≡ Some i = sym (index.blank (word % 1024)) ∙ is in cc)
+none_or_known places pages index (suc k) word i inside number is =
+    let place : get_or places (word / 1024) 0 ≡ suc k = ap (λ n. get_or places n 0) (sym number) ∙ index.indexed (suc k) (omega arith) inside in
+    ap (λ n. get_or (page_at pages n).1 (word % 1024) None) place ∙ is
 
 -- ---- the code of one page changes
 known_here : (places : List ℕ) (pages : Pages) (place : ℕ) (p : Page) (word : ℕ) → place < length pages → get_or places (word / 1024) 0 ≡ place →

@@ -1,5 +1,5 @@
 -- The instructions that are known.
-use Rattle.std.specs.Prelude.{◌≡◌, ℕ, ◌*◌, ◌/◌, ◌%◌, false, List, get_or, Option, Some, None, Result, Ok, Err, IfSome}
+use Rattle.std.specs.Prelude.{◌≡◌, ℕ, ◌*◌, ◌/◌, false, Option, Some, None, Result, Ok, Err}
 use Rattle.guest_memory.specs.Memory.{Memory, is_among, loaded}
 use Rattle.guest_memory.specs.CodePages.{known_in}
 use Rattle.guest_memory.specs.declared.refusal.MemError.{MemError}
@@ -24,11 +24,6 @@ abbrev pub HoldsCode : CodeCache → Memory → Type 0
 HoldsCode cache m =
     (word : ℕ) (i : Instr) → known_in cache.places.items cache.pages.items word ≡ Some i
     → instruction_of (loaded m permission.Execute (4 * word) 4) ≡ Some i
-
--- What is known of a page's words, by their places in it, is what stands there.
-abbrev pub KnowsPage : List (Option Instr) → ℕ → Memory → Type 0
-KnowsPage code page m =
-    (at : ℕ) → at / 4096 ≡ page → at % 4 ≡ 0 → IfSome (get_or code (at / 4 % 1024) None) (IsInstructionAt m at)
 
 -- Two memories agree but for so many pages, from the first on.
 pub record AgreeBut (first count : ℕ) (m n : Memory) : Type 0 where

@@ -26,7 +26,7 @@ pub struct CodeCache {
 }
 
 impl CodeCache {
-    ghost use Rattle.guest_memory.specs.Code.{AgreeBut, HoldsCode, IsInstructionAt, KnowsPage};
+    ghost use Rattle.guest_memory.specs.Code.{AgreeBut, HoldsCode, IsInstructionAt};
 
     /// No instruction is known.
     pub fn new(alloc: Global) -> Result<CodeCache, AllocError>
@@ -52,27 +52,23 @@ impl CodeCache {
         }
     }
 
-    /// The instruction at an address, where it is known.
+    /// The place of the code of an address's page: 0 where it has none.
     #[inline(always)]
-    pub fn find(&self, at: Addr) -> Option<Instr>
-        ensures { (m : Memory) → HoldsCode self.now m → IfSome result (IsInstructionAt m at) }
-    {
-        if at % 4 == 0 {
-            let place = self.place(u64::from(at >> 12));
-            self.pages[place].instruction((at >> 2) as usize % PAGE_WORDS)
-        } else {
-            None
-        }
+    pub fn place_of(&self, at: Addr) -> usize {
+        self.place(u64::from(at >> 12))
     }
 
-    /// What is known of the code of an address's page, by its words.
+    /// The instruction at an address, where it is known and the code of its page is at this place.
     #[inline(always)]
-    pub fn code_of(&self, at: Addr) -> &[Option<Instr>]
-        ensures known { (m : Memory) → HoldsCode self.now m → KnowsPage result.now (at / 4096) m }
-        ensures length { length result.now ≡ 1024 }
+    pub fn find(&self, place: usize, at: Addr) -> Option<Instr>
+        requires { at % 4 ≡ 0 }
+        ensures { (m : Memory) → HoldsCode self.now m → IfSome result (IsInstructionAt m at) }
     {
-        let place = self.place(u64::from(at >> 12));
-        self.pages[place].instructions()
+        let page = self.pages.get(place)?;
+        if page.number() != at >> 12 {
+            return None;
+        }
+        page.instruction((at >> 2) as usize % PAGE_WORDS)
     }
 
     // Makes the index reach to a page.

@@ -57,15 +57,6 @@ impl CodePage {
         self.instructions[word]
     }
 
-    /// The instructions of the page's words, where they are known.
-    #[inline(always)]
-    pub fn instructions(&self) -> &[Option<Instr>]
-        ensures instructions { result.now ≡ self.now.1 }
-        ensures length { length result.now ≡ 1024 }
-    {
-        &self.instructions
-    }
-
     /// Lets the instruction of a word be known.
     pub fn learn(&mut self, word: usize, instruction: Instr)
         requires { word < 1024 }

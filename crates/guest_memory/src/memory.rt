@@ -6,7 +6,7 @@ ghost use Rattle.std.specs.Int.{to_le_bytes, w32};
 ghost use Rattle.std.specs.Option.{is_none};
 ghost use Rattle.guest_memory.specs.Memory.{IsFreeRange, AreFree, AreMapped, ArePagesMapped, MapEnds, no_memory, with_pages, with_rights, byte_count, bytes_at, first_refusal, loaded, mapped_pages, unless_refused, with_bytes};
 ghost use Rattle.guest_memory.specs.State.{memory_in};
-ghost use Rattle.guest_memory.specs.Code.{HoldsCode, IsInstructionAt, KnowsPage};
+ghost use Rattle.guest_memory.specs.Code.{HoldsCode, IsInstructionAt};
 ghost use Rattle.guest_memory.specs.declared.refusal.Permission.TheVariants as permission;
 ghost use Rattle.guest_words.specs.declared.limits.TheConstants.{PAGES};
 
@@ -171,21 +171,19 @@ impl GuestMemory {
             .loaded(Permission::Execute, u64::from(at), Size::Four)
     }
 
-    /// The instruction at an address, where it is known: its word can be fetched there.
+    /// Where the code of an address's page is kept, for `known_instruction`. It may be somewhere else after the memory changed.
     #[inline(always)]
-    pub fn known_instruction(&self, at: Addr) -> Option<Instr>
-        ensures { IfSome result (IsInstructionAt (memory_of self.now) at) }
-    {
-        self.code.find(at)
+    pub fn code_place(&self, at: Addr) -> usize {
+        self.code.place_of(at)
     }
 
-    /// What is known of the code of an address's page: for each of its 1024 words, the instruction that stands there.
+    /// The instruction at an address, where it is known, its word can be fetched, and the code of its page is at this place.
     #[inline(always)]
-    pub fn known_code(&self, at: Addr) -> &[Option<Instr>]
-        ensures known { KnowsPage result.now (at / 4096) (memory_of self.now) }
-        ensures length { length result.now ≡ 1024 }
+    pub fn known_instruction(&self, place: usize, at: Addr) -> Option<Instr>
+        requires { at % 4 ≡ 0 }
+        ensures { IfSome result (IsInstructionAt (memory_of self.now) at) }
     {
-        self.code.code_of(at)
+        self.code.find(place, at)
     }
 
     /// Decodes the instruction at an address, which is known from then on, where there is one whose word can be fetched. It

@@ -2,5 +2,4 @@ pub mod Accesses
 pub mod Effects
 pub mod Laws
 pub mod Operations
-pub mod Plain
 pub mod Registers

@@ -25,7 +25,7 @@ impl Model for Cpu {
 }
 
 impl Cpu {
-    ghost use Rattle.std.specs.Prelude.{◌≡◌, ◌%◌, false, nat_eq, replicate, true};
+    ghost use Rattle.std.specs.Prelude.{◌≡◌, replicate};
     ghost use Rattle.rv_exec.specs.Effects.{advanced, computed, jumped, linked, passed, put, value, written};
 
     /// All registers hold 0.
@@ -90,32 +90,18 @@ impl Cpu {
         Outcome::WENT
     }
 
-    /// Goes to a target, where that is a multiple of 4, and says whether it is.
-    #[inline(always)]
-    pub(crate) fn go_to(&mut self, target: Addr) -> bool
-        ensures aligned { result ≡ nat_eq (target % 4) 0 }
-        ensures went { result ≡ true → self.new ≡ record self.old { pc = target } }
-        ensures stays { result ≡ false → self.new ≡ self.old }
-    {
-        if target % 4 != 0 {
-            return false;
-        }
-        self.pc = target;
-        true
-    }
-
     /// Goes to a target, where that is a multiple of 4.
     #[inline(always)]
     pub(crate) fn jump(&mut self, target: Addr) -> Outcome
         ensures { (result, self.new) ≡ jumped target self.old.regs self.old }
     {
-        if self.go_to(target) {
-            Outcome::WENT
-        } else {
-            Outcome::Fault {
+        if target % 4 != 0 {
+            return Outcome::Fault {
                 kind: FaultKind::JumpAlign,
-            }
+            };
         }
+        self.pc = target;
+        Outcome::WENT
     }
 
     /// Goes to a target, where that is a multiple of 4, and leaves the way back in a register.

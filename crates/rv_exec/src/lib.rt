@@ -12,10 +12,8 @@ mod laws;
 mod loads_and_stores;
 mod operations;
 mod outcome;
-mod plain;
 
 pub use cpu::Cpu;
 pub use instruction::execute;
 pub use laws::every_instruction;
 pub use outcome::{Access, Outcome};
-pub use plain::execute_plain;

@@ -9,7 +9,7 @@ pub observe_steps-requires-clause-may : goal.observe_steps-requires-clause-may
 observe_steps-requires-clause-may g c =
     let old = c.args.observer.now in
     may_step g.W.Observer.stands (g.W.Observer.fits old) (g.W.Observer.steps_fit old) c.args.tid c.args.steps [] old
-    (subst (MayTakeAll g.W.Observer.stands (g.W.Observer.fits old) old) (sym (append-nil (steps_of c.args.tid c.args.steps))) c.requires)
+    (subst (MayTakeAll g.W.Observer.stands (g.W.Observer.fits old) old) (sym (append-nil (steps_of c.args.tid c.args.steps))) (c.requires (omega (arith, c.if-steps-gt0.true))))
 
 pub returns-in_ok-observe_steps-clause-observed : goal.returns-in_ok-observe_steps-clause-observed
 returns-in_ok-observe_steps-clause-observed g c =
