@@ -200,7 +200,7 @@ module _ {O : Type 0} (Stands : O → List Event → Type 0) (fits : List Event 
         now = now.0;
         fitting = now.1;
         formed = formed-earlier (reverse last) (past_after (here may.past) (steps_of tid k))
-        (subst IsWellFormed (past_after-append (here may.past) (steps_of tid k) last) (formed_next most low may));
+            (subst IsWellFormed (past_after-append (here may.past) (steps_of tid k) last) (formed_next most low may));
       }
 
   module _ (j : ℕ) (events : List Event) (new : ExecState) (goes : GoesWith m tid n new j events) where
@@ -224,7 +224,7 @@ module _ {O : Type 0} (Stands : O → List Event → Type 0) (fits : List Event 
           now = now.0;
           fitting = now.1;
           formed = subst (λ es. IsWellFormed (past_after (here may.past) es))
-          (ap (λ (r : StepResult). steps_of tid k ++ r.events) steps.is ∙ step_then tid k done) (formed_next most low may);
+              (ap (λ (r : StepResult). steps_of tid k ++ r.events) steps.is ∙ step_then tid k done) (formed_next most low may);
         }
 
     pub observes_last : (watched : O) → ObservesAll Stands fits (steps_of tid (k + 1) ++ done) mid watched Refused →
