@@ -1,5 +1,5 @@
 -- Steps of a thread on its registers, the memory and the reservations alone.
-use Rattle.std.proofs.Common.{◌≡◌, ℕ, suc, ◌+◌, ◌-◌, ◌<◌, ◌%◌, ◌^◌, Bool, true, false, cond, List, [], ◌∷◌, ◌++◌, reverse, Some, Ok, refl, sym, ap, subst, ◌∙◌, arith, append-nil, append_assoc}
+use Rattle.std.proofs.Common.{◌≡◌, ℕ, suc, ◌+◌, ◌-◌, ◌<◌, ◌%◌, ◌^◌, Bool, true, false, cond, List, [], ◌∷◌, ◌++◌, Some, Ok, refl, sym, ap, subst, ◌∙◌, arith, append-nil, append_assoc}
 use Rattle.std.specs.Prelude.{◌==◌, is_some}
 use Rattle.guest_words.specs.ByThread.{value_of}
 use Rattle.guest_words.specs.declared.limits.TheConstants.{THREADS}
@@ -21,7 +21,7 @@ use Rattle.trace_model.specs.Cut.{cut, past_after}
 use Rattle.trace_model.specs.Observing.{MayTakeAll, ObservesAll, StepsFit}
 use Rattle.trace_model.specs.WellFormed.{IsWellFormed}
 use Rattle.trace_model.proofs.Cut.{cut-fits, past_after-append}
-use Rattle.trace_model.proofs.Feeding.{fits_on, formed-earlier}
+use Rattle.trace_model.proofs.Feeding.{fits_on}
 use Rattle.call_tracker.specs.Links.{kind_of}
 use Rattle.guest_calls.specs.Kernel.{later_by}
 use Rattle.guest_machine.specs.Carrying.{Carries, GoesWith, IsStateOf, StepsTo, carried, went_to}
@@ -191,18 +191,6 @@ module _ {O : Type 0} (Stands : O → List Event → Type 0) (fits : List Event 
       ∙ past_after-append may.past (events_of_steps m tid n) (steps_of tid k ++ last))
       (may.formed (n + k) low plain.carries.all (fits_plain may.past may.now may.fitting))
 
-  -- the steps that did nothing beside
-  pub may_take_plain : (most : ℕ) → n + k < most → MayTakeSteps Stands fits old m tid most → MayTakeAll Stands fits mid (steps_of tid k)
-  may_take_plain most low may =
-      let now = seen may.past may.now may.fitting in
-      record {
-        past = here may.past;
-        now = now.0;
-        fitting = now.1;
-        formed = formed-earlier (reverse last) (past_after (here may.past) (steps_of tid k))
-            (subst IsWellFormed (past_after-append (here may.past) (steps_of tid k) last) (formed_next most low may));
-      }
-
   module _ (j : ℕ) (events : List Event) (new : ExecState) (goes : GoesWith m tid n new j events) where
     whole : (past : List Event) → past_after (here past) events ≡ past_after past (events_of_steps m tid (n + j))
     whole past = sym (ap (past_after past) goes.told ∙ past_after-append past (events_of_steps m tid n) events)
@@ -214,8 +202,8 @@ module _ {O : Type 0} (Stands : O → List Event → Type 0) (fits : List Event 
         let same = whole past in
         (subst (Stands watched) (cut-fits fits _ now.1 ∙ same) now.0, ap fits (sym same) ∙ now.1)
 
+  -- one more step, which did something beside
   module _ (done : List Event) (new : ExecState) (steps : StepsTo (after_steps m tid (n + k)) tid new (Step tid ∷ done)) where
-    -- and one that did
     pub may_take_then : (most : ℕ) → n + k < most → MayTakeSteps Stands fits old m tid most → MayTakeAll Stands fits mid (steps_of tid (k + 1) ++ done)
     may_take_then most low may =
         let now = seen may.past may.now may.fitting in

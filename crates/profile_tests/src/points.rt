@@ -119,7 +119,10 @@ fn points_are_by_size(rt: HostRuntime) -> Result<(), Fail> {
         }),
     };
     let (entry, points) = table.routine(rt.alloc(), 0)?;
-    assert_eq!(rt; (entry, points.as_slice()), (0x10068, [small, large].as_slice()));
+    assert_eq!(rt;
+        (entry, points.as_slice()),
+        (0x10068, [small, large].as_slice())
+    );
     Ok(())
 }
 

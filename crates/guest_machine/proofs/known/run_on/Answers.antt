@@ -1,10 +1,9 @@
-use Rattle.std.proofs.Common.{◌≡◌, ◌+◌, ◌<◌, ◌∷◌, ◌++◌, [], append-nil, IfNone, IfOk, IfSome, OnOk, Option, Result, Ok, Err, refl, subst, sym, ◌∙◌, arith}
+use Rattle.std.proofs.Common.{◌≡◌, ◌+◌, ◌++◌, [], append-nil, IfOk, IfSome, OnOk, Option, Result, Ok, Err, refl, subst, sym, ◌∙◌, arith}
 use Rattle.rv_exec.specs.Effects.{exec_state_of}
 use Rattle.trace_model.specs.Observing.{MayTakeAll, ObservesAll}
-use Rattle.trace_model.specs.declared.event_kinds.Event.TheVariants.{Step}
 use Rattle.trace_model.specs.declared.observer.Observed.{Observed}
 use Rattle.trace_model.specs.declared.observer.Observed.TheVariants.{Refused, Taken}
-use Rattle.guest_machine.specs.Carrying.{Carries, IsStepOf, StepsTo}
+use Rattle.guest_machine.specs.Carrying.{IsStepOf}
 use Rattle.guest_machine.specs.Running.{after_steps}
 use Rattle.guest_machine.specs.declared.stepped.Advanced.{Advanced}
 use Rattle.guest_machine.specs.Told.{IsInstruction, done_by, steps_of}

@@ -1,8 +1,8 @@
-use Rattle.std.proofs.Common.{◌≡◌, ◌∙◌, ℕ, zero, suc, ◌*◌, ◌/◌, ◌%◌, ◌<◌, None, ap, arith, get_or, length, refl, subst, sym}
+use Rattle.std.proofs.Common.{◌≡◌, ◌∙◌, ◌*◌, ◌/◌, ◌%◌, ◌<◌, None, ap, arith, get_or, length, subst, sym}
 use Rattle.std.proofs.lemmas.Bool.Decides.{nat_tests}
 use Rattle.std.proofs.lemmas.List.{get_or_read}
 use Rattle.guest_memory.specs.Code.{IsInstructionAt}
-use Rattle.guest_memory.specs.CodePages.{IsIndex, known_in, no_code, page_at}
+use Rattle.guest_memory.specs.CodePages.{no_code, page_at}
 use Rattle.guest_memory.proofs.KeptCode.{is_instruction}
 use Rattle.guest_memory.proofs.PagesOfCode.{Page, Pages, if_some, none_or_known}
 use Rattle.guest_memory.proofs.code_cache.CodeCache.find.Goals as goal
