@@ -84,7 +84,7 @@ def of_program(text: str) -> Options:
         return found.union(*(options(bodies[other]) for other in re.findall(r"(\w+_subcommand)\(", body)))
 
     commands: Options = {}
-    for function, name in re.findall(r"\.subcommand\((\w+)\(alloc(?:, \"(\w+)\")?\)\?\)", bodies["whole_command"]):
+    for function, name in re.findall(r"\b(\w+_subcommand)\(alloc(?:, \"(\w+)\")?\)", bodies["whole_command"]):
         own = re.search(r"(?:guest_subcommand|Command::new)\(alloc, \"(\w+)\"\)", bodies[function])
         commands[name or (own[1] if own else function)] = options(bodies[function])
     return commands

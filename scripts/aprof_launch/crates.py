@@ -13,6 +13,12 @@ PARTS = ("src", "specs", "proofs")
 
 PROGRAM = "aprof"
 
+START = 20_000
+"""How many bytes of source are proved in the time in which `rt` and the prover start on a crate."""
+
+LINK = 300_000
+"""And in that in which the program is compiled twice and linked."""
+
 
 @dataclass(frozen=True)
 class Crate:
@@ -41,8 +47,8 @@ class Crate:
 
     @cached_property
     def weight(self) -> int:
-        """Bytes of source, which the time of its proof goes by."""
-        return sum(path.stat().st_size for path in self.files())
+        """Bytes of source, which the time of its proof goes by, with those that as long as its start takes would prove."""
+        return START + (LINK if self.is_program else 0) + sum(path.stat().st_size for path in self.files())
 
 
 class Plan:

@@ -17,6 +17,9 @@ TRUST_SECONDS = 120.0
 CHAIN_GAIN = 1.5
 """How much faster the longest chain goes by several jobs a crate."""
 
+OVERRUN = 0.2
+"""How much longer a crate is thought to run that has run longer than its bytes told."""
+
 SECONDS_BETWEEN_LINES = 25.0
 ERASE = "\r\033[K"
 
@@ -36,9 +39,11 @@ class Estimate:
         self.seconds += seconds
 
     def work(self, running: dict[str, float]) -> dict[str, float]:
-        """Seconds of a core for each crate that is left, where these have run for so long."""
+        """Seconds of a core for each crate that is left, where these have run for so long. One that has run longer than was
+        thought is thought to need a part of that time more."""
         speed, crates = self.weight / self.seconds, self.plan.crates.items()
-        return {name: max(crate.weight / speed - running.get(name, 0.0), 1.0) for name, crate in crates if name not in self.done}
+        return {name: max(crate.weight / speed - running.get(name, 0.0), running.get(name, 0.0) * OVERRUN, 1.0)
+                for name, crate in crates if name not in self.done}
 
     def chains(self, running: dict[str, float]) -> dict[str, float]:
         """For each of them the seconds of the longest chain that begins with it and goes up."""

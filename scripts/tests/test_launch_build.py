@@ -189,7 +189,7 @@ class Builds(unittest.TestCase):
         _, _, err = self.repository.run(FAKE_SECONDS="0.3", APROF_BUILD_SECONDS="0.1")
         lines = [line for line in err.splitlines() if " of 6 crates, " in line]
         self.assertGreater(len(lines), 3)
-        self.assertTrue(lines[0].startswith("aprof: 0 of 6 crates, less than a minute left ("), lines)
+        self.assertRegex(lines[0], r"^aprof: 0 of 6 crates, about [1-9] minutes? left \(")
         counts = [int(line.split()[1]) for line in lines]
         self.assertEqual(counts, sorted(counts))
 
