@@ -17,21 +17,21 @@ use Rattle.aprof_top.specs.declared.ending.Ending as declared
 use Rattle.aprof_top.specs.declared.ending.Ending.TheVariants as ending
 use Rattle.aprof_top.specs.declared.ending.Verdict as verdicts
 use Rattle.aprof_top.specs.declared.ending.Verdict.TheVariants as verdict
-use Rattle.aprof_top.specs.Ending.{AskedEnds, Delivers, end_of, of_command, wanted_of, of_put}
+use Rattle.aprof_top.specs.Private.Ending.{AskedEnds, Delivers, end_of, of_command, wanted_of, of_put}
 use Rattle.aprof_top.specs.Ends.{Reaches}
 use Rattle.aprof_top.specs.Ends.End.{Decided}
 use Rattle.aprof_top.specs.Found.{Decision, Found}
-use Rattle.aprof_top.specs.Loading.{LoadsEnd}
+use Rattle.aprof_top.specs.Private.Loading.{LoadsEnd}
 use Rattle.aprof_top.specs.Loads.{loaded_of, loaded_paths, passes_limit, shared_count}
 use Rattle.aprof_top.specs.Outcome.{Follows, IsDemo, IsOutcome, IsRun, Job, Outcome, job_of, refusal, stage}
 use Rattle.aprof_top.specs.Outcome.Stage.{Complete, Loading, PastLimit}
 use Rattle.aprof_top.specs.Delivery.{FailsWithin}
 use Rattle.aprof_top.specs.Outside.{MetTooLong, Outside, outside}
-use Rattle.aprof_top.specs.Jobs.{FilesRun, summed}
-use Rattle.aprof_top.specs.Preparing.{AreAll, AreRefused}
+use Rattle.aprof_top.specs.Private.Jobs.{FilesRun, summed}
+use Rattle.aprof_top.specs.Private.Preparing.{AreAll, AreRefused}
 use Rattle.aprof_top.proofs.Runs.{FilesRun-refused}
-use Rattle.aprof_top.specs.Sources.{path_of}
-use Rattle.aprof_top.specs.Sources.Wanted.{Nothing}
+use Rattle.aprof_top.specs.Private.Sources.{path_of}
+use Rattle.aprof_top.specs.Private.Sources.Wanted.{Nothing}
 use Rattle.aprof_top.specs.Verdicts.{IsOfRun}
 use Rattle.aprof_top.proofs.Sinks.{appended-nothing}
 
@@ -161,7 +161,7 @@ module _ (number : ℕ) (outcome : Outcome) (before after : Outside) (is_demo : 
   AskedEnds-shown ending.CannotPut ran fails words asks = record { decision = demo_decision words asks; ran = ran; fails = fails }
   AskedEnds-shown ending.OutOfMemory ran short words asks = record { no_zero = no_zero words (Demo number) asks; done = inr (demo_decision words asks, short) }
 
--- it has no summary for want of memory alone
+-- it has no summary only when out of memory
 pub AskedEnds-unshown : (number : ℕ) (before : Outside) (e : declared.Ending) → e ≡ ending.OutOfMemory → AskedEnds (Demo number) before before e
 AskedEnds-unshown number before e is words asks =
     subst (λ x. Reaches words (end_of (wanted_of (Demo number)) x) before before) (sym is) (record { no_zero = no_zero words (Demo number) asks; done = inl refl })

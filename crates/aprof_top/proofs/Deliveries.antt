@@ -6,7 +6,7 @@ use Rattle.host_io.specs.declared.files.StoreError.{StoreError}
 use Rattle.host_io.specs.declared.files.StoreError.TheVariants as failure
 use Rattle.aprof_top.specs.declared.delivery.Store.{Store}
 use Rattle.aprof_top.specs.Outside.{with_stores}
-use Rattle.aprof_top.specs.Jobs.{StoresEnd, store_of}
+use Rattle.aprof_top.specs.Private.Jobs.{StoresEnd, store_of}
 use Rattle.aprof_top.proofs.Sinks.{with_stores-more}
 
 -- the first stores, with one more
@@ -40,7 +40,7 @@ module _ (stores : List Store) (i : ℕ) (s : Store) (bytes : List ℕ) (old mid
       ∙ sym (with_stores-more (map store_of (take i stores)) (store_of s) old)
       ∙ ap (λ first. with_stores first old) (sym (first_more stores i s within is))
 
-  -- it failed, or memory was wanting for it
+  -- it failed, or memory ran out
   pub stores_stop : (e : StoreError) → StoreEnds s.path.now bytes mid new (Err e) → StoresEnd (map store_of stores) old new (Err e)
   stores_stop failure.Failed ends = record {
     count = i;

@@ -10,7 +10,7 @@ use Rattle.guest_run.specs.Profiled.{Profiled}
 use Rattle.stamps.specs.declared.width.StampBits.TheVariants.{B32}
 use Rattle.stamps.specs.Widths.{greatest}
 use Rattle.thread_sched.specs.declared.entry.Entry.{Entry}
-use Rattle.aprof_top.specs.Jobs.{summed}
+use Rattle.aprof_top.specs.Private.Jobs.{summed}
 use Rattle.aprof_top.specs.Outcome.{demo_files, demo_options, demo_outcome}
 use Rattle.aprof_top.specs.Report.{report_of}
 use Rattle.aprof_top.specs.Run.{first_state, observed_from, run_of}

@@ -14,7 +14,7 @@ use Rattle.aprof_top.proofs.Sinks.{with_stores-faults}
 use Rattle.aprof_top.proofs.Statuses.{written_status}
 
 module _ (words : List (List ℕ)) (status : ℕ) (before after : Outside) where
-  -- where memory was not wanting, the status is the end's
+  -- unless memory ran out, the status is the end's
   own : (end : End) → EndsBy words end status before after → (status ≡ 10 → ⊥) → status ≡ end_status end
   own end ends had_memory = by ends.told
     where
@@ -29,7 +29,7 @@ module _ (words : List (List ℕ)) (status : ℕ) (before after : Outside) where
   answers CannotPut ends written = absurd (written.could_write (own CannotPut ends written.had_memory))
   answers OutOfMemory ends written = absurd (written.had_memory (own OutOfMemory ends written.had_memory))
 
-  -- the status is this one, and not that of want of memory
+  -- the status is this one, and not that of out of memory
   pub is_this : (end : End) (this : ℕ) → EndsBy words end status before after → status ≡ this → (this ≡ 10 → ⊥) → this ≡ end_status end
   is_this end this ends is not_ten = let e = own end ends (λ ten. not_ten (omega (arith, is, ten))) in omega (arith, is, e)
 
@@ -63,7 +63,7 @@ module _ (words : List (List ℕ)) (status : ℕ) (before after : Outside) where
   still err (inl same) rose = subst (λ (s : SinkState). Rose before.err.faults s.faults) (sym same) rose
   still err (inr (some, fails)) rose = absurd (omega (arith, some))
 
-  -- where nothing rose, the status is one of the written product's, or that of want of memory
+  -- where nothing rose, the status is one of the written product's, or that of out of memory
   complete : (end : End) → EndsBy words end status before after → NothingRose before after → IsWritten status ⊎ (status ≡ 10)
   complete end ends calm = by end ends.told ends.reached
     where

@@ -11,11 +11,11 @@ use Rattle.trace_model.specs.declared.event_kinds.Event.{Event}
 use Rattle.aprof_top.specs.declared.ending.Ending as declared
 use Rattle.aprof_top.specs.declared.ending.Verdict.{Verdict}
 use Rattle.aprof_top.specs.declared.preparation.Prepared.{Prepared}
-use Rattle.aprof_top.specs.Jobs.{JobRuns, RunIsStored, RunStops, desk, ending_by}
+use Rattle.aprof_top.specs.Private.Jobs.{JobRuns, RunIsStored, RunStops, desk, ending_by}
 use Rattle.aprof_top.specs.Loads.{Loaded}
 use Rattle.aprof_top.specs.Outcome.{Job, Left, Outcome, analysed, follows_to, job_of, left_of, run_outcome, writes_of}
 use Rattle.aprof_top.specs.Outside.{outside}
-use Rattle.aprof_top.specs.Preparing.{ArePrepared}
+use Rattle.aprof_top.specs.Private.Preparing.{ArePrepared}
 use Rattle.aprof_top.specs.Run.{observed_from}
 use Rattle.aprof_top.specs.Verdicts.{IsOfRun}
 use Rattle.aprof_top.proofs.Runs.{FilesRun-given_up, FilesRun-stored, seen_by}

@@ -17,8 +17,8 @@ use Rattle.guest_run.specs.Run as runs
 use Rattle.guest_run.specs.RunEnds.{RunEnds}
 use Rattle.thread_sched.specs.TurnRule.{SchedulerState}
 use Rattle.thread_sched.specs.declared.entry.Entry.{Entry}
-use Rattle.aprof_top.specs.Ending.{of_run, of_setup}
-use Rattle.aprof_top.specs.Jobs.{ImageRuns}
+use Rattle.aprof_top.specs.Private.Ending.{of_run, of_setup}
+use Rattle.aprof_top.specs.Private.Jobs.{ImageRuns}
 use Rattle.aprof_top.specs.Run.{observed_from}
 
 -- the guest can't begin

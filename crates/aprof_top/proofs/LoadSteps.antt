@@ -7,7 +7,7 @@ use Rattle.std.proofs.lemmas.List.{length-replicate}
 use Rattle.std.proofs.lemmas.List.Sums.{sum_by-cons}
 use Rattle.host_io.specs.Files.{Contents, FailsAt, FilesState, GivesFile, Holds, HoldsMore, ExceedsLimit}
 use Rattle.aprof_top.specs.Limits.{file_limit, inputs_limit}
-use Rattle.aprof_top.specs.Loading.{AreLoaded, FailsToLoad, IsLoading, PassesLimit}
+use Rattle.aprof_top.specs.Private.Loading.{AreLoaded, FailsToLoad, IsLoading, PassesLimit}
 use Rattle.aprof_top.specs.Loads.{passes_limit, shared_length}
 use Rattle.aprof_top.specs.Outside.{AreHeld, MetTooLong}
 

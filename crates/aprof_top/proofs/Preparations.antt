@@ -8,10 +8,10 @@ use Rattle.host_io.specs.Files.{FilesState}
 use Rattle.thread_sched.specs.ScheduleText as recordings
 use Rattle.thread_sched.specs.declared.schedule.ScheduleError.{ScheduleError}
 use Rattle.thread_sched.specs.declared.schedule.ScheduleError.TheVariants as unread
-use Rattle.aprof_top.specs.Ending.{of_image, of_schedule}
-use Rattle.aprof_top.specs.Loading.{LoadsEnd}
+use Rattle.aprof_top.specs.Private.Ending.{of_image, of_schedule}
+use Rattle.aprof_top.specs.Private.Loading.{LoadsEnd}
 use Rattle.aprof_top.specs.Loads.{loaded_of}
-use Rattle.aprof_top.specs.Preparing.{AreAll, AreRefused}
+use Rattle.aprof_top.specs.Private.Preparing.{AreAll, AreRefused}
 use Rattle.aprof_top.specs.declared.ending.Ending.{Ending}
 
 module _ (options : GuestOptions) (old new : FilesState) (files : List (List ℕ)) (all : AreAll options files old new) where

@@ -26,8 +26,8 @@ use Rattle.guest_words.specs.declared.limits.TheConstants.{CONTEXTS, TRACE_BYTES
 use Rattle.aprof_top.specs.declared.ending.Ending.{Ending}
 use Rattle.aprof_top.specs.declared.ending.Verdict.{Verdict}
 use Rattle.aprof_top.specs.Delivery.{StoreFails}
-use Rattle.aprof_top.specs.Ending.{of_store}
-use Rattle.aprof_top.specs.Jobs.{Desk, RunIsStored, desk}
+use Rattle.aprof_top.specs.Private.Ending.{of_store}
+use Rattle.aprof_top.specs.Private.Jobs.{Desk, RunIsStored, desk}
 use Rattle.context_profile.specs.Kept.{IsPastNumbers}
 use Rattle.context_tree.specs.Contexts.{contexts}
 use Rattle.aprof_top.specs.ContextReports.{can_be_numbered}

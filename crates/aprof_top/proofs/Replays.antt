@@ -19,13 +19,13 @@ use Rattle.aprof_top.specs.declared.ending.Ending.TheVariants as ending
 use Rattle.aprof_top.specs.declared.ending.Verdict.{Verdict}
 use Rattle.aprof_top.specs.declared.ending.Verdict.TheVariants.{BadTrace}
 use Rattle.aprof_top.specs.Delivery.{FailsWithin, StoreFails}
-use Rattle.aprof_top.specs.Ending.{AskedEnds, Delivers, of_store, of_trace}
+use Rattle.aprof_top.specs.Private.Ending.{AskedEnds, Delivers, of_store, of_trace}
 use Rattle.aprof_top.specs.Found.{Decision, Found}
-use Rattle.aprof_top.specs.Jobs.{RunIsStored, StatsEnd, StoresEnd, desk, ending_by}
+use Rattle.aprof_top.specs.Private.Jobs.{RunIsStored, StatsEnd, StoresEnd, desk, ending_by}
 use Rattle.aprof_top.specs.Limits.{trace_limit}
 use Rattle.aprof_top.specs.Outcome.{ByLength, IsOfTrace, IsReplay, Outcome, err_of, out_of, put_on, refusal}
 use Rattle.aprof_top.specs.Outside.{Outside, outside, with_stores}
-use Rattle.aprof_top.specs.Replaying.{TraceLoadEnds}
+use Rattle.aprof_top.specs.Private.Replaying.{TraceLoadEnds}
 use Rattle.aprof_top.specs.Verdicts.{IsOfRun}
 use Rattle.aprof_top.proofs.Commands.{refused_by}
 use Rattle.aprof_top.proofs.LoadSteps.{long_file, long_file-long}

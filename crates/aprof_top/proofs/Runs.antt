@@ -28,8 +28,8 @@ use Rattle.aprof_top.specs.declared.ending.Ending as declared
 use Rattle.aprof_top.specs.declared.ending.Ending.TheVariants as ending
 use Rattle.aprof_top.specs.declared.ending.Verdict.{Verdict}
 use Rattle.aprof_top.specs.declared.ending.Verdict.TheVariants.{BadImage, BadSchedule, TooLarge}
-use Rattle.aprof_top.specs.Preparing.{Refuses}
-use Rattle.aprof_top.specs.Jobs.{FilesRun, IsRefused, RunIsStored, RunStops, desk, ending_by}
+use Rattle.aprof_top.specs.Private.Preparing.{Refuses}
+use Rattle.aprof_top.specs.Private.Jobs.{FilesRun, IsRefused, RunIsStored, RunStops, desk, ending_by}
 use Rattle.aprof_top.specs.Delivery.{FailsWithin, PutsOutput}
 use Rattle.aprof_top.specs.Loads.{Loaded, with_inputs}
 use Rattle.aprof_top.specs.Outcome.{ByImage, IsRun, IsScheduled, Job, Outcome, begun_outcome, refusal, writes_of}
@@ -88,7 +88,7 @@ handed_refusal job loaded v o is_run = record {
   delivered = (refl, record { out = appended-nothing o.out; err = appended-nothing o.err ∙ appended-nothing (appended o.err []); stored = inl refl });
 }
 
--- memory was wanting when a run had come to its end: all of its output was put
+-- memory ran out when a run had come to its end: all of its output was put
 pub stops_whole : (setup : Option SetupError) (moves : List Move) (before after : Sinks) → setup ≡ None → after ≡ with_output moves before
     → (after ≡ before) ⊎ ((setup ≡ None) × IsGivenUp moves before after)
 stops_whole setup moves before after none output = inr (none, record { earlier = moves; later = []; are = append-nil moves; output = output })

@@ -6,9 +6,9 @@ use Rattle.std.proofs.lemmas.List.{length-append, length-map, map-append, take_m
 use Rattle.command_line.specs.Options.{GuestOptions, inputs}
 use Rattle.guest_calls.specs.Inputs.{Input, with_input}
 use Rattle.aprof_top.specs.declared.loaded.Loaded as kept
-use Rattle.aprof_top.specs.Loading.{contents_of}
+use Rattle.aprof_top.specs.Private.Loading.{contents_of}
 use Rattle.aprof_top.specs.Loads.{file_at, first_file, loaded_of, with_inputs}
-use Rattle.aprof_top.specs.Loading.{Keeps}
+use Rattle.aprof_top.specs.Private.Loading.{Keeps}
 
 abbrev pub text : Bor (List ℕ) → List ℕ
 text b = b.now

@@ -13,7 +13,7 @@ pub record EndsBy (words : List (List ℕ)) (end : End) (status : ℕ) (before a
   pub reached : Reaches words end before (outside after.files after.out err)
   pub told : LastText end status err after.err
 
--- A status of the written product: it is neither that of a failed load, put or store nor that of want of memory.
+-- A status of the written product: it is neither that of a failed load, put or store nor that of out of memory.
 pub record IsWritten (status : ℕ) : Type 0 where
   pub could_read : status ≢ 2
   pub could_write : status ≢ 4
@@ -27,7 +27,7 @@ pub record IsAnswered (words : List (List ℕ)) (status : ℕ) (before after : O
   pub cannot_read : status ≡ 2 → (path : List ℕ) × EndsBy words (CannotRead path) status before after
   -- a store failed, or a put of the output
   pub cannot_write : status ≡ 4 → EndsBy words CannotWrite status before after ⊎ EndsBy words CannotPut status before after
-  -- memory was wanting, in the end for the last text of another status
+  -- memory ran out, if only for the last text of another status
   pub out_of_memory : status ≡ 10 → (end : End) × EndsBy words end status before after
-  -- where nothing failed it answers as the written product does, but for want of memory
+  -- if nothing failed, it answers as the written product does, or is out of memory
   pub complete : NothingRose before after → IsWritten status ⊎ (status ≡ 10)

@@ -20,7 +20,7 @@ pub data End : Type 0 where
   CannotWrite : End
   -- a put on `err` failed
   CannotPut : End
-  -- for want of memory
+  -- out of memory
   OutOfMemory : End
 
 -- its status
@@ -55,7 +55,7 @@ pub record FailsToWrite (words : List (List ℕ)) (Fails : Outcome → Type 0) (
   pub ran : IsOfRun decision.outcome.verdict
   pub fails : Fails decision.outcome
 
--- Memory was wanting, before anything was done or while an outcome was handed out, and nothing failed. That a word has a zero
+-- Memory ran out, before anything was done or while an outcome was handed out, and nothing failed. That a word has a zero
 -- byte is told without memory.
 pub record WantsMemory (words : List (List ℕ)) (before after : Outside) : Type 0 where
   pub no_zero : list_any has_zero words ≡ false

@@ -11,7 +11,7 @@ use Rattle.aprof_top.specs.Texts.{out_of_memory_text}
 abbrev pub IsPut : List ℕ → SinkState → SinkState → Type 0
 IsPut text old new = (new ≡ appended old text) ⊎ ((0 < length text) × FailsToAppend text old new)
 
--- the text has a path or a number in it, so that making it may want memory
+-- the text has a path or a number in it, so that making it may run out of memory
 abbrev pub IsMade : End → Type 0
 IsMade (Decided (BadImage e)) = Unit {0}
 IsMade (Decided (BadSchedule line)) = Unit {0}
@@ -26,7 +26,7 @@ pub record Tells (end : End) (status : ℕ) (old new : SinkState) : Type 0 where
   pub status_is : status ≡ end_status end
   pub text : IsPut (end_text end) old new
 
--- The last text wanted memory: the status is that of want of memory. No text follows one that was refused.
+-- The last text could not be allocated: the status is that of out of memory. No text follows one that was refused.
 pub record WantsText (end : End) (status : ℕ) (old new : SinkState) : Type 0 where
   pub status_is : status ≡ end_status OutOfMemory
   pub some : 0 < length (end_text end)

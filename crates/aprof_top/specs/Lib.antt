@@ -20,11 +20,4 @@ pub mod Summary
 pub mod Texts
 pub mod Traces
 pub mod Verdicts
--- What the private parts owe one another.
-pub mod Ending
-pub mod Jobs
-pub mod LastTexts
-pub mod Loading
-pub mod Preparing
-pub mod Replaying
-pub mod Sources
+pub mod Private

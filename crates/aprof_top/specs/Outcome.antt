@@ -237,7 +237,7 @@ pub record IsOfTrace (options : ReplayOptions) (bytes : List ℕ) (outcome : Out
   pub trace : IsTrace bytes past names finish
   pub answered : outcome ≡ replay_outcome options names finish past
 
--- The bytes are refused, for another cause than want of memory.
+-- The bytes are refused, for another cause than out of memory.
 pub record IsOfNoTrace (bytes : List ℕ) (outcome : Outcome) : Type 0 where
   pub past : List Event
   pub why : TraceError

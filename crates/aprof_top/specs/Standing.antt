@@ -147,7 +147,7 @@ pub record StandsAfterMemory (words : List (List ℕ)) (before after : Outside) 
   pub ends : (end : End) × EndsBy words end 10 before after
   pub leaves : LeavesText out_of_memory_text before after
       ⊎ ((decision : Decision words before after) × LeavesPart decision.outcome out_of_memory_text before after)
-  -- nothing failed but the put of the last text, or memory was wanting for the last text of another end
+  -- nothing failed but the put of the last text, or the last text of another end could not be allocated
   pub calm : IsCalm out_of_memory_text before after ⊎ ((end : End) × EndsBy words end 10 before after × (end ≡ OutOfMemory → ⊥) × (0 < length (end_text end)))
 
 -- After a status of the written product, which is that of the outcome's verdict.

@@ -1,4 +1,4 @@
--- What the program can answer besides failures of the outside and want of memory: the statuses and the last texts.
+-- What the program can answer besides failures of the outside and out of memory: the statuses and the last texts.
 use Rattle.std.specs.Prelude.{ℕ, List, []}
 use Rattle.guest_words.specs.declared.endings.Finish.{Finish}
 use Rattle.guest_words.specs.declared.endings.Finish.TheVariants.{Exit, Fault, Budget, Deadlock, Deep, Schedule}

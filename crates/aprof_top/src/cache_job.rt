@@ -7,7 +7,7 @@ ghost use Rattle.elf_image.specs.Image.{Executable};
 ghost use Rattle.guest_run.specs.Profiled.{Profiled};
 ghost use Rattle.host_io.specs.Sink.{SinkState};
 ghost use Rattle.aprof_top.specs.CacheMisses.{misses_of, named_misses};
-ghost use Rattle.aprof_top.specs.Jobs.{GuestIsRun, IsMissed, JobRuns, RunIsStored, desk, ending_by};
+ghost use Rattle.aprof_top.specs.Private.Jobs.{GuestIsRun, IsMissed, JobRuns, RunIsStored, desk, ending_by};
 ghost use Rattle.aprof_top.specs.Outcome.{analysed, job_of};
 ghost use Rattle.aprof_top.specs.Outside.{outside};
 ghost use Rattle.trace_model.specs.declared.event_kinds.Event.{Event};

@@ -8,7 +8,7 @@ ghost use Rattle.host_io.specs.Sink.{SinkState};
 ghost use Rattle.stamps.specs.declared.width.StampBits.{StampBits};
 ghost use Rattle.trace_model.specs.declared.event_kinds.Event.{Event};
 ghost use Rattle.aprof_top.specs.ContextReports.{can_be_numbered, contexts_report};
-ghost use Rattle.aprof_top.specs.Jobs.{GuestIsRun, HasContexts, HaveContexts, JobRuns, RunIsStored, desk, ending_by};
+ghost use Rattle.aprof_top.specs.Private.Jobs.{GuestIsRun, HasContexts, HaveContexts, JobRuns, RunIsStored, desk, ending_by};
 ghost use Rattle.aprof_top.specs.Outcome.{analysed, job_of};
 ghost use Rattle.aprof_top.specs.Outside.{outside};
 ghost use Rattle.stamps.specs.Widths.{greatest};

@@ -2,7 +2,7 @@
 ghost use Rattle.std.specs.Prelude.{◌≡◌, ◌<◌, length, map, OnErr, Some};
 ghost use Rattle.guest_run.specs.Profiled.{Profiled};
 ghost use Rattle.host_io.specs.Sink.{PutEnds, SinkState};
-ghost use Rattle.aprof_top.specs.Jobs.{RunIsStored, StatsEnd, StoresEnd, desk, store_of};
+ghost use Rattle.aprof_top.specs.Private.Jobs.{RunIsStored, StatsEnd, StoresEnd, desk, store_of};
 ghost use Rattle.aprof_top.specs.Outcome.{one_file, run_outcome, stats_of};
 
 use crate::ending::{Ending, Verdict};

@@ -3,7 +3,7 @@ ghost use Rattle.std.specs.Prelude.{◌≡◌, ◌≤◌, IfOk, IfErr};
 ghost use Rattle.command_line.specs.Read.{guest_in};
 ghost use Rattle.aprof_top.specs.declared.ending.Ending.TheVariants.{OutOfMemory};
 ghost use Rattle.aprof_top.specs.Outcome.{IsDemo, demo_options};
-ghost use Rattle.aprof_top.specs.Jobs.{summed};
+ghost use Rattle.aprof_top.specs.Private.Jobs.{summed};
 
 use crate::ending::Ending;
 use crate::guest_job::GuestFiles;
@@ -41,7 +41,7 @@ pub(crate) fn run_demo(alloc: Global, number: u32) -> Result<Vec<u8>, Ending>
     ensures refused { IfErr result (λ e. e ≡ OutOfMemory) }
 {
     let file = demo_image(alloc, number)?;
-    // It passes all tests, so it is refused only for want of memory.
+    // It passes all tests, so it is refused only when out of memory.
     let image = read_image(alloc, file.as_slice())?;
     let guest = demo_guest(alloc);
     let schedule = Schedule::empty(alloc)?;

@@ -1,10 +1,10 @@
 //! How a command ends: its status and its last text.
 ghost use Rattle.std.specs.Prelude.{◌≡◌, ◌<◌, length, IfOk, OnOk, OnErr};
-ghost use Rattle.aprof_top.specs.Ending.{end_of, wanted_in};
-ghost use Rattle.aprof_top.specs.Sources as sources;
+ghost use Rattle.aprof_top.specs.Private.Ending.{end_of, wanted_in};
+ghost use Rattle.aprof_top.specs.Private.Sources as sources;
 ghost use Rattle.aprof_top.specs.Ends.{end_status, end_text};
-ghost use Rattle.aprof_top.specs.Jobs.{ending_by};
-ghost use Rattle.aprof_top.specs.LastTexts.{bytes_of};
+ghost use Rattle.aprof_top.specs.Private.Jobs.{ending_by};
+ghost use Rattle.aprof_top.specs.Private.LastTexts.{bytes_of};
 ghost use Rattle.aprof_top.specs.LastText.{IsMade, IsPut, LastText};
 ghost use Rattle.aprof_top.specs.Verdicts.{finish_status, verdict_status};
 
@@ -72,7 +72,7 @@ impl<T: Drop> From<AllocFailed<T>> for Ending {
 
 impl From<CommandError> for Ending {
     ghost use Rattle.std.specs.Prelude.{◌≡◌};
-    ghost use Rattle.aprof_top.specs.Ending.{of_command};
+    ghost use Rattle.aprof_top.specs.Private.Ending.{of_command};
 
     ghost from_gives = { λ error e. e ≡ of_command error };
 
@@ -86,7 +86,7 @@ impl From<CommandError> for Ending {
 
 impl From<ElfError> for Ending {
     ghost use Rattle.std.specs.Prelude.{◌≡◌};
-    ghost use Rattle.aprof_top.specs.Ending.{of_image};
+    ghost use Rattle.aprof_top.specs.Private.Ending.{of_image};
 
     ghost from_gives = { λ error e. e ≡ of_image error };
 
@@ -100,7 +100,7 @@ impl From<ElfError> for Ending {
 
 impl From<ScheduleError> for Ending {
     ghost use Rattle.std.specs.Prelude.{◌≡◌};
-    ghost use Rattle.aprof_top.specs.Ending.{of_schedule};
+    ghost use Rattle.aprof_top.specs.Private.Ending.{of_schedule};
 
     ghost from_gives = { λ error e. e ≡ of_schedule error };
 
@@ -114,7 +114,7 @@ impl From<ScheduleError> for Ending {
 
 impl From<TraceError> for Ending {
     ghost use Rattle.std.specs.Prelude.{◌≡◌};
-    ghost use Rattle.aprof_top.specs.Ending.{of_trace};
+    ghost use Rattle.aprof_top.specs.Private.Ending.{of_trace};
 
     ghost from_gives = { λ error e. e ≡ of_trace error };
 
@@ -128,7 +128,7 @@ impl From<TraceError> for Ending {
 
 impl From<SetupError> for Ending {
     ghost use Rattle.std.specs.Prelude.{◌≡◌};
-    ghost use Rattle.aprof_top.specs.Ending.{of_setup};
+    ghost use Rattle.aprof_top.specs.Private.Ending.{of_setup};
 
     ghost from_gives = { λ error e. e ≡ of_setup error };
 
@@ -142,7 +142,7 @@ impl From<SetupError> for Ending {
 
 impl From<RunError> for Ending {
     ghost use Rattle.std.specs.Prelude.{◌≡◌};
-    ghost use Rattle.aprof_top.specs.Ending.{of_run};
+    ghost use Rattle.aprof_top.specs.Private.Ending.{of_run};
 
     ghost from_gives = { λ error e. e ≡ of_run error };
 
@@ -161,7 +161,7 @@ impl From<RunError> for Ending {
 
 impl From<PutError> for Ending {
     ghost use Rattle.std.specs.Prelude.{◌≡◌};
-    ghost use Rattle.aprof_top.specs.Ending.{of_put};
+    ghost use Rattle.aprof_top.specs.Private.Ending.{of_put};
 
     ghost from_gives = { λ error e. e ≡ of_put error };
 
@@ -175,7 +175,7 @@ impl From<PutError> for Ending {
 
 impl From<StoreError> for Ending {
     ghost use Rattle.std.specs.Prelude.{◌≡◌};
-    ghost use Rattle.aprof_top.specs.Ending.{of_store};
+    ghost use Rattle.aprof_top.specs.Private.Ending.{of_store};
 
     ghost from_gives = { λ error e. e ≡ of_store error };
 

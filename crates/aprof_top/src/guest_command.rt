@@ -1,7 +1,7 @@
 //! The commands that run a guest: its output, and what each makes of its run.
 ghost use Rattle.command_line.specs.Read.{AreInRange, analysis_in, guest_asked_in, guest_in};
-ghost use Rattle.aprof_top.specs.Ending.{AskedEnds};
-ghost use Rattle.aprof_top.specs.Jobs.{JobRuns, ending_by};
+ghost use Rattle.aprof_top.specs.Private.Ending.{AskedEnds};
+ghost use Rattle.aprof_top.specs.Private.Jobs.{JobRuns, ending_by};
 ghost use Rattle.aprof_top.specs.Outcome.{job_of};
 ghost use Rattle.aprof_top.specs.Outside.{outside};
 

@@ -6,7 +6,7 @@ ghost use Rattle.guest_machine.specs.Setup.{setup_refusal};
 ghost use Rattle.guest_machine.specs.Start.{start};
 ghost use Rattle.guest_run.specs.Output.{sinks};
 ghost use Rattle.guest_run.specs.Profiled.{first_past};
-ghost use Rattle.aprof_top.specs.Jobs.{ImageRuns};
+ghost use Rattle.aprof_top.specs.Private.Jobs.{ImageRuns};
 ghost use Rattle.aprof_top.specs.Run.{observed_from};
 
 use crate::ending::Ending;

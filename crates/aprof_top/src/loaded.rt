@@ -3,9 +3,9 @@ ghost use Rattle.std.specs.Prelude.{◌≡◌, ◌≤◌, [], length, map, drop,
 ghost use Rattle.std.specs.Option.{option_to_list};
 ghost use Rattle.command_line.specs.Options.{inputs};
 ghost use Rattle.command_line.specs.Read.{guest_in};
-ghost use Rattle.aprof_top.specs.Loading.{contents_of};
+ghost use Rattle.aprof_top.specs.Private.Loading.{contents_of};
 ghost use Rattle.aprof_top.specs.Loads.{file_at, first_file, loaded_of, loaded_paths, with_inputs};
-ghost use Rattle.aprof_top.specs.Loading.{Keeps};
+ghost use Rattle.aprof_top.specs.Private.Loading.{Keeps};
 
 use command_line::GuestOptions;
 use guest_calls::Inputs;

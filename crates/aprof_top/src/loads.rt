@@ -3,7 +3,7 @@ ghost use Rattle.std.specs.Prelude.{◌≡◌, ◌+◌, ◌≤◌, ◌&&◌, nat
 ghost use Rattle.std.specs.Option.{option_to_list};
 ghost use Rattle.command_line.specs.Options.{inputs};
 ghost use Rattle.command_line.specs.Read.{guest_in};
-ghost use Rattle.aprof_top.specs.Loading.{AreLoaded, LoadsEnd, contents_of};
+ghost use Rattle.aprof_top.specs.Private.Loading.{AreLoaded, LoadsEnd, contents_of};
 ghost use Rattle.aprof_top.specs.Loads.{loaded_paths, shared_count};
 
 use crate::ending::{Ending, Verdict};

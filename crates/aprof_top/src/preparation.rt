@@ -1,6 +1,6 @@
 //! What a command that runs a guest does before its run: it loads the files, and reads the image and the schedule.
-ghost use Rattle.aprof_top.specs.Loading.{CommandLoads};
-ghost use Rattle.aprof_top.specs.Preparing.{Prepares};
+ghost use Rattle.aprof_top.specs.Private.Loading.{CommandLoads};
+ghost use Rattle.aprof_top.specs.Private.Preparing.{Prepares};
 ghost use Rattle.command_line.specs.Read.{guest_in};
 
 use crate::ending::Ending;

@@ -4,7 +4,7 @@ ghost use Rattle.stamps.specs.Widths.{greatest};
 ghost use Rattle.trace_model.specs.Depth.{is_within};
 ghost use Rattle.command_line.specs.Read.{AreInRange, guest_in};
 ghost use Rattle.guest_run.specs.Output.{sinks};
-ghost use Rattle.aprof_top.specs.Jobs.{GuestIsRun, IsProfiled};
+ghost use Rattle.aprof_top.specs.Private.Jobs.{GuestIsRun, IsProfiled};
 
 use crate::ending::Ending;
 use crate::guest_job::{GuestFiles, run_image};

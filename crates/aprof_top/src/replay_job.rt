@@ -6,11 +6,11 @@ ghost use Rattle.guest_words.specs.declared.endings.Finish.TheVariants.{Deep};
 ghost use Rattle.host_io.specs.Sink.{SinkState};
 ghost use Rattle.stamps.specs.Widths.{greatest};
 ghost use Rattle.trace_replay.specs.Replays.{IsReplayOf, Replays};
-ghost use Rattle.aprof_top.specs.Ending.{AskedEnds};
-ghost use Rattle.aprof_top.specs.Jobs.{RunIsStored, desk, ending_by, store_of};
+ghost use Rattle.aprof_top.specs.Private.Ending.{AskedEnds};
+ghost use Rattle.aprof_top.specs.Private.Jobs.{RunIsStored, desk, ending_by, store_of};
 ghost use Rattle.aprof_top.specs.Outcome.{replay_outcome, replay_text};
 ghost use Rattle.aprof_top.specs.Outside.{outside};
-ghost use Rattle.aprof_top.specs.Replaying.{TraceLoads};
+ghost use Rattle.aprof_top.specs.Private.Replaying.{TraceLoads};
 
 use crate::delivery::{Store, put_stats, store_all};
 use crate::ending::{Ending, Verdict};

@@ -6,7 +6,7 @@ ghost use Rattle.guest_run.specs.Profiled.{Profiled};
 ghost use Rattle.guest_run.specs.Run.{recording};
 ghost use Rattle.stamps.specs.Widths.{greatest};
 ghost use Rattle.run_profile.specs.Profile.{AreTotalsOf};
-ghost use Rattle.aprof_top.specs.Jobs.{JobRuns, RunIsStored, desk, ending_by, store_of};
+ghost use Rattle.aprof_top.specs.Private.Jobs.{JobRuns, RunIsStored, desk, ending_by, store_of};
 ghost use Rattle.aprof_top.specs.Outcome.{analysed, job_of, recording_stores, run_stores};
 ghost use Rattle.aprof_top.specs.Outside.{outside};
 ghost use Rattle.trace_model.specs.declared.event_kinds.Event.{Event};

@@ -3,8 +3,8 @@ ghost use Rattle.std.specs.Prelude.{◌≡◌, ℕ, List, length, slice_get, Som
 ghost use Rattle.command_line.specs.Options.{inputs};
 ghost use Rattle.command_line.specs.Read.{guest_in};
 ghost use Rattle.aprof_top.specs.Loads.{loaded_paths};
-ghost use Rattle.aprof_top.specs.Ending.{wanted_in};
-ghost use Rattle.aprof_top.specs.Sources.{path_of, wanted_path};
+ghost use Rattle.aprof_top.specs.Private.Ending.{wanted_in};
+ghost use Rattle.aprof_top.specs.Private.Sources.{path_of, wanted_path};
 
 use command_line::GuestOptions;
 use std::alloc::{AllocError, Global};

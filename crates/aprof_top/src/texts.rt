@@ -1,10 +1,10 @@
 //! The texts that the program puts.
 ghost use Rattle.std.specs.Prelude.{◌≡◌, IfOk, OnErr};
-ghost use Rattle.aprof_top.specs.Ending.{wanted_in};
+ghost use Rattle.aprof_top.specs.Private.Ending.{wanted_in};
 ghost use Rattle.aprof_top.specs.Ends.End.{Decided};
 ghost use Rattle.aprof_top.specs.LastText.{IsMade};
-ghost use Rattle.aprof_top.specs.LastTexts.{bytes_of};
-ghost use Rattle.aprof_top.specs.Sources.{wanted_path};
+ghost use Rattle.aprof_top.specs.Private.LastTexts.{bytes_of};
+ghost use Rattle.aprof_top.specs.Private.Sources.{wanted_path};
 ghost use Rattle.aprof_top.specs.Texts.{bad_trace_text, cannot_read_text, fault_text, finish_text, image_text, renumberings_text, schedule_text};
 ghost use Rattle.aprof_top.specs.Verdicts.{verdict_text};
 ghost use Rattle.aprof_top.specs.declared.ending.Verdict.TheVariants.{Ran};

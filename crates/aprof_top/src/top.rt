@@ -3,8 +3,8 @@ ghost use Rattle.std.specs.Prelude.{◌≡◌, ◌≤◌, map, string_bytes};
 ghost use Rattle.aprof_top.specs.Answers.{EndsBy, IsAnswered};
 ghost use Rattle.aprof_top.specs.Ends.{End};
 ghost use Rattle.aprof_top.specs.Standing.{Stands};
-ghost use Rattle.aprof_top.specs.Ending.{AskedEnds, wanted_in, wanted_of};
-ghost use Rattle.aprof_top.specs.Jobs.{ending_by};
+ghost use Rattle.aprof_top.specs.Private.Ending.{AskedEnds, wanted_in, wanted_of};
+ghost use Rattle.aprof_top.specs.Private.Jobs.{ending_by};
 ghost use Rattle.aprof_top.specs.Outside.{outside};
 ghost use Rattle.host_io.specs.Files.{FilesState};
 ghost use Rattle.host_io.specs.Sink.{SinkState};
@@ -95,7 +95,7 @@ fn answer<F: Files, O: Sink, E: Sink>(
 ///
 /// The status says how the call ended. Every status but 2, 4 and 10 is the outcome's: all of its output was put and all of its
 /// files were stored. At 2 the load of the next file failed, and nothing was put or stored; at 4 a store or a put of the output
-/// failed, and what came before is a first part of the outcome; at 10 memory was wanting, and no load, store or put had failed,
+/// failed, and what came before is a first part of the outcome; at 10 memory ran out, and no load, store or put had failed,
 /// but where the last text of another status was what wanted memory. Then the last text of that end was put on `err`, unless a put
 /// on `err` had failed. Where nothing failed and no file was too long the status is the outcome's, or 10.
 pub fn aprof<F: Files, O: Sink, E: Sink>(

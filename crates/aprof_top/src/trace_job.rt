@@ -8,7 +8,7 @@ ghost use Rattle.host_io.specs.Sink.{SinkState};
 ghost use Rattle.guest_words.specs.declared.limits.TheConstants.{TRACE_BYTES};
 ghost use Rattle.trace_file.specs.TraceText.{trace_text};
 ghost use Rattle.trace_model.specs.declared.event_kinds.Event.{Event};
-ghost use Rattle.aprof_top.specs.Jobs.{AreTexts, GuestIsRun, IsTraced, JobRuns, RunIsStored, desk, ending_by};
+ghost use Rattle.aprof_top.specs.Private.Jobs.{AreTexts, GuestIsRun, IsTraced, JobRuns, RunIsStored, desk, ending_by};
 ghost use Rattle.aprof_top.specs.Outcome.{analysed, job_of};
 ghost use Rattle.aprof_top.specs.Outside.{outside};
 ghost use Rattle.aprof_top.specs.Traces.{named_entries, names_begun};

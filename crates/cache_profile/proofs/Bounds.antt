@@ -14,7 +14,7 @@ use Rattle.cost_points.proofs.Bounds.{All-grouped}
 use Rattle.cost_points.proofs.Grouped.{having}
 use Rattle.cost_points.proofs.Rising.{insert_above, insert_below, insert_same, order}
 use Rattle.cache_lines.specs.Shapes.{Form}
-use Rattle.cache_profile.specs.Added.{HasRoom}
+use Rattle.cache_profile.specs.Private.Added.{HasRoom}
 use Rattle.cache_profile.specs.ByRoutine.{LineAccess, accesses_of, all_accesses, by_routine, counts_of, routine_at}
 use Rattle.cache_profile.specs.LineAccesses.{line_accesses, line_of, lines_accessed, lines_over, missed}
 

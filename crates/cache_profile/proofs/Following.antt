@@ -25,7 +25,7 @@ use Rattle.cost_points.specs.Keys.{grouped}
 use Rattle.cache_lines.specs.Held.{Held}
 use Rattle.cache_lines.specs.Kept as lines
 use Rattle.cache_lines.specs.Shapes.{Form}
-use Rattle.cache_profile.specs.Added.{AreOf}
+use Rattle.cache_profile.specs.Private.Added.{AreOf}
 use Rattle.cache_profile.specs.ByRoutine.{LineAccess, accesses_of, all_accesses, by_routine, innermost, routine_at}
 use Rattle.cache_profile.specs.LineAccesses.{line_accesses, lines_accessed, lines_over, missed}
 use Rattle.cache_profile.specs.Profile.{IsOfSome, IsOther, Kept, MayCome, StandsFor, lives}

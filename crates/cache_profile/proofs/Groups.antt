@@ -13,7 +13,7 @@ use Rattle.cost_points.proofs.Rising.{rising_push, IsRising-rising, insert_gap, 
 use Rattle.cost_points.proofs.Grouped.{at_low, at_split, grouped_at, grouped_insertion, grouped_labels, grouped_there, having, having_none, having_same, insertion_high, insertion_low}
 use Rattle.cache_profile.specs.declared.routines.RoutineMisses.{RoutineMisses}
 use Rattle.cache_profile.specs.ByRoutine.{LineAccess, by_routine, counts_of}
-use Rattle.cache_profile.specs.Added.{AreOf}
+use Rattle.cache_profile.specs.Private.Added.{AreOf}
 
 module _ {A B : Type 0} (key : A → ℕ) (make : ℕ → List A → B) where
   abbrev keys : List A → List ℕ

@@ -1,5 +1,5 @@
 pub mod LineAccesses
 pub mod ByRoutine
-pub mod Added
 pub mod Profile
 pub mod ReportText
+pub mod Private

@@ -5,7 +5,7 @@ ghost use Rattle.std.specs.Vec.{vec_capacity};
 ghost use Rattle.cost_points.specs.Keys.{IsRising};
 ghost use Rattle.cost_points.specs.Search.{FindsKey};
 ghost use Rattle.cache_profile.specs.ByRoutine.{LineAccess, by_routine};
-ghost use Rattle.cache_profile.specs.Added.{AreOf, HasRoom};
+ghost use Rattle.cache_profile.specs.Private.Added.{AreOf, HasRoom};
 
 use guest_words::Addr;
 
@@ -46,8 +46,8 @@ fn search(routines: &[RoutineMisses], last: usize, entry: Addr) -> Result<usize,
     routines.binary_search_by_key(&entry, |routine| routine.entry)
 }
 
-/// Adds accesses of the routine at the entry, of which so many missed, and says where the routine stands. The place `last` is
-/// looked at first. There is room for one more routine, so it takes no memory.
+/// Adds accesses and misses of the routine at the entry, and says where the routine stands. The place `last` is
+/// looked at first. There is room for one more routine, so it does not allocate.
 pub(crate) fn add(
     routines: &mut Vec<RoutineMisses>,
     last: usize,

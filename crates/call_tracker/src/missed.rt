@@ -1,6 +1,6 @@
 //! Targets of returns that no open call has.
 ghost use Rattle.std.specs.Prelude.{◌≡◌, ◌<◌, ◌≤◌, [], ℕ, All, List, Option, length, take};
-ghost use Rattle.call_tracker.specs.Missed.{AreMissed, IsMissed};
+ghost use Rattle.call_tracker.specs.Private.Missed.{AreMissed, IsMissed};
 
 use guest_words::Addr;
 

@@ -41,7 +41,7 @@ impl<C: Returns> Model for OpenCalls<C> {
     ghost use Rattle.std.specs.Prelude.{◌-◌, map, vec_len};
     ghost use Rattle.std.specs.Vec.{vec_capacity};
     ghost use Rattle.call_tracker.specs.Calls.{CallStack, stack_code};
-    ghost use Rattle.call_tracker.specs.Missed.{AreMissed};
+    ghost use Rattle.call_tracker.specs.Private.Missed.{AreMissed};
 
     ghost Value = { CallStack C };
 

@@ -25,7 +25,7 @@ pub enum CommandError {
     /// The words are not of the form.
     #[error("bad command line")]
     Refused,
-    /// Want of memory.
+    /// Out of memory.
     #[error("out of memory")]
     Memory,
 }

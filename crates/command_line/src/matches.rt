@@ -9,7 +9,7 @@ use crate::app::whole_command;
 use clap::{ArgMatches, Error};
 use std::alloc::{AllocError, Global};
 
-/// The matches of the words. An error that is no want of memory comes only where `clap`'s stated test does not take them.
+/// The matches of the words. An error other than out of memory comes only where `clap`'s stated test does not take them.
 pub(crate) fn matches_of_words<'a>(
     alloc: Global,
     words: &'a [String],

@@ -22,7 +22,7 @@ pub struct ContextProfile<S: Lanes> {
     profiler: Profiler<S>,
     tree: Option<Tree>,
     // The newest event, where it is still to come into the tree, and what ended at it: an event that was taken is not refused
-    // for want of a context.
+    // for lack of a context.
     next: Option<Event>,
     ended: Vec<Done>,
     steps: u64,
@@ -43,8 +43,8 @@ pub struct ContextTotals {
     pub tree: Tree,
 }
 
-// Takes an event into the tree, unless there is none any more. A tree that has no number for a context is dropped, which
-// wants no memory.
+// Takes an event into the tree, if there still is one. A tree that has no number for a context is dropped, which
+// does not allocate.
 fn grow(tree: &mut Option<Tree>, e: Event, ends: &[Done]) -> Result<(), AllocError>
     requires { MayGrow tree.old e ends.now }
     ensures grown { (past : List Event) → HasTree tree.old past → ends.now ≡ ended e past
@@ -100,7 +100,7 @@ impl<S: Lanes> ContextProfile<S> {
         Ok(())
     }
 
-    /// What the run comes to with its contexts; `None` where they are more than can be numbered, which wants no memory.
+    /// What the run comes to with its contexts; `None` where they are more than can be numbered, which does not allocate.
     pub fn into_totals(self, alloc: Global) -> Result<Option<ContextTotals>, AllocError>
         requires { AreOfLight S.MAX self }
         ensures totals { IfOk result (λ found. (past : List Event) → AreContextsOf S.MAX self past
@@ -142,7 +142,7 @@ impl<S: Lanes> Observer for ContextProfile<S> {
 
     ghost steps_fit = { λ _. steps_within S.MAX };
 
-    // What is too deep is refused, and wants no memory.
+    // What is too deep is refused without allocating.
     #[inline(always)]
     fn observe(&mut self, e: Event) -> Result<Observed, AllocError>
         requires { MayTake (AreContextsOf S.MAX) self.old e }

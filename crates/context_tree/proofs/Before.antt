@@ -5,7 +5,7 @@ use Rattle.std.proofs.lemmas.Bool.{eq-eqb}
 use Rattle.std.proofs.lemmas.Bool.Decides.{nat_tests}
 use Rattle.std.proofs.lemmas.List.{append-nil}
 use Rattle.context_tree.specs.Order.{is_before}
-use Rattle.context_tree.specs.Leaving.{Extends}
+use Rattle.context_tree.specs.Private.Leaving.{Extends}
 
 same_number : (n m : ℕ) → (n == m) ≡ true → n ≡ m
 same_number n m is = grind (arith, nat_tests)

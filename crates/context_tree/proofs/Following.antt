@@ -25,7 +25,7 @@ use Rattle.context_tree.specs.Numbers.{IsNumberOf, above_of, numbered}
 use Rattle.context_tree.specs.Numbers as by_number
 use Rattle.context_tree.specs.Points.{done_in_context, points_from, points_in, points_of}
 use Rattle.context_tree.specs.Branches.{Kept, StandsFor, current_of}
-use Rattle.context_tree.specs.Adding.{with_list}
+use Rattle.context_tree.specs.Private.Adding.{with_list}
 use Rattle.context_tree.specs.Ways.{ArePoints, IsWay, tagged, up}
 use Rattle.context_tree.proofs.Known.{done_known, no_members}
 use Rattle.context_tree.proofs.Linking.{linked_none}
@@ -346,7 +346,7 @@ stands-end old new past tid ds threads are stands ends =
         ap (λ b. drop (cond b (length (backs (open_calls past tid))) 0) (open_calls past tid)) (eq-eqb tid tid refl)
         ∙ drop_all (length (backs (open_calls past tid))) (open_calls past tid) (omega (arith, long))
 
--- ---- what the calls of an event want
+-- ---- what the calls of an event require
 pub light_before : (past : List Event) (e : Event) → IsLight (e ∷ past) → IsLight past
 light_before past e light = omega (arith, light)
 

@@ -16,7 +16,7 @@ use Rattle.context_tree.specs.Branches as grown
 use Rattle.context_tree.specs.Contexts.{contexts}
 use Rattle.context_tree.specs.Numbers.{numbered}
 use Rattle.context_tree.specs.Order.{IsFollowedBy}
-use Rattle.context_tree.specs.Taking.{IsWhole, Takes}
+use Rattle.context_tree.specs.Private.Taking.{IsWhole, Takes}
 use Rattle.context_tree.specs.Trees.{AreEnded, IsOfSome, Kept, MayCome, StandsFor, lives}
 use Rattle.context_tree.proofs.Following.{as_many, current_within, each_points, way_ended}
 use Rattle.context_tree.proofs.Once.{if_some, whole_once}

@@ -8,7 +8,7 @@ use Rattle.cost_points.specs.Valid.{IsPoint, IsSplit}
 use Rattle.context_tree.specs.declared.order.Links.{Links}
 use Rattle.context_tree.specs.Branches.{Kept}
 use Rattle.context_tree.specs.Links.{IsLastUnder, IsLinked, IsNextUnder}
-use Rattle.context_tree.specs.Taking.{IsWhole}
+use Rattle.context_tree.specs.Private.Taking.{IsWhole}
 use Rattle.context_tree.specs.Ways.{ArePoints}
 
 pub if_some : {A : Type 0} (P : A → Type 0) → ((a : A) → IsProp (P a)) → (o : Option A) → IsProp (IfSome o P)

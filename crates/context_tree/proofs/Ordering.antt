@@ -8,7 +8,7 @@ use Rattle.context_tree.specs.Contexts.{same}
 use Rattle.context_tree.specs.Links.{IsNextUnder}
 use Rattle.context_tree.specs.Numbers.{StandsFor, above_of, numbered}
 use Rattle.context_tree.specs.Order.{IsFollowedBy, is_before, numbers_down_to}
-use Rattle.context_tree.specs.Leaving.{Extends, IsLeftBy, IsUnder}
+use Rattle.context_tree.specs.Private.Leaving.{Extends, IsLeftBy, IsUnder}
 use Rattle.context_tree.proofs.Before.{IsApart, before_append, before_asym, before_less, before_more, before_self, extends_or, has_last}
 use Rattle.context_tree.proofs.Numbering.{other_told, same_told}
 

@@ -9,7 +9,4 @@ pub mod Pending
 pub mod Branches
 pub mod Trees
 pub mod Laws
--- What the private parts owe one another.
-pub mod Adding
-pub mod Leaving
-pub mod Taking
+pub mod Private

@@ -15,8 +15,8 @@ ghost use Rattle.context_tree.specs.Numbers as by_number;
 ghost use Rattle.context_tree.specs.Order.{IsFollowedBy, IsInOrder};
 ghost use Rattle.context_tree.specs.Branches.{IsOfLight, IsOfSome, StandsFor, current_of};
 ghost use Rattle.context_tree.specs.Trees.{HasTooMany, IsShown};
-ghost use Rattle.context_tree.specs.Taking.{IsWhole, Takes};
-ghost use Rattle.context_tree.specs.Adding.{with_list};
+ghost use Rattle.context_tree.specs.Private.Taking.{IsWhole, Takes};
+ghost use Rattle.context_tree.specs.Private.Adding.{with_list};
 ghost use Rattle.context_tree.specs.Ways.{ArePoints, IsWay, lists};
 
 use crate::order::{Links, add_link, after_under};

@@ -8,7 +8,7 @@ pub enum TreeError {
     /// There are as many contexts as can be numbered.
     #[error("too many contexts")]
     TooMany,
-    /// Want of memory.
+    /// Out of memory.
     #[error("out of memory")]
     Memory,
 }

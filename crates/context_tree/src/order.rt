@@ -3,9 +3,9 @@ ghost use Rattle.std.specs.Prelude.{◌≡◌, ◌<◌, ◌≤◌, ◌++◌, ◌
 ghost use Rattle.std.specs.Vec.{vec_capacity};
 ghost use Rattle.guest_words.specs.declared.limits.TheConstants.{CONTEXTS};
 ghost use Rattle.context_tree.specs.Links.{IsLinked};
-ghost use Rattle.context_tree.specs.Adding.{AreLinked};
+ghost use Rattle.context_tree.specs.Private.Adding.{AreLinked};
 ghost use Rattle.context_tree.specs.Numbers.{StandsFor, numbered};
-ghost use Rattle.context_tree.specs.Leaving.{IsLeftBy};
+ghost use Rattle.context_tree.specs.Private.Leaving.{IsLeftBy};
 
 use crate::ContextNumbers;
 
@@ -33,7 +33,7 @@ impl Links {
     }
 }
 
-/// One more context comes last, right under the context `above`. There is room, so it takes no memory.
+/// One more context comes last, right under the context `above`. There is room, so it does not allocate.
 pub(crate) fn add_link(links: &mut Vec<Links>, above: u32)
     requires spare { vec_len links.old < vec_capacity links.old }
     requires few { length links.old.items ≤ CONTEXTS }

@@ -15,7 +15,7 @@ use std::marker::Model;
 use trace_model::Done;
 
 /// The points of a context, sizes rising. Contracts see them as a list, and beside it the room: how many can be added without
-/// memory. The point of the last activation may stand apart, so that it takes no memory to add it: it joins the others as room
+/// memory. The point of the last activation may stand apart, so that adding it does not allocate: it joins the others as room
 /// is made for the next one.
 #[derive(Drop)]
 pub(crate) struct ContextPoints {
@@ -98,7 +98,7 @@ impl ContextPoints {
         Ok(())
     }
 
-    /// Adds an activation that ended. There is room, so it takes no memory.
+    /// Adds an activation that ended. There is room, so it does not allocate.
     fn add(&mut self, ended: Done)
         requires spare { 1 ≤ self.old.room }
         requires points { ArePoints self.old.points }
@@ -131,7 +131,7 @@ pub(crate) fn reserve_up(
 }
 
 /// Adds activations that ended, the innermost first: the first is of the context of the number `from`, and each other of the
-/// one right above that before it. Gives the number of the one above the last. There is room, so it takes no memory.
+/// one right above that before it. Gives the number of the one above the last. There is room, so it does not allocate.
 pub(crate) fn add_up(
     points: &mut Vec<ContextPoints>,
     numbers: &ContextNumbers,

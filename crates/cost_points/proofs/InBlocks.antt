@@ -6,7 +6,7 @@ use Rattle.std.proofs.lemmas.List.{append-nil, drop_all, get_or_append_left, get
 use Rattle.std.proofs.lemmas.List.Edits.{insert-append_left, insert-append_right}
 use Rattle.std.proofs.lemmas.List.Elements.{All-append, All-cons, All-map, All-nil, All-set, All-head, All-tail, All-weaker}
 use Rattle.cost_points.specs.Joined.{IsFilled, joined}
-use Rattle.cost_points.specs.Places.{IsBetween, IsBlockOf, IsGapOf, IsPlaceOf, before, behind, cut, with_item}
+use Rattle.cost_points.specs.Private.Places.{IsBetween, IsBlockOf, IsGapOf, IsPlaceOf, before, behind, cut, with_item}
 use Rattle.cost_points.specs.Keys.{IsRising, put}
 use Rattle.cost_points.specs.Search.{IsAt}
 use Rattle.cost_points.proofs.Put.{put_above, put_at, put_below, put_in, put_same}

@@ -6,5 +6,4 @@ pub mod Search
 pub mod Joined
 pub mod Contents
 pub mod Valid
--- What the private parts owe one another.
-pub mod Places
+pub mod Private

@@ -1,7 +1,7 @@
 //! Items by rising key, in blocks: one more moves the rest of a block, and no other item.
 ghost use Rattle.std.specs.Prelude.{◌≡◌, ◌<◌, ◌≤◌, [], ℕ, get_or, length, map, IfOk, MatchResult, OnErr, OnOk};
 ghost use Rattle.cost_points.specs.Joined.{IsFilled, joined};
-ghost use Rattle.cost_points.specs.Places.{IsBetween, IsBlockOf, IsGapOf, IsPlaceOf, cut, with_item};
+ghost use Rattle.cost_points.specs.Private.Places.{IsBetween, IsBlockOf, IsGapOf, IsPlaceOf, cut, with_item};
 ghost use Rattle.cost_points.specs.Keys.{IsRising};
 ghost use Rattle.cost_points.specs.Search.{FindsKey};
 

@@ -3,7 +3,7 @@ ghost use Rattle.std.specs.Prelude.{◌≡◌, ◌<◌, [], ◌∷◌, ℕ, map,
 ghost use Rattle.std.specs.List.{All};
 ghost use Rattle.std.specs.Vec.{vec_capacity};
 ghost use Rattle.cost_points.specs.Joined.{IsFilled, joined};
-ghost use Rattle.cost_points.specs.Places.{IsGapOf};
+ghost use Rattle.cost_points.specs.Private.Places.{IsGapOf};
 ghost use Rattle.cost_points.specs.Keys.{IsRising, put};
 ghost use Rattle.cost_points.specs.Merging.{merged};
 ghost use Rattle.cost_points.specs.Points.{point_of};
@@ -54,7 +54,7 @@ fn search(points: &[Point], size: u64) -> Result<usize, usize>
 }
 
 /// One more point among points whose sizes rise: the one of its size takes it in, and where there is none it is a new one.
-/// There is room for one more, so it takes no memory.
+/// There is room for one more, so it does not allocate.
 pub fn insert_point(points: &mut Vec<Point>, point: Point)
     requires spare { vec_len points.old < vec_capacity points.old }
     requires rising { IsRising (map (λ p. p.size) points.old.items) }

@@ -5,7 +5,7 @@ use Rattle.std.proofs.lemmas.Grind.{common_steps}
 use Rattle.std.proofs.lemmas.List.{get_or-set_same, get_or-set_other}
 use Rattle.std.proofs.lemmas.List.FromFn.{get_or-range_with_len, length-range_with_len}
 use Rattle.demo_guest.specs.Guest.{routine_start}
-use Rattle.demo_guest.specs.Drafts.{AreRoutines}
+use Rattle.demo_guest.specs.Private.Drafts.{AreRoutines}
 
 -- which label is at a place
 pub label_number : (labels : List ℕ) (k x : ℕ) → labels ≡ range_with_len 2 (length labels) → k < length labels → x ≡ get_or labels k x → x ≡ 2 + k

@@ -7,7 +7,7 @@ use Rattle.rv_isa.specs.declared.instruction.Instr.{Instr}
 use Rattle.rv_isa.specs.declared.instruction.Instr.TheVariants.{Jalr}
 use Rattle.std.specs.Prelude.{pos}
 use Rattle.demo_guest.specs.Guest.{load, reads, routine_code}
-use Rattle.demo_guest.specs.Drafts.{call_lines, plain, routine_lines}
+use Rattle.demo_guest.specs.Private.Drafts.{call_lines, plain, routine_lines}
 use Rattle.demo_guest.proofs.Ranges.{from_zero}
 
 pub calls_size : (labels : List ℕ) → length (flat_map call_lines labels) ≡ 2 * length labels

@@ -8,7 +8,7 @@ use Rattle.rv_asm.specs.declared.line.Line.{Line}
 use Rattle.rv_asm.specs.Assembled.{binding_of}
 use Rattle.rv_asm.specs.Refusals.{first_unbound, is_ready}
 use Rattle.demo_guest.specs.Guest.{routine_start}
-use Rattle.demo_guest.specs.Drafts.{call_lines, plain, start_lines, AreBound, AreRoutines}
+use Rattle.demo_guest.specs.Private.Drafts.{call_lines, plain, start_lines, AreBound, AreRoutines}
 
 -- each line is ready
 abbrev pub are_ready : List (Option ℕ) → List Line → Bool

@@ -9,7 +9,7 @@ use Rattle.rv_isa.specs.Table.{decoded}
 use Rattle.rv_asm.specs.declared.line.Line.{Line}
 use Rattle.rv_asm.specs.Assembled.{instruction_at, offset_between, binding_of}
 use Rattle.demo_guest.specs.Guest.{call, routine_code, routine_start, start}
-use Rattle.demo_guest.specs.Drafts.{call_lines, plain, routine_lines, start_lines, AreBound, AreRoutines}
+use Rattle.demo_guest.specs.Private.Drafts.{call_lines, plain, routine_lines, start_lines, AreBound, AreRoutines}
 
 -- the instructions of lines, of which the first stands at a word
 abbrev pub resolved : List (Option ℕ) → ℕ → List Line → List Instr

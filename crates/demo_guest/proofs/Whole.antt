@@ -12,7 +12,7 @@ use Rattle.rv_asm.specs.Draft.{Draft}
 use Rattle.rv_asm.specs.Assembled.{AreAssembled, instruction_at}
 use Rattle.rv_asm.specs.Refusals.{first_unbound, IsAccepted}
 use Rattle.demo_guest.specs.Guest.{call, ending, instructions, routine_code, start}
-use Rattle.demo_guest.specs.Drafts.{call_lines, lines, plain, start_lines, AreBound}
+use Rattle.demo_guest.specs.Private.Drafts.{call_lines, lines, plain, start_lines, AreBound}
 use Rattle.demo_guest.proofs.Encodable.{calls_encodable, encodable-append, encodable_at, routines_encodable, AreEncodable}
 use Rattle.demo_guest.proofs.Lines.{calls_size}
 use Rattle.demo_guest.proofs.Ready.{are_ready, calls_ready, none_unbound, plain_ready, ready-append, start_ready}

@@ -6,8 +6,8 @@ ghost use Rattle.rv_isa.specs.declared.instruction.ImmOp.TheVariants.{Addi};
 ghost use Rattle.rv_isa.specs.declared.instruction.Instr.TheVariants.{Immediate, Jal};
 ghost use Rattle.rv_asm.specs.Assembled.{binding_of};
 ghost use Rattle.demo_guest.specs.Guest.{ending, instructions, load};
-ghost use Rattle.demo_guest.specs.Drafts.{call_lines, lines, plain, routine_lines, start_lines};
-ghost use Rattle.demo_guest.specs.Drafts.{AreBound, AreRoutines, IsStarted};
+ghost use Rattle.demo_guest.specs.Private.Drafts.{call_lines, lines, plain, routine_lines, start_lines};
+ghost use Rattle.demo_guest.specs.Private.Drafts.{AreBound, AreRoutines, IsStarted};
 
 use crate::program::{bind, emit, emit_all, finish, jump, label};
 use guest_words::limits::DEMO_ROUTINES;

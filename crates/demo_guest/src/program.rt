@@ -1,11 +1,11 @@
-//! The steps of writing a program, where memory is all that can be wanting.
+//! The steps of writing a program, which can fail only out of memory.
 ghost use Rattle.std.specs.Prelude.{◌≡◌, ◌<◌, ◌≤◌, ◌+◌, ◌++◌, length, map, true, None, IfOk, OnOk, All};
 ghost use Rattle.rv_isa.specs.Encoding.{IsEncodable};
 ghost use Rattle.rv_asm.specs.Assembled.{binding_of, AreAssembled};
 ghost use Rattle.rv_asm.specs.Lines.{is_jump};
 ghost use Rattle.rv_asm.specs.Refusals.{IsAccepted};
 ghost use Rattle.rv_asm.specs.Draft.{with_label, with_line, with_binding};
-ghost use Rattle.demo_guest.specs.Drafts.{jump, plain};
+ghost use Rattle.demo_guest.specs.Private.Drafts.{jump, plain};
 
 use rv_asm::{AsmError, Builder, Code, Label};
 use rv_isa::Instr;

@@ -11,7 +11,7 @@ use Rattle.std.proofs.lemmas.List.Sorted.{All-permutation}
 use Rattle.elf_image.specs.declared.headers.SectionHeader.{SectionHeader}
 use Rattle.elf_image.specs.declared.names.Entry.{Entry}
 use Rattle.elf_image.specs.Symbols.{Symbol}
-use Rattle.elf_image.specs.FirstSymbols.{AreFirst, IsEntry, entry_at, symbols_of_entries}
+use Rattle.elf_image.specs.Private.FirstSymbols.{AreFirst, IsEntry, entry_at, symbols_of_entries}
 use Rattle.elf_image.specs.Headers.{section_header, word_at}
 use Rattle.elf_image.specs.Symbols.{is_readable, name_in, section_bytes, symbol_at, symbol_table, symbols, symbols_in}
 use Rattle.elf_image.proofs.FirstSymbols.{symbol_of-same}

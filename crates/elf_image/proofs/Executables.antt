@@ -5,7 +5,7 @@ use Rattle.std.proofs.lemmas.List.Elements.{All-weaker}
 use Rattle.elf_image.specs.declared.headers.FileHeader.{FileHeader}
 use Rattle.elf_image.specs.Symbols.{Symbol}
 use Rattle.elf_image.specs.Fields.{IsFilled}
-use Rattle.elf_image.specs.FirstSymbols.{AreFirst}
+use Rattle.elf_image.specs.Private.FirstSymbols.{AreFirst}
 use Rattle.elf_image.specs.Headers.{file_header}
 use Rattle.elf_image.specs.Image.{Segment, page_count}
 use Rattle.elf_image.specs.Reading.{image_of, names_of}

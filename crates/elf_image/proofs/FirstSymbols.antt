@@ -11,7 +11,7 @@ use Rattle.std.proofs.lemmas.List.Recursion.{found_at, found_nowhere}
 use Rattle.std.proofs.lemmas.List.Sums.{fold_push, position_or_len_is}
 use Rattle.std.proofs.Math.Seq.{get_or-append_seam}
 use Rattle.elf_image.specs.Symbols.{Symbol}
-use Rattle.elf_image.specs.FirstSymbols.{AreFirst}
+use Rattle.elf_image.specs.Private.FirstSymbols.{AreFirst}
 use Rattle.elf_image.specs.Symbols.{first_symbol, goes_before, symbol_of}
 
 -- the symbol that stands for none

@@ -10,7 +10,7 @@ use Rattle.std.proofs.lemmas.List.Sorted.{IsPermutation-map, list_any-IsPermutat
 use Rattle.elf_image.specs.declared.headers.ProgramHeader.{ProgramHeader}
 use Rattle.elf_image.specs.Headers.{file_header}
 use Rattle.elf_image.specs.Image.{Segment, is_code, is_touched, page_count, share_byte, touches}
-use Rattle.elf_image.specs.Layout.{AreCounted}
+use Rattle.elf_image.specs.Private.Layout.{AreCounted}
 use Rattle.elf_image.specs.Segments.{holds_headers, occupied_headers, segment_of, segments_of}
 use Rattle.elf_image.specs.Tests.{any_two, fails_entry}
 use Rattle.elf_image.proofs.PageCounts.{counted_more, pages_counted}

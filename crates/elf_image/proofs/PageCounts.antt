@@ -6,7 +6,7 @@ use Rattle.std.proofs.lemmas.Bool.Decides.{nat_tests}
 use Rattle.std.proofs.lemmas.List.Folds.{list_any-append}
 use Rattle.std.proofs.lemmas.List.Sums.{sum_by-cons}
 use Rattle.elf_image.specs.Image.{Segment, is_touched, page_count, touches}
-use Rattle.elf_image.specs.Layout.{AreCounted}
+use Rattle.elf_image.specs.Private.Layout.{AreCounted}
 
 -- the numbers of a range that are from a up to b
 pub count-between : (a b start n : ℕ) → count_by (λ p. leb a p && ltb p b) (range_with_len start n) ≡ min b (start + n) - max a start

@@ -7,7 +7,7 @@ use Rattle.std.proofs.lemmas.Bool.{cases_eq, eq-eqb, ne_eqb}
 use Rattle.std.proofs.lemmas.List.{get_or-map, length-map, map-append, map-set}
 use Rattle.std.proofs.lemmas.Option.{slice_get-get_or}
 use Rattle.elf_image.specs.declared.symbols.SymbolPlace.{SymbolPlace}
-use Rattle.elf_image.specs.FirstSymbols.{AreFirst}
+use Rattle.elf_image.specs.Private.FirstSymbols.{AreFirst}
 use Rattle.elf_image.specs.Image.{name_beside}
 use Rattle.elf_image.specs.Places.{placed}
 use Rattle.elf_image.specs.Headers.{half_at, word_at}

@@ -7,7 +7,7 @@ use Rattle.std.proofs.lemmas.List.Elements.{All-filter, All-map, filter_passes}
 use Rattle.elf_image.specs.declared.headers.ProgramHeader.{ProgramHeader}
 use Rattle.elf_image.specs.Headers.{file_header}
 use Rattle.elf_image.specs.Image.{IsPlaced, IsSound, is_code, share_byte}
-use Rattle.elf_image.specs.Layout.{IsLoadable}
+use Rattle.elf_image.specs.Private.Layout.{IsLoadable}
 use Rattle.elf_image.specs.Segments.{is_occupied, load_headers, occupied_headers, segment_of, segments_of}
 use Rattle.elf_image.specs.Tests.{fails_entry, fails_overlap, fails_pages, fails_segment_file, fails_segment_place, fails_segment_size, first_of, layout_tests, segment_tests}
 use Rattle.elf_image.proofs.FirstTests.{each_passes}

@@ -6,7 +6,5 @@ pub mod Reading
 pub mod Segments
 pub mod Symbols
 pub mod Tests
--- What the private parts owe one another.
-pub mod FirstSymbols
-pub mod Layout
 pub mod Places
+pub mod Private

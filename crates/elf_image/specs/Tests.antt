@@ -144,7 +144,7 @@ abbrev pub unless_refused : Option ElfError → Result Unit ElfError
 unless_refused None = Ok tt
 unless_refused (Some e) = Err e
 
--- the number of the test that fails, and 0 for want of memory
+-- the number of the test that fails, and 0 for out of memory
 abbrev pub number_of : ElfError → ℕ
 number_of error.Memory = 0
 number_of error.Short = 1

@@ -8,7 +8,7 @@ use thiserror::Error;
 /// Why a file is refused: the first test that it fails. Each test's number stands beside it.
 #[derive(Clone, Copy, Debug, PartialEq, Eq, Error)]
 pub enum ElfError {
-    /// Want of memory, which is no test.
+    /// Out of memory, which is no test.
     #[error("out of memory")]
     Memory = 0,
     /// The file is shorter than a file header.
@@ -79,7 +79,7 @@ impl From<AllocError> for ElfError {
 }
 
 impl ElfError {
-    /// The number of the test that fails, and 0 for want of memory.
+    /// The number of the test that fails, and 0 for out of memory.
     pub fn number(self) -> u8
         ensures { result ≡ number_of self }
     {

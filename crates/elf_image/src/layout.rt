@@ -3,7 +3,7 @@ ghost use Rattle.std.specs.Prelude.{◌≡◌, ◌+◌, ◌%◌, ◌&&◌, ◌==
 ghost use Rattle.std.specs.List.{list_any};
 ghost use Rattle.std.specs.List.Sorted.{IsNonDecreasingBy, IsPermutation};
 ghost use Rattle.elf_image.specs.Image.{page_count};
-ghost use Rattle.elf_image.specs.Layout.{IsLoadable};
+ghost use Rattle.elf_image.specs.Private.Layout.{IsLoadable};
 ghost use Rattle.elf_image.specs.Headers.{file_header};
 ghost use Rattle.elf_image.specs.Segments.{occupied_headers, segments_of};
 ghost use Rattle.elf_image.specs.Tests.{fails_entry, fails_overlap};

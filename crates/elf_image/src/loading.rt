@@ -2,7 +2,7 @@
 ghost use Rattle.std.specs.Prelude.{◌≡◌, ◌≢◌, Some, None, length, All, IfOk, IfErr};
 ghost use Rattle.elf_image.specs.Headers.{file_header};
 ghost use Rattle.elf_image.specs.Image.{page_count};
-ghost use Rattle.elf_image.specs.Layout.{IsLoadable};
+ghost use Rattle.elf_image.specs.Private.Layout.{IsLoadable};
 ghost use Rattle.elf_image.specs.Segments.{occupied_headers, segments_of};
 ghost use Rattle.elf_image.specs.Tests.{first_of, layout_tests};
 ghost use Rattle.elf_image.specs.declared.error.ElfError.TheVariants as error;

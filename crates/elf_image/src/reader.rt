@@ -14,7 +14,7 @@ use std::alloc::Global;
 /// The executable of a file, or the first of the tests that the file fails. Names need no test: a file whose section or
 /// symbol tables can't be read has none.
 pub fn read_image(alloc: Global, file: &[u8]) -> Result<Image, ElfError>
-    // Want of memory may come at any file, every other error at those whose first failing test it is.
+    // Out of memory may come at any file, every other error at those whose first failing test it is.
     ensures refused { IfErr result (λ e. e ≢ ElfError.Memory → first_refusal file.now ≡ Some e) }
     ensures accepted { OnOk result (first_refusal file.now ≡ None) }
     ensures image { IfOk result (λ image. image ≡ image_of file.now) }

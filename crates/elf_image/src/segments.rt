@@ -2,7 +2,7 @@
 ghost use Rattle.std.specs.Prelude.{◌≡◌, ◌≢◌, ◌<◌, ◌≤◌, ◌^◌, ◌+◌, ◌*◌, ℕ, List, length, filter, map, All, nat_lt, ◌==◌, ◌||◌, Some, None, IfOk, IfErr};
 ghost use Rattle.std.specs.List.{list_any};
 ghost use Rattle.elf_image.specs.Headers.{file_header, program_headers};
-ghost use Rattle.elf_image.specs.Layout.{IsLoadable};
+ghost use Rattle.elf_image.specs.Private.Layout.{IsLoadable};
 ghost use Rattle.elf_image.specs.Segments.{header_place, is_load, is_occupied, load_headers, occupied_headers, rights_of, segment_of};
 ghost use Rattle.elf_image.specs.Tests.{file_part_tests, first_of, place_tests, segment_tests, type_tests, unless_refused};
 ghost use Rattle.elf_image.specs.declared.error.ElfError.TheVariants as error;

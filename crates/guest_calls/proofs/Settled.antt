@@ -1,4 +1,4 @@
--- From the calls of the state to the calls of the kernel.
+-- From the state's system calls to the kernel's.
 use Rattle.std.proofs.Common.{◌≡◌, List, ◌++◌, Ok, Err, ap, sym, subst, ◌∙◌}
 use Rattle.std.specs.Prelude.{Result, IfOk, OnErr}
 use Rattle.std.specs.declared.alloc.AllocError.{AllocError}

@@ -43,7 +43,7 @@ bytes_left k StandardInput = drop k.stdin_position k.stdin
 bytes_left k (InputFile input position) = drop position (input_bytes k input)
 bytes_left k _ = []
 
--- the position of the number moves by so many bytes
+-- the position of the descriptor moves by `n` bytes
 abbrev pub advanced : Descriptor → ℕ → ℕ → KernelState → KernelState
 advanced StandardInput fd n k = record k { stdin_position = k.stdin_position + n }
 advanced (InputFile input position) fd n k = with_descriptor k fd (InputFile input (position + n))

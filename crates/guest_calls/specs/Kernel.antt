@@ -60,7 +60,7 @@ with_descriptor k fd d = record k { descriptors = slice_set k.descriptors fd d }
 abbrev pub step_time : ℕ
 step_time = 1000
 
--- where the clock stands still
+-- the last time of the clock, where it stays
 abbrev pub last_time : ℕ
 last_time = 2 ^ 64 - 1
 

@@ -1,4 +1,4 @@
--- What a call of the kernel keeps, whatever it does.
+-- What a system call keeps, whatever it does.
 use Rattle.std.specs.Prelude.{◌≡◌, ◌≢◌, ℕ, ◌<◌, ◌≤◌, ◌+◌, ◌%◌, ◌^◌, Bool, true, false, not, ◌==◌, List, [], ◌∷◌, ◌++◌, length, map, filter, is_some, None}
 use Rattle.guest_words.specs.declared.limits.TheConstants.{CALL_EVENTS}
 use Rattle.trace_model.specs.declared.event_kinds.Event.{Event}

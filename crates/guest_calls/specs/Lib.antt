@@ -18,5 +18,4 @@ pub mod Table
 pub mod Threads
 pub mod Vectors
 pub mod Waking
--- What the private parts owe one another.
-pub mod IoVecRefusal
+pub mod Private

@@ -115,7 +115,7 @@ abbrev pub words_touched : ℕ → ℕ → ℕ
 words_touched at zero = 0
 words_touched at (suc n) = word_count at (suc n)
 
--- the kernel reads so many bytes for the thread
+-- the kernel reads `n` bytes for the thread
 abbrev pub reads : ℕ → ℕ → ℕ → CallResult → CallResult
 reads tid at n r = record r { guest = record r.guest { events = r.guest.events ++ read_event tid at n } }
 
@@ -152,7 +152,7 @@ abbrev pub puts : ℕ → List ℕ → CallResult → CallResult
 puts channel bytes r = record r { out = output channel bytes }
 
 -- ---- what the tests look at
--- each of so many bytes is mapped and can be read
+-- each of `n` bytes is mapped and can be read
 abbrev pub readable : Call → ℕ → ℕ → Bool
 readable c at n = can_read c.memory at n
 

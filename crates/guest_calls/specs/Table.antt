@@ -70,6 +70,6 @@ abbrev pub call_numbered : ℕ → List (ℕ × (Call → CallResult)) → Call 
 call_numbered n [] = always enosys
 call_numbered n (row ∷ rows) = if row.0 == n then row.1 else call_numbered n rows
 
--- what a call of the kernel answers and does
+-- what a system call answers and does
 unfoldable pub call : Call → CallResult
 call c = call_numbered (number c) table c

@@ -58,7 +58,7 @@ pub(crate) fn fill_word(
     fill(memory, held, events, at, &value.to_le_bytes());
 }
 
-/// The kernel has read so many bytes for the thread, each of which can be read.
+/// The kernel has read `bytes` bytes for the thread, each of which can be read.
 #[tactic(auto, using(crate::proofs::Reach::readable_end, crate::proofs::Reach::read_some))]
 pub(crate) fn note_read(memory: &GuestMemory, events: &mut Events, tid: Tid, at: Addr, bytes: u32)
     requires reach { can_read (memory_of memory.now) at bytes ≡ true }

@@ -55,7 +55,7 @@ impl State {
         }
     }
 
-    /// Moves the position of a number by so many bytes.
+    /// Moves the position of a descriptor by `count` bytes.
     pub(crate) fn advance(&mut self, d: Descriptor, fd: u32, count: usize)
         requires in_range { fd < 32 }
         requires within { position_of self.old d + count < 2 ^ 63 }
@@ -211,7 +211,7 @@ fn bytes_from(bytes: &[u8], position: u64) -> &[u8]
     }
 }
 
-/// So many bytes, or all where there are fewer.
+/// The first `most` bytes, or all if there are fewer.
 pub(crate) fn first_bytes(bytes: &[u8], most: u32) -> &[u8]
     ensures value { result.now ≡ take most bytes.now }
     ensures few { length result.now ≤ most }

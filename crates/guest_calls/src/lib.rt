@@ -1,4 +1,4 @@
-//! The calls of the kernel: those of the table in specs/Table.antt, each modelled on its Linux manual page, with its number
+//! System calls: those of the table in specs/Table.antt, each modelled on its Linux manual page, with its number
 //! on riscv32. Any other number answers that there is no such call.
 //!
 //! The kernel is seen as one state and the bytes that the last call wrote.

@@ -5,7 +5,7 @@ ghost use Rattle.guest_memory.specs.Memory.{number_at};
 ghost use Rattle.rv_exec.specs.Accesses.{can_read, can_write};
 ghost use Rattle.guest_calls.specs.Outcome.{asked, guest_of, Does, IsUntouched};
 ghost use Rattle.guest_calls.specs.Results.{first_answer};
-ghost use Rattle.guest_calls.specs.IoVecRefusal.{IsRefusal};
+ghost use Rattle.guest_calls.specs.Private.IoVecRefusal.{IsRefusal};
 ghost use Rattle.guest_calls.specs.Vectors.{part_at, parts_at, table_tests, total, carried, all_in_reach, filled_parts, read_events, bytes_of};
 ghost use Rattle.guest_calls.specs.Vectors as specs;
 

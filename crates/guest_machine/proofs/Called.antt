@@ -1,4 +1,4 @@
--- What a call of the kernel leaves of a machine.
+-- What a system call leaves of a machine.
 use Rattle.std.proofs.Common.{All, subst, ◌≤◌, ◌≡◌, ℕ, ◌+◌, ◌%◌, ◌^◌, ◌<◌, List, [], ◌∷◌, ◌++◌, length, map, Bool, true, false, not, ap, ap₂, append_assoc, sym, refl, ◌∙◌, arith, None, cond}
 use Rattle.std.specs.Prelude.{◌==◌, filter}
 use Rattle.std.proofs.lemmas.List.{length-map, length-append, map-append}

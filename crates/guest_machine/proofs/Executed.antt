@@ -32,7 +32,7 @@ executed-went m tid i accessed c e = ap (after_effect m tid i) (sym e)
 pub executed-fault : (m : MachineState) (tid : ℕ) (i : Instr) (kind : FaultKind) (c : ExecState) → (Fault kind, c) ≡ effect tid i (exec_state_of m tid) → executed m tid (Ok i) ≡ faulted m tid kind
 executed-fault m tid i kind c e = ap (after_effect m tid i) (sym e)
 
--- it is no call of the kernel
+-- it is no system call
 pub executed-no_call : (m : MachineState) (tid : ℕ) (i : Instr) (c : ExecState) → (KernelCall, c) ≡ effect tid i (exec_state_of m tid) → (i ≡ Ecall → ⊥) → ⊥
 executed-no_call m tid i c e other = other ((effect_calls tid i (exec_state_of m tid)).0 (ap (λ p. p.0) (sym e)))
 

@@ -37,7 +37,7 @@ steps-append [] ys = omega arith
 steps-append (Step tid ∷ xs) ys = omega (arith, steps-append xs ys)
 steps-append (_ ∷ xs) ys = steps-append xs ys
 
--- Events of a step beside its own: none is a step, and they are at most so many and read at most so many words.
+-- Events of a step beside its own: none is a step, they are at most `most`, and they read at most `words` words.
 record AreFew (events : List Event) (most words : ℕ) : Type 0 where
   stepless : steps events ≡ 0
   few : length events ≤ most

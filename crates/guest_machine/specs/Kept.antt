@@ -18,7 +18,7 @@ pub record Parts : Type 0 where
   pub held : Reservations
   -- where thread 1 began
   pub entry : ℕ
-  -- whether the last step was a call of the kernel
+  -- whether the last step was a system call
   pub called : Bool
 
 -- the state that they stand for

@@ -10,5 +10,4 @@ pub mod Parts
 pub mod Setup
 pub mod Laws
 pub mod Running
--- What the private parts owe one another.
-pub mod Carrying
+pub mod Private

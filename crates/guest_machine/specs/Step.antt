@@ -1,4 +1,4 @@
--- One step of one thread: an instruction, or a call of the kernel.
+-- One step of one thread: an instruction, or a system call.
 use Rattle.std.specs.Prelude.{ℕ, ◌+◌, ◌%◌, ◌^◌, List, [], ◌∷◌, ◌++◌, map, slice_set, Option, Some, None, Result, Ok, Err}
 use Rattle.guest_words.specs.declared.endings.FaultKind.{FaultKind}
 use Rattle.guest_words.specs.declared.endings.FaultKind.TheVariants as fault
@@ -74,7 +74,7 @@ went m tid i accessed c = record {
   outcome = Went;
 }
 
--- ---- a call of the kernel
+-- ---- a system call
 abbrev pub call_of : MachineState → ℕ → calls.Call
 call_of m tid = record { tid = tid; registers = registers_of m.harts tid; kernel = m.kernel; memory = m.memory; held = m.held }
 

@@ -43,7 +43,7 @@ pub(crate) struct Guest {
     pub(crate) held: Reservations,
     /// Where thread 1 began.
     pub(crate) entry: Addr,
-    /// Whether the last step was a call of the kernel.
+    /// Whether the last step was a system call.
     pub(crate) called: bool,
 }
 
@@ -75,7 +75,7 @@ impl Guest {
         }
     }
 
-    // Carries out an instruction, which is no call of the kernel, or says how it faults.
+    // Carries out an instruction, which is no system call, or says how it faults.
     #[inline(always)]
     fn carry_out(&mut self, tid: Tid, pc: Addr, instruction: &Instr) -> Result<Advanced, FaultKind>
         requires pc { pc ≡ pc_of (machine_of (parts_of self.old)) tid }
@@ -184,7 +184,7 @@ impl Guest {
     }
 
     /// Runs one step of a thread that can run. The events are those that are told and those that are added. An instruction
-    /// other than ECALL takes no memory.
+    /// other than ECALL does not allocate.
     pub(crate) fn advance(&mut self, tid: Tid, events: &mut Events) -> Result<Advanced, AllocError>
         requires sound { IsSound (machine_of (parts_of self.old)) }
         requires can_run { can_run (machine_of (parts_of self.old)) tid ≡ true }
@@ -228,7 +228,7 @@ impl Guest {
         }
     }
 
-    /// Runs one step of a thread that can run, and adds its events. An instruction other than ECALL takes no memory where
+    /// Runs one step of a thread that can run, and adds its events. An instruction other than ECALL does not allocate if
     /// there is room for four events.
     pub(crate) fn step(&mut self, tid: Tid, events: &mut Events) -> Result<Stepped, AllocError>
         requires sound { IsSound (machine_of (parts_of self.old)) }

@@ -5,7 +5,7 @@ ghost use Rattle.guest_memory.specs.Guest.{memory_of};
 ghost use Rattle.rv_exec.specs.Effects.{exec_state_of};
 ghost use Rattle.trace_model.specs.declared.observer.Observed.TheVariants.{Taken};
 ghost use Rattle.trace_model.specs.Observing.{MayTakeAll, ObservesAll};
-ghost use Rattle.guest_machine.specs.Carrying.{Carries, IsStateOf, IsStepOf, MayCarry};
+ghost use Rattle.guest_machine.specs.Private.Carrying.{Carries, IsStateOf, IsStepOf, MayCarry};
 ghost use Rattle.guest_machine.specs.Machine.{MachineState};
 ghost use Rattle.guest_machine.specs.Running.{ObservesSteps};
 ghost use Rattle.guest_machine.specs.Told.{IsInstruction, steps_of};

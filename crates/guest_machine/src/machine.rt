@@ -91,8 +91,8 @@ impl Machine {
         }
     }
 
-    /// Makes at most so many steps of a thread that can run, one after the other, while the instruction of each can run and is
-    /// no ECALL, and while the observer takes its events. It takes no memory but the observer's: where that refuses some, nothing
+    /// Makes at most `most` steps of a thread that can run, one after the other, while the instruction of each can run and is
+    /// no ECALL, and while the observer takes its events. Out of memory for decoded code or in the observer, nothing
     /// more is known of either.
     pub fn run_known<W: Observer>(
         &mut self,
@@ -113,7 +113,7 @@ impl Machine {
     }
 
     /// Runs one step of a thread that can run. The events of an instruction that went are told by what it did, and those of
-    /// any other step are added. An instruction other than ECALL takes no memory.
+    /// any other step are added. An instruction other than ECALL does not allocate.
     pub fn advance(&mut self, tid: Tid, events: &mut Events) -> Result<Advanced, AllocError>
         requires { can_run (machine_of self.old) tid ≡ true }
         ensures step { IfOk result (λ advanced. Steps (step (machine_of self.old) tid)
@@ -127,7 +127,7 @@ impl Machine {
         self.guest.advance(tid, events)
     }
 
-    /// Runs one step of a thread that can run, and adds its events. An instruction other than ECALL takes no memory where
+    /// Runs one step of a thread that can run, and adds its events. An instruction other than ECALL does not allocate if
     /// there is room for four events.
     pub fn step(&mut self, tid: Tid, events: &mut Events) -> Result<Stepped, AllocError>
         requires { can_run (machine_of self.old) tid ≡ true }
@@ -143,7 +143,7 @@ impl Machine {
     }
 
     /// Wakes all threads that are due by the clock, each with its deadline's answer in a0. Where then no thread can run and a
-    /// deadline is left, the time goes on to the earliest, and those due are woken. It takes no memory.
+    /// deadline is left, the time goes on to the earliest, and those due are woken. It does not allocate.
     pub fn wake_due(&mut self)
         ensures woken { machine_of self.new ≡ woken (machine_of self.old) }
         ensures out { out_of self.new ≡ out_of self.old }

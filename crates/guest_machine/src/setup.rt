@@ -29,7 +29,7 @@ pub enum SetupError {
     /// The pages of the image and of the stack are more than `PAGES`.
     #[error("too many pages")]
     Pages,
-    /// Want of memory.
+    /// Out of memory.
     #[error("out of memory")]
     Memory,
 }

@@ -35,7 +35,7 @@ pub enum Advanced {
         target: Addr,
         back: Addr,
     },
-    /// A call of the kernel, or an instruction that can't run.
+    /// A system call, or an instruction that can't run.
     Other {
         stepped: Stepped,
     },

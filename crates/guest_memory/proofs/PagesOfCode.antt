@@ -5,7 +5,7 @@ use Rattle.std.proofs.lemmas.List.{get_or-set_other, get_or-set_same, get_or_pas
 use Rattle.guest_memory.specs.declared.refusal.Permission.TheVariants as permission
 use Rattle.guest_memory.specs.Memory.{Memory, loaded, with_bytes}
 use Rattle.guest_memory.specs.Code.{instruction_of}
-use Rattle.guest_memory.specs.CodePages.{AreForgotten, IsIndex, known_in, no_code, page_at}
+use Rattle.guest_memory.specs.Private.CodePages.{AreForgotten, IsIndex, known_in, no_code, page_at}
 use Rattle.guest_memory.proofs.KeptCode.{Holds, fetched, holds_after, loads_stay}
 use Rattle.rv_isa.specs.Table.{decoded}
 use Rattle.rv_isa.specs.declared.instruction.Instr.{Instr}

@@ -2,7 +2,7 @@
 use Rattle.std.proofs.Common.{◌≡◌, ◌≢◌, ℕ, ◌+◌, ◌-◌, ◌<◌, List, length, get_or, set, ap, sym, ◌∙◌, arith, inl, inr, None}
 use Rattle.std.proofs.lemmas.Bool.{cases_eq, cases_lt}
 use Rattle.std.proofs.lemmas.List.{get_or-set_other, get_or-set_same, length-set}
-use Rattle.guest_memory.specs.CodePages.{IsIndex, page_at}
+use Rattle.guest_memory.specs.Private.CodePages.{IsIndex, page_at}
 use Rattle.guest_memory.proofs.PagesOfCode.{Page, Pages, inside, same_page, within}
 
 -- the number of the last page with code

@@ -1,7 +1,7 @@
 -- The instructions that are known.
 use Rattle.std.specs.Prelude.{◌≡◌, ℕ, ◌*◌, ◌/◌, false, Option, Some, None, Result, Ok, Err}
 use Rattle.guest_memory.specs.Memory.{Memory, is_among, loaded}
-use Rattle.guest_memory.specs.CodePages.{known_in}
+use Rattle.guest_memory.specs.Private.CodePages.{known_in}
 use Rattle.guest_memory.specs.declared.refusal.MemError.{MemError}
 use Rattle.guest_memory.specs.declared.refusal.Permission.TheVariants as permission
 use Rattle.guest_memory.specs.declared.code_cache.CodeCache.{CodeCache}

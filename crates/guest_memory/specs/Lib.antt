@@ -1,5 +1,4 @@
 pub mod Code
-pub mod CodePages
 pub mod Guest
 pub mod Holders
 pub mod Memory
@@ -7,3 +6,4 @@ pub mod Pages
 pub mod Reserved
 pub mod ReservedBy
 pub mod State
+pub mod Private

@@ -47,12 +47,12 @@ page_rights m page = if nat_lt page 1048576 then m.rights page else None
 abbrev pub byte_refusal : Memory → Permission → ℕ → Option MemError
 byte_refusal m permission at = page_refusal permission (page_rights m (at / 4096))
 
--- why it is refused on the first of so many bytes, in rising order, on which it is refused
+-- why an access is refused: on the first of its `n` bytes, in rising order, on which it is refused
 abbrev pub first_refusal : Memory → Permission → ℕ → ℕ → Option MemError
 first_refusal m permission at zero = None
 first_refusal m permission at (suc n) = option_or (byte_refusal m permission at) (first_refusal m permission (at + 1) n)
 
--- so many bytes, from an address on
+-- `n` bytes, from an address on
 abbrev pub bytes_at : Memory → ℕ → ℕ → List ℕ
 bytes_at m at zero = []
 bytes_at m at (suc n) = m.byte at ∷ bytes_at m (at + 1) n
@@ -72,11 +72,11 @@ abbrev pub unless_refused : {T : Type 0} → Option MemError → T → Result T 
 unless_refused None value = Ok value
 unless_refused (Some refusal) value = Err refusal
 
--- what a load of so many bytes answers
+-- what a load of `n` bytes answers
 abbrev pub loaded : Memory → Permission → ℕ → ℕ → Result ℕ MemError
 loaded m permission at n = unless_refused (first_refusal m permission at n) (number_at m at n)
 
--- each of so many bytes is mapped
+-- each of `n` bytes is mapped
 abbrev pub AreMapped : Memory → ℕ → ℕ → Type 0
 AreMapped m at n = (q : ℕ) → at ≤ q → q < at + n → is_some (m.rights (q / 4096)) ≡ true
 

@@ -27,7 +27,7 @@ holds held tid word = option_map_or (λ w. w == word) (held tid) false
 abbrev pub is_by : Option ℕ → ℕ → Bool
 is_by writer tid = option_map_or (λ t. t == tid) writer false
 
--- whether a write of so many words from the first on drops a thread's reservation: it is another's, of one of them
+-- whether a write of `count` words from the first on drops a thread's reservation: it is another's, of one of them
 abbrev pub is_dropped : Reserved → Option ℕ → ℕ → ℕ → ℕ → Bool
 is_dropped held writer first count tid = not (is_by writer tid) && option_map_or (is_among first count) (held tid) false
 

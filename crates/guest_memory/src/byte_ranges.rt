@@ -56,7 +56,7 @@ impl Directory {
         number_from(&bytes, 0, size)
     }
 
-    /// What a load of so many bytes answers.
+    /// What a load of that size answers.
     #[inline(always)]
     pub fn loaded(&self, permission: Permission, at: u64, size: Size) -> Result<u32, MemError>
         requires { at < 2 ^ 32 }
@@ -141,7 +141,7 @@ impl Directory {
     }
 }
 
-// The number that so many bytes of a slice give, the lowest byte first.
+// The little-endian number of that size in a slice.
 #[inline(always)]
 fn number_from(bytes: &[u8], start: usize, size: Size) -> u32
     requires { start + byte_count size ≤ length bytes.now }

@@ -1,6 +1,6 @@
 //! The guest's code, decoded by page.
 ghost use Rattle.std.specs.Prelude.{◌≡◌, ◌≢◌, ◌<◌, ◌≤◌, ◌+◌, ◌/◌, ◌%◌, ◌^◌, ℕ, List, Some, Ok, get_or, length, IfOk, IfSome, OnOk};
-ghost use Rattle.guest_memory.specs.CodePages.{IsIndex, known_in};
+ghost use Rattle.guest_memory.specs.Private.CodePages.{IsIndex, known_in};
 ghost use Rattle.guest_memory.specs.Memory.{Memory, loaded, with_bytes};
 ghost use Rattle.guest_memory.specs.declared.refusal.Permission.TheVariants as permission;
 ghost use Rattle.guest_words.specs.declared.limits.TheConstants.{PAGES};

@@ -1,6 +1,6 @@
 //! The code of one page of the guest, decoded.
 ghost use Rattle.std.specs.Prelude.{◌≡◌, ◌<◌, ◌≤◌, ℕ, List, Option, None, Some, get_or, length, replicate, slice_set, IfOk};
-ghost use Rattle.guest_memory.specs.CodePages.{AreForgotten};
+ghost use Rattle.guest_memory.specs.Private.CodePages.{AreForgotten};
 ghost use Rattle.rv_isa.specs.declared.instruction.Instr.{Instr};
 
 use rv_isa::Instr;

@@ -200,7 +200,7 @@ impl GuestMemory {
         }
     }
 
-    /// Whether each of so many bytes can be read.
+    /// Whether each of `bytes` bytes can be read.
     pub fn can_read(&self, at: Addr, bytes: u64) -> bool
         ensures { result ≡ is_none (first_refusal (memory_of self.now) permission.Read at bytes) }
     {
@@ -209,7 +209,7 @@ impl GuestMemory {
             .is_none()
     }
 
-    /// Whether each of so many bytes can be written.
+    /// Whether each of `bytes` bytes can be written.
     pub fn can_write(&self, at: Addr, bytes: u64) -> bool
         ensures { result ≡ is_none (first_refusal (memory_of self.now) permission.Write at bytes) }
     {

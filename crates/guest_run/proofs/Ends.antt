@@ -15,8 +15,8 @@ use Rattle.guest_run.specs.declared.run.Runner.{Runner}
 use Rattle.guest_run.specs.declared.run.Turned.{Turned}
 use Rattle.guest_run.specs.declared.run_error.RunError.{RunError}
 use Rattle.guest_run.specs.declared.run_error.RunError.TheVariants.{CannotPut, Memory}
-use Rattle.guest_run.specs.CurrentTurn.{position, recorded, with_present}
-use Rattle.guest_run.specs.Going.{Advances, GoesOn, IsGoing, IsNewRunner, IsOver, IsPastOf, MayAdvance, Remains, Standing, TurnEnds, observed, standing_of}
+use Rattle.guest_run.specs.Private.CurrentTurn.{position, recorded, with_present}
+use Rattle.guest_run.specs.Private.Going.{Advances, GoesOn, IsGoing, IsNewRunner, IsOver, IsPastOf, MayAdvance, Remains, Standing, TurnEnds, observed, standing_of}
 use Rattle.guest_run.specs.Machine.{guest}
 use Rattle.guest_run.specs.Output.{Sinks, with_output}
 use Rattle.guest_run.specs.Profiled.{Profiled, first_past}
@@ -31,7 +31,7 @@ use Rattle.guest_run.proofs.ShortParts.{first_short}
 pub not_begun : (p : Profiled) (before : Sinks) → IsGivenUp p.moves before before
 not_begun p before = record { earlier = []; later = p.moves; are = refl; output = sym (output-none before) }
 
--- all of it is observed, but the recording wants memory
+-- all of it is observed, but the recording runs out of memory
 over_given_up : {W : Type 0} (Stands : W → List Event → Type 0) (p : Profiled) (before : Sinks) (r : Standing) (observer : W) (after : Sinks) (finish : Finish) →
     IsOver Stands p before r observer after finish → IsGivenUp p.moves before after
 over_given_up Stands p before r observer after finish over = record { earlier = p.moves; later = []; are = append-nil p.moves; output = over.output }

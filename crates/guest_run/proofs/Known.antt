@@ -21,13 +21,13 @@ use Rattle.guest_run.specs.declared.turn_status.TurnStatus.TheVariants.{Ends, Go
 use Rattle.guest_run.specs.declared.turns.Choice.TheVariants.{Moves}
 use Rattle.guest_run.specs.declared.turns.CurrentTurn.{CurrentTurn}
 use Rattle.guest_run.specs.declared.turns.Recorder.{Recorder}
-use Rattle.guest_run.specs.CurrentTurn.{chosen_of, position, recorded, with_present}
-use Rattle.guest_run.specs.Going.{Advances, IsOver, MakesAMove, MayAdvance, Remains, Standing, moved, observed, past_by}
+use Rattle.guest_run.specs.Private.CurrentTurn.{chosen_of, position, recorded, with_present}
+use Rattle.guest_run.specs.Private.Going.{Advances, IsOver, MakesAMove, MayAdvance, Remains, Standing, moved, observed, past_by}
 use Rattle.guest_run.specs.Machine.{guest, turn_status_of}
 use Rattle.guest_run.specs.Output.{Sinks, with_sent}
 use Rattle.guest_run.specs.Run.{Move, Position, chosen, chosen_by, current, recording}
 use Rattle.guest_run.specs.RunEnds.{RunEnds}
-use Rattle.guest_run.specs.Steps.{StepEnds}
+use Rattle.guest_run.specs.Private.Steps.{StepEnds}
 use Rattle.guest_run.proofs.Advances.{gives_up, goes_turn, may_take, over_moved}
 use Rattle.guest_run.proofs.Ends.{advances_by, ends_failed, may_advance, next_by, over_by}
 use Rattle.guest_run.proofs.Output.{output-none}
@@ -88,7 +88,7 @@ recorded_more k m rest some on = by m.opens on
     by true is = absurd (cc)
     by false is = ap (λ entries. k.turns ++ entries) (present_more k.tid k.made (current rest) (recording rest) some)
 
--- ---- so many moves of the turn, as the past alone shows them
+-- ---- a number of moves of the turn, as the past alone shows them
 -- a past, in place of an observer
 abbrev Same : List Event → List Event → Type 0
 Same past other = past ≡ other
@@ -168,7 +168,7 @@ module _ (fits : List Event → Bool) (closed : IsPrefixClosed fits) (first : Li
   abbrev counted : ℕ → ℕ → Standing
   counted l k = record { state = s.state; turn = record s.turn { left = l }; recorder = record s.recorder { made = k } }
 
-  -- the run remains after so many moves
+  -- the run remains after that number of moves
   going : (n : ℕ) → n ≤ most → AllGoOn s.state s.turn.tid n → fits (next n) ≡ true → Remains Same fits first start before (made + n) (moved s n) (next n) now
   going zero low all fit =
       subst (λ k. Remains Same fits first start before k (moved s 0) past now) (let e : made ≡ made + 0 = omega arith in e)

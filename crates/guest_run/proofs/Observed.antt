@@ -7,7 +7,7 @@ use Rattle.trace_model.specs.declared.event_kinds.Event.{Event}
 use Rattle.trace_model.specs.Cut.{IsPrefixClosed, cut, past_after}
 use Rattle.trace_model.proofs.Cut.{cut-earlier, cut-fits, fits-earlier, past_after-append}
 use Rattle.guest_machine.specs.Machine.{MachineState}
-use Rattle.guest_run.specs.Going.{Leads, observed, past_by, with_moves}
+use Rattle.guest_run.specs.Private.Going.{Leads, observed, past_by, with_moves}
 use Rattle.guest_run.specs.Machine.{guest}
 use Rattle.guest_run.specs.Profiled.{Profiled, moves_kept, profiled}
 use Rattle.guest_run.specs.Run.{Move, Position, WrittenRun, events_of, run_from, with_move}

@@ -12,7 +12,7 @@ use Rattle.guest_machine.specs.Step.{step}
 use Rattle.guest_machine.proofs.Follows.{every_step_continues}
 use Rattle.guest_machine.proofs.Limits.{every_step_within}
 use Rattle.guest_machine.proofs.StepParts.{every_step_part, step_counts, steps-append}
-use Rattle.guest_run.specs.Going.{IsPastOf}
+use Rattle.guest_run.specs.Private.Going.{IsPastOf}
 use Rattle.guest_run.proofs.Guarded.{limits_kept, stands_kept}
 use Rattle.guest_run.proofs.Counted.{steps-reverse}
 use Rattle.guest_run.proofs.Formed.{AllFollow, all_after, formed_of}

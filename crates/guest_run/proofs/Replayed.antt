@@ -12,7 +12,7 @@ use Rattle.guest_run.specs.Machine.{Progress, Machine, guest}
 use Rattle.guest_run.specs.Run.{Move, Position, Chosen, by_turn, chosen_by, chosen, position_after, with_move, by_turn_status, move_of, after_step, go_on, run_from, run, start, current, recording}
 use Rattle.guest_run.specs.Run.Chosen.{Moves, Stops}
 use Rattle.guest_run.specs.Profiled.{Profiled, profiled}
-use Rattle.guest_run.specs.Watched.{watched, with_cut}
+use Rattle.guest_run.specs.Private.Watched.{watched, with_cut}
 use Rattle.guest_run.specs.Laws.{IsNoMismatch, ReplaysRun, ReplaysProfiled, scheduler}
 use Rattle.guest_run.proofs.Chosen.{Has-turn}
 use Rattle.guest_run.proofs.Watched.{profiled_is_watched}

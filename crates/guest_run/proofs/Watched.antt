@@ -15,7 +15,7 @@ use Rattle.guest_run.specs.Machine.{Progress, Machine}
 use Rattle.guest_run.specs.Run.{Move, WrittenRun, Position, Chosen, by_turn, chosen_by, chosen, position_after, with_move, by_turn_status, move_of, after_step, go_on, run_from, run, start, events_of}
 use Rattle.guest_run.specs.Run.Chosen.{Moves, Stops}
 use Rattle.guest_run.specs.Profiled.{moves_kept, Profiled, profiled}
-use Rattle.guest_run.specs.Watched.{watched_step, watched, with_cut}
+use Rattle.guest_run.specs.Private.Watched.{watched_step, watched, with_cut}
 
 abbrev pub with_past : {State : Type 0} → List Event → Position State → Position (List Event × State)
 with_past past at = record { state = (past, at.state); turns = at.turns; left = at.left }

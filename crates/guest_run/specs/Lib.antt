@@ -6,8 +6,4 @@ pub mod Output
 pub mod RunEnds
 pub mod Laws
 pub mod Traces
--- What the private parts owe one another.
-pub mod Watched
-pub mod CurrentTurn
-pub mod Steps
-pub mod Going
+pub mod Private

@@ -54,7 +54,7 @@ chosen_by machine at zero = asked machine at.turns (machine.wake at.state)
 unfoldable pub chosen : {State : Type 0} → Machine State → Position State → Chosen State
 chosen machine at = chosen_by machine at at.left
 
--- the position after a step, with so many moves left
+-- the position after a step, with `left` moves left of the turn
 abbrev pub position_after : {State : Type 0} → Position State → State → ℕ → Position State
 position_after at state left = record { state = state; turns = at.turns; left = left }
 
@@ -77,7 +77,7 @@ abbrev pub go_on : {State : Type 0} → Machine State → (Position State → Wr
 go_on machine rest (Moves opens at) = after_step rest opens at (machine.step at.state at.turns.last)
 go_on machine rest (Stops finish) = record { moves = []; finish = finish }
 
--- The run from a position on, of at most so many moves. The budget is looked at before the turn rule.
+-- The run from a position on, of at most as many moves as the budget. The budget is looked at before the turn rule.
 unfoldable pub run_from : {State : Type 0} → Machine State → ℕ → Position State → WrittenRun
 run_from machine zero at = record { moves = []; finish = Budget }
 run_from machine (suc more) at = go_on machine (run_from machine more) (chosen machine at)

@@ -45,7 +45,7 @@ pub record IsGivenUp (moves : List Move) (before after : Sinks) : Type 0 where
   pub are : earlier ++ later ≡ moves
   pub output : after ≡ with_output earlier before
 
--- How a run ends, of which this is observed: whole, or given up for a put that failed or for want of memory.
+-- How a run ends, of which this is observed: whole, or given up because a put failed or memory ran out.
 abbrev pub RunEnds : {W : Type 0} → (W → List Event → Type 0) → Profiled → Sinks → W → Sinks → Result Ended RunError → Type 0
 RunEnds Stands p before observer after (Ok ended) = IsWhole Stands p before observer after ended
 RunEnds Stands p before observer after (Err (CannotPut channel)) = StopsAtPut channel p.moves before after

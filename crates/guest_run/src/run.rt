@@ -3,8 +3,8 @@ ghost use Rattle.std.specs.Prelude.{◌≡◌, ◌≤◌, ◌+◌, ◌<◌, [], 
 ghost use Rattle.trace_model.specs.declared.event_kinds.Event.{Event};
 ghost use Rattle.guest_machine.specs.Kept.{machine_of};
 ghost use Rattle.guest_run.specs.declared.run_error.RunError.TheVariants.{Memory};
-ghost use Rattle.guest_run.specs.CurrentTurn.{recorded};
-ghost use Rattle.guest_run.specs.Going.{IsCounted, IsNewRunner, MakesAMove, MakesMoves, MayAdvance, RemainsSome, standing_of};
+ghost use Rattle.guest_run.specs.Private.CurrentTurn.{recorded};
+ghost use Rattle.guest_run.specs.Private.Going.{IsCounted, IsNewRunner, MakesAMove, MakesMoves, MayAdvance, RemainsSome, standing_of};
 ghost use Rattle.guest_run.specs.Machine.{guest};
 ghost use Rattle.guest_run.specs.Output.{Sinks, sinks};
 ghost use Rattle.guest_run.specs.Profiled.{first_past, profiled};
@@ -29,7 +29,7 @@ pub struct Ended {
     pub recording: Recording,
 }
 
-// A run after moves of a turn: it goes on after so many moves, or is at its end.
+// A run after moves of a turn: it goes on, with the number of moves made, or is at its end.
 #[derive(Clone, Copy)]
 enum Turned {
     GoesOn { count: u64 },

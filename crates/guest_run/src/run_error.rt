@@ -16,7 +16,7 @@ pub enum RunError {
     /// A put of the guest's output failed.
     #[error("the guest's output cannot be put")]
     CannotPut { channel: Channel },
-    /// Want of memory.
+    /// Out of memory.
     #[error("out of memory")]
     Memory,
 }

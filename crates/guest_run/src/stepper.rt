@@ -9,7 +9,7 @@ ghost use Rattle.guest_machine.specs.Step.{StepResult, access_events, jump_event
 ghost use Rattle.guest_run.specs.declared.turn_status.TurnStatus.TheVariants.{Ends};
 ghost use Rattle.guest_run.specs.Machine.{guest, progress_of};
 ghost use Rattle.guest_run.specs.Output.{sinks};
-ghost use Rattle.guest_run.specs.Steps.{PutEndsOn, PutsSent, StepEnds};
+ghost use Rattle.guest_run.specs.Private.Steps.{PutEndsOn, PutsSent, StepEnds};
 
 use crate::turn_status::turn_status_of;
 use crate::{Channel, RunError, TurnStatus};

@@ -3,7 +3,7 @@ ghost use Rattle.std.specs.Prelude.{◌≡◌, ◌≤◌, ◌+◌, ◌<◌, [], 
 ghost use Rattle.guest_machine.specs.Kept.{machine_of};
 ghost use Rattle.guest_machine.specs.Laws.{KeepsThreads};
 ghost use Rattle.guest_run.specs.Machine.{guest};
-ghost use Rattle.guest_run.specs.CurrentTurn.{IsUnderWay, chosen_of, position, recorded};
+ghost use Rattle.guest_run.specs.Private.CurrentTurn.{IsUnderWay, chosen_of, position, recorded};
 ghost use Rattle.guest_run.specs.Run.{Move, chosen};
 
 use guest_machine::Machine;

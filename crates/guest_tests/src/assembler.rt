@@ -135,7 +135,7 @@ fn bound_twice(alloc: Global) -> Result<Code, AsmError> {
     program.finish()
 }
 
-/// A branch over so many words to a label.
+/// A branch over `words` words to a label.
 fn branch_over(alloc: Global, words: u32) -> Result<Code, AsmError>
     requires { words ≤ 2000 }
 {

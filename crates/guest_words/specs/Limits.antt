@@ -10,7 +10,7 @@ pub record AreLimits : Type 0 where
   -- threads that live at one time, and the last number of a thread
   pub threads : THREADS ≡ 32
   pub last_tid : LAST_TID ≡ 4194303
-  -- events of one call of the kernel: its table of parts, and each of 1024 parts
+  -- events of one system call: its table of parts, and each of 1024 parts
   pub call_events : CALL_EVENTS ≡ 1025
   -- steps of a run, and of a turn
   pub run_steps : RUN_STEPS ≡ 10 ^ 12

@@ -14,7 +14,7 @@ pub const THREADS: usize = 32;
 /// The last thread number, which is Linux's. The first is 1.
 pub const LAST_TID: u32 = 4_194_303;
 
-/// How many events one call of the kernel can have: one for a table of parts, and one for each of 1024 parts. The step of
+/// How many events one system call can have: one for a table of parts, and one for each of 1024 parts. The step of
 /// the call, and the threads that it begins and ends, are not among them.
 pub const CALL_EVENTS: usize = 1025;
 

@@ -31,7 +31,7 @@ pub enum NameError {
     /// The bytes are no name.
     #[error("not a name")]
     Bad,
-    /// Want of memory.
+    /// Out of memory.
     #[error("out of memory")]
     Memory,
 }

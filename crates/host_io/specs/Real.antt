@@ -26,7 +26,7 @@ drop_state s = record { bytes = None; faults = 0 }
 abbrev pub writer_of : {W : Type 0} → StreamSink W → W
 writer_of s = s.inner
 
--- A call is refused for this error of the system: want of memory is told apart from every other cause.
+-- A call is refused for this error of the system: out of memory is told apart from every other cause.
 pub record IsRefusedFor {T E : Type 0} (error : Error) (memory failed : E) (result : Result T E) : Type 0 where
-  pub wants_memory : error_kind error ≡ OutOfMemory → result ≡ Err memory
+  pub out_of_memory : error_kind error ≡ OutOfMemory → result ≡ Err memory
   pub fails : error_kind error ≢ OutOfMemory → result ≡ Err failed

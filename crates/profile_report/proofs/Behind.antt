@@ -128,7 +128,7 @@ refused_line text number state rest bytes after e b lack is why = (
   inl (bytes, after, lack, is, subst (λ n. RefusesLine n state bytes e) (sym b.many) why),
 )
 
--- Only want of memory refuses a line that may stand where it stands.
+-- A line that may stand where it stands is refused only when out of memory.
 pub allowed : (number : ℕ) (state : ParseState) (bytes : List ℕ) (e : ReportError) (l : Line) → FitsLine l → bytes ≡ line_text l → may_stand state l ≡ true → rises state l ≡ true
     → RefusesLine number state bytes e → e ≡ errors.Memory
 allowed number state bytes errors.Version l fits text may rise why =
@@ -145,7 +145,7 @@ allowed number state bytes (errors.Order n) l fits text may rise why =
 allowed number state bytes errors.Short l fits text may rise why = absurd why
 allowed number state bytes errors.Memory l fits text may rise why = refl
 
--- Only want of memory refuses a report that is over.
+-- A report that is over is refused only when out of memory.
 pub allowed_rest : (number : ℕ) (state : ParseState) (rest : List ℕ) (e : ReportError) (r : Reported) → state ≡ Over r → rest ≡ [] → RefusesRest number state rest e → e ≡ errors.Memory
 allowed_rest number state rest (errors.Line n) r over none why = absurd (why.2 none)
 allowed_rest number state rest errors.Short r over none why = absurd (false≢true (sym why ∙ ap is_over over))

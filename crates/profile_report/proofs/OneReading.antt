@@ -29,7 +29,7 @@ Stops n state rest e = HasRefusedLine n state rest e ⊎ ((lacks 10 rest ≡ tru
 first_line : (l : Line) (ls : List Line) (tail : List ℕ) → lines_text (l ∷ ls) ++ tail ≡ line_text l ++ 10 ∷ (lines_text ls ++ tail)
 first_line l ls tail = ap (λ t. t ++ tail) (lines_first l ls) ∙ append_assoc (line_text l) (10 ∷ lines_text ls) tail
 
--- only want of memory stops a reading where a line follows that leads on
+-- where a line follows that leads on, a reading stops only when out of memory
 goes_on : (n : ℕ) (state : ParseState) (rest after : List ℕ) (l : Line) (e : ReportError) → FitsLine l → may_stand state l ≡ true → rises state l ≡ true
     → rest ≡ line_text l ++ 10 ∷ after → Stops n state rest e → e ≡ errors.Memory
 goes_on n state rest after l e fits may rise on (inl (bytes, more, lack, is, why)) =
@@ -118,7 +118,7 @@ one_refusal text e f (m, s, rest, r, a) (n, q, more, o, b) ne nf =
     let rests : more ≡ rest = append_cancel_left (lines_text r.lines) more rest (ap (λ ls. lines_text ls ++ more) lines ∙ sym o.whole ∙ r.whole) in
     one_stop (m + 1) s rest e f a (subst (λ k. Stops (k + 1) s rest f) counts (subst (λ k. Stops (n + 1) k rest f) states (subst (λ t. Stops (n + 1) q t f) rests b))) ne nf
 
--- a reading of a report's text is stopped only by want of memory
+-- a reading of a report's text stops only when out of memory
 never_stops : (n : ℕ) (p s : ParseState) (ls ks : List Line) (rest : List ℕ) (r : Reported) (e : ReportError) → AllByRecursion FitsLine ls → AllByRecursion FitsLine ks
     → led p ls ≡ Some s → led p ks ≡ Some (Over r) → lines_text ls ++ rest ≡ lines_text ks → Stops n s rest e → e ≡ errors.Memory
 never_stops n p s [] [] rest r e fl fk ll lk is (inl (bytes, more, lack, begins, why)) = absurd (omega (arith, ap length (sym begins ∙ is), length-append bytes (10 ∷ more)))

@@ -27,6 +27,6 @@ pub enum Line {
 pub enum LineError {
     /// They have none of the forms.
     NoForm,
-    /// Want of memory.
+    /// Out of memory.
     Memory,
 }

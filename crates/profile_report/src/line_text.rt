@@ -98,7 +98,7 @@ fn push_end(text: &mut Vec<u8>, finish: Finish) -> Result<(), AllocError>
     }
 }
 
-/// Appends the line on how the run ended. Where it fails for want of memory, the text stays as it was.
+/// Appends the line on how the run ended. If it runs out of memory, the text stays as it was.
 pub fn push_end_line(text: &mut Vec<u8>, finish: Finish) -> Result<(), AllocError>
     ensures ok { OnOk result (text.new.items ≡ text.old.items ++ ended (end_line finish)) }
     ensures err { OnErr result (text.new.items ≡ text.old.items) }

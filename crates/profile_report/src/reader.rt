@@ -29,7 +29,7 @@ pub enum ReportError {
     /// The text ends before the report does.
     #[error("the report is cut off")]
     Short,
-    /// Want of memory.
+    /// Out of memory.
     #[error("out of memory")]
     Memory,
 }

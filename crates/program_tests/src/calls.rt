@@ -230,9 +230,9 @@ fn the_demo_is_summed_up(rt: HostRuntime) -> Result<(), Fail> {
     Ok(())
 }
 
-// Where an allocation is refused, by `rt try --test --fail-alloc N`, the status is that of want of memory.
+// Where an allocation is refused, by `rt try --test --fail-alloc N`, the status is that of out of memory.
 #[test]
-fn want_of_memory_has_its_own_status(rt: HostRuntime) {
+fn out_of_memory_has_its_own_status(rt: HostRuntime) {
     if let Ok(seen) = call_guest(rt.alloc(), &THREADED, NOWHERE) {
         assert!(rt; seen.status == 0 || seen.status == 10);
         if seen.status == 10 {

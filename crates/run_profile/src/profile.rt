@@ -20,7 +20,7 @@ pub struct Profile<S: Lanes> {
     profiler: Profiler<S>,
     points: Table,
     // What ended at the last event, of which the first `added` are among the points: an event that was taken is not refused
-    // for want of a point.
+    // for lack of a point.
     ended: Vec<Done>,
     added: usize,
     steps: u64,

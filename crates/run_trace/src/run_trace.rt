@@ -53,7 +53,7 @@ impl RunTrace {
         entry_begun(e).is_some() && self.stacks.pending() >= u64::from(depth_limit(StampBits::B32))
     }
 
-    // Writes what is still to come, and drops a text that is too long, which wants no memory.
+    // Writes what is still to come. A text that is too long is dropped, which does not allocate.
     fn settle(&mut self) -> Result<(), AllocError>
         requires { IsTraceOfFormed self.old }
         ensures stands { (past : List Event) → IsTraceOf self.old past → IsTraceOf self.new past }
@@ -75,7 +75,7 @@ impl RunTrace {
     }
 
     /// The text of the events and the entries of the activations that began; `None` where the text is longer than the limit.
-    /// Where nothing is still to come, it wants no memory.
+    /// If nothing is still to come, it does not allocate.
     pub fn into_text(self) -> Result<Option<EventText>, AllocError>
         requires { IsTraceOfFormed self }
         ensures text { IfOk result (λ found. (past : List Event) → IsTraceOf self past
@@ -109,7 +109,7 @@ impl Observer for RunTrace {
 
     ghost steps_fit = { λ _. steps_within (greatest B32) };
 
-    // What is too deep is refused, and wants no memory.
+    // What is too deep is refused without allocating.
     fn observe(&mut self, e: Event) -> Result<Observed, AllocError>
         requires { MayTake IsTraceOf self.old e }
         ensures observed { IfOk result (Observes IsTraceOf (is_within (greatest B32)) e self.old self.new) }

@@ -22,7 +22,7 @@ pub struct EventText {
     pub entries: BTreeSet<Addr>,
 }
 
-/// The text as far as it is written, and what is still to come: an event that was taken is not refused for want of room for
+/// The text as far as it is written, and what is still to come: an event that was taken is not refused for lack of room for
 /// its record or its entry.
 #[derive(Drop)]
 pub(crate) struct Written {

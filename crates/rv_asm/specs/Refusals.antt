@@ -44,7 +44,7 @@ IsOutOfReach d (Unbound label) = ⊥
 IsOutOfReach d (Twice label) = ⊥
 IsOutOfReach d (Unencodable at) = ⊥
 
--- What the refusals of a draft say of it. Want of memory may come at any draft.
+-- What the refusals of a draft say of it. Out of memory may come at any draft.
 abbrev pub IsRefused : Draft → AsmError → Type 0
 IsRefused d (Unbound label) = first_unbound d.bindings d.lines ≡ Some label
 IsRefused d (Reach at) = (first_unbound d.bindings d.lines ≡ None) × IsFirstOut d at

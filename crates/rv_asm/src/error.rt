@@ -17,7 +17,7 @@ pub enum AsmError {
     /// Of `emit`: the instruction has no word. Of `jump`: it is neither JAL nor a branch. It would be this word.
     #[error("an instruction that can't be written")]
     Unencodable { at: u32 },
-    /// Want of memory.
+    /// Out of memory.
     #[error("out of memory")]
     Memory,
 }

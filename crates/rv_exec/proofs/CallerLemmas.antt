@@ -23,7 +23,7 @@ use Rattle.rv_exec.specs.Effects.{ExecState, advanced, atomic_at, branched, chec
 use Rattle.rv_exec.specs.Laws.{KeepsAlignment, KeepsRights, KeepsUnlessWent, OnlyEcallCalls, OthersGainNothing, RefusalsChangeNothing}
 
 -- What holds of the effect of an instruction other than ECALL: where it did not go on all is as it was, what another
--- thread has reserved afterwards it had reserved before, and it is no call of the kernel.
+-- thread has reserved afterwards it had reserved before, and it is no system call.
 pub record IsLawful (tid : ℕ) (c : ExecState) (e : Outcome × ExecState) : Type 0 where
   pub kept : KeepsUnlessWent e.0 c e.1
   pub others : (other : ℕ) → (other ≡ tid → ⊥) → is_some (e.1.held other) ≡ true → e.1.held other ≡ c.held other

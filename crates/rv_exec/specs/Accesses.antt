@@ -15,7 +15,7 @@ use Rattle.guest_memory.specs.Memory.{Memory, byte_count, first_refusal}
 use Rattle.rv_isa.specs.Fields.{twos_complement}
 use Rattle.rv_exec.specs.Operations.{low_32_bits, signed}
 
--- whether each of so many bytes can be read
+-- whether each of `n` bytes can be read
 abbrev pub can_read : Memory → ℕ → ℕ → Bool
 can_read m at n = is_none (first_refusal m permission.Read at n)
 

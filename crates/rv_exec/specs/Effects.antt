@@ -1,5 +1,5 @@
 -- What one instruction does, by the RISC-V Instruction Set Manual, Volume I: an answer, and the registers, memory and
--- reservations afterwards. A fault and a call of the kernel change nothing.
+-- reservations afterwards. A fault and a system call change nothing.
 use Rattle.std.specs.Prelude.{ℕ, ◌+◌, ◌*◌, ◌/◌, ◌%◌, ◌^◌, List, Bool, true, false, ◌&&◌, nat_eq, slice_index, slice_set, Some, if◌then◌else◌}
 use Rattle.rv_isa.specs.declared.instruction.LoadKind.{LoadKind}
 use Rattle.rv_isa.specs.declared.instruction.StoreKind.{StoreKind}

@@ -14,7 +14,7 @@ KeepsUnlessWent (Went access) old new = Unit {0}
 KeepsUnlessWent KernelCall old new = new ≡ old
 KeepsUnlessWent (Fault kind) old new = new ≡ old
 
--- faults and calls of the kernel change nothing
+-- faults and system calls change nothing
 abbrev pub RefusalsChangeNothing : Type 0
 RefusalsChangeNothing = (tid : ℕ) (i : Instr) (c : ExecState) → KeepsUnlessWent (effect tid i c).0 c (effect tid i c).1
 

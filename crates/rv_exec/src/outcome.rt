@@ -5,7 +5,7 @@ use guest_words::{FaultKind, Word};
 #[derive(Clone, Copy, Debug, PartialEq, Eq)]
 pub enum Access {
     Nothing,
-    /// So many words, from the first on.
+    /// `count` words, from the first on.
     Read { first: Word, count: u32 },
     Write { first: Word, count: u32 },
     /// A read, and then a write of the same word.

@@ -30,8 +30,8 @@ pub record Parts : Type 0 where
 abbrev pub parts : ℕ → Parts
 parts w = record { opcode = opcode w; rd = rd w; funct3 = funct3 w; rs1 = rs1 w; rs2 = rs2 w; funct7 = funct7 w; order = order w; funct5 = funct5 w; upper = bits w 31 7 }
 
--- Where a word is cut: a mask of all its bits wants no cut but behind the opcode, and one that leaves out the bits
--- aq and rl wants funct7 in two.
+-- Where a word is cut: a mask of all its bits needs no cut but behind the opcode, and one that leaves out the bits
+-- aq and rl needs funct7 in two.
 abbrev pub widths : Bool → Bool → List ℕ
 widths true split = 7 ∷ 25 ∷ []
 widths false true = 7 ∷ 5 ∷ 3 ∷ 5 ∷ 5 ∷ 2 ∷ 5 ∷ []

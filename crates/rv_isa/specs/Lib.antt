@@ -2,5 +2,4 @@
 pub mod Encoding
 pub mod Fields
 pub mod Table
--- What the private parts owe one another.
-pub mod Formats
+pub mod Private

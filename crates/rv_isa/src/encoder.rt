@@ -3,7 +3,7 @@ ghost use Rattle.std.specs.Prelude.{◌≡◌, ◌+◌, ◌*◌, ◌^◌, ◌<�
 ghost use Rattle.rv_isa.specs.Fields.{opcode, funct3, funct5, funct7, rs2};
 ghost use Rattle.rv_isa.specs.Table.{decoded, i_type, s_type, b_type, r_type, atomic_type};
 ghost use Rattle.rv_isa.specs.Encoding.{IsEncodable, IsImmediate, IsBranchOffset, IsJumpOffset, IsAmount, IsValueOf, IsOperand};
-ghost use Rattle.rv_isa.specs.Formats.{IsRWord, IsAtomicWord, IsIWord, IsShiftWord, IsSWord, IsBWord, IsUWord, IsJWord};
+ghost use Rattle.rv_isa.specs.Private.Formats.{IsRWord, IsAtomicWord, IsIWord, IsShiftWord, IsSWord, IsBWord, IsUWord, IsJWord};
 
 use crate::fields::bits;
 use crate::instruction::{AtomicOp, ImmOp, Instr, LoadKind, RegOp, StoreKind, Test};

@@ -10,7 +10,7 @@ use Rattle.shadow_core.specs.Renewal.{bounded_tick}
 use Rattle.shadow_core.specs.Ticks.{table_after}
 use Rattle.shadow_core.specs.State.{State, table_of_state}
 use Rattle.shadow_core.specs.StateRows.{AreStamped, Has}
-use Rattle.shadow_core.specs.Reading.{IsChanged}
+use Rattle.shadow_core.specs.Private.Reading.{IsChanged}
 use Rattle.shadow_core.specs.Profiling.{Clock, IsAdvanced, with_clock}
 use Rattle.shadow_core.proofs.StateEvents.{event_is_made, stamped_is_there}
 use Rattle.shadow_core.proofs.StateRows.{fills_by_parts, writes_by_parts}

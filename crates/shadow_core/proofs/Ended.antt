@@ -16,7 +16,7 @@ use Rattle.stamp_renumber.specs.Threads.{Live, Stamped, calls_of, frames_of, pag
 use Rattle.stamp_renumber.specs.Returned.{returned_by}
 use Rattle.stamp_renumber.proofs.Changed.{unchanged}
 use Rattle.shadow_core.specs.Allows.{AreWithin}
-use Rattle.shadow_core.specs.Ending.{IsEnded}
+use Rattle.shadow_core.specs.Private.Ending.{IsEnded}
 use Rattle.shadow_core.specs.Frames.{frames_after_pops}
 use Rattle.shadow_core.specs.Parts.{ArePopped}
 use Rattle.shadow_core.specs.Past.{call_of}

@@ -18,7 +18,7 @@ use Rattle.shadow_pages.specs.Pages.{Page, covers, in_range, stamp_at}
 use Rattle.stamp_renumber.specs.LentThread.{with_pages}
 use Rattle.stamp_renumber.specs.Threads.{Live, frames_of, pages_of}
 use Rattle.shadow_core.specs.Allows.{AreWithin, IsWithin}
-use Rattle.shadow_core.specs.Reading.{IsChanged, IsRead, places_at}
+use Rattle.shadow_core.specs.Private.Reading.{IsChanged, IsRead, places_at}
 use Rattle.shadow_core.specs.Stands.{IsFalling}
 use Rattle.shadow_core.proofs.Kept.{falling-weaker}
 use Rattle.shadow_core.proofs.StateThreads.{differ}

@@ -16,7 +16,7 @@ use Rattle.shadow_core.proofs.Reading.{All-reverse}
 use Rattle.shadow_core.proofs.Reversed.{pops_in_order}
 use Rattle.shadow_core.proofs.StateEvents.{last_change_counts, stamped_value}
 use Rattle.shadow_stack.specs.Frames.{FitsPop, Frame, IsPopped, added_to_last}
-use Rattle.shadow_core.specs.Ending.{IsEnded}
+use Rattle.shadow_core.specs.Private.Ending.{IsEnded}
 use Rattle.shadow_core.specs.Parts.{ArePopped}
 use Rattle.shadow_core.specs.Records.{record_of, records}
 use Rattle.call_tracker.specs.ThreadCalls.{CountedCall, Counts}

@@ -19,7 +19,7 @@ use Rattle.stamp_renumber.specs.Threads.{Live, Stamped, calls_of, frames_of, pag
 use Rattle.shadow_core.specs.Allows.{AreWithin, IsWithin}
 use Rattle.shadow_core.specs.Frames.{frames_after_reads}
 use Rattle.shadow_core.specs.Profiling.{StandsFor}
-use Rattle.shadow_core.specs.Reading.{IsChanged, IsRead, places_at}
+use Rattle.shadow_core.specs.Private.Reading.{IsChanged, IsRead, places_at}
 use Rattle.shadow_core.specs.Renewal.{bounded_tick}
 use Rattle.shadow_core.specs.Stands.{IsFalling, Stands}
 use Rattle.shadow_core.specs.State.{State, as_thread, table_of_state}

@@ -26,7 +26,7 @@ use Rattle.shadow_core.proofs.Frames.{same_sums, starts-reads}
 use Rattle.shadow_core.proofs.StateThreads.{differ}
 use Rattle.shadow_core.proofs.Reversed.{reads_where_found, reads_go_on}
 use Rattle.shadow_core.specs.Allows.{AreWithin, IsWithin}
-use Rattle.shadow_core.specs.Reading.{AreSmall, IsChanged, IsRead, places_at}
+use Rattle.shadow_core.specs.Private.Reading.{AreSmall, IsChanged, IsRead, places_at}
 
 -- ---- sums that are within some bound
 abbrev SumsWithin : ℕ → Frame → Type 0

@@ -15,7 +15,7 @@ use Rattle.call_tracker.specs.ThreadCalls.{Calls}
 use Rattle.stamp_renumber.specs.Threads.{frames_of, pages_of}
 use Rattle.shadow_core.specs.Frames.{added_to_top, frames_after_read, gain, negated, taken_at}
 use Rattle.shadow_core.specs.Profiling.{StandsFor}
-use Rattle.shadow_core.specs.Reading.{IsChanged, IsRead, places_at}
+use Rattle.shadow_core.specs.Private.Reading.{IsChanged, IsRead, places_at}
 use Rattle.shadow_core.specs.Renewal.{bounded_tick}
 use Rattle.shadow_core.specs.Stands.{IsFalling}
 use Rattle.shadow_core.specs.State.{State, as_thread, table_of_state}

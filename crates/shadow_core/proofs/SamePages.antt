@@ -12,7 +12,7 @@ use Rattle.stamp_renumber.specs.LentThread.{with_calls}
 use Rattle.stamp_renumber.specs.Threads.{Live, Stamped, frames_of, pages_of, spare_of, stamped}
 use Rattle.shadow_core.specs.Applying.{HasSamePages}
 use Rattle.shadow_core.specs.Profiling.{Clock, IsAdvanced}
-use Rattle.shadow_core.specs.Reading.{IsChanged}
+use Rattle.shadow_core.specs.Private.Reading.{IsChanged}
 use Rattle.shadow_core.specs.State.{State}
 use Rattle.shadow_core.proofs.Profiled.{there_too}
 

@@ -15,12 +15,10 @@ pub mod Parts
 pub mod State
 pub mod StateTicks
 pub mod StateThreads
-pub mod Reading
-pub mod Writing
 pub mod StateRows
 pub mod StateWords
 pub mod StateTold
 pub mod StateEvents
 pub mod Profiling
-pub mod Ending
 pub mod Applying
+pub mod Private

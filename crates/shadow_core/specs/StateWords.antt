@@ -29,7 +29,7 @@ StampsNotYet = (stamp first count : ℕ) (old now : List Page) → AreStamped st
 abbrev pub place_of : State → Stamped → ℕ → Place
 place_of s was l = record { own = stamp_at was.pages l; write = stamp_at s.writes l; mark = stamp_at s.marks l }
 
--- `fs` are the frames after so many words, and `last` is the place of the innermost
+-- `fs` are the frames after `count` words, and `last` is the place of the innermost
 abbrev pub ReadsNextWord : Type 0
 ReadsNextWord = (s : State) (was : Stamped) (first count last : ℕ) (place : Option ℕ) (fs : List Frame) →
     reverse fs ≡ frames_after_reads (places_of s was first count) (reverse was.frames) →

@@ -8,7 +8,7 @@ use shadow_pages::Shadow;
 use stamp_lanes::Lanes;
 use stamp_renumber::{Threads, tick};
 
-/// Ticks, where the counter is to tick, and counts how often the stamps were renumbered. It takes no memory.
+/// Ticks, where the counter is to tick, and counts how often the stamps were renumbered. It does not allocate.
 #[inline(always)]
 pub(crate) fn advance<S: Lanes>(
     ticks: bool,

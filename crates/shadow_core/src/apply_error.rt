@@ -8,7 +8,7 @@ pub enum ApplyError {
     /// The activation that begins is one more than stamps can tell apart: so many are open.
     #[error("too deep: {pending} activations are open")]
     TooDeep { pending: u64 },
-    /// Want of memory.
+    /// Out of memory.
     #[error("out of memory")]
     Memory,
 }

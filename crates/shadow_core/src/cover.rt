@@ -4,7 +4,7 @@ ghost use Rattle.guest_words.specs.ByThread.{numbers, value_of};
 ghost use Rattle.shadow_pages.specs.Pages.{AreCovered, covers, stamp_at};
 ghost use Rattle.call_tracker.specs.ThreadCalls.{no_counts};
 ghost use Rattle.stamp_renumber.specs.Threads.{HasRoom, calls_of, frames_of, pages_of, stamped};
-ghost use Rattle.shadow_core.specs.Reading.{IsChanged};
+ghost use Rattle.shadow_core.specs.Private.Reading.{IsChanged};
 
 use guest_words::{Tid, Word};
 use shadow_pages::Shadow;

@@ -4,7 +4,7 @@ ghost use Rattle.std.specs.Vec.{vec_capacity};
 ghost use Rattle.guest_words.specs.ByThread.{value_of};
 ghost use Rattle.stamp_renumber.specs.Threads.{calls_of, frames_of};
 ghost use Rattle.shadow_core.specs.Allows.{AreWithin};
-ghost use Rattle.shadow_core.specs.Ending.{IsEnded};
+ghost use Rattle.shadow_core.specs.Private.Ending.{IsEnded};
 ghost use Rattle.shadow_core.specs.Frames.{frames_after_pops};
 ghost use Rattle.shadow_core.specs.Records.{nat_of, record_of};
 

@@ -9,7 +9,7 @@ ghost use Rattle.stamp_renumber.specs.Threads.{frames_of, pages_of};
 ghost use Rattle.shadow_core.specs.Allows.{AreWithin};
 ghost use Rattle.shadow_core.specs.Frames.{frames_after_read, gain, negated};
 ghost use Rattle.shadow_core.specs.Parts.{taken};
-ghost use Rattle.shadow_core.specs.Reading.{AreSmall, IsChanged, IsRead, places_at};
+ghost use Rattle.shadow_core.specs.Private.Reading.{AreSmall, IsChanged, IsRead, places_at};
 
 use crate::rows::{ZeroRows, read_page, row_of};
 use guest_words::{Tid, Word};
@@ -118,7 +118,7 @@ fn read_word<S: Lanes>(threads: &mut Threads<S>, tid: Tid, w: Word, writes: &Sha
     read_stamped(threads, tid, place, w, own, writes.get(w), now);
 }
 
-// The word so many places on.
+// The word `i` places on.
 fn word_at(first: Word, i: u32) -> Word
     requires { first + i < 2 ^ 30 }
     ensures { result ≡ first + i }
@@ -287,7 +287,7 @@ fn part_size(at: Word, left: u32) -> u32
 }
 
 /// A read of words by the thread. Its frames are those after the reads of the words in order, by the stamps from
-/// before the call, and each of the words gets the stamp. It takes no memory.
+/// before the call, and each of the words gets the stamp. It does not allocate.
 #[inline(always)]
 pub(crate) fn read<S: Lanes>(
     threads: &mut Threads<S>,

@@ -3,8 +3,8 @@ ghost use Rattle.std.specs.Prelude.{◌≡◌, ◌≤◌, ◌+◌, ◌^◌, is_s
 ghost use Rattle.guest_words.specs.ByThread.{value_of};
 ghost use Rattle.shadow_pages.specs.Pages.{AreCovered, HasPlace, covers, stamp_at};
 ghost use Rattle.stamp_renumber.specs.Threads.{frames_of, pages_of};
-ghost use Rattle.shadow_core.specs.Reading.{IsChanged};
-ghost use Rattle.shadow_core.specs.Writing.{IsFilled};
+ghost use Rattle.shadow_core.specs.Private.Reading.{IsChanged};
+ghost use Rattle.shadow_core.specs.Private.Writing.{IsFilled};
 
 use crate::reads::is_fresh;
 use guest_words::{Tid, Word};
@@ -36,7 +36,7 @@ fn stamp_word<S: Stamp>(pages: &mut Shadow<S>, place: usize, w: Word, now: S)
     pages.set_at(place, w, now);
 }
 
-/// A write of words by the kernel: each gets the stamp as that of its latest write, and a mark. It takes no memory.
+/// A write of words by the kernel: each gets the stamp as that of its latest write, and a mark. It does not allocate.
 pub(crate) fn fill<S: Lanes>(
     writes: &mut Shadow<S>,
     marks: &mut Shadow<u8>,
@@ -102,7 +102,7 @@ pub(crate) fn is_written<S: Lanes>(
 }
 
 /// A write of words by the thread: each gets the stamp, as that of the thread's access and as that of its latest write, and
-/// no mark. It takes no memory.
+/// no mark. It does not allocate.
 #[inline(always)]
 pub(crate) fn write<S: Lanes>(
     threads: &mut Threads<S>,

@@ -11,7 +11,7 @@ use Rattle.std.proofs.lemmas.List.FromFn.{fill_by_all, get_or-map-range_with_len
 use Rattle.stamp_lanes.specs.Plain.{renewals, renewed}
 use Rattle.shadow_pages.specs.Pages.{IsFull, Page, covers, page_at, page_of, refilled, stamp_at, stamp_in, zeros}
 use Rattle.stamp_renumber.specs.Classes.{class, new_access, new_write}
-use Rattle.stamp_renumber.specs.Rows.{new_accesses, renewed_accesses, renewed_writes, writes_of}
+use Rattle.stamp_renumber.specs.Private.Rows.{new_accesses, renewed_accesses, renewed_writes, writes_of}
 use Rattle.stamp_renumber.proofs.Order.{class-le-length}
 
 -- the page of a number is one of them, and has it

@@ -3,7 +3,7 @@ ghost use Rattle.std.specs.Prelude.{◌≡◌, ◌≤◌, ◌<◌, ◌+◌, ◌*
 ghost use Rattle.std.specs.List.Sorted.{IsNonDecreasingBy};
 ghost use Rattle.shadow_pages.specs.Pages.{covers, page_at, stamp_at};
 ghost use Rattle.stamp_renumber.specs.Classes.{new_access, new_write};
-ghost use Rattle.stamp_renumber.specs.Rows.{renewed_accesses, renewed_writes};
+ghost use Rattle.stamp_renumber.specs.Private.Rows.{renewed_accesses, renewed_writes};
 
 use crate::rows::WorkRows;
 use shadow_pages::{PAGE_WORDS, Shadow};

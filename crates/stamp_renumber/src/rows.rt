@@ -3,7 +3,7 @@ ghost use Rattle.std.specs.Prelude.{◌≡◌, ◌≤◌, ◌+◌, ◌*◌, IfOk
 ghost use Rattle.std.specs.List.Sorted.{IsNonDecreasingBy};
 ghost use Rattle.shadow_pages.specs.Pages.{zeros};
 ghost use Rattle.stamp_renumber.specs.Classes.{new_write};
-ghost use Rattle.stamp_renumber.specs.Rows.{new_accesses};
+ghost use Rattle.stamp_renumber.specs.Private.Rows.{new_accesses};
 
 use crate::starts::classes_into;
 use shadow_pages::PAGE_WORDS;

@@ -57,7 +57,7 @@ impl<S: Stamp> Model for ThreadStamps<S> {
 }
 
 impl<S: Stamp> ThreadStamps<S> {
-    ghost use Rattle.stamp_renumber.specs.LentShadow.{LendsCalls, LendsShadow};
+    ghost use Rattle.stamp_renumber.specs.Private.LentShadow.{LendsCalls, LendsShadow};
 
     /// No frame, no stamp and no call.
     pub(crate) fn new(alloc: Global) -> Result<ThreadStamps<S>, AllocError>

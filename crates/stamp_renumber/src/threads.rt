@@ -20,7 +20,7 @@ use stamp_lanes::Lanes;
 use std::alloc::{AllocError, Global};
 use std::marker::Model;
 
-/// Live threads, each with its frames, the stamps of its accesses and its calls. A renumbering takes no memory: the threads hold
+/// Live threads, each with its frames, the stamps of its accesses and its calls. A renumbering does not allocate: the threads hold
 /// work rows for it from the start, and room for the starts of all their frames, `frames` of them and `marks` more. No call but
 /// `begin` lowers the room for frames and their marks.
 #[derive(Drop)]

@@ -15,7 +15,7 @@ pub struct Ticked {
 }
 
 /// Counts one more. Where the counter is at the greatest stamp, all stamps are renumbered in the order that a profiler looks
-/// at, and it goes on above them. It takes no memory.
+/// at, and it goes on above them. It does not allocate.
 #[inline(always)]
 pub fn tick<S: Lanes>(threads: &mut Threads<S>, writes: &mut Shadow<S>, counter: u32) -> Ticked
     requires within { counter ≤ S.MAX }

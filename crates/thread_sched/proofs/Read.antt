@@ -89,7 +89,7 @@ none_left rest more fit none (inr text) =
     let found = next_entry more [] [] fit refl (sym text ∙ ap (λ t. t ++ 10 ∷ []) none) in
     absurd (entry_some found.0 found.3 (sym found.4))
 
--- Only want of memory refuses an entry's line.
+-- An entry's line is refused only when out of memory.
 pub allowed : (number : ℕ) (bytes : List ℕ) (error : ScheduleError) (e : Entry) → IsEntry e → bytes ≡ entry_text e → RefusesLine number bytes error → error ≡ Memory
 allowed number bytes (BadLine n) e fits text why = absurd (why.1 e fits text)
 allowed number bytes Memory e fits text why = refl

@@ -32,7 +32,7 @@ pub enum ScheduleError {
     /// The first line, counted from 1, that is no entry's.
     #[error("line {line} is no entry")]
     BadLine { line: u64 },
-    /// Want of memory.
+    /// Out of memory.
     #[error("out of memory")]
     Memory,
 }

@@ -15,7 +15,7 @@ use Rattle.trace_file.specs.declared.records.Record.{Record}
 use Rattle.trace_file.specs.declared.records.Record.TheVariants.{OfName, OfFinish}
 use Rattle.trace_file.specs.Records.{Fits}
 use Rattle.trace_file.specs.Reading.{ReaderState, told_by}
-use Rattle.trace_file.specs.Steps.{IsAdded, IsOpen}
+use Rattle.trace_file.specs.Private.Steps.{IsAdded, IsOpen}
 use Rattle.trace_file.specs.TraceText.{IsRising, Names, event_records, finish_records, name_records, records}
 
 abbrev Entry : Type 0

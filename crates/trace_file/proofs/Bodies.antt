@@ -17,7 +17,7 @@ use Rattle.trace_file.specs.declared.records.Record.TheVariants.{OfEvent, OfName
 use Rattle.trace_file.specs.declared.record_reader.Stop.{Stop}
 use Rattle.trace_file.specs.declared.record_reader.Stop.TheVariants.{Begun, NoForm, Memory}
 use Rattle.trace_file.specs.Records.{AreInRanges, Fits, form, head, kind_number, name_bytes, number_bytes, numbers, ranges, record_bytes}
-use Rattle.trace_file.specs.Made.{IsMade}
+use Rattle.trace_file.specs.Private.Made.{IsMade}
 use Rattle.trace_file.specs.Pieces.{AreNumbers, HasNameBody, IsBegun, IsBody, IsHead, IsNameOf, IsNone, IsRecord, Stops, body}
 use Rattle.trace_file.proofs.Heads.{one_head}
 use Rattle.trace_file.proofs.NameBytes.{named_filler}
@@ -380,7 +380,7 @@ found_name f xs bytes rest name behind is has named long text =
       (behind, both.text ∙ ap₂ (λ n y. flat_map number_bytes (get_or xs 0 0 ∷ n ∷ []) ++ y) (sym long) text ∙ sym (append_assoc (flat_map number_bytes (get_or xs 0 0 ∷ length name ∷ [])) name behind)),
     )
 
--- want of memory for a name whose bytes are there
+-- out of memory for a name whose bytes are there
 pub wanted_name : (f : Form) (xs bytes rest : List ℕ) → f ≡ Named → HasNumbers f (take (length (ranges f)) (three xs)) bytes rest → (get_or xs 1 0 ≤ length rest) × (is_name (take (get_or xs 1 0) rest) ≡ true) →
     HasNameBody f (get_or xs 0 0) bytes
 wanted_name f xs bytes rest is has there =

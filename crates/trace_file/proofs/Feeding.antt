@@ -16,7 +16,7 @@ use Rattle.trace_file.specs.declared.errors.TraceError.TheVariants as errors
 use Rattle.trace_file.specs.Records.{Fits, record_bytes}
 use Rattle.trace_file.specs.Pieces.{IsBegun, IsNone, IsRecord, Stops}
 use Rattle.trace_file.specs.Reading.{HasFed, HasNext, HasRead, HasReadBy, IsAtLine, IsAtRecord, IsOutOfOrder, IsReading, IsRefused, ReaderState, WantsMemory, told_by}
-use Rattle.trace_file.specs.Steps.{GoesOnOr, IsFed, IsInOrder, IsNotAdded, IsOpen, IsTaken, MayReadByte, said}
+use Rattle.trace_file.specs.Private.Steps.{GoesOnOr, IsFed, IsInOrder, IsNotAdded, IsOpen, IsTaken, MayReadByte, said}
 use Rattle.trace_file.proofs.ReadBytes.{behind_end, held_more, line_more, no_form, other_line, no_memory, not_added, open_of, stays, taken, text_push, whole_held}
 
 -- the state with one more byte held
@@ -114,7 +114,7 @@ fed_byte s mid new b es es' result none fed same = record {
   read = λ bytes past is. subst (λ n. HasRead n (bytes ++ b ∷ []) (past_after past fed.more)) (sym same) (keeps mid (bytes ++ b ∷ []) (past_after past fed.more) result (fed.reads bytes past (reading_of s bytes past none is)));
 }
 
--- ---- want of memory for a whole record that may come next
+-- ---- out of memory for a whole record that may come next
 next_there : (s : ReaderState) (bytes : List ℕ) (past : List Event) (b : ℕ) (r : Record) → IsAtRecord s bytes past → s.finish ≡ None → Fits r → s.held ++ b ∷ [] ≡ record_bytes r → (IsOutOfOrder (told_by s past) r → ⊥) →
     HasNext (Held s b) (bytes ++ b ∷ []) past
 next_there s bytes past b r is ends fits text in_order = record {

@@ -11,7 +11,7 @@ use Rattle.trace_file.specs.declared.records.Range.{Range}
 use Rattle.trace_file.specs.declared.record_reader.Stop.{Stop}
 use Rattle.trace_file.specs.declared.record_reader.Stop.TheVariants.{Begun, NoForm, Memory}
 use Rattle.trace_file.specs.Records.{IsIn, AreInRanges, number_bytes}
-use Rattle.trace_file.specs.Made.{IsSound}
+use Rattle.trace_file.specs.Private.Made.{IsSound}
 use Rattle.trace_file.specs.Pieces.{AreNumbers, IsBegun, Stops}
 use Rattle.trace_file.proofs.OneNumber.{Four, as_four}
 

@@ -1,4 +1,4 @@
--- Names of so many bytes.
+-- Names of a given length.
 use Rattle.std.proofs.Common.{zero, suc, ◌≡◌, ℕ, ◌-◌, ◌≤◌, ◌<◌, ◌++◌, ◌∷◌, [], List, Bool, true, false, not, ◌&&◌, length, take, drop, replicate, refl, sym, ap, ap₂, ◌∙◌, arith, length-append}
 use Rattle.std.specs.Prelude.{nat_le}
 use Rattle.std.specs.List.{list_all}
@@ -57,7 +57,7 @@ none_early bytes len short hidden x more rest name same =
     let split : x ≡ bytes ++ drop (length bytes) x = sym (take-append-drop (length bytes) x) ∙ ap (λ y. y ++ drop (length bytes) x) (sym begins) in
     true≢false (sym (is_visible_name x name.0) ∙ ap (list_all is_visible) split ∙ list_all-append is_visible bytes (drop (length bytes) x) ∙ ap (λ b. b && list_all is_visible (drop (length bytes) x)) hidden)
 
--- so many bytes that are no name
+-- `len` bytes that are no name
 pub none_whole : (bytes : List ℕ) (len : ℕ) → len ≤ length bytes → is_name (take len bytes) ≡ false → IsNone (IsNameOf len) bytes
 none_whole bytes len long bad x more rest name same =
     let is : take len bytes ≡ x = sym (take-append-le len bytes more long) ∙ ap (take len) same ∙ ap (λ n. take n (x ++ rest)) (sym name.1) ∙ take-append_seam x rest in

@@ -6,7 +6,7 @@ use Rattle.std.proofs.Math.Nat.{pow-succ'}
 use Rattle.byteorder.specs.Endian.{little_number}
 use Rattle.trace_file.specs.declared.records.Range.{Range}
 use Rattle.trace_file.specs.Records.{IsIn, number_bytes}
-use Rattle.trace_file.specs.Made.{IsLeastNumber}
+use Rattle.trace_file.specs.Private.Made.{IsLeastNumber}
 use Rattle.trace_file.specs.Pieces.{AreNumbers, IsBegun, IsNone}
 
 abbrev AreBytes : List ℕ → Type 0

@@ -16,7 +16,7 @@ use Rattle.trace_file.specs.declared.errors.TraceError.TheVariants as errors
 use Rattle.trace_file.specs.Records.{Fits, record_bytes}
 use Rattle.trace_file.specs.Pieces.{IsBegun, IsNone, IsRecord}
 use Rattle.trace_file.specs.Reading.{GoesOn, IsAtLine, IsAtRecord, IsMisformed, IsOutOfOrder, IsReading, IsRefused, Leads, ReaderState, told_by}
-use Rattle.trace_file.specs.Steps.{IsAdded, IsNotAdded, IsOpen, IsTaken, said}
+use Rattle.trace_file.specs.Private.Steps.{IsAdded, IsNotAdded, IsOpen, IsTaken, said}
 use Rattle.trace_file.specs.TraceText.{IsTold, IsTrace, Names, Told, magic, records, text_of, told_text}
 use Rattle.trace_file.proofs.Heads.{begun_empty}
 use Rattle.trace_file.proofs.Bodies.{head_begun}

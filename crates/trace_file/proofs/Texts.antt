@@ -1,7 +1,7 @@
 -- Texts that go on.
 use Rattle.std.proofs.Common.{◌≡◌, ℕ, ◌++◌, List, [], length, take, sym, ap, ◌∙◌, append_assoc, append-nil}
 use Rattle.std.proofs.Math.Seq.{take-append_seam}
-use Rattle.trace_file.specs.Kept.{KeepsOn}
+use Rattle.trace_file.specs.Private.Kept.{KeepsOn}
 
 pub keeps : (old new more : List ℕ) → new ≡ old ++ more → KeepsOn old new
 keeps old new more is = record { more = more; whole = is }

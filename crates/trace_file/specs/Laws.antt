@@ -19,7 +19,7 @@ BytesAreRefusedInOneWay =
     (bytes : List ℕ) (past past' : List Event) (e e' : TraceError) → IsRefused bytes past e → IsRefused bytes past' e' → e ≢ errors.Memory → e' ≢ errors.Memory →
     (e ≡ e') × (past ≡ past')
 
--- The text of a trace is refused for want of memory alone.
+-- The text of a trace is refused only when out of memory.
 abbrev pub TracesAreNotRefused : Type 0
 TracesAreNotRefused =
     (bytes : List ℕ) (past past' : List Event) (names : Names) (f : Finish) (e : TraceError) → IsTrace bytes past names f → IsRefused bytes past' e → e ≡ errors.Memory

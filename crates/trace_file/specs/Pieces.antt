@@ -55,6 +55,6 @@ HasNameBody f entry bytes =
 abbrev pub IsBody : Form → List ℕ → Type 0
 IsBody f x = (r : Record) × Fits r × (form r ≡ f) × (x ≡ body r)
 
--- the names of so many bytes
+-- the names of `len` bytes
 abbrev pub IsNameOf : ℕ → List ℕ → Type 0
 IsNameOf len x = (is_name x ≡ true) × (length x ≡ len)

@@ -77,7 +77,7 @@ pub record Begins (bytes : List ℕ) (past : List Event) : Type 0 where
   pub leads : Leads bytes told rest
   pub events : told.past ≡ past
 
--- The bytes are refused so, and these are the events of the records before the first that fails. For want of memory they
+-- The bytes are refused so, and these are the events of the records before the first that fails. When out of memory they
 -- are those of some records before it.
 abbrev pub IsRefused : List ℕ → List Event → TraceError → Type 0
 IsRefused bytes past errors.Magic = ((more rest : List ℕ) → bytes ++ more ≢ magic ++ rest) × (past ≡ [])
@@ -153,7 +153,7 @@ pub record HasNext (s : ReaderState) (bytes : List ℕ) (past : List Event) : Ty
   pub unfinished : s.finish ≡ None
   pub in_order : IsOutOfOrder (told_by s past) next → ⊥
 
--- It has read of a piece what comes before a record for which it wants memory.
+-- It has read of a piece what comes before a record that it can't allocate.
 pub record WantsMemory (At : ReaderState → List ℕ → List Event → Type 0) (old new : ReaderState) (piece : List ℕ) (es es' : List Event) : Type 0 where
   pub more : List Event
   pub appended : es' ≡ es ++ more

@@ -20,7 +20,7 @@ pub enum TraceError {
     /// The bytes end before the trace does.
     #[error("the trace is cut off")]
     Short,
-    /// Want of memory.
+    /// Out of memory.
     #[error("out of memory")]
     Memory,
 }
@@ -37,7 +37,7 @@ impl From<AllocError> for TraceError {
 }
 
 impl TraceError {
-    /// The number of the refusal. Want of memory has none.
+    /// The number of the refusal. Out of memory has none.
     pub fn number(self) -> Option<u32>
         ensures { result ≡ refusal_number self }
     {

@@ -13,7 +13,7 @@ pub fn bytes_read_in_one_way()
     ensures apart { TracesAreNotRefused }
 {}
 
-/// For want of memory some of the last events are not read, and no other.
+/// When out of memory some of the last events are not read, and no others.
 pub fn beginnings_are_read()
     ensures traces { BeginningsAreRead }
     ensures refused { BeginningsAreReadBeforeRefusals }

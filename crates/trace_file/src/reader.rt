@@ -8,7 +8,7 @@ ghost use Rattle.trace_file.specs.declared.records.Record.TheVariants.{OfEvent, 
 ghost use Rattle.trace_file.specs.Records.{Fits};
 ghost use Rattle.std.specs.Vec.{vec_capacity};
 ghost use Rattle.trace_file.specs.Reading.{HasFed, HasRead, IsAtRecord, IsReading, IsRefused, MayFeed, WantsMemory};
-ghost use Rattle.trace_file.specs.Steps.{IsAdded, IsFed, IsInOrder, IsNotAdded, IsOpen, IsTaken, MayReadByte, said};
+ghost use Rattle.trace_file.specs.Private.Steps.{IsAdded, IsFed, IsInOrder, IsNotAdded, IsOpen, IsTaken, MayReadByte, said};
 ghost use Rattle.trace_file.specs.TraceText.{IsRising, IsTrace, magic};
 
 use crate::errors::TraceError;
@@ -306,7 +306,7 @@ impl TraceReader {
         Ok(())
     }
 
-    /// The names and the end, where the bytes that were read are the text of a trace. It wants no memory.
+    /// The names and the end, where the bytes that were read are the text of a trace. It does not allocate.
     pub fn finish(self) -> Result<TraceEnd, TraceError>
         ensures ok { (bytes : List ℕ) (past : List Event) → HasRead self bytes past
             → IfOk result (λ t. IsTrace bytes past t.names.items t.finish) }

@@ -6,10 +6,10 @@ ghost use Rattle.trace_file.specs.declared.records.Record.{Record};
 ghost use Rattle.guest_words.specs.Names.{is_name, is_visible};
 ghost use Rattle.guest_words.specs.declared.limits.TheConstants.{NAME_BYTES};
 ghost use Rattle.trace_file.specs.Pieces.{AreNumbers, HasName, HasNameBody, IsBegun, IsBody, IsHead, IsNameOf, IsNone, IsRecord, Stops, body};
-ghost use Rattle.trace_file.specs.Seen.{IsSeen};
+ghost use Rattle.trace_file.specs.Private.Seen.{IsSeen};
 ghost use Rattle.trace_file.specs.declared.records.Record.TheVariants.{OfEvent, OfFinish};
 ghost use Rattle.trace_file.specs.Records.{AreInRanges, Fits, IsIn, form, head, kind_number, number_bytes, ranges, record_bytes, thread};
-ghost use Rattle.trace_file.specs.Made.{IsLeastNumber, IsMade, IsSound, is_event};
+ghost use Rattle.trace_file.specs.Private.Made.{IsLeastNumber, IsMade, IsSound, is_event};
 ghost use Rattle.std.specs.List.{flat_map, list_all};
 
 use crate::records::{Form, Range, Record};
@@ -25,7 +25,7 @@ pub enum Stop {
     Begun,
     /// Whatever follows the bytes, they don't begin with a record.
     NoForm,
-    /// Want of memory for the name of the routine with this entry. Its record is whole.
+    /// Out of memory for the name of the routine with this entry. Its record is whole.
     Memory { entry: Addr },
 }
 
@@ -352,7 +352,7 @@ fn behind(bytes: &[u8], seen: usize) -> &[u8]
     &bytes[seen.min(bytes.len())..]
 }
 
-/// A name of so many bytes, of the routine with an entry. The first `seen` bytes were seen to be bytes of a name.
+/// A name of `len` bytes, of the routine with an entry. The first `seen` bytes were seen to be bytes of a name.
 fn read_name(
     alloc: Global,
     entry: Addr,
@@ -382,7 +382,7 @@ fn read_name(
     }
 }
 
-/// The record of a form whose numbers and bytes stand first. Of a name so many bytes were seen.
+/// The record of a form whose numbers and bytes stand first. Of a name `seen` bytes were seen.
 fn read_body(alloc: Global, wanted: Form, bytes: &[u8], seen: usize) -> Result<Record, Stop>
     requires { wanted ≡ Form.Named → IsSeen seen bytes.now }
     ensures found { IfOk result (λ r. Fits r × (form r ≡ wanted)

@@ -8,7 +8,7 @@ ghost use Rattle.trace_model.specs.WellFormed.{IsWellFormed};
 ghost use Rattle.trace_order.specs.Order.{MayCome};
 ghost use Rattle.trace_file.specs.declared.records.Record.TheVariants.{OfEvent, OfName, OfFinish};
 ghost use Rattle.trace_file.specs.Records.{Fits, joined, kind_number, number_bytes, record_bytes};
-ghost use Rattle.trace_file.specs.Kept.{KeepsOn};
+ghost use Rattle.trace_file.specs.Private.Kept.{KeepsOn};
 ghost use Rattle.trace_file.specs.TraceText.{IsRising, IsTextOf, IsTrace, name_records, trace_text};
 
 use crate::records::MAGIC;

@@ -6,7 +6,7 @@ use Rattle.trace_model.specs.declared.sizes.SizeParts.{SizeParts}
 use Rattle.trace_model.specs.Causes.{Cause, Plain, OtherThread, Kernel, counts_by, part}
 use Rattle.trace_model.specs.Sizes.{known}
 use Rattle.trace_model.specs.WellFormed.{IsLight}
-use Rattle.trace_model.specs.SizeParts.{part_by, parts_by}
+use Rattle.trace_model.specs.Private.SizeParts.{part_by, parts_by}
 use Rattle.trace_model.proofs.Bounds.{count_range-le, pairs-le-weight, weight-take}
 use Rattle.trace_model.proofs.Causes.{parts-sum}
 

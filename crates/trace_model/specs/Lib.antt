@@ -12,5 +12,4 @@ pub mod EventList
 pub mod Laws
 pub mod Positions
 pub mod WorkedTraces
--- What the private parts owe one another.
-pub mod SizeParts
+pub mod Private

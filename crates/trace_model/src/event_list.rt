@@ -1,4 +1,4 @@
-//! A list of events with room made ahead, so that adding one takes no memory.
+//! A list of events with room made ahead, so that adding one does not allocate.
 ghost use Rattle.std.specs.Prelude.{◌≡◌, ◌≤◌, ◌+◌, ◌++◌, ◌∷◌, [], length, take, OnOk, IfOk};
 
 use crate::{Event, Observed, Observer};
@@ -51,7 +51,7 @@ impl Events {
         self.items.capacity() - self.items.len()
     }
 
-    /// Adds an event at the end. It takes no memory.
+    /// Adds an event at the end. It does not allocate.
     pub fn push(&mut self, e: Event)
         requires { 1 ≤ self.old.room }
         ensures list { self.new.list ≡ self.old.list ++ e ∷ [] }

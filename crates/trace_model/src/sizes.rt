@@ -2,7 +2,7 @@
 ghost use Rattle.std.specs.Prelude.{◌≡◌, ◌+◌, ◌<◌, ◌^◌, not, reverse, count_by};
 ghost use Rattle.trace_model.specs.Sizes.{accessed, bare, cost, last_touch};
 ghost use Rattle.trace_model.specs.Causes.{Cause, counts_by, part};
-ghost use Rattle.trace_model.specs.SizeParts.{counts_touch, one_if, part_by, parts_by};
+ghost use Rattle.trace_model.specs.Private.SizeParts.{counts_touch, one_if, part_by, parts_by};
 ghost use Rattle.std.specs.List.{range_with_len};
 ghost use Rattle.trace_model.specs.WellFormed.{IsLight};
 

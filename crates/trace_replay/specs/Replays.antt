@@ -17,7 +17,7 @@ pub record IsReplayOf (most : ℕ) (bytes : List ℕ) (r : Replayed) : Type 0 wh
   pub totals : AreTotalsOf most r.totals (cut (is_within most) past)
   pub whole : r.whole ≡ is_within most past
 
--- how a replay ends: for a refusal, or for want of memory, as the reader of traces
+-- how a replay ends: for a refusal, or out of memory, as the reader of traces
 abbrev pub Replays : ℕ → List ℕ → Result Replayed TraceError → Type 0
 Replays most bytes (Ok r) = IsReplayOf most bytes r
 Replays most bytes (Err e) = (past : List Event) × IsRefused bytes past e

@@ -62,7 +62,7 @@ impl Images {
         Ok(file)
     }
 
-    /// Reads so many bytes of the file with these changes: what the image is, or the number of the refusal.
+    /// Reads the first bytes of the file with these changes: what the image is, or the number of the refusal.
     pub fn read(&mut self, alloc: Global, row: &str) -> Result<String> {
         let length = match row.split(' ').next() {
             Some(length) => length.parse()?,
@@ -80,7 +80,7 @@ impl Images {
         }
     }
 
-    /// Whether a guest of the image can begin whose one argument has so many bytes with its zero byte, or why not.
+    /// Whether a guest of the image can begin whose one argument has that many bytes with its zero byte, or why not.
     pub fn begin(&self, alloc: Global, row: &str) -> Result<String> {
         let bytes: u32 = row.parse()?;
         let mut argument = String::new(alloc);

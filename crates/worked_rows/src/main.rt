@@ -10,9 +10,9 @@
 //!     schedule LINE/LINE/..               whether they are a schedule
 //!     file BYTE BYTE ..                   the file that is read
 //!     demo ROUTINES                       the file is the demo's
-//!     image LENGTH AT=BYTE ..             so much of the file, with other bytes at these places, as an image
+//!     image LENGTH AT=BYTE ..             the first LENGTH bytes of the file, with other bytes at these places, as an image
 //!     name AT                             the name there, in the last image
-//!     machine BYTES                       whether a guest of it can begin whose argument has so many bytes, its last one 0
+//!     machine BYTES                       whether a guest of it can begin whose argument has BYTES bytes, its last one 0
 //!     memory                              a new memory
 //!     map PAGE COUNT                      whether the pages can be mapped
 //!     load AT                             whether a word can be loaded

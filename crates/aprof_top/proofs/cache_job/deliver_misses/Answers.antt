@@ -1,6 +1,6 @@
 use Rattle.std.proofs.Common.{List, ℕ, Some, ap, sym, ◌∙◌}
 use Rattle.cache_profile.specs.ReportText.{Reported, cache_text}
-use Rattle.aprof_top.specs.Jobs.{desk}
+use Rattle.aprof_top.specs.Private.Jobs.{desk}
 use Rattle.aprof_top.specs.Outcome.{left_of, one_file}
 use Rattle.command_line.specs.Options.Analysis.{Cache}
 use Rattle.aprof_top.proofs.Recorded.{stored_left}

@@ -2,7 +2,7 @@ use Rattle.std.proofs.Common.{◌∙◌, refl, subst}
 use Rattle.std.proofs.lemmas.Result.{err_from_is_err_and}
 use Rattle.command_line.specs.Options.Analysis.{Contexts}
 use Rattle.aprof_top.specs.ContextReports.{can_be_numbered, contexts_report}
-use Rattle.aprof_top.specs.Jobs.{HaveContexts, desk}
+use Rattle.aprof_top.specs.Private.Jobs.{HaveContexts, desk}
 use Rattle.aprof_top.specs.Outcome.{left_of}
 use Rattle.aprof_top.proofs.Recorded.{either_left, stored_left}
 use Rattle.aprof_top.proofs.contexts_job.deliver_contexts.Goals as goal

@@ -1,6 +1,6 @@
 use Rattle.std.proofs.lemmas.Result.{err_from_is_err_and}
 use Rattle.command_line.specs.Read.{analysis_in, guest_in}
-use Rattle.aprof_top.specs.Jobs.{ending_by}
+use Rattle.aprof_top.specs.Private.Jobs.{ending_by}
 use Rattle.aprof_top.specs.Loads.{loaded_of}
 use Rattle.aprof_top.specs.Outside.{outside}
 use Rattle.aprof_top.proofs.Commands.{AskedEnds-run, AskedEnds-unprepared}

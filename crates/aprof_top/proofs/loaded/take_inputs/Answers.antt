@@ -1,6 +1,6 @@
 use Rattle.std.proofs.Common.{◌∙◌, ap, drop}
 use Rattle.std.proofs.lemmas.List.{drop-drop}
-use Rattle.aprof_top.specs.Loading.{contents_of}
+use Rattle.aprof_top.specs.Private.Loading.{contents_of}
 use Rattle.aprof_top.specs.Loads.{first_file}
 use Rattle.aprof_top.proofs.Sorting.{inputs_more}
 use Rattle.aprof_top.proofs.loaded.take_inputs.Goals as goal

@@ -1,5 +1,5 @@
 use Rattle.std.proofs.Common.{◌≡◌, drop, map, take, []}
-use Rattle.aprof_top.specs.Loading.{contents_of}
+use Rattle.aprof_top.specs.Private.Loading.{contents_of}
 use Rattle.aprof_top.specs.Loads.{with_inputs}
 use Rattle.aprof_top.proofs.loaded.take_inputs.Given as goal
 

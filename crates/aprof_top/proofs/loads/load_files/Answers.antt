@@ -1,10 +1,10 @@
 use Rattle.std.proofs.Common.{◌≡◌, ◌+◌, ◌&&◌, nat_le, cond, map, length, slice_get, ap, ap₂, refl, sym, subst, ◌∙◌}
 use Rattle.std.proofs.lemmas.List.{length-map}
 use Rattle.command_line.specs.Read.{guest_in}
-use Rattle.aprof_top.specs.Loading.{AreLoaded, FailsToLoad, IsLoading, PassesLimit}
-use Rattle.aprof_top.specs.Loading.{contents_of}
+use Rattle.aprof_top.specs.Private.Loading.{AreLoaded, FailsToLoad, IsLoading, PassesLimit}
+use Rattle.aprof_top.specs.Private.Loading.{contents_of}
 use Rattle.aprof_top.specs.Loads.{loaded_paths, shared_count}
-use Rattle.aprof_top.specs.Sources.{path_of}
+use Rattle.aprof_top.specs.Private.Sources.{path_of}
 use Rattle.aprof_top.proofs.LoadSteps.{AreLoaded-all, FailsToLoad-next, IsLoading-more, PassesLimit-met, PassesLimit-together, by_names}
 use Rattle.aprof_top.proofs.Sorting.{contents_more, count_more, path_at, text}
 use Rattle.aprof_top.proofs.loads.load_files.Goals as goal

@@ -1,5 +1,5 @@
 use Rattle.std.proofs.Common.{◌≡◌, deque_len, length, map}
-use Rattle.aprof_top.specs.Loading.{IsLoading, contents_of}
+use Rattle.aprof_top.specs.Private.Loading.{IsLoading, contents_of}
 use Rattle.aprof_top.proofs.loads.load_files.Given as goal
 
 abbrev pub invariant-loop-path : goal.invariant-loop-path

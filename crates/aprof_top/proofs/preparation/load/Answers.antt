@@ -1,6 +1,6 @@
 use Rattle.std.proofs.Common.{◌∙◌, ap, length, map, sym}
 use Rattle.std.proofs.lemmas.List.{length-map}
-use Rattle.aprof_top.specs.Loading.{contents_of}
+use Rattle.aprof_top.specs.Private.Loading.{contents_of}
 use Rattle.aprof_top.proofs.Sorting.{text}
 use Rattle.aprof_top.proofs.preparation.load.Goals as goal
 

@@ -1,7 +1,7 @@
 use Rattle.std.proofs.Common.{Err, ap, refl, subst, ◌∙◌, map}
 use Rattle.std.proofs.lemmas.Result.{err_from_is_err_and}
 use Rattle.command_line.specs.Read.{replay_in}
-use Rattle.aprof_top.specs.Jobs.{StatsEnd, store_of}
+use Rattle.aprof_top.specs.Private.Jobs.{StatsEnd, store_of}
 use Rattle.aprof_top.specs.Outcome.{replay_outcome, stats_of}
 use Rattle.aprof_top.specs.declared.ending.Verdict.TheVariants.{Replayed}
 use Rattle.host_io.specs.Sink.{appended}

@@ -4,7 +4,7 @@ use Rattle.profile_report.specs.ReportText.{report_text}
 use Rattle.guest_words.specs.declared.endings.Finish.TheVariants.{Deep}
 use Rattle.stamps.specs.Widths.{greatest}
 use Rattle.aprof_top.specs.declared.delivery.Store.{Store}
-use Rattle.aprof_top.specs.Jobs.{store_of}
+use Rattle.aprof_top.specs.Private.Jobs.{store_of}
 use Rattle.aprof_top.specs.Outcome.{told_apart}
 use Rattle.aprof_top.specs.Report.{report_of}
 use Rattle.aprof_top.proofs.replay_job.replay_stores.Goals as goal

@@ -2,7 +2,7 @@ use Rattle.std.proofs.Common.{◌∙◌, ℕ, List, [], ◌∷◌, ◌++◌, map
 use Rattle.std.proofs.lemmas.List.{map-append}
 use Rattle.profile_report.specs.ReportText.{report_text}
 use Rattle.aprof_top.specs.declared.delivery.Store.{Store}
-use Rattle.aprof_top.specs.Jobs.{store_of}
+use Rattle.aprof_top.specs.Private.Jobs.{store_of}
 use Rattle.aprof_top.proofs.run_job.run_stores.Goals as goal
 
 pub returns : goal.returns

@@ -1,9 +1,9 @@
 use Rattle.std.proofs.Common.{map, string_bytes, subst, sym}
 use Rattle.command_line.specs.Read.{asked_in}
-use Rattle.aprof_top.specs.Ending.{end_of, of_command, wanted_of}
+use Rattle.aprof_top.specs.Private.Ending.{end_of, of_command, wanted_of}
 use Rattle.aprof_top.specs.Ends.{Reaches}
 use Rattle.aprof_top.specs.LastText.{LastText}
-use Rattle.aprof_top.specs.Sources.Wanted.{Nothing}
+use Rattle.aprof_top.specs.Private.Sources.Wanted.{Nothing}
 use Rattle.aprof_top.specs.Outside.{outside}
 use Rattle.aprof_top.proofs.Commands.{Reaches-unread}
 use Rattle.aprof_top.proofs.top.answer.Goals as goal

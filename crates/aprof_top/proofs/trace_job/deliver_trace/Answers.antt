@@ -3,7 +3,7 @@ use Rattle.std.specs.Prelude.{◌≡◌, MatchOption}
 use Rattle.command_line.specs.Options.Analysis.{Trace}
 use Rattle.guest_words.specs.declared.limits.TheConstants.{TRACE_BYTES}
 use Rattle.trace_file.specs.TraceText.{trace_text}
-use Rattle.aprof_top.specs.Jobs.{AreTexts, desk}
+use Rattle.aprof_top.specs.Private.Jobs.{AreTexts, desk}
 use Rattle.aprof_top.specs.Outcome.{left_of}
 use Rattle.aprof_top.specs.Traces.{is_storable, names_begun, trace_of}
 use Rattle.aprof_top.proofs.Recorded.{either_left, storable, stored_left}

@@ -4,7 +4,7 @@ use Rattle.std.proofs.lemmas.List.FromFn.{length-range_with_len}
 use Rattle.rv_asm.specs.declared.line.Line.{Line}
 use Rattle.rv_asm.specs.Assembled.{binding_of}
 use Rattle.demo_guest.specs.Guest.{ending}
-use Rattle.demo_guest.specs.Drafts.{call_lines, lines, plain, routine_lines, start_lines, AreRoutines}
+use Rattle.demo_guest.specs.Private.Drafts.{call_lines, lines, plain, routine_lines, start_lines, AreRoutines}
 use Rattle.demo_guest.proofs.Labels.{labels_within}
 use Rattle.demo_guest.proofs.Lines.{calls_size}
 use Rattle.demo_guest.proofs.code.demo_program.Goals as goal

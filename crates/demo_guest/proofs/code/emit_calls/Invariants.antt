@@ -1,6 +1,6 @@
 use Rattle.std.proofs.Common.{◌≡◌, ◌+◌, ◌*◌, ◌++◌, length, take}
 use Rattle.std.specs.List.{flat_map}
-use Rattle.demo_guest.specs.Drafts.{call_lines}
+use Rattle.demo_guest.specs.Private.Drafts.{call_lines}
 use Rattle.demo_guest.proofs.code.emit_calls.Given as goal
 
 -- The calls so far are written.

@@ -4,7 +4,7 @@ use Rattle.rv_isa.specs.declared.instruction.Instr.{Instr}
 use Rattle.rv_asm.specs.declared.line.Line.{Line}
 use Rattle.rv_asm.specs.Draft.{Draft}
 use Rattle.demo_guest.specs.Guest.{load}
-use Rattle.demo_guest.specs.Drafts.{plain}
+use Rattle.demo_guest.specs.Private.Drafts.{plain}
 use Rattle.demo_guest.proofs.Lines.{loads_more}
 use Rattle.demo_guest.proofs.code.emit_routine.Goals as goal
 

@@ -1,7 +1,7 @@
 use Rattle.std.proofs.Common.{◌≡◌, ◌+◌, ◌++◌, length, map}
 use Rattle.std.specs.List.{range_with_len}
 use Rattle.demo_guest.specs.Guest.{load}
-use Rattle.demo_guest.specs.Drafts.{plain}
+use Rattle.demo_guest.specs.Private.Drafts.{plain}
 use Rattle.demo_guest.proofs.code.emit_routine.Given as goal
 
 -- The loads so far are written.

@@ -3,7 +3,7 @@ use Rattle.std.specs.List.{flat_map, range_with_len}
 use Rattle.rv_asm.specs.Draft.{Draft}
 use Rattle.rv_asm.specs.declared.line.Line.{Line}
 use Rattle.demo_guest.specs.Guest.{routine_start}
-use Rattle.demo_guest.specs.Drafts.{routine_lines}
+use Rattle.demo_guest.specs.Private.Drafts.{routine_lines}
 use Rattle.demo_guest.proofs.Labels.{label_number, bound_more, first_stays, second_stays, unbound_rest}
 use Rattle.demo_guest.proofs.Lines.{lines_size}
 use Rattle.demo_guest.proofs.Ranges.{flat_map_more, words_more, words_none, words_within}

@@ -2,7 +2,7 @@ use Rattle.std.proofs.Common.{◌≡◌, ℕ, ◌+◌, ◌≤◌, ◌++◌, leng
 use Rattle.std.specs.List.{flat_map, range_with_len}
 use Rattle.rv_asm.specs.Assembled.{binding_of}
 use Rattle.demo_guest.specs.Guest.{routine_start}
-use Rattle.demo_guest.specs.Drafts.{routine_lines, AreRoutines}
+use Rattle.demo_guest.specs.Private.Drafts.{routine_lines, AreRoutines}
 use Rattle.demo_guest.proofs.code.emit_routines.Given as goal
 
 -- The routines so far are written, and their labels are bound.

@@ -1,5 +1,5 @@
 use Rattle.std.proofs.Common.{◌≡◌, ◌++◌, map, take}
-use Rattle.demo_guest.specs.Drafts.{plain}
+use Rattle.demo_guest.specs.Private.Drafts.{plain}
 use Rattle.demo_guest.proofs.program.emit_all.Given as goal
 
 -- The instructions so far are written.

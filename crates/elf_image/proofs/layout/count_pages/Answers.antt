@@ -3,7 +3,7 @@ use Rattle.std.proofs.lemmas.List.{get_or_default, take_all}
 use Rattle.elf_image.specs.declared.headers.ProgramHeader.{ProgramHeader}
 use Rattle.elf_image.specs.Image.{page_count}
 use Rattle.elf_image.specs.Segments.{occupied_headers, segment_of}
-use Rattle.elf_image.specs.Layout.{IsLoadable}
+use Rattle.elf_image.specs.Private.Layout.{IsLoadable}
 use Rattle.elf_image.proofs.Layouts.{counted_above, counted_one, no_header, pages-permutation}
 use Rattle.elf_image.proofs.PageCounts.{counted_none}
 use Rattle.elf_image.proofs.layout.count_pages.Goals as goal

@@ -1,6 +1,6 @@
 use Rattle.std.proofs.Common.{ℕ, List, ◌/◌, ◌<◌, ◌≤◌, get_or, map, take}
 use Rattle.elf_image.specs.declared.headers.ProgramHeader.{ProgramHeader}
-use Rattle.elf_image.specs.Layout.{AreCounted}
+use Rattle.elf_image.specs.Private.Layout.{AreCounted}
 use Rattle.elf_image.specs.Segments.{segment_of}
 use Rattle.elf_image.proofs.layout.count_pages.Given as goal
 

@@ -1,5 +1,5 @@
 use Rattle.std.proofs.Common.{◌≡◌, ◌+◌, ◌-◌, ◌<◌, ◌≤◌, get_or, sym, ◌∙◌, arith}
-use Rattle.elf_image.specs.Layout.{IsLoadable}
+use Rattle.elf_image.specs.Private.Layout.{IsLoadable}
 use Rattle.elf_image.specs.Segments.{occupied_headers}
 use Rattle.elf_image.proofs.Layouts.{no_header, no_overlap, overlap-permutation, overlap_at}
 use Rattle.elf_image.proofs.layout.has_overlap.Goals as goal

@@ -1,7 +1,7 @@
 use Rattle.std.proofs.Common.{length}
 use Rattle.std.specs.List.{All}
 use Rattle.std.proofs.lemmas.List.Sorted.{All-permutation}
-use Rattle.elf_image.specs.Layout.{IsLoadable}
+use Rattle.elf_image.specs.Private.Layout.{IsLoadable}
 use Rattle.elf_image.proofs.loading.load.Goals as goal
 
 pub has_overlap-requires-clause-loadable : goal.has_overlap-requires-clause-loadable

@@ -1,6 +1,6 @@
 use Rattle.std.proofs.Common.{arith}
 use Rattle.std.proofs.lemmas.List.FromFn.{map-range_with_len_more}
-use Rattle.elf_image.specs.FirstSymbols.{entry_at}
+use Rattle.elf_image.specs.Private.FirstSymbols.{entry_at}
 use Rattle.elf_image.proofs.names.entries.Goals as goal
 
 pub loop-index-preserved : goal.loop-index-preserved

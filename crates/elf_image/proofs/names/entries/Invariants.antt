@@ -1,6 +1,6 @@
 use Rattle.std.proofs.Common.{◌≡◌, map}
 use Rattle.std.specs.List.{range_with_len}
-use Rattle.elf_image.specs.FirstSymbols.{entry_at}
+use Rattle.elf_image.specs.Private.FirstSymbols.{entry_at}
 use Rattle.elf_image.proofs.names.entries.Given as goal
 
 abbrev pub invariant-loop-index : goal.invariant-loop-index

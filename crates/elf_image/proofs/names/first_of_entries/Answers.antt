@@ -5,7 +5,7 @@ use Rattle.std.proofs.lemmas.List.Elements.{All-nil}
 use Rattle.elf_image.specs.Places.{IsNamed, placed}
 use Rattle.elf_image.proofs.Placed.{below_placed}
 use Rattle.std.specs.List.{All}
-use Rattle.elf_image.specs.FirstSymbols.{AreFirst, symbols_of_entries}
+use Rattle.elf_image.specs.Private.FirstSymbols.{AreFirst, symbols_of_entries}
 use Rattle.elf_image.specs.Symbols.{symbol_at}
 use Rattle.elf_image.proofs.Entries.{no_entry, none_later, one_more}
 use Rattle.elf_image.proofs.FirstSymbols.{first_none}

@@ -4,7 +4,7 @@ use Rattle.std.specs.Option.{option_map}
 use Rattle.std.proofs.lemmas.Result.{err_from_is_err_and}
 use Rattle.elf_image.specs.Symbols.{Symbol}
 use Rattle.elf_image.specs.Image.{Executable, name_of}
-use Rattle.elf_image.specs.Layout.{IsLoadable}
+use Rattle.elf_image.specs.Private.Layout.{IsLoadable}
 use Rattle.elf_image.specs.Reading.{names_of}
 use Rattle.elf_image.proofs.Executables.{filled_from, image_is, names_from}
 use Rattle.elf_image.specs.Tests.{first_of, header_tests, layout_tests, segment_tests}

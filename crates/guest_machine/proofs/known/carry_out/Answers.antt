@@ -8,7 +8,7 @@ use Rattle.guest_machine.specs.Step.{access_events, instruction_at, jump_events}
 use Rattle.guest_machine.specs.Told.{done_by}
 use Rattle.guest_machine.proofs.Carried.{known_is, state_holders, state_kept, steps_to}
 use Rattle.guest_machine.proofs.Told.{is_alone, told_done}
-use Rattle.guest_machine.specs.Carrying.{IsStateOf, StepsTo}
+use Rattle.guest_machine.specs.Private.Carrying.{IsStateOf, StepsTo}
 use Rattle.guest_machine.specs.Machine.{MachineState}
 use Rattle.guest_machine.specs.declared.stepped.Advanced.{Advanced}
 use Rattle.rv_exec.specs.declared.outcome.Outcome.TheVariants as outcome

@@ -3,7 +3,7 @@ use Rattle.rv_exec.specs.Effects.{exec_state_of}
 use Rattle.trace_model.specs.Observing.{MayTakeAll, ObservesAll}
 use Rattle.trace_model.specs.declared.observer.Observed.{Observed}
 use Rattle.trace_model.specs.declared.observer.Observed.TheVariants.{Refused, Taken}
-use Rattle.guest_machine.specs.Carrying.{IsStepOf}
+use Rattle.guest_machine.specs.Private.Carrying.{IsStepOf}
 use Rattle.guest_machine.specs.Running.{after_steps}
 use Rattle.guest_machine.specs.declared.stepped.Advanced.{Advanced}
 use Rattle.guest_machine.specs.Told.{IsInstruction, done_by, steps_of}

@@ -2,7 +2,7 @@ use Rattle.std.proofs.Common.{◌≡◌, ◌+◌, ◌-◌, ◌≤◌}
 use Rattle.rv_exec.specs.Effects.{exec_state_of}
 use Rattle.trace_model.specs.Observing.{MayTakeAll}
 use Rattle.trace_model.specs.declared.observer.Observed.TheVariants.{Taken}
-use Rattle.guest_machine.specs.Carrying.{GoesWith, IsStateOf}
+use Rattle.guest_machine.specs.Private.Carrying.{GoesWith, IsStateOf}
 use Rattle.guest_machine.specs.Machine.{MachineState}
 use Rattle.guest_machine.specs.Running.{ObservesSteps}
 use Rattle.guest_machine.specs.Told.{steps_of}

@@ -1,4 +1,4 @@
-use Rattle.guest_memory.specs.CodePages.{AreForgotten}
+use Rattle.guest_memory.specs.Private.CodePages.{AreForgotten}
 use Rattle.guest_memory.proofs.code_page.forget_words.Given as goal
 
 abbrev pub invariant-loop-word : goal.invariant-loop-word

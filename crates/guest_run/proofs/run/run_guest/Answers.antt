@@ -2,7 +2,7 @@ use Rattle.std.proofs.Common.{Err, Ok, ◌+◌, subst, ◌∙◌, arith}
 use Rattle.std.proofs.lemmas.Result.{err_from_is_err_and}
 use Rattle.guest_words.specs.declared.endings.Finish.TheVariants.{Budget}
 use Rattle.guest_machine.specs.Kept.{machine_of}
-use Rattle.guest_run.specs.Going.{IsCounted, TurnEnds, standing_of}
+use Rattle.guest_run.specs.Private.Going.{IsCounted, TurnEnds, standing_of}
 use Rattle.guest_run.specs.declared.run.Turned.{Turned}
 use Rattle.guest_run.specs.Machine.{guest}
 use Rattle.guest_run.specs.Output.{sinks}

@@ -1,6 +1,6 @@
 use Rattle.std.proofs.Common.{◌≡◌, ◌≤◌, ◌-◌}
 use Rattle.guest_machine.specs.Kept.{machine_of}
-use Rattle.guest_run.specs.Going.{Remains, standing_of}
+use Rattle.guest_run.specs.Private.Going.{Remains, standing_of}
 use Rattle.guest_run.specs.Output.{sinks}
 use Rattle.guest_run.specs.Profiled.{first_past}
 use Rattle.guest_run.specs.Run.{start}

@@ -3,7 +3,7 @@ use Rattle.std.proofs.lemmas.Result.{on_ok_weaker}
 use Rattle.shadow_pages.specs.Pages.{AreCovered, Page, Pages, stamp_at}
 use Rattle.stamp_renumber.specs.LentThread.{with_pages}
 use Rattle.stamp_renumber.specs.Threads.{frames_of}
-use Rattle.shadow_core.specs.Reading.{IsChanged}
+use Rattle.shadow_core.specs.Private.Reading.{IsChanged}
 use Rattle.shadow_core.proofs.Reading.{lent_changed, pages_changed}
 use Rattle.shadow_core.proofs.cover.cover_all_own.Goals as goal
 

@@ -2,7 +2,7 @@ use Rattle.std.proofs.Common.{◌≡◌, ◌+◌, ◌-◌, ◌≤◌, true}
 use Rattle.std.specs.Prelude.{is_some, vec_len}
 use Rattle.std.specs.Vec.{vec_capacity}
 use Rattle.guest_words.specs.ByThread.{value_of}
-use Rattle.shadow_core.specs.Ending.{IsEnded}
+use Rattle.shadow_core.specs.Private.Ending.{IsEnded}
 use Rattle.shadow_core.proofs.endings.end_many.Given as goal
 
 abbrev pub invariant-loop-count : goal.invariant-loop-count

@@ -3,7 +3,7 @@ use Rattle.std.specs.List.{range_with_len}
 use Rattle.shadow_pages.specs.Pages.{stamp_at}
 use Rattle.stamp_lanes.specs.Plain.{is_by_kernel, is_by_thread}
 use Rattle.stamp_renumber.specs.Threads.{pages_of}
-use Rattle.shadow_core.specs.Reading.{IsRead, places_at}
+use Rattle.shadow_core.specs.Private.Reading.{IsRead, places_at}
 use Rattle.shadow_core.proofs.reads.read_parts.Given as goal
 
 abbrev pub invariant-loop-done : goal.invariant-loop-done

@@ -2,7 +2,7 @@ use Rattle.std.proofs.Common.{◌∙◌, ◌+◌, ◌^◌, ℕ, subst, arith}
 use Rattle.shadow_pages.specs.Pages.{stamp_at}
 use Rattle.stamp_renumber.specs.Threads.{frames_of}
 use Rattle.shadow_core.proofs.Reading.{length_read, lives_read, nothing_read, read_on, read_within, within_more}
-use Rattle.shadow_core.specs.Reading.{IsRead}
+use Rattle.shadow_core.specs.Private.Reading.{IsRead}
 use Rattle.shadow_core.proofs.reads.read_words.Goals as goal
 
 pub loop-i-init : goal.loop-i-init

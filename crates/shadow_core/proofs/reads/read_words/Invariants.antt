@@ -1,6 +1,6 @@
 use Rattle.std.proofs.Common.{ℕ}
 use Rattle.shadow_pages.specs.Pages.{stamp_at}
-use Rattle.shadow_core.specs.Reading.{IsRead}
+use Rattle.shadow_core.specs.Private.Reading.{IsRead}
 use Rattle.shadow_core.proofs.reads.read_words.Given as goal
 
 abbrev pub invariant-loop-i : goal.invariant-loop-i

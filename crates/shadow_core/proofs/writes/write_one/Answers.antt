@@ -3,7 +3,7 @@ use Rattle.shadow_pages.specs.Pages.{Page, Pages, covers, stamp_at}
 use Rattle.stamp_renumber.specs.LentThread.{with_pages}
 use Rattle.stamp_renumber.specs.Threads.{frames_of}
 use Rattle.shadow_core.specs.Table.{stamped}
-use Rattle.shadow_core.specs.Reading.{IsChanged}
+use Rattle.shadow_core.specs.Private.Reading.{IsChanged}
 use Rattle.shadow_core.proofs.Reading.{lent_changed, pages_changed}
 use Rattle.shadow_core.proofs.writes.write_one.Goals as goal
 

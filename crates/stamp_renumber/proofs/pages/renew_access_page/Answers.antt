@@ -1,7 +1,7 @@
 use Rattle.std.proofs.Common.{◌≡◌, ◌∙◌, ℕ, List, length, map, set, ap, ap₂, sym}
 use Rattle.std.proofs.lemmas.List.{length-map}
 use Rattle.shadow_pages.specs.Pages.{Page, page_at}
-use Rattle.stamp_renumber.specs.Rows.{new_accesses, writes_of}
+use Rattle.stamp_renumber.specs.Private.Rows.{new_accesses, writes_of}
 use Rattle.stamp_renumber.proofs.Words.{refilled_same, written_row, unwritten_row}
 use Rattle.stamp_renumber.proofs.pages.renew_access_page.Goals as goal
 use Rattle.stamp_renumber.proofs.pages.renew_access_page.Goals.{then-covers, else-covers}

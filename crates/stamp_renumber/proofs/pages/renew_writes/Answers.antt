@@ -1,7 +1,7 @@
 use Rattle.std.proofs.Common.{◌∙◌, ◌<◌, length, map, ap, refl, arith}
 use Rattle.std.proofs.lemmas.List.{length-set}
 use Rattle.shadow_pages.specs.Pages.{Page, covers, stamp_at}
-use Rattle.stamp_renumber.specs.Rows.{renewed_writes}
+use Rattle.stamp_renumber.specs.Private.Rows.{renewed_writes}
 use Rattle.stamp_renumber.proofs.Words.{all_pages, covers-map, page_more, rewritten_word}
 use Rattle.stamp_renumber.proofs.pages.renew_writes.Goals as goal
 

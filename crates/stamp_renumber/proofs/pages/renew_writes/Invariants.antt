@@ -1,5 +1,5 @@
 use Rattle.std.proofs.Common.{◌≡◌, ◌++◌, length, map, take, drop}
-use Rattle.stamp_renumber.specs.Rows.{renewed_writes}
+use Rattle.stamp_renumber.specs.Private.Rows.{renewed_writes}
 use Rattle.stamp_renumber.proofs.pages.renew_writes.Given as goal
 
 abbrev pub invariant-loop-i : goal.invariant-loop-i

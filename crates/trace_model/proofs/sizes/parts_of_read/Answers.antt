@@ -2,7 +2,7 @@ use Rattle.std.proofs.Common.{◌+◌, ℕ, Bool, arith, reverse, ap, ◌∙◌}
 use Rattle.std.specs.List.{count_by, range_with_len}
 use Rattle.trace_model.specs.declared.sizes.SizeParts.{SizeParts}
 use Rattle.trace_model.specs.Causes.{Cause, Plain, OtherThread, Kernel, counts_by}
-use Rattle.trace_model.specs.SizeParts.{part_by, counts_touch, one_if}
+use Rattle.trace_model.specs.Private.SizeParts.{part_by, counts_touch, one_if}
 use Rattle.trace_model.proofs.Bounds.{count_range_more, count_range-le}
 use Rattle.trace_model.proofs.SizeParts.{part_of, parts_same}
 use Rattle.trace_model.proofs.sizes.parts_of_read.Goals as goal

@@ -6,7 +6,7 @@ use Rattle.trace_model.specs.declared.event_kinds.Event.{Event}
 use Rattle.trace_model.specs.declared.event_kinds.Event.TheVariants.{Read}
 use Rattle.cost_points.specs.Keys.{IsRising}
 use Rattle.cache_profile.specs.declared.routines.RoutineMisses.{RoutineMisses}
-use Rattle.cache_profile.specs.Added.{HasRoom}
+use Rattle.cache_profile.specs.Private.Added.{HasRoom}
 use Rattle.cache_profile.specs.ByRoutine.{accesses_of, all_accesses}
 use Rattle.cache_profile.specs.Profile.{Kept, MayCome, StandsFor}
 use Rattle.cache_profile.proofs.Bounds.{have_room}

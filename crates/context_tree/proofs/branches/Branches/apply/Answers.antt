@@ -2,7 +2,7 @@ use Rattle.std.proofs.Common.{◌∙◌, ◌∷◌, sym, ap, subst}
 use Rattle.trace_model.specs.declared.event_kinds.Event.{Event}
 use Rattle.trace_model.specs.Profile.{ended}
 use Rattle.context_tree.specs.Branches.{StandsFor}
-use Rattle.context_tree.specs.Taking.{Takes}
+use Rattle.context_tree.specs.Private.Taking.{Takes}
 use Rattle.context_tree.specs.Trees.{HasTooMany}
 use Rattle.context_tree.proofs.branches.Branches.apply.Goals as goal
 

@@ -8,7 +8,7 @@ use Rattle.guest_memory.specs.ReservedBy.{reserved_by}
 use Rattle.rv_exec.specs.Effects.{exec_state_of}
 use Rattle.trace_model.specs.declared.observer.Observed.{Observed}
 use Rattle.guest_calls.specs.Kernel.{Kept}
-use Rattle.guest_machine.specs.Carrying.{IsStateOf}
+use Rattle.guest_machine.specs.Private.Carrying.{IsStateOf}
 use Rattle.guest_machine.specs.Kept.{machine_of}
 use Rattle.guest_machine.specs.Machine.{MachineState, with_registers}
 use Rattle.guest_machine.specs.Parts.{parts_of}

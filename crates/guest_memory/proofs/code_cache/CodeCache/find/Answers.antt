@@ -2,7 +2,7 @@ use Rattle.std.proofs.Common.{◌≡◌, ◌∙◌, ◌*◌, ◌/◌, ◌%◌, �
 use Rattle.std.proofs.lemmas.Bool.Decides.{nat_tests}
 use Rattle.std.proofs.lemmas.List.{get_or_read}
 use Rattle.guest_memory.specs.Code.{IsInstructionAt}
-use Rattle.guest_memory.specs.CodePages.{no_code, page_at}
+use Rattle.guest_memory.specs.Private.CodePages.{no_code, page_at}
 use Rattle.guest_memory.proofs.KeptCode.{is_instruction}
 use Rattle.guest_memory.proofs.PagesOfCode.{Page, Pages, if_some, none_or_known}
 use Rattle.guest_memory.proofs.code_cache.CodeCache.find.Goals as goal

@@ -1,7 +1,7 @@
 use Rattle.std.proofs.Common.{◌≡◌, ◌<◌, ◌∙◌, ◌-◌, ℕ, ap, arith, get_or, length, set, subst, sym}
 use Rattle.std.proofs.lemmas.List.{get_or_read}
 use Rattle.std.specs.Prelude.{vec_len}
-use Rattle.guest_memory.specs.CodePages.{IsIndex, no_code, page_at}
+use Rattle.guest_memory.specs.Private.CodePages.{IsIndex, no_code, page_at}
 use Rattle.guest_memory.proofs.PagesOfCode.{Page, Pages, within}
 use Rattle.guest_memory.proofs.RemovedCode.{Removes, index_removed, last_at, last_number}
 use Rattle.guest_memory.proofs.code_cache.CodeCache.forget_page.Goals as goal

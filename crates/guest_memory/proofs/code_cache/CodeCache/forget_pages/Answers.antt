@@ -1,6 +1,6 @@
 use Rattle.std.proofs.Common.{◌∙◌, ◌+◌, ◌/◌, arith, inl, inr}
 use Rattle.std.proofs.lemmas.Bool.{cases_eq}
-use Rattle.guest_memory.specs.CodePages.{known_in}
+use Rattle.guest_memory.specs.Private.CodePages.{known_in}
 use Rattle.guest_memory.proofs.KeptCode.{holds_but}
 use Rattle.guest_memory.proofs.code_cache.CodeCache.forget_pages.Goals as goal
 

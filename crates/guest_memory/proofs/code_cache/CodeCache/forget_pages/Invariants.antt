@@ -1,5 +1,5 @@
 use Rattle.std.proofs.Common.{◌≡◌, ◌<◌, ◌≤◌, ◌+◌, ◌/◌, ◌⊎◌, ℕ, None}
-use Rattle.guest_memory.specs.CodePages.{known_in}
+use Rattle.guest_memory.specs.Private.CodePages.{known_in}
 use Rattle.guest_memory.proofs.code_cache.CodeCache.forget_pages.Given as goal
 
 abbrev pub invariant-loop-k : goal.invariant-loop-k

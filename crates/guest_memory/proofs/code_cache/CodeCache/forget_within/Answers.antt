@@ -1,6 +1,6 @@
 use Rattle.std.proofs.Common.{◌≡◌, ◌+◌, ◌/◌, ◌%◌, arith, subst}
 use Rattle.std.proofs.lemmas.List.{get_or_read}
-use Rattle.guest_memory.specs.CodePages.{AreForgotten, no_code, page_at}
+use Rattle.guest_memory.specs.Private.CodePages.{AreForgotten, no_code, page_at}
 use Rattle.guest_memory.proofs.PagesOfCode.{Page, holds_elsewhere, holds_forgotten}
 use Rattle.guest_memory.proofs.code_cache.CodeCache.forget_within.Goals as goal
 

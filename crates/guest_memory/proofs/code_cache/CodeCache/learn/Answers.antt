@@ -1,6 +1,6 @@
 use Rattle.std.proofs.Common.{◌≡◌, ◌<◌, ◌∙◌, ◌/◌, ◌%◌, Some, ap, arith, get_or, length, set, subst, sym}
 use Rattle.std.proofs.lemmas.List.{get_or_read}
-use Rattle.guest_memory.specs.CodePages.{known_in, no_code, page_at}
+use Rattle.guest_memory.specs.Private.CodePages.{known_in, no_code, page_at}
 use Rattle.guest_memory.proofs.KeptCode.{Holds}
 use Rattle.guest_memory.proofs.PagesOfCode.{Page, holds_learned}
 use Rattle.guest_memory.proofs.code_cache.CodeCache.learn.Goals as goal

@@ -1,5 +1,5 @@
 use Rattle.std.proofs.Common.{◌≡◌, ◌∙◌, ◌∷◌, ◌++◌, [], ℕ, List, None, ap, ap₂, arith, length, replicate, subst, sym}
-use Rattle.guest_memory.specs.CodePages.{IsIndex}
+use Rattle.guest_memory.specs.Private.CodePages.{IsIndex}
 use Rattle.guest_memory.proofs.PagesOfCode.{Pages, Page, new_index}
 use Rattle.guest_memory.proofs.code_cache.CodeCache.new.Goals as goal
 

@@ -1,5 +1,5 @@
 use Rattle.std.proofs.Common.{◌≡◌, ◌∙◌, ◌∷◌, ◌++◌, ◌/◌, ◌%◌, [], ℕ, None, ap, ap₂, arith, get_or, length, set, sym}
-use Rattle.guest_memory.specs.CodePages.{IsIndex, known_in, page_at}
+use Rattle.guest_memory.specs.Private.CodePages.{IsIndex, known_in, page_at}
 use Rattle.guest_memory.proofs.PagesOfCode.{Page, Pages, added, index_same, known_added}
 use Rattle.guest_memory.proofs.code_cache.CodeCache.place_for.Goals as goal
 

@@ -2,7 +2,7 @@ use Rattle.std.proofs.Common.{refl}
 use Rattle.std.proofs.lemmas.Result.{err_from_is_err_and}
 use Rattle.guest_machine.specs.Kept.{machine_of}
 use Rattle.guest_run.specs.declared.turns.CurrentTurn.{CurrentTurn}
-use Rattle.guest_run.specs.Going.{Standing, standing_of}
+use Rattle.guest_run.specs.Private.Going.{Standing, standing_of}
 use Rattle.guest_run.specs.Output.{sinks}
 use Rattle.guest_run.proofs.Advances.{gives_up, goes_over, goes_turn, may_take, over_moved, over_stopped, step_failed}
 use Rattle.guest_run.proofs.run.Runner.advance.Goals as goal

@@ -2,7 +2,7 @@ use Rattle.std.proofs.Common.{subst, arith}
 use Rattle.std.proofs.lemmas.Result.{err_from_is_err_and}
 use Rattle.guest_machine.specs.Kept.{machine_of}
 use Rattle.guest_machine.specs.Running.{ObservesSteps}
-use Rattle.guest_run.specs.Going.{standing_of}
+use Rattle.guest_run.specs.Private.Going.{standing_of}
 use Rattle.guest_run.proofs.Known.{known_given_up, known_over, known_remains, may_take_known}
 use Rattle.guest_run.proofs.run.Runner.run_known.Goals as goal
 

@@ -1,7 +1,7 @@
 use Rattle.std.proofs.Common.{Err, Ok, Option, refl, subst, ◌+◌, arith}
 use Rattle.std.proofs.lemmas.Result.{err_from_is_err_and}
 use Rattle.guest_words.specs.declared.endings.Finish.{Finish}
-use Rattle.guest_run.specs.Going.{Advances, standing_of}
+use Rattle.guest_run.specs.Private.Going.{Advances, standing_of}
 use Rattle.guest_run.specs.Output.{sinks}
 use Rattle.guest_run.proofs.Ends.{advances_by, ends_failed, next_by, over_by, remains_same, turn_same}
 use Rattle.guest_run.proofs.run.Runner.take_turn.Goals as goal

@@ -5,7 +5,7 @@ use Rattle.shadow_pages.specs.Pages.{covers}
 use Rattle.stamp_renumber.specs.LentThread.{with_calls}
 use Rattle.stamp_renumber.specs.Returned.{returned_by}
 use Rattle.stamp_renumber.specs.Threads.{Live, calls_of, pages_of}
-use Rattle.shadow_core.specs.Ending.{IsEnded}
+use Rattle.shadow_core.specs.Private.Ending.{IsEnded}
 use Rattle.shadow_core.specs.Records.{finished}
 use Rattle.shadow_core.specs.Renewal.{bounded_tick}
 use Rattle.shadow_core.specs.State.{State, table_of_state}

@@ -3,7 +3,7 @@ use Rattle.std.specs.Prelude.{Err, IfErr}
 use Rattle.std.proofs.lemmas.Result.{err_from_is_err_and}
 use Rattle.trace_file.specs.declared.records.Record.TheVariants.{OfName}
 use Rattle.trace_file.specs.Reading.{ReaderState}
-use Rattle.trace_file.specs.Steps.{IsInOrder}
+use Rattle.trace_file.specs.Private.Steps.{IsInOrder}
 use Rattle.trace_file.specs.TraceText.{IsRising, Names}
 use Rattle.trace_file.proofs.Adding.{added_name, not_true, is_true}
 use Rattle.trace_file.proofs.reader.TraceReader.add_name.Goals as goal

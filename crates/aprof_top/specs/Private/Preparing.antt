@@ -4,7 +4,7 @@ use Rattle.command_line.specs.Options.{GuestOptions, inputs}
 use Rattle.elf_image.specs.Reading.{image_of}
 use Rattle.elf_image.specs.Tests.{first_refusal}
 use Rattle.host_io.specs.Files.{FilesState}
-use Rattle.aprof_top.specs.Loading.{AreLoaded, LoadsEnd}
+use Rattle.aprof_top.specs.Private.Loading.{AreLoaded, LoadsEnd}
 use Rattle.aprof_top.specs.Loads.{Loaded, loaded_of, loaded_paths, shared_count, with_inputs}
 use Rattle.aprof_top.specs.Schedules.{Reads}
 use Rattle.aprof_top.specs.Schedules.Reading.{BadLine, Turns}

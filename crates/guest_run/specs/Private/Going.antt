@@ -19,7 +19,7 @@ use Rattle.guest_run.specs.declared.run_error.RunError.{RunError}
 use Rattle.guest_run.specs.declared.run_error.RunError.TheVariants.{CannotPut, Memory}
 use Rattle.guest_run.specs.declared.turns.CurrentTurn.{CurrentTurn}
 use Rattle.guest_run.specs.declared.turns.Recorder.{Recorder}
-use Rattle.guest_run.specs.CurrentTurn.{IsUnderWay, position, recorded}
+use Rattle.guest_run.specs.Private.CurrentTurn.{IsUnderWay, position, recorded}
 use Rattle.guest_run.specs.Machine.{guest}
 use Rattle.guest_run.specs.Output.{Sinks, with_output}
 use Rattle.guest_run.specs.Profiled.{Profiled, profiled}
@@ -84,11 +84,11 @@ pub record MayAdvance {W : Type 0} (Stands : W → List Event → Type 0) (fits 
   pub going : IsGoing Stands fits first start moves r observer
   pub room : length moves < RUN_STEPS
 
--- what is observed of the run with so many moves at most
+-- what is observed of the run with at most `n` moves
 abbrev pub observed : (List Event → Bool) → List Event → Position MachineState → ℕ → Profiled
 observed fits first start n = profiled fits first (run_from guest n start)
 
--- So many moves were made, and the run goes on.
+-- `count` moves were made, and the run goes on.
 pub record Remains {W : Type 0} (Stands : W → List Event → Type 0) (fits : List Event → Bool) (first : List Event) (start : Position MachineState)
     (before : Sinks) (count : ℕ) (r : Standing) (observer : W) (now : Sinks) : Type 0 where
   pub moves : List Move
@@ -117,7 +117,7 @@ pub record IsOver {W : Type 0} (Stands : W → List Event → Type 0) (p : Profi
   pub turns : recorded r.recorder [] ≡ recording p.moves
   pub finish_is : p.finish ≡ finish
 
--- How a run goes on that made these moves so far: by one more move, to its end, or not for a put that failed or want of memory.
+-- How a run goes on that made these moves so far: by one more move, to its end, or not, because a put failed or memory ran out.
 abbrev pub Advances : {W : Type 0} → (W → List Event → Type 0) → (List Event → Bool) → List Event → Position MachineState → List Move → Sinks →
     Standing → W → Sinks → Result (Option Finish) RunError → Type 0
 Advances Stands fits first start moves before r observer after (Ok None) = GoesOn Stands fits first start moves before r observer after
@@ -144,7 +144,7 @@ moved s n = record {
   recorder = record s.recorder { made = s.recorder.made + n };
 }
 
--- How a run goes on with moves of a turn: it remains after so many moves in all, or its budget shows how it ended or why it was
+-- How a run goes on with moves of a turn: it remains after some moves in all, or its budget shows how it ended or why it was
 -- given up.
 abbrev pub TurnEnds : {W : Type 0} → (W → List Event → Type 0) → (List Event → Bool) → List Event → Position MachineState → Sinks → ℕ →
     Standing → W → Sinks → Result Turned RunError → Type 0
@@ -154,7 +154,7 @@ TurnEnds Stands fits first start before budget r observer after (Ok (turned.Ends
 TurnEnds Stands fits first start before budget r observer after (Err e) =
     RunEnds Stands (observed fits first start budget) before observer after (Err e)
 
--- Whatever run remains after so many moves, it goes on so with moves of a turn.
+-- Whatever run remains after `made` moves, it goes on so with moves of a turn.
 abbrev pub MakesMoves : {W : Type 0} → (W → List Event → Type 0) → (List Event → Bool) → ℕ → ℕ → Standing → W → Sinks →
     Standing → W → Sinks → Result Turned RunError → Type 0
 MakesMoves Stands fits made budget old observed now new observer after result =
@@ -162,7 +162,7 @@ MakesMoves Stands fits made budget old observed now new observer after result =
     → Remains Stands fits first start before made old observed now
     → TurnEnds Stands fits first start before budget new observer after result
 
--- so many moves were made, more than before and no more than the budget, where the run goes on
+-- if the run goes on, no fewer moves were made than before, and no more than the budget
 abbrev pub IsCounted : ℕ → ℕ → Result Turned RunError → Type 0
 IsCounted made budget (Ok (turned.GoesOn count)) = (made ≤ count) × (count ≤ budget)
 IsCounted made budget other = Unit {0}

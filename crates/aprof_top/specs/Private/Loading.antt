@@ -8,7 +8,7 @@ use Rattle.host_io.specs.Files.{FilesState, FailsAt}
 use Rattle.aprof_top.specs.Limits.{file_limit, inputs_limit}
 use Rattle.aprof_top.specs.Loads.{Loaded, loaded_of, loaded_paths, passes_limit, shared_count, shared_length, with_inputs}
 use Rattle.aprof_top.specs.Outside.{AreHeld, MetTooLong}
-use Rattle.aprof_top.specs.Sources.{path_of}
+use Rattle.aprof_top.specs.Private.Sources.{path_of}
 use Rattle.aprof_top.specs.declared.ending.Ending.{Ending}
 use Rattle.aprof_top.specs.declared.loaded.Loaded as declared
 use Rattle.aprof_top.specs.declared.ending.Ending.TheVariants as ending

@@ -39,7 +39,7 @@ use Rattle.aprof_top.specs.Delivery.{DoesAll, FailsAtStats, FailsAtStore, FailsO
 use Rattle.aprof_top.specs.Loads.{Loaded}
 use Rattle.aprof_top.specs.Outcome.{IsRun, Job, Outcome}
 use Rattle.aprof_top.specs.Outside.{Outside, with_stores}
-use Rattle.aprof_top.specs.Preparing.{ArePrepared}
+use Rattle.aprof_top.specs.Private.Preparing.{ArePrepared}
 use Rattle.aprof_top.specs.Run.{observed_from}
 use Rattle.aprof_top.specs.declared.guest_job.GuestFiles.{GuestFiles}
 use Rattle.aprof_top.specs.declared.preparation.Prepared.{Prepared}
@@ -55,7 +55,7 @@ abbrev pub IsRefused : Option SetupError → Type 0
 IsRefused None = ⊥
 IsRefused (Some why) = Unit {0}
 
--- How the run of an executable stops before its end: its guest can't begin, a put failed, or memory was wanting.
+-- How the run of an executable stops before its end: its guest can't begin, a put failed, or memory ran out.
 abbrev pub RunStops : Option SetupError → Profiled → Sinks → Sinks → Ending → Type 0
 RunStops setup run before after (Decided verdict) = (verdict ≡ TooLarge) × IsRefused setup × (after ≡ before)
 RunStops setup run before after (CannotRead source) = ⊥
@@ -140,7 +140,7 @@ pub record AreStored (outcome : Outcome) (old new : Desk) (Puts : SinkState → 
   pub stored : new.files ≡ with_stores outcome.stores old.files
   pub stats : Puts old.err new.err
 
--- A store failed, or memory was wanting, before the statistics.
+-- A store failed, or memory ran out, before the statistics.
 pub record StopsAtStores (old new : Desk) (Stored : FilesState → FilesState → Type 0) : Type 0 where
   pub stored : Stored old.files new.files
   pub err : new.err ≡ old.err

@@ -25,8 +25,8 @@ use Rattle.aprof_top.specs.Ends as ends
 use Rattle.aprof_top.specs.Ends.{End, Reaches}
 use Rattle.aprof_top.specs.Outcome.{Outcome}
 use Rattle.aprof_top.specs.Outside.{Outside}
-use Rattle.aprof_top.specs.Sources.{Wanted, wanted_path}
-use Rattle.aprof_top.specs.Sources.Wanted.{Nothing, OfGuest, OfTrace}
+use Rattle.aprof_top.specs.Private.Sources.{Wanted, wanted_path}
+use Rattle.aprof_top.specs.Private.Sources.Wanted.{Nothing, OfGuest, OfTrace}
 use Rattle.aprof_top.specs.declared.source.Wanted as declared
 use Rattle.aprof_top.specs.declared.source.Wanted.TheVariants as wanted
 use Rattle.aprof_top.specs.declared.ending.Ending.{Ending}

@@ -34,7 +34,7 @@ IsNotAdded s past r (errors.Order at) = (at ≡ s.at) × IsOutOfOrder (told_by s
 IsNotAdded s past r errors.Memory = Unit {0}
 IsNotAdded s past r e = ⊥
 
--- A record that is refused for want of memory may come next.
+-- A record that is refused when out of memory may come next.
 abbrev pub IsInOrder : ReaderState → List Event → Record → TraceError → Type 0
 IsInOrder s past r errors.Memory = IsOutOfOrder (told_by s past) r → ⊥
 IsInOrder s past r e = Unit {0}

@@ -1,0 +1,8 @@
+-- What private functions promise one another. No public clause rests on it.
+pub mod Ending
+pub mod Jobs
+pub mod LastTexts
+pub mod Loading
+pub mod Preparing
+pub mod Replaying
+pub mod Sources

@@ -1,0 +1,3 @@
+-- What private functions promise one another. No public clause rests on it.
+pub mod FirstSymbols
+pub mod Layout
