@@ -3,10 +3,10 @@ use Rattle.std.proofs.Common.{◌≡◌, ℕ, Bool, true, false, cond, List, [],
 use Rattle.std.specs.Prelude.{◌==◌}
 use Rattle.std.proofs.lemmas.Bool.{eqb-true}
 use Rattle.guest_calls.specs.Errors.{enosys, enotty}
-use Rattle.guest_calls.specs.Laws.{EveryCallIsLawful}
+use Rattle.guest_calls.specs.Laws.{EverySyscallIsLawful}
 use Rattle.guest_calls.specs.Lawful.{IsLawful}
-use Rattle.guest_calls.specs.Results.{Call, CallResult, number}
-use Rattle.guest_calls.specs.Table.{call, call_numbered, table}
+use Rattle.guest_calls.specs.Results.{Syscall, SyscallResult, number}
+use Rattle.guest_calls.specs.Table.{syscall, syscall_numbered, table}
 use Rattle.guest_calls.proofs.ClockCalls.{clock_gettime_is_lawful, clock_nanosleep_is_lawful}
 use Rattle.guest_calls.proofs.CloneCall.{clone_is_lawful}
 use Rattle.guest_calls.proofs.FileCalls.{close_is_lawful, llseek_is_lawful, openat_is_lawful, read_is_lawful, write_is_lawful}
@@ -17,9 +17,9 @@ use Rattle.guest_calls.proofs.ThreadCalls.{exit_group_is_lawful, exit_is_lawful,
 use Rattle.guest_calls.proofs.VectorCalls.{readv_is_lawful, writev_is_lawful}
 
 -- the call of each row is lawful where it is made by its number
-abbrev AreLawful : List (ℕ × (Call → CallResult)) → Type 0
+abbrev AreLawful : List (ℕ × (Syscall → SyscallResult)) → Type 0
 AreLawful [] = Unit {0}
-AreLawful (row ∷ rows) = ((c : Call) → number c ≡ row.0 → IsLawful c (row.1 c)) × AreLawful rows
+AreLawful (row ∷ rows) = ((c : Syscall) → number c ≡ row.0 → IsLawful c (row.1 c)) × AreLawful rows
 
 infixr 4 ◌and◌
 ◌and◌ : {P Q : Type 0} → P → Q → P × Q
@@ -57,17 +57,17 @@ each_is_lawful =
     and (λ c is. futex_is_lawful c)
     and tt
 
-by_test : (c : Call) (m n : ℕ) (b : Bool) (one other : Call → CallResult) → (m == n) ≡ b → number c ≡ n →
+by_test : (c : Syscall) (m n : ℕ) (b : Bool) (one other : Syscall → SyscallResult) → (m == n) ≡ b → number c ≡ n →
     (number c ≡ m → IsLawful c (one c)) → IsLawful c (other c) → IsLawful c (cond b one other c)
 by_test c m n true one other same is here there = here (is ∙ sym (eqb-true m n same))
 by_test c m n false one other same is here there = there
 
-numbered_is_lawful : (c : Call) (n : ℕ) (rows : List (ℕ × (Call → CallResult))) →
-    number c ≡ n → AreLawful rows → IsLawful c (call_numbered n rows c)
+numbered_is_lawful : (c : Syscall) (n : ℕ) (rows : List (ℕ × (Syscall → SyscallResult))) →
+    number c ≡ n → AreLawful rows → IsLawful c (syscall_numbered n rows c)
 numbered_is_lawful c n [] is each = lawful_returns c enosys
 numbered_is_lawful c n (row ∷ rows) is each =
-    by_test c row.0 n (row.0 == n) row.1 (call_numbered n rows) refl is (each.0 c) (numbered_is_lawful c n rows is each.1)
+    by_test c row.0 n (row.0 == n) row.1 (syscall_numbered n rows) refl is (each.0 c) (numbered_is_lawful c n rows is each.1)
 
-pub every_call_is_lawful : EveryCallIsLawful
-unfolding call
-every_call_is_lawful c = numbered_is_lawful c (number c) table refl each_is_lawful
+pub every_syscall_is_lawful : EverySyscallIsLawful
+unfolding syscall
+every_syscall_is_lawful c = numbered_is_lawful c (number c) table refl each_is_lawful

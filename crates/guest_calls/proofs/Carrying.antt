@@ -17,7 +17,7 @@ use Rattle.guest_calls.specs.Errors.{ebadf, efault}
 use Rattle.guest_calls.specs.Files.{is_source, advanced}
 use Rattle.guest_calls.specs.Kernel.{KernelState, descriptor}
 use Rattle.guest_calls.specs.Outcome.{asked, guest_of, Does}
-use Rattle.guest_calls.specs.Results.{Call, CallResult, Guest, arg, answered_or, first_answer, returns, unless, ◌⇒◌, ◌or◌, ◌▷◌, changes, reads, read_event}
+use Rattle.guest_calls.specs.Results.{Syscall, SyscallResult, Guest, arg, answered_or, first_answer, returns, unless, ◌⇒◌, ◌or◌, ◌▷◌, changes, reads, read_event}
 use Rattle.guest_calls.specs.Vectors.{all_in_reach, fills_parts, filled_parts, readv, readv_effect, readv_parts, readv_tests, table_tests}
 use Rattle.guest_calls.proofs.PartLists.{behind, filled_behind}
 
@@ -33,7 +33,7 @@ first_answer_none (x ∷ xs) ys none =
     ap (λ (b : Bool). cond b (Some x.1) (first_answer (xs ++ ys))) parts.0 ∙ first_answer_none xs ys parts.1
 
 -- readv(2), of the descriptor, the bytes and the cut parts
-abbrev pub readv_of : Call → Descriptor → List ℕ → List IoVec → CallResult
+abbrev pub readv_of : Syscall → Descriptor → List ℕ → List IoVec → SyscallResult
 readv_of c file bytes into =
     unless c (
     not (is_source file) ⇒ ebadf
@@ -46,7 +46,7 @@ readv_of c file bytes into =
     ▷ changes (advanced file (arg c 0) (length bytes))
 
 -- where all tests pass, it carries the bytes
-readv_carries : (c : Call) (file : Descriptor) (bytes : List ℕ) (into : List IoVec) → is_source file ≡ true → first_answer (table_tests c.memory (arg c 1) (arg c 2)) ≡ None → all_in_reach (can_write c.memory) into ≡ true
+readv_carries : (c : Syscall) (file : Descriptor) (bytes : List ℕ) (into : List IoVec) → is_source file ≡ true → first_answer (table_tests c.memory (arg c 1) (arg c 2)) ≡ None → all_in_reach (can_write c.memory) into ≡ true
     → readv_of c file bytes into ≡ (returns c (length bytes) ▷ reads c.tid (arg c 1) (8 * arg c 2) ▷ fills_parts into bytes ▷ changes (advanced file (arg c 0) (length bytes)))
 readv_carries c file bytes into source passed reach =
     let last : List (Bool × ℕ) = (not (all_in_reach (can_write c.memory) into), efault) ∷ [] in
@@ -72,7 +72,7 @@ readv_does caller state new memory memory' held held' before middle after file b
     filled ∙ ap (λ (es : List Event). filled_parts into bytes (record { memory = memory_of memory; held = reserved_by held; events = es })) noted
     ∙ filled_behind into bytes (memory_of memory) (reserved_by held) before.list e
     in
-    subst (λ (r : CallResult). Does r (Back (length bytes)) new memory' held' before after) (sym (readv_carries c file bytes into source passed reach)) (record {
+    subst (λ (r : SyscallResult). Does r (Back (length bytes)) new memory' held' before after) (sym (readv_carries c file bytes into source passed reach)) (record {
       answered = refl;
       state_is = moved;
       memory_is = ap (λ (g : Guest). g.memory) is;
@@ -96,7 +96,7 @@ pub readv_refused : (caller : Caller) (state : KernelState) (memory : GuestMemor
     is_source (descriptor made.kernel (arg made 0)) ≡ true → first_answer (table_tests made.memory (arg made 1) (arg made 2)) ≡ Some errno →
     Does (readv made) (Back errno) state memory held events events
 readv_refused caller state memory held events errno source refused =
-    let made : Call = asked caller state memory held in
+    let made : Syscall = asked caller state memory held in
     let last : List (Bool × ℕ) = (not (all_in_reach (can_write made.memory) (readv_parts made)), efault) ∷ [] in
     let tests : first_answer (readv_tests made) ≡ Some errno =
     ap (λ (b : Bool). cond (not b) (Some ebadf) (first_answer (table_tests made.memory (arg made 1) (arg made 2) ++ last))) source

@@ -5,17 +5,17 @@ use Rattle.std.proofs.lemmas.Bool.{not-false}
 use Rattle.guest_calls.specs.declared.answer.Answer.TheVariants.{Back, Block}
 use Rattle.guest_calls.specs.Clock.{clock_gettime, clock_gettime_effect, clock_gettime_tests, clock_nanosleep, clock_nanosleep_effect, clock_nanosleep_tests, nanosleep_end, sleeps, time_bytes, time_size, with_deadline}
 use Rattle.guest_calls.specs.Lawful.{IsLawful}
-use Rattle.guest_calls.specs.Results.{Call, arg, readable, reads, returns, ◌▷◌}
+use Rattle.guest_calls.specs.Results.{Syscall, arg, readable, reads, returns, ◌▷◌}
 use Rattle.guest_calls.proofs.Lawful.{AreFailed, kept, lawful_by, lawful_either, lawful_fills, lawful_unless, read_fair, steady}
 use Rattle.guest_calls.proofs.Reach.{readable_end}
 
-pub clock_gettime_is_lawful : (c : Call) → IsLawful c (clock_gettime c)
+pub clock_gettime_is_lawful : (c : Syscall) → IsLawful c (clock_gettime c)
 clock_gettime_is_lawful c =
     lawful_unless c (clock_gettime_tests c) (λ _. clock_gettime_effect c)
     (λ (all : AreFailed (clock_gettime_tests c)).
     lawful_fills c c.kernel 0 (arg c 1) (time_bytes c.kernel.time) (steady c.kernel) (λ can. can) all.1.0)
 
-pub clock_nanosleep_is_lawful : (c : Call) → IsLawful c (clock_nanosleep c)
+pub clock_nanosleep_is_lawful : (c : Syscall) → IsLawful c (clock_nanosleep c)
 clock_nanosleep_is_lawful c =
     lawful_unless c (clock_nanosleep_tests c) (λ _. clock_nanosleep_effect c)
     (λ (all : AreFailed (clock_nanosleep_tests c)).

@@ -12,7 +12,7 @@ use Rattle.guest_calls.specs.declared.thread.Thread.{Thread}
 use Rattle.guest_calls.specs.Clone.{child_clear_tid, clone, clone_effect, clone_tests, is_denied, sets_child, sets_parent}
 use Rattle.guest_calls.specs.Kernel.{is_blocked, is_thread, lives}
 use Rattle.guest_calls.specs.Lawful.{IsLawful}
-use Rattle.guest_calls.specs.Results.{Call, Guest, arg, fill_event, filled_where, has, returns}
+use Rattle.guest_calls.specs.Results.{Syscall, Guest, arg, fill_event, filled_where, has, returns}
 use Rattle.guest_calls.proofs.Births.{not_denied}
 use Rattle.guest_calls.proofs.Lawful.{AreFailed, AreFair, IsKept, fill_copies, fill_fair, fill_few, fill_weight, filled_kept, kept, kept_free, lawful_unless, none_fair, steady, two_fair}
 use Rattle.guest_calls.proofs.Reach.{writable_end}
@@ -21,11 +21,11 @@ use Rattle.guest_calls.proofs.Reach.{writable_end}
 asked_end : (m : Memory) (asked : Bool) (at : ℕ) → is_denied m asked at ≡ false → asked ≡ true → at + 4 ≤ 2 ^ 32
 asked_end m asked at allowed is = writable_end m at 4 (not_denied m asked at allowed is) (omega arith)
 
-where_kept : (c : Call) (asked : Bool) (at n : ℕ) (g : Guest) → IsKept c g → IsKept c (filled_where asked at n g)
+where_kept : (c : Syscall) (asked : Bool) (at n : ℕ) (g : Guest) → IsKept c g → IsKept c (filled_where asked at n g)
 where_kept c true at n g before = filled_kept c g at (to_le_bytes w32 n) before
 where_kept c false at n g before = before
 
-where_fair : (c : Call) (a b : Bool) (to at n : ℕ) → (a ≡ true → to + 4 ≤ 2 ^ 32) → (b ≡ true → at + 4 ≤ 2 ^ 32) →
+where_fair : (c : Syscall) (a b : Bool) (to at n : ℕ) → (a ≡ true → to + 4 ≤ 2 ^ 32) → (b ≡ true → at + 4 ≤ 2 ^ 32) →
     AreFair c.tid (filled_where b at n (filled_where a to n (returns c n).guest)).events
 where_fair c true true to at n one two =
     two_fair c.tid (fill_event to 4) (fill_event at 4) (fill_few to 4) (fill_few at 4)
@@ -41,7 +41,7 @@ more_live : (threads : List Thread) (t : Thread) (q : ℕ) →
 more_live threads t q live =
     list_any-append (is_thread q) threads (t ∷ []) ∙ ap (λ (b : Bool). b || list_any (is_thread q) (t ∷ [])) live
 
-pub clone_is_lawful : (c : Call) → IsLawful c (clone c)
+pub clone_is_lawful : (c : Syscall) → IsLawful c (clone c)
 clone_is_lawful c =
     lawful_unless c (clone_tests c) (λ _. clone_effect c)
     (λ (all : AreFailed (clone_tests c)).

@@ -14,14 +14,14 @@ use Rattle.guest_calls.specs.Clone.{are_flags_taken, child_clear_tid, child_regi
 use Rattle.guest_calls.specs.Errors.{eagain, efault, enosys}
 use Rattle.guest_calls.specs.Kernel.{KernelState}
 use Rattle.guest_calls.specs.Outcome.{asked, guest_of, Does}
-use Rattle.guest_calls.specs.Results.{Call, CallResult, Guest, answered_or, arg, filled_where, first_answer, has, ◌⇒◌, ◌or◌}
+use Rattle.guest_calls.specs.Results.{Syscall, SyscallResult, Guest, answered_or, arg, filled_where, first_answer, has, ◌⇒◌, ◌or◌}
 
 none_holds : (a b d e : Bool) → a ≡ false → b ≡ false → d ≡ false → e ≡ false
     → first_answer (a ⇒ enosys or b ⇒ eagain or d ⇒ efault or e ⇒ efault) ≡ None
 none_holds a b d e p q r s = rw (p, q, r, s) refl
 
 -- no test refuses it
-pub clone_passed : (c : Call) → are_flags_taken (arg c 0) ≡ true → is_full c.kernel ≡ false
+pub clone_passed : (c : Syscall) → are_flags_taken (arg c 0) ≡ true → is_full c.kernel ≡ false
     → is_denied c.memory (has (arg c 0) sets_parent) (arg c 2) ≡ false
     → is_denied c.memory (has (arg c 0) sets_child) (arg c 4) ≡ false → clone c ≡ clone_effect c
 clone_passed c taken free parent child =
@@ -66,7 +66,7 @@ clone_does caller state after memory last held kept left events all between flag
     (filled_where (has (arg c 0) sets_parent) (arg c 2) number (guest_of memory held events)) = cc in
     let parts = both ∙ filled_twice (has (arg c 0) sets_parent) (has (arg c 0) sets_child) (arg c 2) (arg c 4) number c.memory c.held events.list in
     let left_of : reserved_by left ≡ without_thread (reserved_by kept) number = cc in
-    subst (λ (r : CallResult). Does r (Born tid child) after last left events all) (sym same) (record {
+    subst (λ (r : SyscallResult). Does r (Born tid child) after last left events all) (sym same) (record {
       answered = cc;
       state_is = cc;
       memory_is = ap (λ (g : Guest). g.memory) parts;

@@ -11,7 +11,7 @@ use Rattle.guest_calls.specs.declared.descriptor.Descriptor.TheVariants.{Closed,
 use Rattle.guest_calls.specs.Files.{advanced, close, close_tests, ends_path, input_index, least_free, llseek, llseek_effect, llseek_tests, openat, openat_effect, openat_tests, path_end, read, read_bytes, read_effect, read_tests, target, with_position, write, write_count, write_effect, write_tests}
 use Rattle.guest_calls.specs.Kernel.{KernelState, can_run, descriptor, with_descriptor}
 use Rattle.guest_calls.specs.Lawful.{IsLawful}
-use Rattle.guest_calls.specs.Results.{Call, arg, number, read_event, readable, returns, sets, ◌▷◌}
+use Rattle.guest_calls.specs.Results.{Syscall, arg, number, read_event, readable, returns, sets, ◌▷◌}
 use Rattle.guest_calls.proofs.Lawful.{AreFailed, AreFair, IsSteady, calm_lawful, kept, lawful_by, lawful_changes, lawful_fills, lawful_unless, read_fair, steady}
 use Rattle.guest_calls.proofs.Passed.{found_below, found_from}
 use Rattle.guest_calls.proofs.Reach.{readable_end}
@@ -31,7 +31,7 @@ pub advanced_able : (d : Descriptor) (fd n : ℕ) (k : KernelState) (tid : ℕ) 
 advanced_able Closed fd n k tid can = can
 advanced_able _ fd n k tid can = can
 
-path_fair : (c : Call) (path : ℕ) (o : Option ℕ) → o ≡ path_end c.memory path →
+path_fair : (c : Syscall) (path : ℕ) (o : Option ℕ) → o ≡ path_end c.memory path →
     option_map_or (λ at. not (can_read c.memory at 1)) o false ≡ false → is_none o ≡ false →
     AreFair c.tid (read_event c.tid path (unwrap_or o path - path + 1))
 path_fair c path None is reach some = absurd (cc)
@@ -41,7 +41,7 @@ path_fair c path (Some stop) is reach some =
     let end = readable_end c.memory stop 1 (not-false (can_read c.memory stop 1) reach) (omega arith) in
     read_fair c.tid path (stop - path + 1) (omega (arith, below)) (λ one. omega (arith, from, end))
 
-pub openat_is_lawful : (c : Call) → IsLawful c (openat c)
+pub openat_is_lawful : (c : Syscall) → IsLawful c (openat c)
 openat_is_lawful c =
     lawful_unless c (openat_tests c) (λ _. openat_effect c)
     (λ (all : AreFailed (openat_tests c)).
@@ -51,13 +51,13 @@ openat_is_lawful c =
     (sets_steady c.kernel fd file) (λ goes can. can) (kept c _)
     (path_fair c (arg c 1) (path_end c.memory (arg c 1)) refl all.0 all.1.0))
 
-pub close_is_lawful : (c : Call) → IsLawful c (close c)
+pub close_is_lawful : (c : Syscall) → IsLawful c (close c)
 close_is_lawful c =
     lawful_unless c (close_tests c) (λ _. returns c 0 ▷ sets (arg c 0) Closed)
     (λ all.
     lawful_changes c (with_descriptor c.kernel (arg c 0) Closed) 0 (sets_steady c.kernel (arg c 0) Closed) (λ can. can))
 
-pub llseek_is_lawful : (c : Call) → IsLawful c (llseek c)
+pub llseek_is_lawful : (c : Syscall) → IsLawful c (llseek c)
 llseek_is_lawful c =
     lawful_unless c (llseek_tests c) (λ _. llseek_effect c)
     (λ (all : AreFailed (llseek_tests c)).
@@ -66,7 +66,7 @@ llseek_is_lawful c =
     lawful_fills c (with_descriptor c.kernel (arg c 0) (with_position file position)) 0 (arg c 3) (to_le_bytes w64 position)
     (sets_steady c.kernel (arg c 0) (with_position file position)) (λ can. can) all.1.1.1.1.0)
 
-pub read_is_lawful : (c : Call) → IsLawful c (read c)
+pub read_is_lawful : (c : Syscall) → IsLawful c (read c)
 read_is_lawful c =
     lawful_unless c (read_tests c) (λ _. read_effect c)
     (λ (all : AreFailed (read_tests c)).
@@ -78,7 +78,7 @@ read_is_lawful c =
 pub min_few : (n : ℕ) → min n 65536 ≤ 65536
 min_few n = omega arith
 
-pub write_is_lawful : (c : Call) → number c ≡ 64 → IsLawful c (write c)
+pub write_is_lawful : (c : Syscall) → number c ≡ 64 → IsLawful c (write c)
 write_is_lawful c is =
     lawful_unless c (write_tests c) (λ _. write_effect c)
     (λ (all : AreFailed (write_tests c)).

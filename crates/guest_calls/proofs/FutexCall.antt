@@ -12,38 +12,38 @@ use Rattle.guest_calls.specs.Errors.{eagain, enosys, etimedout}
 use Rattle.guest_calls.specs.Futex.{count_shifted, count_woken, futex, futex_at, futex_by, futex_limit, futex_tests, futex_to, futex_value, futex_value3, has_limit, is_over, operation, performed, reads_word, requeued, requeues, wait_end, waited, waits_for, woken_at}
 use Rattle.guest_calls.specs.Kernel.{KernelState, can_run}
 use Rattle.guest_calls.specs.Lawful.{IsLawful}
-use Rattle.guest_calls.specs.Results.{Call, CallResult, answers, either, read_event, readable, reads, returns, when, word, ◌▷◌}
+use Rattle.guest_calls.specs.Results.{Syscall, SyscallResult, answers, either, read_event, readable, reads, returns, when, word, ◌▷◌}
 use Rattle.guest_calls.proofs.Lawful.{AreFailed, AreFair, IsSteady, kept, lawful_by, lawful_changes, lawful_either, lawful_returns, lawful_unless, read_copies, read_fair, read_few, read_weight, steady, two_fair}
 use Rattle.guest_calls.proofs.Leaving.{woken_can_run}
 use Rattle.guest_calls.proofs.Queues.{requeued_can_run}
 use Rattle.guest_calls.proofs.Reach.{readable_end}
 
 -- ---- wakes
-wakes_lawful : (c : Call) (value bits : ℕ) →
+wakes_lawful : (c : Syscall) (value bits : ℕ) →
     IsLawful c (record (returns c value) { kernel = woken_at (futex_at c) (futex_value c) bits c.kernel })
 wakes_lawful c value bits =
     lawful_changes c (woken_at (futex_at c) (futex_value c) bits c.kernel) value
     (record { threads = refl; last = refl; break_is = refl })
     (woken_can_run c.kernel _ (futex_at c) (futex_value c) bits c.tid refl)
 
-abbrev requeued_kernel : Call → KernelState
+abbrev requeued_kernel : Syscall → KernelState
 requeued_kernel c = requeued (futex_at c) (futex_value c) (futex_limit c) (futex_to c) c.kernel
 
-requeue_steady : (c : Call) → IsSteady c.kernel (requeued_kernel c)
+requeue_steady : (c : Syscall) → IsSteady c.kernel (requeued_kernel c)
 requeue_steady c = record { threads = refl; last = refl; break_is = refl }
 
-requeue_able : (c : Call) → can_run c.kernel c.tid ≡ true → can_run (requeued_kernel c) c.tid ≡ true
+requeue_able : (c : Syscall) → can_run c.kernel c.tid ≡ true → can_run (requeued_kernel c) c.tid ≡ true
 requeue_able c can = requeued_can_run c.kernel (futex_at c) (futex_value c) (futex_limit c) (futex_to c) c.tid can
 
 -- ---- waits
 -- the word that is looked at is read
-word_fair : (c : Call) → (true && not (readable c (futex_at c) 4)) ≡ false → AreFair c.tid (read_event c.tid (futex_at c) 4)
+word_fair : (c : Syscall) → (true && not (readable c (futex_at c) 4)) ≡ false → AreFair c.tid (read_event c.tid (futex_at c) 4)
 word_fair c reach =
     read_fair c.tid (futex_at c) 4 (omega arith)
     (readable_end c.memory (futex_at c) 4 (not-false (readable c (futex_at c) 4) reach))
 
 -- so is the limit of a wait, before it
-limit_fair : (c : Call) → readable c (futex_limit c) time_size ≡ true → (true && not (readable c (futex_at c) 4)) ≡ false →
+limit_fair : (c : Syscall) → readable c (futex_limit c) time_size ≡ true → (true && not (readable c (futex_at c) 4)) ≡ false →
     AreFair c.tid (read_event c.tid (futex_limit c) time_size ++ read_event c.tid (futex_at c) 4)
 limit_fair c limit reach =
     two_fair c.tid (read_event c.tid (futex_limit c) time_size) (read_event c.tid (futex_at c) 4)
@@ -53,23 +53,23 @@ limit_fair c limit reach =
     (read_copies c.tid (futex_at c) 4 (readable_end c.memory (futex_at c) 4 (not-false (readable c (futex_at c) 4) reach)))
 
 -- what a wait reads
-abbrev looked : Call → Option ℕ → CallResult
+abbrev looked : Syscall → Option ℕ → SyscallResult
 looked c end = returns c 0 ▷ when (is_some end) (reads c.tid (futex_limit c) time_size) ▷ reads c.tid (futex_at c) 4
 
-looked_fair : (c : Call) (end : Option ℕ) → (is_some end ≡ true → readable c (futex_limit c) time_size ≡ true) →
+looked_fair : (c : Syscall) (end : Option ℕ) → (is_some end ≡ true → readable c (futex_limit c) time_size ≡ true) →
     (true && not (readable c (futex_at c) 4)) ≡ false →
     AreFair c.tid (looked c end).guest.events
 looked_fair c None limit reach = word_fair c reach
 looked_fair c (Some end) limit reach = limit_fair c (limit refl) reach
 
-back_lawful : (c : Call) (errno : ℕ) (end : Option ℕ) → AreFair c.tid (looked c end).guest.events →
+back_lawful : (c : Syscall) (errno : ℕ) (end : Option ℕ) → AreFair c.tid (looked c end).guest.events →
     IsLawful c (answers (Back errno) (looked c end))
 back_lawful c errno None fair =
     lawful_by c (Back errno) c.kernel (looked c None).guest tt (steady c.kernel) (λ goes can. can) (kept c _) fair
 back_lawful c errno (Some end) fair =
     lawful_by c (Back errno) c.kernel (looked c (Some end)).guest tt (steady c.kernel) (λ goes can. can) (kept c _) fair
 
-begun_lawful : (c : Call) (bits : ℕ) (end : Option ℕ) → AreFair c.tid (looked c end).guest.events →
+begun_lawful : (c : Syscall) (bits : ℕ) (end : Option ℕ) → AreFair c.tid (looked c end).guest.events →
     IsLawful c (waits_for c bits end (looked c end))
 begun_lawful c bits None fair =
     lawful_by c Block (waits_for c bits None (looked c None)).kernel (looked c None).guest tt
@@ -78,7 +78,7 @@ begun_lawful c bits (Some end) fair =
     lawful_by c Block (waits_for c bits (Some end) (looked c (Some end))).kernel (looked c (Some end)).guest tt
     (record { threads = refl; last = refl; break_is = refl }) (λ goes. absurd (cc)) (kept c _) fair
 
-waited_lawful : (c : Call) (bits : ℕ) (end : Option ℕ) → (is_some end ≡ true → readable c (futex_limit c) time_size ≡ true) →
+waited_lawful : (c : Syscall) (bits : ℕ) (end : Option ℕ) → (is_some end ≡ true → readable c (futex_limit c) time_size ≡ true) →
     (true && not (readable c (futex_at c) 4)) ≡ false → IsLawful c (waited c bits end)
 waited_lawful c bits end limit reach =
     let fair = looked_fair c end limit reach in
@@ -89,12 +89,12 @@ waited_lawful c bits end limit reach =
     (back_lawful c eagain end fair)
 
 -- where there is an end there is a limit, which is in reach
-limit_reach : (c : Call) (b : Bool) (end : ℕ) → (true && (not b && not (readable c (futex_limit c) time_size))) ≡ false →
+limit_reach : (c : Syscall) (b : Bool) (end : ℕ) → (true && (not b && not (readable c (futex_limit c) time_size))) ≡ false →
     is_some (cond b None (Some end)) ≡ true → readable c (futex_limit c) time_size ≡ true
 limit_reach c true end reach some = absurd (cc)
 limit_reach c false end reach some = not-false (readable c (futex_limit c) time_size) reach
 
-performed_lawful : (o : Operation) (c : Call) → (has_limit o c && not (readable c (futex_limit c) time_size)) ≡ false →
+performed_lawful : (o : Operation) (c : Syscall) → (has_limit o c && not (readable c (futex_limit c) time_size)) ≡ false →
     (reads_word o && not (readable c (futex_at c) 4)) ≡ false → IsLawful c (performed o c)
 performed_lawful Wait c limit reach =
     waited_lawful c all_bits (wait_end Wait c) (limit_reach c (futex_limit c == 0) _ limit) reach
@@ -112,11 +112,11 @@ performed_lawful CmpRequeue c limit reach =
     (requeue_steady c) (λ goes. requeue_able c) (kept c _) (word_fair c reach))
     (lawful_by c (Back eagain) c.kernel read.guest tt (steady c.kernel) (λ goes can. can) (kept c _) (word_fair c reach))
 
-by_operation : (o : Option Operation) (c : Call) → IsLawful c (option_map_or (futex_by c) o (returns c enosys))
+by_operation : (o : Option Operation) (c : Syscall) → IsLawful c (option_map_or (futex_by c) o (returns c enosys))
 by_operation None c = lawful_returns c enosys
 by_operation (Some o) c =
     lawful_unless c (futex_tests o c) (λ _. performed o c)
     (λ (all : AreFailed (futex_tests o c)). performed_lawful o c all.1.1.1.1.0 all.1.1.1.1.1.1.0)
 
-pub futex_is_lawful : (c : Call) → IsLawful c (futex c)
+pub futex_is_lawful : (c : Syscall) → IsLawful c (futex c)
 futex_is_lawful c = by_operation (operation c) c

@@ -3,7 +3,7 @@ use Rattle.std.proofs.Common.{◌≡◌, ◌≢◌, ℕ, zero, suc, ◌≤◌, �
 use Rattle.std.specs.Prelude.{not, ◌==◌, ◌||◌, is_some}
 use Rattle.std.specs.List.{list_any}
 use Rattle.std.proofs.lemmas.Bool.{not-false}
-use Rattle.guest_words.specs.declared.limits.TheConstants.{CALL_EVENTS}
+use Rattle.guest_words.specs.declared.limits.TheConstants.{SYSCALL_EVENTS}
 use Rattle.guest_words.specs.Words.{word_count}
 use Rattle.guest_words.specs.declared.rights.Rights.{Rights}
 use Rattle.guest_memory.specs.Memory.{Memory}
@@ -17,14 +17,14 @@ use Rattle.guest_calls.specs.declared.thread.Thread.{Thread}
 use Rattle.guest_calls.specs.Kernel.{KernelState, can_run, lives}
 use Rattle.guest_calls.specs.Lawful.{AreCopies, BeginsBehind, EndsWithByte, GivesNumber, IsLawful, goes_on, tids, tids_after}
 use Rattle.guest_calls.specs.Pages.{IsBreakFree, remaps}
-use Rattle.guest_calls.specs.Results.{Call, CallResult, Guest, ◌▷◌, answered_or, changes, either, fill_event, filled, fills, first_answer, number, read_event, returns, unless, writable}
+use Rattle.guest_calls.specs.Results.{Syscall, SyscallResult, Guest, ◌▷◌, answered_or, changes, either, fill_event, filled, fills, first_answer, number, read_event, returns, unless, writable}
 use Rattle.guest_calls.proofs.Passed.{failed}
 use Rattle.guest_calls.proofs.Reach.{writable_end}
 
 -- ---- events
 -- few events of little weight, each a copy for the thread
 pub record AreFair (tid : ℕ) (events : List Event) : Type 0 where
-  pub few : length events ≤ CALL_EVENTS
+  pub few : length events ≤ SYSCALL_EVENTS
   pub light : weight events ≤ 65536
   pub copies : AreCopies tid events
 
@@ -131,27 +131,27 @@ pub steady : (k : KernelState) → IsSteady k k
 steady k = record { threads = refl; last = refl; break_is = refl }
 
 -- the rights of the pages; and no reservation is new
-pub record IsKept (c : Call) (g : Guest) : Type 0 where
+pub record IsKept (c : Syscall) (g : Guest) : Type 0 where
   pub rights : g.memory.rights ≡ c.memory.rights
   pub held : (q : ℕ) → is_some (g.held q) ≡ true → is_some (c.held q) ≡ true
 
-pub kept : (c : Call) (events : List Event) → IsKept c (record { memory = c.memory; held = c.held; events = events })
+pub kept : (c : Syscall) (events : List Event) → IsKept c (record { memory = c.memory; held = c.held; events = events })
 kept c events = record { rights = refl; held = λ q some. some }
 
-pub filled_kept : (c : Call) (g : Guest) (at : ℕ) (bytes : List ℕ) → IsKept c g → IsKept c (filled at bytes g)
+pub filled_kept : (c : Syscall) (g : Guest) (at : ℕ) (bytes : List ℕ) → IsKept c g → IsKept c (filled at bytes g)
 filled_kept c g at bytes before = record {
   rights = before.rights;
   held = λ q some. before.held q (some_of_rest _ (g.held q) some);
 }
 
-pub kept_free : (c : Call) (k : KernelState) (g : Guest) → IsSteady c.kernel k → IsKept c g →
+pub kept_free : (c : Syscall) (k : KernelState) (g : Guest) → IsSteady c.kernel k → IsKept c g →
     IsBreakFree c.memory c.kernel.program_break → IsBreakFree g.memory k.program_break
 kept_free c k g same rest free =
     subst (λ (b : ℕ). IsBreakFree g.memory b) (sym same.break_is)
     (λ q low high. ap (λ (rights : ℕ → Option Rights). rights q) rest.rights ∙ free q low high)
 
 -- the same threads live afterwards
-pub record IsCalm (c : Call) (r : CallResult) : Type 0 where
+pub record IsCalm (c : Syscall) (r : SyscallResult) : Type 0 where
   pub stays : Stays r.answer
   pub threads : tids r.kernel ≡ tids c.kernel
   pub last : r.kernel.last_tid ≡ c.kernel.last_tid
@@ -161,7 +161,7 @@ pub record IsCalm (c : Call) (r : CallResult) : Type 0 where
   pub fair : AreFair c.tid r.guest.events
   pub silent : number c ≢ 64 → number c ≢ 66 → r.out ≡ None
 
-pub calm_lawful : (c : Call) (r : CallResult) → IsCalm c r → IsLawful c r
+pub calm_lawful : (c : Syscall) (r : SyscallResult) → IsCalm c r → IsLawful c r
 calm_lawful c r calm = record {
   few = calm.fair.few;
   light = calm.fair.light;
@@ -178,11 +178,11 @@ calm_lawful c r calm = record {
 
 -- ---- kinds of calls
 -- the thread still can run in this state
-abbrev pub StillRuns : Call → KernelState → Type 0
+abbrev pub StillRuns : Syscall → KernelState → Type 0
 StillRuns c k = can_run c.kernel c.tid ≡ true → can_run k c.tid ≡ true
 
 -- a call that answers so and puts no byte out
-pub lawful_by : (c : Call) (answer : Answer) (k : KernelState) (g : Guest) → Stays answer → IsSteady c.kernel k →
+pub lawful_by : (c : Syscall) (answer : Answer) (k : KernelState) (g : Guest) → Stays answer → IsSteady c.kernel k →
     (goes_on answer ≡ true → StillRuns c k) → IsKept c g → AreFair c.tid g.events →
     IsLawful c (record { answer = answer; kernel = k; guest = g; out = None })
 lawful_by c answer k g stays same able rest fair = calm_lawful c _ (record {
@@ -197,17 +197,17 @@ lawful_by c answer k g stays same able rest fair = calm_lawful c _ (record {
 })
 
 -- a call that changes the kernel alone
-pub lawful_changes : (c : Call) (k : KernelState) (value : ℕ) → IsSteady c.kernel k → StillRuns c k →
+pub lawful_changes : (c : Syscall) (k : KernelState) (value : ℕ) → IsSteady c.kernel k → StillRuns c k →
     IsLawful c (record (returns c value) { kernel = k })
 lawful_changes c k value same able =
     lawful_by c (Back value) k (returns c value).guest tt same (λ goes. able) (kept c []) (none_fair c.tid)
 
 -- a call that changes nothing
-pub lawful_returns : (c : Call) (value : ℕ) → IsLawful c (returns c value)
+pub lawful_returns : (c : Syscall) (value : ℕ) → IsLawful c (returns c value)
 lawful_returns c value = lawful_changes c c.kernel value (steady c.kernel) (λ can. can)
 
 -- a call that fills bytes, where they can be written, and may change the kernel
-pub lawful_fills : (c : Call) (k : KernelState) (value at : ℕ) (bytes : List ℕ) → IsSteady c.kernel k → StillRuns c k →
+pub lawful_fills : (c : Syscall) (k : KernelState) (value at : ℕ) (bytes : List ℕ) → IsSteady c.kernel k → StillRuns c k →
     not (writable c at (length bytes)) ≡ false → IsLawful c (record (returns c value ▷ fills at bytes) { kernel = k })
 lawful_fills c k value at bytes same able reach =
     lawful_by c (Back value) k (returns c value ▷ fills at bytes).guest tt same (λ goes. able)
@@ -215,7 +215,7 @@ lawful_fills c k value at bytes same able reach =
     (fill_fair c.tid at (length bytes) (writable_end c.memory at (length bytes) (not-false (writable c at (length bytes)) reach)))
 
 -- a call that changes the pages, and in the kernel at most the break
-pub lawful_remaps : (c : Call) (value b : ℕ) (m : Memory) →
+pub lawful_remaps : (c : Syscall) (value b : ℕ) (m : Memory) →
     (IsBreakFree c.memory c.kernel.program_break → IsBreakFree m b) →
     IsLawful c (returns c value ▷ changes (λ k. record k { program_break = b }) ▷ remaps (λ _. m))
 lawful_remaps c value b m free = calm_lawful c _ (record {
@@ -229,7 +229,7 @@ lawful_remaps c value b m free = calm_lawful c _ (record {
   silent = λ no_write no_writev. refl;
 })
 
-pub lawful_either : (c : Call) (b : Bool) (one other : CallResult → CallResult) (r : CallResult) →
+pub lawful_either : (c : Syscall) (b : Bool) (one other : SyscallResult → SyscallResult) (r : SyscallResult) →
     IsLawful c (one r) → IsLawful c (other r) → IsLawful c (either b one other r)
 lawful_either c true one other r here there = here
 lawful_either c false one other r here there = there
@@ -244,13 +244,13 @@ all_failed : (tests : List (Bool × ℕ)) → first_answer tests ≡ None → Ar
 all_failed [] passed = tt
 all_failed (t ∷ tests) passed = let one = failed t.0 t.1 (first_answer tests) passed in (one.0, all_failed tests one.1)
 
-lawful_answered : (c : Call) (o : Option ℕ) (effect : Unit {0} → CallResult) →
+lawful_answered : (c : Syscall) (o : Option ℕ) (effect : Unit {0} → SyscallResult) →
     (o ≡ None → IsLawful c (effect tt)) → IsLawful c (answered_or o c effect)
 lawful_answered c None effect done = done refl
 lawful_answered c (Some value) effect done = lawful_returns c value
 
 -- a call with tests is refused, or all its tests fail
-pub lawful_unless : (c : Call) (tests : List (Bool × ℕ)) (effect : Unit {0} → CallResult) →
+pub lawful_unless : (c : Syscall) (tests : List (Bool × ℕ)) (effect : Unit {0} → SyscallResult) →
     (AreFailed tests → IsLawful c (effect tt)) → IsLawful c (unless c tests effect)
 lawful_unless c tests effect done =
     lawful_answered c (first_answer tests) effect (λ passed. done (all_failed tests passed))

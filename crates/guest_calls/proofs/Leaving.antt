@@ -13,7 +13,7 @@ use Rattle.guest_calls.specs.Kernel.{KernelState, is_thread, can_run, is_blocked
 use Rattle.futex_table.specs.Waiting.{all_bits}
 use Rattle.guest_calls.specs.Futex.{wakes, woken_at}
 use Rattle.guest_calls.specs.Kernel.{has_others}
-use Rattle.guest_calls.specs.Results.{Call, returns, writable, fills_word, when, ◌▷◌}
+use Rattle.guest_calls.specs.Results.{Syscall, returns, writable, fills_word, when, ◌▷◌}
 use Rattle.guest_calls.specs.Threads.{with_clear_tid, clear_tid, told_end}
 use Rattle.guest_calls.proofs.Blocked.{not_blocked, still_can_run}
 use Rattle.guest_calls.proofs.Rising.{rises_filter}
@@ -93,7 +93,7 @@ pub cleared_is_state : (k new : KernelState) (tid at : ℕ) → IsState k → ne
 cleared_is_state k new tid at is after = subst IsState (sym after) (cleared_state k tid at is)
 
 -- where an end is told, it is told so
-pub told_where_cleared : (c : Call) (at : ℕ) → at ≡ clear_tid c → has_others c.kernel c.tid ≡ true → (at ≡ 0 → ⊥) → writable c at 4 ≡ true → told_end c ≡ (returns c 0 ▷ fills_word at 0 ▷ wakes at 1 all_bits)
+pub told_where_cleared : (c : Syscall) (at : ℕ) → at ≡ clear_tid c → has_others c.kernel c.tid ≡ true → (at ≡ 0 → ⊥) → writable c at 4 ≡ true → told_end c ≡ (returns c 0 ▷ fills_word at 0 ▷ wakes at 1 all_bits)
 told_where_cleared c at is others some reach =
     let set : (at == 0) ≡ false = ne_eqb at 0 some in
     let cleared : (has_others c.kernel c.tid && (not (at == 0) && writable c at 4)) ≡ true = ap₂ (λ (a b : Bool). a && b) others (ap₂ (λ (a b : Bool). not a && b) set reach) in

@@ -8,7 +8,7 @@ use Rattle.guest_memory.specs.Memory.{Memory, is_among, with_pages, with_rights}
 use Rattle.guest_memory.proofs.WrittenBytes.{among_below, among_past, among_yes}
 use Rattle.guest_calls.specs.Lawful.{IsLawful}
 use Rattle.guest_calls.specs.Pages.{IsBreakFree, are_mapped, brk, brk_effect, brk_tests, first_fit, fits_at, mmap2, mmap2_effect, mmap2_tests, mprotect, mprotect_effect, mprotect_tests, munmap, munmap_effect, munmap_tests, pages, rights_of}
-use Rattle.guest_calls.specs.Results.{Call, arg}
+use Rattle.guest_calls.specs.Results.{Syscall, arg}
 use Rattle.guest_calls.proofs.Fits.{mapped_each}
 use Rattle.guest_calls.proofs.Lawful.{AreFailed, lawful_remaps, lawful_unless}
 use Rattle.guest_calls.proofs.Passed.{found_from}
@@ -68,19 +68,19 @@ grown_free m old at r free q low high = elim (cases_lt q (pages old)) [
       (ap (λ (b : Bool). cond b (Some r) (m.rights q)) outside ∙ free q above (omega (arith, above, high)))
 ]
 
-pub brk_is_lawful : (c : Call) → IsLawful c (brk c)
+pub brk_is_lawful : (c : Syscall) → IsLawful c (brk c)
 brk_is_lawful c =
     lawful_unless c (brk_tests c) (λ _. brk_effect c)
     (λ all. lawful_remaps c (arg c 0) (arg c 0) (brk_effect c).guest.memory
     (grown_free c.memory c.kernel.program_break (arg c 0) (rights_of 3)))
 
-pub munmap_is_lawful : (c : Call) → IsLawful c (munmap c)
+pub munmap_is_lawful : (c : Syscall) → IsLawful c (munmap c)
 munmap_is_lawful c =
     lawful_unless c (munmap_tests c) (λ _. munmap_effect c)
     (λ all. lawful_remaps c 0 c.kernel.program_break (munmap_effect c).guest.memory
     (unmapped_free c.memory (arg c 0 / 4096) (pages (arg c 1)) c.kernel.program_break))
 
-pub mmap2_is_lawful : (c : Call) → IsLawful c (mmap2 c)
+pub mmap2_is_lawful : (c : Syscall) → IsLawful c (mmap2 c)
 mmap2_is_lawful c =
     lawful_unless c (mmap2_tests c) (λ _. mmap2_effect c)
     (λ (all : AreFailed (mmap2_tests c)).
@@ -90,7 +90,7 @@ mmap2_is_lawful c =
     (mapped_high c.memory (unwrap_or first 0) count (Some (rights_of (arg c 2))) c.kernel.program_break
     (fit_high first c.memory count refl all.1.1.1.1.0)))
 
-pub mprotect_is_lawful : (c : Call) → IsLawful c (mprotect c)
+pub mprotect_is_lawful : (c : Syscall) → IsLawful c (mprotect c)
 mprotect_is_lawful c =
     lawful_unless c (mprotect_tests c) (λ _. mprotect_effect c)
     (λ (all : AreFailed (mprotect_tests c)).

@@ -3,29 +3,29 @@ use Rattle.std.proofs.Common.{◌≡◌, ◌≢◌, ℕ, Bool, cond, List, [], �
 use Rattle.std.proofs.lemmas.Bool.{ne_eqb}
 use Rattle.trace_model.specs.EventList.{EventList}
 use Rattle.guest_calls.specs.Errors.{enosys}
-use Rattle.guest_calls.specs.Results.{Call, CallResult, number, returns}
-use Rattle.guest_calls.specs.Table.{always, call, call_numbered, table}
+use Rattle.guest_calls.specs.Results.{Syscall, SyscallResult, number, returns}
+use Rattle.guest_calls.specs.Table.{always, syscall, syscall_numbered, table}
 
-pub call_is : (c : Call) → call c ≡ call_numbered (number c) table c
-unfolding call
+pub call_is : (c : Syscall) → syscall c ≡ syscall_numbered (number c) table c
+unfolding syscall
 call_is c = refl
 
-pub called : (c : Call) (n : ℕ) → number c ≡ n → call c ≡ call_numbered n table c
-unfolding call
-called c n is = ap (λ m. call_numbered m table c) is
+pub called : (c : Syscall) (n : ℕ) → number c ≡ n → syscall c ≡ syscall_numbered n table c
+unfolding syscall
+called c n is = ap (λ m. syscall_numbered m table c) is
 
 -- the number is that of no row
-abbrev pub AreOther : ℕ → List (ℕ × (Call → CallResult)) → Type 0
+abbrev pub AreOther : ℕ → List (ℕ × (Syscall → SyscallResult)) → Type 0
 AreOther n [] = Unit {0}
 AreOther n (row ∷ rows) = (n ≢ row.0) × AreOther n rows
 
-passed_over : (n : ℕ) (rows : List (ℕ × (Call → CallResult))) → AreOther n rows → call_numbered n rows ≡ always enosys
+passed_over : (n : ℕ) (rows : List (ℕ × (Syscall → SyscallResult))) → AreOther n rows → syscall_numbered n rows ≡ always enosys
 passed_over n [] others = refl
 passed_over n (row ∷ rows) others =
-    ap (λ (b : Bool). cond b row.1 (call_numbered n rows)) (ne_eqb row.0 n (λ e. others.0 (sym e))) ∙ passed_over n rows others.1
+    ap (λ (b : Bool). cond b row.1 (syscall_numbered n rows)) (ne_eqb row.0 n (λ e. others.0 (sym e))) ∙ passed_over n rows others.1
 
-pub unknown : (c : Call) (n : ℕ) → number c ≡ n → AreOther n table → call c ≡ returns c enosys
-unknown c n is others = called c n is ∙ ap (λ (what : Call → CallResult). what c) (passed_over n table others)
+pub unknown : (c : Syscall) (n : ℕ) → number c ≡ n → AreOther n table → syscall c ≡ returns c enosys
+unknown c n is others = called c n is ∙ ap (λ (what : Syscall → SyscallResult). what c) (passed_over n table others)
 
 -- a call without events adds none
 pub none_added : (e : EventList) → e.list ++ [] ≡ e.list

@@ -12,11 +12,11 @@ use Rattle.guest_calls.specs.declared.answer.Answer.{Answer}
 use Rattle.guest_calls.specs.Kernel.{KernelState, Kept}
 use Rattle.guest_calls.specs.Outcome.{Does, Gives, IsAsBefore}
 use Rattle.guest_calls.specs.Pages.{IsBreakFree}
-use Rattle.guest_calls.specs.Results.{Call, CallResult}
-use Rattle.guest_calls.specs.Table.{call}
-use Rattle.guest_calls.proofs.AllCalls.{every_call_is_lawful}
+use Rattle.guest_calls.specs.Results.{Syscall, SyscallResult}
+use Rattle.guest_calls.specs.Table.{syscall}
+use Rattle.guest_calls.proofs.AllCalls.{every_syscall_is_lawful}
 
-pub does_before : (r : CallResult) (answer : Answer) (state : KernelState) (memory : GuestMemory) (held : Reservations) (b b' after : EventList) → b.list ≡ b'.list → Does r answer state memory held b after → Does r answer state memory held b' after
+pub does_before : (r : SyscallResult) (answer : Answer) (state : KernelState) (memory : GuestMemory) (held : Reservations) (b b' after : EventList) → b.list ≡ b'.list → Does r answer state memory held b after → Does r answer state memory held b' after
 does_before r answer state memory held b b' after same d = record {
   answered = d.answered;
   state_is = d.state_is;
@@ -26,10 +26,10 @@ does_before r answer state memory held b b' after same d = record {
 }
 
 -- room for events changes no list
-pub gives_before : (r : CallResult) (answer : Answer) (kept : Kept) (memory : GuestMemory) (held : Reservations) (b b' after : EventList) → b.list ≡ b'.list → Gives r answer kept memory held b after → Gives r answer kept memory held b' after
+pub gives_before : (r : SyscallResult) (answer : Answer) (kept : Kept) (memory : GuestMemory) (held : Reservations) (b b' after : EventList) → b.list ≡ b'.list → Gives r answer kept memory held b after → Gives r answer kept memory held b' after
 gives_before r answer kept memory held b b' after same g = record { does = does_before r answer kept.state memory held b b' after same g.does; out = g.out }
 
-pub if_gives_before : (result : Result Answer AllocError) (r : CallResult) (kept : Kept) (memory : GuestMemory) (held : Reservations) (b b' after : EventList) → b.list ≡ b'.list → IfOk result (λ (answer : Answer). Gives r answer kept memory held b after) → IfOk result (λ (answer : Answer). Gives r answer kept memory held b' after)
+pub if_gives_before : (result : Result Answer AllocError) (r : SyscallResult) (kept : Kept) (memory : GuestMemory) (held : Reservations) (b b' after : EventList) → b.list ≡ b'.list → IfOk result (λ (answer : Answer). Gives r answer kept memory held b after) → IfOk result (λ (answer : Answer). Gives r answer kept memory held b' after)
 if_gives_before (Ok answer) r kept memory held b b' after same g = gives_before r answer kept memory held b b' after same g
 if_gives_before (Err e) r kept memory held b b' after same g = g
 
@@ -41,12 +41,12 @@ refused_before (Err e) kept new memory memory' held held' b b' after same h = re
 }
 
 -- the pages behind the break are free after a call
-pub free_after : (made : Call) (answer : Answer) (kept : Kept) (memory : GuestMemory) (held : Reservations) (b after : EventList) → Gives (call made) answer kept memory held b after → IsBreakFree made.memory made.kernel.program_break → IsBreakFree (memory_of memory) kept.state.program_break
+pub free_after : (made : Syscall) (answer : Answer) (kept : Kept) (memory : GuestMemory) (held : Reservations) (b after : EventList) → Gives (syscall made) answer kept memory held b after → IsBreakFree made.memory made.kernel.program_break → IsBreakFree (memory_of memory) kept.state.program_break
 free_after made answer kept memory held b after g free =
     subst (λ (m : Memory). IsBreakFree m kept.state.program_break) (sym g.does.memory_is)
-    (subst (λ (k : KernelState). IsBreakFree (call made).guest.memory k.program_break) (sym g.does.state_is) ((every_call_is_lawful made).break_free free))
+    (subst (λ (k : KernelState). IsBreakFree (syscall made).guest.memory k.program_break) (sym g.does.state_is) ((every_syscall_is_lawful made).break_free free))
 
-pub free_either_way : (result : Result Answer AllocError) (made : Call) (old kept : Kept) (memory memory' : GuestMemory) (held held' : Reservations) (b b' after : EventList) → IfOk result (λ (answer : Answer). Gives (call made) answer kept memory' held' b after) → OnErr result (IsAsBefore old kept memory memory' held held' b' after) → old.state ≡ made.kernel → memory_of memory ≡ made.memory → IsBreakFree made.memory made.kernel.program_break → IsBreakFree (memory_of memory') kept.state.program_break
+pub free_either_way : (result : Result Answer AllocError) (made : Syscall) (old kept : Kept) (memory memory' : GuestMemory) (held held' : Reservations) (b b' after : EventList) → IfOk result (λ (answer : Answer). Gives (syscall made) answer kept memory' held' b after) → OnErr result (IsAsBefore old kept memory memory' held held' b' after) → old.state ≡ made.kernel → memory_of memory ≡ made.memory → IsBreakFree made.memory made.kernel.program_break → IsBreakFree (memory_of memory') kept.state.program_break
 free_either_way (Ok answer) made old kept memory memory' held held' b b' after g h kernel_is memory_is free = free_after made answer kept memory' held' b after g free
 free_either_way (Err e) made old kept memory memory' held held' b b' after g h kernel_is memory_is free =
     subst (λ (m : Memory). IsBreakFree m kept.state.program_break) (sym (h.untouched.memory_same ∙ memory_is))

@@ -22,7 +22,7 @@ use Rattle.guest_calls.specs.Errors.{efault, einval}
 use Rattle.guest_calls.specs.Invariant.{IsState}
 use Rattle.guest_calls.specs.Kernel.{KernelState, is_thread, lives}
 use Rattle.guest_calls.specs.Outcome.{Does, asked}
-use Rattle.guest_calls.specs.Results.{Call, CallResult, answered_or, arg, either, first_answer, read_event, readable, reads, returns, ◌▷◌}
+use Rattle.guest_calls.specs.Results.{Syscall, SyscallResult, answered_or, arg, either, first_answer, read_event, readable, reads, returns, ◌▷◌}
 use Rattle.guest_calls.proofs.Blocked.{unblocked_parts}
 use Rattle.guest_calls.proofs.Leaving.{still_gone}
 use Rattle.guest_calls.proofs.Queues.{fewer_without, no_more_wait}
@@ -72,10 +72,10 @@ pub deadline_is_state : (k new : KernelState) (tid at answer : ℕ) → IsState 
 deadline_is_state k new tid at answer is live after = subst IsState (sym after) (deadline_state k tid at answer is live)
 
 -- ---- clock_nanosleep
-abbrev sleeping : Call → ℕ → CallResult
+abbrev sleeping : Syscall → ℕ → SyscallResult
 sleeping c end = returns c 0 ▷ reads c.tid (arg c 2) time_size ▷ either (nat_le end c.kernel.time) (λ r. r) (sleeps c end)
 
-nanosleep_passed : (c : Call) (time : ℕ) → is_clock (arg c 0) ≡ true → readable c (arg c 2) time_size ≡ true → time_at c.memory (arg c 2) ≡ Some time → clock_nanosleep c ≡ sleeping c (sleep_end (arg c 1) c.kernel.time time)
+nanosleep_passed : (c : Syscall) (time : ℕ) → is_clock (arg c 0) ≡ true → readable c (arg c 2) time_size ≡ true → time_at c.memory (arg c 2) ≡ Some time → clock_nanosleep c ≡ sleeping c (sleep_end (arg c 1) c.kernel.time time)
 nanosleep_passed c time known reach read =
     let at : Option ℕ = time_at c.memory (arg c 2) in
     ap₂ (λ (a b : Bool). answered_or (first_answer ((not a, einval) ∷ (not b, efault) ∷ (is_none at, einval) ∷ [])) c (λ _. sleeping c (sleep_end (arg c 1) c.kernel.time (unwrap_or at 0)))) known reach
@@ -93,7 +93,7 @@ pub nanosleep_does : (caller : Caller) (state new : KernelState) (memory : Guest
 nanosleep_does caller state new memory held before after time end answer known reach read end_is answered becomes events =
     let c = asked caller state memory held in
     let is : clock_nanosleep c ≡ sleeping c end = nanosleep_passed c time known reach read ∙ ap (sleeping c) (sym end_is) in
-    subst (λ (r : CallResult). Does r answer new memory held before after) (sym is) (by (nat_le end state.time) answered becomes)
+    subst (λ (r : SyscallResult). Does r answer new memory held before after) (sym is) (by (nat_le end state.time) answered becomes)
   where
     by : (b : Bool) → answer ≡ cond b (Back 0) Block → new ≡ cond b state (with_deadline caller.tid end 0 state) →
         let c = asked caller state memory held in

@@ -12,7 +12,7 @@ use Rattle.guest_calls.specs.declared.thread.Thread.{Thread}
 use Rattle.guest_calls.specs.Futex.{wakes}
 use Rattle.guest_calls.specs.Kernel.{KernelState, has_others, is_blocked, is_thread, other_threads}
 use Rattle.guest_calls.specs.Lawful.{BeginsBehind, EndsWithByte, GivesNumber, IsLawful, goes_on, tids, tids_after}
-use Rattle.guest_calls.specs.Results.{Call, Guest, answers, arg, fills, fills_word, returns, when, writable, ◌▷◌}
+use Rattle.guest_calls.specs.Results.{Syscall, Guest, answers, arg, fills, fills_word, returns, when, writable, ◌▷◌}
 use Rattle.guest_calls.specs.Threads.{clear_tid, exit, exit_group, is_cleared, leaves, rt_sigprocmask, rt_sigprocmask_effect, rt_sigprocmask_tests, sched_yield, set_tid_address, status, with_clear_tid}
 use Rattle.guest_calls.proofs.Lawful.{AreFailed, AreFair, IsKept, IsSteady, fill_fair, filled_kept, kept, kept_free, lawful_by, lawful_changes, lawful_fills, lawful_returns, lawful_unless, lives_by, none_fair, steady}
 use Rattle.guest_calls.proofs.Leaving.{cleared_lives, still_gone, tid_kept}
@@ -25,23 +25,23 @@ cleared_tids [] tid at = refl
 cleared_tids (t ∷ threads) tid at =
     ap₂ (λ (n : ℕ) (ns : List ℕ). n ∷ ns) (tid_kept tid at t) (cleared_tids threads tid at)
 
-pub set_tid_address_is_lawful : (c : Call) → IsLawful c (set_tid_address c)
+pub set_tid_address_is_lawful : (c : Syscall) → IsLawful c (set_tid_address c)
 set_tid_address_is_lawful c =
     let threads = c.kernel.threads in
     lawful_changes c (set_tid_address c).kernel c.tid
     (record { threads = cleared_tids threads c.tid (arg c 0); last = refl; break_is = refl })
     (λ can. ap (λ (b : Bool). b && not (is_blocked c.kernel c.tid)) (cleared_lives c.tid (arg c 0) c.tid threads) ∙ can)
 
-pub sched_yield_is_lawful : (c : Call) → IsLawful c (sched_yield c)
+pub sched_yield_is_lawful : (c : Syscall) → IsLawful c (sched_yield c)
 sched_yield_is_lawful c =
     lawful_by c Yield c.kernel (returns c 0).guest tt (steady c.kernel) (λ goes can. can) (kept c []) (none_fair c.tid)
 
-masked : (c : Call) (asked : Bool) (at : ℕ) → (asked && not (writable c at 8)) ≡ false →
+masked : (c : Syscall) (asked : Bool) (at : ℕ) → (asked && not (writable c at 8)) ≡ false →
     IsLawful c (when asked (fills at (replicate 8 0)) (returns c 0))
 masked c true at reach = lawful_fills c c.kernel 0 at (replicate 8 0) (steady c.kernel) (λ can. can) reach
 masked c false at reach = lawful_returns c 0
 
-pub rt_sigprocmask_is_lawful : (c : Call) → IsLawful c (rt_sigprocmask c)
+pub rt_sigprocmask_is_lawful : (c : Syscall) → IsLawful c (rt_sigprocmask c)
 rt_sigprocmask_is_lawful c =
     lawful_unless c (rt_sigprocmask_tests c) (λ _. rt_sigprocmask_effect c)
     (λ (all : AreFailed (rt_sigprocmask_tests c)). masked c (not (arg c 2 == 0)) (arg c 2) all.0)
@@ -82,7 +82,7 @@ none_left (t ∷ threads) tid none =
     ap₂ (λ (b : Bool) (rest : List Thread). cond b (t ∷ rest) rest) parts.0 (none_left threads tid parts.1)
 
 -- the thread ends with this answer, and the others stay
-leaves_by : (c : Call) (answer : Answer) (k : KernelState) (g : Guest) →
+leaves_by : (c : Syscall) (answer : Answer) (k : KernelState) (g : Guest) →
     tids_after answer c.tid (tids c.kernel) ≡ filter (λ n. not (n == c.tid)) (tids c.kernel) →
     GivesNumber answer c.kernel (record k { threads = other_threads k c.tid }) → BeginsBehind c.registers.pc answer →
     EndsWithByte answer → (goes_on answer ≡ true → ⊥) → IsSteady c.kernel k → IsKept c g → AreFair c.tid g.events →
@@ -104,7 +104,7 @@ leaves_by c answer k g left numbers begins byte ends same rest fair = record {
 }
 
 -- by whether it is the last
-leaves_lawful : (c : Call) (k : KernelState) (g : Guest) (others : Bool) → has_others c.kernel c.tid ≡ others →
+leaves_lawful : (c : Syscall) (k : KernelState) (g : Guest) (others : Bool) → has_others c.kernel c.tid ≡ others →
     IsSteady c.kernel k → IsKept c g → AreFair c.tid g.events →
     IsLawful c (record { answer = Back 0; kernel = k; guest = g; out = None }
     ▷ leaves c.tid ▷ answers (if others then ThreadEnd else ProcessEnd (status c)))
@@ -115,7 +115,7 @@ leaves_lawful c k g false is same rest fair =
     (λ goes. cc) same rest fair
 
 -- the end of a thread is told where the word can be written
-told_lawful : (c : Call) (b : Bool) (at : ℕ) → (b ≡ true → writable c at 4 ≡ true) →
+told_lawful : (c : Syscall) (b : Bool) (at : ℕ) → (b ≡ true → writable c at 4 ≡ true) →
     IsLawful c (returns c 0 ▷ when b (λ r. r ▷ fills_word at 0 ▷ wakes at 1 all_bits)
     ▷ leaves c.tid ▷ answers (if has_others c.kernel c.tid then ThreadEnd else ProcessEnd (status c)))
 told_lawful c true at reach =
@@ -130,12 +130,12 @@ told_lawful c false at reach =
 cleared_reach : (others set reach : Bool) → (others && (set && reach)) ≡ true → reach ≡ true
 cleared_reach others set reach h = (and_parts set reach (and_parts others (set && reach) h).1).1
 
-pub exit_is_lawful : (c : Call) → IsLawful c (exit c)
+pub exit_is_lawful : (c : Syscall) → IsLawful c (exit c)
 exit_is_lawful c =
     let at = clear_tid c in
     told_lawful c (is_cleared c) at (cleared_reach (has_others c.kernel c.tid) (not (at == 0)) (writable c at 4))
 
-pub exit_group_is_lawful : (c : Call) → IsLawful c (exit_group c)
+pub exit_group_is_lawful : (c : Syscall) → IsLawful c (exit_group c)
 exit_group_is_lawful c = record {
   few = omega arith;
   light = omega arith;

@@ -15,7 +15,7 @@ use Rattle.guest_calls.specs.Clock.{clock_gettime, is_clock, time_bytes, time_si
 use Rattle.guest_calls.specs.Errors.{efault, einval}
 use Rattle.guest_calls.specs.Invariant.{IsState}
 use Rattle.guest_calls.specs.Kernel.{KernelState, last_time, later, later_by, step_time}
-use Rattle.guest_calls.specs.Results.{Call, answered_or, arg, fill_event, fills, first_answer, returns, words_touched, writable, ◌▷◌}
+use Rattle.guest_calls.specs.Results.{Syscall, answered_or, arg, fill_event, fills, first_answer, returns, words_touched, writable, ◌▷◌}
 
 at_time : (k : KernelState) (time : ℕ) → IsState k → IsState (record k { time = time })
 at_time k time is = record {
@@ -45,7 +45,7 @@ later_by_is_state zero k is = is
 later_by_is_state (suc n) k is = later_is_state (later_by n k) (later_by_is_state n k is)
 
 -- where there is such a clock and room for a time, it is written
-pub gettime_passed : (c : Call) (clock at : ℕ) → clock ≡ arg c 0 → at ≡ arg c 1 → is_clock clock ≡ true → writable c at time_size ≡ true → clock_gettime c ≡ (returns c 0 ▷ fills at (time_bytes c.kernel.time))
+pub gettime_passed : (c : Syscall) (clock at : ℕ) → clock ≡ arg c 0 → at ≡ arg c 1 → is_clock clock ≡ true → writable c at time_size ≡ true → clock_gettime c ≡ (returns c 0 ▷ fills at (time_bytes c.kernel.time))
 gettime_passed c clock at clock_is at_is known room =
     ap₂ (λ (n m : ℕ). answered_or (first_answer ((not (is_clock n), einval) ∷ (not (writable c m time_size), efault) ∷ [])) c (λ _. returns c 0 ▷ fills m (time_bytes c.kernel.time))) (sym clock_is) (sym at_is)
     ∙ ap₂ (λ (a b : Bool). answered_or (first_answer ((not a, einval) ∷ (not b, efault) ∷ [])) c (λ _. returns c 0 ▷ fills at (time_bytes c.kernel.time))) known room

@@ -14,7 +14,7 @@ use Rattle.guest_calls.specs.declared.vectors.IoVec.{IoVec}
 use Rattle.guest_calls.specs.Files.{advanced}
 use Rattle.guest_calls.specs.Kernel.{descriptor}
 use Rattle.guest_calls.specs.Lawful.{AreCopies, IsLawful}
-use Rattle.guest_calls.specs.Results.{Call, Guest, arg, fill_event, filled, number, read_event, reads, returns, ◌▷◌}
+use Rattle.guest_calls.specs.Results.{Syscall, Guest, arg, fill_event, filled, number, read_event, reads, returns, ◌▷◌}
 use Rattle.guest_calls.specs.Vectors.{all_in_reach, filled_parts, parts, parts_at, read_events, readv, readv_bytes, readv_effect, readv_parts, readv_tests, total, writev, writev_count, writev_effect, writev_parts, writev_tests}
 use Rattle.guest_calls.proofs.FileCalls.{advanced_able, advanced_steady, min_few}
 use Rattle.guest_calls.proofs.Lawful.{AreFailed, AreFair, IsKept, calm_lawful, copies_append, fill_copies, fill_few, fill_weight, filled_kept, kept, lawful_by, lawful_unless, read_copies, read_few, read_weight}
@@ -52,7 +52,7 @@ filled_copies m tid (p ∷ ps) bytes g reach before =
     let end = writable_end m p.at p.size both.0 (omega (arith, short, some)) in
     omega (arith, short, end))))
 
-parts_kept : (c : Call) (ps : List IoVec) (bytes : List ℕ) (g : Guest) → IsKept c g → IsKept c (filled_parts ps bytes g)
+parts_kept : (c : Syscall) (ps : List IoVec) (bytes : List ℕ) (g : Guest) → IsKept c g → IsKept c (filled_parts ps bytes g)
 parts_kept c [] bytes g before = before
 parts_kept c (p ∷ ps) bytes g before =
     parts_kept c ps (drop p.size bytes) (filled p.at (take p.size bytes) g) (filled_kept c g p.at (take p.size bytes) before)
@@ -82,7 +82,7 @@ parts_copies m tid (p ∷ ps) reach =
     (read_copies tid p.at p.size (readable_end m p.at p.size both.0)) (parts_copies m tid ps both.1)
 
 -- ---- the table of the parts, which is read
-table_copies : (c : Call) → not (can_read c.memory (arg c 1) (8 * arg c 2)) ≡ false →
+table_copies : (c : Syscall) → not (can_read c.memory (arg c 1) (8 * arg c 2)) ≡ false →
     AreCopies c.tid (read_event c.tid (arg c 1) (8 * arg c 2))
 table_copies c reach =
     read_copies c.tid (arg c 1) (8 * arg c 2)
@@ -121,7 +121,7 @@ writev_fair tid at n k ps few long sum most front back = record {
 }
 
 -- ---- the calls
-pub readv_is_lawful : (c : Call) → IsLawful c (readv c)
+pub readv_is_lawful : (c : Syscall) → IsLawful c (readv c)
 readv_is_lawful c =
     lawful_unless c (readv_tests c) (λ _. readv_effect c)
     (λ (all : AreFailed (readv_tests c)).
@@ -136,7 +136,7 @@ readv_is_lawful c =
     (filled_copies c.memory c.tid (readv_parts c) (readv_bytes c) read
     (not-false (all_in_reach (can_write c.memory) (readv_parts c)) all.1.1.1.1.0) (table_copies c all.1.1.0))))
 
-pub writev_is_lawful : (c : Call) → number c ≡ 66 → IsLawful c (writev c)
+pub writev_is_lawful : (c : Syscall) → number c ≡ 66 → IsLawful c (writev c)
 writev_is_lawful c is =
     lawful_unless c (writev_tests c) (λ _. writev_effect c)
     (λ (all : AreFailed (writev_tests c)).

@@ -15,16 +15,16 @@ use Rattle.guest_calls.specs.Futex.{futex_at, futex_limit, futex_value, is_over,
 use Rattle.guest_calls.specs.Kernel.{KernelState}
 use Rattle.guest_calls.proofs.Passed.{asked_reach}
 use Rattle.guest_calls.specs.Outcome.{Does, asked}
-use Rattle.guest_calls.specs.Results.{Call, CallResult, answers, either, read_event, reads, returns, when, word, ◌▷◌}
+use Rattle.guest_calls.specs.Results.{Syscall, SyscallResult, answers, either, read_event, reads, returns, when, word, ◌▷◌}
 
 abbrev pub limit_read : Option ℕ → ℕ → ℕ → List Event
 limit_read end tid at = cond (is_some end) (read_event tid at time_size) []
 
-abbrev begun : Call → ℕ → Option ℕ → KernelState
+abbrev begun : Syscall → ℕ → Option ℕ → KernelState
 begun c bits end = with_end c.tid end (with_waiter (futex_at c) c.tid bits c.kernel)
 
 -- by whether the word is the value and the end is over
-abbrev waited_by : Call → ℕ → Option ℕ → Bool → Bool → CallResult
+abbrev waited_by : Syscall → ℕ → Option ℕ → Bool → Bool → SyscallResult
 waited_by c bits end same over =
     returns c 0 ▷ when (is_some end) (reads c.tid (futex_limit c) time_size) ▷ reads c.tid (futex_at c) 4
     ▷ either same (either over (answers (Back etimedout)) (waits_for c bits end)) (answers (Back eagain))

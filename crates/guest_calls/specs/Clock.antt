@@ -7,7 +7,7 @@ use Rattle.virtual_clock.specs.Steps.{after_set}
 use Rattle.guest_calls.specs.declared.answer.Answer.TheVariants.{Block}
 use Rattle.guest_calls.specs.Errors.{efault, einval}
 use Rattle.guest_calls.specs.Kernel.{KernelState}
-use Rattle.guest_calls.specs.Results.{Call, CallResult, arg, returns, unless, ◌⇒◌, ◌or◌, ◌▷◌, either, answers, changes, fills, reads, readable, writable, has}
+use Rattle.guest_calls.specs.Results.{Syscall, SyscallResult, arg, returns, unless, ◌⇒◌, ◌or◌, ◌▷◌, either, answers, changes, fills, reads, readable, writable, has}
 
 -- CLOCK_REALTIME 0 and CLOCK_MONOTONIC 1
 abbrev pub is_clock : ℕ → Bool
@@ -21,13 +21,13 @@ time_size = 16
 abbrev pub time_bytes : ℕ → List ℕ
 time_bytes time = to_le_bytes w64 (time / 10 ^ 9) ++ to_le_bytes w32 (time % 10 ^ 9) ++ replicate 4 0
 
-abbrev pub clock_gettime_tests : Call → List (Bool × ℕ)
+abbrev pub clock_gettime_tests : Syscall → List (Bool × ℕ)
 clock_gettime_tests c = not (is_clock (arg c 0)) ⇒ einval or not (writable c (arg c 1) time_size) ⇒ efault
 
-abbrev pub clock_gettime_effect : Call → CallResult
+abbrev pub clock_gettime_effect : Syscall → SyscallResult
 clock_gettime_effect c = returns c 0 ▷ fills (arg c 1) (time_bytes c.kernel.time)
 
-abbrev pub clock_gettime : Call → CallResult
+abbrev pub clock_gettime : Syscall → SyscallResult
 clock_gettime c = unless c (clock_gettime_tests c) λ _. clock_gettime_effect c
 
 -- ---- times that are read
@@ -68,7 +68,7 @@ timer_abstime = 1
 abbrev pub with_deadline : ℕ → ℕ → ℕ → KernelState → KernelState
 with_deadline tid at answer k = record k { deadlines = after_set k.deadlines tid at answer }
 
-abbrev pub clock_nanosleep_tests : Call → List (Bool × ℕ)
+abbrev pub clock_nanosleep_tests : Syscall → List (Bool × ℕ)
 clock_nanosleep_tests c =
     not (is_clock (arg c 0)) ⇒ einval
     or not (readable c (arg c 2) time_size) ⇒ efault
@@ -79,18 +79,18 @@ abbrev pub sleep_end : ℕ → ℕ → ℕ → ℕ
 sleep_end flags now time = if has flags timer_abstime then time else from_now now time
 
 -- of a call
-abbrev pub nanosleep_end : Call → ℕ
+abbrev pub nanosleep_end : Syscall → ℕ
 nanosleep_end c = sleep_end (arg c 1) c.kernel.time (unwrap_or (time_at c.memory (arg c 2)) 0)
 
 -- the thread has the end as its deadline, and then 0 as the answer
-abbrev pub sleeps : Call → ℕ → CallResult → CallResult
+abbrev pub sleeps : Syscall → ℕ → SyscallResult → SyscallResult
 sleeps c end r = r ▷ changes (with_deadline c.tid end 0) ▷ answers Block
 
 -- the thread sleeps where the end is ahead
-abbrev pub clock_nanosleep_effect : Call → CallResult
+abbrev pub clock_nanosleep_effect : Syscall → SyscallResult
 clock_nanosleep_effect c =
     let end = nanosleep_end c in
     returns c 0 ▷ reads c.tid (arg c 2) time_size ▷ either (nat_le end c.kernel.time) (λ r. r) (sleeps c end)
 
-abbrev pub clock_nanosleep : Call → CallResult
+abbrev pub clock_nanosleep : Syscall → SyscallResult
 clock_nanosleep c = unless c (clock_nanosleep_tests c) λ _. clock_nanosleep_effect c

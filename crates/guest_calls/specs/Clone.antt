@@ -7,7 +7,7 @@ use Rattle.rv_exec.specs.Registers.{Registers}
 use Rattle.guest_calls.specs.declared.answer.Answer.TheVariants.{Born}
 use Rattle.guest_calls.specs.Errors.{eagain, efault, enosys}
 use Rattle.guest_calls.specs.Kernel.{KernelState}
-use Rattle.guest_calls.specs.Results.{Call, CallResult, arg, returns, unless, ◌⇒◌, ◌or◌, ◌▷◌, answers, changes, fills_word_where, forgets, has}
+use Rattle.guest_calls.specs.Results.{Syscall, SyscallResult, arg, returns, unless, ◌⇒◌, ◌or◌, ◌▷◌, answers, changes, fills_word_where, forgets, has}
 
 -- CLONE_VM 0x100, CLONE_SIGHAND 0x800 and CLONE_THREAD 0x10000: a thread of the same process, and no other child
 abbrev pub needed_flags : ℕ
@@ -58,7 +58,7 @@ is_full k = nat_le THREADS (length k.threads) || k.last_tid == LAST_TID
 abbrev pub is_denied : Memory → Bool → ℕ → Bool
 is_denied m asked at = asked && not (can_write m at 4)
 
-abbrev pub clone_tests : Call → List (Bool × ℕ)
+abbrev pub clone_tests : Syscall → List (Bool × ℕ)
 clone_tests c =
     not (are_flags_taken (arg c 0)) ⇒ enosys
     or is_full c.kernel ⇒ eagain
@@ -70,7 +70,7 @@ abbrev pub child_clear_tid : ℕ → ℕ → ℕ
 child_clear_tid flags child = if has flags clears_child then child else 0
 
 -- the new thread has the next number, and nothing reserved
-abbrev pub clone_effect : Call → CallResult
+abbrev pub clone_effect : Syscall → SyscallResult
 clone_effect c =
     let flags = arg c 0 in
     let parent = arg c 2 in
@@ -83,5 +83,5 @@ clone_effect c =
     ▷ forgets tid
     ▷ answers (Born tid (child_registers c.registers flags (arg c 1) (arg c 3)))
 
-abbrev pub clone : Call → CallResult
+abbrev pub clone : Syscall → SyscallResult
 clone c = unless c (clone_tests c) λ _. clone_effect c

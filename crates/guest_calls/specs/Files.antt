@@ -11,7 +11,7 @@ use Rattle.guest_calls.specs.Errors.{enoent, ebadf, eacces, efault, einval, emfi
 use Rattle.guest_calls.specs.Inputs.{is_named}
 use Rattle.guest_calls.specs.Kernel.{KernelState, descriptor, with_descriptor}
 use Rattle.guest_calls.specs.Search.{first_passing}
-use Rattle.guest_calls.specs.Results.{Call, CallResult, arg, returns, unless, ◌⇒◌, ◌or◌, ◌▷◌, changes, sets, reads, fills, puts, readable, writable, has}
+use Rattle.guest_calls.specs.Results.{Syscall, SyscallResult, arg, returns, unless, ◌⇒◌, ◌or◌, ◌▷◌, changes, sets, reads, fills, puts, readable, writable, has}
 
 -- ---- descriptors
 abbrev pub is_closed : Descriptor → Bool
@@ -71,14 +71,14 @@ abbrev pub path_name : Memory → ℕ → List ℕ
 path_name m path = bytes_at m path (unwrap_or (path_end m path) path - path)
 
 -- the index of the input with the path's name, if there is one
-abbrev pub input_index : Call → ℕ → Option ℕ
+abbrev pub input_index : Syscall → ℕ → Option ℕ
 input_index c path = position (is_named (path_name c.memory path)) c.kernel.inputs
 
 -- the least number that is free, if one is
 abbrev pub least_free : KernelState → Option ℕ
 least_free k = position is_closed k.descriptors
 
-abbrev pub openat_tests : Call → List (Bool × ℕ)
+abbrev pub openat_tests : Syscall → List (Bool × ℕ)
 openat_tests c =
     let path = arg c 1 in
     option_map_or (λ at. not (can_read c.memory at 1)) (path_end c.memory path) false ⇒ efault
@@ -88,7 +88,7 @@ openat_tests c =
     or is_none (least_free c.kernel) ⇒ emfile
 
 -- the path is read with its zero byte
-abbrev pub openat_effect : Call → CallResult
+abbrev pub openat_effect : Syscall → SyscallResult
 openat_effect c =
     let path = arg c 1 in
     let fd = unwrap_or (least_free c.kernel) 0 in
@@ -96,14 +96,14 @@ openat_effect c =
     ▷ reads c.tid path (unwrap_or (path_end c.memory path) path - path + 1)
     ▷ sets fd (InputFile (unwrap_or (input_index c path) 0) 0)
 
-abbrev pub openat : Call → CallResult
+abbrev pub openat : Syscall → SyscallResult
 openat c = unless c (openat_tests c) λ _. openat_effect c
 
 -- ---- close
-abbrev pub close_tests : Call → List (Bool × ℕ)
+abbrev pub close_tests : Syscall → List (Bool × ℕ)
 close_tests c = is_closed (descriptor c.kernel (arg c 0)) ⇒ ebadf
 
-abbrev pub close : Call → CallResult
+abbrev pub close : Syscall → SyscallResult
 close c = unless c (close_tests c) λ _. returns c 0 ▷ sets (arg c 0) Closed
 
 -- ---- _llseek
@@ -125,7 +125,7 @@ target k file high low whence = pos (origin k file whence) +ℤ cast_signed w64 
 abbrev pub is_out_of_range : ℤ → Bool
 is_out_of_range position = int_lt position (pos 0) || int_lt (pos (2 ^ 63 - 1)) position
 
-abbrev pub llseek_tests : Call → List (Bool × ℕ)
+abbrev pub llseek_tests : Syscall → List (Bool × ℕ)
 llseek_tests c =
     let file = descriptor c.kernel (arg c 0) in
     is_closed file ⇒ ebadf
@@ -134,33 +134,33 @@ llseek_tests c =
     or is_out_of_range (target c.kernel file (arg c 1) (arg c 2) (arg c 4)) ⇒ einval
     or not (writable c (arg c 3) 8) ⇒ efault
 
-abbrev pub llseek_effect : Call → CallResult
+abbrev pub llseek_effect : Syscall → SyscallResult
 llseek_effect c =
     let file = descriptor c.kernel (arg c 0) in
     let position = unsigned_abs (target c.kernel file (arg c 1) (arg c 2) (arg c 4)) in
     returns c 0 ▷ sets (arg c 0) (with_position file position) ▷ fills (arg c 3) (to_le_bytes w64 position)
 
-abbrev pub llseek : Call → CallResult
+abbrev pub llseek : Syscall → SyscallResult
 llseek c = unless c (llseek_tests c) λ _. llseek_effect c
 
 -- ---- read
 -- the bytes that are read
-abbrev pub read_bytes : Call → List ℕ
+abbrev pub read_bytes : Syscall → List ℕ
 read_bytes c = take (arg c 2) (bytes_left c.kernel (descriptor c.kernel (arg c 0)))
 
-abbrev pub read_tests : Call → List (Bool × ℕ)
+abbrev pub read_tests : Syscall → List (Bool × ℕ)
 read_tests c =
     not (is_source (descriptor c.kernel (arg c 0))) ⇒ ebadf
     or not (writable c (arg c 1) (length (read_bytes c))) ⇒ efault
 
-abbrev pub read_effect : Call → CallResult
+abbrev pub read_effect : Syscall → SyscallResult
 read_effect c =
     let n = length (read_bytes c) in
     returns c n
     ▷ fills (arg c 1) (read_bytes c)
     ▷ changes (advanced (descriptor c.kernel (arg c 0)) (arg c 0) n)
 
-abbrev pub read : Call → CallResult
+abbrev pub read : Syscall → SyscallResult
 read c = unless c (read_tests c) λ _. read_effect c
 
 -- ---- write
@@ -169,20 +169,20 @@ abbrev pub write_limit : ℕ
 write_limit = 65536
 
 -- how many bytes are written
-abbrev pub write_count : Call → ℕ
+abbrev pub write_count : Syscall → ℕ
 write_count c = min (arg c 2) write_limit
 
-abbrev pub write_tests : Call → List (Bool × ℕ)
+abbrev pub write_tests : Syscall → List (Bool × ℕ)
 write_tests c =
     is_none (channel (descriptor c.kernel (arg c 0))) ⇒ ebadf
     or not (readable c (arg c 1) (write_count c)) ⇒ efault
 
-abbrev pub write_effect : Call → CallResult
+abbrev pub write_effect : Syscall → SyscallResult
 write_effect c =
     let n = write_count c in
     returns c n
     ▷ reads c.tid (arg c 1) n
     ▷ puts (unwrap_or (channel (descriptor c.kernel (arg c 0))) 0) (bytes_at c.memory (arg c 1) n)
 
-abbrev pub write : Call → CallResult
+abbrev pub write : Syscall → SyscallResult
 write c = unless c (write_tests c) λ _. write_effect c

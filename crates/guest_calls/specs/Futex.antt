@@ -12,7 +12,7 @@ use Rattle.guest_calls.specs.declared.operation.Operation.TheVariants.{Wait, Wak
 use Rattle.guest_calls.specs.Errors.{eagain, efault, einval, enosys, etimedout}
 use Rattle.guest_calls.specs.Clock.{from_now, time_at, time_size, with_deadline}
 use Rattle.guest_calls.specs.Kernel.{KernelState, unblocked}
-use Rattle.guest_calls.specs.Results.{Call, CallResult, arg, returns, unless, ◌⇒◌, ◌or◌, ◌▷◌, either, when, answers, changes, reads, readable, word, has}
+use Rattle.guest_calls.specs.Results.{Syscall, SyscallResult, arg, returns, unless, ◌⇒◌, ◌or◌, ◌▷◌, either, when, answers, changes, reads, readable, word, has}
 
 abbrev pub operations : List (ℕ × Operation)
 operations = (0, Wait) ∷ (1, Wake) ∷ (3, Requeue) ∷ (4, CmpRequeue) ∷ (9, WaitBitset) ∷ (10, WakeBitset) ∷ []
@@ -21,7 +21,7 @@ abbrev pub operation_numbered : ℕ → Option Operation
 operation_numbered n = option_map (λ row. row.1) (find (λ row. row.0 == n) operations)
 
 -- FUTEX_PRIVATE_FLAG 128 and FUTEX_CLOCK_REALTIME 256 are no part of the operation's number
-abbrev pub operation : Call → Option Operation
+abbrev pub operation : Syscall → Option Operation
 operation c = operation_numbered (bit_and (arg c 1) (2 ^ 32 - 1 - 128 - 256))
 
 abbrev pub is_wait : Operation → Bool
@@ -47,27 +47,27 @@ reads_word CmpRequeue = true
 reads_word _ = false
 
 -- ---- the arguments
-abbrev pub futex_at : Call → ℕ
+abbrev pub futex_at : Syscall → ℕ
 futex_at c = arg c 0
 
 -- how many to wake, or what the word has to be
-abbrev pub futex_value : Call → ℕ
+abbrev pub futex_value : Syscall → ℕ
 futex_value c = arg c 2
 
 -- how many to move, or the address of a wait's time limit
-abbrev pub futex_limit : Call → ℕ
+abbrev pub futex_limit : Syscall → ℕ
 futex_limit c = arg c 3
 
-abbrev pub futex_to : Call → ℕ
+abbrev pub futex_to : Syscall → ℕ
 futex_to c = arg c 4
 
 -- the bits to meet, or what the word has to be for CMP_REQUEUE
-abbrev pub futex_value3 : Call → ℕ
+abbrev pub futex_value3 : Syscall → ℕ
 futex_value3 c = arg c 5
 
 -- ---- the limit of a wait
 -- it is a wait that names the address of one
-abbrev pub has_limit : Operation → Call → Bool
+abbrev pub has_limit : Operation → Syscall → Bool
 has_limit o c = is_wait o && not (futex_limit c == 0)
 
 -- for FUTEX_WAIT the limit is so long after now, and for FUTEX_WAIT_BITSET it is the time itself
@@ -76,7 +76,7 @@ limit_end WaitBitset now time = time
 limit_end _ now time = from_now now time
 
 -- when a wait is over, where it has a limit
-abbrev pub wait_end : Operation → Call → Option ℕ
+abbrev pub wait_end : Operation → Syscall → Option ℕ
 wait_end o c =
     if futex_limit c == 0 then None
     else Some (limit_end o c.kernel.time (unwrap_or (time_at c.memory (futex_limit c)) 0))
@@ -88,7 +88,7 @@ is_over (Some end) now = nat_le end now
 
 -- ---- the effects
 -- the word is read; where it is not the value, the answer is EAGAIN, and the read stays
-abbrev pub compares : Call → ℕ → (CallResult → CallResult) → CallResult → CallResult
+abbrev pub compares : Syscall → ℕ → (SyscallResult → SyscallResult) → SyscallResult → SyscallResult
 compares c value effect r =
     r ▷ reads c.tid (futex_at c) 4 ▷ either (word c (futex_at c) == value) effect (answers (Back eagain))
 
@@ -102,12 +102,12 @@ with_end tid None k = k
 with_end tid (Some end) k = with_deadline tid end etimedout k
 
 -- the thread begins to wait, with these bits, until the end
-abbrev pub waits_for : Call → ℕ → Option ℕ → CallResult → CallResult
+abbrev pub waits_for : Syscall → ℕ → Option ℕ → SyscallResult → SyscallResult
 waits_for c bits end r =
     r ▷ changes (with_waiter (futex_at c) c.tid bits) ▷ changes (with_end c.tid end) ▷ answers Block
 
 -- A wait reads its limit, where it has one, and then the word. It begins where the word is the value and its end is ahead.
-abbrev pub waited : Call → ℕ → Option ℕ → CallResult
+abbrev pub waited : Syscall → ℕ → Option ℕ → SyscallResult
 waited c bits end =
     returns c 0
     ▷ when (is_some end) (reads c.tid (futex_limit c) time_size)
@@ -137,19 +137,19 @@ moved_at at most to k = record k { waiting = after_shift k.waiting at most to }
 abbrev pub requeued : ℕ → ℕ → ℕ → ℕ → KernelState → KernelState
 requeued at most shift to k = moved_at at shift to (woken_at at most all_bits k)
 
-abbrev pub wakes : ℕ → ℕ → ℕ → CallResult → CallResult
+abbrev pub wakes : ℕ → ℕ → ℕ → SyscallResult → SyscallResult
 wakes at most bits r = r ▷ changes (woken_at at most bits)
 
-abbrev pub requeues : Call → CallResult → CallResult
+abbrev pub requeues : Syscall → SyscallResult → SyscallResult
 requeues c r = r ▷ changes (requeued (futex_at c) (futex_value c) (futex_limit c) (futex_to c))
 
-abbrev pub count_woken : Call → ℕ → ℕ
+abbrev pub count_woken : Syscall → ℕ → ℕ
 count_woken c bits = length (woken c.kernel.waiting (futex_at c) (futex_value c) bits)
 
-abbrev pub count_shifted : Call → ℕ
+abbrev pub count_shifted : Syscall → ℕ
 count_shifted c = length (shifted c.kernel.waiting (futex_at c) (futex_value c) (futex_limit c))
 
-abbrev pub performed : Operation → Call → CallResult
+abbrev pub performed : Operation → Syscall → SyscallResult
 performed Wait c = waited c all_bits (wait_end Wait c)
 performed WaitBitset c = waited c (futex_value3 c) (wait_end WaitBitset c)
 performed Wake c = returns c (count_woken c all_bits) ▷ wakes (futex_at c) (futex_value c) all_bits
@@ -157,7 +157,7 @@ performed WakeBitset c = returns c (count_woken c (futex_value3 c)) ▷ wakes (f
 performed Requeue c = returns c (count_woken c all_bits) ▷ requeues c
 performed CmpRequeue c = returns c (count_woken c all_bits + count_shifted c) ▷ compares c (futex_value3 c) (requeues c)
 
-abbrev pub futex_tests : Operation → Call → List (Bool × ℕ)
+abbrev pub futex_tests : Operation → Syscall → List (Bool × ℕ)
 futex_tests o c =
     has (arg c 1) 256 && not (is_wait o) ⇒ enosys
     or not (futex_at c % 4 == 0) ⇒ einval
@@ -167,8 +167,8 @@ futex_tests o c =
     or has_limit o c && is_none (time_at c.memory (futex_limit c)) ⇒ einval
     or reads_word o && not (readable c (futex_at c) 4) ⇒ efault
 
-abbrev pub futex_by : Call → Operation → CallResult
+abbrev pub futex_by : Syscall → Operation → SyscallResult
 futex_by c o = unless c (futex_tests o c) λ _. performed o c
 
-abbrev pub futex : Call → CallResult
+abbrev pub futex : Syscall → SyscallResult
 futex c = option_map_or (futex_by c) (operation c) (returns c enosys)

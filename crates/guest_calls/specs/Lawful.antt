@@ -1,6 +1,6 @@
 -- What a system call keeps, whatever it does.
 use Rattle.std.specs.Prelude.{◌≡◌, ◌≢◌, ℕ, ◌<◌, ◌≤◌, ◌+◌, ◌%◌, ◌^◌, Bool, true, false, not, ◌==◌, List, [], ◌∷◌, ◌++◌, length, map, filter, is_some, None}
-use Rattle.guest_words.specs.declared.limits.TheConstants.{CALL_EVENTS}
+use Rattle.guest_words.specs.declared.limits.TheConstants.{SYSCALL_EVENTS}
 use Rattle.trace_model.specs.declared.event_kinds.Event.{Event}
 use Rattle.trace_model.specs.declared.event_kinds.Event.TheVariants.{Read, Fill}
 use Rattle.trace_model.specs.WellFormed.{AreWords, weight}
@@ -10,7 +10,7 @@ use Rattle.guest_calls.specs.declared.answer.Answer.TheVariants.{Back, ThreadEnd
 use Rattle.guest_calls.specs.Clone.{is_full}
 use Rattle.guest_calls.specs.Kernel.{KernelState, can_run, lives}
 use Rattle.guest_calls.specs.Pages.{IsBreakFree}
-use Rattle.guest_calls.specs.Results.{Call, CallResult, number}
+use Rattle.guest_calls.specs.Results.{Syscall, SyscallResult, number}
 
 -- ---- copies
 -- the event is a copy of words of memory, from it for the thread or to it
@@ -61,10 +61,10 @@ goes_on (Born child registers) = true
 goes_on answer = false
 
 -- ---- a call
-pub record IsLawful (c : Call) (r : CallResult) : Type 0 where
+pub record IsLawful (c : Syscall) (r : SyscallResult) : Type 0 where
   -- the copies are few events that read few words: at most one for the table of a call in parts, and one for each of at most
   -- 1024 parts
-  pub few : length r.guest.events ≤ CALL_EVENTS
+  pub few : length r.guest.events ≤ SYSCALL_EVENTS
   pub light : weight r.guest.events ≤ 65536
   -- each event is a copy for the calling thread
   pub copies : AreCopies c.tid r.guest.events

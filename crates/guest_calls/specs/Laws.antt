@@ -2,13 +2,13 @@
 use Rattle.std.specs.Prelude.{◌≡◌, ◌↔◌, None}
 use Rattle.guest_calls.specs.Kernel.{KernelState}
 use Rattle.guest_calls.specs.Lawful.{IsLawful}
-use Rattle.guest_calls.specs.Results.{Call}
-use Rattle.guest_calls.specs.Table.{call}
+use Rattle.guest_calls.specs.Results.{Syscall}
+use Rattle.guest_calls.specs.Table.{syscall}
 use Rattle.guest_calls.specs.Waking.{IsAwake, next_due}
 
 -- each call keeps what a call has to keep
-abbrev pub EveryCallIsLawful : Type 0
-EveryCallIsLawful = (c : Call) → IsLawful c (call c)
+abbrev pub EverySyscallIsLawful : Type 0
+EverySyscallIsLawful = (c : Syscall) → IsLawful c (syscall c)
 
 -- no thread is woken exactly where no deadline is due, and a thread can run or no deadline is left
 abbrev pub WakesExactly : Type 0

@@ -8,10 +8,10 @@ use Rattle.guest_memory.specs.ReservedBy.{reserved_by}
 use Rattle.guest_calls.specs.declared.answer.Answer.{Answer}
 use Rattle.guest_calls.specs.declared.caller.Caller.{Caller}
 use Rattle.guest_calls.specs.Kernel.{KernelState, Kept}
-use Rattle.guest_calls.specs.Results.{Call, CallResult, Guest}
+use Rattle.guest_calls.specs.Results.{Syscall, SyscallResult, Guest}
 
 -- the call that the caller's registers hold
-abbrev pub asked : Caller → KernelState → GuestMemory → Reservations → Call
+abbrev pub asked : Caller → KernelState → GuestMemory → Reservations → Syscall
 asked caller kernel memory held = record {
   tid = caller.tid;
   registers = caller.cpu;
@@ -25,7 +25,7 @@ abbrev pub guest_of : GuestMemory → Reservations → EventList → Guest
 guest_of memory held events = record { memory = memory_of memory; held = reserved_by held; events = events.list }
 
 -- the answer, the state, the memory and the reservations are those of the result, and its events are added
-pub record Does (r : CallResult) (answer : Answer) (state : KernelState) (memory : GuestMemory) (held : Reservations) (before after : EventList) : Type 0 where
+pub record Does (r : SyscallResult) (answer : Answer) (state : KernelState) (memory : GuestMemory) (held : Reservations) (before after : EventList) : Type 0 where
   pub answered : answer ≡ r.answer
   pub state_is : state ≡ r.kernel
   pub memory_is : memory_of memory ≡ r.guest.memory
@@ -33,13 +33,13 @@ pub record Does (r : CallResult) (answer : Answer) (state : KernelState) (memory
   pub events : after.list ≡ before.list ++ r.guest.events
 
 -- the same of a call that leaves the guest as it is, whatever the guest is
-abbrev pub DoesQuietly : (Call → CallResult) → Caller → KernelState → Answer → KernelState → Type 0
+abbrev pub DoesQuietly : (Syscall → SyscallResult) → Caller → KernelState → Answer → KernelState → Type 0
 DoesQuietly what caller old answer new =
     (memory : GuestMemory) (held : Reservations) (events : EventList)
     → Does (what (asked caller old memory held)) answer new memory held events events
 
 -- the same with what goes out
-pub record Gives (r : CallResult) (answer : Answer) (kept : Kept) (memory : GuestMemory) (held : Reservations) (before after : EventList) : Type 0 where
+pub record Gives (r : SyscallResult) (answer : Answer) (kept : Kept) (memory : GuestMemory) (held : Reservations) (before after : EventList) : Type 0 where
   pub does : Does r answer kept.state memory held before after
   pub out : kept.out ≡ r.out
 

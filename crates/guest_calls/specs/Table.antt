@@ -1,7 +1,7 @@
 -- The table of the kernel's calls, by their numbers on riscv32. Each is modelled on its Linux manual page.
 use Rattle.std.specs.Prelude.{ℕ, ◌==◌, List, [], ◌∷◌, if◌then◌else◌}
 use Rattle.guest_calls.specs.Errors.{enotty, enosys}
-use Rattle.guest_calls.specs.Results.{Call, CallResult, number, returns}
+use Rattle.guest_calls.specs.Results.{Syscall, SyscallResult, number, returns}
 use Rattle.guest_calls.specs.Files.{openat, close, llseek, read, write}
 use Rattle.guest_calls.specs.Vectors.{readv, writev}
 use Rattle.guest_calls.specs.Pages.{brk, munmap, mmap2, mprotect}
@@ -11,31 +11,31 @@ use Rattle.guest_calls.specs.Clone.{clone}
 use Rattle.guest_calls.specs.Futex.{futex}
 
 -- the call does nothing, and this is answered
-abbrev pub always : ℕ → Call → CallResult
+abbrev pub always : ℕ → Syscall → SyscallResult
 always value c = returns c value
 
 -- ioctl(2): nothing is a terminal
-abbrev pub ioctl : Call → CallResult
+abbrev pub ioctl : Syscall → SyscallResult
 ioctl = always enotty
 
 -- these change nothing that the guest can see
-abbrev pub set_robust_list : Call → CallResult
+abbrev pub set_robust_list : Syscall → SyscallResult
 set_robust_list = always 0
 
-abbrev pub rt_sigaction : Call → CallResult
+abbrev pub rt_sigaction : Syscall → SyscallResult
 rt_sigaction = always 0
 
-abbrev pub madvise : Call → CallResult
+abbrev pub madvise : Syscall → SyscallResult
 madvise = always 0
 
 -- getpid(2): the process has the number of its first thread
-abbrev pub getpid : Call → CallResult
+abbrev pub getpid : Syscall → SyscallResult
 getpid = always 1
 
-abbrev pub gettid : Call → CallResult
+abbrev pub gettid : Syscall → SyscallResult
 gettid c = returns c c.tid
 
-unfoldable pub table : List (ℕ × (Call → CallResult))
+unfoldable pub table : List (ℕ × (Syscall → SyscallResult))
 table =
     (29, ioctl)
     ∷ (56, openat)
@@ -66,10 +66,10 @@ table =
     ∷ []
 
 -- the call of that number; any other is unknown
-abbrev pub call_numbered : ℕ → List (ℕ × (Call → CallResult)) → Call → CallResult
-call_numbered n [] = always enosys
-call_numbered n (row ∷ rows) = if row.0 == n then row.1 else call_numbered n rows
+abbrev pub syscall_numbered : ℕ → List (ℕ × (Syscall → SyscallResult)) → Syscall → SyscallResult
+syscall_numbered n [] = always enosys
+syscall_numbered n (row ∷ rows) = if row.0 == n then row.1 else syscall_numbered n rows
 
 -- what a system call answers and does
-unfoldable pub call : Call → CallResult
-call c = call_numbered (number c) table c
+unfoldable pub syscall : Syscall → SyscallResult
+syscall c = syscall_numbered (number c) table c

@@ -9,65 +9,65 @@ use Rattle.guest_calls.specs.declared.thread.Thread.{Thread}
 use Rattle.guest_calls.specs.Errors.{efault}
 use Rattle.guest_calls.specs.Futex.{wakes}
 use Rattle.guest_calls.specs.Kernel.{KernelState, is_thread, has_others, other_threads}
-use Rattle.guest_calls.specs.Results.{Call, CallResult, arg, returns, unless, ◌⇒◌, ◌▷◌, when, answers, changes, fills, fills_word, forgets, writable}
+use Rattle.guest_calls.specs.Results.{Syscall, SyscallResult, arg, returns, unless, ◌⇒◌, ◌▷◌, when, answers, changes, fills, fills_word, forgets, writable}
 
 -- ---- ends
 -- the exit status
-abbrev pub status : Call → ℕ
+abbrev pub status : Syscall → ℕ
 status c = arg c 0 % 2 ^ 8
 
 -- where a zero is written when a thread ends, or 0
 abbrev pub clear_tid_of : KernelState → ℕ → ℕ
 clear_tid_of k tid = option_map_or (λ t. t.clear_tid) (find (is_thread tid) k.threads) 0
 
-abbrev pub clear_tid : Call → ℕ
+abbrev pub clear_tid : Syscall → ℕ
 clear_tid c = clear_tid_of c.kernel c.tid
 
 -- another thread lives that may wait for this one's end, and the address is set and can be written
-abbrev pub is_cleared : Call → Bool
+abbrev pub is_cleared : Syscall → Bool
 is_cleared c = has_others c.kernel c.tid && (not (clear_tid c == 0) && writable c (clear_tid c) 4)
 
 -- the thread lives no more, and its reservation goes
-abbrev pub leaves : ℕ → CallResult → CallResult
+abbrev pub leaves : ℕ → SyscallResult → SyscallResult
 leaves tid r = r ▷ changes (λ k. record k { threads = other_threads k tid }) ▷ forgets tid
 
 -- its end is told to those who wait for it
-abbrev pub told_end : Call → CallResult
+abbrev pub told_end : Syscall → SyscallResult
 told_end c = returns c 0 ▷ when (is_cleared c) (λ r. r ▷ fills_word (clear_tid c) 0 ▷ wakes (clear_tid c) 1 all_bits)
 
-abbrev pub exit : Call → CallResult
+abbrev pub exit : Syscall → SyscallResult
 exit c =
     told_end c
     ▷ leaves c.tid
     ▷ answers (if has_others c.kernel c.tid then ThreadEnd else ProcessEnd (status c))
 
 -- no thread lives any more, and all reservations go
-abbrev pub ends_all : CallResult → CallResult
+abbrev pub ends_all : SyscallResult → SyscallResult
 ends_all r = record r {
   kernel = record r.kernel { threads = []; waiting = []; deadlines = [] };
   guest = record r.guest { held = nothing_reserved };
 }
 
-abbrev pub exit_group : Call → CallResult
+abbrev pub exit_group : Syscall → SyscallResult
 exit_group c = returns c 0 ▷ ends_all ▷ answers (ProcessEnd (status c))
 
 -- ---- small calls
 abbrev pub with_clear_tid : ℕ → ℕ → Thread → Thread
 with_clear_tid tid at t = if is_thread tid t then record t { clear_tid = at } else t
 
-abbrev pub set_tid_address : Call → CallResult
+abbrev pub set_tid_address : Syscall → SyscallResult
 set_tid_address c =
     returns c c.tid ▷ changes (λ k. record k { threads = map (with_clear_tid c.tid (arg c 0)) k.threads })
 
-abbrev pub sched_yield : Call → CallResult
+abbrev pub sched_yield : Syscall → SyscallResult
 sched_yield c = returns c 0 ▷ answers Yield
 
-abbrev pub rt_sigprocmask_tests : Call → List (Bool × ℕ)
+abbrev pub rt_sigprocmask_tests : Syscall → List (Bool × ℕ)
 rt_sigprocmask_tests c = not (arg c 2 == 0) && not (writable c (arg c 2) 8) ⇒ efault
 
 -- no signal is ever blocked: the old set is empty
-abbrev pub rt_sigprocmask_effect : Call → CallResult
+abbrev pub rt_sigprocmask_effect : Syscall → SyscallResult
 rt_sigprocmask_effect c = returns c 0 ▷ when (not (arg c 2 == 0)) (fills (arg c 2) (replicate 8 0))
 
-abbrev pub rt_sigprocmask : Call → CallResult
+abbrev pub rt_sigprocmask : Syscall → SyscallResult
 rt_sigprocmask c = unless c (rt_sigprocmask_tests c) λ _. rt_sigprocmask_effect c

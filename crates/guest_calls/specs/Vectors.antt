@@ -8,7 +8,7 @@ use Rattle.guest_calls.specs.declared.vectors.IoVec.{IoVec}
 use Rattle.guest_calls.specs.Errors.{ebadf, efault, einval}
 use Rattle.guest_calls.specs.Kernel.{descriptor}
 use Rattle.guest_calls.specs.Files.{is_source, channel, bytes_left, advanced, write_limit}
-use Rattle.guest_calls.specs.Results.{Call, CallResult, arg, returns, unless, ◌⇒◌, ◌or◌, ◌▷◌, Guest, changes, reads, read_event, filled, puts}
+use Rattle.guest_calls.specs.Results.{Syscall, SyscallResult, arg, returns, unless, ◌⇒◌, ◌or◌, ◌▷◌, Guest, changes, reads, read_event, filled, puts}
 
 -- a part is an address and a length, a word each
 abbrev pub part_at : Memory → ℕ → IoVec
@@ -35,14 +35,14 @@ abbrev pub filled_parts : List IoVec → List ℕ → Guest → Guest
 filled_parts [] bytes g = g
 filled_parts (p ∷ ps) bytes g = filled_parts ps (drop p.size bytes) (filled p.at (take p.size bytes) g)
 
-abbrev pub fills_parts : List IoVec → List ℕ → CallResult → CallResult
+abbrev pub fills_parts : List IoVec → List ℕ → SyscallResult → SyscallResult
 fills_parts ps bytes r = record r { guest = filled_parts ps bytes r.guest }
 
 -- a read of each part that has a byte
 abbrev pub read_events : ℕ → List IoVec → List Event
 read_events tid ps = flat_map (λ p. read_event tid p.at p.size) ps
 
-abbrev pub reads_parts : ℕ → List IoVec → CallResult → CallResult
+abbrev pub reads_parts : ℕ → List IoVec → SyscallResult → SyscallResult
 reads_parts tid ps r = record r { guest = record r.guest { events = r.guest.events ++ read_events tid ps } }
 
 -- the bytes of the parts, one part after another
@@ -60,23 +60,23 @@ table_tests m at n =
     or nat_le (2 ^ 31) (total (parts_at m at n)) ⇒ einval
 
 -- the parts of a call, as they stand before it copies any byte
-abbrev pub parts : Call → List IoVec
+abbrev pub parts : Syscall → List IoVec
 parts c = parts_at c.memory (arg c 1) (arg c 2)
 
 -- the bytes that readv carries, and where to
-abbrev pub readv_bytes : Call → List ℕ
+abbrev pub readv_bytes : Syscall → List ℕ
 readv_bytes c = take (total (parts c)) (bytes_left c.kernel (descriptor c.kernel (arg c 0)))
 
-abbrev pub readv_parts : Call → List IoVec
+abbrev pub readv_parts : Syscall → List IoVec
 readv_parts c = carried (length (readv_bytes c)) (parts c)
 
-abbrev pub readv_tests : Call → List (Bool × ℕ)
+abbrev pub readv_tests : Syscall → List (Bool × ℕ)
 readv_tests c =
     not (is_source (descriptor c.kernel (arg c 0))) ⇒ ebadf
     or table_tests c.memory (arg c 1) (arg c 2)
     or not (all_in_reach (can_write c.memory) (readv_parts c)) ⇒ efault
 
-abbrev pub readv_effect : Call → CallResult
+abbrev pub readv_effect : Syscall → SyscallResult
 readv_effect c =
     let n = length (readv_bytes c) in
     returns c n
@@ -84,28 +84,28 @@ readv_effect c =
     ▷ fills_parts (readv_parts c) (readv_bytes c)
     ▷ changes (advanced (descriptor c.kernel (arg c 0)) (arg c 0) n)
 
-abbrev pub readv : Call → CallResult
+abbrev pub readv : Syscall → SyscallResult
 readv c = unless c (readv_tests c) λ _. readv_effect c
 
 -- how many bytes writev carries, and where from
-abbrev pub writev_count : Call → ℕ
+abbrev pub writev_count : Syscall → ℕ
 writev_count c = min (total (parts c)) write_limit
 
-abbrev pub writev_parts : Call → List IoVec
+abbrev pub writev_parts : Syscall → List IoVec
 writev_parts c = carried (writev_count c) (parts c)
 
-abbrev pub writev_tests : Call → List (Bool × ℕ)
+abbrev pub writev_tests : Syscall → List (Bool × ℕ)
 writev_tests c =
     is_none (channel (descriptor c.kernel (arg c 0))) ⇒ ebadf
     or table_tests c.memory (arg c 1) (arg c 2)
     or not (all_in_reach (can_read c.memory) (writev_parts c)) ⇒ efault
 
-abbrev pub writev_effect : Call → CallResult
+abbrev pub writev_effect : Syscall → SyscallResult
 writev_effect c =
     returns c (writev_count c)
     ▷ reads c.tid (arg c 1) (8 * arg c 2)
     ▷ reads_parts c.tid (writev_parts c)
     ▷ puts (unwrap_or (channel (descriptor c.kernel (arg c 0))) 0) (bytes_of c.memory (writev_parts c))
 
-abbrev pub writev : Call → CallResult
+abbrev pub writev : Syscall → SyscallResult
 writev c = unless c (writev_tests c) λ _. writev_effect c

@@ -8,7 +8,7 @@ ghost use Rattle.guest_calls.specs.Pages.{IsBreakFree};
 ghost use Rattle.guest_calls.specs.Waking.{moved_on, next_due, woken_by_time};
 ghost use Rattle.virtual_clock.specs.Order.{IsDue};
 ghost use Rattle.guest_calls.specs.Outcome.{asked, Gives, IsAsBefore};
-ghost use Rattle.guest_calls.specs.Table.{call};
+ghost use Rattle.guest_calls.specs.Table.{syscall};
 
 use crate::caller::Caller;
 use crate::outgoing::Outgoing;
@@ -16,7 +16,7 @@ use crate::state::State;
 use crate::table::{WRITE, WRITEV};
 use crate::{Answer, Inputs};
 use guest_memory::{GuestMemory, Reservations};
-use guest_words::limits::CALL_EVENTS;
+use guest_words::limits::SYSCALL_EVENTS;
 use guest_words::{Addr, ReadyList, Tid};
 use rv_exec::Cpu;
 use std::alloc::{AllocError, Global};
@@ -70,22 +70,22 @@ impl Kernel {
     ) -> Result<Answer, AllocError>
         requires can_run { can_run self.old.state tid ≡ true }
         requires break_free { IsBreakFree (memory_of memory.old) self.old.state.program_break }
-        ensures call { IfOk result (λ answer. Gives
-            (call (asked (record { tid = tid; cpu = cpu.now })
+        ensures syscall { IfOk result (λ answer. Gives
+            (syscall (asked (record { tid = tid; cpu = cpu.now })
             self.old.state memory.old held.old)) answer
             self.new memory.new held.new events.old events.new) }
         ensures refused { OnErr result (IsAsBefore self.old self.new
             memory.old memory.new held.old held.new events.old events.new) }
         ensures break_free { IsBreakFree (memory_of memory.new) self.new.state.program_break }
-        ensures room { events.old.room ≤ events.new.room + CALL_EVENTS }
+        ensures room { events.old.room ≤ events.new.room + SYSCALL_EVENTS }
     {
-        events.reserve(CALL_EVENTS)?;
+        events.reserve(SYSCALL_EVENTS)?;
         let caller = Caller { tid, cpu: *cpu };
         match caller.number() {
             WRITE => Ok(self.write(memory, events, &caller)),
             WRITEV => self.writev(memory, events, &caller),
             _ => {
-                let answer = self.state.call(memory, held, events, &caller)?;
+                let answer = self.state.syscall(memory, held, events, &caller)?;
                 self.outgoing.clear();
                 Ok(answer)
             }
@@ -94,9 +94,9 @@ impl Kernel {
 
     /// Carries out the call that the thread's registers hold: the number in a7, the arguments in a0 to a5. The thread can run,
     /// so it does not wait and has no deadline. The call is a step, so that the time goes on first. The copies from and to the
-    /// guest are added to the events, in order, at most `CALL_EVENTS` of them; that a thread is born or ends is not. All memory
+    /// guest are added to the events, in order, at most `SYSCALL_EVENTS` of them; that a thread is born or ends is not. All memory
     /// is taken before anything changes.
-    pub fn call(
+    pub fn syscall(
         &mut self,
         memory: &mut GuestMemory,
         held: &mut Reservations,
@@ -106,15 +106,15 @@ impl Kernel {
     ) -> Result<Answer, AllocError>
         requires can_run { can_run self.old.state tid ≡ true }
         requires break_free { IsBreakFree (memory_of memory.old) self.old.state.program_break }
-        ensures call { IfOk result (λ answer. Gives
-            (call (asked (record { tid = tid; cpu = cpu.now })
+        ensures syscall { IfOk result (λ answer. Gives
+            (syscall (asked (record { tid = tid; cpu = cpu.now })
             (later self.old.state) memory.old held.old)) answer
             self.new memory.new held.new events.old events.new) }
         ensures refused { OnErr result (IsAsBefore self.old self.new
             memory.old memory.new held.old held.new events.old events.new) }
         ensures break_free { IsBreakFree (memory_of memory.new) self.new.state.program_break }
         ensures state { IsState self.new.state }
-        ensures room { events.old.room ≤ events.new.room + CALL_EVENTS }
+        ensures room { events.old.room ≤ events.new.room + SYSCALL_EVENTS }
     {
         let before = self.state.time;
         self.state.tick();

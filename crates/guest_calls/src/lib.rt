@@ -31,4 +31,4 @@ mod writes;
 pub use answer::Answer;
 pub use inputs::Inputs;
 pub use kernel::Kernel;
-pub use laws::{every_call_is_lawful, wakes_exactly};
+pub use laws::{every_syscall_is_lawful, wakes_exactly};

@@ -5,7 +5,7 @@ ghost use Rattle.guest_calls.specs.declared.answer.Answer.TheVariants.{Back};
 ghost use Rattle.guest_calls.specs.Kernel.{can_run};
 ghost use Rattle.guest_calls.specs.Outcome.{asked, Does, IsUntouched};
 ghost use Rattle.guest_calls.specs.Pages.{IsBreakFree};
-ghost use Rattle.guest_calls.specs.Table.{call};
+ghost use Rattle.guest_calls.specs.Table.{syscall};
 
 use crate::Answer;
 use crate::caller::Caller;
@@ -14,7 +14,7 @@ use crate::pages::{mmap2, mprotect, munmap};
 use crate::state::State;
 use crate::threads::rt_sigprocmask;
 use guest_memory::{GuestMemory, Reservations};
-use guest_words::limits::CALL_EVENTS;
+use guest_words::limits::SYSCALL_EVENTS;
 use std::alloc::AllocError;
 use trace_model::Events;
 
@@ -32,7 +32,7 @@ fn always(value: u32) -> Answer
 impl State {
     /// Carries out a call that writes to no channel.
     #[tactic(auto, using(crate::proofs::Rows::call_is, crate::proofs::Rows::none_added), unfolding(crate::specs::Table::table))]
-    pub(crate) fn call(
+    pub(crate) fn syscall(
         &mut self,
         memory: &mut GuestMemory,
         held: &mut Reservations,
@@ -41,15 +41,15 @@ impl State {
     ) -> Result<Answer, AllocError>
         requires can_run { can_run self.old caller.now.tid ≡ true }
         requires break_free { IsBreakFree (memory_of memory.old) self.old.program_break }
-        requires room { CALL_EVENTS ≤ events.old.room }
+        requires room { SYSCALL_EVENTS ≤ events.old.room }
         requires no_write { slice_index caller.now.cpu.regs 17 ≢ WRITE }
         requires no_writev { slice_index caller.now.cpu.regs 17 ≢ WRITEV }
         ensures does { IfOk result (λ answer. Does
-            (call (asked caller.now self.old memory.old held.old)) answer
+            (syscall (asked caller.now self.old memory.old held.old)) answer
             self.new memory.new held.new events.old events.new) }
         ensures refused { OnErr result (IsUntouched self.old self.new
             memory.old memory.new held.old held.new events.old events.new) }
-        ensures room { events.old.room ≤ events.new.room + CALL_EVENTS }
+        ensures room { events.old.room ≤ events.new.room + SYSCALL_EVENTS }
     {
         match caller.number() {
             // ioctl

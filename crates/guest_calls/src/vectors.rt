@@ -16,7 +16,7 @@ use crate::errors::{EBADF, EFAULT, EINVAL};
 use crate::files::first_bytes;
 use crate::state::State;
 use guest_memory::{GuestMemory, Reservations, Size};
-use guest_words::limits::CALL_EVENTS;
+use guest_words::limits::SYSCALL_EVENTS;
 use guest_words::{Addr, Tid};
 use std::alloc::{AllocError, Global};
 use trace_model::Events;
@@ -234,13 +234,13 @@ impl State {
         events: &mut Events,
         caller: &Caller,
     ) -> Result<Answer, AllocError>
-        requires room { CALL_EVENTS ≤ events.old.room }
+        requires room { SYSCALL_EVENTS ≤ events.old.room }
         ensures does { IfOk result (λ answer. Does
             (specs.readv (asked caller.now self.old memory.old held.old)) answer
             self.new memory.new held.new events.old events.new) }
         ensures refused { OnErr result (IsUntouched self.old self.new
             memory.old memory.new held.old held.new events.old events.new) }
-        ensures room { events.old.room ≤ events.new.room + CALL_EVENTS }
+        ensures room { events.old.room ≤ events.new.room + SYSCALL_EVENTS }
     {
         let (fd, at, count) = (caller.argument(0), caller.argument(1), caller.argument(2));
         let file = self.descriptor(fd);

@@ -13,7 +13,7 @@ use crate::outgoing::WRITE_LIMIT;
 use crate::vectors::{TableError, can_read_parts, note_parts, read_table, total, truncated};
 use crate::{Answer, Kernel};
 use guest_memory::GuestMemory;
-use guest_words::limits::CALL_EVENTS;
+use guest_words::limits::SYSCALL_EVENTS;
 use std::alloc::AllocError;
 use trace_model::Events;
 
@@ -60,14 +60,14 @@ impl Kernel {
         events: &mut Events,
         caller: &Caller,
     ) -> Result<Answer, AllocError>
-        requires room { CALL_EVENTS ≤ events.old.room }
+        requires room { SYSCALL_EVENTS ≤ events.old.room }
         ensures does { (held : Reservations) → IfOk result
             (λ answer. Gives
             (writev (asked caller.now self.old.state memory.now held)) answer
             self.new memory.now held events.old events.new) }
         ensures refused { (held : Reservations) → OnErr result
             (IsAsBefore self.old self.new memory.now memory.now held held events.old events.new) }
-        ensures room { events.old.room ≤ events.new.room + CALL_EVENTS }
+        ensures room { events.old.room ≤ events.new.room + SYSCALL_EVENTS }
     {
         let (at, count) = (caller.argument(1), caller.argument(2));
         let Some(channel) = self.channel_of(caller.argument(0)) else {

@@ -19,15 +19,15 @@ use Rattle.guest_calls.specs.declared.thread.Thread.{Thread}
 use Rattle.guest_words.specs.ByThread.{numbers}
 use Rattle.std.proofs.lemmas.List.Elements.{All-cons, All-nil, All-same}
 use Rattle.guest_calls.specs.Pages.{IsBreakFree}
-use Rattle.guest_calls.specs.Results.{CallResult}
-use Rattle.guest_calls.proofs.AllCalls.{every_call_is_lawful}
-use Rattle.guest_calls.specs.Table.{call}
+use Rattle.guest_calls.specs.Results.{SyscallResult}
+use Rattle.guest_calls.proofs.AllCalls.{every_syscall_is_lawful}
+use Rattle.guest_calls.specs.Table.{syscall}
 use Rattle.guest_machine.specs.declared.stepped.Stepped.{Stepped}
 use Rattle.guest_machine.specs.Kept.{Parts, Steps, machine_of}
 use Rattle.guest_calls.proofs.Times.{later_is_state}
 use Rattle.guest_machine.specs.Machine.{Hart, MachineState, later, registers_of, with_registers, without_hart}
 use Rattle.guest_machine.specs.Sound.{IsSound, OfEachPc}
-use Rattle.guest_machine.specs.Step.{after_call, call_of, harts_after, life_events, resumed, stepped_by}
+use Rattle.guest_machine.specs.Step.{after_syscall, syscall_of, harts_after, life_events, resumed, stepped_by}
 use Rattle.guest_machine.proofs.Registers.{each-append, each-with_registers, each-without, pc_of_each, tids-with_registers}
 use Rattle.rv_exec.proofs.CallerLemmas.{next_aligned}
 
@@ -76,10 +76,10 @@ sound-later m sound = record {
 }
 
 -- a machine is sound after a call
-pub sound-called : (m : MachineState) (tid : ℕ) → IsSound m → IsState (call (call_of m tid)).kernel → IsBreakFree (call (call_of m tid)).guest.memory (call (call_of m tid)).kernel.program_break → IsSound (after_call m tid (call (call_of m tid))).machine
+pub sound-called : (m : MachineState) (tid : ℕ) → IsSound m → IsState (syscall (syscall_of m tid)).kernel → IsBreakFree (syscall (syscall_of m tid)).guest.memory (syscall (syscall_of m tid)).kernel.program_break → IsSound (after_syscall m tid (syscall (syscall_of m tid))).machine
 sound-called m tid sound state free =
-    let r = call (call_of m tid) in
-    let lawful = every_call_is_lawful (call_of m tid) in
+    let r = syscall (syscall_of m tid) in
+    let lawful = every_syscall_is_lawful (syscall_of m tid) in
     record {
       same_threads = after_tids r.answer m.harts tid (registers_of m.harts tid) ∙ ap (tids_after r.answer tid) sound.same_threads ∙ sym lawful.threads;
       aligned = after_each (λ pc. pc % 4 ≡ 0) refl next_aligned r.answer m.harts tid sound.aligned lawful.begins;
@@ -89,10 +89,10 @@ sound-called m tid sound state free =
     }
 
 -- a thread more, where there is one, has its place
-pub born_room : (m : MachineState) (tid : ℕ) (child : ℕ) (registers : Registers) → IsSound m → IsState (call (call_of m tid)).kernel → (call (call_of m tid)).answer ≡ Born child registers → length m.harts < THREADS
+pub born_room : (m : MachineState) (tid : ℕ) (child : ℕ) (registers : Registers) → IsSound m → IsState (syscall (syscall_of m tid)).kernel → (syscall (syscall_of m tid)).answer ≡ Born child registers → length m.harts < THREADS
 born_room m tid child registers sound state is =
-    let r = call (call_of m tid) in
-    let lawful = every_call_is_lawful (call_of m tid) in
+    let r = syscall (syscall_of m tid) in
+    let lawful = every_syscall_is_lawful (syscall_of m tid) in
     let grown : map (λ t. t.tid) r.kernel.threads ≡ map (λ t. t.tid) m.kernel.threads ++ child ∷ [] = lawful.threads ∙ ap (λ a. tids_after a tid (map (λ t. t.tid) m.kernel.threads)) is in
     let after : length r.kernel.threads ≡ length m.kernel.threads + 1 = sym (length-map r.kernel.threads (λ t. t.tid)) ∙ ap length grown ∙ length-append (map (λ t. t.tid) m.kernel.threads) (child ∷ []) ∙ ap (λ n. n + 1) (length-map m.kernel.threads (λ t. t.tid)) in
     let count : length m.harts ≡ length m.kernel.threads = sym (length-map m.harts (λ h. h.0)) ∙ ap length sound.same_threads ∙ length-map m.kernel.threads (λ t. t.tid) in
@@ -108,9 +108,9 @@ rises_below low [] last child rising above = All-nil (λ n. n < child)
 rises_below low (t ∷ threads) last child rising above =
     All-cons (λ n. n < child) t.tid (map (λ u. u.tid) threads) (omega (arith, rises_within t.tid threads last rising.1, above)) (rises_below t.tid threads last child rising.1 above)
 
-pub born_above : (m : MachineState) (tid child : ℕ) (registers : Registers) → IsSound m → (call (call_of m tid)).answer ≡ Born child registers → All (λ n. n < child) (numbers m.harts)
+pub born_above : (m : MachineState) (tid child : ℕ) (registers : Registers) → IsSound m → (syscall (syscall_of m tid)).answer ≡ Born child registers → All (λ n. n < child) (numbers m.harts)
 born_above m tid child registers sound is =
-    let given = subst (λ a. GivesNumber a m.kernel (call (call_of m tid)).kernel) is (every_call_is_lawful (call_of m tid)).numbers in
+    let given = subst (λ a. GivesNumber a m.kernel (syscall (syscall_of m tid)).kernel) is (every_syscall_is_lawful (syscall_of m tid)).numbers in
     All-same (λ n. n < child) (numbers m.harts) (map (λ t. t.tid) m.kernel.threads) sound.same_threads
     (rises_below 0 m.kernel.threads m.kernel.last_tid child sound.state.rising (omega (arith, given.0)))
 
@@ -119,7 +119,7 @@ four : {hs gs : List Hart} {k l : KernelState} {m n : Memory} {h g : Reserved} �
 four harts kernel memory held = λ i. record { harts = harts i; kernel = kernel i; memory = memory i; held = held i }
 
 -- what the code of a call gives is what a call does
-pub Steps-called : (p p2 : Parts) (tid : ℕ) (r : CallResult) (answer : Answer) (outcome : Stepped) (old pushed called new : List Event) → answer ≡ r.answer → p2.kernel.state ≡ r.kernel → p2.kernel.out ≡ r.out → memory_of p2.memory ≡ r.guest.memory → reserved_by p2.held ≡ r.guest.held → p2.harts ≡ harts_after answer p.harts tid (registers_of p.harts tid) → p2.called ≡ true → outcome ≡ stepped_by answer → pushed ≡ old ++ Step tid ∷ [] → called ≡ pushed ++ r.guest.events → new ≡ called ++ life_events answer p.harts tid → Steps (after_call (later (machine_of p)) tid r) outcome p2 old new
+pub Steps-called : (p p2 : Parts) (tid : ℕ) (r : SyscallResult) (answer : Answer) (outcome : Stepped) (old pushed called new : List Event) → answer ≡ r.answer → p2.kernel.state ≡ r.kernel → p2.kernel.out ≡ r.out → memory_of p2.memory ≡ r.guest.memory → reserved_by p2.held ≡ r.guest.held → p2.harts ≡ harts_after answer p.harts tid (registers_of p.harts tid) → p2.called ≡ true → outcome ≡ stepped_by answer → pushed ≡ old ++ Step tid ∷ [] → called ≡ pushed ++ r.guest.events → new ≡ called ++ life_events answer p.harts tid → Steps (after_syscall (later (machine_of p)) tid r) outcome p2 old new
 unfolding machine_of
 Steps-called p p2 tid r answer outcome old pushed called new answered state out memory held harts loud stepped one two three = record {
   went = stepped ∙ ap stepped_by answered;

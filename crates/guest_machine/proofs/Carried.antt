@@ -91,7 +91,7 @@ state_kept tid i old new o e stays = by o refl
 
     by : (p : Outcome) → o ≡ p → new ≡ old
     by (outcome.Went access) is = absurd (stays access is)
-    by outcome.KernelCall is = subst (λ (p : Outcome). KeepsUnlessWent p old new) is kept
+    by outcome.Syscall is = subst (λ (p : Outcome). KeepsUnlessWent p old new) is kept
     by (outcome.Fault kind) is = subst (λ (p : Outcome). KeepsUnlessWent p old new) is kept
 
 -- ---- steps in a row

@@ -10,7 +10,7 @@ use Rattle.rv_isa.specs.declared.instruction.Instr.TheVariants.{Ecall}
 use Rattle.rv_exec.specs.Effects.{ExecState, effect}
 use Rattle.rv_exec.specs.declared.outcome.Access.{Access}
 use Rattle.rv_exec.specs.declared.outcome.Outcome.{Outcome}
-use Rattle.rv_exec.specs.declared.outcome.Outcome.TheVariants.{Went, KernelCall, Fault}
+use Rattle.rv_exec.specs.declared.outcome.Outcome.TheVariants.{Went, Syscall, Fault}
 use Rattle.rv_exec.specs.Laws.{KeepsUnlessWent}
 use Rattle.rv_exec.proofs.CallerLemmas.{effect_aligned, effect_calls, effect_kept, effect_others, effect_rights}
 use Rattle.guest_calls.specs.Kernel.{lives}
@@ -33,7 +33,7 @@ pub executed-fault : (m : MachineState) (tid : ℕ) (i : Instr) (kind : FaultKin
 executed-fault m tid i kind c e = ap (after_effect m tid i) (sym e)
 
 -- it is no system call
-pub executed-no_call : (m : MachineState) (tid : ℕ) (i : Instr) (c : ExecState) → (KernelCall, c) ≡ effect tid i (exec_state_of m tid) → (i ≡ Ecall → ⊥) → ⊥
+pub executed-no_call : (m : MachineState) (tid : ℕ) (i : Instr) (c : ExecState) → (Syscall, c) ≡ effect tid i (exec_state_of m tid) → (i ≡ Ecall → ⊥) → ⊥
 executed-no_call m tid i c e other = other ((effect_calls tid i (exec_state_of m tid)).0 (ap (λ p. p.0) (sym e)))
 
 -- a fault leaves all as it was

@@ -29,11 +29,11 @@ use Rattle.guest_calls.specs.declared.thread.Thread.{Thread}
 use Rattle.guest_calls.specs.Kernel.{KernelState, lives}
 use Rattle.guest_calls.specs.Invariant.{RisesTo}
 use Rattle.guest_calls.specs.Lawful.{AreCopies, GivesNumber, tids_after}
-use Rattle.guest_calls.specs.Table.{call}
-use Rattle.guest_calls.proofs.AllCalls.{every_call_is_lawful}
+use Rattle.guest_calls.specs.Table.{syscall}
+use Rattle.guest_calls.proofs.AllCalls.{every_syscall_is_lawful}
 use Rattle.guest_machine.specs.Machine.{Hart, MachineState, later, registers_of}
 use Rattle.guest_machine.specs.Laws.{EachFollows, EveryStepContinues, StandsFor}
-use Rattle.guest_machine.specs.Step.{access_events, after_call, after_effect, call_of, exec_state_of, executed, jump_events, life_events, next_instruction, pc_of, step, with_exec_state}
+use Rattle.guest_machine.specs.Step.{access_events, after_syscall, after_effect, syscall_of, exec_state_of, executed, jump_events, life_events, next_instruction, pc_of, step, with_exec_state}
 use Rattle.guest_machine.proofs.Called.{after_tids}
 use Rattle.guest_calls.proofs.Lawful.{any_thread}
 use Rattle.guest_machine.proofs.Registers.{tids-with_registers}
@@ -328,20 +328,20 @@ effect_follows m tid i (outcome.Went accessed, c) past few stands live =
       stands_after (with_exec_state (later m) tid c) next (kept ∙ stands.same_threads) (subst (λ tids. Lives next tids m.kernel.last_tid) (sym kept) after),
     )
 effect_follows m tid i (outcome.Fault kind, c) past few stands live = (tt, stands)
-effect_follows m tid i (outcome.KernelCall, c) past few stands live =
-    let r = call (call_of (later m) tid) in
-    let copies = own_follows tid r.guest.events (Step tid ∷ past) (copies_own tid r.guest.events (every_call_is_lawful (call_of (later m) tid)).copies) (live, refl) in
+effect_follows m tid i (outcome.Syscall, c) past few stands live =
+    let r = syscall (syscall_of (later m) tid) in
+    let copies = own_follows tid r.guest.events (Step tid ∷ past) (copies_own tid r.guest.events (every_syscall_is_lawful (syscall_of (later m) tid)).copies) (live, refl) in
     let mid = grown r.guest.events (Step tid ∷ past) in
     let ends = life_events r.answer m.harts tid in
     let before = with_step past tid (tids_in m.harts) m.kernel.last_tid (lives_before m past stands) in
     let copied = lives_same (Step tid ∷ past) mid (tids_in m.harts) m.kernel.last_tid copies.1 before in
-    let life = life_follows r.answer m.harts tid mid (later m).kernel r.kernel copied (copies.1.0 tid ∙ live) (every_call_is_lawful (call_of (later m) tid)).numbers in
+    let life = life_follows r.answer m.harts tid mid (later m).kernel r.kernel copied (copies.1.0 tid ∙ live) (every_syscall_is_lawful (syscall_of (later m) tid)).numbers in
     let tids = after_tids r.answer m.harts tid (registers_of m.harts tid) in
     let next = grown (r.guest.events ++ ends) (Step tid ∷ past) in
     let whole = subst (λ p. Lives p (tids_after r.answer tid (tids_in m.harts)) r.kernel.last_tid) (sym (grown-append r.guest.events ends (Step tid ∷ past))) life.1 in (
       (live, follows-append r.guest.events ends (Step tid ∷ past) copies.0 life.0),
-      stands_after (after_call (later m) tid r).machine next
-          (tids ∙ ap (tids_after r.answer tid) stands.same_threads ∙ sym (every_call_is_lawful (call_of (later m) tid)).threads)
+      stands_after (after_syscall (later m) tid r).machine next
+          (tids ∙ ap (tids_after r.answer tid) stands.same_threads ∙ sym (every_syscall_is_lawful (syscall_of (later m) tid)).threads)
           (subst (λ ns. Lives next ns r.kernel.last_tid) (sym tids) whole),
     )
 

@@ -14,12 +14,12 @@ use Rattle.guest_calls.specs.declared.answer.Answer.TheVariants.{Back, Yield, Bl
 use Rattle.guest_calls.specs.declared.thread.Thread.{Thread}
 use Rattle.guest_calls.specs.Kernel.{KernelState}
 use Rattle.guest_calls.specs.Lawful.{GivesNumber}
-use Rattle.guest_calls.specs.Table.{call}
+use Rattle.guest_calls.specs.Table.{syscall}
 use Rattle.guest_calls.proofs.Births.{number_left, room_left}
-use Rattle.guest_calls.proofs.AllCalls.{every_call_is_lawful}
+use Rattle.guest_calls.proofs.AllCalls.{every_syscall_is_lawful}
 use Rattle.guest_machine.specs.Laws.{EveryStepStaysWithinLimits, IsWithinLimits}
 use Rattle.guest_machine.specs.Machine.{Hart, MachineState, later, registers_of, with_registers}
-use Rattle.guest_machine.specs.Step.{after_effect, call_of, exec_state_of, executed, harts_after, next_instruction, resumed, step}
+use Rattle.guest_machine.specs.Step.{after_effect, syscall_of, exec_state_of, executed, harts_after, next_instruction, resumed, step}
 use Rattle.guest_machine.proofs.Holders.{fewer_or_same}
 use Rattle.guest_machine.proofs.Weights.{harts_kept}
 
@@ -48,9 +48,9 @@ effect_within m tid i (outcome.Went accessed, c) same within = record {
   last = within.last;
 }
 effect_within m tid i (outcome.Fault kind, c) same within = within
-effect_within m tid i (outcome.KernelCall, c) same within =
-    let r = call (call_of (later m) tid) in
-    let given = (every_call_is_lawful (call_of (later m) tid)).numbers in
+effect_within m tid i (outcome.Syscall, c) same within =
+    let r = syscall (syscall_of (later m) tid) in
+    let given = (every_syscall_is_lawful (syscall_of (later m) tid)).numbers in
     record {
       few = few_after r.answer m.harts tid (registers_of m.harts tid) (later m).kernel r.kernel given same within.few;
       last = last_after r.answer (later m).kernel r.kernel given within.last;

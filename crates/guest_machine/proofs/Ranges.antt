@@ -27,12 +27,12 @@ use Rattle.virtual_clock.specs.declared.deadline.Deadline.{Deadline}
 use Rattle.guest_calls.specs.declared.answer.Answer.{Answer}
 use Rattle.guest_calls.specs.declared.answer.Answer.TheVariants.{ThreadEnd, ProcessEnd, Born}
 use Rattle.guest_calls.specs.Lawful.{AreCopies}
-use Rattle.guest_calls.specs.Table.{call}
+use Rattle.guest_calls.specs.Table.{syscall}
 use Rattle.guest_calls.specs.Waking.{next_due}
-use Rattle.guest_calls.proofs.AllCalls.{every_call_is_lawful}
+use Rattle.guest_calls.proofs.AllCalls.{every_syscall_is_lawful}
 use Rattle.guest_machine.specs.Laws.{EveryStepIsInRange, EveryWakingIsInRange, HaveAddresses, IsAddress, IsInRange, IsToldInRange, TellsAddresses}
 use Rattle.guest_machine.specs.Machine.{Hart, MachineState, later, registers_of}
-use Rattle.guest_machine.specs.Step.{access_events, after_effect, call_of, exec_state_of, executed, jump_events, life_events, next_instruction, pc_of, step, stepped_by}
+use Rattle.guest_machine.specs.Step.{access_events, after_effect, syscall_of, exec_state_of, executed, jump_events, life_events, next_instruction, pc_of, step, stepped_by}
 use Rattle.guest_machine.specs.Waking.{answered, one_woken, with_answer, woken, woken_times}
 use Rattle.guest_machine.proofs.Called.{after_each}
 use Rattle.guest_calls.specs.Lawful.{BeginsBehind, EndsWithByte}
@@ -150,10 +150,10 @@ effect_in_range m tid i (outcome.Went accessed, c) all new = record {
   outcome = tt;
 }
 effect_in_range m tid i (outcome.Fault kind, c) all new = record { harts = all; events = tt; outcome = pc_address m tid all }
-effect_in_range m tid i (outcome.KernelCall, c) all new =
-    let made = call_of (later m) tid in
-    let r = call made in
-    let lawful = every_call_is_lawful made in
+effect_in_range m tid i (outcome.Syscall, c) all new =
+    let made = syscall_of (later m) tid in
+    let r = syscall made in
+    let lawful = every_syscall_is_lawful made in
     record {
       harts = after_each IsAddress no_pc (λ pc low. behind pc) r.answer m.harts tid all lawful.begins;
       events = (

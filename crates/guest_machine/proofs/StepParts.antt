@@ -3,7 +3,7 @@ use Rattle.std.proofs.Common.{◌≡◌, ℕ, ◌+◌, ◌%◌, ◌^◌, ◌≤�
 use Rattle.std.specs.Prelude.{Result}
 use Rattle.std.specs.List.{sum_by}
 use Rattle.std.proofs.lemmas.List.Sums.{sum_by-append, sum_by-cons}
-use Rattle.guest_words.specs.declared.limits.TheConstants.{CALL_EVENTS, THREADS}
+use Rattle.guest_words.specs.declared.limits.TheConstants.{SYSCALL_EVENTS, THREADS}
 use Rattle.guest_words.specs.declared.endings.FaultKind.{FaultKind}
 use Rattle.rv_isa.specs.declared.instruction.Instr.{Instr}
 use Rattle.rv_exec.specs.Effects.{ExecState, effect}
@@ -24,13 +24,13 @@ use Rattle.trace_model.proofs.Parts.{part_weight}
 use Rattle.guest_calls.specs.declared.answer.Answer.{Answer}
 use Rattle.guest_calls.specs.declared.answer.Answer.TheVariants.{Back, ProcessEnd}
 use Rattle.guest_calls.specs.Lawful.{AreCopies}
-use Rattle.guest_calls.specs.Table.{call}
-use Rattle.guest_calls.proofs.AllCalls.{every_call_is_lawful}
+use Rattle.guest_calls.specs.Table.{syscall}
+use Rattle.guest_calls.proofs.AllCalls.{every_syscall_is_lawful}
 use Rattle.guest_machine.specs.declared.stepped.Stepped.{Stepped}
 use Rattle.guest_machine.specs.declared.stepped.Stepped.TheVariants.{Faulted}
 use Rattle.guest_machine.specs.Laws.{EveryStepIsOnePart, IsOnePart}
 use Rattle.guest_machine.specs.Machine.{Hart, MachineState, later}
-use Rattle.guest_machine.specs.Step.{access_events, after_effect, call_of, exec_state_of, executed, jump_events, life_events, next_instruction, pc_of, step, stepped_by}
+use Rattle.guest_machine.specs.Step.{access_events, after_effect, syscall_of, exec_state_of, executed, jump_events, life_events, next_instruction, pc_of, step, stepped_by}
 
 pub steps-append : (xs ys : List Event) → steps (xs ++ ys) ≡ steps xs + steps ys
 steps-append [] ys = omega arith
@@ -62,11 +62,11 @@ fewer_words : (events : List Event) (n : ℕ) → length events + sum_by count_r
 fewer_words [] n light = omega arith
 fewer_words (e ∷ events) n light = omega (arith, light)
 
-call_few : (m : MachineState) (tid : ℕ) → AreFew (call (call_of (later m) tid)).guest.events CALL_EVENTS 65535
+call_few : (m : MachineState) (tid : ℕ) → AreFew (syscall (syscall_of (later m) tid)).guest.events SYSCALL_EVENTS 65535
 call_few m tid =
-    let c = call_of (later m) tid in
-    let events = (call c).guest.events in
-    let lawful = every_call_is_lawful c in
+    let c = syscall_of (later m) tid in
+    let events = (syscall c).guest.events in
+    let lawful = every_syscall_is_lawful c in
     record {
       stepless = copies_stepless tid events lawful.copies;
       few = lawful.few;
@@ -106,7 +106,7 @@ faulted _ = 0
 -- The events are none, of a fault; or the thread's step and few others, by how many threads live.
 abbrev IsStepWith : ℕ → ℕ → List Event → Stepped → Type 0
 IsStepWith tid threads [] outcome = faulted outcome ≡ 1
-IsStepWith tid threads (e ∷ events) outcome = (e ≡ Step tid) × AreFew events (threads + (CALL_EVENTS + 1)) 65535 × (faulted outcome ≡ 0)
+IsStepWith tid threads (e ∷ events) outcome = (e ≡ Step tid) × AreFew events (threads + (SYSCALL_EVENTS + 1)) 65535 × (faulted outcome ≡ 0)
 
 few_weaker : (events : List Event) (n m k l : ℕ) → AreFew events n k → n ≤ m → k ≤ l → AreFew events m l
 few_weaker events n m k l are more words = record {
@@ -124,12 +124,12 @@ effect_part : (m : MachineState) (tid : ℕ) (i : Instr) (given : Outcome × Exe
 effect_part m tid i (outcome.Went accessed, c) inside =
     let back = (pc_of m tid + 4) % 2 ^ 32 in
     let rest = few-append (access_events tid accessed) (jump_events (kind_of i) tid c.registers.pc back) 2 2 2 0 (access_few tid accessed inside) (jump_few (kind_of i) tid c.registers.pc back) in
-    (refl, few_weaker _ 4 (length m.harts + (CALL_EVENTS + 1)) 2 65535 rest (omega arith) (omega arith), refl)
+    (refl, few_weaker _ 4 (length m.harts + (SYSCALL_EVENTS + 1)) 2 65535 rest (omega arith) (omega arith), refl)
 effect_part m tid i (outcome.Fault kind, c) inside = refl
-effect_part m tid i (outcome.KernelCall, c) inside =
-    let r = call (call_of (later m) tid) in
-    let rest = few-append r.guest.events (life_events r.answer m.harts tid) CALL_EVENTS (length m.harts + 1) 65535 0 (call_few m tid) (life_few r.answer m.harts tid) in
-    (refl, few_weaker _ (CALL_EVENTS + (length m.harts + 1)) (length m.harts + (CALL_EVENTS + 1)) 65535 65535 rest (omega arith) (omega arith), call_goes r.answer)
+effect_part m tid i (outcome.Syscall, c) inside =
+    let r = syscall (syscall_of (later m) tid) in
+    let rest = few-append r.guest.events (life_events r.answer m.harts tid) SYSCALL_EVENTS (length m.harts + 1) 65535 0 (call_few m tid) (life_few r.answer m.harts tid) in
+    (refl, few_weaker _ (SYSCALL_EVENTS + (length m.harts + 1)) (length m.harts + (SYSCALL_EVENTS + 1)) 65535 65535 rest (omega arith) (omega arith), call_goes r.answer)
 
 executed_part : (m : MachineState) (tid : ℕ) (found : Result Instr FaultKind) →
     IsStepWith tid (length m.harts) (executed m tid found).events (executed m tid found).outcome

@@ -11,7 +11,7 @@ use Rattle.rv_exec.specs.Effects.{ExecState, checked, effect}
 use Rattle.rv_exec.specs.declared.outcome.Access.{Access}
 use Rattle.rv_exec.specs.declared.outcome.Access.TheVariants as access
 use Rattle.rv_exec.specs.declared.outcome.Outcome.{Outcome}
-use Rattle.rv_exec.specs.declared.outcome.Outcome.TheVariants.{Went, KernelCall, Fault}
+use Rattle.rv_exec.specs.declared.outcome.Outcome.TheVariants.{Went, Syscall, Fault}
 use Rattle.call_tracker.specs.Links.{kind_of}
 use Rattle.call_tracker.specs.declared.jumps.JumpKind.{JumpKind}
 use Rattle.call_tracker.specs.declared.jumps.JumpKind.TheVariants as jumps
@@ -29,7 +29,7 @@ use Rattle.trace_model.specs.EventList.{EventList}
 -- an outcome whose access, if there is one, is no call and no return
 abbrev IsAloneIn : Outcome → JumpKind → Type 0
 IsAloneIn (Went accessed) jump = IsAlone accessed jump
-IsAloneIn KernelCall jump = Unit {0}
+IsAloneIn Syscall jump = Unit {0}
 IsAloneIn (Fault kind) jump = Unit {0}
 
 no_jump : (o : Outcome) → IsAloneIn o jumps.Nothing
@@ -37,7 +37,7 @@ no_jump (Went access.Nothing) = tt
 no_jump (Went (access.Read first count)) = refl
 no_jump (Went (access.Write first count)) = refl
 no_jump (Went (access.Both word)) = refl
-no_jump KernelCall = tt
+no_jump Syscall = tt
 no_jump (Fault kind) = tt
 
 no_access : (test : Bool) (kind : FaultKind) (old new : Registers) (jump : JumpKind) → IsAloneIn (checked test kind old (λ _. (Went access.Nothing, new))).0 jump

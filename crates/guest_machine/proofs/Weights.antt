@@ -19,12 +19,12 @@ use Rattle.trace_model.specs.declared.event_kinds.Event.TheVariants.{End}
 use Rattle.trace_model.specs.WellFormed.{weight}
 use Rattle.guest_calls.specs.declared.answer.Answer.{Answer}
 use Rattle.guest_calls.specs.declared.answer.Answer.TheVariants.{Back, Yield, Block, ThreadEnd, ProcessEnd, Born}
-use Rattle.guest_calls.specs.Table.{call}
-use Rattle.guest_calls.proofs.AllCalls.{every_call_is_lawful}
+use Rattle.guest_calls.specs.Table.{syscall}
+use Rattle.guest_calls.proofs.AllCalls.{every_syscall_is_lawful}
 use Rattle.trace_model.proofs.Bounds.{weight-append}
 use Rattle.guest_machine.specs.Laws.{EveryStepIsLight}
 use Rattle.guest_machine.specs.Machine.{Hart, MachineState, later, registers_of, with_registers}
-use Rattle.guest_machine.specs.Step.{access_events, after_effect, call_of, exec_state_of, executed, harts_after, jump_events, life_events, next_instruction, pc_of, resumed, step}
+use Rattle.guest_machine.specs.Step.{access_events, after_effect, syscall_of, exec_state_of, executed, harts_after, jump_events, life_events, next_instruction, pc_of, resumed, step}
 use Rattle.guest_machine.proofs.Holders.{fewer_or_same}
 use Rattle.guest_machine.proofs.Registers.{tids-with_registers}
 
@@ -62,10 +62,10 @@ effect_weight m tid i (outcome.Went accessed, c) few =
     let both = weight-append (access_events tid accessed) (jump_events (kind_of i) tid c.registers.pc back) in
     omega (arith, both, access_weight tid accessed few, jump_weight (kind_of i) tid c.registers.pc back, harts_kept m.harts tid c.registers)
 effect_weight m tid i (outcome.Fault kind, c) few = omega arith
-effect_weight m tid i (outcome.KernelCall, c) few =
-    let r = call (call_of (later m) tid) in
+effect_weight m tid i (outcome.Syscall, c) few =
+    let r = syscall (syscall_of (later m) tid) in
     let both = weight-append r.guest.events (life_events r.answer m.harts tid) in
-    omega (arith, both, (every_call_is_lawful (call_of (later m) tid)).light, life_weight r.answer m.harts tid (registers_of m.harts tid))
+    omega (arith, both, (every_syscall_is_lawful (syscall_of (later m) tid)).light, life_weight r.answer m.harts tid (registers_of m.harts tid))
 
 executed_weight : (m : MachineState) (tid : ℕ) (found : Result Instr FaultKind) →
     weight (executed m tid found).events + length (executed m tid found).machine.harts ≤ 65540 + length m.harts

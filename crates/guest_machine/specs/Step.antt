@@ -19,10 +19,10 @@ use Rattle.call_tracker.specs.Links.{kind_of}
 use Rattle.call_tracker.specs.declared.jumps.JumpKind.{JumpKind}
 use Rattle.call_tracker.specs.declared.jumps.JumpKind.TheVariants.{Nothing, Push, Pop, PopPush}
 use Rattle.guest_calls.specs.Results as calls
-use Rattle.guest_calls.specs.Results.{CallResult}
+use Rattle.guest_calls.specs.Results.{SyscallResult}
 use Rattle.guest_calls.specs.declared.answer.Answer.{Answer}
 use Rattle.guest_calls.specs.declared.answer.Answer.TheVariants.{Back, Yield, Block, ThreadEnd, ProcessEnd, Born}
-use Rattle.guest_calls.specs.Table.{call}
+use Rattle.guest_calls.specs.Table.{syscall}
 use Rattle.guest_machine.specs.declared.stepped.Stepped.{Stepped}
 use Rattle.guest_machine.specs.declared.stepped.Stepped.TheVariants.{Went, Yielded, Blocked, Ended, Finished, Faulted}
 use Rattle.guest_machine.specs.Machine.{Hart, MachineState, later, registers_of, with_registers, with_hart, without_hart}
@@ -75,8 +75,8 @@ went m tid i accessed c = record {
 }
 
 -- ---- a system call
-abbrev pub call_of : MachineState → ℕ → calls.Call
-call_of m tid = record { tid = tid; registers = registers_of m.harts tid; kernel = m.kernel; memory = m.memory; held = m.held }
+abbrev pub syscall_of : MachineState → ℕ → calls.Syscall
+syscall_of m tid = record { tid = tid; registers = registers_of m.harts tid; kernel = m.kernel; memory = m.memory; held = m.held }
 
 -- the thread goes on behind the call, with the number in a0
 abbrev pub resumed : Registers → ℕ → Registers
@@ -105,8 +105,8 @@ stepped_by ThreadEnd = Ended
 stepped_by (ProcessEnd status) = Finished status
 stepped_by (Born child registers) = Went
 
-abbrev pub after_call : MachineState → ℕ → CallResult → StepResult
-after_call m tid r = record {
+abbrev pub after_syscall : MachineState → ℕ → SyscallResult → StepResult
+after_syscall m tid r = record {
   machine = record {
     harts = harts_after r.answer m.harts tid (registers_of m.harts tid);
     kernel = r.kernel;
@@ -135,7 +135,7 @@ instruction_at m at = instruction_in (loaded m permission.Execute at 4)
 abbrev pub after_effect : MachineState → ℕ → Instr → Outcome × ExecState → StepResult
 after_effect m tid i (outcome.Went accessed, c) = went (later m) tid i accessed c
 after_effect m tid i (outcome.Fault kind, c) = faulted m tid kind
-after_effect m tid i (outcome.KernelCall, c) = after_call (later m) tid (call (call_of (later m) tid))
+after_effect m tid i (outcome.Syscall, c) = after_syscall (later m) tid (syscall (syscall_of (later m) tid))
 
 abbrev pub executed : MachineState → ℕ → Result Instr FaultKind → StepResult
 executed m tid (Ok i) = after_effect m tid i (effect tid i (exec_state_of m tid))

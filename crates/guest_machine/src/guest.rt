@@ -2,14 +2,14 @@
 ghost use Rattle.std.specs.Prelude.{◌≡◌, ◌≢◌, ◌≤◌, ◌+◌, ◌%◌, ◌++◌, ◌∷◌, [], ℕ, List, None, true, false, Ok, OnOk, OnErr, IfOk, IfErr, IfSome, IfNone, IsOk, is_some, length};
 ghost use Rattle.guest_words.specs.ByThread.{value_of};
 ghost use Rattle.guest_memory.specs.Guest.{memory_of};
-ghost use Rattle.guest_calls.specs.Table.{call};
+ghost use Rattle.guest_calls.specs.Table.{syscall};
 ghost use Rattle.guest_machine.specs.Kept.{IsAsBefore, Parts, Steps, machine_of, out_of};
 ghost use Rattle.guest_machine.specs.Machine.{can_run, later};
 ghost use Rattle.guest_machine.specs.Parts.{parts_of};
 ghost use Rattle.guest_machine.specs.Running.{MakesSteps, MayTakeSteps};
 ghost use Rattle.guest_machine.specs.Sound.{IsSound};
 ghost use Rattle.guest_machine.specs.Told.{IsInstruction, IsQuiet, stepped_of, told};
-ghost use Rattle.guest_machine.specs.Step.{after_call, call_of, executed, faulted, instruction_at, next_instruction, pc_of, step};
+ghost use Rattle.guest_machine.specs.Step.{after_syscall, syscall_of, executed, faulted, instruction_at, next_instruction, pc_of, step};
 ghost use Rattle.trace_model.specs.EventList.{EventList};
 ghost use Rattle.trace_model.specs.declared.event_kinds.Event.{Event};
 
@@ -21,7 +21,7 @@ use crate::telling::told;
 use crate::{Advanced, KnownSteps, Stepped};
 use guest_calls::Kernel;
 use guest_memory::{GuestMemory, Reservations};
-use guest_words::limits::{CALL_EVENTS, THREADS};
+use guest_words::limits::{SYSCALL_EVENTS, THREADS};
 use guest_words::{Addr, ByThread, FaultKind, Tid};
 use rv_exec::{Cpu, Outcome};
 use rv_isa::{Instr, decode};
@@ -31,8 +31,8 @@ use trace_model::{Event, Events, Observer};
 /// The room for the events of an instruction: its step, and at most two accesses, or a return and a call.
 const EVENTS_OF_AN_INSTRUCTION: usize = 4;
 
-/// A call has its step, at most `CALL_EVENTS` copies that the kernel makes, and ends at most `THREADS` threads.
-const EVENTS_OF_A_CALL_STEP: usize = 1 + CALL_EVENTS + THREADS;
+/// A call has its step, at most `SYSCALL_EVENTS` copies that the kernel makes, and ends at most `THREADS` threads.
+const EVENTS_OF_A_CALL_STEP: usize = 1 + SYSCALL_EVENTS + THREADS;
 
 /// The parts of a machine.
 #[derive(Drop)]
@@ -113,7 +113,7 @@ impl Guest {
                 Ok(told(instruction, access, target, pc.wrapping_add(4)))
             }
             Outcome::Fault { kind } => Err(kind),
-            Outcome::KernelCall => unreachable!(),
+            Outcome::Syscall => unreachable!(),
         }
     }
 
@@ -149,14 +149,14 @@ impl Guest {
     // Calls the kernel, and lets the threads start, wait or end as it answers.
     #[cold]
     #[inline(never)]
-    fn call_kernel(&mut self, tid: Tid, events: &mut Events) -> Result<Stepped, AllocError>
+    fn make_syscall(&mut self, tid: Tid, events: &mut Events) -> Result<Stepped, AllocError>
         requires sound { IsSound (machine_of (parts_of self.old)) }
         requires lives { is_some (value_of self.old.harts.list tid) ≡ true }
         requires can_run { can_run (machine_of (parts_of self.old)) tid ≡ true }
         requires spare { THREADS ≤ length self.old.harts.list + self.old.harts.room }
         ensures step { IfOk result (λ stepped. Steps
-            (after_call (later (machine_of (parts_of self.old))) tid
-            (call (call_of (later (machine_of (parts_of self.old))) tid))) stepped
+            (after_syscall (later (machine_of (parts_of self.old))) tid
+            (syscall (syscall_of (later (machine_of (parts_of self.old))) tid))) stepped
             (parts_of self.new) events.old.list events.new.list) }
         ensures refused { OnErr result (IsAsBefore (parts_of self.old)
             (parts_of self.new) events.old.list events.new.list) }
@@ -170,7 +170,7 @@ impl Guest {
         let cpu = *cpu_of(&self.harts, tid);
         match self
             .kernel
-            .call(&mut self.memory, &mut self.held, tid, &cpu, events)
+            .syscall(&mut self.memory, &mut self.held, tid, &cpu, events)
         {
             Ok(answer) => {
                 self.called = true;
@@ -206,7 +206,7 @@ impl Guest {
         match self.instruction_at(pc) {
             Err(kind) => Ok(self.fault(kind, pc)),
             Ok(Instr::Ecall) => {
-                let stepped = self.call_kernel(tid, events)?;
+                let stepped = self.make_syscall(tid, events)?;
                 Ok(Advanced::Other { stepped })
             }
             Ok(instruction) => match self.carry_out(tid, pc, &instruction) {

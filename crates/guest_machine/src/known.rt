@@ -100,7 +100,7 @@ fn carry_out(
     match execute(cpu, memory, held, tid, instruction) {
         Outcome::Went { access } => Some(told(&instruction, access, cpu.pc, pc.wrapping_add(4))),
         Outcome::Fault { .. } => None,
-        Outcome::KernelCall => None,
+        Outcome::Syscall => None,
     }
 }
 

@@ -9,11 +9,11 @@ use Rattle.rv_exec.specs.declared.outcome.Outcome.TheVariants as outcome
 use Rattle.guest_calls.specs.declared.answer.Answer.{Answer}
 use Rattle.guest_calls.specs.declared.answer.Answer.TheVariants.{Back, Born}
 use Rattle.guest_calls.specs.Lawful.{goes_on}
-use Rattle.guest_calls.specs.Table.{call}
-use Rattle.guest_calls.proofs.AllCalls.{every_call_is_lawful}
+use Rattle.guest_calls.specs.Table.{syscall}
+use Rattle.guest_calls.proofs.AllCalls.{every_syscall_is_lawful}
 use Rattle.guest_machine.specs.declared.stepped.Stepped.TheVariants.{Went}
 use Rattle.guest_machine.specs.Machine.{MachineState, can_run, later}
-use Rattle.guest_machine.specs.Step.{after_effect, call_of, exec_state_of, executed, next_instruction, step, stepped_by}
+use Rattle.guest_machine.specs.Step.{after_effect, syscall_of, exec_state_of, executed, next_instruction, step, stepped_by}
 
 -- the turn goes on by these answers alone
 went_goes_on : (answer : Answer) → stepped_by answer ≡ Went → goes_on answer ≡ true
@@ -25,9 +25,9 @@ effect_able : (m : MachineState) (tid : ℕ) (i : Instr) (given : Outcome × Exe
     (after_effect m tid i given).outcome ≡ Went → can_run (after_effect m tid i given).machine tid ≡ true
 effect_able m tid i (outcome.Went accessed, c) can goes = can
 effect_able m tid i (outcome.Fault kind, c) can goes = absurd (cc)
-effect_able m tid i (outcome.KernelCall, c) can goes =
-    let made = call_of (later m) tid in
-    (every_call_is_lawful made).able can (went_goes_on (call made).answer goes)
+effect_able m tid i (outcome.Syscall, c) can goes =
+    let made = syscall_of (later m) tid in
+    (every_syscall_is_lawful made).able can (went_goes_on (syscall made).answer goes)
 
 executed_able : (m : MachineState) (tid : ℕ) (found : Result Instr FaultKind) → can_run m tid ≡ true →
     (executed m tid found).outcome ≡ Went → can_run (executed m tid found).machine tid ≡ true

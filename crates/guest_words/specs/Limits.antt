@@ -1,6 +1,6 @@
 -- The limits of the program, in numbers.
 use Rattle.std.specs.Prelude.{◌≡◌, ◌^◌}
-use Rattle.guest_words.specs.declared.limits.TheConstants.{CALL_EVENTS, CONTEXTS, DEMO_ROUTINES, FILE_BYTES, INPUT_BYTES, LAST_TID, NAME_BYTES, PAGES, QUANTUM_STEPS, RUN_STEPS, STACK_PAGES, THREADS, TRACE_BYTES, TRACE_WEIGHT}
+use Rattle.guest_words.specs.declared.limits.TheConstants.{SYSCALL_EVENTS, CONTEXTS, DEMO_ROUTINES, FILE_BYTES, INPUT_BYTES, LAST_TID, NAME_BYTES, PAGES, QUANTUM_STEPS, RUN_STEPS, STACK_PAGES, THREADS, TRACE_BYTES, TRACE_WEIGHT}
 
 -- Each limit that definitions cite by its name.
 pub record AreLimits : Type 0 where
@@ -11,7 +11,7 @@ pub record AreLimits : Type 0 where
   pub threads : THREADS ≡ 32
   pub last_tid : LAST_TID ≡ 4194303
   -- events of one system call: its table of parts, and each of 1024 parts
-  pub call_events : CALL_EVENTS ≡ 1025
+  pub syscall_events : SYSCALL_EVENTS ≡ 1025
   -- steps of a run, and of a turn
   pub run_steps : RUN_STEPS ≡ 10 ^ 12
   pub quantum_steps : QUANTUM_STEPS ≡ 10 ^ 9

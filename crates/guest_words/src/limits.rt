@@ -16,7 +16,7 @@ pub const LAST_TID: u32 = 4_194_303;
 
 /// How many events one system call can have: one for a table of parts, and one for each of 1024 parts. The step of
 /// the call, and the threads that it begins and ends, are not among them.
-pub const CALL_EVENTS: usize = 1025;
+pub const SYSCALL_EVENTS: usize = 1025;
 
 /// How many steps a run can have, and so an entry of a schedule.
 pub const RUN_STEPS: u64 = 1_000_000_000_000;

@@ -16,7 +16,7 @@ use Rattle.rv_isa.specs.declared.instruction.Instr.{Instr}
 use Rattle.rv_isa.specs.declared.instruction.Instr.TheVariants.{Jal, Jalr, Branch, Load, Store, Atomic, Ecall, Ebreak}
 use Rattle.rv_exec.specs.declared.outcome.Access.{Access}
 use Rattle.rv_exec.specs.declared.outcome.Outcome.{Outcome}
-use Rattle.rv_exec.specs.declared.outcome.Outcome.TheVariants.{Went, KernelCall, Fault}
+use Rattle.rv_exec.specs.declared.outcome.Outcome.TheVariants.{Went, Syscall, Fault}
 use Rattle.rv_exec.specs.Registers.{Registers}
 use Rattle.rv_exec.specs.Accesses.{can_read, can_write}
 use Rattle.rv_exec.specs.Effects.{ExecState, advanced, atomic_at, branched, checked, effect, modified, on_registers, store_where, with_registers, with_stored}
@@ -27,7 +27,7 @@ use Rattle.rv_exec.specs.Laws.{KeepsAlignment, KeepsRights, KeepsUnlessWent, Onl
 pub record IsLawful (tid : ℕ) (c : ExecState) (e : Outcome × ExecState) : Type 0 where
   pub kept : KeepsUnlessWent e.0 c e.1
   pub others : (other : ℕ) → (other ≡ tid → ⊥) → is_some (e.1.held other) ≡ true → e.1.held other ≡ c.held other
-  pub no_call : e.0 ≡ KernelCall → ⊥
+  pub no_call : e.0 ≡ Syscall → ⊥
   pub rights : e.1.memory.rights ≡ c.memory.rights
   pub aligned : c.registers.pc % 4 ≡ 0 → e.1.registers.pc % 4 ≡ 0
 

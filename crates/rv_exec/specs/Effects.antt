@@ -23,7 +23,7 @@ use Rattle.rv_exec.specs.Operations.{register_result, immediate_result, is_taken
 use Rattle.rv_exec.specs.Accesses.{can_read, can_write, load_size, extended, store_size, low_bytes, atomic_result}
 use Rattle.rv_exec.specs.declared.outcome.Access.TheVariants as access
 use Rattle.rv_exec.specs.declared.outcome.Outcome.{Outcome}
-use Rattle.rv_exec.specs.declared.outcome.Outcome.TheVariants.{Went, KernelCall, Fault}
+use Rattle.rv_exec.specs.declared.outcome.Outcome.TheVariants.{Went, Syscall, Fault}
 
 -- what a thread's instruction works on
 pub record ExecState : Type 0 where
@@ -183,5 +183,5 @@ effect tid (Register op rd left right) c =
 effect tid (Atomic op rd base from order) c = atomic tid op rd (x c base) (x c from) c
 effect tid Fence c = on_registers c (passed c.registers)
 effect tid FenceI c = on_registers c (passed c.registers)
-effect tid Ecall c = (KernelCall, c)
+effect tid Ecall c = (Syscall, c)
 effect tid Ebreak c = (Fault fault.Break, c)

@@ -5,13 +5,13 @@ use Rattle.rv_isa.specs.declared.instruction.Instr.TheVariants.{Ecall}
 use Rattle.rv_exec.specs.declared.outcome.Access.{Access}
 use Rattle.rv_exec.specs.declared.outcome.Access.TheVariants as access
 use Rattle.rv_exec.specs.declared.outcome.Outcome.{Outcome}
-use Rattle.rv_exec.specs.declared.outcome.Outcome.TheVariants.{Went, KernelCall, Fault}
+use Rattle.rv_exec.specs.declared.outcome.Outcome.TheVariants.{Went, Syscall, Fault}
 use Rattle.rv_exec.specs.Effects.{ExecState, effect}
 
 -- where the instruction did not go on, all is as it was
 abbrev pub KeepsUnlessWent : Outcome → ExecState → ExecState → Type 0
 KeepsUnlessWent (Went access) old new = Unit {0}
-KeepsUnlessWent KernelCall old new = new ≡ old
+KeepsUnlessWent Syscall old new = new ≡ old
 KeepsUnlessWent (Fault kind) old new = new ≡ old
 
 -- faults and system calls change nothing
@@ -20,7 +20,7 @@ RefusalsChangeNothing = (tid : ℕ) (i : Instr) (c : ExecState) → KeepsUnlessW
 
 -- the kernel is called by ECALL alone
 abbrev pub OnlyEcallCalls : Type 0
-OnlyEcallCalls = (tid : ℕ) (i : Instr) (c : ExecState) → ((effect tid i c).0 ≡ KernelCall) ↔ (i ≡ Ecall)
+OnlyEcallCalls = (tid : ℕ) (i : Instr) (c : ExecState) → ((effect tid i c).0 ≡ Syscall) ↔ (i ≡ Ecall)
 
 -- what another thread has reserved afterwards, it had reserved before
 abbrev pub OthersGainNothing : Type 0
@@ -50,7 +50,7 @@ IsInMemory (access.Both word) = word < 2 ^ 30
 -- so are those of an instruction that went on; any other accessed none
 abbrev pub AccessesMemory : Outcome → Type 0
 AccessesMemory (Went accessed) = IsInMemory accessed
-AccessesMemory KernelCall = Unit {0}
+AccessesMemory Syscall = Unit {0}
 AccessesMemory (Fault kind) = Unit {0}
 
 -- an instruction accesses one word or two of memory, or none

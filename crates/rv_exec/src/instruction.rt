@@ -83,7 +83,7 @@ pub fn execute(
             cpu.compute(rd, n)
         }
         Instr::Fence | Instr::FenceI => cpu.pass(),
-        Instr::Ecall => Outcome::KernelCall,
+        Instr::Ecall => Outcome::Syscall,
         Instr::Ebreak => Outcome::Fault {
             kind: FaultKind::Break,
         },

@@ -17,7 +17,7 @@ pub enum Access {
 pub enum Outcome {
     Went { access: Access },
     /// ECALL, which the kernel answers. Nothing has changed yet.
-    KernelCall,
+    Syscall,
     /// The instruction can't run. Nothing has changed.
     Fault { kind: FaultKind },
 }

@@ -95,7 +95,7 @@ impl Guest {
             bail!("it can't run");
         }
         let (memory, held, events) = (&mut self.memory, &mut self.held, &mut self.events);
-        Ok(self.kernel.call(memory, held, tid, &cpu, events)?)
+        Ok(self.kernel.syscall(memory, held, tid, &cpu, events)?)
     }
 
     // Which thread the clock wakes, with which answer.

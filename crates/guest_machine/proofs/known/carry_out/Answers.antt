@@ -13,7 +13,7 @@ use Rattle.guest_machine.specs.Machine.{MachineState}
 use Rattle.guest_machine.specs.declared.stepped.Advanced.{Advanced}
 use Rattle.rv_exec.specs.declared.outcome.Outcome.TheVariants as outcome
 use Rattle.guest_machine.proofs.known.carry_out.Goals as goal
-use Rattle.guest_machine.proofs.known.carry_out.Goals.{in-Went, in-Fault, in-KernelCall}
+use Rattle.guest_machine.proofs.known.carry_out.Goals.{in-Went, in-Fault, in-Syscall}
 
 pub execute-requires : goal.execute-requires
 execute-requires c =
@@ -45,7 +45,7 @@ returns-clause-step c =
           (sym (told_done tid w.told.result w.told.ensures.instruction) ∙ w.told.ensures.events tid ∙ ap₂ (λ t n. Step tid ∷ (access_events tid w.in-Went.access ++ jump_events (kind_of i) tid t ((n + 4) % 2 ^ 32))) there here))
       | in-Fault w ↦
           subst (λ (r : Option Advanced). IfSome r (λ advanced. (m : MachineState) → IsStateOf old tid m → StepsTo m tid new (Step tid ∷ done_by tid advanced))) (sym w.result-is) tt
-      | in-KernelCall w ↦
+      | in-Syscall w ↦
           subst (λ (r : Option Advanced). IfSome r (λ advanced. (m : MachineState) → IsStateOf old tid m → StepsTo m tid new (Step tid ∷ done_by tid advanced))) (sym w.result-is) tt
     ]
 
@@ -61,7 +61,7 @@ returns-clause-kept c =
       | in-Fault w ↦
           subst (λ (r : Option Advanced). IfNone r (new ≡ old)) (sym w.result-is)
           (state_kept tid i old new c.execute.result effects (λ access went. absurd (let no : outcome.Went access ≡ outcome.Fault w.in-Fault.kind = sym went ∙ w.in-Fault.is in cc)))
-      | in-KernelCall w ↦
+      | in-Syscall w ↦
           subst (λ (r : Option Advanced). IfNone r (new ≡ old)) (sym w.result-is)
-          (state_kept tid i old new c.execute.result effects (λ access went. absurd (let no : outcome.Went access ≡ outcome.KernelCall = sym went ∙ w.in-KernelCall.is in cc)))
+          (state_kept tid i old new c.execute.result effects (λ access went. absurd (let no : outcome.Went access ≡ outcome.Syscall = sym went ∙ w.in-Syscall.is in cc)))
     ]

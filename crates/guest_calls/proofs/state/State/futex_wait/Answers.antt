@@ -5,13 +5,13 @@ use Rattle.guest_calls.specs.Errors.{eagain, etimedout}
 use Rattle.guest_calls.specs.Futex.{futex_at, futex_value, is_over, waited, with_end, with_waiter}
 use Rattle.guest_calls.specs.Kernel.{KernelState}
 use Rattle.guest_calls.specs.Outcome.{Does, asked}
-use Rattle.guest_calls.specs.Results.{Call, word}
+use Rattle.guest_calls.specs.Results.{Syscall, word}
 use Rattle.guest_calls.proofs.Waits.{waited_does}
 use Rattle.guest_calls.proofs.state.State.futex_wait.Goals as goal
 
 pub returns-then-not-compare-clause-does : goal.returns-then-not-compare-clause-does
 returns-then-not-compare-clause-does c = λ held.
-    let made : Call = asked c.args.caller.now c.args.self.now c.args.memory.now held in
+    let made : Syscall = asked c.args.caller.now c.args.self.now c.args.memory.now held in
     let end = c.wait_end-end.result in
     let tested : c.compare.result ≡ (word made (futex_at made) == futex_value made) = c.compare.ensures.same ∙ ap (λ (n : ℕ). word made (futex_at made) == n) c.argument.ensures in
     let none : c.compare.result ≡ false = c.if-not-compare.true in
@@ -22,7 +22,7 @@ returns-then-not-compare-clause-does c = λ held.
 
 pub returns-clause-does : goal.returns-clause-does
 returns-clause-does c = λ held.
-    let made : Call = asked c.args.caller.now c.args.self.now c.args.memory.now held in
+    let made : Syscall = asked c.args.caller.now c.args.self.now c.args.memory.now held in
     let end = c.wait_end-end.result in
     let old : KernelState = c.args.self.now in
     let tested : c.compare.result ≡ (word made (futex_at made) == futex_value made) = c.compare.ensures.same ∙ ap (λ (n : ℕ). word made (futex_at made) == n) c.argument.ensures in

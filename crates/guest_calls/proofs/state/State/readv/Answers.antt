@@ -5,14 +5,14 @@ use Rattle.guest_calls.specs.declared.vectors.IoVec.{IoVec}
 use Rattle.guest_calls.specs.Files.{bytes_left}
 use Rattle.guest_calls.specs.Kernel.{descriptor}
 use Rattle.guest_calls.specs.Outcome.{asked, guest_of, Does}
-use Rattle.guest_calls.specs.Results.{Call, CallResult, arg}
+use Rattle.guest_calls.specs.Results.{Syscall, SyscallResult, arg}
 use Rattle.guest_calls.specs.Vectors.{carried, filled_parts, parts, readv, total}
 use Rattle.guest_calls.proofs.Carrying.{readv_does, readv_of, readv_refused}
 use Rattle.guest_calls.proofs.state.State.readv.Goals as goal
 
 pub returns-clause-does : goal.returns-clause-does
 returns-clause-does c =
-    let made : Call = asked c.args.caller.now c.args.self.now c.args.memory.now c.args.held.now in
+    let made : Syscall = asked c.args.caller.now c.args.self.now c.args.memory.now c.args.held.now in
     let file : Descriptor = c.descriptor-file.result in
     let bytes : List ℕ = c.first_bytes-bytes.result.now in
     let into : List IoVec = c.truncated-into.result.items in
@@ -26,7 +26,7 @@ returns-clause-does c =
     ∙ ap (λ (bs : List ℕ). readv_of made here bs (carried (length bs) (parts made))) is_bytes
     in
     let filled : guest_of c.fill_parts.new.memory c.fill_parts.new.held c.fill_parts.new.events ≡ filled_parts into bytes (guest_of c.args.memory.now c.args.held.now c.note_read.new.events) = search rules in
-    subst (λ (r : CallResult). Does r (Back (length bytes)) c.advance.new.self c.fill_parts.new.memory c.fill_parts.new.held c.args.events.now c.fill_parts.new.events) is
+    subst (λ (r : SyscallResult). Does r (Back (length bytes)) c.advance.new.self c.fill_parts.new.memory c.fill_parts.new.held c.args.events.now c.fill_parts.new.events) is
     (readv_does c.args.caller.now c.args.self.now c.advance.new.self c.args.memory.now c.fill_parts.new.memory c.args.held.now c.fill_parts.new.held c.args.events.now c.note_read.new.events c.fill_parts.new.events file bytes into
     (search rules) (search rules) (search rules) (search rules) filled (search rules))
 

@@ -14,9 +14,9 @@ pub cpu_of-requires : goal.cpu_of-requires
 unfolding machine_of
 cpu_of-requires c = lives_kept (machine_of (parts_of c.args.self.now)) c.args.tid c.requires.sound c.requires.can_run
 
-pub call_kernel-requires-clause-lives : goal.call_kernel-requires-clause-lives
+pub make_syscall-requires-clause-lives : goal.make_syscall-requires-clause-lives
 unfolding machine_of
-call_kernel-requires-clause-lives c = lives_kept (machine_of (parts_of c.args.self.now)) c.args.tid c.requires.sound c.requires.can_run
+make_syscall-requires-clause-lives c = lives_kept (machine_of (parts_of c.args.self.now)) c.args.tid c.requires.sound c.requires.can_run
 
 pub carry_out-requires : goal.carry_out-requires
 unfolding machine_of
@@ -52,7 +52,7 @@ returns-in_ok-stepped-in-Ok-Ecall-clause-step c =
     let m = machine_of (parts_of c.args.self.now) in
     let here : c.behind-self.inside.pc ≡ pc_of m c.args.tid = ap (λ (r : Registers). r.pc) (c.behind-self.view_is ∙ c.cpu_of.ensures) in
     let next : next_instruction m c.args.tid ≡ Ok Ecall = ap (instruction_at m.memory) (sym here) ∙ sym c.instruction_at.ensures ∙ (c.in-Ok-Ecall.is ∙ ap Ok c.in-Ok-Ecall.field-0-is) in
-    subst (λ (r : StepResult). Steps r c.in_ok-stepped-in-Ok-Ecall.stepped (parts_of c.call_kernel.new.self) c.args.events.now.list (c.call_kernel.new.events.list ++ [])) (sym (ap (executed m c.args.tid) next))
+    subst (λ (r : StepResult). Steps r c.in_ok-stepped-in-Ok-Ecall.stepped (parts_of c.make_syscall.new.self) c.args.events.now.list (c.make_syscall.new.events.list ++ [])) (sym (ap (executed m c.args.tid) next))
     (Steps-told _ _ _ _ _ c.in_ok-stepped-in-Ok-Ecall.ensures.step)
 
 pub returns-in-Ok-carry_out-clause-step : goal.returns-in-Ok-carry_out-clause-step

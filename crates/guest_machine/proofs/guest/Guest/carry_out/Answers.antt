@@ -24,7 +24,7 @@ pub unreachable-requires : goal.unreachable-requires
 unfolding machine_of
 unreachable-requires c =
     let after : ExecState = record { registers = registers_of c.execute_for-outcome.new.harts.list c.args.tid; memory = memory_of c.execute_for-outcome.new.memory; held = reserved_by c.execute_for-outcome.new.held } in
-    executed-no_call (machine_of (parts_of c.args.self.now)) c.args.tid c.args.instruction.now after (ap (λ o. (o, after)) (sym c.in-KernelCall.is) ∙ c.execute_for-outcome.ensures.effect) c.requires.no_call
+    executed-no_call (machine_of (parts_of c.args.self.now)) c.args.tid c.args.instruction.now after (ap (λ o. (o, after)) (sym c.in-Syscall.is) ∙ c.execute_for-outcome.ensures.effect) c.requires.no_call
 
 pub told-requires : goal.told-requires
 unfolding machine_of

@@ -2,7 +2,7 @@ use Rattle.std.proofs.Common.{arith, rules, sym}
 use Rattle.guest_calls.specs.Outcome.{asked}
 use Rattle.guest_calls.specs.Table.{table}
 use Rattle.guest_calls.proofs.Rows.{AreOther, call_is, none_added, unknown}
-use Rattle.guest_calls.proofs.state.State.call.Goals as goal
+use Rattle.guest_calls.proofs.state.State.syscall.Goals as goal
 
 pub returns-in-57-clause-does : goal.returns-in-57-clause-does
 unfolding table

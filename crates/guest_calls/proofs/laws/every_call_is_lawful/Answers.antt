@@ -1,5 +1,0 @@
-use Rattle.guest_calls.proofs.AllCalls.{every_call_is_lawful}
-use Rattle.guest_calls.proofs.laws.every_call_is_lawful.Goals as goal
-
-pub returns : goal.returns
-returns c = record { lawful = every_call_is_lawful }
