@@ -2,7 +2,7 @@
 use Rattle.std.proofs.Common.{◌≡◌, true, refl, sym, ap, ◌∙◌}
 use Rattle.command_line.specs.Options.Analysis.{Contexts}
 use Rattle.elf_image.specs.Reading.{image_of}
-use Rattle.guest_run.specs.Profiled.{Profiled}
+use Rattle.guest_run.specs.ObservedRun.{ObservedRun}
 use Rattle.guest_run.specs.Run.{recording}
 use Rattle.context_report.specs.ContextText.{contexts_text}
 use Rattle.context_tree.specs.Contexts as tree
@@ -22,7 +22,7 @@ contexts_begin guest path options files bytes contexts ran is_contexts stored is
     let came = came_to job files contexts (λ none. absurd (cc (sym stored ∙ none))) (stage guest files) refl is_contexts in
     let loaded = loaded_of guest files in
     let image = image_of loaded.image in
-    let run : Profiled = run_of options.bits guest loaded came.turns in
+    let run : ObservedRun = run_of options.bits guest loaded came.turns in
     let text = stored_text run (can_be_numbered run.past) path bytes (contexts_report image run) (ap (λ (o : Outcome). o.stores) (sym came.answered) ∙ stored) in
     let is : contexts ≡ either_outcome run path (contexts_report image run) true = came.answered ∙ ap (either_outcome run path (contexts_report image run)) text.1 in
     let ran_is = run_is guest path options job.leaves files contexts came ran is_ran in

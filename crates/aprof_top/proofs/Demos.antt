@@ -6,7 +6,7 @@ use Rattle.elf_image.specs.Image.{Executable}
 use Rattle.elf_image.specs.Reading.{image_of}
 use Rattle.guest_calls.specs.Inputs.{Input}
 use Rattle.guest_machine.specs.Start.{start}
-use Rattle.guest_run.specs.Profiled.{Profiled}
+use Rattle.guest_run.specs.ObservedRun.{ObservedRun}
 use Rattle.stamps.specs.declared.width.StampBits.TheVariants.{B32}
 use Rattle.stamps.specs.Widths.{greatest}
 use Rattle.thread_sched.specs.declared.entry.Entry.{Entry}
@@ -17,7 +17,7 @@ use Rattle.aprof_top.specs.Run.{first_state, observed_from, run_of}
 use Rattle.aprof_top.specs.Summary.{summary_text}
 
 -- its summary is the outcome
-pub demo_answer : (number : ℕ) (image : Executable) (seen : Profiled) (out : List ℕ) → out ≡ summary_text number (report_of image.names seen.finish seen.past) →
+pub demo_answer : (number : ℕ) (image : Executable) (seen : ObservedRun) (out : List ℕ) → out ≡ summary_text number (report_of image.names seen.finish seen.past) →
     (file : List ℕ) → image ≡ image_of file → seen ≡ run_of B32 demo_options (demo_files file) [] →
     summed out ≡ demo_outcome number (image_of file) (run_of B32 demo_options (demo_files file) [])
 demo_answer number image seen out is file image_is runs =

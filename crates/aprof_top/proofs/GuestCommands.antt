@@ -4,7 +4,7 @@ use Rattle.command_line.specs.Options.{Analysis, GuestOptions, arguments}
 use Rattle.guest_machine.specs.Setup.{setup_refusal}
 use Rattle.guest_machine.specs.Start.{start}
 use Rattle.guest_run.specs.Output.{Sinks, sinks, with_output}
-use Rattle.guest_run.specs.Profiled.{Profiled}
+use Rattle.guest_run.specs.ObservedRun.{ObservedRun}
 use Rattle.host_io.specs.Files.{FilesState}
 use Rattle.host_io.specs.Sink.{SinkState}
 use Rattle.trace_model.specs.declared.event_kinds.Event.{Event}
@@ -21,16 +21,16 @@ use Rattle.aprof_top.specs.Verdicts.{IsOfRun}
 use Rattle.aprof_top.proofs.Runs.{FilesRun-given_up, FilesRun-stored, seen_by}
 
 -- what a run leaves: it came to this, and the output is the guest's
-of_run : (seen : Profiled) (left : Option Left) → IsOfRun (run_outcome seen left).verdict
+of_run : (seen : ObservedRun) (left : Option Left) → IsOfRun (run_outcome seen left).verdict
 of_run seen (Some left) = tt
 of_run seen None = tt
 
-writes_are : (seen : Profiled) (left : Option Left) → (run_outcome seen left).writes ≡ writes_of seen.moves
+writes_are : (seen : ObservedRun) (left : Option Left) → (run_outcome seen left).writes ≡ writes_of seen.moves
 writes_are seen (Some left) = refl
 writes_are seen None = refl
 
 -- what is observed of the run of a guest that was prepared
-abbrev pub seen_of : (List Event → Bool) → GuestOptions → Prepared → Profiled
+abbrev pub seen_of : (List Event → Bool) → GuestOptions → Prepared → ObservedRun
 seen_of fits options prepared =
     observed_from fits options prepared.files.schedule prepared.image.entry
     (start prepared.image (arguments options) prepared.files.inputs prepared.files.stdin.items)
@@ -39,7 +39,7 @@ module _ (guest : GuestOptions) (path : List ℕ) (analysis : Analysis) (prepare
   abbrev job : Job
   job = job_of guest path analysis
 
-  abbrev seen : Profiled
+  abbrev seen : ObservedRun
   seen = seen_of (follows_to analysis) guest prepared
 
   abbrev left : Option Left

@@ -12,7 +12,7 @@ use Rattle.guest_run.specs.declared.run_error.RunError.TheVariants as run
 use Rattle.guest_run.specs.Laws.{scheduler}
 use Rattle.guest_run.specs.Machine.{guest}
 use Rattle.guest_run.specs.Output.{Sinks}
-use Rattle.guest_run.specs.Profiled.{Profiled, first_past, profiled}
+use Rattle.guest_run.specs.ObservedRun.{ObservedRun, first_past, observed_run}
 use Rattle.guest_run.specs.Run as runs
 use Rattle.guest_run.specs.RunEnds.{RunEnds}
 use Rattle.thread_sched.specs.TurnRule.{SchedulerState}
@@ -22,7 +22,7 @@ use Rattle.aprof_top.specs.Private.Jobs.{ImageRuns}
 use Rattle.aprof_top.specs.Run.{observed_from}
 
 -- the guest can't begin
-pub ImageRuns-unbegun : {W : Type 0} (Stands : W → List Event → Type 0) (refusal : Option SetupError) (seen : Profiled) (before : Sinks) (observer : W) (e : SetupError) →
+pub ImageRuns-unbegun : {W : Type 0} (Stands : W → List Event → Type 0) (refusal : Option SetupError) (seen : ObservedRun) (before : Sinks) (observer : W) (e : SetupError) →
     IfSome refusal (λ why. e ≡ why) → IfNone refusal (e ≡ setup.Memory) → ImageRuns Stands refusal seen before observer before (Err (of_setup e))
 ImageRuns-unbegun Stands refusal seen before observer setup.Memory some none = inl refl
 ImageRuns-unbegun Stands None seen before observer setup.ArgsTooLong some none = absurd (cc)
@@ -31,11 +31,11 @@ ImageRuns-unbegun Stands (Some why) seen before observer setup.ArgsTooLong some 
 ImageRuns-unbegun Stands (Some why) seen before observer setup.Pages some none = (refl, tt, refl)
 
 -- its run ends
-pub ImageRuns-run : {W : Type 0} (Stands : W → List Event → Type 0) (refusal : Option SetupError) (seen : Profiled) (before : Sinks) (observer : W) (after : Sinks) → refusal ≡ None → (ended : Ended) →
+pub ImageRuns-run : {W : Type 0} (Stands : W → List Event → Type 0) (refusal : Option SetupError) (seen : ObservedRun) (before : Sinks) (observer : W) (after : Sinks) → refusal ≡ None → (ended : Ended) →
     RunEnds Stands seen before observer after (Ok ended) → ImageRuns Stands refusal seen before observer after (Ok ended)
 ImageRuns-run Stands refusal seen before observer after begins ended ends = (begins, ends)
 
-pub ImageRuns-given_up : {W : Type 0} (Stands : W → List Event → Type 0) (refusal : Option SetupError) (seen : Profiled) (before : Sinks) (observer : W) (after : Sinks) → refusal ≡ None → (e : RunError) →
+pub ImageRuns-given_up : {W : Type 0} (Stands : W → List Event → Type 0) (refusal : Option SetupError) (seen : ObservedRun) (before : Sinks) (observer : W) (after : Sinks) → refusal ≡ None → (e : RunError) →
     RunEnds Stands seen before observer after (Err e) → ImageRuns Stands refusal seen before observer after (Err (of_run e))
 ImageRuns-given_up Stands refusal seen before observer after begins (run.CannotPut channel.Out) ends = (begins, ends)
 ImageRuns-given_up Stands refusal seen before observer after begins (run.CannotPut channel.Err) ends = (begins, ends)
@@ -44,9 +44,9 @@ ImageRuns-given_up Stands refusal seen before observer after begins run.Memory e
 -- what is observed of it, by the machine that began so
 pub seen_as : (fits : List Event → Bool) (options : GuestOptions) (turns : List Entry) (entry from : ℕ) (state machine : MachineState) (known : SchedulerState) →
     from ≡ entry → machine ≡ state → known ≡ scheduler options.quantum turns →
-    profiled fits (first_past from) (runs.run guest known options.budget machine) ≡ observed_from fits options turns entry state
+    observed_run fits (first_past from) (runs.run guest known options.budget machine) ≡ observed_from fits options turns entry state
 unfolding observed_from
 seen_as fits options turns entry from state machine known entry_is state_is known_is =
-    ap (λ e. profiled fits (first_past e) (runs.run guest known options.budget machine)) entry_is
-    ∙ ap (λ s. profiled fits (first_past entry) (runs.run guest known options.budget s)) state_is
-    ∙ ap (λ k. profiled fits (first_past entry) (runs.run guest k options.budget state)) known_is
+    ap (λ e. observed_run fits (first_past e) (runs.run guest known options.budget machine)) entry_is
+    ∙ ap (λ s. observed_run fits (first_past entry) (runs.run guest known options.budget s)) state_is
+    ∙ ap (λ k. observed_run fits (first_past entry) (runs.run guest k options.budget state)) known_is

@@ -10,7 +10,7 @@ use Rattle.std.proofs.lemmas.Grind.{flat_map-append}
 use Rattle.cost_points.specs.Keys as keys
 use Rattle.cost_points.proofs.Rising.{IsRising-above, IsRising-rising, IsRising-tail}
 use Rattle.elf_image.specs.Image.{Executable, name_of}
-use Rattle.guest_run.specs.Profiled.{Profiled}
+use Rattle.guest_run.specs.ObservedRun.{ObservedRun}
 use Rattle.guest_words.specs.declared.endings.Finish.{Finish}
 use Rattle.run_trace.specs.Entries.{entries_begun, entry_begun}
 use Rattle.run_trace.specs.Kept.{IsTooLong}
@@ -93,7 +93,7 @@ one_unstored outcome path bytes are store.Memory old new err same = record { sto
 
 -- ---- one file is made of a run
 -- what is made of a run is this file
-pub stored_left : (run : Profiled) (left : Option Left) (path bytes : List ℕ) → left ≡ Some (one_file path bytes) → (old new : Desk) (result : Result Verdict Ending)
+pub stored_left : (run : ObservedRun) (left : Option Left) (path bytes : List ℕ) → left ≡ Some (one_file path bytes) → (old new : Desk) (result : Result Verdict Ending)
     → RunIsStored (run_outcome run (Some (one_file path bytes))) old new result → RunIsStored (run_outcome run left) old new result
 stored_left run left path bytes is old new result stored = subst (λ l. RunIsStored (run_outcome run l) old new result) (sym is) stored
 

@@ -10,7 +10,7 @@ use Rattle.command_line.specs.Options.{GuestOptions, arguments, inputs}
 use Rattle.command_line.specs.Options.Analysis.{Trace}
 use Rattle.elf_image.specs.Image.{Executable}
 use Rattle.elf_image.specs.Reading.{image_of}
-use Rattle.guest_run.specs.Profiled.{Profiled, profiled}
+use Rattle.guest_run.specs.ObservedRun.{ObservedRun, observed_run}
 use Rattle.guest_machine.specs.Laws.{IsAddress}
 use Rattle.guest_run.specs.Run.{recording}
 use Rattle.guest_run.specs.Traces.{TellsInRange}
@@ -94,18 +94,18 @@ widest B32 = omega arith
 
 -- ---- the run
 module _ (bits : StampBits) (options : GuestOptions) (loaded : Loaded) (turns : List Entry) where
-  abbrev wide : Profiled
+  abbrev wide : ObservedRun
   wide = run_of B32 options loaded turns
 
-  abbrev narrow : Profiled
+  abbrev narrow : ObservedRun
   narrow = run_of bits options loaded turns
 
   past_again : told_apart bits wide.past ≡ narrow.past
-  unfolding observed_from profiled
+  unfolding observed_from observed_run
   past_again = cut_again (greatest bits) (greatest B32) (widest bits) _
 
   finish_again : told_finish bits wide.past wide.finish ≡ narrow.finish
-  unfolding observed_from profiled
+  unfolding observed_from observed_run
   finish_again = end_again (greatest bits) (greatest B32) (widest bits) _ _
 
   -- its report, with the names of the trace
@@ -136,8 +136,8 @@ traces_replay known guest report options files path bytes traced ran replayed fe
     let came = came_to job files traced (λ none. absurd (cc (sym stored ∙ none))) (stage guest files) refl is_traced in
     let loaded = loaded_of guest files in
     let image = image_of loaded.image in
-    let wide : Profiled = run_of B32 guest loaded came.turns in
-    let narrow : Profiled = run_of options.bits guest loaded came.turns in
+    let wide : ObservedRun = run_of B32 guest loaded came.turns in
+    let narrow : ObservedRun = run_of options.bits guest loaded came.turns in
     let text = stored_text wide (is_storable (trace_of image wide)) path bytes (trace_of image wide) (ap (λ (o : Outcome). o.stores) (sym came.answered) ∙ stored) in
     let asked = replayed_from report options path in
     let is_trace : IsTrace bytes wide.past (names_begun image wide.past) wide.finish = record {

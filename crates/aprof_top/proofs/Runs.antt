@@ -16,7 +16,7 @@ use Rattle.guest_machine.specs.Start.{start}
 use Rattle.guest_run.specs.Laws.{scheduler}
 use Rattle.guest_run.specs.Output.{Sinks, with_output}
 use Rattle.guest_run.specs.RunEnds.{IsGivenUp}
-use Rattle.guest_run.specs.Profiled.{Profiled, first_past}
+use Rattle.guest_run.specs.ObservedRun.{ObservedRun, first_past}
 use Rattle.guest_run.specs.Run.{Move}
 use Rattle.guest_run.proofs.Formed.{every_run_formed}
 use Rattle.guest_run.proofs.Weights.{every_run_light}
@@ -102,7 +102,7 @@ FilesRun-refused job loaded o _ refused = absurd refused
 
 -- ---- the guest is run
 module _ (job : Job) (loaded : Loaded) (accepted : first_refusal loaded.image ≡ None) (turns : List Entry) (entries : AllByRecursion IsEntry turns)
-    (text : IsText loaded.schedule turns) (image : Executable) (is : image ≡ image_of loaded.image) (seen : Profiled) (outcome : Outcome) (left : outcome ≡ job.leaves loaded turns)
+    (text : IsText loaded.schedule turns) (image : Executable) (is : image ≡ image_of loaded.image) (seen : ObservedRun) (outcome : Outcome) (left : outcome ≡ job.leaves loaded turns)
     (of_run : IsOfRun outcome.verdict) (writes_are : outcome.writes ≡ writes_of seen.moves)
     (files : FilesState) (before after : Sinks) where
   is_outcome : setup_refusal image (arguments job.guest) ≡ None → IsRun job loaded outcome
@@ -199,7 +199,7 @@ pub formed_observed : (fits : List Event → Bool) (options : GuestOptions) (tur
     IsWellFormed (observed_from fits options turns image.entry (start image (arguments options) files stdin)).past
 unfolding observed_from
 formed_observed fits options turns image files stdin few =
-    (every_run_formed image (arguments options) files stdin fits (scheduler options.quantum turns) options.budget few).profiled_part
+    (every_run_formed image (arguments options) files stdin fits (scheduler options.quantum turns) options.budget few).observed_part
 
 -- and a line that it ends at is counted from 1
 pub counted_observed : (fits : List Event → Bool) (options : GuestOptions) (turns : List Entry) (image : Executable) (files : List Input) (stdin : List ℕ) →

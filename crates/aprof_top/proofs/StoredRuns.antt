@@ -8,7 +8,7 @@ use Rattle.elf_image.specs.Reading.{image_of}
 use Rattle.elf_image.specs.Tests.{first_refusal}
 use Rattle.guest_machine.specs.declared.setup.SetupError.{SetupError}
 use Rattle.guest_machine.specs.Setup.{setup_refusal}
-use Rattle.guest_run.specs.Profiled.{Profiled}
+use Rattle.guest_run.specs.ObservedRun.{ObservedRun}
 use Rattle.thread_sched.specs.declared.entry.Entry.{Entry}
 use Rattle.aprof_top.specs.declared.ending.Verdict.TheVariants.{BadImage, BadSchedule, TooLarge}
 use Rattle.aprof_top.specs.Loads.{Loaded, loaded_of}
@@ -72,10 +72,10 @@ module _ (guest : GuestOptions) (report : List ℕ) (options : RunOptions) (leav
       ∙ ap (begun_outcome (run_job guest report options) with_files came.turns) came.begins
 
 -- what was stored is this text
-abbrev pub either_outcome : Profiled → List ℕ → List ℕ → Bool → Outcome
+abbrev pub either_outcome : ObservedRun → List ℕ → List ℕ → Bool → Outcome
 either_outcome run path text b = run_outcome run (if b then Some (one_file path text) else None)
 
-pub stored_text : (run : Profiled) (b : Bool) (path bytes text : List ℕ) → (either_outcome run path text b).stores ≡ (path, bytes) ∷ [] → (bytes ≡ text) × (b ≡ true)
+pub stored_text : (run : ObservedRun) (b : Bool) (path bytes text : List ℕ) → (either_outcome run path text b).stores ≡ (path, bytes) ∷ [] → (bytes ≡ text) × (b ≡ true)
 stored_text run true path bytes text same =
     let first : (path, text) ≡ (path, bytes) = cc same in
     (sym (ap (λ (store : List ℕ × List ℕ). store.1) first), refl)

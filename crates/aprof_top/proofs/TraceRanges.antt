@@ -22,7 +22,7 @@ use Rattle.elf_image.specs.Tests.{first_of, first_refusal, header_tests, layout_
 use Rattle.elf_image.proofs.NameTexts.{name_there}
 use Rattle.elf_image.proofs.Sound.{sound_from}
 use Rattle.guest_machine.specs.Laws.{IsAddress}
-use Rattle.guest_run.specs.Profiled.{Profiled}
+use Rattle.guest_run.specs.ObservedRun.{ObservedRun}
 use Rattle.guest_run.specs.Traces.{IsEndInRange, IsInRange, TellsInRange}
 use Rattle.run_trace.specs.Entries.{entries_begun}
 use Rattle.trace_file.specs.Records.{Fits, kind_number}
@@ -210,7 +210,7 @@ begun_low (Start tid entry ∷ past) all = All-cons IsAddress entry (begins past
 begun_low (Call tid entry back ∷ past) all = All-cons IsAddress entry (begins past) all.0.1 (begun_low past all.1)
 begun_low (_ ∷ past) all = begun_low past all.1
 
-pub records_fit : (file : List ℕ) (lines : ℕ) (run : Profiled) → lines < 2 ^ 64 → TellsInRange lines run
+pub records_fit : (file : List ℕ) (lines : ℕ) (run : ObservedRun) → lines < 2 ^ 64 → TellsInRange lines run
     → AllByRecursion Fits (whole_records run.past (names_begun (image_of file) run.past) run.finish)
 records_fit file lines run few tells =
     let image = image_of file in

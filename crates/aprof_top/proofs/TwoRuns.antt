@@ -12,8 +12,8 @@ use Rattle.elf_image.specs.Reading.{image_of}
 use Rattle.elf_image.specs.Tests.{first_refusal}
 use Rattle.guest_machine.specs.declared.setup.SetupError.{SetupError}
 use Rattle.guest_machine.specs.Setup.{setup_refusal}
-use Rattle.guest_run.specs.Laws.{IsNoMismatch, ReplaysProfiled, scheduler}
-use Rattle.guest_run.specs.Profiled.{Profiled, first_past}
+use Rattle.guest_run.specs.Laws.{IsNoMismatch, ReplaysObserved, scheduler}
+use Rattle.guest_run.specs.ObservedRun.{ObservedRun, first_past}
 use Rattle.guest_run.specs.Run.{recording}
 use Rattle.trace_model.specs.Depth.{is_within}
 use Rattle.trace_model.proofs.Cut.{within_closed}
@@ -185,11 +185,11 @@ stored_is (Some other) turns more path text is get = ap (λ (store : List ℕ ×
     same : (a b : List ℕ × List ℕ) → Some a ≡ Some b → b ≡ a
     same a b e = cc
 
-module _ (replays : ReplaysProfiled) (entries : EveryRunRecordsEntries) (guest : GuestOptions) (report : List ℕ) (options : RunOptions) (loaded : Loaded) (turns : List Entry) (path text : List ℕ) where
+module _ (replays : ReplaysObserved) (entries : EveryRunRecordsEntries) (guest : GuestOptions) (report : List ℕ) (options : RunOptions) (loaded : Loaded) (turns : List Entry) (path text : List ℕ) where
   abbrev again : Loaded
   again = record loaded { schedule = text }
 
-  abbrev seen : Profiled
+  abbrev seen : ObservedRun
   seen = run_of options.bits guest loaded turns
 
   first_fits : (bits : StampBits) (entry : ℕ) → is_within (greatest bits) (first_past entry) ≡ true
@@ -203,7 +203,7 @@ module _ (replays : ReplaysProfiled) (entries : EveryRunRecordsEntries) (guest :
 
   are_entries : guest.budget ≤ RUN_STEPS → AllByRecursion IsEntry (recording seen.moves)
   unfolding observed_from first_state
-  are_entries few = (entries (image_of loaded.image) (arguments guest) (with_inputs [] (inputs guest) loaded.inputs) loaded.stdin (is_within (greatest options.bits)) (scheduler guest.quantum turns) guest.budget few).profiled_part
+  are_entries few = (entries (image_of loaded.image) (arguments guest) (with_inputs [] (inputs guest) loaded.inputs) loaded.stdin (is_within (greatest options.bits)) (scheduler guest.quantum turns) guest.budget few).observed_part
 
   module _ (few : guest.budget ≤ RUN_STEPS) (no_mismatch : IsNoMismatch seen.finish) (is_text : text ≡ schedule_text (recording seen.moves)) (accepted : first_refusal loaded.image ≡ None) (begins : setup_refusal (image_of loaded.image) (arguments guest) ≡ None) (second : Outcome) where
     under_turns : second ≡ scheduled_outcome (run_job (under_schedule guest path) report options) again (Turns (recording seen.moves)) → second ≡ analysed report (Run options) (image_of loaded.image) seen
@@ -217,13 +217,13 @@ module _ (replays : ReplaysProfiled) (entries : EveryRunRecordsEntries) (guest :
         let run = subst (λ o. ByImage (run_job (under_schedule guest path) report options) again second o) accepted is in
         under_turns (run.answered ∙ ap (scheduled_outcome (run_job (under_schedule guest path) report options) again) (reads_once text run.reading (Turns (recording seen.moves)) run.read (are_entries few, inl is_text)))
 
-pub two_runs_agree : ReplaysProfiled → EveryRunRecordsEntries → TwoRunsAgree
+pub two_runs_agree : ReplaysObserved → EveryRunRecordsEntries → TwoRunsAgree
 two_runs_agree replays entries guest report options files first second path text few is leaves short second_is =
     let loaded = loaded_of guest files in
     let ran = complete_run guest report options files first leaves.finish leaves.ran (stage guest files) refl is in
     let run = ran.1 in
     let image = image_of loaded.image in
-    let seen : Profiled = run_of options.bits guest loaded run.turns in
+    let seen : ObservedRun = run_of options.bits guest loaded run.turns in
     let is_text : text ≡ schedule_text (recording seen.moves) =
     stored_is options.recording (recording seen.moves) ((report, report_text (report_of image.names seen.finish seen.past)) ∷ []) leaves.path text leaves.asked (ap (λ (o : Outcome). slice_get o.stores 0) (sym run.answered) ∙ leaves.stored) in
     let finish : seen.finish ≡ leaves.finish = same_finish seen.finish leaves.finish (ap (λ (o : Outcome). o.verdict) (sym run.answered) ∙ leaves.ran) in

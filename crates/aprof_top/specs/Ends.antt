@@ -57,7 +57,7 @@ pub record FailsToWrite (words : List (List ℕ)) (Fails : Outcome → Type 0) (
 
 -- Memory ran out, before anything was done or while an outcome was handed out, and nothing failed. That a word has a zero
 -- byte is told without memory.
-pub record WantsMemory (words : List (List ℕ)) (before after : Outside) : Type 0 where
+pub record RunsOutOfMemory (words : List (List ℕ)) (before after : Outside) : Type 0 where
   pub no_zero : list_any has_zero words ≡ false
   pub done : (after ≡ before) ⊎ ((decision : Decision words before after) × StopsShort decision.outcome before after)
 
@@ -70,4 +70,4 @@ Reaches words CannotWrite before after =
     FailsToWrite words (λ outcome. FailsAtStore outcome before after ⊎ FailsOnOut outcome before after) before after
 Reaches words CannotPut before after =
     FailsToWrite words (λ outcome. FailsOnErr outcome before after ⊎ FailsAtStats outcome before after) before after
-Reaches words OutOfMemory before after = WantsMemory words before after
+Reaches words OutOfMemory before after = RunsOutOfMemory words before after

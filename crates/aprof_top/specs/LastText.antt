@@ -27,10 +27,10 @@ pub record Tells (end : End) (status : ℕ) (old new : SinkState) : Type 0 where
   pub text : IsPut (end_text end) old new
 
 -- The last text could not be allocated: the status is that of out of memory. No text follows one that was refused.
-pub record WantsText (end : End) (status : ℕ) (old new : SinkState) : Type 0 where
+pub record CannotAllocateText (end : End) (status : ℕ) (old new : SinkState) : Type 0 where
   pub status_is : status ≡ end_status OutOfMemory
   pub some : 0 < length (end_text end)
   pub text : (new ≡ old) ⊎ (IsMade end × IsPut out_of_memory_text old new)
 
 abbrev pub LastText : End → ℕ → SinkState → SinkState → Type 0
-LastText end status old new = Tells end status old new ⊎ WantsText end status old new
+LastText end status old new = Tells end status old new ⊎ CannotAllocateText end status old new

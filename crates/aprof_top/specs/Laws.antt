@@ -4,7 +4,7 @@ use Rattle.command_line.specs.Options.{Asked, GuestOptions, ReplayOptions, RunOp
 use Rattle.command_line.specs.Options.Analysis.{Run, Trace, Contexts}
 use Rattle.command_line.specs.Options.Asked.{Guest, Replay}
 use Rattle.guest_run.specs.Laws.{IsNoMismatch, TurnsHaveMoves}
-use Rattle.guest_run.specs.Profiled.{Profiled}
+use Rattle.guest_run.specs.ObservedRun.{ObservedRun}
 use Rattle.guest_run.specs.Run.{recording}
 use Rattle.guest_words.specs.declared.limits.TheConstants.{RUN_STEPS}
 use Rattle.guest_words.specs.declared.endings.Finish.{Finish}
@@ -87,8 +87,8 @@ ContextsBeginWithTheReport =
     → IsOutcome (Some (Guest guest report (Contexts options.bits))) files contexts → contexts.stores ≡ (report, bytes) ∷ []
     → IsOutcome (Some (Guest guest report (Run options))) files run → BeginsWithReport report bytes contexts run
 
--- A profiled run has at most as many steps as its budget, and each turn that it records has a move and at most as many.
-pub record IsBounded (run : Profiled) (budget : ℕ) : Type 0 where
+-- An observed run has at most as many steps as its budget, and each turn that it records has a move and at most as many.
+pub record IsBounded (run : ObservedRun) (budget : ℕ) : Type 0 where
   pub steps : steps run.past ≤ budget
   pub turns : TurnsHaveMoves (recording run.moves) (length run.moves) budget
 

@@ -10,7 +10,7 @@ use Rattle.elf_image.specs.Reading.{image_of}
 use Rattle.elf_image.specs.Tests.{first_refusal}
 use Rattle.guest_machine.specs.declared.setup.SetupError.{SetupError}
 use Rattle.guest_machine.specs.Setup.{setup_refusal}
-use Rattle.guest_run.specs.Profiled.{Profiled}
+use Rattle.guest_run.specs.ObservedRun.{ObservedRun}
 use Rattle.guest_run.specs.Run.{Move, recording, sent}
 use Rattle.guest_words.specs.declared.endings.Finish.{Finish}
 use Rattle.guest_words.specs.declared.endings.Finish.TheVariants.{Deep}
@@ -114,7 +114,7 @@ abbrev pub one_file : List ℕ → List ℕ → Left
 one_file path bytes = record { stores = (path, bytes) ∷ []; stats = [] }
 
 -- what an analysis makes of a run, with its result at this path; none where that is too large
-abbrev pub left_of : List ℕ → Analysis → Executable → Profiled → Option Left
+abbrev pub left_of : List ℕ → Analysis → Executable → ObservedRun → Option Left
 left_of path (Run options) image run = Some (record {
   stores = run_stores path options image run.finish run.past (recording run.moves);
   stats = stats_of options.stats (renumberings (greatest options.bits) run.past);
@@ -124,7 +124,7 @@ left_of path (Cache shape) image run = Some (one_file path (cache_text (misses_o
 left_of path (Contexts bits) image run = if can_be_numbered run.past then Some (one_file path (contexts_report image run)) else None
 
 -- what a run leaves: the guest's output, and what is made of it
-abbrev pub run_outcome : Profiled → Option Left → Outcome
+abbrev pub run_outcome : ObservedRun → Option Left → Outcome
 run_outcome run (Some left) = record {
   verdict = Ran run.finish;
   writes = writes_of run.moves;
@@ -139,7 +139,7 @@ run_outcome run None = record {
 }
 
 -- the same, by the analysis
-abbrev pub analysed : List ℕ → Analysis → Executable → Profiled → Outcome
+abbrev pub analysed : List ℕ → Analysis → Executable → ObservedRun → Outcome
 analysed path analysis image run = run_outcome run (left_of path analysis image run)
 
 -- A command that runs a guest: how it is run, and what its run leaves with these files, under these turns.
@@ -272,7 +272,7 @@ abbrev pub demo_files : List ℕ → Loaded
 demo_files file = record { image = file; inputs = []; stdin = []; schedule = [] }
 
 -- its summary is put, and nothing is stored
-abbrev pub demo_outcome : ℕ → Executable → Profiled → Outcome
+abbrev pub demo_outcome : ℕ → Executable → ObservedRun → Outcome
 demo_outcome number image run = record {
   verdict = Summarized;
   writes = (1, summary_text number (report_of image.names run.finish run.past)) ∷ [];

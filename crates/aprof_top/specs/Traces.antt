@@ -3,7 +3,7 @@ use Rattle.std.specs.Prelude.{ℕ, List, length, nat_le, Bool}
 use Rattle.std.specs.List.{flat_map}
 use Rattle.std.specs.Option.{option_map, option_to_list}
 use Rattle.elf_image.specs.Image.{Executable, name_of}
-use Rattle.guest_run.specs.Profiled.{Profiled}
+use Rattle.guest_run.specs.ObservedRun.{ObservedRun}
 use Rattle.run_trace.specs.Entries.{entries_begun}
 use Rattle.guest_words.specs.declared.limits.TheConstants.{TRACE_BYTES}
 use Rattle.trace_file.specs.TraceText.{Names, trace_text}
@@ -21,7 +21,7 @@ abbrev pub names_begun : Executable → List Event → Names
 names_begun image past = named_entries image (entries_begun past)
 
 -- the text of the trace, with these names and how the run ended
-abbrev pub trace_of : Executable → Profiled → List ℕ
+abbrev pub trace_of : Executable → ObservedRun → List ℕ
 trace_of image run = trace_text run.past (names_begun image run.past) run.finish
 
 -- it is no longer than a trace that is stored

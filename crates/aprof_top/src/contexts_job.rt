@@ -3,7 +3,7 @@ ghost use Rattle.std.specs.Prelude.{◌≡◌, ℕ, List, true, IfOk, ◌≤◌}
 ghost use Rattle.command_line.specs.Options.Analysis.{Contexts};
 ghost use Rattle.command_line.specs.Read.{AreInRange, guest_in};
 ghost use Rattle.context_profile.specs.Kept.{AreTotalsOf};
-ghost use Rattle.guest_run.specs.Profiled.{Profiled};
+ghost use Rattle.guest_run.specs.ObservedRun.{ObservedRun};
 ghost use Rattle.host_io.specs.Sink.{SinkState};
 ghost use Rattle.stamps.specs.declared.width.StampBits.{StampBits};
 ghost use Rattle.trace_model.specs.declared.event_kinds.Event.{Event};
@@ -94,7 +94,7 @@ fn contexts_report(
     requires { (most : ℕ) × ((past : List Event) × AreTotalsOf most contexts.now past) }
     ensures few { IfOk result (λ text. (most : ℕ) (past : List Event)
         → AreTotalsOf most contexts.now past → can_be_numbered past ≡ true) }
-    ensures text { IfOk result (λ text. (most : ℕ) (seen : Profiled)
+    ensures text { IfOk result (λ text. (most : ℕ) (seen : ObservedRun)
         → AreTotalsOf most contexts.now seen.past → finish.now ≡ seen.finish
         → text.items ≡ contexts_report image.now seen) }
 {
@@ -113,7 +113,7 @@ fn deliver_contexts<F: Files>(
     files: &mut F,
 ) -> Result<Verdict, Ending>
     requires { (most : ℕ) × ((past : List Event) × HaveContexts most run.contexts past) }
-    ensures { (bits : StampBits) (most : ℕ) (seen : Profiled) → run.finish ≡ seen.finish
+    ensures { (bits : StampBits) (most : ℕ) (seen : ObservedRun) → run.finish ≡ seen.finish
         → HaveContexts most run.contexts seen.past
         → (err : SinkState) → RunIsStored (analysed path.now (Contexts bits) image.now seen)
         (desk (F.state files.old) err) (desk (F.state files.new) err) result }

@@ -1,6 +1,6 @@
 //! Handing out what a command leaves: bytes to a sink, and files.
 ghost use Rattle.std.specs.Prelude.{◌≡◌, ◌<◌, length, map, OnErr, Some};
-ghost use Rattle.guest_run.specs.Profiled.{Profiled};
+ghost use Rattle.guest_run.specs.ObservedRun.{ObservedRun};
 ghost use Rattle.host_io.specs.Sink.{PutEnds, SinkState};
 ghost use Rattle.aprof_top.specs.Private.Jobs.{RunIsStored, StatsEnd, StoresEnd, desk, store_of};
 ghost use Rattle.aprof_top.specs.Outcome.{one_file, run_outcome, stats_of};
@@ -68,7 +68,7 @@ pub(crate) fn store_result<F: Files>(
     finish: Finish,
     files: &mut F,
 ) -> Result<Verdict, Ending>
-    ensures { (run : Profiled) → finish ≡ run.finish → (err : SinkState)
+    ensures { (run : ObservedRun) → finish ≡ run.finish → (err : SinkState)
         → RunIsStored (run_outcome run (Some (one_file path.now bytes.now)))
         (desk (F.state files.old) err) (desk (F.state files.new) err) result }
 {

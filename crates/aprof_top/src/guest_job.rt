@@ -5,7 +5,7 @@ ghost use Rattle.command_line.specs.Read.{AreInRange, guest_in};
 ghost use Rattle.guest_machine.specs.Setup.{setup_refusal};
 ghost use Rattle.guest_machine.specs.Start.{start};
 ghost use Rattle.guest_run.specs.Output.{sinks};
-ghost use Rattle.guest_run.specs.Profiled.{first_past};
+ghost use Rattle.guest_run.specs.ObservedRun.{first_past};
 ghost use Rattle.aprof_top.specs.Private.Jobs.{ImageRuns};
 ghost use Rattle.aprof_top.specs.Run.{observed_from};
 

@@ -2,7 +2,7 @@
 ghost use Rattle.std.specs.Prelude.{◌≡◌, ℕ, List, map, option_map, IfOk};
 ghost use Rattle.command_line.specs.Options.Analysis.{Run};
 ghost use Rattle.command_line.specs.Read.{AreInRange, guest_in, run_in};
-ghost use Rattle.guest_run.specs.Profiled.{Profiled};
+ghost use Rattle.guest_run.specs.ObservedRun.{ObservedRun};
 ghost use Rattle.guest_run.specs.Run.{recording};
 ghost use Rattle.stamps.specs.Widths.{greatest};
 ghost use Rattle.run_profile.specs.Profile.{AreTotalsOf};
@@ -70,7 +70,7 @@ fn deliver_run<F: Files, E: Sink>(
     files: &mut F,
     err: &mut E,
 ) -> Result<Verdict, Ending>
-    ensures { (seen : Profiled) → AreTotalsOf (greatest options.now.bits) run.now.totals seen.past
+    ensures { (seen : ObservedRun) → AreTotalsOf (greatest options.now.bits) run.now.totals seen.past
         → run.now.ended.recording ≡ recording seen.moves → run.now.ended.finish ≡ seen.finish
         → RunIsStored (analysed path.now (Run (run_in options.now)) image.now seen)
         (desk (F.state files.old) (E.state err.old)) (desk (F.state files.new) (E.state err.new)) result }

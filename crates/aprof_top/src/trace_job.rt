@@ -3,7 +3,7 @@ ghost use Rattle.std.specs.Prelude.{◌≡◌, ◌≤◌, ◌<◌, ℕ, List, le
 ghost use Rattle.command_line.specs.Options.Analysis.{Trace};
 ghost use Rattle.command_line.specs.Read.{AreInRange, guest_in};
 ghost use Rattle.guest_words.specs.declared.endings.Finish.TheVariants as ends;
-ghost use Rattle.guest_run.specs.Profiled.{Profiled};
+ghost use Rattle.guest_run.specs.ObservedRun.{ObservedRun};
 ghost use Rattle.host_io.specs.Sink.{SinkState};
 ghost use Rattle.guest_words.specs.declared.limits.TheConstants.{TRACE_BYTES};
 ghost use Rattle.trace_file.specs.TraceText.{trace_text};
@@ -110,7 +110,7 @@ fn deliver_trace<F: Files>(
 ) -> Result<Verdict, Ending>
     requires line { (line : ℕ) → run.finish ≡ ends.Schedule line → 1 ≤ line }
     requires text { (past : List Event) × AreTexts run.text past }
-    ensures { (seen : Profiled) → run.finish ≡ seen.finish → AreTexts run.text seen.past
+    ensures { (seen : ObservedRun) → run.finish ≡ seen.finish → AreTexts run.text seen.past
         → (err : SinkState) → RunIsStored (analysed path.now Trace image.now seen)
         (desk (F.state files.old) err) (desk (F.state files.new) err) result }
 {

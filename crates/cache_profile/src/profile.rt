@@ -175,7 +175,7 @@ impl<K: Shaped> CacheProfile<K> {
         ensures stands { (past : List Event) → StandsFor K.shape self.old past
             → OnOk result (StandsFor K.shape self.new (e.now ∷ past)) }
         ensures refused { OnErr result (self.new ≡ self.old) }
-        ensures no_memory { count_begun e.now ≡ 0 → IsOk result }
+        ensures no_allocation { count_begun e.now ≡ 0 → IsOk result }
     {
         self.calls.apply(*e)?;
         self.progress.pass(e);
@@ -200,7 +200,7 @@ impl<K: Shaped> Observer for CacheProfile<K> {
         requires { MayCome self.old e }
         ensures observed { IfOk result (Observes (StandsFor K.shape) (λ past. true) e self.old self.new) }
         ensures refused { OnErr result (StandsAsBefore (StandsFor K.shape) self.old self.new) }
-        ensures no_memory { is_step_or_fill e ≡ true → IsOk result }
+        ensures no_allocation { is_step_or_fill e ≡ true → IsOk result }
     {
         match e {
             Event::Read { tid, first, count } => self.access(&e, tid, first, count)?,

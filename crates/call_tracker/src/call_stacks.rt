@@ -84,7 +84,7 @@ impl CallStacks {
         ensures ended { (past : List Event) → StandsFor self.old past
             → IfOk result (λ n. n ≡ count_ended e past (thread_of e)) }
         ensures refused { OnErr result (self.new ≡ self.old) }
-        ensures no_memory { count_begun e ≡ 0 → IsOk result }
+        ensures no_allocation { count_begun e ≡ 0 → IsOk result }
     {
         match e {
             Event::Start { tid, entry } => {

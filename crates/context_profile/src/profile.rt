@@ -50,7 +50,7 @@ fn grow(tree: &mut Option<Tree>, e: Event, ends: &[Done]) -> Result<(), AllocErr
     ensures grown { (past : List Event) → HasTree tree.old past → ends.now ≡ ended e past
         → OnOk result (HasTree tree.new (e ∷ past)) }
     ensures refused { OnErr result (tree.new ≡ tree.old) }
-    ensures no_memory { (past : List Event) → HasTree tree.old past → IsPastNumbers (e ∷ past)
+    ensures no_allocation { (past : List Event) → HasTree tree.old past → IsPastNumbers (e ∷ past)
         → IsOk result }
 {
     let Some(kept) = tree else {
@@ -88,7 +88,7 @@ impl<S: Lanes> ContextProfile<S> {
         ensures stands { (past : List Event) → AreContextsOf S.MAX self.old past
             → AreContextsOf S.MAX self.new past }
         ensures settled { OnOk result (self.new.next ≡ None) }
-        ensures no_memory { (past : List Event) → AreContextsOf S.MAX self.old past
+        ensures no_allocation { (past : List Event) → AreContextsOf S.MAX self.old past
             → IsPastNumbers past → IsOk result }
         ensures nothing { self.old.next ≡ None → IsOk result }
     {
@@ -105,7 +105,7 @@ impl<S: Lanes> ContextProfile<S> {
         requires { AreOfLight S.MAX self }
         ensures totals { IfOk result (λ found. (past : List Event) → AreContextsOf S.MAX self past
             → MatchOption found (IsPastNumbers past) (λ totals. AreTotalsOf S.MAX totals past)) }
-        ensures no_memory { (past : List Event) → AreContextsOf S.MAX self past
+        ensures no_allocation { (past : List Event) → AreContextsOf S.MAX self past
             → IsPastNumbers past → IsOk result }
     {
         let mut profile = self;

@@ -120,7 +120,7 @@ impl Branches {
         ensures only_memory { (past : List Event) → StandsFor self.old past → HasTooMany e past
             → result ≡ Err TreeError.TooMany }
         ensures refused { OnErr result (self.new ≡ self.old) }
-        ensures no_memory { (past : List Event) → context_begun e past ≡ None → ends.now ≡ []
+        ensures no_allocation { (past : List Event) → context_begun e past ≡ None → ends.now ≡ []
             → IsOk result }
     {
         match e {
@@ -302,7 +302,7 @@ impl Branches {
             → ends.now ≡ ended (Ret tid target) past
             → OnOk result (StandsFor self.new (Ret tid target ∷ past)) }
         ensures refused { OnErr result (self.new ≡ self.old) }
-        ensures no_memory { ends.now ≡ [] → IsOk result }
+        ensures no_allocation { ends.now ≡ [] → IsOk result }
     {
         let from = self.current(tid);
         reserve_up(&mut self.points, &self.numbers, from, ends.len())?;
@@ -321,7 +321,7 @@ impl Branches {
             → ends.now ≡ ended (End tid) past
             → OnOk result (StandsFor self.new (End tid ∷ past)) }
         ensures refused { OnErr result (self.new ≡ self.old) }
-        ensures no_memory { ends.now ≡ [] → IsOk result }
+        ensures no_allocation { ends.now ≡ [] → IsOk result }
     {
         let from = self.current(tid);
         reserve_up(&mut self.points, &self.numbers, from, ends.len())?;

@@ -119,7 +119,7 @@ pub(crate) fn reserve_up(
     requires way { IsWay numbers.now from count }
     ensures points { lists points.new.items ≡ lists points.old.items }
     ensures room { OnOk result (HasSpare points.new.items numbers.now from count) }
-    ensures no_memory { count ≡ 0 → IsOk result }
+    ensures no_allocation { count ≡ 0 → IsOk result }
 {
     let mut n = from;
     for _ in 0..count {

@@ -81,7 +81,7 @@ impl Tree {
         ensures only_memory { (past : List Event) → StandsFor self.old past → HasTooMany e past
             → result ≡ Err TreeError.TooMany }
         ensures refused { OnErr result (self.new ≡ self.old) }
-        ensures no_memory { (past : List Event) → context_begun e past ≡ None → ends.now ≡ []
+        ensures no_allocation { (past : List Event) → context_begun e past ≡ None → ends.now ≡ []
             → IsOk result }
     {
         let event = &e;

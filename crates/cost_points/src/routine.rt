@@ -43,7 +43,7 @@ impl RoutinePoints {
         requires fits { HasRoom point }
         ensures ok { OnOk result (self.new ≡ point_added point self.old) }
         ensures err { OnErr result (self.new ≡ self.old) }
-        ensures no_memory { (place : ℕ) → IsAt (map (λ p. p.size) self.old.points) point.size place
+        ensures no_allocation { (place : ℕ) → IsAt (map (λ p. p.size) self.old.points) point.size place
             → IsOk result }
     {
         self.points.add(point)
@@ -57,7 +57,7 @@ impl RoutinePoints {
         ensures ok { OnOk result (self.new ≡ point_added
             (point_of ended.now.size (ended.now ∷ [])) self.old) }
         ensures err { OnErr result (self.new ≡ self.old) }
-        ensures no_memory { (place : ℕ) → IsAt (map (λ p. p.size) self.old.points) ended.now.size place
+        ensures no_allocation { (place : ℕ) → IsAt (map (λ p. p.size) self.old.points) ended.now.size place
             → IsOk result }
     {
         self.points.add_one(ended)

@@ -83,7 +83,7 @@ fn add_to(points: &mut Vec<Vec<Point>>, last: &mut Place, point: Point) -> Resul
     ensures err { OnErr result (joined (map (λ b. b.items) points.new.items)
         ≡ joined (map (λ b. b.items) points.old.items)) }
     ensures filled { IsFilled (map (λ b. b.items) points.new.items) }
-    ensures no_memory { (place : ℕ) → IsAt (map (λ p. p.size) (joined (map (λ b. b.items) points.old.items)))
+    ensures no_allocation { (place : ℕ) → IsAt (map (λ p. p.size) (joined (map (λ b. b.items) points.old.items)))
         point.size place → IsOk result }
 {
     match blocks::find(points, last, point.size) {
@@ -111,7 +111,7 @@ fn add_one(points: &mut Vec<Vec<Point>>, last: &mut Place, ended: &Done) -> Resu
     ensures err { OnErr result (joined (map (λ b. b.items) points.new.items)
         ≡ joined (map (λ b. b.items) points.old.items)) }
     ensures filled { IsFilled (map (λ b. b.items) points.new.items) }
-    ensures no_memory { (place : ℕ) → IsAt (map (λ p. p.size) (joined (map (λ b. b.items) points.old.items)))
+    ensures no_allocation { (place : ℕ) → IsAt (map (λ p. p.size) (joined (map (λ b. b.items) points.old.items)))
         ended.now.size place → IsOk result }
 {
     match blocks::find(points, last, ended.size) {
@@ -169,7 +169,7 @@ impl SortedPoints {
         requires fits { HasRoom point }
         ensures ok { OnOk result (self.new ≡ put (λ q. q.size) point.size (λ q. merged q point) point self.old) }
         ensures err { OnErr result (self.new ≡ self.old) }
-        ensures no_memory { (place : ℕ) → IsAt (map (λ p. p.size) self.old) point.size place → IsOk result }
+        ensures no_allocation { (place : ℕ) → IsAt (map (λ p. p.size) self.old) point.size place → IsOk result }
     {
         add_to(&mut self.points, &mut self.last, point)
     }
@@ -182,7 +182,7 @@ impl SortedPoints {
         ensures ok { OnOk result (self.new ≡ put (λ q. q.size) ended.now.size (λ q. merged q (point_of ended.now.size (ended.now ∷ [])))
             (point_of ended.now.size (ended.now ∷ [])) self.old) }
         ensures err { OnErr result (self.new ≡ self.old) }
-        ensures no_memory { (place : ℕ) → IsAt (map (λ p. p.size) self.old) ended.now.size place → IsOk result }
+        ensures no_allocation { (place : ℕ) → IsAt (map (λ p. p.size) self.old) ended.now.size place → IsOk result }
     {
         add_one(&mut self.points, &mut self.last, ended)
     }

@@ -82,7 +82,7 @@ fn add_one(
         ≡ with_point ended.now.entry
         (point_of ended.now.size (ended.now ∷ [])) routines.old.items) }
     ensures err { OnErr result (routines.new.items ≡ routines.old.items) }
-    ensures no_memory { (at place : ℕ) (r : Routine) → slice_get routines.old.items at ≡ Some r
+    ensures no_allocation { (at place : ℕ) (r : Routine) → slice_get routines.old.items at ≡ Some r
         → r.entry ≡ ended.now.entry → IsAt (map (λ p. p.size) r.points) ended.now.size place
         → IsOk result }
 {
@@ -127,7 +127,7 @@ fn add_to(
     requires fits { HasRoom point }
     ensures ok { OnOk result (routines.new.items ≡ with_point entry point routines.old.items) }
     ensures err { OnErr result (routines.new.items ≡ routines.old.items) }
-    ensures no_memory { (at place : ℕ) (r : Routine) → slice_get routines.old.items at ≡ Some r
+    ensures no_allocation { (at place : ℕ) (r : Routine) → slice_get routines.old.items at ≡ Some r
         → r.entry ≡ entry → IsAt (map (λ p. p.size) r.points) point.size place → IsOk result }
 {
     match search(routines, entry) {
@@ -163,7 +163,7 @@ impl Table {
             → OnOk result (self.new ≡ contents_of (added ++ ended ∷ [])) }
         ensures members { OnOk result (self.new.members ≡ self.old.members + 1) }
         ensures err { OnErr result (self.new ≡ self.old) }
-        ensures no_memory { (at place : ℕ) (r : Routine) → slice_get self.old.routines at ≡ Some r
+        ensures no_allocation { (at place : ℕ) (r : Routine) → slice_get self.old.routines at ≡ Some r
             → r.entry ≡ ended.entry → IsAt (map (λ p. p.size) r.points) ended.size place
             → IsOk result }
     {
@@ -179,7 +179,7 @@ impl Table {
             → OnOk result (self.new ≡ contents_of (added ++ ended.now ∷ [])) }
         ensures members { OnOk result (self.new.members ≡ self.old.members + 1) }
         ensures err { OnErr result (self.new ≡ self.old) }
-        ensures no_memory { (at place : ℕ) (r : Routine) → slice_get self.old.routines at ≡ Some r
+        ensures no_allocation { (at place : ℕ) (r : Routine) → slice_get self.old.routines at ≡ Some r
             → r.entry ≡ ended.now.entry → IsAt (map (λ p. p.size) r.points) ended.now.size place
             → IsOk result }
     {
@@ -200,7 +200,7 @@ impl Table {
             → ArePointOf entry p.now more
             → OnOk result (self.new ≡ contents_of (added ++ more)) }
         ensures err { OnErr result (self.new ≡ self.old) }
-        ensures no_memory { (at place : ℕ) (r : Routine) → slice_get self.old.routines at ≡ Some r
+        ensures no_allocation { (at place : ℕ) (r : Routine) → slice_get self.old.routines at ≡ Some r
             → r.entry ≡ entry → IsAt (map (λ q. q.size) r.points) p.now.size place → IsOk result }
     {
         let point = *p;

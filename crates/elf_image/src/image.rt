@@ -141,7 +141,7 @@ impl Image {
     /// The name of the routine at an address, if it has one. Only a name takes memory.
     pub fn name_of(&self, alloc: Global, at: Addr) -> Result<Option<Name>, AllocError>
         ensures name { IfOk result (λ name. name ≡ name_of self.now at) }
-        ensures no_memory { name_of self.now at ≡ None → IsOk result }
+        ensures no_allocation { name_of self.now at ≡ None → IsOk result }
     {
         self.symbols.name_of(alloc, at)
     }

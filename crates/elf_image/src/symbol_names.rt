@@ -76,7 +76,7 @@ impl SymbolNames {
         requires { AllPairs (λ s t. s.value < t.value) self.now }
         ensures name { IfOk result (λ name. name
             ≡ name_beside (map (λ s. (s.value, s.name)) self.now) value) }
-        ensures no_memory { name_beside (map (λ s. (s.value, s.name)) self.now) value ≡ None
+        ensures no_allocation { name_beside (map (λ s. (s.value, s.name)) self.now) value ≡ None
             → IsOk result }
     {
         let Some(index) = search(&self.places, value) else {

@@ -52,7 +52,7 @@ pub(crate) struct Guest {
 fn make_room(events: &mut Events) -> Result<(), AllocError>
     ensures room { OnOk result (4 ≤ events.new.room) }
     ensures list { events.new.list ≡ events.old.list }
-    ensures no_memory { 4 ≤ events.old.room → IsOk result }
+    ensures no_allocation { 4 ≤ events.old.room → IsOk result }
 {
     if events.room() >= EVENTS_OF_AN_INSTRUCTION {
         return Ok(());
@@ -194,7 +194,7 @@ impl Guest {
             (events.new.list ++ told tid advanced)) }
         ensures refused { OnErr result (IsAsBefore (parts_of self.old)
             (parts_of self.new) events.old.list events.new.list) }
-        ensures no_memory { next_instruction (machine_of (parts_of self.old)) tid ≢ Ok Ecall
+        ensures no_allocation { next_instruction (machine_of (parts_of self.old)) tid ≢ Ok Ecall
             → IsOk result }
         ensures sound { IsSound (machine_of (parts_of self.new)) }
         ensures spare { THREADS ≤ length self.new.harts.list + self.new.harts.room }
@@ -239,7 +239,7 @@ impl Guest {
             (parts_of self.new) events.old.list events.new.list) }
         ensures refused { OnErr result (IsAsBefore (parts_of self.old)
             (parts_of self.new) events.old.list events.new.list) }
-        ensures no_memory { 4 ≤ events.old.room → next_instruction
+        ensures no_allocation { 4 ≤ events.old.room → next_instruction
             (machine_of (parts_of self.old)) tid ≢ Ok Ecall → IsOk result }
         ensures sound { IsSound (machine_of (parts_of self.new)) }
         ensures spare { THREADS ≤ length self.new.harts.list + self.new.harts.room }

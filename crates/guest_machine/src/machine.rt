@@ -63,7 +63,7 @@ impl Machine {
     ) -> Result<Machine, SetupError>
         ensures refused { IfSome (setup_refusal image.now (map string_bytes arguments.now))
             (λ refusal. result ≡ Err refusal) }
-        ensures no_memory { IfNone (setup_refusal image.now (map string_bytes arguments.now))
+        ensures no_allocation { IfNone (setup_refusal image.now (map string_bytes arguments.now))
             (IfErr result (λ e. e ≡ Memory)) }
         ensures start { IfOk result (λ machine. machine_of machine
             ≡ start image.now (map string_bytes arguments.now) inputs stdin.items) }
@@ -120,7 +120,7 @@ impl Machine {
             (stepped_of advanced) self.new events.old.list (events.new.list ++ told tid advanced)) }
         ensures refused { OnErr result (IsAsBefore self.old self.new
             events.old.list events.new.list) }
-        ensures no_memory { next_instruction (machine_of self.old) tid ≢ Ok Ecall → IsOk result }
+        ensures no_allocation { next_instruction (machine_of self.old) tid ≢ Ok Ecall → IsOk result }
         ensures entry { self.new.entry ≡ self.old.entry }
         ensures quiet { IfOk result (λ advanced. IsQuiet advanced self.new events.old events.new) }
     {
@@ -135,7 +135,7 @@ impl Machine {
             (step (machine_of self.old) tid) stepped self.new events.old.list events.new.list) }
         ensures refused { OnErr result (IsAsBefore self.old self.new
             events.old.list events.new.list) }
-        ensures no_memory { 4 ≤ events.old.room → next_instruction
+        ensures no_allocation { 4 ≤ events.old.room → next_instruction
             (machine_of self.old) tid ≢ Ok Ecall → IsOk result }
         ensures entry { self.new.entry ≡ self.old.entry }
     {

@@ -26,14 +26,14 @@ use Rattle.guest_run.specs.Private.Going.{Advances, IsGoing, IsOver, IsPastOf, L
 use Rattle.guest_run.specs.Private.Going as going
 use Rattle.guest_run.specs.Machine.{Machine, Progress, guest}
 use Rattle.guest_run.specs.Output.{FailsOn, Sinks, with_output, with_sent}
-use Rattle.guest_run.specs.Profiled.{Profiled, profiled}
+use Rattle.guest_run.specs.ObservedRun.{ObservedRun, observed_run}
 use Rattle.guest_run.specs.Run.{Move, Position, WrittenRun, after_step, by_turn_status, chosen, go_on, move_of, position_after, recording, run_from, with_move}
 use Rattle.guest_run.specs.Run.Chosen.{Moves, Stops}
 use Rattle.guest_run.specs.RunEnds.{IsGivenUp, StopsAtPut}
 use Rattle.guest_run.specs.Private.Steps.{IsStepped, StepEnds}
 use Rattle.guest_run.proofs.Able.{step_able}
 use Rattle.guest_run.proofs.Guarded.{goes_went}
-use Rattle.guest_run.proofs.Observed.{observed-after, past-last, profiled-deep, profiled-head, profiled-none, profiled-one, with_first}
+use Rattle.guest_run.proofs.Observed.{observed-after, past-last, observed_run-deep, observed_run-head, observed_run-none, observed_run-one, with_first}
 use Rattle.guest_run.proofs.Output.{output-last}
 use Rattle.guest_run.proofs.Pasts.{past_kept, past_step, step_adds}
 
@@ -84,21 +84,21 @@ rest-head now turn opens n (Ends finish) = (record { moves = []; finish = finish
 module _ {W : Type 0} (Stands : W → List Event → Type 0) (fits : List Event → Bool) (closed : IsPrefixClosed fits)
     (first : List Event) (start : Position MachineState) (moves : List Move) (before : Sinks)
     (old : Standing) (watcher : W) (goes : IsGoing Stands fits first start moves old watcher) (mid : Sinks) (put : mid ≡ with_output moves before) where
-  whole : (n : ℕ) → observed fits first start (length moves + n) ≡ with_first moves (profiled fits (past_by first moves) (run_from guest n (at_of old)))
+  whole : (n : ℕ) → observed fits first start (length moves + n) ≡ with_first moves (observed_run fits (past_by first moves) (run_from guest n (at_of old)))
   whole n = observed-after fits closed first start (at_of old) moves goes.leads goes.fitting n
 
   -- it is given up before the move
   pub gives_up : (n : ℕ) → IsGivenUp (observed fits first start (length moves + suc n)).moves before mid
-  gives_up n = record { earlier = moves; later = _; are = sym (ap (λ (p : Profiled). p.moves) (whole (suc n))); output = put }
+  gives_up n = record { earlier = moves; later = _; are = sym (ap (λ (p : ObservedRun). p.moves) (whole (suc n))); output = put }
 
   -- where no move is made any more, this is observed
   over-none : (finish : Finish) (n : ℕ) → run_from guest n (at_of old) ≡ record { moves = []; finish = finish } → (new : Standing) → new.recorder ≡ old.recorder →
       IsOver Stands (observed fits first start (length moves + n)) before new watcher mid finish
   over-none finish n rest new same =
-      let p : Profiled = record { moves = moves ++ []; past = past_by first moves; finish = finish } in
+      let p : ObservedRun = record { moves = moves ++ []; past = past_by first moves; finish = finish } in
       let ends : observed fits first start (length moves + n) ≡ p =
-      whole n ∙ ap (λ run. with_first moves (profiled fits (past_by first moves) run)) rest
-      ∙ ap (with_first moves) (profiled-none fits closed (past_by first moves) finish goes.fitting) in
+      whole n ∙ ap (λ run. with_first moves (observed_run fits (past_by first moves) run)) rest
+      ∙ ap (with_first moves) (observed_run-none fits closed (past_by first moves) finish goes.fitting) in
       subst (λ q. IsOver Stands q before new watcher mid finish) (sym ends) (record {
         past = goes.stands;
         output = put ∙ ap (λ ms. with_output ms before) (sym (append-nil moves));
@@ -126,10 +126,10 @@ module _ {W : Type 0} (Stands : W → List Event → Type 0) (fits : List Event 
     next-move : (n : ℕ) → (later : List Move) × (moves ++ made_of now turn opens ∷ later ≡ (observed fits first start (length moves + suc n)).moves)
     next-move n =
         let run = rest-head now turn opens n (given_of now turn.tid).turn_status in
-        let kept = profiled-head fits closed (past_by first moves) (made_of now turn opens) run.0 in (
+        let kept = observed_run-head fits closed (past_by first moves) (made_of now turn opens) run.0 in (
           kept.0,
-          sym (ap (λ (p : Profiled). p.moves) (whole (suc n))
-              ∙ ap (λ r. moves ++ (profiled fits (past_by first moves) r).moves) (run-by_status n ∙ run.1)
+          sym (ap (λ (p : ObservedRun). p.moves) (whole (suc n))
+              ∙ ap (λ r. moves ++ (observed_run fits (past_by first moves) r).moves) (run-by_status n ∙ run.1)
               ∙ ap (λ ms. moves ++ ms) kept.1),
         )
 
@@ -181,22 +181,22 @@ module _ {W : Type 0} (Stands : W → List Event → Type 0) (fits : List Event 
       -- the run ends by the move
       ends-so : (finish : Finish) (n : ℕ) (b : Bool) → fits (past_after (past_by first moves) (given_of now turn.tid).events) ≡ b →
           Ends finish ≡ cond b (given_of now turn.tid).turn_status (Ends Deep) →
-          profiled fits (past_by first moves) (run_from guest (suc n) (at_of old))
+          observed_run fits (past_by first moves) (run_from guest (suc n) (at_of old))
           ≡ record { moves = made_of now turn opens ∷ []; past = cut fits (past_after (past_by first moves) (given_of now turn.tid).events); finish = finish }
       ends-so finish n true fit e =
-          ap (profiled fits (past_by first moves)) (run-by_status n ∙ ap (rest_by now turn opens n) (sym e))
-          ∙ profiled-one fits closed (past_by first moves) (made_of now turn opens) finish fit
+          ap (observed_run fits (past_by first moves)) (run-by_status n ∙ ap (rest_by now turn opens n) (sym e))
+          ∙ observed_run-one fits closed (past_by first moves) (made_of now turn opens) finish fit
       ends-so finish n false not_fits e =
           let run = rest-head now turn opens n (given_of now turn.tid).turn_status in
           let same : Deep ≡ finish = cc in
-          ap (profiled fits (past_by first moves)) (run-by_status n ∙ run.1)
-          ∙ profiled-deep fits closed (past_by first moves) (made_of now turn opens) run.0 not_fits
-          ∙ ap (λ f. let p : Profiled = record { moves = made_of now turn opens ∷ []; past = cut fits (past_after (past_by first moves) (given_of now turn.tid).events); finish = f } in p) same
+          ap (observed_run fits (past_by first moves)) (run-by_status n ∙ run.1)
+          ∙ observed_run-deep fits closed (past_by first moves) (made_of now turn opens) run.0 not_fits
+          ∙ ap (λ f. let p : ObservedRun = record { moves = made_of now turn opens ∷ []; past = cut fits (past_after (past_by first moves) (given_of now turn.tid).events); finish = f } in p) same
 
       pub over_moved : (finish : Finish) → status ≡ Ends finish → (n : ℕ) → IsOver Stands (observed fits first start (length moves + suc n)) before new watched after finish
       over_moved finish e n =
           let next = past_after (past_by first moves) (given_of now turn.tid).events in
-          let p : Profiled = record { moves = moves ++ made_of now turn opens ∷ []; past = cut fits next; finish = finish } in
+          let p : ObservedRun = record { moves = moves ++ made_of now turn opens ∷ []; past = cut fits next; finish = finish } in
           let ends : observed fits first start (length moves + suc n) ≡ p = whole (suc n) ∙ ap (with_first moves) (ends-so finish n (fits next) refl (sym e ∙ seen.1)) in
           subst (λ q. IsOver Stands q before new watched after finish) (sym ends) (record {
             past = seen.0;

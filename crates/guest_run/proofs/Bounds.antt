@@ -1,4 +1,4 @@
--- How many moves a run has, its turns, and what is profiled of it.
+-- How many moves a run has, its turns, and what is observed of it.
 use Rattle.std.proofs.Common.{◌≡◌, ℕ, zero, suc, ◌+◌, ◌≤◌, Bool, true, false, cond, List, [], ◌∷◌, ◌++◌, length, length-append, reverse, refl, sym, ap, ◌∙◌, inl, inr, arith}
 use Rattle.std.specs.Prelude.{sum_by}
 use Rattle.std.specs.List.{All}
@@ -24,8 +24,8 @@ use Rattle.guest_run.specs.declared.turn_status.TurnStatus.TheVariants.{GoesOn, 
 use Rattle.guest_run.specs.Machine.{Machine, guest, turn_status_of}
 use Rattle.guest_run.specs.Run.{Move, WrittenRun, Position, Chosen, by_turn, chosen_by, chosen, with_move, by_turn_status, move_of, go_on, run_from, run, start, events_of, current, recording}
 use Rattle.guest_run.specs.Run.Chosen.{Moves, Stops}
-use Rattle.guest_run.specs.Profiled.{Profiled, moves_kept, profiled}
-use Rattle.guest_run.specs.Laws.{EndsDeepExactly, StaysWithin, SpendsBudget, RecordsProfiledTurns, RecordsTurns, IsPrefix, ProfilesPart}
+use Rattle.guest_run.specs.ObservedRun.{ObservedRun, moves_kept, observed_run}
+use Rattle.guest_run.specs.Laws.{EndsDeepExactly, StaysWithin, SpendsBudget, RecordsObservedTurns, RecordsTurns, IsPrefix, ObservesPart}
 use Rattle.guest_run.proofs.Replayed.{current-over}
 
 -- A fact of every run from a position on, by a step: it holds where there is no move, and goes over a move.
@@ -148,7 +148,7 @@ records_turns {State} machine turns budget state =
       all = omega (arith, recording-sum whole.moves, over);
     }
 
--- ---- what is profiled
+-- ---- what is observed
 kept-prefix : (fits : List Event → Bool) (past : List Event) (moves : List Move) → IsPrefix (moves_kept fits past moves) moves
 kept-prefix fits past [] = ([], refl)
 kept-prefix fits past (move ∷ moves) = by (fits (past_after past move.events)) (kept-prefix fits (past_after past move.events) moves)
@@ -171,19 +171,19 @@ kept-whole fits closed past (move ∷ moves) h =
     by false e ih h' = absurd (true≢false (sym h' ∙ fits-earlier fits closed (past_after past move.events) (reverse (events_of moves)) e))
 
 -- what is observed of a run is its first moves
-pub profiled-prefix : (fits : List Event → Bool) (past : List Event) (whole : WrittenRun) → IsPrefix (profiled fits past whole).moves whole.moves
-unfolding profiled
-profiled-prefix fits past whole = kept-prefix fits past whole.moves
+pub observed_run-prefix : (fits : List Event → Bool) (past : List Event) (whole : WrittenRun) → IsPrefix (observed_run fits past whole).moves whole.moves
+unfolding observed_run
+observed_run-prefix fits past whole = kept-prefix fits past whole.moves
 
-pub profiles_part : ProfilesPart
-unfolding profiled
-profiles_part fits past whole closed =
+pub observes_part : ObservesPart
+unfolding observed_run
+observes_part fits past whole closed =
     let all = past_after past (events_of whole.moves) in
     record {
       moves = kept-prefix fits past whole.moves;
       passed = λ h.
-          ap (λ ms. record { moves = ms; past = (profiled fits past whole).past; finish = (profiled fits past whole).finish }) (kept-whole fits closed past whole.moves h)
-          ∙ ap (λ p. record { moves = whole.moves; past = p; finish = (profiled fits past whole).finish }) (cut-fits fits all h)
+          ap (λ ms. record { moves = ms; past = (observed_run fits past whole).past; finish = (observed_run fits past whole).finish }) (kept-whole fits closed past whole.moves h)
+          ∙ ap (λ p. record { moves = whole.moves; past = p; finish = (observed_run fits past whole).finish }) (cut-fits fits all h)
           ∙ ap (λ b. record { moves = whole.moves; past = all; finish = cond b whole.finish Deep }) h;
       failed = λ h. ap (λ b. cond b whole.finish Deep) h;
     }
@@ -197,33 +197,33 @@ current-prefix (move ∷ moves) rest = by move.opens (current-prefix moves rest)
     by true ih = omega arith
     by false ih = omega (arith, ih)
 
-pub profiled_within : (fits : List Event → Bool) (past : List Event) (turns : SchedulerState) (budget : ℕ) (state : MachineState) →
-    length (profiled fits past (run guest turns budget state)).moves ≤ budget
-profiled_within fits past turns budget state =
+pub observed_within : (fits : List Event → Bool) (past : List Event) (turns : SchedulerState) (budget : ℕ) (state : MachineState) →
+    length (observed_run fits past (run guest turns budget state)).moves ≤ budget
+observed_within fits past turns budget state =
     let whole = run guest turns budget state in
-    let part = profiled fits past whole in
-    let begins : IsPrefix part.moves whole.moves = profiled-prefix fits past whole in
+    let part = observed_run fits past whole in
+    let begins : IsPrefix part.moves whole.moves = observed_run-prefix fits past whole in
     let both : length (part.moves ++ begins.0) ≡ length whole.moves = ap length begins.1 in
     omega (arith, both, length-append part.moves begins.0, stays_within guest turns budget state)
 
-pub records_profiled_turns : RecordsProfiledTurns
-records_profiled_turns fits past turns budget state =
+pub records_observed_turns : RecordsObservedTurns
+records_observed_turns fits past turns budget state =
     let whole = run guest turns budget state in
-    let part = profiled fits past whole in
-    let begins : IsPrefix part.moves whole.moves = profiled-prefix fits past whole in
+    let part = observed_run fits past whole in
+    let begins : IsPrefix part.moves whole.moves = observed_run-prefix fits past whole in
     let same : current (part.moves ++ begins.0) ≡ current whole.moves = ap current begins.1 in
     let over : current whole.moves ≡ 0 = current-over guest budget (start turns state) refl in
     record {
-      each = recording-each budget part.moves (profiled_within fits past turns budget state);
+      each = recording-each budget part.moves (observed_within fits past turns budget state);
       all = omega (arith, recording-sum part.moves, current-prefix part.moves begins.0, same, over);
     }
 
 pub ends_deep : EndsDeepExactly
 ends_deep fits past turns budget state closed =
     let whole = run guest turns budget state in
-    let part = profiles_part fits past whole closed in (
+    let part = observes_part fits past whole closed in (
       λ deep. elim (cases_Bool (fits (past_after past (events_of whole.moves)))) [
-        | inl h ↦ absurd (never_deep turns budget state (sym (ap (λ (p : Profiled). p.finish) (part.passed h)) ∙ deep))
+        | inl h ↦ absurd (never_deep turns budget state (sym (ap (λ (p : ObservedRun). p.finish) (part.passed h)) ∙ deep))
         | inr h ↦ h
       ],
       part.failed,

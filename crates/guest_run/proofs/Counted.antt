@@ -20,7 +20,7 @@ use Rattle.guest_run.specs.declared.turn_status.TurnStatus.TheVariants.{Ends}
 use Rattle.guest_run.specs.Machine.{guest, turn_status_of}
 use Rattle.guest_run.specs.Run.{WrittenRun, Position, by_turn, chosen, chosen_by, events_of, run, run_from, start}
 use Rattle.guest_run.specs.Run.Chosen.{Stops}
-use Rattle.guest_run.specs.Profiled.{profiled}
+use Rattle.guest_run.specs.ObservedRun.{observed_run}
 use Rattle.guest_run.specs.Laws.{CountsSteps, StepsWithin, faults}
 use Rattle.guest_run.proofs.Bounds.{each_run, stays_within}
 
@@ -93,7 +93,7 @@ steps_whole past turns budget state =
     omega (arith, steps-append (reverse events) past, counts_steps turns budget state, stays_within guest turns budget state)
 
 pub steps_within : StepsWithin
-unfolding profiled
+unfolding observed_run
 steps_within fits past turns budget state =
     let all = past_after past (events_of (run guest turns budget state).moves) in
     omega (arith, cut-steps fits all, steps_whole past turns budget state)

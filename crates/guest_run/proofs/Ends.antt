@@ -19,7 +19,7 @@ use Rattle.guest_run.specs.Private.CurrentTurn.{position, recorded, with_present
 use Rattle.guest_run.specs.Private.Going.{Advances, GoesOn, IsGoing, IsNewRunner, IsOver, IsPastOf, MayAdvance, Remains, Standing, TurnEnds, observed, standing_of}
 use Rattle.guest_run.specs.Machine.{guest}
 use Rattle.guest_run.specs.Output.{Sinks, with_output}
-use Rattle.guest_run.specs.Profiled.{Profiled, first_past}
+use Rattle.guest_run.specs.ObservedRun.{ObservedRun, first_past}
 use Rattle.guest_run.specs.Run.{Move, Position, current, recording, run_from, start}
 use Rattle.guest_run.specs.RunEnds.{IsAtStart, IsGivenUp, RunEnds, StopsAtPut}
 use Rattle.guest_run.proofs.Advances.{over_spent}
@@ -28,16 +28,16 @@ use Rattle.guest_run.proofs.Output.{output-none}
 use Rattle.guest_run.proofs.ShortParts.{first_short}
 
 -- nothing was put before the first move
-pub not_begun : (p : Profiled) (before : Sinks) → IsGivenUp p.moves before before
+pub not_begun : (p : ObservedRun) (before : Sinks) → IsGivenUp p.moves before before
 not_begun p before = record { earlier = []; later = p.moves; are = refl; output = sym (output-none before) }
 
 -- all of it is observed, but the recording runs out of memory
-over_given_up : {W : Type 0} (Stands : W → List Event → Type 0) (p : Profiled) (before : Sinks) (r : Standing) (observer : W) (after : Sinks) (finish : Finish) →
+over_given_up : {W : Type 0} (Stands : W → List Event → Type 0) (p : ObservedRun) (before : Sinks) (r : Standing) (observer : W) (after : Sinks) (finish : Finish) →
     IsOver Stands p before r observer after finish → IsGivenUp p.moves before after
 over_given_up Stands p before r observer after finish over = record { earlier = p.moves; later = []; are = append-nil p.moves; output = over.output }
 
 -- so the run ends where all of it is observed
-pub ends_over : {W : Type 0} (Stands : W → List Event → Type 0) (p : Profiled) (before : Sinks) (r : Standing) (observer : W) (after : Sinks) (finish : Finish) →
+pub ends_over : {W : Type 0} (Stands : W → List Event → Type 0) (p : ObservedRun) (before : Sinks) (r : Standing) (observer : W) (after : Sinks) (finish : Finish) →
     IsOver Stands p before r observer after finish → (result : Result Ended RunError) →
     IfOk result (λ ended. (ended.recording ≡ recorded r.recorder []) × (ended.finish ≡ finish)) → IfErr result (λ e. e ≡ Memory) →
     RunEnds Stands p before observer after result

@@ -16,9 +16,9 @@ use Rattle.guest_run.specs.Laws.{IsPrefix}
 use Rattle.guest_run.specs.Machine.{guest}
 use Rattle.guest_run.specs.Run.{Move, current, recording, run}
 use Rattle.guest_run.specs.Run as runs
-use Rattle.guest_run.specs.Profiled.{first_past, profiled}
+use Rattle.guest_run.specs.ObservedRun.{first_past, observed_run}
 use Rattle.guest_run.specs.Traces.{EveryRunRecordsEntries}
-use Rattle.guest_run.proofs.Bounds.{current-le, profiled-prefix, profiled_within, stays_within}
+use Rattle.guest_run.proofs.Bounds.{current-le, observed_run-prefix, observed_within, stays_within}
 use Rattle.guest_run.proofs.Guarded.{IsSoundAfter, Steps, each_move, sound_next, sound_woken, start_able, start_sound}
 
 -- ---- the numbers of threads
@@ -77,10 +77,10 @@ every_run_entries image arguments inputs stdin fits turns budget few =
     let past = first_past image.entry in
     let at = runs.start turns begin in
     let whole = run guest turns budget begin in
-    let part = profiled fits past whole in
+    let part = observed_run fits past whole in
     let each : AllByRecursion IsNumbered whole.moves = each_move IsSoundAfter _ run_numbered budget at past (start_sound image arguments inputs stdin) (start_able at refl) in
-    let begins : IsPrefix part.moves whole.moves = profiled-prefix fits past whole in
+    let begins : IsPrefix part.moves whole.moves = observed_run-prefix fits past whole in
     record {
       all = entries whole.moves each (omega (arith, stays_within guest turns budget begin, few));
-      profiled_part = entries part.moves (numbered-first part.moves begins.0 (subst (AllByRecursion IsNumbered) (sym begins.1) each)) (omega (arith, profiled_within fits past turns budget begin, few));
+      observed_part = entries part.moves (numbered-first part.moves begins.0 (subst (AllByRecursion IsNumbered) (sym begins.1) each)) (omega (arith, observed_within fits past turns budget begin, few));
     }

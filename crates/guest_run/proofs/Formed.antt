@@ -11,7 +11,7 @@ use Rattle.guest_machine.proofs.Follows.{every_step_continues}
 use Rattle.guest_run.specs.Machine.{guest}
 use Rattle.guest_run.specs.Run.{events_of, run}
 use Rattle.guest_run.specs.Run as runs
-use Rattle.guest_run.specs.Profiled.{first_past, profiled}
+use Rattle.guest_run.specs.ObservedRun.{first_past, observed_run}
 use Rattle.guest_run.specs.Traces.{EveryRunIsWellFormed}
 use Rattle.guest_run.proofs.Guarded.{IsSoundAfter, Steps, each_move, sound_next, sound_woken, start_able, start_sound}
 use Rattle.guest_run.proofs.Weights.{every_run_light, whole_light}
@@ -54,7 +54,7 @@ formed_of [] all light = tt
 formed_of (e ∷ past) all light = (all.0, light, formed_of past all.1 (omega (arith, light)))
 
 pub every_run_formed : EveryRunIsWellFormed
-unfolding profiled
+unfolding observed_run
 every_run_formed image arguments inputs stdin fits turns budget few =
     let begin = start image arguments inputs stdin in
     let past = first_past image.entry in
@@ -63,5 +63,5 @@ every_run_formed image arguments inputs stdin fits turns budget few =
     let follow : AllFollow (past_after past events) = all_after events past (omega arith, tt) follows in
     record {
       all = formed_of (past_after past events) follow (whole_light image arguments inputs stdin turns budget few);
-      profiled_part = formed_of (cut fits (past_after past events)) (all_cut (past_after past events) fits follow) (every_run_light image arguments inputs stdin fits turns budget few);
+      observed_part = formed_of (cut fits (past_after past events)) (all_cut (past_after past events) fits follow) (every_run_light image arguments inputs stdin fits turns budget few);
     }

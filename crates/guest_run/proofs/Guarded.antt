@@ -32,7 +32,7 @@ use Rattle.guest_run.specs.declared.turn_status.TurnStatus.TheVariants.{GoesOn, 
 use Rattle.guest_run.specs.Machine.{guest, turn_status_of}
 use Rattle.guest_run.specs.Run.{Move, Position, Chosen, by_turn_status, by_turn, chosen, chosen_by, go_on, move_of, position_after, run_from}
 use Rattle.guest_run.specs.Run.Chosen.{Moves, Stops}
-use Rattle.guest_run.specs.Profiled.{first_past}
+use Rattle.guest_run.specs.ObservedRun.{first_past}
 use Rattle.guest_run.proofs.Able.{step_able}
 use Rattle.guest_run.proofs.Chosen.{turn-can}
 

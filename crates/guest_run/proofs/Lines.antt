@@ -11,7 +11,7 @@ use Rattle.guest_run.specs.declared.turn_status.TurnStatus.{TurnStatus}
 use Rattle.guest_run.specs.declared.turn_status.TurnStatus.TheVariants.{GoesOn, TurnOver, Ends}
 use Rattle.guest_run.specs.Laws.{scheduler}
 use Rattle.guest_run.specs.Machine.{guest, turn_status_of}
-use Rattle.guest_run.specs.Profiled.{profiled}
+use Rattle.guest_run.specs.ObservedRun.{observed_run}
 use Rattle.guest_run.specs.Run.{Chosen, Move, Position, WrittenRun, by_turn, by_turn_status, chosen, chosen_by, go_on, position_after, run, run_from, start}
 use Rattle.guest_run.specs.Run.Chosen.{Moves, Stops}
 use Rattle.trace_model.specs.declared.event_kinds.Event.{Event}
@@ -27,8 +27,8 @@ pub ends_same : (a b : Finish) → Ends a ≡ Ends b → a ≡ b
 ends_same a b e = cc
 
 -- what is observed of a run ends as the run does, or `Deep`
-pub finish_of : (fits : List Event → Bool) (past : List Event) (whole : WrittenRun) (Holds : Finish → Type 0) → Holds Deep → Holds whole.finish → Holds (profiled fits past whole).finish
-unfolding profiled
+pub finish_of : (fits : List Event → Bool) (past : List Event) (whole : WrittenRun) (Holds : Finish → Type 0) → Holds Deep → Holds whole.finish → Holds (observed_run fits past whole).finish
+unfolding observed_run
 finish_of fits past whole Holds deep own = by (fits (past_after past (events_of whole.moves)))
   where
     by : (b : Bool) → Holds (cond b whole.finish Deep)
@@ -120,6 +120,6 @@ run_counted zero at some = tt
 run_counted (suc more) at some = go_counted more at.turns.line (run_counted more) (chosen guest at) (chosen_counted at some)
 
 pub observed_counted : (fits : List Event → Bool) (past : List Event) (quantum : ℕ) (turns : List Entry) (budget : ℕ) (m : MachineState)
-    → IsCounted (1 + budget) (profiled fits past (run guest (scheduler quantum turns) budget m)).finish
+    → IsCounted (1 + budget) (observed_run fits past (run guest (scheduler quantum turns) budget m)).finish
 observed_counted fits past quantum turns budget m =
     finish_of fits past (run guest (scheduler quantum turns) budget m) (IsCounted (1 + budget)) tt (run_counted budget (start (scheduler quantum turns) m) (omega arith))

@@ -28,7 +28,7 @@ use Rattle.guest_run.specs.declared.turn_status.TurnStatus.{TurnStatus}
 use Rattle.guest_run.specs.declared.turn_status.TurnStatus.TheVariants.{GoesOn, TurnOver, Ends}
 use Rattle.guest_run.specs.Laws.{scheduler}
 use Rattle.guest_run.specs.Machine.{guest, turn_status_of}
-use Rattle.guest_run.specs.Profiled.{first_past, profiled}
+use Rattle.guest_run.specs.ObservedRun.{first_past, observed_run}
 use Rattle.guest_run.specs.Run.{Chosen, Position, by_turn, by_turn_status, chosen, chosen_by, events_of, go_on, move_of, position_after, run, run_from}
 use Rattle.guest_run.specs.Run as runs
 use Rattle.guest_run.specs.Run.Chosen.{Moves, Stops}
@@ -184,7 +184,7 @@ unfolding start
 start_addresses image arguments inputs stdin entry = (entry, tt)
 
 pub every_run_in_range : EveryRunTellsInRange
-unfolding profiled
+unfolding observed_run
 every_run_in_range image arguments inputs stdin fits quantum schedule budget entry =
     let begin = start image arguments inputs stdin in
     let past = first_past image.entry in

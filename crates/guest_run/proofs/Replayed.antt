@@ -11,11 +11,11 @@ use Rattle.guest_run.specs.declared.turn_status.TurnStatus.TheVariants.{GoesOn, 
 use Rattle.guest_run.specs.Machine.{Progress, Machine, guest}
 use Rattle.guest_run.specs.Run.{Move, Position, Chosen, by_turn, chosen_by, chosen, position_after, with_move, by_turn_status, move_of, after_step, go_on, run_from, run, start, current, recording}
 use Rattle.guest_run.specs.Run.Chosen.{Moves, Stops}
-use Rattle.guest_run.specs.Profiled.{Profiled, profiled}
+use Rattle.guest_run.specs.ObservedRun.{ObservedRun, observed_run}
 use Rattle.guest_run.specs.Private.Watched.{watched, with_cut}
-use Rattle.guest_run.specs.Laws.{IsNoMismatch, ReplaysRun, ReplaysProfiled, scheduler}
+use Rattle.guest_run.specs.Laws.{IsNoMismatch, ReplaysRun, ReplaysObserved, scheduler}
 use Rattle.guest_run.proofs.Chosen.{Has-turn}
-use Rattle.guest_run.proofs.Watched.{profiled_is_watched}
+use Rattle.guest_run.proofs.Watched.{observed_is_watched}
 
 -- a scheduler of another quantum, with these entries from this line on
 abbrev with_entries : ℕ → ℕ → SchedulerState → List Entry → SchedulerState
@@ -177,14 +177,14 @@ replays_run {State} machine quantum other budget schedule state fine =
     ap (λ left. run_from machine budget (record { state = state; turns = scheduler other (recording moves); left = left })) (sym (current-over machine budget at refl))
     ∙ follows machine other budget at 1 fine
 
-pub replays_profiled : ReplaysProfiled
-replays_profiled fits past quantum other budget schedule state closed passed fine =
-    let first = profiled fits past (run guest (scheduler quantum schedule) budget state) in
+pub replays_observed : ReplaysObserved
+replays_observed fits past quantum other budget schedule state closed passed fine =
+    let first = observed_run fits past (run guest (scheduler quantum schedule) budget state) in
     let seen = run (watched fits guest) (scheduler quantum schedule) budget (past, state) in
-    let same : first ≡ with_cut fits past seen = profiled_is_watched guest fits closed past (scheduler quantum schedule) budget state passed in
-    let moves : first.moves ≡ seen.moves = ap (λ (r : Profiled). r.moves) same in
-    let ended : first.finish ≡ seen.finish = ap (λ (r : Profiled). r.finish) same in
-    profiled_is_watched guest fits closed past (scheduler other (recording first.moves)) budget state passed
+    let same : first ≡ with_cut fits past seen = observed_is_watched guest fits closed past (scheduler quantum schedule) budget state passed in
+    let moves : first.moves ≡ seen.moves = ap (λ (r : ObservedRun). r.moves) same in
+    let ended : first.finish ≡ seen.finish = ap (λ (r : ObservedRun). r.finish) same in
+    observed_is_watched guest fits closed past (scheduler other (recording first.moves)) budget state passed
     ∙ ap (λ ms. with_cut fits past (run (watched fits guest) (scheduler other (recording ms)) budget (past, state))) moves
     ∙ ap (with_cut fits past) (replays_run (watched fits guest) quantum other budget schedule (past, state) (subst IsNoMismatch ended fine))
     ∙ sym same

@@ -17,7 +17,7 @@ use Rattle.guest_machine.proofs.StepParts.{every_step_part}
 use Rattle.guest_run.specs.Machine.{guest}
 use Rattle.guest_run.specs.Run.{events_of, run}
 use Rattle.guest_run.specs.Run as runs
-use Rattle.guest_run.specs.Profiled.{first_past, profiled}
+use Rattle.guest_run.specs.ObservedRun.{first_past, observed_run}
 use Rattle.guest_run.specs.Traces.{EveryRunIsOfShortParts}
 use Rattle.guest_run.proofs.Guarded.{IsSoundAfter, Steps, each_move, sound_next, sound_woken, start_able, start_sound}
 
@@ -91,10 +91,10 @@ first_short entry =
     All-cons IsShort (Start 1 entry ∷ []) [] (record { events = omega arith; words = omega (arith, reads) }) (All-nil IsShort)
 
 pub every_run_short : EveryRunIsOfShortParts
-unfolding profiled
+unfolding observed_run
 every_run_short image arguments inputs stdin fits turns budget =
     let begin = start image arguments inputs stdin in
     let past = first_past image.entry in
     let at = runs.start turns begin in
     let all = each_move IsSoundAfter _ run_short budget at past (start_sound image arguments inputs stdin) (start_able at refl) (first_short image.entry) in
-    record { all = all; profiled_part = short-cut fits (past_after past (events_of (run guest turns budget begin).moves)) all }
+    record { all = all; observed_part = short-cut fits (past_after past (events_of (run guest turns budget begin).moves)) all }

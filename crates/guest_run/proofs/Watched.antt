@@ -1,4 +1,4 @@
--- A profiled run is the run of the watched machine.
+-- An observed run is the run of the watched machine.
 use Rattle.std.proofs.Common.{◌≡◌, ℕ, zero, suc, Bool, true, false, cond, List, [], ◌∷◌, ◌++◌, reverse, refl, sym, ap, ◌∙◌}
 use Rattle.std.specs.Prelude.{pred}
 use Rattle.guest_words.specs.declared.endings.Finish.{Finish}
@@ -14,7 +14,7 @@ use Rattle.guest_run.specs.declared.turn_status.TurnStatus.TheVariants.{GoesOn, 
 use Rattle.guest_run.specs.Machine.{Progress, Machine}
 use Rattle.guest_run.specs.Run.{Move, WrittenRun, Position, Chosen, by_turn, chosen_by, chosen, position_after, with_move, by_turn_status, move_of, after_step, go_on, run_from, run, start, events_of}
 use Rattle.guest_run.specs.Run.Chosen.{Moves, Stops}
-use Rattle.guest_run.specs.Profiled.{moves_kept, Profiled, profiled}
+use Rattle.guest_run.specs.ObservedRun.{moves_kept, ObservedRun, observed_run}
 use Rattle.guest_run.specs.Private.Watched.{watched_step, watched, with_cut}
 
 abbrev pub with_past : {State : Type 0} → List Event → Position State → Position (List Event × State)
@@ -39,7 +39,7 @@ chosen-watched {State} fits machine past at = by at.left
     by zero = turned (turn_of at.turns (machine.ready (machine.wake at.state)))
     by (suc more) = refl
 
--- a run's moves and end as they are profiled
+-- a run's moves and end as they are observed
 abbrev kept : (List Event → Bool) → List Event → WrittenRun → WrittenRun
 kept fits past run = record {
   moves = moves_kept fits past run.moves;
@@ -64,10 +64,10 @@ cut-kept fits closed past (move ∷ moves) =
     by true passed ih = ih
     by false failed ih = cut-earlier fits closed (past_after past move.events) (reverse (events_of moves)) failed
 
-profiled-kept : (fits : List Event → Bool) → IsPrefixClosed fits → (past : List Event) (run : WrittenRun) → profiled fits past run ≡ with_cut fits past (kept fits past run)
-unfolding profiled
-profiled-kept fits closed past run =
-    ap (λ whole. let p : Profiled = record { moves = moves_kept fits past run.moves; past = whole; finish = (kept fits past run).finish } in p) (cut-kept fits closed past run.moves)
+observed_run-kept : (fits : List Event → Bool) → IsPrefixClosed fits → (past : List Event) (run : WrittenRun) → observed_run fits past run ≡ with_cut fits past (kept fits past run)
+unfolding observed_run
+observed_run-kept fits closed past run =
+    ap (λ whole. let p : ObservedRun = record { moves = moves_kept fits past run.moves; past = whole; finish = (kept fits past run).finish } in p) (cut-kept fits closed past run.moves)
 
 abbrev ends_with : List Move → Bool → Finish → WrittenRun
 ends_with moves b finish = record { moves = moves; finish = cond b finish Deep }
@@ -134,9 +134,9 @@ keeps-watched fits closed machine (suc more) = λ past at passed.
     keeps-chosen fits closed machine more (keeps-watched fits closed machine more) past passed (chosen machine at)
     ∙ ap (go_on (watched fits machine) (run_from (watched fits machine) more)) (sym (chosen-watched fits machine past at))
 
-pub profiled_is_watched : {State : Type 0} (machine : Machine State) (fits : List Event → Bool) → IsPrefixClosed fits → (past : List Event) (turns : SchedulerState) (budget : ℕ) (state : State) → fits past ≡ true →
-    profiled fits past (run machine turns budget state) ≡ with_cut fits past (run (watched fits machine) turns budget (past, state))
+pub observed_is_watched : {State : Type 0} (machine : Machine State) (fits : List Event → Bool) → IsPrefixClosed fits → (past : List Event) (turns : SchedulerState) (budget : ℕ) (state : State) → fits past ≡ true →
+    observed_run fits past (run machine turns budget state) ≡ with_cut fits past (run (watched fits machine) turns budget (past, state))
 unfolding KeepsWatched
-profiled_is_watched machine fits closed past turns budget state passed =
-    profiled-kept fits closed past (run machine turns budget state)
+observed_is_watched machine fits closed past turns budget state passed =
+    observed_run-kept fits closed past (run machine turns budget state)
     ∙ ap (with_cut fits past) (keeps-watched fits closed machine budget past (start turns state) passed)

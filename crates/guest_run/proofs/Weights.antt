@@ -11,7 +11,7 @@ use Rattle.guest_calls.specs.Inputs.{Input}
 use Rattle.guest_machine.specs.Start.{start}
 use Rattle.guest_run.specs.Machine.{guest}
 use Rattle.guest_run.specs.Run.{events_of, run}
-use Rattle.guest_run.specs.Profiled.{first_past, profiled}
+use Rattle.guest_run.specs.ObservedRun.{first_past, observed_run}
 use Rattle.guest_run.specs.Traces.{EveryRunIsLight}
 use Rattle.guest_run.proofs.Counted.{steps_whole, steps_within}
 use Rattle.guest_run.proofs.ShortParts.{every_run_short}
@@ -31,4 +31,4 @@ every_run_light image arguments inputs stdin fits turns budget few =
     let past = first_past image.entry in
     let begin = start image arguments inputs stdin in
     let first : steps past ≡ 0 = refl in
-    short_light (profiled fits past (run guest turns budget begin)).past (omega (arith, steps_within fits past turns budget begin, first, few)) (every_run_short image arguments inputs stdin fits turns budget).profiled_part
+    short_light (observed_run fits past (run guest turns budget begin)).past (omega (arith, steps_within fits past turns budget begin, first, few)) (every_run_short image arguments inputs stdin fits turns budget).observed_part

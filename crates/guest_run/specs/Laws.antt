@@ -11,7 +11,7 @@ use Rattle.thread_sched.specs.TurnRule.{SchedulerState}
 use Rattle.guest_machine.specs.Machine.{MachineState}
 use Rattle.guest_run.specs.Machine.{Machine, guest}
 use Rattle.guest_run.specs.Run.{WrittenRun, events_of, recording, run}
-use Rattle.guest_run.specs.Profiled.{profiled}
+use Rattle.guest_run.specs.ObservedRun.{observed_run}
 
 -- what a scheduler knows before the first turn
 abbrev pub scheduler : ℕ → List Entry → SchedulerState
@@ -31,13 +31,13 @@ ReplaysRun {State} machine =
     IsNoMismatch first.finish → run machine (scheduler other (recording first.moves)) budget state ≡ first
 
 -- So is an observed run of the guest, whatever fits its observer, where the past before its first move does.
-abbrev pub ReplaysProfiled : Type 0
-ReplaysProfiled =
+abbrev pub ReplaysObserved : Type 0
+ReplaysObserved =
     (fits : List Event → Bool) (past : List Event) (quantum other budget : ℕ) (schedule : List Entry) (state : MachineState) →
     IsPrefixClosed fits → fits past ≡ true →
-    let first = profiled fits past (run guest (scheduler quantum schedule) budget state) in
+    let first = observed_run fits past (run guest (scheduler quantum schedule) budget state) in
     IsNoMismatch first.finish →
-    profiled fits past (run guest (scheduler other (recording first.moves)) budget state) ≡ first
+    observed_run fits past (run guest (scheduler other (recording first.moves)) budget state) ≡ first
 
 -- A run has at most as many moves as its budget.
 abbrev pub StaysWithin : {State : Type 0} → Machine State → Type 0
@@ -61,10 +61,10 @@ RecordsTurns {State} machine =
     TurnsHaveMoves (recording whole.moves) (length whole.moves) budget
 
 -- So it is of what is observed of a run of the guest.
-abbrev pub RecordsProfiledTurns : Type 0
-RecordsProfiledTurns =
+abbrev pub RecordsObservedTurns : Type 0
+RecordsObservedTurns =
     (fits : List Event → Bool) (past : List Event) (turns : SchedulerState) (budget : ℕ) (state : MachineState) →
-    let part = profiled fits past (run guest turns budget state) in
+    let part = observed_run fits past (run guest turns budget state) in
     TurnsHaveMoves (recording part.moves) (length part.moves) budget
 
 -- the first list is what the second begins with
@@ -74,20 +74,20 @@ IsPrefix {X} xs ys = (rest : List X) × (xs ++ rest ≡ ys)
 -- What is observed of a run is a part of it, from its begin on; a run whose whole past fits is observed whole, and any other
 -- ends with `Deep`.
 pub record IsProfileOf (fits : List Event → Bool) (past : List Event) (whole : WrittenRun) : Type 0 where
-  pub moves : IsPrefix (profiled fits past whole).moves whole.moves
+  pub moves : IsPrefix (observed_run fits past whole).moves whole.moves
   pub passed : fits (past_after past (events_of whole.moves)) ≡ true →
-      profiled fits past whole ≡ record { moves = whole.moves; past = past_after past (events_of whole.moves); finish = whole.finish }
-  pub failed : fits (past_after past (events_of whole.moves)) ≡ false → (profiled fits past whole).finish ≡ Deep
+      observed_run fits past whole ≡ record { moves = whole.moves; past = past_after past (events_of whole.moves); finish = whole.finish }
+  pub failed : fits (past_after past (events_of whole.moves)) ≡ false → (observed_run fits past whole).finish ≡ Deep
 
-abbrev pub ProfilesPart : Type 0
-ProfilesPart = (fits : List Event → Bool) (past : List Event) (whole : WrittenRun) → IsPrefixClosed fits → IsProfileOf fits past whole
+abbrev pub ObservesPart : Type 0
+ObservesPart = (fits : List Event → Bool) (past : List Event) (whole : WrittenRun) → IsPrefixClosed fits → IsProfileOf fits past whole
 
 -- The observed run of the guest ends `Deep` exactly where the past of the whole run does not fit; no run ends so by itself.
 abbrev pub EndsDeepExactly : Type 0
 EndsDeepExactly =
     (fits : List Event → Bool) (past : List Event) (turns : SchedulerState) (budget : ℕ) (state : MachineState) → IsPrefixClosed fits →
     let whole = run guest turns budget state in
-    ((profiled fits past whole).finish ≡ Deep) ↔ (fits (past_after past (events_of whole.moves)) ≡ false)
+    ((observed_run fits past whole).finish ≡ Deep) ↔ (fits (past_after past (events_of whole.moves)) ≡ false)
 
 -- the move that faults
 abbrev pub faults : Finish → ℕ
@@ -105,4 +105,4 @@ CountsSteps =
 abbrev pub StepsWithin : Type 0
 StepsWithin =
     (fits : List Event → Bool) (past : List Event) (turns : SchedulerState) (budget : ℕ) (state : MachineState) →
-    steps (profiled fits past (run guest turns budget state)).past ≤ steps past + budget
+    steps (observed_run fits past (run guest turns budget state)).past ≤ steps past + budget

@@ -1,7 +1,7 @@
 -- What a reader has to believe.
 pub mod Machine
 pub mod Run
-pub mod Profiled
+pub mod ObservedRun
 pub mod Output
 pub mod RunEnds
 pub mod Laws

@@ -10,7 +10,7 @@ use Rattle.guest_run.specs.declared.run_error.Channel.{Channel}
 use Rattle.guest_run.specs.declared.run_error.RunError.{RunError}
 use Rattle.guest_run.specs.declared.run_error.RunError.TheVariants.{CannotPut, Memory}
 use Rattle.guest_run.specs.Output.{FailsOn, Sinks, with_output}
-use Rattle.guest_run.specs.Profiled.{Profiled}
+use Rattle.guest_run.specs.ObservedRun.{ObservedRun}
 use Rattle.guest_run.specs.Run.{Move, recording}
 
 -- The machine has made no step: it is as it began with an image, arguments, input files and standard input.
@@ -23,7 +23,7 @@ pub record IsAtStart (machine : Parts) : Type 0 where
   pub entry : machine.entry ≡ image.entry
 
 -- The run came to its end: the observer stands for its trace, all of its output was put, and this is its recording and its end.
-pub record IsWhole {W : Type 0} (Stands : W → List Event → Type 0) (p : Profiled) (before : Sinks) (observer : W) (after : Sinks) (ended : Ended) : Type 0 where
+pub record IsWhole {W : Type 0} (Stands : W → List Event → Type 0) (p : ObservedRun) (before : Sinks) (observer : W) (after : Sinks) (ended : Ended) : Type 0 where
   pub past : Stands observer p.past
   pub output : after ≡ with_output p.moves before
   pub recorded : ended.recording ≡ recording p.moves
@@ -46,7 +46,7 @@ pub record IsGivenUp (moves : List Move) (before after : Sinks) : Type 0 where
   pub output : after ≡ with_output earlier before
 
 -- How a run ends, of which this is observed: whole, or given up because a put failed or memory ran out.
-abbrev pub RunEnds : {W : Type 0} → (W → List Event → Type 0) → Profiled → Sinks → W → Sinks → Result Ended RunError → Type 0
+abbrev pub RunEnds : {W : Type 0} → (W → List Event → Type 0) → ObservedRun → Sinks → W → Sinks → Result Ended RunError → Type 0
 RunEnds Stands p before observer after (Ok ended) = IsWhole Stands p before observer after ended
 RunEnds Stands p before observer after (Err (CannotPut channel)) = StopsAtPut channel p.moves before after
 RunEnds Stands p before observer after (Err Memory) = IsGivenUp p.moves before after

@@ -19,12 +19,12 @@ use Rattle.guest_machine.specs.Start.{start}
 use Rattle.guest_run.specs.Laws.{scheduler}
 use Rattle.guest_run.specs.Machine.{guest}
 use Rattle.guest_run.specs.Run.{WrittenRun, events_of, recording, run}
-use Rattle.guest_run.specs.Profiled.{Profiled, first_past, profiled}
+use Rattle.guest_run.specs.ObservedRun.{ObservedRun, first_past, observed_run}
 
 -- the whole trace of a run, cut before each step, has short parts alone, and so has what is observed of it
 pub record AreShort (fits : List Event → Bool) (past : List Event) (whole : WrittenRun) : Type 0 where
   pub all : All IsShort (parts (past_after past (events_of whole.moves)))
-  pub profiled_part : All IsShort (parts (profiled fits past whole).past)
+  pub observed_part : All IsShort (parts (observed_run fits past whole).past)
 
 -- So it is of every run from its start: the first part is the start of thread 1, and each other one is of one move.
 abbrev pub EveryRunIsOfShortParts : Type 0
@@ -38,12 +38,12 @@ abbrev pub EveryRunIsLight : Type 0
 EveryRunIsLight =
     (image : Executable) (arguments : List (List ℕ)) (inputs : List Input) (stdin : List ℕ)
     (fits : List Event → Bool) (turns : SchedulerState) (budget : ℕ) → budget ≤ RUN_STEPS
-    → IsLight (profiled fits (first_past image.entry) (run guest turns budget (start image arguments inputs stdin))).past
+    → IsLight (observed_run fits (first_past image.entry) (run guest turns budget (start image arguments inputs stdin))).past
 
 -- the whole trace of a run is well formed, and so is what is observed of it
 pub record AreWellFormed (fits : List Event → Bool) (past : List Event) (whole : WrittenRun) : Type 0 where
   pub all : IsWellFormed (past_after past (events_of whole.moves))
-  pub profiled_part : IsWellFormed (profiled fits past whole).past
+  pub observed_part : IsWellFormed (observed_run fits past whole).past
 
 -- So each event of a run may come where it does: new threads have new numbers, and all other events are of live threads.
 abbrev pub EveryRunIsWellFormed : Type 0
@@ -55,7 +55,7 @@ EveryRunIsWellFormed =
 -- each turn that is recorded of a run is an entry of a schedule, and so is each of what is observed of it
 pub record AreEntries (fits : List Event → Bool) (past : List Event) (whole : WrittenRun) : Type 0 where
   pub all : AllByRecursion IsEntry (recording whole.moves)
-  pub profiled_part : AllByRecursion IsEntry (recording (profiled fits past whole).moves)
+  pub observed_part : AllByRecursion IsEntry (recording (observed_run fits past whole).moves)
 
 -- So the recording of a run from its start is a schedule, whatever the image, the scheduler and the test of its observer.
 abbrev pub EveryRunRecordsEntries : Type 0
@@ -89,7 +89,7 @@ IsEndInRange lines (Schedule line) = (1 ≤ line) × (line ≤ lines)
 IsEndInRange lines finish = Unit {0}
 
 -- So are those of all events that are observed of a run, and of its end.
-pub record TellsInRange (lines : ℕ) (run : Profiled) : Type 0 where
+pub record TellsInRange (lines : ℕ) (run : ObservedRun) : Type 0 where
   pub events : AllByRecursion IsInRange run.past
   pub finish : IsEndInRange lines run.finish
 
@@ -98,4 +98,4 @@ abbrev pub EveryRunTellsInRange : Type 0
 EveryRunTellsInRange =
     (image : Executable) (arguments : List (List ℕ)) (inputs : List Input) (stdin : List ℕ)
     (fits : List Event → Bool) (quantum : ℕ) (schedule : List Entry) (budget : ℕ) → IsAddress image.entry
-    → TellsInRange (1 + budget) (profiled fits (first_past image.entry) (run guest (scheduler quantum schedule) budget (start image arguments inputs stdin)))
+    → TellsInRange (1 + budget) (observed_run fits (first_past image.entry) (run guest (scheduler quantum schedule) budget (start image arguments inputs stdin)))

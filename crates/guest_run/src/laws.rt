@@ -1,5 +1,5 @@
 //! Laws of a run: each is the contract of a function that does nothing.
-ghost use Rattle.guest_run.specs.Laws.{CountsSteps, EndsDeepExactly, ProfilesPart, RecordsProfiledTurns, RecordsTurns, ReplaysProfiled, ReplaysRun, SpendsBudget, StaysWithin, StepsWithin};
+ghost use Rattle.guest_run.specs.Laws.{CountsSteps, EndsDeepExactly, ObservesPart, RecordsObservedTurns, RecordsTurns, ReplaysObserved, ReplaysRun, SpendsBudget, StaysWithin, StepsWithin};
 ghost use Rattle.guest_run.specs.Machine.{guest};
 ghost use Rattle.guest_run.specs.Traces.{EveryRunIsLight, EveryRunIsOfShortParts, EveryRunIsWellFormed, EveryRunRecordsEntries, EveryRunTellsInRange};
 
@@ -7,7 +7,7 @@ ghost use Rattle.guest_run.specs.Traces.{EveryRunIsLight, EveryRunIsOfShortParts
 /// observed of it, whatever fits the observer, unless it ended at an entry of its schedule.
 pub fn runs_replay()
     ensures run { ReplaysRun guest }
-    ensures profiled { ReplaysProfiled }
+    ensures observed_run { ReplaysObserved }
 {}
 
 /// The bounds of a run of the guest: it has at most as many moves as its budget, and as many where it ends for the budget;
@@ -18,8 +18,8 @@ pub fn runs_stay_within()
     ensures moves { StaysWithin guest }
     ensures spent { SpendsBudget guest }
     ensures turns { RecordsTurns guest }
-    ensures profiled_turns { RecordsProfiledTurns }
-    ensures profiled { ProfilesPart }
+    ensures observed_turns { RecordsObservedTurns }
+    ensures observed_run { ObservesPart }
     ensures deep { EndsDeepExactly }
     ensures steps { CountsSteps }
     ensures few { StepsWithin }

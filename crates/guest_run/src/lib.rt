@@ -2,7 +2,7 @@
 //! observer, up to the end of the run.
 //!
 //! Contracts see a run as its list of moves and how it ended (specs/Run.antt), and the observed run as the part of it up to
-//! the first event that does not fit the observer (specs/Profiled.antt).
+//! the first event that does not fit the observer (specs/ObservedRun.antt).
 #![tactic(auto)]
 
 mod laws;

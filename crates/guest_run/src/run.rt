@@ -7,7 +7,7 @@ ghost use Rattle.guest_run.specs.Private.CurrentTurn.{recorded};
 ghost use Rattle.guest_run.specs.Private.Going.{IsCounted, IsNewRunner, MakesAMove, MakesMoves, MayAdvance, RemainsSome, standing_of};
 ghost use Rattle.guest_run.specs.Machine.{guest};
 ghost use Rattle.guest_run.specs.Output.{Sinks, sinks};
-ghost use Rattle.guest_run.specs.Profiled.{first_past, profiled};
+ghost use Rattle.guest_run.specs.ObservedRun.{first_past, observed_run};
 ghost use Rattle.guest_run.specs.Run.{run};
 ghost use Rattle.guest_run.specs.RunEnds.{IsAtStart, RunEnds};
 
@@ -200,7 +200,7 @@ pub fn run_guest<W: Observer, O: Sink, E: Sink>(
     requires budget { budget ≤ RUN_STEPS }
     requires empty { W.stands observer.old [] }
     requires first { W.fits observer.old (first_past machine.entry) ≡ true }
-    ensures ends { RunEnds W.stands (profiled (W.fits observer.old) (first_past machine.entry)
+    ensures ends { RunEnds W.stands (observed_run (W.fits observer.old) (first_past machine.entry)
         (run guest turns budget (machine_of machine)))
         (sinks (O.state out.old) (E.state err.old)) observer.new (sinks (O.state out.new) (E.state err.new)) result }
     ensures same { W.fits observer.new ≡ W.fits observer.old }

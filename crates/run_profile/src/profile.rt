@@ -73,7 +73,7 @@ impl<S: Lanes> Profile<S> {
         ensures stands { (past : List Event) → IsProfileOf S.MAX self.old past
             → IsProfileOf S.MAX self.new past }
         ensures settled { OnOk result (self.new.ended ≡ []) }
-        ensures no_memory { self.old.ended ≡ [] → IsOk result }
+        ensures no_allocation { self.old.ended ≡ [] → IsOk result }
     {
         if self.ended.is_empty() {
             return Ok(());

@@ -59,7 +59,7 @@ impl RunTrace {
         ensures stands { (past : List Event) → IsTraceOf self.old past → IsTraceOf self.new past }
         ensures settled { OnOk result (IsSettled self.new) }
         ensures refused { OnErr result (is_some self.new.written ≡ true) }
-        ensures no_memory { IsSettled self.old → IsOk result }
+        ensures no_allocation { IsSettled self.old → IsOk result }
     {
         let outgrown = match &mut self.written {
             Some(written) => {
@@ -82,7 +82,7 @@ impl RunTrace {
             → MatchOption found (IsTooLong past) (λ text. IsTextOf text.writer past × (text.entries.keys ≡ entries_begun past))) }
         ensures within { IfOk result (λ found. IfSome found
             (λ text. length text.writer.text ≤ TRACE_BYTES)) }
-        ensures no_memory { IsSettled self → IsOk result }
+        ensures no_allocation { IsSettled self → IsOk result }
     {
         let mut trace = self;
         trace.settle()?;

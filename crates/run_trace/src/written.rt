@@ -61,7 +61,7 @@ impl Written {
             → IsWrittenOf self.new past }
         ensures entry { self.new.entry ≡ self.old.entry }
         ensures written { OnOk result (self.new.next ≡ None) }
-        ensures no_memory { self.old.next ≡ None → IsOk result }
+        ensures no_allocation { self.old.next ≡ None → IsOk result }
     {
         if let Some(e) = self.next {
             self.text.writer.push(e)?;
@@ -76,7 +76,7 @@ impl Written {
             → IsWrittenOf self.new past }
         ensures next { self.new.next ≡ self.old.next }
         ensures added { OnOk result (self.new.entry ≡ None) }
-        ensures no_memory { self.old.entry ≡ None → IsOk result }
+        ensures no_allocation { self.old.entry ≡ None → IsOk result }
     {
         if let Some(entry) = self.entry {
             self.text.entries.insert(entry)?;
@@ -92,7 +92,7 @@ impl Written {
             → IsWrittenOf self.new past }
         ensures written { OnOk result (self.new.next ≡ None) }
         ensures added { OnOk result (self.new.entry ≡ None) }
-        ensures no_memory { self.old.next ≡ None → self.old.entry ≡ None → IsOk result }
+        ensures no_allocation { self.old.next ≡ None → self.old.entry ≡ None → IsOk result }
     {
         self.write_next()?;
         self.add_entry()

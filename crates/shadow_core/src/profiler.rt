@@ -218,7 +218,7 @@ impl<S: Lanes> Profiler<S> {
         ensures table { OnOk result (table_of_state self.new
             ≡ table_after (bounded_tick S.MAX) (Fill first count) (table_of_state self.old)) }
         ensures refused { OnErr result (table_of_state self.new ≡ table_of_state self.old) }
-        ensures no_memory { AreCovered self.old.writes first count → IsOk result }
+        ensures no_allocation { AreCovered self.old.writes first count → IsOk result }
         ensures pages { AreCovered self.old.writes first count → HasSamePages self.old self.new }
     {
         cover(&mut self.writes, &mut self.marks, first, count)?;
@@ -242,7 +242,7 @@ impl<S: Lanes> Profiler<S> {
         ensures table { OnOk result (table_of_state self.new
             ≡ table_after (bounded_tick S.MAX) (Write tid first count) (table_of_state self.old)) }
         ensures refused { OnErr result (table_of_state self.new ≡ table_of_state self.old) }
-        ensures no_memory { AreCovered (pages_of self.old.live.threads tid) first count
+        ensures no_allocation { AreCovered (pages_of self.old.live.threads tid) first count
             → AreCovered self.old.writes first count → IsOk result }
         ensures pages { AreCovered (pages_of self.old.live.threads tid) first count
             → AreCovered self.old.writes first count → HasSamePages self.old self.new }
@@ -270,7 +270,7 @@ impl<S: Lanes> Profiler<S> {
         ensures table { OnOk result (table_of_state self.new
             ≡ table_after (bounded_tick S.MAX) (Write tid first count) (table_of_state self.old)) }
         ensures refused { OnErr result (table_of_state self.new ≡ table_of_state self.old) }
-        ensures no_memory { AreCovered (pages_of self.old.live.threads tid) first count
+        ensures no_allocation { AreCovered (pages_of self.old.live.threads tid) first count
             → AreCovered self.old.writes first count → IsOk result }
         ensures pages { AreCovered (pages_of self.old.live.threads tid) first count
             → AreCovered self.old.writes first count → HasSamePages self.old self.new }
@@ -347,7 +347,7 @@ impl<S: Lanes> Profiler<S> {
             ≡ done.old.items ++ finished (Ret tid target) (table_of_state self.old)) }
         ensures refused { OnErr result (table_of_state self.new ≡ table_of_state self.old) }
         ensures kept { OnErr result (done.new.items ≡ done.old.items) }
-        ensures no_memory { vec_len done.old + count_returned target
+        ensures no_allocation { vec_len done.old + count_returned target
             (map (λ (c : CountedCall). c.back) (calls_of self.old.live.threads tid).list)
             ≤ vec_capacity done.old → IsOk result }
         ensures pages { HasSamePages self.old self.new }
@@ -375,7 +375,7 @@ impl<S: Lanes> Profiler<S> {
             ≡ done.old.items ++ finished (Ret tid target) (table_of_state self.old)) }
         ensures refused { OnErr result (table_of_state self.new ≡ table_of_state self.old) }
         ensures kept { OnErr result (done.new.items ≡ done.old.items) }
-        ensures no_memory { vec_len done.old + count_returned target
+        ensures no_allocation { vec_len done.old + count_returned target
             (map (λ (c : CountedCall). c.back) (calls_of self.old.live.threads tid).list)
             ≤ vec_capacity done.old → IsOk result }
         ensures pages { HasSamePages self.old self.new }
@@ -411,7 +411,7 @@ impl<S: Lanes> Profiler<S> {
             ≡ done.old.items ++ finished (Ret tid target) (table_of_state self.old)) }
         ensures refused { OnErr result (table_of_state self.new ≡ table_of_state self.old) }
         ensures kept { OnErr result (done.new.items ≡ done.old.items) }
-        ensures no_memory { vec_len done.old + count_returned target
+        ensures no_allocation { vec_len done.old + count_returned target
             (map (λ (c : CountedCall). c.back) (calls_of self.old.live.threads tid).list)
             ≤ vec_capacity done.old → IsOk result }
         ensures pages { HasSamePages self.old self.new }
@@ -450,7 +450,7 @@ impl<S: Lanes> Profiler<S> {
         ensures table { OnOk result (table_of_state self.new
             ≡ table_after (bounded_tick S.MAX) (Read tid first count) (table_of_state self.old)) }
         ensures refused { OnErr result (table_of_state self.new ≡ table_of_state self.old) }
-        ensures no_memory { AreCovered (pages_of self.old.live.threads tid) first count
+        ensures no_allocation { AreCovered (pages_of self.old.live.threads tid) first count
             → IsOk result }
         ensures pages { AreCovered (pages_of self.old.live.threads tid) first count
             → HasSamePages self.old self.new }
@@ -469,7 +469,7 @@ impl<S: Lanes> Profiler<S> {
         ensures table { OnOk result (table_of_state self.new
             ≡ table_after (bounded_tick S.MAX) (Read tid first count) (table_of_state self.old)) }
         ensures refused { OnErr result (table_of_state self.new ≡ table_of_state self.old) }
-        ensures no_memory { AreCovered (pages_of self.old.live.threads tid) first count
+        ensures no_allocation { AreCovered (pages_of self.old.live.threads tid) first count
             → IsOk result }
         ensures pages { AreCovered (pages_of self.old.live.threads tid) first count
             → HasSamePages self.old self.new }
@@ -520,7 +520,7 @@ impl<S: Lanes> Profiler<S> {
             ≡ done.old.items ++ finished e (table_of_state self.old)) }
         ensures refused { OnErr result (table_of_state self.new ≡ table_of_state self.old) }
         ensures kept { OnErr result (done.new.items ≡ done.old.items) }
-        ensures no_memory { NeedsNoMemory e (table_of_state self.old) (vec_len done.old)
+        ensures no_allocation { NeedsNoMemory e (table_of_state self.old) (vec_len done.old)
             (vec_capacity done.old) → IsOk result }
         ensures pages { NeedsNoMemory e (table_of_state self.old) (vec_len done.old)
             (vec_capacity done.old) → HasSamePages self.old self.new }
@@ -558,7 +558,7 @@ impl<S: Lanes> Profiler<S> {
             → is_too_deep S.MAX e past ≡ false → IfErr result (λ error. error ≡ Memory) }
         ensures refused { OnErr result (table_of_state self.new ≡ table_of_state self.old) }
         ensures kept { OnErr result (done.new.items ≡ done.old.items) }
-        ensures no_memory { NeedsNoMemory e (table_of_state self.old) (vec_len done.old)
+        ensures no_allocation { NeedsNoMemory e (table_of_state self.old) (vec_len done.old)
             (vec_capacity done.old) → IsOk result }
         ensures pages { NeedsNoMemory e (table_of_state self.old) (vec_len done.old)
             (vec_capacity done.old) → HasSamePages self.old self.new }

@@ -89,7 +89,7 @@ fn read_stamped<S: Lanes>(
     w: Word,
     own: S,
     write: S,
-    now: S,
+    stamp: S,
 )
     requires lives { is_some (value_of threads.old.threads tid) ≡ true }
     requires some { 1 ≤ length (frames_of threads.old.threads tid) }
@@ -97,25 +97,25 @@ fn read_stamped<S: Lanes>(
     requires sums { AreWithin (2 ^ 62 + 2 ^ 31) (frames_of threads.old.threads tid) }
     requires own { S.number_of own ≡ stamp_at (pages_of threads.old.threads tid) w }
     ensures { (writes marks : ℕ → ℕ) → S.number_of write ≡ writes w
-        → IsRead threads.old threads.new tid writes marks w 1 (S.number_of now) }
+        → IsRead threads.old threads.new tid writes marks w 1 (S.number_of stamp) }
 {
     read_frames(threads, tid, own, write);
-    threads.shadow_mut(tid).set_at(place, w, now);
+    threads.shadow_mut(tid).set_at(place, w, stamp);
 }
 
 // A read of one word.
 #[inline(always)]
-fn read_word<S: Lanes>(threads: &mut Threads<S>, tid: Tid, w: Word, writes: &Shadow<S>, now: S)
+fn read_word<S: Lanes>(threads: &mut Threads<S>, tid: Tid, w: Word, writes: &Shadow<S>, stamp: S)
     requires lives { is_some (value_of threads.old.threads tid) ≡ true }
     requires some { 1 ≤ length (frames_of threads.old.threads tid) }
     requires covered { covers (pages_of threads.old.threads tid) w ≡ true }
     requires sums { AreWithin (2 ^ 62 + 2 ^ 31) (frames_of threads.old.threads tid) }
     ensures { (marks : ℕ → ℕ) → IsRead threads.old threads.new tid
-        (stamp_at writes.now.pages) marks w 1 (S.number_of now) }
+        (stamp_at writes.now.pages) marks w 1 (S.number_of stamp) }
 {
     let place = threads.shadow(tid).place(w);
     let own = threads.shadow(tid).get_at(place, w);
-    read_stamped(threads, tid, place, w, own, writes.get(w), now);
+    read_stamped(threads, tid, place, w, own, writes.get(w), stamp);
 }
 
 // The word `i` places on.
@@ -133,7 +133,7 @@ fn read_words<S: Lanes>(
     first: Word,
     count: u32,
     writes: &Shadow<S>,
-    now: S,
+    stamp: S,
 )
     requires end { first + count ≤ 2 ^ 30 }
     requires lives { is_some (value_of threads.old.threads tid) ≡ true }
@@ -141,10 +141,10 @@ fn read_words<S: Lanes>(
     requires covered { AreCovered (pages_of threads.old.threads tid) first count }
     requires sums { AreWithin (2 ^ 62 + 2 ^ 30) (frames_of threads.old.threads tid) }
     ensures { (marks : ℕ → ℕ) → IsRead threads.old threads.new tid
-        (stamp_at writes.now.pages) marks first count (S.number_of now) }
+        (stamp_at writes.now.pages) marks first count (S.number_of stamp) }
 {
     for i in 0..count {
-        read_word(threads, tid, word_at(first, i), writes, now);
+        read_word(threads, tid, word_at(first, i), writes, stamp);
     }
 }
 
@@ -174,7 +174,7 @@ fn read_part<S: Lanes>(
     writes: &Shadow<S>,
     marks: &Shadow<u8>,
     zeros: &ZeroRows<S>,
-    now: S,
+    stamp: S,
 ) -> Foreign
     requires some { 1 ≤ count }
     requires end { first + count ≤ 2 ^ 30 }
@@ -185,7 +185,7 @@ fn read_part<S: Lanes>(
     requires covered { AreCovered (pages_of threads.old.threads tid) first count }
     requires sums { AreWithin (2 ^ 62 + 2 ^ 30) (frames_of threads.old.threads tid) }
     ensures read { IsRead threads.old threads.new tid (stamp_at writes.now.pages)
-        (stamp_at marks.now.pages) first count (S.number_of now) }
+        (stamp_at marks.now.pages) first count (S.number_of stamp) }
     ensures thread { result.thread ≡ count_by is_by_thread
         (places_at (stamp_at (pages_of threads.old.threads tid)) (stamp_at writes.now.pages)
         (stamp_at marks.now.pages) (range_with_len first count)) }
@@ -197,11 +197,11 @@ fn read_part<S: Lanes>(
     let mark = row_of(marks, first, count, zeros.marks());
     let top = threads.frames(tid).depth() - 1;
     let start = threads.frames(tid).start_at(top);
-    let bulk = read_page(threads.shadow_mut(tid), first, write, mark, start, now);
+    let bulk = read_page(threads.shadow_mut(tid), first, write, mark, start, stamp);
     if bulk.old == 0 {
         threads.add_sum(tid, top, sums_of_bulk(bulk));
     } else {
-        read_words(threads, tid, first, count, writes, now);
+        read_words(threads, tid, first, count, writes, stamp);
     }
     Foreign {
         thread: u64::from(bulk.thread),
@@ -244,14 +244,14 @@ fn read_one<S: Lanes>(
     w: Word,
     writes: &Shadow<S>,
     marks: &Shadow<u8>,
-    now: S,
+    stamp: S,
 ) -> Foreign
     requires lives { is_some (value_of threads.old.threads tid) ≡ true }
     requires some { 1 ≤ length (frames_of threads.old.threads tid) }
     requires covered { covers (pages_of threads.old.threads tid) w ≡ true }
     requires sums { AreWithin (2 ^ 62 + 2 ^ 31) (frames_of threads.old.threads tid) }
     ensures read { IsRead threads.old threads.new tid (stamp_at writes.now.pages)
-        (stamp_at marks.now.pages) w 1 (S.number_of now) }
+        (stamp_at marks.now.pages) w 1 (S.number_of stamp) }
     ensures thread { result.thread ≡ count_by is_by_thread
         (places_at (stamp_at (pages_of threads.old.threads tid)) (stamp_at writes.now.pages)
         (stamp_at marks.now.pages) (range_with_len w 1)) }
@@ -263,7 +263,7 @@ fn read_one<S: Lanes>(
     let own = threads.shadow(tid).get_at(place, w);
     let write = writes.get(w);
     let found = foreign_word(own, write, marks, w);
-    read_stamped(threads, tid, place, w, own, write, now);
+    read_stamped(threads, tid, place, w, own, write, stamp);
     found
 }
 
@@ -297,7 +297,7 @@ pub(crate) fn read<S: Lanes>(
     writes: &Shadow<S>,
     marks: &Shadow<u8>,
     zeros: &ZeroRows<S>,
-    now: S,
+    stamp: S,
 ) -> Foreign
     requires end { first + count ≤ 2 ^ 30 }
     requires lives { is_some (value_of threads.old.threads tid) ≡ true }
@@ -306,7 +306,7 @@ pub(crate) fn read<S: Lanes>(
     requires covered { AreCovered (pages_of threads.old.threads tid) first count }
     requires sums { AreWithin (2 ^ 62) (frames_of threads.old.threads tid) }
     ensures read { IsRead threads.old threads.new tid (stamp_at writes.now.pages)
-        (stamp_at marks.now.pages) first count (S.number_of now) }
+        (stamp_at marks.now.pages) first count (S.number_of stamp) }
     ensures thread { result.thread ≡ count_by is_by_thread
         (places_at (stamp_at (pages_of threads.old.threads tid)) (stamp_at writes.now.pages)
         (stamp_at marks.now.pages) (range_with_len first count)) }
@@ -315,9 +315,9 @@ pub(crate) fn read<S: Lanes>(
         (stamp_at marks.now.pages) (range_with_len first count)) }
 {
     if count == 1 {
-        return read_one(threads, tid, first, writes, marks, now);
+        return read_one(threads, tid, first, writes, marks, stamp);
     }
-    read_parts(threads, tid, first, count, writes, marks, zeros, now)
+    read_parts(threads, tid, first, count, writes, marks, zeros, stamp)
 }
 
 // The same, page by page.
@@ -331,7 +331,7 @@ fn read_parts<S: Lanes>(
     writes: &Shadow<S>,
     marks: &Shadow<u8>,
     zeros: &ZeroRows<S>,
-    now: S,
+    stamp: S,
 ) -> Foreign
     requires end { first + count ≤ 2 ^ 30 }
     requires lives { is_some (value_of threads.old.threads tid) ≡ true }
@@ -340,7 +340,7 @@ fn read_parts<S: Lanes>(
     requires covered { AreCovered (pages_of threads.old.threads tid) first count }
     requires sums { AreWithin (2 ^ 62) (frames_of threads.old.threads tid) }
     ensures read { IsRead threads.old threads.new tid (stamp_at writes.now.pages)
-        (stamp_at marks.now.pages) first count (S.number_of now) }
+        (stamp_at marks.now.pages) first count (S.number_of stamp) }
     ensures thread { result.thread ≡ count_by is_by_thread
         (places_at (stamp_at (pages_of threads.old.threads tid)) (stamp_at writes.now.pages)
         (stamp_at marks.now.pages) (range_with_len first count)) }
@@ -356,7 +356,7 @@ fn read_parts<S: Lanes>(
     while done < count {
         let at = word_at(first, done);
         let size = part_size(at, count - done);
-        let more = read_part(threads, tid, at, size, writes, marks, zeros, now);
+        let more = read_part(threads, tid, at, size, writes, marks, zeros, stamp);
         found.thread += more.thread;
         found.kernel += more.kernel;
         done += size;

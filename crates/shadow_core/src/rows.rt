@@ -86,7 +86,7 @@ pub(crate) fn row_of<'a, S: Stamp>(
 }
 
 // A read of a part of a row.
-fn read_row<S: Lanes>(row: &mut [S], at: usize, write: &[S], marks: &[u8], start: S, now: S) -> Bulk
+fn read_row<S: Lanes>(row: &mut [S], at: usize, write: &[S], marks: &[u8], start: S, stamp: S) -> Bulk
     requires within { at + length write.now ≤ length row.old }
     requires size { length row.old ≤ 1024 }
     requires lengths { length write.now ≡ length marks.now }
@@ -95,12 +95,12 @@ fn read_row<S: Lanes>(row: &mut [S], at: usize, write: &[S], marks: &[u8], start
         (map S.number_of write.now) marks.now) result }
     ensures stamps { (k : ℕ) → slice_index (map S.number_of row.new) k
         ≡ (if (result.old == 0) && (nat_le at k && nat_lt k (at + length write.now))
-        then S.number_of now else slice_index (map S.number_of row.old) k) }
+        then S.number_of stamp else slice_index (map S.number_of row.old) k) }
     ensures count { length row.new ≡ length row.old }
 {
     let end = at + write.len();
     let part = &mut row[at..end];
-    S::bulk_read(part, write, marks, start, now)
+    S::bulk_read(part, write, marks, start, stamp)
 }
 
 /// A read of words of one page at once: what it finds, and the stamps, which become `now` where none is old.
@@ -110,7 +110,7 @@ pub(crate) fn read_page<S: Lanes>(
     write: &[S],
     marks: &[u8],
     start: S,
-    now: S,
+    stamp: S,
 ) -> Bulk
     requires covered { covers pages.old.pages first ≡ true }
     requires within { first % 1024 + length write.now ≤ 1024 }
@@ -119,7 +119,7 @@ pub(crate) fn read_page<S: Lanes>(
         (places (map (stamp_at pages.old.pages) (range_with_len first (length write.now)))
         (map S.number_of write.now) marks.now) result }
     ensures stamps { (w : ℕ) → stamp_at pages.new.pages w
-        ≡ (if (result.old == 0) && in_range first (length write.now) w then S.number_of now
+        ≡ (if (result.old == 0) && in_range first (length write.now) w then S.number_of stamp
         else stamp_at pages.old.pages w) }
     ensures covered { (w : ℕ) → covers pages.new.pages w ≡ covers pages.old.pages w }
 {
@@ -130,6 +130,6 @@ pub(crate) fn read_page<S: Lanes>(
         write,
         marks,
         start,
-        now,
+        stamp,
     )
 }

@@ -15,25 +15,25 @@ use stamps::Stamp;
 
 // Gives words a stamp.
 #[inline(always)]
-fn stamp_words<S: Stamp>(pages: &mut Shadow<S>, first: Word, count: u32, now: S)
+fn stamp_words<S: Stamp>(pages: &mut Shadow<S>, first: Word, count: u32, stamp: S)
     requires end { first + count ≤ 2 ^ 30 }
     requires covered { AreCovered pages.old.pages first count }
-    ensures { IsFilled (S.number_of now) first count pages.old.pages pages.new.pages }
+    ensures { IsFilled (S.number_of stamp) first count pages.old.pages pages.new.pages }
 {
     if count == 1 {
-        pages.set(first, now);
+        pages.set(first, stamp);
     } else {
-        pages.fill(first, count, now);
+        pages.fill(first, count, stamp);
     }
 }
 
 // Gives a word a stamp, by the place of its page.
 #[inline(always)]
-fn stamp_word<S: Stamp>(pages: &mut Shadow<S>, place: usize, w: Word, now: S)
+fn stamp_word<S: Stamp>(pages: &mut Shadow<S>, place: usize, w: Word, stamp: S)
     requires { HasPlace pages.old.pages w place }
-    ensures { IsFilled (S.number_of now) w 1 pages.old.pages pages.new.pages }
+    ensures { IsFilled (S.number_of stamp) w 1 pages.old.pages pages.new.pages }
 {
-    pages.set_at(place, w, now);
+    pages.set_at(place, w, stamp);
 }
 
 /// A write of words by the kernel: each gets the stamp as that of its latest write, and a mark. It does not allocate.
@@ -42,15 +42,15 @@ pub(crate) fn fill<S: Lanes>(
     marks: &mut Shadow<u8>,
     first: Word,
     count: u32,
-    now: S,
+    stamp: S,
 )
     requires end { first + count ≤ 2 ^ 30 }
     requires written { AreCovered writes.old.pages first count }
     requires marked { AreCovered marks.old.pages first count }
-    ensures writes { IsFilled (S.number_of now) first count writes.old.pages writes.new.pages }
+    ensures writes { IsFilled (S.number_of stamp) first count writes.old.pages writes.new.pages }
     ensures marks { IsFilled 1 first count marks.old.pages marks.new.pages }
 {
-    stamp_words(writes, first, count, now);
+    stamp_words(writes, first, count, stamp);
     stamp_words(marks, first, count, 1);
 }
 
@@ -62,7 +62,7 @@ fn write_one<S: Lanes>(
     writes: &mut Shadow<S>,
     marks: &mut Shadow<u8>,
     w: Word,
-    now: S,
+    stamp: S,
 )
     requires lives { is_some (value_of threads.old.threads tid) ≡ true }
     requires covered { covers (pages_of threads.old.threads tid) w ≡ true }
@@ -70,16 +70,16 @@ fn write_one<S: Lanes>(
     requires marked { covers marks.old.pages w ≡ true }
     ensures changed { IsChanged threads.old threads.new tid (frames_of threads.old.threads tid)
         (pages_of threads.new.threads tid) }
-    ensures access { IsFilled (S.number_of now) w 1 (pages_of threads.old.threads tid)
+    ensures access { IsFilled (S.number_of stamp) w 1 (pages_of threads.old.threads tid)
         (pages_of threads.new.threads tid) }
-    ensures writes { IsFilled (S.number_of now) w 1 writes.old.pages writes.new.pages }
+    ensures writes { IsFilled (S.number_of stamp) w 1 writes.old.pages writes.new.pages }
     ensures marks { IsFilled 0 w 1 marks.old.pages marks.new.pages }
 {
     let own_place = threads.shadow(tid).place(w);
     let write_place = writes.place(w);
     let mark_place = marks.place(w);
-    stamp_word(threads.shadow_mut(tid), own_place, w, now);
-    stamp_word(writes, write_place, w, now);
+    stamp_word(threads.shadow_mut(tid), own_place, w, stamp);
+    stamp_word(writes, write_place, w, stamp);
     stamp_word(marks, mark_place, w, 0);
 }
 
@@ -111,7 +111,7 @@ pub(crate) fn write<S: Lanes>(
     marks: &mut Shadow<u8>,
     first: Word,
     count: u32,
-    now: S,
+    stamp: S,
 )
     requires end { first + count ≤ 2 ^ 30 }
     requires lives { is_some (value_of threads.old.threads tid) ≡ true }
@@ -120,15 +120,15 @@ pub(crate) fn write<S: Lanes>(
     requires marked { AreCovered marks.old.pages first count }
     ensures changed { IsChanged threads.old threads.new tid (frames_of threads.old.threads tid)
         (pages_of threads.new.threads tid) }
-    ensures access { IsFilled (S.number_of now) first count (pages_of threads.old.threads tid)
+    ensures access { IsFilled (S.number_of stamp) first count (pages_of threads.old.threads tid)
         (pages_of threads.new.threads tid) }
-    ensures writes { IsFilled (S.number_of now) first count writes.old.pages writes.new.pages }
+    ensures writes { IsFilled (S.number_of stamp) first count writes.old.pages writes.new.pages }
     ensures marks { IsFilled 0 first count marks.old.pages marks.new.pages }
 {
     if count == 1 {
-        write_one(threads, tid, writes, marks, first, now);
+        write_one(threads, tid, writes, marks, first, stamp);
     } else {
-        write_all(threads, tid, writes, marks, first, count, now);
+        write_all(threads, tid, writes, marks, first, count, stamp);
     }
 }
 
@@ -142,7 +142,7 @@ fn write_all<S: Lanes>(
     marks: &mut Shadow<u8>,
     first: Word,
     count: u32,
-    now: S,
+    stamp: S,
 )
     requires end { first + count ≤ 2 ^ 30 }
     requires lives { is_some (value_of threads.old.threads tid) ≡ true }
@@ -151,12 +151,12 @@ fn write_all<S: Lanes>(
     requires marked { AreCovered marks.old.pages first count }
     ensures changed { IsChanged threads.old threads.new tid (frames_of threads.old.threads tid)
         (pages_of threads.new.threads tid) }
-    ensures access { IsFilled (S.number_of now) first count (pages_of threads.old.threads tid)
+    ensures access { IsFilled (S.number_of stamp) first count (pages_of threads.old.threads tid)
         (pages_of threads.new.threads tid) }
-    ensures writes { IsFilled (S.number_of now) first count writes.old.pages writes.new.pages }
+    ensures writes { IsFilled (S.number_of stamp) first count writes.old.pages writes.new.pages }
     ensures marks { IsFilled 0 first count marks.old.pages marks.new.pages }
 {
-    stamp_words(threads.shadow_mut(tid), first, count, now);
-    stamp_words(writes, first, count, now);
+    stamp_words(threads.shadow_mut(tid), first, count, stamp);
+    stamp_words(writes, first, count, stamp);
     stamp_words(marks, first, count, 0);
 }

@@ -15,7 +15,7 @@ use Rattle.trace_file.specs.declared.errors.TraceError.{TraceError}
 use Rattle.trace_file.specs.declared.errors.TraceError.TheVariants as errors
 use Rattle.trace_file.specs.Records.{Fits, record_bytes}
 use Rattle.trace_file.specs.Pieces.{IsBegun, IsNone, IsRecord, Stops}
-use Rattle.trace_file.specs.Reading.{HasFed, HasNext, HasRead, HasReadBy, IsAtLine, IsAtRecord, IsOutOfOrder, IsReading, IsRefused, ReaderState, WantsMemory, told_by}
+use Rattle.trace_file.specs.Reading.{HasFed, HasNext, HasRead, HasReadBy, IsAtLine, IsAtRecord, IsOutOfOrder, IsReading, IsRefused, ReaderState, RunsOutOfMemory, told_by}
 use Rattle.trace_file.specs.Private.Steps.{GoesOnOr, IsFed, IsInOrder, IsNotAdded, IsOpen, IsTaken, MayReadByte, said}
 use Rattle.trace_file.proofs.ReadBytes.{behind_end, held_more, line_more, no_form, other_line, no_memory, not_added, open_of, stays, taken, text_push, whole_held}
 
@@ -128,7 +128,7 @@ next_there s bytes past b r is ends fits text in_order = record {
 
 pub wants_next : (s mid new : ReaderState) (b : ℕ) (r : Record) (rest : List ℕ) (es es' : List Event) (result : Result (Unit {0}) TraceError) → s.finish ≡ None → mid ≡ Held s b → Fits r → s.held ++ b ∷ [] ≡ record_bytes r ++ rest →
     ((past : List Event) → IsOpen mid past → IfErr result (λ x. IsInOrder mid past r x)) → OnErr result (new ≡ mid) → OnErr result (es' ≡ es) →
-    IfErr result (λ e. e ≡ errors.Memory → WantsMemory IsAtRecord s new (b ∷ []) es es')
+    IfErr result (λ e. e ≡ errors.Memory → RunsOutOfMemory IsAtRecord s new (b ∷ []) es es')
 wants_next s mid new b r rest es es' (Ok u) ends same fits text err stays kept = tt
 wants_next s mid new b r rest es es' (Err e) ends same fits text err stays kept = λ memory. record {
   more = [];
@@ -139,10 +139,10 @@ wants_next s mid new b r rest es es' (Err e) ends same fits text err stays kept 
       (next_there s bytes past b r is ends fits (whole_held s bytes past b r rest is ends fits text) (subst (λ (m : ReaderState). IsOutOfOrder (told_by m past) r → ⊥) same allowed));
 }
 
-pub wants_record : (s new : ReaderState) (b : ℕ) (es es' : List Event) → 14 ≤ s.line → WantsMemory IsAtRecord s new (b ∷ []) es es' → WantsMemory IsReading s new (b ∷ []) es es'
+pub wants_record : (s new : ReaderState) (b : ℕ) (es es' : List Event) → 14 ≤ s.line → RunsOutOfMemory IsAtRecord s new (b ∷ []) es es' → RunsOutOfMemory IsReading s new (b ∷ []) es es'
 wants_record s new b es es' high wants = record { more = wants.more; appended = wants.appended; next = λ bytes past is. wants.next bytes past (at_record s bytes past high is) }
 
-pub wants_byte : (s mid new : ReaderState) (o : Option TraceError) (b : ℕ) (es es' : List Event) → s.refusal ≡ None → WantsMemory IsReading s mid (b ∷ []) es es' → new ≡ record mid { refusal = o } → WantsMemory HasRead s new (b ∷ []) es es'
+pub wants_byte : (s mid new : ReaderState) (o : Option TraceError) (b : ℕ) (es es' : List Event) → s.refusal ≡ None → RunsOutOfMemory IsReading s mid (b ∷ []) es es' → new ≡ record mid { refusal = o } → RunsOutOfMemory HasRead s new (b ∷ []) es es'
 wants_byte s mid new o b es es' none wants same = record {
   more = wants.more;
   appended = wants.appended;
@@ -196,7 +196,7 @@ more_behind s bytes more past there = record {
   in_order = there.in_order;
 }
 
-pub wants_in_piece : (s mid new : ReaderState) (piece : List ℕ) (i : ℕ) (es es' es'' : List Event) → i < length piece → HasFed s mid (take i piece) es es' → WantsMemory HasRead mid new (get_or piece i 0 ∷ []) es' es'' → WantsMemory HasRead s new piece es es''
+pub wants_in_piece : (s mid new : ReaderState) (piece : List ℕ) (i : ℕ) (es es' es'' : List Event) → i < length piece → HasFed s mid (take i piece) es es' → RunsOutOfMemory HasRead mid new (get_or piece i 0 ∷ []) es' es'' → RunsOutOfMemory HasRead s new piece es es''
 wants_in_piece s mid new piece i es es' es'' low first wants =
     let byte = get_or piece i 0 in
     let begun : take i piece ++ byte ∷ [] ≡ take (suc i) piece = sym (take-suc piece i 0 low) in

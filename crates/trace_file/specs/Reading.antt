@@ -154,7 +154,7 @@ pub record HasNext (s : ReaderState) (bytes : List ℕ) (past : List Event) : Ty
   pub in_order : IsOutOfOrder (told_by s past) next → ⊥
 
 -- It has read of a piece what comes before a record that it can't allocate.
-pub record WantsMemory (At : ReaderState → List ℕ → List Event → Type 0) (old new : ReaderState) (piece : List ℕ) (es es' : List Event) : Type 0 where
+pub record RunsOutOfMemory (At : ReaderState → List ℕ → List Event → Type 0) (old new : ReaderState) (piece : List ℕ) (es es' : List Event) : Type 0 where
   pub more : List Event
   pub appended : es' ≡ es ++ more
   pub next : (bytes : List ℕ) (past : List Event) → At old bytes past → HasNext new (bytes ++ piece) (past_after past more)

@@ -7,7 +7,7 @@ ghost use Rattle.trace_model.specs.declared.event_kinds.Event.{Event};
 ghost use Rattle.trace_file.specs.declared.records.Record.TheVariants.{OfEvent, OfName, OfFinish};
 ghost use Rattle.trace_file.specs.Records.{Fits};
 ghost use Rattle.std.specs.Vec.{vec_capacity};
-ghost use Rattle.trace_file.specs.Reading.{HasFed, HasRead, IsAtRecord, IsReading, IsRefused, MayFeed, WantsMemory};
+ghost use Rattle.trace_file.specs.Reading.{HasFed, HasRead, IsAtRecord, IsReading, IsRefused, MayFeed, RunsOutOfMemory};
 ghost use Rattle.trace_file.specs.Private.Steps.{IsAdded, IsFed, IsInOrder, IsNotAdded, IsOpen, IsTaken, MayReadByte, said};
 ghost use Rattle.trace_file.specs.TraceText.{IsRising, IsTrace, magic};
 
@@ -203,7 +203,7 @@ impl TraceReader {
         requires unfinished { self.old.finish ≡ None }
         ensures fed { IsFed IsAtRecord IsAtRecord self.old self.new
             (byte ∷ []) events.old.list events.new.list result }
-        ensures memory { IfErr result (λ e. e ≡ TraceError.Memory → WantsMemory IsAtRecord
+        ensures memory { IfErr result (λ e. e ≡ TraceError.Memory → RunsOutOfMemory IsAtRecord
             self.old self.new (byte ∷ []) events.old.list events.new.list) }
     {
         let known = self.held.len();
@@ -241,7 +241,7 @@ impl TraceReader {
         ensures line { self.old.line < length magic → IfErr result (λ e. e ≡ TraceError.Magic) }
         ensures behind { (f : Finish) → self.old.finish ≡ Some f → length magic ≤ self.old.line
             → result ≡ Err (TraceError.Record self.old.at) }
-        ensures memory { IfErr result (λ e. e ≡ TraceError.Memory → WantsMemory IsReading
+        ensures memory { IfErr result (λ e. e ≡ TraceError.Memory → RunsOutOfMemory IsReading
             self.old self.new (byte ∷ []) events.old.list events.new.list) }
     {
         if self.line < MAGIC.len() {
@@ -262,7 +262,7 @@ impl TraceReader {
         ensures line { self.old.line < length magic → IfErr result (λ e. e ≡ TraceError.Magic) }
         ensures behind { (f : Finish) → self.old.finish ≡ Some f → length magic ≤ self.old.line
             → result ≡ Err (TraceError.Record self.old.at) }
-        ensures memory { IfErr result (λ e. e ≡ TraceError.Memory → WantsMemory HasRead
+        ensures memory { IfErr result (λ e. e ≡ TraceError.Memory → RunsOutOfMemory HasRead
             self.old self.new (byte ∷ []) events.old.list events.new.list) }
     {
         let read = self.next_byte(byte, events);
@@ -295,7 +295,7 @@ impl TraceReader {
         ensures stays { (e : TraceError) → self.old.refusal ≡ Some e
             → (self.new ≡ self.old) × (events.new.list ≡ events.old.list) }
         ensures memory { self.old.refusal ≡ None → IfErr result (λ e. e ≡ TraceError.Memory
-            → WantsMemory HasRead self.old self.new piece.now events.old.list events.new.list) }
+            → RunsOutOfMemory HasRead self.old self.new piece.now events.old.list events.new.list) }
     {
         if let Some(e) = self.refusal {
             return Err(e);
@@ -315,7 +315,7 @@ impl TraceReader {
         ensures memory { self.refusal ≡ None → IfErr result (λ e. e ≡ TraceError.Short) }
         ensures stays { (e : TraceError) → self.refusal ≡ Some e → result ≡ Err e }
         ensures short { self.refusal ≡ None → self.finish ≡ None → result ≡ Err TraceError.Short }
-        ensures no_memory { self.refusal ≡ None → is_some self.finish ≡ true → IsOk result }
+        ensures no_allocation { self.refusal ≡ None → is_some self.finish ≡ true → IsOk result }
     {
         let TraceReader {
             names,

@@ -82,11 +82,11 @@ fn follow(calls: &mut Vec<Activation>, e: &Event, at: usize, tid: Tid) -> Result
 }
 
 /// The thread's open activations after the events, the outermost first.
-pub fn open_calls(alloc: Global, past: &[Event], tid: Tid) -> Result<Vec<Activation>, AllocError>
-    ensures { IfOk result (λ v. reverse v.items ≡ open_calls (reverse past.now) tid) }
+pub fn open_calls(alloc: Global, trace: &[Event], tid: Tid) -> Result<Vec<Activation>, AllocError>
+    ensures { IfOk result (λ v. reverse v.items ≡ open_calls (reverse trace.now) tid) }
 {
     let mut calls = Vec::new(alloc);
-    for (at, e) in past.iter().enumerate() {
+    for (at, e) in trace.iter().enumerate() {
         follow(&mut calls, e, at, tid)?;
     }
     Ok(calls)

@@ -80,36 +80,36 @@ fn last_touch(events: &[Event], tid: Tid, word: u64) -> Touch
 
 /// How the word was touched last in the whole past, where a read of it by the thread counts. It does not where the last
 /// touch inside the activation is the thread's own.
-fn counted_touch(inside: &[Event], past: &[Event], tid: Tid, word: u64) -> Option<Touch>
+fn counted_touch(inside: &[Event], before: &[Event], tid: Tid, word: u64) -> Option<Touch>
     ensures { (cause : Cause) → counts_touch cause result
-        ≡ counts_by cause (reverse inside.now) (reverse past.now) tid word }
+        ≡ counts_by cause (reverse inside.now) (reverse before.now) tid word }
 {
     match last_touch(inside, tid, word) {
         Touch::ByItself => None,
-        Touch::Untouched => Some(last_touch(past, tid, word)),
+        Touch::Untouched => Some(last_touch(before, tid, word)),
         touch => Some(touch),
     }
 }
 
 /// The parts that a read of `count` words from `first` on adds.
-fn parts_of_read(inside: &[Event], past: &[Event], tid: Tid, first: Word, count: u32) -> SizeParts
+fn parts_of_read(inside: &[Event], before: &[Event], tid: Tid, first: Word, count: u32) -> SizeParts
     ensures { result
         ≡ parts_by (λ cause. count_by
-        (counts_by cause (reverse inside.now) (reverse past.now) tid)
+        (counts_by cause (reverse inside.now) (reverse before.now) tid)
         (range_with_len first count)) }
 {
     let first = u64::from(first.number());
     let mut parts = SizeParts::NONE;
     for k in 0..u64::from(count) {
-        parts = parts.with(counted_touch(inside, past, tid, first + k));
+        parts = parts.with(counted_touch(inside, before, tid, first + k));
     }
     parts
 }
 
 /// The parts of the size of the thread's activation with these events inside, after the past.
-pub fn parts_of(inside: &[Event], past: &[Event], tid: Tid) -> SizeParts
+pub fn parts_of(inside: &[Event], before: &[Event], tid: Tid) -> SizeParts
     requires { IsLight (reverse inside.now) }
-    ensures { result ≡ parts_by (λ cause. part cause (reverse inside.now) (reverse past.now) tid) }
+    ensures { result ≡ parts_by (λ cause. part cause (reverse inside.now) (reverse before.now) tid) }
 {
     let mut parts = SizeParts::NONE;
     for (i, e) in inside.iter().enumerate() {
@@ -120,7 +120,7 @@ pub fn parts_of(inside: &[Event], past: &[Event], tid: Tid) -> SizeParts
         } = *e
         {
             if reader == tid {
-                parts = parts.plus(parts_of_read(&inside[..i], past, tid, first, count));
+                parts = parts.plus(parts_of_read(&inside[..i], before, tid, first, count));
             }
         }
     }

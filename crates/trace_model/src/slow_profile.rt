@@ -27,12 +27,12 @@ pub struct Done {
 }
 
 /// What the profile has of the thread's activation, which ends after the past.
-fn done_of(past: &[Event], tid: Tid, call: Activation) -> Done
-    requires light { IsLight (reverse past.now) }
-    requires begun { call.at < length past.now }
-    ensures { result ≡ done_of (reverse past.now) tid call }
+fn done_of(trace: &[Event], tid: Tid, call: Activation) -> Done
+    requires light { IsLight (reverse trace.now) }
+    requires begun { call.at < length trace.now }
+    ensures { result ≡ done_of (reverse trace.now) tid call }
 {
-    let (until, inside) = past.split_at(call.at + 1);
+    let (until, inside) = trace.split_at(call.at + 1);
     let parts = parts_of(inside, until, tid);
     Done {
         tid,
@@ -48,34 +48,34 @@ fn done_of(past: &[Event], tid: Tid, call: Activation) -> Done
 
 /// Records the innermost `ended` of the thread's open activations, the innermost first.
 fn end_calls(
-    past: &[Event],
+    trace: &[Event],
     tid: Tid,
     calls: &[Activation],
     ended: usize,
     done: &mut Vec<Done>,
 ) -> Result<(), AllocError>
-    requires light { IsLight (reverse past.now) }
-    requires given { reverse calls.now ≡ open_calls (reverse past.now) tid }
+    requires light { IsLight (reverse trace.now) }
+    requires given { reverse calls.now ≡ open_calls (reverse trace.now) tid }
     requires within { ended ≤ length calls.now }
     ensures { OnOk result (done.new.items
-        ≡ done.old.items ++ map (done_of (reverse past.now) tid) (take ended (reverse calls.now))) }
+        ≡ done.old.items ++ map (done_of (reverse trace.now) tid) (take ended (reverse calls.now))) }
 {
     for k in 0..ended {
         let call = calls[calls.len() - 1 - k];
-        done.push(done_of(past, tid, call))?;
+        done.push(done_of(trace, tid, call))?;
     }
     Ok(())
 }
 
 /// Records what the event ends after the past.
-fn end_by(alloc: Global, e: Event, past: &[Event], done: &mut Vec<Done>) -> Result<(), AllocError>
-    requires { IsLight (reverse past.now) }
-    ensures { OnOk result (done.new.items ≡ done.old.items ++ ended e (reverse past.now)) }
+fn end_by(alloc: Global, e: Event, trace: &[Event], done: &mut Vec<Done>) -> Result<(), AllocError>
+    requires { IsLight (reverse trace.now) }
+    ensures { OnOk result (done.new.items ≡ done.old.items ++ ended e (reverse trace.now)) }
 {
     match e {
         Event::Ret { tid, .. } | Event::End { tid } => {
-            let calls = open_calls(alloc, past, tid)?;
-            end_calls(past, tid, &calls, count_ending(&e, tid, &calls), done)
+            let calls = open_calls(alloc, trace, tid)?;
+            end_calls(trace, tid, &calls, count_ending(&e, tid, &calls), done)
         }
         _ => Ok(()),
     }

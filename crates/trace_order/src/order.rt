@@ -149,7 +149,7 @@ impl Order {
         ensures added { (past : List Event) → IsOrderOf self.old past
             → OnOk result (IsOrderOf self.new (e ∷ past)) }
         ensures refused { OnErr result (self.new ≡ self.old) }
-        ensures no_memory { is_start e ≡ false → IsOk result }
+        ensures no_allocation { is_start e ≡ false → IsOk result }
     {
         match e {
             Event::Start { tid, entry } => self.start(tid, entry),

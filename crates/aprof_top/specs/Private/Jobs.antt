@@ -8,7 +8,7 @@ use Rattle.guest_run.specs.declared.run.Ended.{Ended}
 use Rattle.guest_run.specs.declared.run_error.Channel.TheVariants as channel
 use Rattle.guest_run.specs.Output.{Sinks, with_output}
 use Rattle.guest_run.specs.Run.{recording}
-use Rattle.guest_run.specs.Profiled.{Profiled}
+use Rattle.guest_run.specs.ObservedRun.{ObservedRun}
 use Rattle.guest_run.specs.RunEnds.{IsGivenUp, IsWhole, StopsAtPut}
 use Rattle.host_io.specs.Files.{FilesState}
 use Rattle.host_io.specs.Sink.{SinkState, appended}
@@ -56,7 +56,7 @@ IsRefused None = ⊥
 IsRefused (Some why) = Unit {0}
 
 -- How the run of an executable stops before its end: its guest can't begin, a put failed, or memory ran out.
-abbrev pub RunStops : Option SetupError → Profiled → Sinks → Sinks → Ending → Type 0
+abbrev pub RunStops : Option SetupError → ObservedRun → Sinks → Sinks → Ending → Type 0
 RunStops setup run before after (Decided verdict) = (verdict ≡ TooLarge) × IsRefused setup × (after ≡ before)
 RunStops setup run before after (CannotRead source) = ⊥
 RunStops setup run before after CannotWrite = (setup ≡ None) × StopsAtPut channel.Out run.moves before after
@@ -64,24 +64,24 @@ RunStops setup run before after CannotPut = (setup ≡ None) × StopsAtPut chann
 RunStops setup run before after OutOfMemory = (after ≡ before) ⊎ ((setup ≡ None) × IsGivenUp run.moves before after)
 
 -- How the run of an executable ends, by whether its guest can begin and by what is observed of its run.
-abbrev pub ImageRuns : {W : Type 0} → (W → List Event → Type 0) → Option SetupError → Profiled → Sinks → W → Sinks → Result Ended Ending → Type 0
+abbrev pub ImageRuns : {W : Type 0} → (W → List Event → Type 0) → Option SetupError → ObservedRun → Sinks → W → Sinks → Result Ended Ending → Type 0
 ImageRuns Stands setup run before observer after (Ok ended) = (setup ≡ None) × IsWhole Stands run before observer after ended
 ImageRuns Stands setup run before observer after (Err e) = RunStops setup run before after e
 
 -- How the run of an executable ends of which something is made: it came to its end, all of its output was put, and this was made
 -- of it; or it stops.
-abbrev pub ImageIsRun : {A : Type 0} → (A → Profiled → Type 0) → Option SetupError → Profiled → Sinks → Sinks → Result A Ending → Type 0
+abbrev pub ImageIsRun : {A : Type 0} → (A → ObservedRun → Type 0) → Option SetupError → ObservedRun → Sinks → Sinks → Result A Ending → Type 0
 ImageIsRun IsMade setup run before after (Ok made) = (setup ≡ None) × (after ≡ with_output run.moves before) × IsMade made run
 ImageIsRun IsMade setup run before after (Err e) = RunStops setup run before after e
 
 -- the same of an executable with the words of its command and what its guest finds beside it, observed as far as its trace fits
-abbrev pub GuestIsRun : {A : Type 0} → (A → Profiled → Type 0) → (List Event → Bool) → GuestOptions → Executable → GuestFiles → Sinks → Sinks → Result A Ending → Type 0
+abbrev pub GuestIsRun : {A : Type 0} → (A → ObservedRun → Type 0) → (List Event → Bool) → GuestOptions → Executable → GuestFiles → Sinks → Sinks → Result A Ending → Type 0
 GuestIsRun IsMade fits options image files =
     ImageIsRun IsMade (setup_refusal image (arguments options))
     (observed_from fits options files.schedule image.entry (start image (arguments options) files.inputs files.stdin.items))
 
 -- These are the totals of a run, by stamps up to the greatest, its recording and its end.
-pub record IsProfiled (most : ℕ) (profiled : ProfiledRun) (run : Profiled) : Type 0 where
+pub record IsProfiled (most : ℕ) (profiled : ProfiledRun) (run : ObservedRun) : Type 0 where
   pub totals : AreTotalsOf most profiled.totals run.past
   pub recorded : profiled.ended.recording ≡ recording run.moves
   pub finish : profiled.ended.finish ≡ run.finish
@@ -92,12 +92,12 @@ AreTexts None past = IsTooLong past
 AreTexts (Some text) past = IsTextOf text.writer past × (text.entries.keys ≡ entries_begun past)
 
 -- These are the texts of a run's events, and its end.
-pub record IsTraced (traced : TracedRun) (run : Profiled) : Type 0 where
+pub record IsTraced (traced : TracedRun) (run : ObservedRun) : Type 0 where
   pub text : AreTexts traced.text run.past
   pub finish : traced.finish ≡ run.finish
 
 -- this is the report of a run's cache misses
-abbrev pub IsMissed : Form → Executable → Reported → Profiled → Type 0
+abbrev pub IsMissed : Form → Executable → Reported → ObservedRun → Type 0
 IsMissed shape image report run = report ≡ misses_of shape image run.finish run.past
 
 -- what the run comes to with its contexts, unless they are more than can be numbered
@@ -106,7 +106,7 @@ HaveContexts most None past = IsPastNumbers past
 HaveContexts most (Some totals) past = contexts.AreTotalsOf most totals past
 
 -- These are the contexts of a run, by stamps up to the greatest, and its end.
-pub record HasContexts (most : ℕ) (told : ContextsRun) (run : Profiled) : Type 0 where
+pub record HasContexts (most : ℕ) (told : ContextsRun) (run : ObservedRun) : Type 0 where
   pub contexts_are : HaveContexts most told.contexts run.past
   pub finish : told.finish ≡ run.finish
 

@@ -22,7 +22,7 @@ use Rattle.guest_run.specs.declared.turns.Recorder.{Recorder}
 use Rattle.guest_run.specs.Private.CurrentTurn.{IsUnderWay, position, recorded}
 use Rattle.guest_run.specs.Machine.{guest}
 use Rattle.guest_run.specs.Output.{Sinks, with_output}
-use Rattle.guest_run.specs.Profiled.{Profiled, profiled}
+use Rattle.guest_run.specs.ObservedRun.{ObservedRun, observed_run}
 use Rattle.guest_run.specs.Run.{Move, Position, WrittenRun, events_of, recording, run_from}
 use Rattle.guest_run.specs.RunEnds.{IsGivenUp, RunEnds, StopsAtPut}
 
@@ -85,8 +85,8 @@ pub record MayAdvance {W : Type 0} (Stands : W → List Event → Type 0) (fits 
   pub room : length moves < RUN_STEPS
 
 -- what is observed of the run with at most `n` moves
-abbrev pub observed : (List Event → Bool) → List Event → Position MachineState → ℕ → Profiled
-observed fits first start n = profiled fits first (run_from guest n start)
+abbrev pub observed : (List Event → Bool) → List Event → Position MachineState → ℕ → ObservedRun
+observed fits first start n = observed_run fits first (run_from guest n start)
 
 -- `count` moves were made, and the run goes on.
 pub record Remains {W : Type 0} (Stands : W → List Event → Type 0) (fits : List Event → Bool) (first : List Event) (start : Position MachineState)
@@ -111,7 +111,7 @@ pub record GoesOn {W : Type 0} (Stands : W → List Event → Type 0) (fits : Li
   pub output : after ≡ with_output (moves ++ move ∷ []) before
 
 -- This is all that is observed of the run.
-pub record IsOver {W : Type 0} (Stands : W → List Event → Type 0) (p : Profiled) (before : Sinks) (r : Standing) (observer : W) (after : Sinks) (finish : Finish) : Type 0 where
+pub record IsOver {W : Type 0} (Stands : W → List Event → Type 0) (p : ObservedRun) (before : Sinks) (r : Standing) (observer : W) (after : Sinks) (finish : Finish) : Type 0 where
   pub past : Stands observer p.past
   pub output : after ≡ with_output p.moves before
   pub turns : recorded r.recorder [] ≡ recording p.moves

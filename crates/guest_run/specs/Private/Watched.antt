@@ -6,7 +6,7 @@ use Rattle.trace_model.specs.Cut.{cut, past_after}
 use Rattle.guest_run.specs.declared.turn_status.TurnStatus.TheVariants.{Ends}
 use Rattle.guest_run.specs.Machine.{Progress, Machine}
 use Rattle.guest_run.specs.Run.{WrittenRun, events_of}
-use Rattle.guest_run.specs.Profiled.{Profiled}
+use Rattle.guest_run.specs.ObservedRun.{ObservedRun}
 
 abbrev pub watched_step : {State : Type 0} → (List Event → Bool) → List Event → Progress State → Progress (List Event × State)
 watched_step fits past p =
@@ -26,5 +26,5 @@ watched fits machine = record {
 }
 
 -- a run with the cut of its trace
-abbrev pub with_cut : (List Event → Bool) → List Event → WrittenRun → Profiled
+abbrev pub with_cut : (List Event → Bool) → List Event → WrittenRun → ObservedRun
 with_cut fits past run = record { moves = run.moves; past = cut fits (past_after past (events_of run.moves)); finish = run.finish }

@@ -25,7 +25,7 @@ returns-in-Ok-clause-filled c =
     let place = subst (λ (vs : List (Vec Point Global)). IsPlaceOf (λ p. p.size) (map (λ b. b.items) vs) c.args.ended.now.size c.in-Ok.place.block c.in-Ok.place.at) c.deref.ensures.value c.in-Ok.ensures in
     filled_changed (λ b. b.items) (λ (q : Point). q.size) c.args.points.now.items c.args.ended.now.size c.in-Ok.place.block c.in-Ok.place.at c.index_mut-block.result.now _ c.add_one.new.self c.requires.filled place c.index_mut-block.ensures.value refl
 
-pub returns-in-Err-clause-no_memory : goal.returns-in-Err-clause-no_memory
-returns-in-Err-clause-no_memory c place stands =
+pub returns-in-Err-clause-no_allocation : goal.returns-in-Err-clause-no_allocation
+returns-in-Err-clause-no_allocation c place stands =
     let gap = subst (λ (vs : List (Vec Point Global)). IsGapOf (λ p. p.size) (map (λ b. b.items) vs) c.args.ended.now.size c.in-Err.place.block c.in-Err.place.at) c.deref.ensures.value c.in-Err.ensures in
     absurd (nowhere (λ (q : Point). q.size) (map (λ b. b.items) c.args.points.now.items) c.args.ended.now.size c.in-Err.place.block c.in-Err.place.at place gap stands)

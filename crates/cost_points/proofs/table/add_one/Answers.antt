@@ -31,13 +31,13 @@ returns-in-Ok-clause-ok c =
     ap (set c.args.routines.now.items c.in-Ok.at) made
     ∙ put_at (λ (r : Routine). r.entry) c.args.ended.now.entry (point_added p) (new_routine c.args.ended.now.entry p) c.args.routines.now.items c.in-Ok.at _ c.requires.profile.entries place c.index_mut-routine.ensures.value)
 
-pub returns-in-Ok-clause-no_memory : goal.returns-in-Ok-clause-no_memory
-returns-in-Ok-clause-no_memory c at place r there entry point =
+pub returns-in-Ok-clause-no_allocation : goal.returns-in-Ok-clause-no_allocation
+returns-in-Ok-clause-no_allocation c at place r there entry point =
     let found = subst (λ (rs : List Routine). IsAt (map (λ r. r.entry) rs) c.args.ended.now.entry c.in-Ok.at) c.deref.ensures.value c.in-Ok.ensures in
     let same = the_item (λ (r : Routine). r.entry) c.args.routines.now.items c.args.ended.now.entry at c.in-Ok.at r _ c.requires.profile.entries there entry found c.index_mut-routine.ensures.value in
-    c.add_one.ensures.no_memory place (subst (λ (q : Routine). IsAt (map (λ p. p.size) q.points) c.args.ended.now.size place) (sym same) point)
+    c.add_one.ensures.no_allocation place (subst (λ (q : Routine). IsAt (map (λ p. p.size) q.points) c.args.ended.now.size place) (sym same) point)
 
-pub returns-in-Err-clause-no_memory : goal.returns-in-Err-clause-no_memory
-returns-in-Err-clause-no_memory c at place r there entry point =
+pub returns-in-Err-clause-no_allocation : goal.returns-in-Err-clause-no_allocation
+returns-in-Err-clause-no_allocation c at place r there entry point =
     let goes = subst (λ (rs : List Routine). IsInsertionPoint (map (λ r. r.entry) rs) c.args.ended.now.entry c.in-Err.at) c.deref.ensures.value c.in-Err.ensures in
     absurd (apart _ _ at c.in-Err.at (at_key (λ (r : Routine). r.entry) c.args.routines.now.items c.args.ended.now.entry at r there entry) goes)

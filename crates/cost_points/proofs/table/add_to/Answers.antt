@@ -37,18 +37,18 @@ returns-in_ok-insert-in-Err-clause-ok c =
     ∙ ap (insert c.args.routines.now.items c.in-Err.at) c.in_ok-routine-in-Err.ensures
     ∙ put_in (λ (r : Routine). r.entry) c.args.entry (point_added c.args.point) (new_routine c.args.entry c.args.point) c.args.routines.now.items c.in-Err.at place
 
-pub returns-in-Ok-clause-no_memory : goal.returns-in-Ok-clause-no_memory
-returns-in-Ok-clause-no_memory c at place r there entry point =
+pub returns-in-Ok-clause-no_allocation : goal.returns-in-Ok-clause-no_allocation
+returns-in-Ok-clause-no_allocation c at place r there entry point =
     let found = subst (λ (rs : List Routine). IsAt (map (λ r. r.entry) rs) c.args.entry c.in-Ok.at) c.deref.ensures.value c.in-Ok.ensures in
     let same = the_item (λ (r : Routine). r.entry) c.args.routines.now.items c.args.entry at c.in-Ok.at r _ c.requires.profile.entries there entry found c.index_mut-routine.ensures.value in
-    c.add.ensures.no_memory place (subst (λ (q : Routine). IsAt (map (λ p. p.size) q.points) c.args.point.size place) (sym same) point)
+    c.add.ensures.no_allocation place (subst (λ (q : Routine). IsAt (map (λ p. p.size) q.points) c.args.point.size place) (sym same) point)
 
-pub returns-in_err-routine-in-Err-clause-no_memory : goal.returns-in_err-routine-in-Err-clause-no_memory
-returns-in_err-routine-in-Err-clause-no_memory c at place r there entry point =
+pub returns-in_err-routine-in-Err-clause-no_allocation : goal.returns-in_err-routine-in-Err-clause-no_allocation
+returns-in_err-routine-in-Err-clause-no_allocation c at place r there entry point =
     let goes = subst (λ (rs : List Routine). IsInsertionPoint (map (λ r. r.entry) rs) c.args.entry c.in-Err.at) c.deref.ensures.value c.in-Err.ensures in
     absurd (apart _ _ at c.in-Err.at (at_key (λ (r : Routine). r.entry) c.args.routines.now.items c.args.entry at r there entry) goes)
 
-pub returns-in_err-insert-in-Err-clause-no_memory : goal.returns-in_err-insert-in-Err-clause-no_memory
-returns-in_err-insert-in-Err-clause-no_memory c at place r there entry point =
+pub returns-in_err-insert-in-Err-clause-no_allocation : goal.returns-in_err-insert-in-Err-clause-no_allocation
+returns-in_err-insert-in-Err-clause-no_allocation c at place r there entry point =
     let goes = subst (λ (rs : List Routine). IsInsertionPoint (map (λ r. r.entry) rs) c.args.entry c.in-Err.at) c.deref.ensures.value c.in-Err.ensures in
     absurd (apart _ _ at c.in-Err.at (at_key (λ (r : Routine). r.entry) c.args.routines.now.items c.args.entry at r there entry) goes)

@@ -1,5 +1,5 @@
 use Rattle.guest_run.specs.Machine.{guest}
-use Rattle.guest_run.proofs.Bounds.{ends_deep, profiles_part, records_profiled_turns, records_turns, spends_budget, stays_within}
+use Rattle.guest_run.proofs.Bounds.{ends_deep, observes_part, records_observed_turns, records_turns, spends_budget, stays_within}
 use Rattle.guest_run.proofs.Counted.{counts_steps, steps_within}
 use Rattle.guest_run.proofs.laws.runs_stay_within.Goals as goal
 
@@ -12,11 +12,11 @@ returns-clause-spent c = spends_budget
 pub returns-clause-turns : goal.returns-clause-turns
 returns-clause-turns c = records_turns guest
 
-pub returns-clause-profiled_turns : goal.returns-clause-profiled_turns
-returns-clause-profiled_turns c = records_profiled_turns
+pub returns-clause-observed_turns : goal.returns-clause-observed_turns
+returns-clause-observed_turns c = records_observed_turns
 
-pub returns-clause-profiled : goal.returns-clause-profiled
-returns-clause-profiled c = profiles_part
+pub returns-clause-observed_run : goal.returns-clause-observed_run
+returns-clause-observed_run c = observes_part
 
 pub returns-clause-deep : goal.returns-clause-deep
 returns-clause-deep c = ends_deep

@@ -6,7 +6,7 @@ use Rattle.guest_run.specs.Private.Going.{IsCounted, TurnEnds, standing_of}
 use Rattle.guest_run.specs.declared.run.Turned.{Turned}
 use Rattle.guest_run.specs.Machine.{guest}
 use Rattle.guest_run.specs.Output.{sinks}
-use Rattle.guest_run.specs.Profiled.{first_past, profiled}
+use Rattle.guest_run.specs.ObservedRun.{first_past, observed_run}
 use Rattle.guest_run.specs.Run.{run, start}
 use Rattle.guest_run.proofs.Ends.{ends_over, ends_spent, not_begun, remains_first, remains_same, turn_same}
 use Rattle.guest_run.proofs.run.run_guest.Goals as goal
@@ -14,13 +14,13 @@ use Rattle.guest_run.proofs.run.run_guest.Goals as goal
 pub returns-in_err-observe_start-clause-ends : goal.returns-in_err-observe_start-clause-ends
 returns-in_err-observe_start-clause-ends g c =
     let p = err_from_is_err_and c.from_residual.result c.from_residual.ensures.1 in
-    let whole = profiled (g.W.Observer.fits c.args.observer.now) (first_past c.args.machine.entry) (run guest c.args.turns c.args.budget (machine_of c.args.machine)) in
+    let whole = observed_run (g.W.Observer.fits c.args.observer.now) (first_past c.args.machine.entry) (run guest c.args.turns c.args.budget (machine_of c.args.machine)) in
     rw (p.1, p.2) (not_begun whole (sinks (g.O.Sink.state c.args.out.now) (g.E.Sink.state c.args.err.now)))
 
 pub returns-in_err-runner-clause-ends : goal.returns-in_err-runner-clause-ends
 returns-in_err-runner-clause-ends g c =
     let p = err_from_is_err_and c.from_residual-in_err-runner.result c.from_residual-in_err-runner.ensures.1 in
-    let whole = profiled (g.W.Observer.fits c.args.observer.now) (first_past c.args.machine.entry) (run guest c.args.turns c.args.budget (machine_of c.args.machine)) in
+    let whole = observed_run (g.W.Observer.fits c.args.observer.now) (first_past c.args.machine.entry) (run guest c.args.turns c.args.budget (machine_of c.args.machine)) in
     rw (p.1, p.2) (not_begun whole (sinks (g.O.Sink.state c.args.out.now) (g.E.Sink.state c.args.err.now)))
 
 pub run-init : goal.run-init

@@ -2,7 +2,7 @@ use Rattle.std.proofs.Common.{◌≡◌, ◌≤◌, ◌-◌}
 use Rattle.guest_machine.specs.Kept.{machine_of}
 use Rattle.guest_run.specs.Private.Going.{Remains, standing_of}
 use Rattle.guest_run.specs.Output.{sinks}
-use Rattle.guest_run.specs.Profiled.{first_past}
+use Rattle.guest_run.specs.ObservedRun.{first_past}
 use Rattle.guest_run.specs.Run.{start}
 use Rattle.guest_run.proofs.run.run_guest.Given as goal
 

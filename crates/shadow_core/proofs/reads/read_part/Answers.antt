@@ -98,20 +98,20 @@ returns-clause-read g c =
     let ps = places_are c.shadow_mut.result.now.pages (pages_of old.threads t) write marks c.args.first n
     (length c.row_of-write.result.now) (map f c.row_of-write.result.now) c.row_of-mark.result.now (ap (λ (s : Pages). s.pages) c.shadow_mut.ensures.value) c.row_of-write.ensures.count c.row_of-write.ensures.row c.row_of-mark.ensures.row in
     let counts = subst (λ (qs : List Place). IsBulk (f c.start_at-start.result) qs bulk) ps c.read_page-bulk.ensures.counts in
-    let stamps = stamps_from c.shadow_mut.result.now.pages (pages_of old.threads t) pages c.args.first (length c.row_of-write.result.now) n (f c.args.now) (bulk.old == 0) (ap (λ (s : Pages). s.pages) c.shadow_mut.ensures.value) c.row_of-write.ensures.count c.read_page-bulk.ensures.stamps in
+    let stamps = stamps_from c.shadow_mut.result.now.pages (pages_of old.threads t) pages c.args.first (length c.row_of-write.result.now) n (f c.args.stamp) (bulk.old == 0) (ap (λ (s : Pages). s.pages) c.shadow_mut.ensures.value) c.row_of-write.ensures.count c.read_page-bulk.ensures.stamps in
     let covered : (w : ℕ) → covers pages w ≡ covers (pages_of old.threads t) w = λ w. c.read_page-bulk.ensures.covered w ∙ ap (λ (s : Pages). covers s.pages w) c.shadow_mut.ensures.value in
     let size = ap (λ (s : Stack). length s.list) c.frames.ensures in
     elim c.if-bulk-eq0.branch [
       | then-bulk-eq0 w ↦
-          subst (λ (l : Live). IsRead old l t write marks c.args.first n (f c.args.now)) (sym w.threads-is)
-          (read_at_once old t pages write marks c.args.first n (f c.args.now) bulk c.requires.lives stamps covered
+          subst (λ (l : Live). IsRead old l t write marks c.args.first n (f c.args.stamp)) (sym w.threads-is)
+          (read_at_once old t pages write marks c.args.first n (f c.args.stamp) bulk c.requires.lives stamps covered
           w.add_sum.new.self (c.depth-top.result - 1) (f c.start_at-start.result) w.sums_of_bulk.result c.frames-2.result.now.list
           w.if-bulk-eq0.true w.sums_of_bulk.ensures
           (record { threads = w.add_sum.ensures.threads; calls = w.add_sum.ensures.calls; kept = w.add_sum.ensures.kept; marks = w.add_sum.ensures.marks })
           counts (ap (λ (s : Stack). s.list) c.frames-2.ensures) c.start_at-start.ensures.start c.start_at-start.ensures.rising c.requires.starts
           (omega (arith, size, c.depth-top.ensures, c.requires.depth)))
       | else-bulk-eq0 w ↦
-          subst (λ (l : Live). IsRead old l t write marks c.args.first n (f c.args.now)) (sym w.threads-is)
-          (read_singly old t pages write marks c.args.first n (f c.args.now) bulk c.requires.lives stamps covered
+          subst (λ (l : Live). IsRead old l t write marks c.args.first n (f c.args.stamp)) (sym w.threads-is)
+          (read_singly old t pages write marks c.args.first n (f c.args.stamp) bulk c.requires.lives stamps covered
           w.read_words.new.threads w.if-bulk-eq0.false (w.read_words.ensures marks))
     ]

@@ -10,24 +10,24 @@ use Rattle.shadow_core.proofs.reads.read_parts.Goals as goal
 pub loop-done-init : goal.loop-done-init
 loop-done-init g c = record {
   few = omega arith;
-  read = nothing_read c.args.threads.now c.args.tid (stamp_at c.args.writes.now.pages) (stamp_at c.args.marks.now.pages) c.args.first (g.S.Stamp.number_of c.args.now) c.requires.lives;
+  read = nothing_read c.args.threads.now c.args.tid (stamp_at c.args.writes.now.pages) (stamp_at c.args.marks.now.pages) c.args.first (g.S.Stamp.number_of c.args.stamp) c.requires.lives;
   thread = refl;
   kernel = refl;
 }
 
 pub read_part-more-requires-clause-depth : goal.read_part-more-requires-clause-depth
 read_part-more-requires-clause-depth g c =
-    let same = length_read c.args.threads.now c.loop-done.threads c.args.tid (stamp_at c.args.writes.now.pages) (stamp_at c.args.marks.now.pages) c.args.first c.loop-done.done (g.S.Stamp.number_of c.args.now) c.requires.lives c.loop-done.invariant.read in
+    let same = length_read c.args.threads.now c.loop-done.threads c.args.tid (stamp_at c.args.writes.now.pages) (stamp_at c.args.marks.now.pages) c.args.first c.loop-done.done (g.S.Stamp.number_of c.args.stamp) c.requires.lives c.loop-done.invariant.read in
     omega (arith, same, c.requires.depth)
 
 pub read_part-more-requires-clause-starts : goal.read_part-more-requires-clause-starts
 read_part-more-requires-clause-starts g c =
-    let same = starts_read c.args.threads.now c.loop-done.threads c.args.tid (stamp_at c.args.writes.now.pages) (stamp_at c.args.marks.now.pages) c.args.first c.loop-done.done (g.S.Stamp.number_of c.args.now) c.requires.lives c.loop-done.invariant.read in
+    let same = starts_read c.args.threads.now c.loop-done.threads c.args.tid (stamp_at c.args.writes.now.pages) (stamp_at c.args.marks.now.pages) c.args.first c.loop-done.done (g.S.Stamp.number_of c.args.stamp) c.requires.lives c.loop-done.invariant.read in
     subst (All (λ s. 0 < s)) (sym same) c.requires.starts
 
 pub read_part-more-requires-clause-sums : goal.read_part-more-requires-clause-sums
 read_part-more-requires-clause-sums g c =
-    let after = read_within c.args.threads.now c.loop-done.threads c.args.tid (stamp_at c.args.writes.now.pages) (stamp_at c.args.marks.now.pages) c.args.first c.loop-done.done (g.S.Stamp.number_of c.args.now) c.requires.lives c.loop-done.invariant.read (2 ^ 62) c.requires.sums in
+    let after = read_within c.args.threads.now c.loop-done.threads c.args.tid (stamp_at c.args.writes.now.pages) (stamp_at c.args.marks.now.pages) c.args.first c.loop-done.done (g.S.Stamp.number_of c.args.stamp) c.requires.lives c.loop-done.invariant.read (2 ^ 62) c.requires.sums in
     within_more (2 ^ 62 + c.loop-done.done) (2 ^ 62 + 2 ^ 30) (frames_of c.loop-done.threads.threads c.args.tid) (omega (arith, c.loop-done.invariant.few, c.requires.end)) after
 
 pub overflow_add-found : goal.overflow_add-found
@@ -53,7 +53,7 @@ loop-done-preserved g c =
     let t = c.args.tid in
     let write = stamp_at c.args.writes.now.pages in
     let marks = stamp_at c.args.marks.now.pages in
-    let stamp = g.S.Stamp.number_of c.args.now in
+    let stamp = g.S.Stamp.number_of c.args.stamp in
     let size = c.part_size-size.result in
     let one = c.loop-done.invariant.read in
     record {

@@ -9,7 +9,7 @@ use Rattle.shadow_core.proofs.reads.read_parts.Given as goal
 abbrev pub invariant-loop-done : goal.invariant-loop-done
 invariant-loop-done g l = record {
   few : l.done ≤ l.count;
-  read : IsRead l.fn.threads l.threads l.tid (stamp_at l.writes.pages) (stamp_at l.marks.pages) l.first l.done (g.S.Stamp.number_of l.now);
+  read : IsRead l.fn.threads l.threads l.tid (stamp_at l.writes.pages) (stamp_at l.marks.pages) l.first l.done (g.S.Stamp.number_of l.stamp);
   thread : l.found.thread ≡ count_by is_by_thread (places_at (stamp_at (pages_of l.fn.threads.threads l.tid)) (stamp_at l.writes.pages) (stamp_at l.marks.pages) (range_with_len l.first l.done));
   kernel : l.found.kernel ≡ count_by is_by_kernel (places_at (stamp_at (pages_of l.fn.threads.threads l.tid)) (stamp_at l.writes.pages) (stamp_at l.marks.pages) (range_with_len l.first l.done));
 }

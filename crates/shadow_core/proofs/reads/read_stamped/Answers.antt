@@ -28,7 +28,7 @@ returns g c = λ writes marks written.
     let t = c.args.tid in
     let p : Place = record { own = f c.args.own; write = f c.args.write; mark = 0 } in
     let lent = c.shadow_mut.ensures.value in
-    word_read old mid t writes marks c.args.w (f c.args.now) p c.set_at.new.self.pages
+    word_read old mid t writes marks c.args.w (f c.args.stamp) p c.set_at.new.self.pages
     c.requires.lives c.read_frames.ensures.changed
     c.requires.own written c.read_frames.ensures.frames
     c.set_at.ensures.this

@@ -6,15 +6,15 @@ use Rattle.shadow_core.specs.Private.Reading.{IsRead}
 use Rattle.shadow_core.proofs.reads.read_words.Goals as goal
 
 pub loop-i-init : goal.loop-i-init
-loop-i-init g c = λ marks. nothing_read c.args.threads.now c.args.tid (stamp_at c.args.writes.now.pages) marks c.args.first (g.S.Stamp.number_of c.args.now) c.requires.lives
+loop-i-init g c = λ marks. nothing_read c.args.threads.now c.args.tid (stamp_at c.args.writes.now.pages) marks c.args.first (g.S.Stamp.number_of c.args.stamp) c.requires.lives
 
 pub read_word-requires-clause-lives : goal.read_word-requires-clause-lives
 read_word-requires-clause-lives g c =
-    lives_read c.args.threads.now c.loop-i.threads c.args.tid (stamp_at c.args.writes.now.pages) (λ l. 0) c.args.first c.loop-i.i (g.S.Stamp.number_of c.args.now) c.requires.lives (c.loop-i.invariant (λ l. 0))
+    lives_read c.args.threads.now c.loop-i.threads c.args.tid (stamp_at c.args.writes.now.pages) (λ l. 0) c.args.first c.loop-i.i (g.S.Stamp.number_of c.args.stamp) c.requires.lives (c.loop-i.invariant (λ l. 0))
 
 pub read_word-requires-clause-some : goal.read_word-requires-clause-some
 read_word-requires-clause-some g c =
-    omega (arith, c.requires.some, length_read c.args.threads.now c.loop-i.threads c.args.tid (stamp_at c.args.writes.now.pages) (λ l. 0) c.args.first c.loop-i.i (g.S.Stamp.number_of c.args.now) c.requires.lives (c.loop-i.invariant (λ l. 0)))
+    omega (arith, c.requires.some, length_read c.args.threads.now c.loop-i.threads c.args.tid (stamp_at c.args.writes.now.pages) (λ l. 0) c.args.first c.loop-i.i (g.S.Stamp.number_of c.args.stamp) c.requires.lives (c.loop-i.invariant (λ l. 0)))
 
 pub read_word-requires-clause-covered : goal.read_word-requires-clause-covered
 read_word-requires-clause-covered g c =
@@ -23,14 +23,14 @@ read_word-requires-clause-covered g c =
 
 pub read_word-requires-clause-sums : goal.read_word-requires-clause-sums
 read_word-requires-clause-sums g c =
-    let after = read_within c.args.threads.now c.loop-i.threads c.args.tid (stamp_at c.args.writes.now.pages) (λ l. 0) c.args.first c.loop-i.i (g.S.Stamp.number_of c.args.now) c.requires.lives (c.loop-i.invariant (λ l. 0)) (2 ^ 62 + 2 ^ 30) c.requires.sums in
+    let after = read_within c.args.threads.now c.loop-i.threads c.args.tid (stamp_at c.args.writes.now.pages) (λ l. 0) c.args.first c.loop-i.i (g.S.Stamp.number_of c.args.stamp) c.requires.lives (c.loop-i.invariant (λ l. 0)) (2 ^ 62 + 2 ^ 30) c.requires.sums in
     within_more (2 ^ 62 + 2 ^ 30 + c.loop-i.i) (2 ^ 62 + 2 ^ 31) (frames_of c.loop-i.threads.threads c.args.tid) (omega arith) after
 
 pub loop-i-preserved : goal.loop-i-preserved
 loop-i-preserved g c = λ marks.
-    read_on c.args.threads.now c.loop-i.threads c.args.tid (stamp_at c.args.writes.now.pages) marks c.args.first c.loop-i.i (g.S.Stamp.number_of c.args.now) c.requires.lives (c.loop-i.invariant marks)
+    read_on c.args.threads.now c.loop-i.threads c.args.tid (stamp_at c.args.writes.now.pages) marks c.args.first c.loop-i.i (g.S.Stamp.number_of c.args.stamp) c.requires.lives (c.loop-i.invariant marks)
     c.read_word.new.threads c.word_at.result 1 c.word_at.ensures (c.read_word.ensures marks)
 
 pub returns : goal.returns
 returns g c = λ marks.
-    subst (λ (n : ℕ). IsRead c.args.threads.now c.loop-i.threads c.args.tid (stamp_at c.args.writes.now.pages) marks c.args.first n (g.S.Stamp.number_of c.args.now)) (omega arith) (c.loop-i.invariant marks)
+    subst (λ (n : ℕ). IsRead c.args.threads.now c.loop-i.threads c.args.tid (stamp_at c.args.writes.now.pages) marks c.args.first n (g.S.Stamp.number_of c.args.stamp)) (omega arith) (c.loop-i.invariant marks)

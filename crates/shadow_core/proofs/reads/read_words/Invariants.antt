@@ -4,4 +4,4 @@ use Rattle.shadow_core.specs.Private.Reading.{IsRead}
 use Rattle.shadow_core.proofs.reads.read_words.Given as goal
 
 abbrev pub invariant-loop-i : goal.invariant-loop-i
-invariant-loop-i g l = (marks : ℕ → ℕ) → IsRead l.fn.threads l.threads l.tid (stamp_at l.writes.pages) marks l.first l.i (g.S.Stamp.number_of l.now)
+invariant-loop-i g l = (marks : ℕ → ℕ) → IsRead l.fn.threads l.threads l.tid (stamp_at l.writes.pages) marks l.first l.i (g.S.Stamp.number_of l.stamp)

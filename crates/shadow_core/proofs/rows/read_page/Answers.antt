@@ -21,10 +21,10 @@ returns-clause-stamps g c = λ w.
     let f = g.S.Stamp.number_of in
     let row = c.page_of_mut-row.result.now in
     let new = c.read_row.new.row in
-    page_read c.args.pages.now.pages c.args.first (length c.args.write.now) (map f row) (map f new) (c.read_row.result.old == 0) (f c.args.now)
+    page_read c.args.pages.now.pages c.args.first (length c.args.write.now) (map f row) (map f new) (c.read_row.result.old == 0) (f c.args.stamp)
     c.page_of_mut-row.ensures.value (length-map new f ∙ c.read_row.ensures.count ∙ sym (length-map row f)) c.requires.within
     (λ k. c.read_row.ensures.stamps k
-    ∙ ap (λ m. cond ((c.read_row.result.old == 0) && (nat_le (m % 1024) k && nat_lt k (m % 1024 + length c.args.write.now))) (f c.args.now) (get_or (map f row) k 0)) c.number.ensures.same) w
+    ∙ ap (λ m. cond ((c.read_row.result.old == 0) && (nat_le (m % 1024) k && nat_lt k (m % 1024 + length c.args.write.now))) (f c.args.stamp) (get_or (map f row) k 0)) c.number.ensures.same) w
 
 pub returns-clause-covered : goal.returns-clause-covered
 returns-clause-covered g c = λ w. written_cover c.args.pages.now.pages (c.args.first / 1024) (map g.S.Stamp.number_of c.read_row.new.row) w

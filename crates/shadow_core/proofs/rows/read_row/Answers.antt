@@ -20,4 +20,4 @@ pub returns-clause-stamps : goal.returns-clause-stamps
 returns-clause-stamps g c = λ k.
     let n = length c.args.write.now in
     let a = c.args.at in
-    part_read g.S.Stamp.number_of c.args.now a n (a + n - a) c.args.row.now c.bulk_read.new.own (c.bulk_read.result.old == 0) k (omega arith) c.requires.within c.bulk_read.ensures.filled
+    part_read g.S.Stamp.number_of c.args.stamp a n (a + n - a) c.args.row.now c.bulk_read.new.own (c.bulk_read.result.old == 0) k (omega arith) c.requires.within c.bulk_read.ensures.filled

@@ -24,6 +24,6 @@ returns-clause-access g c =
     let was = c.shadow_mut.ensures.value in
     let are = pages_changed old (with_pages old t pages) t (frames_of old.threads t) pages c.requires.lives (lent_changed old t pages c.requires.lives) in
     record {
-      stamps = λ w. ap (λ ps. stamp_at ps w) are ∙ c.stamp_word.ensures.stamps w ∙ ap (λ (s : Pages). stamped (g.S.Stamp.number_of c.args.now) c.args.w 1 (stamp_at s.pages) w) was;
+      stamps = λ w. ap (λ ps. stamp_at ps w) are ∙ c.stamp_word.ensures.stamps w ∙ ap (λ (s : Pages). stamped (g.S.Stamp.number_of c.args.stamp) c.args.w 1 (stamp_at s.pages) w) was;
       covered = λ w. ap (λ ps. covers ps w) are ∙ c.stamp_word.ensures.covered w ∙ ap (λ (s : Pages). covers s.pages w) was;
     }

@@ -5,4 +5,4 @@ use Rattle.trace_model.specs.Private.SizeParts.{parts_by}
 use Rattle.trace_model.proofs.sizes.parts_of.Given as goal
 
 abbrev pub invariant-loop-i : goal.invariant-loop-i
-invariant-loop-i l = l.parts ≡ parts_by (λ cause. part cause (reverse (take l.i l.inside)) (reverse l.past) l.tid)
+invariant-loop-i l = l.parts ≡ parts_by (λ cause. part cause (reverse (take l.i l.inside)) (reverse l.before) l.tid)

@@ -9,23 +9,23 @@ use Rattle.trace_model.proofs.sizes.parts_of_read.Goals as goal
 
 pub with-parts-requires-clause-plain : goal.with-parts-requires-clause-plain
 with-parts-requires-clause-plain c =
-    let counts = counts_by Plain (reverse c.args.inside.now) (reverse c.args.past.now) c.args.tid in
+    let counts = counts_by Plain (reverse c.args.inside.now) (reverse c.args.before.now) c.args.tid in
     omega (arith, ap (λ (p : SizeParts). p.plain) c.loop-k.invariant, count_range-le counts c.from-first.result c.loop-k.k)
 
 pub with-parts-requires-clause-thread : goal.with-parts-requires-clause-thread
 with-parts-requires-clause-thread c =
-    let counts = counts_by OtherThread (reverse c.args.inside.now) (reverse c.args.past.now) c.args.tid in
+    let counts = counts_by OtherThread (reverse c.args.inside.now) (reverse c.args.before.now) c.args.tid in
     omega (arith, ap (λ (p : SizeParts). p.thread) c.loop-k.invariant, count_range-le counts c.from-first.result c.loop-k.k)
 
 pub with-parts-requires-clause-kernel : goal.with-parts-requires-clause-kernel
 with-parts-requires-clause-kernel c =
-    let counts = counts_by Kernel (reverse c.args.inside.now) (reverse c.args.past.now) c.args.tid in
+    let counts = counts_by Kernel (reverse c.args.inside.now) (reverse c.args.before.now) c.args.tid in
     omega (arith, ap (λ (p : SizeParts). p.kernel) c.loop-k.invariant, count_range-le counts c.from-first.result c.loop-k.k)
 
 pub loop-k-preserved : goal.loop-k-preserved
 loop-k-preserved c =
     let first = c.from-first.result in
-    let counts : Cause → ℕ → Bool = λ cause. counts_by cause (reverse c.args.inside.now) (reverse c.args.past.now) c.args.tid in
+    let counts : Cause → ℕ → Bool = λ cause. counts_by cause (reverse c.args.inside.now) (reverse c.args.before.now) c.args.tid in
     let so_far : Cause → ℕ = λ cause. count_by (counts cause) (range_with_len first c.loop-k.k) in
     c.with-parts.ensures
     ∙ parts_same (λ cause. part_by cause c.loop-k.parts + one_if (counts_touch cause c.counted_touch.result)) (λ cause. count_by (counts cause) (range_with_len first (c.loop-k.k + 1)))

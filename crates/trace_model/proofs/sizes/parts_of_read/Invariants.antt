@@ -6,4 +6,4 @@ use Rattle.trace_model.specs.Private.SizeParts.{parts_by}
 use Rattle.trace_model.proofs.sizes.parts_of_read.Given as goal
 
 abbrev pub invariant-loop-k : goal.invariant-loop-k
-invariant-loop-k l = l.parts ≡ parts_by (λ cause. count_by (counts_by cause (reverse l.inside) (reverse l.past) l.tid) (range_with_len l.first l.k))
+invariant-loop-k l = l.parts ≡ parts_by (λ cause. count_by (counts_by cause (reverse l.inside) (reverse l.before) l.tid) (range_with_len l.first l.k))

@@ -8,27 +8,27 @@ use Rattle.trace_model.proofs.SizeParts.{sum_fits}
 use Rattle.trace_model.proofs.slow_profile.done_of.Goals as goal
 
 pub parts_of-parts-requires : goal.parts_of-parts-requires
-parts_of-parts-requires c = part_light c.args.past.now (c.args.call.at + 1) c.split_at.result.1.now c.split_at.ensures.back c.requires.light
+parts_of-parts-requires c = part_light c.args.trace.now (c.args.call.at + 1) c.split_at.result.1.now c.split_at.ensures.back c.requires.light
 
 pub cost_of-requires : goal.cost_of-requires
-cost_of-requires c = part_light c.args.past.now (c.args.call.at + 1) c.split_at.result.1.now c.split_at.ensures.back c.requires.light
+cost_of-requires c = part_light c.args.trace.now (c.args.call.at + 1) c.split_at.result.1.now c.split_at.ensures.back c.requires.light
 
 pub bare_of-requires : goal.bare_of-requires
-bare_of-requires c = part_light c.args.past.now (c.args.call.at + 1) c.split_at.result.1.now c.split_at.ensures.back c.requires.light
+bare_of-requires c = part_light c.args.trace.now (c.args.call.at + 1) c.split_at.result.1.now c.split_at.ensures.back c.requires.light
 
 pub overflow_add-result : goal.overflow_add-result
 overflow_add-result c =
-    let light = part_light c.args.past.now (c.args.call.at + 1) c.split_at.result.1.now c.split_at.ensures.back c.requires.light in
+    let light = part_light c.args.trace.now (c.args.call.at + 1) c.split_at.result.1.now c.split_at.ensures.back c.requires.light in
     omega (arith, sum_fits (reverse c.split_at.result.1.now) (reverse c.split_at.result.0.now) c.args.tid c.parts_of-parts.result c.parts_of-parts.ensures light)
 
 pub overflow_add-result-2 : goal.overflow_add-result-2
 overflow_add-result-2 c =
-    let light = part_light c.args.past.now (c.args.call.at + 1) c.split_at.result.1.now c.split_at.ensures.back c.requires.light in
+    let light = part_light c.args.trace.now (c.args.call.at + 1) c.split_at.result.1.now c.split_at.ensures.back c.requires.light in
     omega (arith, sum_fits (reverse c.split_at.result.1.now) (reverse c.split_at.result.0.now) c.args.tid c.parts_of-parts.result c.parts_of-parts.ensures light)
 
 pub returns : goal.returns
 returns c =
-    let past = c.args.past.now in
+    let past = c.args.trace.now in
     let at = c.args.call.at in
     let t = c.args.tid in
     let inside_is = ap reverse c.split_at.ensures.back ∙ sym (since-reverse past at) in

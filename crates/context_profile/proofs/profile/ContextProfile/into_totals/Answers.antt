@@ -24,11 +24,11 @@ returns-clause-totals g c = λ past kept.
       tree = tree;
     }
 
-pub returns-in_err-settle-clause-no_memory : goal.returns-in_err-settle-clause-no_memory
-returns-in_err-settle-clause-no_memory g c = λ past kept many. let no = c.in_err-settle.ensures.no_memory past kept many in absurd (cc)
+pub returns-in_err-settle-clause-no_allocation : goal.returns-in_err-settle-clause-no_allocation
+returns-in_err-settle-clause-no_allocation g c = λ past kept many. let no = c.in_err-settle.ensures.no_allocation past kept many in absurd (cc)
 
-pub returns-in_err-totals-clause-no_memory : goal.returns-in_err-totals-clause-no_memory
-returns-in_err-totals-clause-no_memory g c = λ past kept many.
+pub returns-in_err-totals-clause-no_allocation : goal.returns-in_err-totals-clause-no_allocation
+returns-in_err-totals-clause-no_allocation g c = λ past kept many.
     let p = subst (λ (k : Kept). AreContextsOf g.S.Stamp.MAX k past) (sym c.profile.view_is) (c.settle.ensures.stands past kept) in
     let tree = subst (λ tree. HasTree tree past) c.in-Some.is
     (settled g.S.Stamp.MAX _ past p (ap (λ (k : Kept). k.next) c.profile.view_is ∙ c.in_ok-settle.ensures.settled)) in

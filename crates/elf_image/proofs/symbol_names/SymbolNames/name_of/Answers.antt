@@ -31,8 +31,8 @@ returns-in-Ok-clause-name c =
     (rw c.deref.ensures.value at c.in-Some.ensures.0) (rw c.deref.ensures.value at c.in-Some.ensures.1) here)
 
 -- the address has a name
-pub returns-in-Err-Memory-clause-no_memory : goal.returns-in-Err-Memory-clause-no_memory
-returns-in-Err-Memory-clause-no_memory c = λ none.
+pub returns-in-Err-Memory-clause-no_allocation : goal.returns-in-Err-Memory-clause-no_allocation
+returns-in-Err-Memory-clause-no_allocation c = λ none.
     let strings = c.self.inside.strings.items in
     let items = c.self.inside.places.items in
     let here : c.index.result.now ≡ get_or items c.in-Some.index no_place =

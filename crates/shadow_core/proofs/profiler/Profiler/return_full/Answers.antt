@@ -109,8 +109,8 @@ returns-clause-done g c =
     recorded t c.args.target c.ending-ended.result _ c.end_calls.new.threads c.reserve.new.self.items c.end_calls.new.done.items may count ended
     ∙ (λ i. c.in_ok-reserve.ensures.items i ++ finished (Ret t c.args.target) (table_of_state (c.self.view_is i)))
 
-pub returns-in_err-reserve-clause-no_memory : goal.returns-in_err-reserve-clause-no_memory
-returns-in_err-reserve-clause-no_memory g c = λ fits.
+pub returns-in_err-reserve-clause-no_allocation : goal.returns-in_err-reserve-clause-no_allocation
+returns-in_err-reserve-clause-no_allocation g c = λ fits.
     let own = sym (ap (λ (s : State). returned_by c.args.target (calls_of s.live.threads c.args.tid)) c.self.view_is) ∙ sym (ap (returned_by c.args.target) c.calls_mut.ensures.value) in
     absurd (omega (arith, fits, c.in_err-reserve.ensures.full, c.ending-ended.ensures.count, own))
 

@@ -173,8 +173,8 @@ returns-in_ok-reserve-in-Many-clause-done g c =
     recorded t c.args.target n _ c.end_calls.new.threads c.reserve.new.self.items c.end_calls.new.done.items may many.1 ended
     ∙ (λ i. c.in_ok-reserve-in-Many.ensures.items i ++ finished (Ret t c.args.target) (table_of_state (c.self.view_is i)))
 
-pub returns-in_err-reserve-in-Many-clause-no_memory : goal.returns-in_err-reserve-in-Many-clause-no_memory
-returns-in_err-reserve-in-Many-clause-no_memory g c = λ fits.
+pub returns-in_err-reserve-in-Many-clause-no_allocation : goal.returns-in_err-reserve-in-Many-clause-no_allocation
+returns-in_err-reserve-in-Many-clause-no_allocation g c = λ fits.
     let t = c.args.tid in
     let many = subst (λ (r : Returned). IsReturned t c.args.target c.self.inside.threads c.return_to.new.self r) c.in-Many.is c.return_to.ensures in
     let same : c.return_to.new.self ≡ c.self.inside.threads = many.2 in

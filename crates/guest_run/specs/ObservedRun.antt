@@ -20,15 +20,15 @@ moves_kept fits past (move ∷ moves) =
     move ∷ (if fits next then moves_kept fits next moves else [])
 
 -- A run with its trace, the newest event first.
-pub record Profiled : Type 0 where
+pub record ObservedRun : Type 0 where
   pub moves : List Move
   pub past : List Event
   pub finish : Finish
 
 -- The observed run, from the past before its first move on: the run itself where its whole past fits; else its moves up to and
 -- with the one after which it does not, the trace as long as it fits, and the end `Deep`.
-unfoldable pub profiled : (List Event → Bool) → List Event → WrittenRun → Profiled
-profiled fits past run =
+unfoldable pub observed_run : (List Event → Bool) → List Event → WrittenRun → ObservedRun
+observed_run fits past run =
     let whole = past_after past (events_of run.moves) in
     record {
       moves = moves_kept fits past run.moves;
