@@ -58,7 +58,7 @@ pub record AreOfLight (most : ℕ) (kept : Kept) : Type 0 where
   pub formed : IsWellFormed past
   pub light : IsLight past
 
--- What the run comes to, with its contexts.
+-- The totals of the run, with its contexts.
 pub record AreTotalsOf (most : ℕ) (totals : ContextTotals) (past : List Event) : Type 0 where
   pub totals_are : profiles.AreTotalsOf most totals.totals past
   pub tree : trees.StandsFor totals.tree past

@@ -36,7 +36,7 @@ impl<S: Lanes> Model for ContextProfile<S> {
     ghost view = { λ p. record { stamps = p.profiler; tree = p.tree; next = p.next; ended = p.ended.items; steps = p.steps } };
 }
 
-/// What a run comes to, and its contexts with their points.
+/// The totals of a run, and its contexts with their points.
 #[derive(Drop)]
 pub struct ContextTotals {
     pub totals: Totals,
@@ -100,7 +100,7 @@ impl<S: Lanes> ContextProfile<S> {
         Ok(())
     }
 
-    /// What the run comes to with its contexts; `None` where they are more than can be numbered, which does not allocate.
+    /// The totals of the run with its contexts; `None` if they are more than can be numbered, which does not allocate.
     pub fn into_totals(self, alloc: Global) -> Result<Option<ContextTotals>, AllocError>
         requires { AreOfLight S.MAX self }
         ensures totals { IfOk result (λ found. (past : List Event) → AreContextsOf S.MAX self past

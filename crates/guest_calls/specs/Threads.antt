@@ -27,7 +27,7 @@ clear_tid c = clear_tid_of c.kernel c.tid
 abbrev pub is_cleared : Syscall → Bool
 is_cleared c = has_others c.kernel c.tid && (not (clear_tid c == 0) && writable c (clear_tid c) 4)
 
--- the thread lives no more, and its reservation goes
+-- the thread is removed, and its reservation dropped
 abbrev pub leaves : ℕ → SyscallResult → SyscallResult
 leaves tid r = r ▷ changes (λ k. record k { threads = other_threads k tid }) ▷ forgets tid
 

@@ -44,7 +44,7 @@ fn has(flags: u32, bits: u32) -> bool
     flags & bits != 0
 }
 
-/// The registers of a new thread, behind its caller's call.
+/// The registers of a new thread, which goes on after its caller's system call.
 fn child_cpu(cpu: &Cpu, flags: u32, stack: u32, tls: u32) -> Cpu
     ensures { result ≡ child_registers cpu.now flags stack tls }
 {

@@ -42,7 +42,7 @@ impl State {
         0
     }
 
-    /// The thread lives no more. It is not blocked.
+    /// Removes the thread, which is not blocked.
     fn remove(&mut self, tid: Tid)
         requires { can_run self.old tid ≡ true }
         ensures { self.new ≡ record self.old { threads = other_threads self.old tid } }

@@ -46,6 +46,6 @@ with_registers harts tid r = with_value harts tid r
 abbrev pub with_hart : List Hart → ℕ → Registers → List Hart
 with_hart harts tid r = harts ++ (tid, r) ∷ []
 
--- the thread lives no more
+-- the thread is removed
 abbrev pub without_hart : List Hart → ℕ → List Hart
 without_hart harts tid = without_thread harts tid

@@ -14,7 +14,7 @@ use guest_words::{ByThread, Tid};
 use rv_exec::Cpu;
 use trace_model::{Event, Events};
 
-/// Lets the threads start, wait or end as the kernel answered the call of one of them.
+/// Starts, blocks or ends threads as the kernel answered the system call of one of them.
 pub(crate) fn apply_answer(
     harts: &mut ByThread<Cpu>,
     tid: Tid,

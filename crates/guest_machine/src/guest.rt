@@ -117,7 +117,7 @@ impl Guest {
         }
     }
 
-    /// Makes at most so many steps of a thread that can run, while the instruction of each can be known, is no ECALL and does
+    /// Makes at most `most` steps of a thread that can run, while the instruction of each can be known, is no ECALL and does
     /// not fault, and while the observer takes its events.
     pub(crate) fn run_known<W: Observer>(
         &mut self,

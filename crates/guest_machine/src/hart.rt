@@ -58,7 +58,7 @@ pub(crate) fn execute_for(
     (outcome, cpu.pc)
 }
 
-/// A live thread goes on behind its call, with this answer in a0.
+/// Resumes a live thread after its system call, with this answer in a0.
 pub(crate) fn resume(harts: &mut ByThread<Cpu>, tid: Tid, value: u32)
     requires { is_some (value_of harts.old.list tid) ≡ true }
     ensures list { harts.new.list ≡ with_registers harts.old.list tid

@@ -107,7 +107,7 @@ impl CodeCache {
         Ok(next)
     }
 
-    /// Lets the instruction of the word that stands at an address be known, where it is one.
+    /// Caches the instruction of the word that stands at an address, if it is one.
     pub fn learn(&mut self, alloc: Global, at: Addr, word: u32) -> Result<(), AllocError>
         requires { at % 4 ≡ 0 }
         ensures { (m : Memory) → HoldsCode self.old m → loaded m permission.Execute at 4 ≡ Ok word

@@ -57,7 +57,7 @@ impl CodePage {
         self.instructions[word]
     }
 
-    /// Lets the instruction of a word be known.
+    /// Caches the instruction of a word.
     pub fn learn(&mut self, word: usize, instruction: Instr)
         requires { word < 1024 }
         ensures page { self.new ≡ (self.old.0, slice_set self.old.1 word (Some instruction)) }

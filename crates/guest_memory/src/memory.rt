@@ -1,7 +1,7 @@
 //! The memory of a guest: calls on pages and on bytes.
 #![tactic(auto, unfolding(crate::specs::Guest::memory_of))]
 
-ghost use Rattle.std.specs.Prelude.{◌≡◌, ◌<◌, ◌≤◌, ◌+◌, ◌/◌, ◌%◌, ℕ, length, take, IfOk, IfSome, IfNone, OnOk, OnErr, IsTrue, ◌↔◌, true, None};
+ghost use Rattle.std.specs.Prelude.{◌≡◌, ◌<◌, ◌≤◌, ◌+◌, ◌%◌, ℕ, length, take, IfOk, IfSome, IfNone, OnOk, OnErr, IsTrue, ◌↔◌, true, None};
 ghost use Rattle.std.specs.Int.{to_le_bytes, w32};
 ghost use Rattle.std.specs.Option.{is_none};
 ghost use Rattle.guest_memory.specs.Memory.{IsFreeRange, AreFree, AreMapped, ArePagesMapped, MapEnds, no_memory, with_pages, with_rights, byte_count, bytes_at, first_refusal, loaded, mapped_pages, unless_refused, with_bytes};

@@ -95,7 +95,7 @@ impl<S: Lanes> Profile<S> {
         Ok(())
     }
 
-    /// What the run comes to.
+    /// The totals of the run.
     pub fn into_totals(self) -> Result<Totals, AllocError>
         requires { IsOfLight S.MAX self }
         ensures { IfOk result (λ totals. (past : List Event) → IsProfileOf S.MAX self past

@@ -1,7 +1,7 @@
-//! What a run comes to.
+//! The totals of a run.
 use cost_points::Table;
 
-/// What a run comes to: `AreTotalsOf` says it.
+/// The totals of a run, as `AreTotalsOf` says.
 #[derive(Drop)]
 pub struct Totals {
     /// The points of the activations that ended.

@@ -19,7 +19,7 @@ use Rattle.shadow_pages.specs.Pages as pages
 use Rattle.shadow_pages.specs.Pages.{AreCovered, Page, page_of, stamp_at, stamp_in}
 use Rattle.stamp_renumber.specs.Returned.{returned_by}
 use Rattle.stamp_renumber.specs.Threads.{Stamped, all_starts, calls_of, pages_of}
-use Rattle.shadow_core.specs.Applying.{AreInUse, DeepDoesNotFit, IsTaken, NeedsNoMemory, access_of, is_too_deep}
+use Rattle.shadow_core.specs.Applying.{AreInUse, DeepDoesNotFit, IsTaken, DoesNotAllocate, access_of, is_too_deep}
 use Rattle.shadow_core.specs.Past.{call_of}
 use Rattle.shadow_core.specs.Profiling.{StandsFor}
 use Rattle.shadow_core.specs.Records.{finished}
@@ -115,14 +115,14 @@ own_covered s t first count used w low high =
     used_covered (pages_of s.live.threads t) w (subst (λ n. 0 < n) (access_as s.live.threads t w) (used w (in_range first count w low high)))
 
 module _ (s : State) (e : Event) (t first count held capacity : ℕ) where
-  pub read_covered : e ≡ Read t first count → NeedsNoMemory e (table_of_state s) held capacity → AreCovered (pages_of s.live.threads t) first count
-  read_covered is needs = own_covered s t first count (subst (λ k. NeedsNoMemory k (table_of_state s) held capacity) is needs)
+  pub read_covered : e ≡ Read t first count → DoesNotAllocate e (table_of_state s) held capacity → AreCovered (pages_of s.live.threads t) first count
+  read_covered is needs = own_covered s t first count (subst (λ k. DoesNotAllocate k (table_of_state s) held capacity) is needs)
 
-  pub own_written : e ≡ Write t first count → NeedsNoMemory e (table_of_state s) held capacity → AreCovered (pages_of s.live.threads t) first count
-  own_written is needs = own_covered s t first count (subst (λ k. NeedsNoMemory k (table_of_state s) held capacity) is needs).0
+  pub own_written : e ≡ Write t first count → DoesNotAllocate e (table_of_state s) held capacity → AreCovered (pages_of s.live.threads t) first count
+  own_written is needs = own_covered s t first count (subst (λ k. DoesNotAllocate k (table_of_state s) held capacity) is needs).0
 
-  pub all_written : e ≡ Write t first count → NeedsNoMemory e (table_of_state s) held capacity → AreCovered s.writes first count
-  all_written is needs = are_covered s.writes first count (subst (λ k. NeedsNoMemory k (table_of_state s) held capacity) is needs).1
+  pub all_written : e ≡ Write t first count → DoesNotAllocate e (table_of_state s) held capacity → AreCovered s.writes first count
+  all_written is needs = are_covered s.writes first count (subst (λ k. DoesNotAllocate k (table_of_state s) held capacity) is needs).1
 
 -- ---- Room for what a return ends.
 -- the open calls of a thread of the table
@@ -151,11 +151,11 @@ pub few_ended : (target : ℕ) (k : Calls) → returned_by target k ≤ length k
 few_ended target k = omega (arith, few_returned target (map (λ (o : CountedCall). o.back) k.list), length-map k.list (λ (o : CountedCall). o.back))
 
 -- as many are recorded as a return ends calls
-pub returned_fits : (most t target held capacity : ℕ) (e : Event) (s : State) → e ≡ Ret t target → MayTake (StandsFor most) s e → NeedsNoMemory e (table_of_state s) held capacity →
+pub returned_fits : (most t target held capacity : ℕ) (e : Event) (s : State) → e ≡ Ret t target → MayTake (StandsFor most) s e → DoesNotAllocate e (table_of_state s) held capacity →
     held + count_returned target (map (λ (o : CountedCall). o.back) (calls_of s.live.threads t).list) ≤ capacity
 returned_fits most t target held capacity e s is any_may any_needs =
     let may = subst (λ k. MayTake (StandsFor most) s k) is any_may in
-    let needs = subst (λ k. NeedsNoMemory k (table_of_state s) held capacity) is any_needs in
+    let needs = subst (λ k. DoesNotAllocate k (table_of_state s) held capacity) is any_needs in
     let table = table_of_state s in
     let opens = open_calls may.past t in
     let there = there_too table.threads table.threads refl t (may.now.agrees.live t ∙ may.formed.0.0) in

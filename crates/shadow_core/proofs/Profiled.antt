@@ -1,7 +1,6 @@
 -- What holds of a profiler that may take an event.
-use Rattle.std.proofs.Common.{◌≡◌, Ok, Err, ℕ, ◌+◌, ◌*◌, ◌<◌, ◌≤◌, ◌^◌, Bool, MutBor, true, false, cond, List, [], ◌∷◌, length, Some, None, refl, sym, ap, subst, ◌∙◌, arith}
+use Rattle.std.proofs.Common.{◌≡◌, Ok, Err, ℕ, ◌+◌, ◌*◌, ◌<◌, ◌≤◌, ◌^◌, Bool, true, false, cond, List, [], ◌∷◌, length, Some, None, refl, sym, ap, subst, ◌∙◌, arith}
 use Rattle.std.specs.Prelude.{◌==◌, ◌&&◌, not, nat_lt, is_some, OnErr, OnOk, Option, Result}
-use Rattle.std.specs.Option.{IsSome, option_copied_mut}
 use Rattle.std.proofs.lemmas.Bool.Decides.{nat_tests}
 use Rattle.guest_words.specs.ByThread.{IsRising, numbers, value_of}
 use Rattle.trace_model.specs.declared.event_kinds.Event.{Event}
@@ -131,10 +130,6 @@ step_made most t s was after new has step more =
     (ap (λ (k : Calls). k.list) (more ∙ ap one_step own)) (ap (λ (k : Calls). k.counts) (more ∙ ap one_step own)))
 
 -- ---- What the code finds.
-pub found : {A : Type 0} (r : Option (MutBor A)) (xs : List (ℕ × A)) (t : ℕ) → option_copied_mut r ≡ value_of xs t → (v : A) → value_of xs t ≡ Some v → IsSome r
-found None xs t is v here = absurd (let no : None ≡ Some v = is ∙ here in cc)
-found (Some r) xs t is v here = refl
-
 pub alive_for_step : (most t : ℕ) (s : State) → MayTake (StandsFor most) s (Step t) → IsAlive s t
 alive_for_step most t s may = alive s t may.past may.now.agrees may.formed.0
 
@@ -212,10 +207,6 @@ lives_here s t a = ap is_some a.has.stamps
 pub on_err : {T E X : Type 0} (r : Result T E) → X → OnErr r X
 on_err (Ok v) x = tt
 on_err (Err e) x = x
-
--- and where it was taken, what holds then
-pub when_ok : {T E X : Type 0} (r : Result T E) (v : T) → r ≡ Ok v → OnOk r X → X
-when_ok {T} {E} {X} r v is h = subst (λ (k : Result T E). OnOk k X) is h
 
 pub on_ok : {T E X : Type 0} (r : Result T E) → X → OnOk r X
 on_ok (Ok v) x = x

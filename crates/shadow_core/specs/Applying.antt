@@ -50,10 +50,10 @@ AreInUse stamps first count = (l : ℕ) → covers first count l ≡ true → 0 
 
 -- A step needs none; nor does a return where the list of records, with so many in it, has room for what it ends; nor an access
 -- of words that are in use.
-abbrev pub NeedsNoMemory : Event → Table → ℕ → ℕ → Type 0
-NeedsNoMemory (Step t) table held capacity = Unit {0}
-NeedsNoMemory (Ret t target) table held capacity = held + length (finished (Ret t target) table) ≤ capacity
-NeedsNoMemory (Read t first count) table held capacity = AreInUse (access_of table t) first count
-NeedsNoMemory (Write t first count) table held capacity = AreInUse (access_of table t) first count × AreInUse table.write first count
-NeedsNoMemory (Fill first count) table held capacity = AreInUse table.write first count
-NeedsNoMemory _ table held capacity = ⊥
+abbrev pub DoesNotAllocate : Event → Table → ℕ → ℕ → Type 0
+DoesNotAllocate (Step t) table held capacity = Unit {0}
+DoesNotAllocate (Ret t target) table held capacity = held + length (finished (Ret t target) table) ≤ capacity
+DoesNotAllocate (Read t first count) table held capacity = AreInUse (access_of table t) first count
+DoesNotAllocate (Write t first count) table held capacity = AreInUse (access_of table t) first count × AreInUse table.write first count
+DoesNotAllocate (Fill first count) table held capacity = AreInUse table.write first count
+DoesNotAllocate _ table held capacity = ⊥

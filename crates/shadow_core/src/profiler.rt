@@ -9,7 +9,7 @@ ghost use Rattle.trace_model.specs.Observing.{MayStepBy, MayTake, with_steps};
 ghost use Rattle.shadow_pages.specs.Pages.{AreCovered};
 ghost use Rattle.stamp_renumber.specs.Threads.{all_starts, calls_of, pages_of};
 ghost use Rattle.shadow_core.specs.declared.apply_error.ApplyError.TheVariants.{Memory, TooDeep};
-ghost use Rattle.shadow_core.specs.Applying.{HasSamePages, IsTaken, NeedsNoMemory, is_too_deep};
+ghost use Rattle.shadow_core.specs.Applying.{HasSamePages, IsTaken, DoesNotAllocate, is_too_deep};
 ghost use Rattle.shadow_core.specs.Counting.{renumberings};
 ghost use Rattle.shadow_core.specs.Profiling.{StandsFor};
 ghost use Rattle.shadow_core.specs.State.{table_of_state};
@@ -520,9 +520,9 @@ impl<S: Lanes> Profiler<S> {
             ≡ done.old.items ++ finished e (table_of_state self.old)) }
         ensures refused { OnErr result (table_of_state self.new ≡ table_of_state self.old) }
         ensures kept { OnErr result (done.new.items ≡ done.old.items) }
-        ensures no_allocation { NeedsNoMemory e (table_of_state self.old) (vec_len done.old)
+        ensures no_allocation { DoesNotAllocate e (table_of_state self.old) (vec_len done.old)
             (vec_capacity done.old) → IsOk result }
-        ensures pages { NeedsNoMemory e (table_of_state self.old) (vec_len done.old)
+        ensures pages { DoesNotAllocate e (table_of_state self.old) (vec_len done.old)
             (vec_capacity done.old) → HasSamePages self.old self.new }
     {
         match e {
@@ -542,7 +542,7 @@ impl<S: Lanes> Profiler<S> {
 
     /// Takes the next event of the trace, and adds to the list what is recorded of the activations that it ends, the
     /// innermost first. An event that begins an activation too many is refused before any memory is allocated. After a refusal
-    /// all is as before. Where no memory is needed no page of stamps comes: no event is kept.
+    /// all is as before. An event that doesn't allocate adds no page of stamps.
     #[inline(always)]
     pub fn apply(&mut self, e: Event, done: &mut Vec<Done>) -> Result<(), ApplyError>
         requires { MayTake (StandsFor S.MAX) self.old e }
@@ -558,9 +558,9 @@ impl<S: Lanes> Profiler<S> {
             → is_too_deep S.MAX e past ≡ false → IfErr result (λ error. error ≡ Memory) }
         ensures refused { OnErr result (table_of_state self.new ≡ table_of_state self.old) }
         ensures kept { OnErr result (done.new.items ≡ done.old.items) }
-        ensures no_allocation { NeedsNoMemory e (table_of_state self.old) (vec_len done.old)
+        ensures no_allocation { DoesNotAllocate e (table_of_state self.old) (vec_len done.old)
             (vec_capacity done.old) → IsOk result }
-        ensures pages { NeedsNoMemory e (table_of_state self.old) (vec_len done.old)
+        ensures pages { DoesNotAllocate e (table_of_state self.old) (vec_len done.old)
             (vec_capacity done.old) → HasSamePages self.old self.new }
     {
         if self.is_too_deep(&e) {

@@ -86,7 +86,14 @@ pub(crate) fn row_of<'a, S: Stamp>(
 }
 
 // A read of a part of a row.
-fn read_row<S: Lanes>(row: &mut [S], at: usize, write: &[S], marks: &[u8], start: S, stamp: S) -> Bulk
+fn read_row<S: Lanes>(
+    row: &mut [S],
+    at: usize,
+    write: &[S],
+    marks: &[u8],
+    start: S,
+    stamp: S,
+) -> Bulk
     requires within { at + length write.now ≤ length row.old }
     requires size { length row.old ≤ 1024 }
     requires lengths { length write.now ≡ length marks.now }

@@ -169,9 +169,6 @@ popped_one old new sums p =
     let less = ap length p.4 in
     omega (arith, long, less, length-append outer (top ∷ []), length_added sums outer)
 
-pub popped_none : (old new : List Frame) → IsPopped old None new → length old ≡ length new
-popped_none old new p = ap length p.0 ∙ sym (ap length p.1)
-
 pub length_changed : (i : ℕ) (by : Sums) (frames : List Frame) → length (added i by frames) ≡ length frames
 length_changed i by [] = refl
 length_changed zero by (f ∷ frames) = refl

@@ -16,7 +16,7 @@ use trace_model::{Events, Observed, feed};
 /// How many bytes are read at a time.
 const PIECE: usize = 4096;
 
-/// What a stored trace comes to: `IsReplayOf` says it.
+/// The totals of a stored trace, as `IsReplayOf` says.
 #[derive(Drop)]
 pub struct Replayed {
     /// The totals of the trace, as long as stamps of the width tell its open activations apart.
@@ -87,7 +87,7 @@ impl<S: Lanes> TraceProfile<S> {
         Ok(())
     }
 
-    /// What the trace comes to, where the bytes are one. What the reader refuses is told as it is.
+    /// The totals of the trace, if the bytes are one. What the reader refuses is reported as it is.
     pub fn finish(self) -> Result<Replayed, TraceError>
         requires { (bytes : List ℕ) × HasReplayed S.MAX self bytes }
         ensures replays { (bytes : List ℕ) → HasReplayed S.MAX self bytes

@@ -100,7 +100,7 @@ pub record IsTraced (traced : TracedRun) (run : ObservedRun) : Type 0 where
 abbrev pub IsMissed : Form → Executable → Reported → ObservedRun → Type 0
 IsMissed shape image report run = report ≡ misses_of shape image run.finish run.past
 
--- what the run comes to with its contexts, unless they are more than can be numbered
+-- the totals of the run with its contexts, unless they are more than can be numbered
 abbrev pub HaveContexts : ℕ → Option ContextTotals → List Event → Type 0
 HaveContexts most None past = IsPastNumbers past
 HaveContexts most (Some totals) past = contexts.AreTotalsOf most totals past
