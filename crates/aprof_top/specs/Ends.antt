@@ -56,7 +56,7 @@ pub record FailsToWrite (words : List (List ℕ)) (Fails : Outcome → Type 0) (
   pub fails : Fails decision.outcome
 
 -- Memory ran out, before anything was done or while an outcome was handed out, and nothing failed. That a word has a zero
--- byte is told without memory.
+-- byte is told without allocating.
 pub record RunsOutOfMemory (words : List (List ℕ)) (before after : Outside) : Type 0 where
   pub no_zero : list_any has_zero words ≡ false
   pub done : (after ≡ before) ⊎ ((decision : Decision words before after) × StopsShort decision.outcome before after)

@@ -29,7 +29,7 @@ pub(crate) enum Source {
     Trace,
 }
 
-/// Which file the one at this place of the loads is, so many of them being input files.
+/// Which file the load at this index is of; `count` are input files.
 pub(crate) fn source_at(guest: &GuestOptions<'_>, count: usize, index: usize) -> Source
     requires { count ≡ length (inputs (guest_in guest.now)) }
     ensures { (path : List ℕ) → slice_get (loaded_paths (guest_in guest.now)) index ≡ Some path

@@ -87,17 +87,17 @@ fn answer<F: Files, O: Sink, E: Sink>(
 
 /// Runs the program on the words of its command line, its own name first, and answers its status.
 ///
-/// Read aloud, as far as the files and the sinks tell what they hold: the words ask for a command, and the files that it
-/// loads decide an outcome. Of `run` it is the written machine's output, its recording where that is asked for, and the report of
-/// its trace; of `trace` the output and the trace; of `cache` the output and the report of cache misses; of `contexts` the output
-/// and the report with its calling contexts; of `replay` the report of a stored trace; and of `demo` the summary of the report of
-/// a guest of its own.
+/// In words, where the contents of files and sinks are observable: the words ask for a command, and the files that it loads
+/// decide an outcome. Of `run` it is the written machine's output, its recording if one is asked for, and the report of its
+/// trace; of `trace` the output and the trace; of `cache` the output and the report of cache misses; of `contexts` the output
+/// and the report with its calling contexts; of `replay` the report of a stored trace; and of `demo` the summary of the report
+/// of a guest of its own.
 ///
 /// The status says how the call ended. Every status but 2, 4 and 10 is the outcome's: all of its output was put and all of its
-/// files were stored. At 2 the load of the next file failed, and nothing was put or stored; at 4 a store or a put of the output
-/// failed, and what came before is a first part of the outcome; at 10 memory ran out, and no load, store or put had failed,
-/// but where the last text of another status was what wanted memory. Then the last text of that end was put on `err`, unless a put
-/// on `err` had failed. Where nothing failed and no file was too long the status is the outcome's, or 10.
+/// files were stored. At 2 the load of the next file failed, and nothing was put or stored. At 4 a store or a put of the output
+/// failed, and what came before is a first part of the outcome. At 10 memory ran out, and no load, store or put had failed,
+/// unless it was the last text of another status that could not be allocated; then the last text of out of memory was put on
+/// `err`, unless a put on `err` had failed. If nothing failed and no file was too long, the status is the outcome's, or 10.
 pub fn aprof<F: Files, O: Sink, E: Sink>(
     alloc: Global,
     words: &[String],

@@ -9,11 +9,11 @@ pub record Form : Type 0 where
   pub ways : ℕ
   pub line : ℕ
 
--- one to so many sets, a power of two
+-- 1 to `SETS` sets, a power of two
 abbrev pub are_sets : ℕ → Bool
 are_sets sets = is_power_of_two sets && nat_le sets SETS
 
--- one to so many ways
+-- 1 to `WAYS` ways
 abbrev pub are_ways : ℕ → Bool
 are_ways ways = nat_le 1 ways && nat_le ways WAYS
 

@@ -10,7 +10,7 @@ use std::alloc::{AllocError, Global};
 use std::marker::Model;
 
 /// A cache that drops the least recently used line of a set where it needs the place. Contracts see its shape, and the lines
-/// of each set, the most recent first. No call but `new` takes memory.
+/// of each set, the most recent first. Only `new` allocates.
 #[derive(Drop)]
 pub struct Cache {
     shape: Shape,

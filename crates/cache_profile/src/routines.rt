@@ -18,7 +18,7 @@ pub struct RoutineMisses {
 }
 
 impl RoutineMisses {
-    /// With so many accesses more, of which so many missed.
+    /// With that many more accesses and misses.
     fn with(self, accesses: u32, misses: u32) -> RoutineMisses
         requires { HasRoom self }
         ensures { result ≡ record {

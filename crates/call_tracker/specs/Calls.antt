@@ -3,7 +3,7 @@ use Rattle.std.specs.Prelude.{ℕ, List, map, Option, refl}
 use Rattle.std.specs.Coded.{Coded, code_by, coded×, coded_ℕ, coded_list}
 use Rattle.call_tracker.specs.declared.open_calls.OpenCall.{OpenCall}
 
--- The open calls, the outermost first, and how many can be pushed without memory.
+-- The open calls, the outermost first, and how many can be pushed without allocating.
 pub record CallStack (C : Type 0) : Type 0 where
   pub calls : List C
   pub spare : ℕ

@@ -16,7 +16,7 @@ pub record CountedCall : Type 0 where
   pub back : Option ℕ
   pub earlier : Counts
 
--- The open calls, the innermost first; the thread's counts; and how many more calls can begin without memory.
+-- The open calls, the innermost first; the thread's counts; and how many more calls can begin without allocating.
 pub record Calls : Type 0 where
   pub list : List CountedCall
   pub counts : Counts

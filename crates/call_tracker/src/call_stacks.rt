@@ -76,7 +76,7 @@ impl CallStacks {
         self.threads.get(tid).is_some()
     }
 
-    /// Takes one more event, and says how many calls it ended. Only an event that begins a call takes memory.
+    /// Takes one more event, and says how many calls it ended. Only an event that begins a call allocates.
     pub fn apply(&mut self, e: Event) -> Result<usize, AllocError>
         requires { ∥ MayTake StandsFor self.old e ∥₁ }
         ensures stands { (past : List Event) → StandsFor self.old past

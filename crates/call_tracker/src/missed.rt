@@ -76,7 +76,7 @@ impl Missed {
         }
     }
 
-    /// Remembers that none of the open calls, which are so many, returns to the target.
+    /// Remembers that none of the `depth` open calls returns to the target.
     #[cold]
     pub(crate) fn remember(&mut self, target: Addr, depth: usize)
         ensures { (backs : List (Option ℕ)) → AreMissed backs self.old → length backs ≡ depth
@@ -87,7 +87,7 @@ impl Missed {
         self.low = depth;
     }
 
-    /// Calls ended, and so many are left.
+    /// Calls ended, and `depth` are left.
     #[inline(always)]
     pub(crate) fn keep(&mut self, depth: usize)
         ensures { (backs : List (Option ℕ)) → AreMissed backs self.old

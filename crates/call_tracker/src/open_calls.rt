@@ -27,7 +27,7 @@ impl Returns for OpenCall {
 }
 
 /// The open calls of a thread, each with what its owner keeps of it. Contracts see them as a list, the outermost first, and
-/// beside it the spare room: how many can be pushed without memory.
+/// beside it the spare room: how many can be pushed without allocating.
 ///
 /// A return looks at the calls that it ends. One that ends none looks at the calls that began since the last return to its
 /// target that ended none, as long as that target is one of the eight that are remembered, and else at all of them.
@@ -115,7 +115,7 @@ impl<C: Returns> OpenCalls<C> {
         ended
     }
 
-    // Ends so many calls, the innermost first.
+    // Ends `ended` calls, the innermost first.
     #[inline(always)]
     fn cut(&mut self, ended: usize)
         requires { ended ≤ length self.old.calls }

@@ -88,7 +88,7 @@ impl Returns for BegunCall {
 }
 
 /// The open calls of a thread, and what it has counted. Contracts see the innermost call first, and beside the calls the room:
-/// how many more can begin without memory.
+/// how many more can begin without allocating.
 #[derive(Drop)]
 pub struct ThreadCalls {
     calls: OpenCalls<BegunCall>,
@@ -184,7 +184,7 @@ impl ThreadCalls {
         self.calls.pop()
     }
 
-    /// So many more steps.
+    /// Adds steps.
     pub fn add_steps(&mut self, steps: u64)
         requires { self.old.counts.steps + steps < 2 ^ 64 }
         ensures { self.new ≡ record self.old { counts = record self.old.counts { steps = self.old.counts.steps + steps } } }

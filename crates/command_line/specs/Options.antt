@@ -110,7 +110,7 @@ quantum_of = number_or DEFAULT_QUANTUM 1 QUANTUM_STEPS
 abbrev pub budget_of : Option (List ℕ) → Option ℕ
 budget_of = number_or DEFAULT_BUDGET 1 RUN_STEPS
 
--- the width of so many bits
+-- the width of that many bits
 abbrev pub width_of : ℕ → Option StampBits
 width_of number = if number == 8 then Some B8 else if number == 16 then Some B16 else if number == 32 then Some B32 else None
 

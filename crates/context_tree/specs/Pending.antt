@@ -15,7 +15,7 @@ known (Some ps) = ps
 abbrev pub with_point : Point → List Point → List Point
 with_point p ps = put (λ q. q.size) p.size (λ q. merged q p) p ps
 
--- The points with the one that stands apart, if there is one; where there is none, one can be added without memory.
+-- The points with the one that stands apart, if there is one; where there is none, one can be added without allocating.
 abbrev pub with_last : Option Point → List Point → PointList
 with_last None ps = record { points = ps; room = 1 }
 with_last (Some p) ps = record { points = with_point p ps; room = 0 }

@@ -14,12 +14,12 @@ abbrev pub up : List (ℕ × ℕ) → ℕ → ℕ → ℕ
 up places n zero = n
 up places n (suc k) = above_of places (up places n k)
 
--- There are so many contexts on the way up, none of them the one with no entry.
+-- There are `count` contexts on the way up, none of them the one with no entry.
 pub record IsWay (places : List (ℕ × ℕ)) (n count : ℕ) : Type 0 where
   pub within : n ≤ length places
   pub falls : (k : ℕ) → k < count → up places n (suc k) < up places n k
 
--- the points of a context, and how many can be added without memory
+-- the points of a context, and how many can be added without allocating
 pub record PointList : Type 0 where
   pub points : List Point
   pub room : ℕ

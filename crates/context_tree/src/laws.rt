@@ -17,7 +17,7 @@ pub fn contexts_add_up()
         → together (context_points past entry) ≡ routine_points past entry }
 {}
 
-/// There is one order of the text: whatever contexts are in it are each at the place that so many come before; and the
+/// There is one order of the text: each of its contexts is at the place given by how many come before it; and the
 /// contexts of each run can be put in it.
 pub fn the_order_is_one()
     ensures one { (contexts ordered : List (List ℕ)) → IsInOrder contexts ordered

@@ -20,7 +20,7 @@ pub(crate) struct Links {
 }
 
 impl Links {
-    /// Of a context with so many entries, and none under it.
+    /// Of a context with `depth` entries, and none under it.
     pub(crate) fn new(depth: u32) -> Links
         ensures { result ≡ record { first_child = None; last_child = None; next_sibling = None; depth = depth } }
     {

@@ -199,7 +199,7 @@ fn demo_program(alloc: Global, routines: u32) -> Result<Builder, AllocError>
     Ok(program)
 }
 
-/// The code of the demo with so many routines.
+/// The code of the demo with that many routines.
 pub(crate) fn code(alloc: Global, routines: u32) -> Result<Code, AllocError>
     requires { routines ≤ DEMO_ROUTINES }
     ensures words { IfOk result (λ code. map decoded code ≡ map Some (instructions routines)) }

@@ -13,7 +13,7 @@ use rv_isa::one_word_for_an_instruction;
 use std::alloc::{AllocError, Global};
 use written_images::written_files_are_accepted;
 
-/// The executable of the demo with so many routines. Of the `PAGES` of a guest it leaves the `STACK_PAGES` of the stack.
+/// The executable of the demo with that many routines. Of the `PAGES` of a guest it leaves the `STACK_PAGES` of the stack.
 pub fn demo_image(alloc: Global, routines: u32) -> Result<Vec<u8>, AllocError>
     requires { (1 ≤ routines) × (routines ≤ DEMO_ROUTINES) }
     ensures file { IfOk result (λ file. IsDemoFile routines file.items) }

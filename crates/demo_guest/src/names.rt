@@ -62,7 +62,7 @@ fn push_routines(alloc: Global, symbols: &mut Vec<Symbol>, routines: u32) -> Res
     Ok(())
 }
 
-/// The symbols of the demo with so many routines.
+/// The symbols of the demo with that many routines.
 #[tactic(auto, unfolding(crate::specs::Image::symbols))]
 pub(crate) fn symbols(alloc: Global, routines: u32) -> Result<Vec<Symbol>, AllocError>
     requires { routines ≤ DEMO_ROUTINES }

@@ -138,7 +138,7 @@ impl Image {
         self.pages
     }
 
-    /// The name of the routine at an address, if it has one. Only a name takes memory.
+    /// The name of the routine at an address, if it has one. Only a name is allocated.
     pub fn name_of(&self, alloc: Global, at: Addr) -> Result<Option<Name>, AllocError>
         ensures name { IfOk result (λ name. name ≡ name_of self.now at) }
         ensures no_allocation { name_of self.now at ≡ None → IsOk result }

@@ -71,7 +71,7 @@ impl SymbolNames {
         SymbolNames { strings, places }
     }
 
-    /// The name of the symbol of this value, where the values rise. Only a name takes memory.
+    /// The name of the symbol of this value, where the values rise. Only a name is allocated.
     pub(crate) fn name_of(&self, alloc: Global, value: Addr) -> Result<Option<Name>, AllocError>
         requires { AllPairs (λ s t. s.value < t.value) self.now }
         ensures name { IfOk result (λ name. name

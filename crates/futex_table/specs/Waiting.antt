@@ -29,14 +29,14 @@ without waiting gone = filter (λ w. not (waits gone w.tid)) waiting
 abbrev pub after_wait : List Waiter → ℕ → ℕ → ℕ → List Waiter
 after_wait waiting at tid bits = waiting ++ record { at = at; tid = tid; bits = bits } ∷ []
 
--- the first so many who wait there, which a wake takes out
+-- the first `most` who wait there, which a wake takes out
 abbrev pub woken : List Waiter → ℕ → ℕ → ℕ → List Waiter
 woken waiting at most bits = take most (waiters_at waiting at bits)
 
 abbrev pub after_wake : List Waiter → ℕ → ℕ → ℕ → List Waiter
 after_wake waiting at most bits = without waiting (woken waiting at most bits)
 
--- the first so many of those who still wait at the address after a wake, which a requeue moves
+-- the first `shift` of those who still wait at the address after a wake, which a requeue moves
 abbrev pub shifted : List Waiter → ℕ → ℕ → ℕ → List Waiter
 shifted waiting at most shift = woken (after_wake waiting at most all_bits) at shift all_bits
 

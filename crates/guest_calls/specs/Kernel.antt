@@ -68,7 +68,7 @@ last_time = 2 ^ 64 - 1
 abbrev pub later : KernelState → KernelState
 later k = record k { time = min (k.time + step_time) last_time }
 
--- the time is that of so many steps later
+-- the state some steps later
 abbrev pub later_by : ℕ → KernelState → KernelState
 later_by zero k = k
 later_by (suc n) k = later (later_by n k)

@@ -68,21 +68,21 @@ abbrev pub munmap : Syscall → SyscallResult
 munmap c = unless c (munmap_tests c) λ _. munmap_effect c
 
 -- ---- mmap2
--- each of so many pages is mapped
+-- each of these pages is mapped
 abbrev pub are_mapped : Memory → ℕ → ℕ → Bool
 are_mapped m page zero = true
 are_mapped m page (suc n) = is_some (m.rights page) && are_mapped m (page + 1) n
 
--- none of so many pages is mapped
+-- none of these pages is mapped
 abbrev pub are_free : Memory → ℕ → ℕ → Bool
 are_free m page zero = true
 are_free m page (suc n) = is_none (m.rights page) && are_free m (page + 1) n
 
--- so many pages from this one on are free and end at or below 0x7F000000
+-- `count` pages from this one on are free and end at or below 0x7F000000
 abbrev pub fits_at : Memory → ℕ → ℕ → Bool
 fits_at m count page = nat_le (page + count) 0x7F000 && are_free m page count
 
--- the lowest page from 0x40000000 on at which so many free pages stand
+-- the lowest page from 0x40000000 on at which `count` free pages stand
 abbrev pub first_fit : Memory → ℕ → Option ℕ
 first_fit m count = first_passing (fits_at m count) 0x40000 0x3F000
 

@@ -14,7 +14,7 @@ use Rattle.guest_calls.specs.Results.{Syscall, SyscallResult, arg, returns, unle
 abbrev pub part_at : Memory → ℕ → IoVec
 part_at m at = record { at = number_at m at 4; size = number_at m (at + 4) 4 }
 
--- so many parts, from an address on
+-- `n` parts, from an address on
 abbrev pub parts_at : Memory → ℕ → ℕ → List IoVec
 parts_at m at zero = []
 parts_at m at (suc n) = part_at m at ∷ parts_at m (at + 8) n

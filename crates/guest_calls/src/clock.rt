@@ -65,7 +65,7 @@ pub(crate) fn time_at(memory: &GuestMemory, at: Addr) -> Option<u64>
     time_of(low + (high << 32), word_at(memory, at + 8))
 }
 
-/// The time of so many seconds and nanoseconds, each the bits of a signed number.
+/// The time in nanoseconds; seconds and nanoseconds are each the bits of a signed number.
 fn time_of(seconds: u64, nanoseconds: u32) -> Option<u64>
     ensures { result ≡ time_of seconds nanoseconds }
 {

@@ -134,7 +134,7 @@ impl Kernel {
         self.state.tick();
     }
 
-    /// The time goes on by so many steps.
+    /// Moves the clock on by that many steps.
     #[inline(always)]
     pub fn advance_by(&mut self, steps: u64)
         ensures { self.new ≡ record self.old { state = later_by steps self.old.state } }

@@ -127,7 +127,7 @@ pub(crate) fn mprotect(memory: &mut GuestMemory, caller: &Caller) -> Answer
     Answer::Back { value: 0 }
 }
 
-/// The lowest page from 0x40000000 on at which so many free pages stand.
+/// The lowest page from 0x40000000 on at which `count` free pages stand.
 fn first_fit(memory: &GuestMemory, count: u32) -> Option<u32>
     requires { 1 ≤ count }
     ensures value { result ≡ first_fit (memory_of memory.now) count }

@@ -98,7 +98,7 @@ impl State {
         self.time = self.time.saturating_add(STEP_TIME);
     }
 
-    /// The time goes on by so many steps.
+    /// Moves the clock on by that many steps.
     #[inline(always)]
     pub fn tick_by(&mut self, steps: u64)
         ensures { self.new ≡ later_by steps self.old }

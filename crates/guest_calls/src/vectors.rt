@@ -55,7 +55,7 @@ fn part_at(memory: &GuestMemory, at: Addr) -> IoVec
     }
 }
 
-/// So many parts, from an address on.
+/// `count` parts, from an address on.
 #[tactic(auto, using(crate::proofs::PartLists::parts_snoc, crate::proofs::Reach::readable_end))]
 pub(crate) fn parts_at(
     alloc: Global,

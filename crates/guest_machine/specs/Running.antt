@@ -11,7 +11,7 @@ use Rattle.guest_machine.specs.Kept.{Parts, machine_of, out_of}
 use Rattle.guest_machine.specs.Machine.{MachineState}
 use Rattle.guest_machine.specs.Step.{StepResult, step}
 
--- the machine after so many steps of a thread
+-- the machine after that many steps of a thread
 abbrev pub after_steps : MachineState → ℕ → ℕ → MachineState
 after_steps m tid zero = m
 after_steps m tid (suc n) = (step (after_steps m tid n) tid).machine
@@ -31,7 +31,7 @@ abbrev pub AllGoOn : MachineState → ℕ → ℕ → Type 0
 AllGoOn m tid zero = Unit {0}
 AllGoOn m tid (suc n) = AllGoOn m tid n × GoesOn (step (after_steps m tid n) tid)
 
--- The observer stands for some past that fits, and the events of up to so many steps may come, as long as the thread goes on
+-- The observer stands for some past that fits, and the events of up to `most` steps may come, as long as the thread goes on
 -- and the events so far fit.
 pub record MayTakeSteps {O : Type 0} (Stands : O → List Event → Type 0) (fits : List Event → Bool) (o : O) (m : MachineState) (tid most : ℕ) : Type 0 where
   pub past : List Event
@@ -53,7 +53,7 @@ ObservesSteps Stands fits m tid old new (suc n) Refused =
     × Stands new (cut fits (past_after past (events_of_steps m tid (suc n))))
     × (fits (past_after past (events_of_steps m tid (suc n))) ≡ false)
 
--- So many steps were made, after each of which the thread goes on; and that is what the observer has of them.
+-- Steps were made, after each of which the thread goes on; and that is what the observer has of them.
 pub record MakesSteps {O : Type 0} (Stands : O → List Event → Type 0) (fits : List Event → Bool) (m : MachineState) (tid : ℕ) (old : O)
     (new : Parts) (observer : O) (known : KnownSteps) : Type 0 where
   pub all : AllGoOn m tid known.count

@@ -28,7 +28,7 @@ done_by tid (Accessed accessed) = access_events tid accessed
 done_by tid (Jumped jump target back) = jump_events jump tid target back
 done_by tid (Other outcome) = []
 
--- so many steps of the thread
+-- that many steps of the thread
 abbrev pub steps_of : ℕ → ℕ → List Event
 steps_of tid zero = []
 steps_of tid (suc n) = steps_of tid n ++ Step tid ∷ []

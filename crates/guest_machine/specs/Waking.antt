@@ -19,7 +19,7 @@ answered (Some d) harts = with_registers harts d.tid (with_answer (registers_of 
 abbrev pub one_woken : MachineState → MachineState
 one_woken m = record m { harts = answered (next_due m.kernel) m.harts; kernel = woken_by_time m.kernel }
 
--- so many are, one after another
+-- that many are, one after another
 unfoldable pub woken_times : ℕ → MachineState → MachineState
 woken_times zero m = m
 woken_times (suc n) m = woken_times n (one_woken m)

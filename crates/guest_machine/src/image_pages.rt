@@ -48,7 +48,7 @@ fn add_segment(table: &mut Vec<Option<Rights>>, segment: &Segment)
     }
 }
 
-// So many pages without rights.
+// `count` pages without rights.
 fn without_rights(alloc: Global, count: usize) -> Result<Vec<Option<Rights>>, AllocError>
     ensures whole { IfOk result (λ table. length table.items ≡ count) }
     ensures each { IfOk result (λ table. (page : ℕ) → page < count

@@ -129,7 +129,7 @@ fn carry_out_next(
     }
 }
 
-/// Makes at most so many steps of a thread, whose registers these are, while their instructions are known or can be learned and
+/// Makes at most `most` steps of a thread, whose registers these are, while their instructions are known or can be learned and
 /// the observer takes their events. It says how many were made, and what became of the events of the last. The time is left to
 /// the caller.
 pub(crate) fn run_on<W: Observer>(
@@ -175,7 +175,7 @@ pub(crate) fn run_on<W: Observer>(
     (count + plain, observe_plain(tid, plain, observer))
 }
 
-// Hands out so many steps of a thread, or none.
+// Hands out `steps` steps of a thread, which may be none.
 #[inline(never)]
 fn observe_plain<W: Observer>(
     tid: Tid,

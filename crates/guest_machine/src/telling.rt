@@ -125,7 +125,7 @@ fn hand_jump<W: Observer>(
     }
 }
 
-// Hands out so many steps of a thread, and the accesses of the last. It stands apart, as the next does, since the code of the
+// Hands out `steps` steps of a thread, and the accesses of the last. It stands apart, as the next does, since the code of the
 // loop over known instructions is then short enough to be inlined.
 #[inline(never)]
 fn observe_access<W: Observer>(
@@ -145,7 +145,7 @@ fn observe_access<W: Observer>(
     hand_access(tid, access, observer)
 }
 
-// Hands out so many steps of a thread, and the calls and the returns of the last.
+// Hands out `steps` steps of a thread, and the calls and the returns of the last.
 #[inline(never)]
 fn observe_jump<W: Observer>(
     tid: Tid,
@@ -166,7 +166,7 @@ fn observe_jump<W: Observer>(
     hand_jump(tid, jump, target, back, observer)
 }
 
-/// Hands out so many steps of a thread that made instructions, and then what the last of them did beside.
+/// Hands out `steps` steps of a thread that ran instructions, and then what the last of them did besides.
 #[inline(always)]
 pub fn observe_told<W: Observer>(
     tid: Tid,

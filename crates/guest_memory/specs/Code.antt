@@ -25,7 +25,7 @@ HoldsCode cache m =
     (word : ℕ) (i : Instr) → known_in cache.places.items cache.pages.items word ≡ Some i
     → instruction_of (loaded m permission.Execute (4 * word) 4) ≡ Some i
 
--- Two memories agree but for so many pages, from the first on.
+-- Two memories agree but for `count` pages, from the first on.
 pub record AgreeBut (first count : ℕ) (m n : Memory) : Type 0 where
   pub rights : (page : ℕ) → is_among first count page ≡ false → n.rights page ≡ m.rights page
   pub bytes : (at : ℕ) → is_among first count (at / 4096) ≡ false → n.byte at ≡ m.byte at

@@ -18,7 +18,7 @@ pub record Memory : Type 0 where
   -- the value of each byte, by its address, and 0 where its page is not mapped
   pub byte : ℕ → ℕ
 
--- whether a number is one of so many, from the first on
+-- whether a number is one of `count`, from the first on
 abbrev pub is_among : ℕ → ℕ → ℕ → Bool
 is_among first count n = nat_le first n && nat_lt n (first + count)
 
@@ -84,7 +84,7 @@ AreMapped m at n = (q : ℕ) → at ≤ q → q < at + n → is_some (m.rights (
 abbrev pub with_bytes : Memory → ℕ → List ℕ → Memory
 with_bytes m at bytes = record m { byte = λ q. if is_among at (length bytes) q then slice_index bytes (q - at) else m.byte q }
 
--- how many pages of so many, from the first on, are mapped
+-- how many pages of a range are mapped
 unfoldable pub count_mapped : (ℕ → Option Rights) → ℕ → ℕ → ℕ
 count_mapped rights first zero = 0
 count_mapped rights first (suc n) = (if is_some (rights first) then 1 else 0) + count_mapped rights (first + 1) n
@@ -108,7 +108,7 @@ with_rights m page count rights = record m { rights = λ q. if is_among page cou
 abbrev pub AreFree : Memory → ℕ → ℕ → Type 0
 AreFree m page count = (q : ℕ) → page ≤ q → q < page + count → m.rights q ≡ None
 
--- a free range of so many pages, from the address 0x40000000 up to 0x7F000000
+-- a free range of `count` pages, from the address 0x40000000 up to 0x7F000000
 pub record IsFreeRange (m : Memory) (count page : ℕ) : Type 0 where
   pub first : 0x40000 ≤ page
   pub last : page + count ≤ 0x7F000

@@ -35,7 +35,7 @@ is_dropped held writer first count tid = not (is_by writer tid) && option_map_or
 abbrev pub after_write : Reserved → Option ℕ → ℕ → ℕ → Reserved
 after_write held writer first count tid = if is_dropped held writer first count tid then None else held tid
 
--- No more than so many threads have a reservation: a list of that many has each of them.
+-- At most `most` threads have a reservation: a list of that many has each of them.
 pub record HoldAtMost (held : Reserved) (most : ℕ) : Type 0 where
   pub holders : List ℕ
   pub few : length holders ≤ most

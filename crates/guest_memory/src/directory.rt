@@ -138,7 +138,7 @@ pub fn overwrite(old: &mut [u8], start: usize, bytes: &[u8])
     old[start..start + bytes.len()].copy_from_slice(bytes);
 }
 
-// So many empty vectors.
+// 1024 empty vectors.
 fn empty_rows<T: Drop>(alloc: Global) -> Result<Vec<Vec<T>>, AllocError>
     ensures { IfOk result (λ v. map (λ r. r.items) v.items ≡ replicate 1024 []) }
 {

@@ -115,7 +115,7 @@ impl GuestMemory {
         true
     }
 
-    /// The lowest free range of so many pages, from the address 0x40000000 up to 0x7F000000.
+    /// The lowest free range of `count` pages, from the address 0x40000000 up to 0x7F000000.
     pub fn find_free(&self, count: u32) -> Option<u32>
         ensures found { IfSome result (λ page. IsFreeRange (memory_of self.now) count page) }
         ensures lowest { IfSome result (λ page. (q : ℕ) → q < page
@@ -147,7 +147,7 @@ impl GuestMemory {
         self.mapped
     }
 
-    /// The number that so many readable bytes give, the lowest byte first.
+    /// The little-endian number of that size, or why its bytes can't be read.
     #[inline(always)]
     pub fn load(&self, at: Addr, size: Size) -> Result<u32, MemError>
         ensures { result ≡ loaded (memory_of self.now) permission.Read at (byte_count size) }

@@ -86,7 +86,7 @@ impl Directory {
     }
 }
 
-/// So many new pages.
+/// `count` new pages.
 pub fn zero_pages(alloc: Global, count: u32) -> Result<Vec<Vec<u8>>, AllocError>
     ensures count { IfOk result (λ v. vec_len v ≡ count) }
     ensures zeros { IfOk result (λ v. All (λ p. p.items ≡ zeros) v.items) }

@@ -99,7 +99,7 @@ impl Invalidation {
     }
 }
 
-// Whether a word is one of so many, from the first on.
+// Whether a word is one of `count`, from the first on.
 fn is_among(word: Word, first: Word, count: u32) -> bool
     ensures { result ≡ is_among first count word }
 {

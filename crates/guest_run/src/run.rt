@@ -108,7 +108,7 @@ impl Runner {
         }
     }
 
-    // Makes further moves of the present turn, from so many on, while their instructions are known, the turn has some left and
+    // Makes further moves of the present turn, after the `made` ones, while their instructions are known, the turn has some left and
     // the budget lasts.
     fn run_known<W: Observer>(
         &mut self,
@@ -144,7 +144,7 @@ impl Runner {
         }
     }
 
-    /// Makes moves, from so many on: the next one, and those that follow it in its turn while the budget lasts.
+    /// Makes moves after the `made` ones: the next one, and those that follow it in its turn while the budget lasts.
     fn take_turn<W: Observer, O: Sink, E: Sink>(
         &mut self,
         made: u64,

@@ -2,7 +2,7 @@
 use Rattle.std.specs.Prelude.{ℕ, ◌<◌, ◌==◌, not, if◌then◌else◌, List, [], ◌∷◌, filter, map, Option, Some, None, refl}
 use Rattle.std.specs.Coded.{Coded, code_by, coded×, coded_ℕ, coded_list}
 
--- each thread with its value, and how many threads more can be inserted without memory
+-- each thread with its value, and how many more threads can be inserted without allocating
 pub record Table (T : Type 0) : Type 0 where
   pub list : List (ℕ × T)
   pub room : ℕ

@@ -10,7 +10,7 @@ use std::alloc::{AllocError, Global};
 use std::marker::Model;
 
 /// Values of threads, by rising thread number. Contracts see the list of the numbers with their values, and beside it the
-/// room: how many threads can be inserted without memory.
+/// room: how many threads can be inserted without allocating.
 #[derive(Drop)]
 pub struct ByThread<T> {
     entries: Vec<(Tid, T)>,

@@ -21,7 +21,7 @@ abbrev pub led : ParseState → List Line → Option ParseState
 led state [] = Some state
 led state (line ∷ lines) = if may_stand state line && rises state line then led (next state line) lines else None
 
--- The text begins with so many lines, which lead to the state, and the rest stands behind them.
+-- The text begins with `count` lines, which lead to the state, and the rest stands behind them.
 pub record Reaches (text : List ℕ) (count : ℕ) (state : ParseState) (rest : List ℕ) : Type 0 where
   pub lines : List Line
   pub fit : AllByRecursion FitsLine lines
@@ -70,7 +70,7 @@ abbrev pub is_over : ParseState → Bool
 is_over (Over r) = true
 is_over state = false
 
--- why a rest is refused that has no whole line: the report isn't over, or bytes stand behind it; no memory is taken
+-- why a rest is refused that has no whole line: the report isn't over, or bytes stand behind it; nothing is allocated
 abbrev pub RefusesRest : ℕ → ParseState → List ℕ → ReportError → Type 0
 RefusesRest number state rest errors.Short = is_over state ≡ false
 RefusesRest number state rest (errors.Line n) = (n ≡ number) × (is_over state ≡ true) × (rest ≢ [])

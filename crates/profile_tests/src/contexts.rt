@@ -153,7 +153,7 @@ fn two_ways(alloc: Global) -> Result<Tree, Fail> {
     Ok(tree)
 }
 
-// One activation that reads one word, so many instructions.
+// One activation that reads one word, at this cost.
 fn point(cost: u64) -> Point {
     Point {
         size: 1,

@@ -21,7 +21,7 @@ fn offer_all<S: Lanes>(trial: &mut Trial<S>, events: &[Event]) -> Result<(), All
     Ok(())
 }
 
-/// So many rounds of the thread, from its start to its end.
+/// `count` rounds of the thread, from its start to its end.
 pub fn try_rounds<S: Lanes>(
     alloc: Global,
     tid: Tid,

@@ -11,7 +11,7 @@ use Rattle.shadow_core.specs.Profiling.{StandsFor}
 use Rattle.shadow_core.specs.State.{State}
 use Rattle.run_profile.specs.declared.totals.Totals.{Totals}
 
--- What is kept of a run: the stamp table, the points, what ended last, of which the first so many are among the points, and
+-- What is kept of a run: the stamp table, the points, what ended last, how many of these, from the first on, are among the points already, and
 -- how many steps there were.
 pub record Kept : Type 0 where
   pub stamps : State

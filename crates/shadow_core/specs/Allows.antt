@@ -56,7 +56,7 @@ IsWithin most sum = (neg_ℤ (pos most) ≤ℤ sum) × (sum ≤ℤ pos most)
 abbrev pub AreWithin : ℕ → List Frame → Type 0
 AreWithin most frames = All (λ (f : Frame). IsWithin most f.sums.plain × IsWithin most f.sums.bare) frames
 
--- after so many pops, each sum is within the weight
+-- after `n` pops, each sum is within the weight
 abbrev pub PopsStayWithin : Type 0
 PopsStayWithin = (table : Table) (past : List Event) (t n : ℕ) (thread : Thread) → Agrees table past → value_of table.threads t ≡ Some thread →
     AreWithin (weight past) (frames_after_pops n thread.frames)

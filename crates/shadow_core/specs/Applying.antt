@@ -48,7 +48,7 @@ access_of table t = option_map_or (λ thread. thread.access) (value_of table.thr
 abbrev pub AreInUse : (ℕ → ℕ) → ℕ → ℕ → Type 0
 AreInUse stamps first count = (l : ℕ) → covers first count l ≡ true → 0 < stamps l
 
--- A step needs none; nor does a return where the list of records, with so many in it, has room for what it ends; nor an access
+-- A step needs none; nor does a return where the list of records, which holds `held`, has room for what it ends; nor an access
 -- of words that are in use.
 abbrev pub DoesNotAllocate : Event → Table → ℕ → ℕ → Type 0
 DoesNotAllocate (Step t) table held capacity = Unit {0}

@@ -5,7 +5,7 @@ use Rattle.trace_model.specs.WellFormed.{last_step}
 use Rattle.trace_model.specs.Depth.{pending}
 use Rattle.shadow_core.specs.Ticks.{ticks}
 
--- the counter after a tick, with so many activations open
+-- the counter after a tick, with `depth` activations open
 abbrev pub next_counter : ℕ → ℕ → ℕ → ℕ
 next_counter most counter depth = if nat_lt counter most then counter + 1 else 3 * depth + 3
 

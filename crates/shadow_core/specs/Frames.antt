@@ -41,7 +41,7 @@ abbrev pub pop : List Frame → List Frame
 pop [] = []
 pop (f ∷ frames) = added_to_top f.sums frames
 
--- so many frames are popped, one after the other
+-- frames are popped, one after the other
 abbrev pub frames_after_pops : ℕ → List Frame → List Frame
 frames_after_pops zero frames = frames
 frames_after_pops (suc n) frames = frames_after_pops n (pop frames)

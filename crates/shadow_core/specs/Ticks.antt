@@ -24,7 +24,7 @@ table_at tick e table = if ticks e table.last then tick table else table
 abbrev pub table_after : (Table → Table) → Event → Table → Table
 table_after tick e table = event_after e (table_at tick e table)
 
--- and after so many steps of a thread in a row
+-- and after several steps of a thread in a row
 abbrev pub table_after_steps : (Table → Table) → ℕ → ℕ → Table → Table
 table_after_steps tick t zero table = table
 table_after_steps tick t (suc n) table = table_after tick (Step t) (table_after_steps tick t n table)

@@ -5,7 +5,7 @@ use thiserror::Error;
 /// Why a profiler does not take an event.
 #[derive(Clone, Copy, Debug, PartialEq, Eq, Error)]
 pub enum ApplyError {
-    /// The activation that begins is one more than stamps can tell apart: so many are open.
+    /// The activation that begins is one more than stamps can tell apart: `pending` are open.
     #[error("too deep: {pending} activations are open")]
     TooDeep { pending: u64 },
     /// Out of memory.

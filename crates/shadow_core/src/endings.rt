@@ -76,7 +76,7 @@ fn end_call<S: Lanes>(threads: &mut Threads<S>, tid: Tid, done: &mut Vec<Done>)
     record_call(tid, ended, done);
 }
 
-/// Ends so many calls of the thread, the innermost first, and records them. There is room for the records.
+/// Ends `ended` calls of the thread, the innermost first, and records them. There is room for the records.
 #[inline(always)]
 pub(crate) fn end_calls<S: Lanes>(
     threads: &mut Threads<S>,

@@ -141,7 +141,7 @@ impl<S: Lanes> Profiler<S> {
         }
     }
 
-    /// Takes so many steps of a thread in a row, none of which is refused. Nothing is allocated, and no page of stamps comes.
+    /// Takes `count` steps of a thread in a row, none of which is refused. It does not allocate, and adds no page of stamps.
     #[inline(always)]
     pub fn take_steps(&mut self, tid: Tid, count: u64)
         requires may { MayStepBy (StandsFor S.MAX) (is_within S.MAX) self.old tid count }

@@ -90,7 +90,7 @@ impl Directory {
     }
 }
 
-// So many empty tables.
+// 1024 empty tables.
 fn empty_tables(alloc: Global) -> Result<Vec<Vec<Option<usize>>>, AllocError>
     ensures { IfOk result (λ v. map (λ t. t.items) v.items ≡ replicate 1024 []) }
 {

@@ -20,7 +20,7 @@ struct Page<S: Stamp> {
     stamps: Vec<S>,
 }
 
-/// Stamps of words. No call but `new` and `reserve` takes memory, and none but `reserve` makes pages.
+/// Stamps of words. Only `new` and `reserve` allocate, and only `reserve` makes pages.
 #[derive(Drop)]
 pub struct Shadow<S: Stamp> {
     alloc: Global,
@@ -230,7 +230,7 @@ impl<S: Stamp> Shadow<S> {
         Ok(fresh)
     }
 
-    /// Makes the pages of a range of words that are not there, of zeros. All memory is taken first.
+    /// Makes the pages of a range of words that are not there, of zeros. All memory is allocated first.
     pub fn reserve(&mut self, first: Word, count: u32) -> Result<(), AllocError>
         requires { first + count ≤ 2 ^ 30 }
         ensures ok { OnOk result (IsReserved self.old.pages self.new.pages first count) }

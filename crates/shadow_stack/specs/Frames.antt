@@ -8,7 +8,7 @@ pub record Frame : Type 0 where
   pub start : ℕ
   pub sums : Sums
 
--- The frames, and how many can be pushed without memory.
+-- The frames, and how many can be pushed without allocating.
 pub record Stack : Type 0 where
   pub list : List Frame
   pub spare : ℕ

@@ -15,7 +15,7 @@ struct Frame<S: Stamp> {
     sums: Sums,
 }
 
-/// Frames by rising start stamps, the outermost first. No call but `push` and `reserve` takes memory, and none but `push`
+/// Frames by rising start stamps, the outermost first. Only `push` and `reserve` allocate, and none but `push`
 /// lowers the room.
 #[derive(Drop)]
 pub struct Frames<S: Stamp> {

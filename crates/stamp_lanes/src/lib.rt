@@ -1,5 +1,5 @@
 //! Slices of stamps, gone over sixteen lanes at a time. Every call is told by a plain definition over the numbers of the stamps,
-//! for every length and width, and none takes memory.
+//! for every length and width, and none allocates.
 #![tactic(auto)]
 
 mod block;

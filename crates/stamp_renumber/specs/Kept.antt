@@ -3,7 +3,7 @@ use Rattle.std.specs.Prelude.{◌≡◌, ℕ, ◌+◌, ◌≤◌, List, length}
 use Rattle.guest_words.specs.ByThread.{IsRising, numbers}
 use Rattle.stamp_renumber.specs.Threads.{Stamped, all_starts}
 
--- All threads have so many frames, and two vectors have room for the marks of these and of some more.
+-- All threads have `frames` frames, and two vectors have room for the marks of these and of some more.
 pub record IsKept (threads : List (ℕ × Stamped)) (frames marks starts renewed : ℕ) : Type 0 where
   pub rising : IsRising (numbers threads)
   pub counted : frames ≡ length (all_starts threads)

@@ -7,7 +7,7 @@ use Rattle.shadow_pages.specs.Pages.{Page}
 use Rattle.guest_words.specs.ByThread.{value_of}
 use Rattle.call_tracker.specs.ThreadCalls.{Calls, no_counts}
 
--- What is kept of a thread: its frames, the outermost first, how many more can be pushed without memory, the pages of its
+-- What is kept of a thread: its frames, the outermost first, how many more can be pushed without allocating, the pages of its
 -- access stamps, and its calls, with what it has counted.
 pub record Stamped : Type 0 where
   pub frames : List Frame

@@ -28,7 +28,7 @@ pub struct EndedCall {
     pub counts: Tally,
 }
 
-/// What a return ends: one call, which then has ended, or so many, which are still open.
+/// What a return ends: one call, which then has ended, or several, which are still open.
 #[derive(Clone, Copy)]
 pub enum Returned {
     One(EndedCall),

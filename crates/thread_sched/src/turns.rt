@@ -11,7 +11,7 @@ use std::marker::Model;
 /// What comes next.
 #[derive(Clone, Copy, Debug, PartialEq, Eq)]
 pub enum Turn {
-    /// The thread runs, at most so many instructions.
+    /// The thread runs, at most `most` instructions.
     Run { tid: Tid, most: u64 },
     /// No thread can run.
     Deadlock,

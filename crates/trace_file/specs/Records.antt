@@ -127,7 +127,7 @@ record_bytes r = joined (head (form r)) (numbers r) (name_bytes r)
 abbrev pub IsIn : Range → ℕ → Type 0
 IsIn r n = (r.least ≤ n) × (n ≤ r.most)
 
--- so many numbers as ranges, and each in its own
+-- as many numbers as ranges, and each in its own
 abbrev pub AreInRanges : List ℕ → List Range → Type 0
 AreInRanges [] [] = Unit {0}
 AreInRanges (n ∷ ns) (r ∷ rs) = IsIn r n × AreInRanges ns rs

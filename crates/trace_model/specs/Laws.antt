@@ -117,7 +117,7 @@ pub record IsLongestThatFits (fits : List Event → Bool) (past part : List Even
 abbrev pub CutIsTheLongestPrefix : Type 0
 CutIsTheLongestPrefix = (fits : List Event → Bool) (past : List Event) → fits [] ≡ true → IsLongestThatFits fits past (cut fits past)
 
--- the trace of a thread that runs so many instructions without a call or an access
+-- the trace of a thread that runs `count` instructions without a call or an access
 abbrev pub plain_trace : ℕ → ℕ → ℕ → List Event
 plain_trace t entry count = replicate count (Step t) ++ Start t entry ∷ []
 

@@ -41,7 +41,7 @@ ObservesAll Stands fits events old new observed =
     Stands new (cut fits (past_after past events)) × (fits (past_after past events) ≡ is_taken observed)
 
 -- ---- Steps of a thread in a row.
--- the past with so many more steps of the thread
+-- the past with more steps of the thread
 abbrev pub with_steps : ℕ → ℕ → List Event → List Event
 with_steps tid zero past = past
 with_steps tid (suc n) past = Step tid ∷ with_steps tid n past
@@ -50,7 +50,7 @@ with_steps tid (suc n) past = Step tid ∷ with_steps tid n past
 abbrev pub StepsFit : (List Event → Bool) → Type 0
 StepsFit fits = (tid : ℕ) (past : List Event) → fits past ≡ true → fits (Step tid ∷ past) ≡ true
 
--- It stands for some past that fits and after which so many steps of the thread may come.
+-- It stands for some past that fits and after which `count` steps of the thread may come.
 pub record MayStepBy {O : Type 0} (Stands : O → List Event → Type 0) (fits : List Event → Bool) (o : O) (tid count : ℕ) : Type 0 where
   pub past : List Event
   pub now : Stands o past

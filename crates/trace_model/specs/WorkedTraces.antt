@@ -6,7 +6,7 @@ use Rattle.trace_model.specs.declared.slow_profile.Done.{Done}
 use Rattle.trace_model.specs.Profile.{done}
 use Rattle.trace_model.specs.WellFormed.{IsWellFormed}
 
--- an activation that read words in so many pairs: plain ones, others, and words that it read first
+-- an activation with these counts of reads: plain ones, those of each cause, and words that it read first
 abbrev pub of_reads : ℕ → ℕ → ℕ → ℕ → ℕ → ℕ → ℕ → Done
 of_reads t entry cost plain thread kernel bare = record {
   tid = t;

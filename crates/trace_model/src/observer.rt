@@ -36,7 +36,7 @@ pub trait Observer {
         ensures refused { OnErr result (StandsAsBefore stands self.old self.new) }
         ensures same { fits self.new ≡ fits self.old };
 
-    /// Takes so many steps of a thread in a row, none of which it refuses: one by one, where nothing is quicker.
+    /// Takes `count` steps of a thread in a row, none of which it refuses: one by one, unless there is a quicker way.
     fn observe_steps(&mut self, tid: Tid, count: u64) -> Result<(), AllocError>
         requires may { MayStepBy stands (fits self.old) self.old tid count }
         requires some { 1 ≤ count }

@@ -114,7 +114,7 @@ impl<S: Lanes> TraceProfile<S> {
 }
 
 /// Reads the text of a trace, and profiles its events by stamps of a width. No clause on these bytes alone can say more of
-/// `Memory` than that it may come, since the first step takes memory: `TraceProfile` says before what it comes.
+/// `Memory` than that it may come, since the first step allocates: `TraceProfile` says before what it comes.
 pub fn replay<S: Lanes>(alloc: Global, bytes: &[u8]) -> Result<Replayed, TraceError>
     requires { 3 ≤ S.MAX }
     ensures { Replays S.MAX bytes.now result }

@@ -32,7 +32,7 @@ impl Images {
         Ok(format!(in alloc; "{} bytes", self.file.len())?)
     }
 
-    /// Takes the file of the demo with so many routines, and shows its words from the entry on, those of one routine.
+    /// Takes the file of the demo with that many routines, and shows its words from the entry on, those of one routine.
     pub fn take_demo(&mut self, alloc: Global, row: &str) -> Result<String> {
         let routines: u32 = row.parse()?;
         if routines < 1 || routines > DEMO_ROUTINES {

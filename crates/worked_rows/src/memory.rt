@@ -12,7 +12,7 @@ fn text_of<T: Drop>(alloc: Global, answer: Result<T, MemError>) -> Result<String
     }
 }
 
-/// Maps so many pages that can be read, from a page on, or says why not.
+/// Maps pages that can be read, from a page on, or says why not.
 pub fn map(alloc: Global, memory: &mut GuestMemory, row: &str) -> Result<String> {
     let (page, count) = row.split_once(' ').context("no count")?;
     let (page, count) = (

@@ -4,7 +4,7 @@ use Rattle.std.specs.List.{All, count_by}
 use Rattle.cache_profile.specs.declared.routines.RoutineMisses.{RoutineMisses}
 use Rattle.cache_profile.specs.ByRoutine.{LineAccess}
 
--- These are accesses of the routine: at least one, so many in all, and so many that miss.
+-- These are accesses of the routine: at least one, `accesses` in all, of which `misses` miss.
 pub record AreOf (entry accesses misses : ℕ) (more : List LineAccess) : Type 0 where
   pub some : 1 ≤ accesses
   pub entries : All (λ a. a.entry ≡ entry) more

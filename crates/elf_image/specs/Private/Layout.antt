@@ -11,7 +11,7 @@ pub record IsLoadable (file_size : ℕ) (h : ProgramHeader) : Type 0 where
   pub within : h.p_filesz ≤ h.p_memsz
   pub in_file : h.p_offset + h.p_filesz ≤ file_size
 
--- The segments touch so many pages, all of them below `next`, and each page from `low` up to `next` among them.
+-- The segments touch `pages` pages, all of them below `next`, and each page from `low` up to `next` among them.
 pub record AreCounted (segments : List Segment) (low next pages : ℕ) : Type 0 where
   pub count : pages ≡ page_count segments
   pub below : (page : ℕ) → is_touched segments page ≡ true → page < next

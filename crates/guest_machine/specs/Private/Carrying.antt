@@ -18,7 +18,7 @@ pub record IsStateOf (c : ExecState) (tid : ℕ) (m : MachineState) : Type 0 whe
   pub sound : IsSound m
   pub able : can_run m tid ≡ true
 
--- the machine so many steps later, whose thread has this state
+-- the machine `n` steps later, whose thread has this state
 abbrev pub carried : MachineState → ℕ → ExecState → ℕ → MachineState
 carried m tid c n = with_exec_state (record m { kernel = later_by n m.kernel }) tid c
 
@@ -35,18 +35,18 @@ pub record StepsTo (m : MachineState) (tid : ℕ) (c : ExecState) (events : List
 abbrev pub IsStepOf : ExecState → ExecState → ℕ → Advanced → Type 0
 IsStepOf old new tid advanced = (m : MachineState) → IsStateOf old tid m → StepsTo m tid new (Step tid ∷ done_by tid advanced)
 
--- So many steps left this state, after each of which the thread goes on.
+-- `count` steps left this state, after each of which the thread goes on.
 pub record Carries (m : MachineState) (tid : ℕ) (c : ExecState) (count : ℕ) : Type 0 where
   pub all : AllGoOn m tid count
   pub machine : carried m tid c count ≡ after_steps m tid count
   pub of : IsStateOf c tid (after_steps m tid count)
 
--- After `n` steps so many more left this state, with these events.
+-- After `n` steps `more` further ones left this state, with these events.
 pub record GoesWith (m : MachineState) (tid n : ℕ) (c : ExecState) (more : ℕ) (events : List Event) : Type 0 where
   pub carries : Carries m tid c (n + more)
   pub told : events_of_steps m tid (n + more) ≡ events_of_steps m tid n ++ events
 
--- It is what a thread of some machine works on, so many of whose steps may be observed.
+-- It is what a thread of some machine works on, of whose steps at most `most` may be observed.
 pub record MayCarry {O : Type 0} (Stands : O → List Event → Type 0) (fits : List Event → Bool) (o : O) (c : ExecState) (tid most : ℕ) : Type 0 where
   pub machine : MachineState
   pub of : IsStateOf c tid machine

@@ -136,7 +136,7 @@ MakesAMove Stands fits old observed now new observer after result =
     → IsGoing Stands fits first start moves old observed → length moves < RUN_STEPS → now ≡ with_output moves before
     → Advances Stands fits first start moves before new observer after result
 
--- where it stands after so many further moves of its turn
+-- where it stands after `n` further moves of its turn
 abbrev pub moved : Standing → ℕ → Standing
 moved s n = record {
   state = after_steps s.state s.turn.tid n;

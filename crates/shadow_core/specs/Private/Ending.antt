@@ -7,7 +7,7 @@ use Rattle.stamp_renumber.specs.Threads.{Live, calls_of, frames_of, pages_of, st
 use Rattle.shadow_core.specs.Parts.{ArePopped}
 use Rattle.shadow_core.specs.Records.{records}
 
--- So many calls of the thread ended, the innermost first: their frames are popped, and each is recorded with its sums.
+-- `n` calls of the thread ended, the innermost first: their frames are popped, and each is recorded with its sums.
 pub record IsEnded (t n : ℕ) (old new : Live) (done more : List Done) : Type 0 where
   pub sums : List Sums
   pub count : length sums ≡ n
