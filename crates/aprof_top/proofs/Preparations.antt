@@ -24,6 +24,6 @@ module _ (options : GuestOptions) (old new : FilesState) (files : List (List ℕ
   image_refused _ refused = inr (record { files = files; loaded = all; refused = refused (λ e. absurd (cc)) })
 
   -- the schedule was not taken
-  pub schedule_refused : first_refusal (loaded_of options files).image ≡ None → (e : ScheduleError) → recordings.IsRefused (loaded_of options files).schedule e → Ends (of_schedule e)
+  pub schedule_refused : first_refusal (loaded_of options files).image ≡ None → (e : ScheduleError) → recordings.IsScheduleRefused (loaded_of options files).schedule e → Ends (of_schedule e)
   schedule_refused accepted (unread.BadLine line) bad = inr (record { files = files; loaded = all; refused = (accepted, bad) })
   schedule_refused accepted unread.Memory bad = inl all.are.same

@@ -10,7 +10,7 @@ use Rattle.host_io.specs.Sink.{SinkState, appended}
 use Rattle.host_io.specs.declared.files.StoreError.{StoreError}
 use Rattle.host_io.specs.declared.files.StoreError.TheVariants as store
 use Rattle.std.proofs.Math.Seq.{take-length}
-use Rattle.trace_file.specs.Reading.{IsRefused}
+use Rattle.trace_file.specs.Reading.{IsTraceRefused}
 use Rattle.trace_file.specs.declared.errors.TraceError.{TraceError}
 use Rattle.trace_file.specs.declared.errors.TraceError.TheVariants as trace
 use Rattle.trace_model.specs.declared.event_kinds.Event.{Event}
@@ -132,13 +132,13 @@ module _ (options : ReplayOptions) (files loaded : FilesState) (out err : SinkSt
     written outcome is = subst (ByLength options bytes outcome) (sym (short_trace bytes gives.limit)) is
 
     -- it is refused
-    refused_trace : (past : List Event) (why : TraceError) → IsRefused bytes past why → why ≢ trace.Memory → AskedEnds (Replay options) before between (ending.Decided (BadTrace why))
+    refused_trace : (past : List Event) (why : TraceError) → IsTraceRefused bytes past why → why ≢ trace.Memory → AskedEnds (Replay options) before between (ending.Decided (BadTrace why))
     refused_trace past why refused no_memory words asks =
         refused_by words (BadTrace why) files loaded out err (found words between asks)
         (written (refusal (BadTrace why)) (inr (record { past = past; why = why; refused = refused; no_memory = no_memory; answered = refl })))
         (inl gives.same)
 
-    pub AskedEnds-refused : (past : List Event) (why : TraceError) → IsRefused bytes past why → AskedEnds (Replay options) before between (of_trace why)
+    pub AskedEnds-refused : (past : List Event) (why : TraceError) → IsTraceRefused bytes past why → AskedEnds (Replay options) before between (of_trace why)
     AskedEnds-refused past trace.Magic refused = refused_trace past trace.Magic refused (λ e. absurd (cc))
     AskedEnds-refused past (trace.Record at) refused = refused_trace past (trace.Record at) refused (λ e. absurd (cc))
     AskedEnds-refused past (trace.Order at) refused = refused_trace past (trace.Order at) refused (λ e. absurd (cc))

@@ -29,7 +29,7 @@ use Rattle.aprof_top.specs.declared.ending.Ending.TheVariants as ending
 use Rattle.aprof_top.specs.declared.ending.Verdict.{Verdict}
 use Rattle.aprof_top.specs.declared.ending.Verdict.TheVariants.{BadImage, BadSchedule, TooLarge}
 use Rattle.aprof_top.specs.Private.Preparing.{Refuses}
-use Rattle.aprof_top.specs.Private.Jobs.{FilesRun, IsRefused, RunIsStored, RunStops, desk, ending_by}
+use Rattle.aprof_top.specs.Private.Jobs.{FilesRun, IsSetupRefused, RunIsStored, RunStops, desk, ending_by}
 use Rattle.aprof_top.specs.Delivery.{FailsWithin, PutsOutput}
 use Rattle.aprof_top.specs.Loads.{Loaded, with_inputs}
 use Rattle.aprof_top.specs.Outcome.{ByImage, IsRun, IsScheduled, Job, Outcome, begun_outcome, refusal, writes_of}
@@ -50,15 +50,15 @@ module _ (job : Job) (loaded : Loaded) where
     IsRun-bad_line line bad = accepts (refusal (BadSchedule line)) (record { reading = BadLine line; read = bad; answered = refl })
 
     module _ (turns : List Entry) (entries : AllByRecursion IsEntry turns) (text : IsText loaded.schedule turns) (image : Executable) (is : image ≡ image_of loaded.image) where
-      refused_by : (o : Option SetupError) → IsRefused o → refusal TooLarge ≡ begun_outcome job loaded turns o
+      refused_by : (o : Option SetupError) → IsSetupRefused o → refusal TooLarge ≡ begun_outcome job loaded turns o
       refused_by None refused = absurd refused
       refused_by (Some why) refused = refl
 
-      pub IsRun-unbegun : IsRefused (setup_refusal image (arguments job.guest)) → IsRun job loaded (refusal TooLarge)
+      pub IsRun-unbegun : IsSetupRefused (setup_refusal image (arguments job.guest)) → IsRun job loaded (refusal TooLarge)
       IsRun-unbegun refused = accepts (refusal TooLarge) (record {
         reading = Turns turns;
         read = (entries, text);
-        answered = refused_by (setup_refusal (image_of loaded.image) (arguments job.guest)) (subst (λ i. IsRefused (setup_refusal i (arguments job.guest))) is refused);
+        answered = refused_by (setup_refusal (image_of loaded.image) (arguments job.guest)) (subst (λ i. IsSetupRefused (setup_refusal i (arguments job.guest))) is refused);
       })
 
       pub IsRun-run : setup_refusal image (arguments job.guest) ≡ None → (outcome : Outcome) → outcome ≡ job.leaves loaded turns → IsRun job loaded outcome

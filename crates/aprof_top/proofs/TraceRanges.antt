@@ -23,7 +23,7 @@ use Rattle.elf_image.proofs.NameTexts.{name_there}
 use Rattle.elf_image.proofs.Sound.{sound_from}
 use Rattle.guest_machine.specs.Laws.{IsAddress}
 use Rattle.guest_run.specs.ObservedRun.{ObservedRun}
-use Rattle.guest_run.specs.Traces.{IsEndInRange, IsInRange, TellsInRange}
+use Rattle.guest_run.specs.Traces.{IsEndInRange, IsEventInRange, TellsInRange}
 use Rattle.run_trace.specs.Entries.{entries_begun}
 use Rattle.trace_file.specs.Records.{Fits, kind_number}
 use Rattle.trace_file.specs.TraceText.{event_records, name_records, whole_records}
@@ -149,7 +149,7 @@ beside_named (n ∷ names) at named = by (n.0 == at) refl (beside_named names at
     by false is rest = rw is rest
 
 -- ---- records
-event_fits : (e : Event) → IsInRange e → Fits (OfEvent e)
+event_fits : (e : Event) → IsEventInRange e → Fits (OfEvent e)
 event_fits (Step tid) is = record { ranges = (is, tt); content = tt }
 event_fits (Read tid first count) is =
     record { ranges = (is.0, ((omega arith, omega (arith, is.1.0, is.1.1)), ((omega arith, omega (arith, is.1.1)), tt))); content = tt }
@@ -166,7 +166,7 @@ each-append : {X : Type 0} (Holds : X → Type 0) (xs ys : List X) → AllByRecu
 each-append Holds [] ys front back = back
 each-append Holds (x ∷ xs) ys front back = (front.0, each-append Holds xs ys front.1 back)
 
-events_fit : (past : List Event) → AllByRecursion IsInRange past → AllByRecursion Fits (event_records past)
+events_fit : (past : List Event) → AllByRecursion IsEventInRange past → AllByRecursion Fits (event_records past)
 events_fit [] all = tt
 events_fit (e ∷ past) all =
     subst (AllByRecursion Fits) (sym (ap (map OfEvent) (reverse-append (e ∷ []) past) ∙ map-append OfEvent (reverse past) (e ∷ [])))
@@ -204,7 +204,7 @@ finish_fits lines (ends.Schedule line) few is =
 finish_fits lines _ few is = record { ranges = tt; content = tt }
 
 -- ---- the whole
-begun_low : (past : List Event) → AllByRecursion IsInRange past → All IsAddress (begins past)
+begun_low : (past : List Event) → AllByRecursion IsEventInRange past → All IsAddress (begins past)
 begun_low [] all = All-nil IsAddress
 begun_low (Start tid entry ∷ past) all = All-cons IsAddress entry (begins past) all.0.1 (begun_low past all.1)
 begun_low (Call tid entry back ∷ past) all = All-cons IsAddress entry (begins past) all.0.1 (begun_low past all.1)

@@ -14,7 +14,7 @@ use Rattle.guest_run.specs.ObservedRun.{ObservedRun}
 use Rattle.guest_run.specs.Run.{Move, recording, sent}
 use Rattle.guest_words.specs.declared.endings.Finish.{Finish}
 use Rattle.guest_words.specs.declared.endings.Finish.TheVariants.{Deep}
-use Rattle.trace_file.specs.Reading.{IsRefused}
+use Rattle.trace_file.specs.Reading.{IsTraceRefused}
 use Rattle.trace_file.specs.TraceText.{IsTrace, Names}
 use Rattle.trace_file.specs.declared.errors.TraceError.{TraceError}
 use Rattle.trace_file.specs.declared.errors.TraceError.TheVariants.{Memory}
@@ -241,7 +241,7 @@ pub record IsOfTrace (options : ReplayOptions) (bytes : List ℕ) (outcome : Out
 pub record IsOfNoTrace (bytes : List ℕ) (outcome : Outcome) : Type 0 where
   pub past : List Event
   pub why : TraceError
-  pub refused : IsRefused bytes past why
+  pub refused : IsTraceRefused bytes past why
   pub no_memory : why ≢ Memory
   pub answered : outcome ≡ refusal (BadTrace why)
 

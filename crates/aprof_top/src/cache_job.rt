@@ -12,7 +12,7 @@ ghost use Rattle.aprof_top.specs.Outcome.{analysed, job_of};
 ghost use Rattle.aprof_top.specs.Outside.{outside};
 ghost use Rattle.trace_model.specs.declared.event_kinds.Event.{Event};
 ghost use Rattle.guest_run.specs.Output.{sinks};
-ghost use Rattle.cache_profile.specs.Profile.{StandsFor};
+ghost use Rattle.cache_profile.specs.Profile.{MissesStandFor};
 
 use crate::delivery::store_result;
 use crate::ending::{Ending, Verdict};
@@ -52,7 +52,7 @@ fn report_of<K: Shaped>(
     profile: &CacheProfile<K>,
     finish: Finish,
 ) -> Result<CacheReport, AllocError>
-    ensures { IfOk result (λ report. (past : List Event) → StandsFor K.shape profile.now past
+    ensures { IfOk result (λ report. (past : List Event) → MissesStandFor K.shape profile.now past
         → report ≡ misses_of K.shape image.now finish past) }
 {
     let routines = named_misses(alloc, image, profile)?;

@@ -9,7 +9,7 @@ ghost use Rattle.aprof_top.specs.Outside.{outside};
 ghost use Rattle.host_io.specs.Files.{FilesState};
 ghost use Rattle.host_io.specs.Sink.{SinkState};
 ghost use Rattle.command_line.specs.Options.Asked.{Demo};
-ghost use Rattle.command_line.specs.Read.{IsInRange, asked_in};
+ghost use Rattle.command_line.specs.Read.{IsCommandInRange, asked_in};
 
 use crate::delivery::put_all;
 use crate::demo::run_demo;
@@ -41,7 +41,7 @@ fn do_command<F: Files, O: Sink, E: Sink>(
     out: &mut O,
     err: &mut E,
 ) -> Result<Verdict, Ending>
-    requires { IsInRange command.now }
+    requires { IsCommandInRange command.now }
     ensures { AskedEnds (asked_in command.now)
         (outside (F.state files.old) (O.state out.old) (E.state err.old))
         (outside (F.state files.new) (O.state out.new) (E.state err.new)) (ending_by result) }

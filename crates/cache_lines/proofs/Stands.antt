@@ -11,7 +11,7 @@ use Rattle.std.proofs.lemmas.Bool.Decides.{nat_tests}
 use Rattle.cache_lines.specs.Shapes.{Form, shape_of, are_sets, are_ways, is_line}
 use Rattle.cache_lines.specs.declared.shape.TheConstants.{SETS, WAYS, LEAST_LINE, LINE}
 use Rattle.cache_lines.specs.Held.{Held}
-use Rattle.cache_lines.specs.Kept.{recent, StandsFor}
+use Rattle.cache_lines.specs.Kept.{recent, CacheStandsFor}
 use Rattle.cache_lines.specs.Misses.{was_accessed, misses, different}
 use Rattle.cache_lines.specs.Sets.{lines_of, touched}
 use Rattle.cache_lines.proofs.Recent.{misses_is, recent_is, others_stay}
@@ -21,9 +21,9 @@ abbrev pub held : Form → List ℕ → List ℕ → Held
 held shape used places = record { shape = shape; sets = lines_of shape.ways used places }
 
 -- a new cache
-pub new_stands : (shape : Form) (used places : List ℕ) → used ≡ replicate shape.sets 0 → StandsFor (held shape used places) []
+pub new_stands : (shape : Form) (used places : List ℕ) → used ≡ replicate shape.sets 0 → CacheStandsFor (held shape used places) []
 new_stands shape used places is =
-    subst (λ us. StandsFor (held shape us places) []) (sym is) (record {
+    subst (λ us. CacheStandsFor (held shape us places) []) (sym is) (record {
       all = length-lines_of shape.ways (replicate shape.sets 0) places ∙ length-replicate shape.sets 0;
       each = λ set lt. none-lines_of shape.ways shape.sets places set ∙ sym (take-nil shape.ways);
     })
@@ -96,7 +96,7 @@ module _ (shape : Form) (used places : List ℕ) (line at k u : ℕ) (ready : Is
   fits = let h : get_or used (line % shape.sets) u ≤ shape.ways = ready.few (line % shape.sets) u (omega (arith, ready.some_set, ready.all)) in let e = ready.u_is in omega arith
 
   -- the used places of the set are what it holds
-  row_is : (accesses : List ℕ) → StandsFor (held shape used places) accesses → take u (take k (drop at places)) ≡ recent shape (line % shape.sets) accesses
+  row_is : (accesses : List ℕ) → CacheStandsFor (held shape used places) accesses → take u (take k (drop at places)) ≡ recent shape (line % shape.sets) accesses
   row_is accesses stands =
       let few = fits in
       let k_is = ready.k_is in
@@ -105,7 +105,7 @@ module _ (shape : Form) (used places : List ℕ) (line at k u : ℕ) (ready : Is
       ∙ sym (at-lines_of shape.ways used places (line % shape.sets) u (omega (arith, ready.some_set, ready.all)))
       ∙ stands.each (line % shape.sets) ready.some_set
 
-  pub access_misses : (accesses : List ℕ) (result : Bool) → StandsFor (held shape used places) accesses → result ≡ not (was_accessed line (take u (take k (drop at places)))) → result ≡ misses shape accesses line
+  pub access_misses : (accesses : List ℕ) (result : Bool) → CacheStandsFor (held shape used places) accesses → result ≡ not (was_accessed line (take u (take k (drop at places)))) → result ≡ misses shape accesses line
   access_misses accesses result stands is =
       is ∙ ap (λ row. not (was_accessed line row)) (row_is accesses stands) ∙ misses_is shape line accesses
 
@@ -115,10 +115,10 @@ module _ (shape : Form) (used places : List ℕ) (line at k u : ℕ) (ready : Is
       let inside = ready.inside in
       length-take-le k (drop at places) (omega arith)
 
-  pub access_stands : (accesses row new_used new_places : List ℕ) (u' : ℕ) → StandsFor (held shape used places) accesses
+  pub access_stands : (accesses row new_used new_places : List ℕ) (u' : ℕ) → CacheStandsFor (held shape used places) accesses
       → take u' row ≡ touched (length (take k (drop at places))) line (take u (take k (drop at places)))
       → length row ≡ length (take k (drop at places)) → u' ≤ length (take k (drop at places))
-      → new_used ≡ slice_set used (line % shape.sets) u' → new_places ≡ written at k places row → StandsFor (held shape new_used new_places) (line ∷ accesses)
+      → new_used ≡ slice_set used (line % shape.sets) u' → new_places ≡ written at k places row → CacheStandsFor (held shape new_used new_places) (line ∷ accesses)
   access_stands accesses row new_used new_places u' stands is long most used_is places_is =
       let set = line % shape.sets in
       let k_is = ready.k_is in

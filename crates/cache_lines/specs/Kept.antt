@@ -9,6 +9,6 @@ abbrev pub recent : Form → ℕ → List ℕ → List ℕ
 recent shape set accesses = take shape.ways (different (of_set shape.sets set accesses))
 
 -- The cache stands for the accesses: each of its sets holds the last different lines of that set.
-pub record StandsFor (cache : Held) (accesses : List ℕ) : Type 0 where
+pub record CacheStandsFor (cache : Held) (accesses : List ℕ) : Type 0 where
   pub all : length cache.sets ≡ cache.shape.sets
   pub each : (set : ℕ) → set < cache.shape.sets → slice_index_or cache.sets set [] ≡ recent cache.shape set accesses

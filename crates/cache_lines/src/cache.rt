@@ -1,7 +1,7 @@
 //! The cache.
 ghost use Rattle.std.specs.Prelude.{◌≡◌, ◌≤◌, ◌/◌, ◌∷◌, [], ℕ, List, IfOk};
 ghost use Rattle.cache_lines.specs.declared.shape.TheConstants.{LEAST_LINE};
-ghost use Rattle.cache_lines.specs.Kept.{StandsFor};
+ghost use Rattle.cache_lines.specs.Kept.{CacheStandsFor};
 ghost use Rattle.cache_lines.specs.Misses.{misses};
 
 use crate::Shape;
@@ -38,7 +38,7 @@ impl Cache {
     /// No line was accessed yet.
     pub fn new(alloc: Global, shape: Shape) -> Result<Cache, AllocError>
         ensures shape { IfOk result (λ c. c.shape ≡ shape) }
-        ensures empty { IfOk result (λ c. StandsFor c []) }
+        ensures empty { IfOk result (λ c. CacheStandsFor c []) }
     {
         let sets = shape.sets as usize;
         let ways = shape.ways as usize;
@@ -60,10 +60,10 @@ impl Cache {
     /// An access of the line of this number: whether it misses.
     pub fn access(&mut self, line: u32) -> bool
         ensures shape { self.new.shape ≡ self.old.shape }
-        ensures misses { (accesses : List ℕ) → StandsFor self.old accesses
+        ensures misses { (accesses : List ℕ) → CacheStandsFor self.old accesses
             → result ≡ misses self.old.shape accesses line }
-        ensures after { (accesses : List ℕ) → StandsFor self.old accesses
-            → StandsFor self.new (line ∷ accesses) }
+        ensures after { (accesses : List ℕ) → CacheStandsFor self.old accesses
+            → CacheStandsFor self.new (line ∷ accesses) }
     {
         let shape = self.shape;
         let set = (line % shape.sets) as usize;

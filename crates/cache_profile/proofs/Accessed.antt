@@ -6,7 +6,7 @@ use Rattle.std.proofs.lemmas.List.Sums.{sum_by_push}
 use Rattle.trace_model.proofs.Bounds.{range_with_len_more}
 use Rattle.cache_lines.specs.Shapes.{Form}
 use Rattle.cache_lines.specs.Held.{Held}
-use Rattle.cache_lines.specs.Kept.{StandsFor}
+use Rattle.cache_lines.specs.Kept.{CacheStandsFor}
 use Rattle.cache_lines.specs.Misses.{misses}
 use Rattle.cache_profile.specs.LineAccesses.{missed}
 
@@ -18,8 +18,8 @@ count_missed shape earlier lines = count_by (λ m. m) (missed shape earlier line
 pub record AreAccessed (old new : Held) (lines : List ℕ) (missing : ℕ) : Type 0 where
   pub shape : new.shape ≡ old.shape
   pub few : missing ≤ length lines
-  pub count : (earlier : List ℕ) → StandsFor old earlier → missing ≡ count_missed old.shape earlier lines
-  pub stands : (earlier : List ℕ) → StandsFor old earlier → StandsFor new (reverse lines ++ earlier)
+  pub count : (earlier : List ℕ) → CacheStandsFor old earlier → missing ≡ count_missed old.shape earlier lines
+  pub stands : (earlier : List ℕ) → CacheStandsFor old earlier → CacheStandsFor new (reverse lines ++ earlier)
 
 pub none_accessed : (cache : Held) → AreAccessed cache cache [] 0
 none_accessed cache = record { shape = refl; few = omega arith; count = λ earlier stands. refl; stands = λ earlier stands. stands }
@@ -47,8 +47,8 @@ one_or_none false = omega arith
 
 -- one more line
 pub one_more : (old now new : Held) (lines : List ℕ) (missing line : ℕ) (miss : Bool) → AreAccessed old now lines missing → new.shape ≡ now.shape →
-    ((accesses : List ℕ) → StandsFor now accesses → miss ≡ misses now.shape accesses line) →
-    ((accesses : List ℕ) → StandsFor now accesses → StandsFor new (line ∷ accesses)) →
+    ((accesses : List ℕ) → CacheStandsFor now accesses → miss ≡ misses now.shape accesses line) →
+    ((accesses : List ℕ) → CacheStandsFor now accesses → CacheStandsFor new (line ∷ accesses)) →
     AreAccessed old new (lines ++ line ∷ []) (missing + cond miss 1 0)
 one_more old now new lines missing line miss before same tells after = record {
   shape = same ∙ before.shape;
@@ -60,14 +60,14 @@ one_more old now new lines missing line miss before same tells after = record {
       ∙ ap (λ m. count_missed old.shape earlier lines + cond m 1 0) is
       ∙ sym (count_push old.shape earlier lines line);
   stands = λ earlier stands.
-      subst (λ accesses. StandsFor new accesses) (sym (ap (λ ls. ls ++ earlier) (reverse-append lines (line ∷ []))))
+      subst (λ accesses. CacheStandsFor new accesses) (sym (ap (λ ls. ls ++ earlier) (reverse-append lines (line ∷ []))))
       (after (reverse lines ++ earlier) (before.stands earlier stands));
 }
 
 -- one more line of a row
 pub one_further : (old now new : Held) (first k missing m : ℕ) (miss : Bool) → AreAccessed old now (range_with_len first k) missing → new.shape ≡ now.shape →
-    ((accesses : List ℕ) → StandsFor now accesses → miss ≡ misses now.shape accesses (first + k)) →
-    ((accesses : List ℕ) → StandsFor now accesses → StandsFor new ((first + k) ∷ accesses)) →
+    ((accesses : List ℕ) → CacheStandsFor now accesses → miss ≡ misses now.shape accesses (first + k)) →
+    ((accesses : List ℕ) → CacheStandsFor now accesses → CacheStandsFor new ((first + k) ∷ accesses)) →
     m ≡ missing + cond miss 1 0 → AreAccessed old new (range_with_len first (k + 1)) m
 one_further old now new first k missing m miss before same tells after is =
     subst (λ n. AreAccessed old new (range_with_len first (k + 1)) n) (sym is)
@@ -75,6 +75,6 @@ one_further old now new first k missing m miss before same tells after is =
     (one_more old now new (range_with_len first k) missing (first + k) miss before same tells after))
 
 pub accessed_all : (old new : Held) (first k count missing : ℕ) → k ≡ count → AreAccessed old new (range_with_len first k) missing →
-    (earlier : List ℕ) → StandsFor old earlier → StandsFor new (reverse (range_with_len first count) ++ earlier)
+    (earlier : List ℕ) → CacheStandsFor old earlier → CacheStandsFor new (reverse (range_with_len first count) ++ earlier)
 accessed_all old new first k count missing is before earlier stands =
-    subst (λ n. StandsFor new (reverse (range_with_len first n) ++ earlier)) is (before.stands earlier stands)
+    subst (λ n. CacheStandsFor new (reverse (range_with_len first n) ++ earlier)) is (before.stands earlier stands)

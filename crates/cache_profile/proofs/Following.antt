@@ -28,7 +28,7 @@ use Rattle.cache_lines.specs.Shapes.{Form}
 use Rattle.cache_profile.specs.Private.Added.{AreOf}
 use Rattle.cache_profile.specs.ByRoutine.{LineAccess, accesses_of, all_accesses, by_routine, innermost, routine_at}
 use Rattle.cache_profile.specs.LineAccesses.{line_accesses, lines_accessed, lines_over, missed}
-use Rattle.cache_profile.specs.Profile.{IsOfSome, IsOther, Kept, MayCome, StandsFor, lives}
+use Rattle.cache_profile.specs.Profile.{IsOfSome, IsOther, KeptMisses, MayCome, MissesStandFor, lives}
 use Rattle.cache_profile.proofs.Accessed.{count_missed}
 use Rattle.cache_profile.proofs.Bounds.{length-accesses_of}
 
@@ -58,46 +58,46 @@ are_of shape past tid first count entry accesses misses whose some all missing =
     }
 
 -- and where the cache stands for the accesses before
-pub are_counted : (shape : Form) (past : List Event) (tid first count : ℕ) (cache : Held) (entry accesses misses : ℕ) → cache.shape ≡ shape → lines.StandsFor cache (line_accesses shape past) →
+pub are_counted : (shape : Form) (past : List Event) (tid first count : ℕ) (cache : Held) (entry accesses misses : ℕ) → cache.shape ≡ shape → lines.CacheStandsFor cache (line_accesses shape past) →
     entry ≡ innermost past tid → 1 ≤ accesses → accesses ≡ length (lines_over cache.shape first count) →
-    ((earlier : List ℕ) → lines.StandsFor cache earlier → misses ≡ count_missed cache.shape earlier (lines_over cache.shape first count)) →
+    ((earlier : List ℕ) → lines.CacheStandsFor cache earlier → misses ≡ count_missed cache.shape earlier (lines_over cache.shape first count)) →
     AreOf entry accesses misses (accesses_of shape (Read tid first count) past)
 are_counted shape past tid first count cache entry accesses misses same stands whose some all missing =
     are_of shape past tid first count entry accesses misses whose some (all ∙ ap (λ (form : Form). length (lines_over form first count)) same)
     (missing (line_accesses shape past) stands ∙ ap (λ (form : Form). count_missed form (line_accesses shape past) (lines_over form first count)) same)
 
 -- ---- which event may come next
-pub formed_next : (shape : Form) (kept : Kept) (past : List Event) (e : Event) → StandsFor shape kept past → MayCome kept e → IsWellFormed (e ∷ past)
+pub formed_next : (shape : Form) (kept : KeptMisses) (past : List Event) (e : Event) → MissesStandFor shape kept past → MayCome kept e → IsWellFormed (e ∷ past)
 formed_next shape kept past e stands may = (allowed_by e (lives kept) kept.progress past stands.progress_is stands.calls.threads_live).0 may
 
-pub may_next : (shape : Form) (kept : Kept) (past : List Event) (e : Event) → StandsFor shape kept past → IsWellFormed (e ∷ past) → MayCome kept e
+pub may_next : (shape : Form) (kept : KeptMisses) (past : List Event) (e : Event) → MissesStandFor shape kept past → IsWellFormed (e ∷ past) → MayCome kept e
 may_next shape kept past e stands formed = (allowed_by e (lives kept) kept.progress past stands.progress_is stands.calls.threads_live).1 formed
 
 -- what follows the events of some past is of some past
-pub of_some : (shape : Form) (old new : Kept) (e : Event) → ∥ IsOfSome shape old ∥₁ → ((past : List Event) → StandsFor shape old past → StandsFor shape new (e ∷ past)) → ∥ IsOfSome shape new ∥₁
+pub of_some : (shape : Form) (old new : KeptMisses) (e : Event) → ∥ IsOfSome shape old ∥₁ → ((past : List Event) → MissesStandFor shape old past → MissesStandFor shape new (e ∷ past)) → ∥ IsOfSome shape new ∥₁
 of_some shape old new e of goes = ∥∥₁_map of (λ is. record { past = e ∷ is.past; now = goes is.past is.now })
 
 -- the open calls take the event
-pub may_calls : (shape : Form) (kept : Kept) (e : Event) → ∥ IsOfSome shape kept ∥₁ → MayCome kept e → ∥ MayTake calls.StandsFor kept.calls e ∥₁
+pub may_calls : (shape : Form) (kept : KeptMisses) (e : Event) → ∥ IsOfSome shape kept ∥₁ → MayCome kept e → ∥ MayTake calls.StacksStandFor kept.calls e ∥₁
 may_calls shape kept e of may = ∥∥₁_map of (λ is. record { past = is.past; now = is.now.calls; formed = formed_next shape kept is.past e is.now may })
 
 -- ---- an access
-module _ (shape : Form) (past : List Event) (tid first count : ℕ) (old new : Kept) (stands : StandsFor shape old past) (same : new.cache.shape ≡ old.cache.shape)
-    (after : (earlier : List ℕ) → lines.StandsFor old.cache earlier → lines.StandsFor new.cache (reverse (lines_over old.cache.shape first count) ++ earlier))
+module _ (shape : Form) (past : List Event) (tid first count : ℕ) (old new : KeptMisses) (stands : MissesStandFor shape old past) (same : new.cache.shape ≡ old.cache.shape)
+    (after : (earlier : List ℕ) → lines.CacheStandsFor old.cache earlier → lines.CacheStandsFor new.cache (reverse (lines_over old.cache.shape first count) ++ earlier))
     (calls_same : new.calls ≡ old.calls) (steps_same : new.steps ≡ old.steps)
     (counted : new.routines ≡ by_routine (all_accesses shape past ++ accesses_of shape (Read tid first count) past)) where
-  lines_after : lines.StandsFor new.cache (reverse (lines_over shape first count) ++ line_accesses shape past)
-  lines_after = subst (λ (form : Form). lines.StandsFor new.cache (reverse (lines_over form first count) ++ line_accesses shape past)) stands.shape_is (after (line_accesses shape past) stands.cache)
+  lines_after : lines.CacheStandsFor new.cache (reverse (lines_over shape first count) ++ line_accesses shape past)
+  lines_after = subst (λ (form : Form). lines.CacheStandsFor new.cache (reverse (lines_over form first count) ++ line_accesses shape past)) stands.shape_is (after (line_accesses shape past) stands.cache)
 
-  calls_after : calls.StandsFor new.calls (Read tid first count ∷ past)
-  calls_after = subst (λ (s : Stacks). calls.StandsFor s (Read tid first count ∷ past)) (sym calls_same) (record {
+  calls_after : calls.StacksStandFor new.calls (Read tid first count ∷ past)
+  calls_after = subst (λ (s : Stacks). calls.StacksStandFor s (Read tid first count ∷ past)) (sym calls_same) (record {
     threads_live = stands.calls.threads_live;
     threads_began = stands.calls.threads_began;
     calls_are = stands.calls.calls_are;
     pending_is = stands.calls.pending_is ∙ unmoved (pending past);
   })
 
-  after_read : IsProgressOf new.progress (Read tid first count ∷ past) → StandsFor shape new (Read tid first count ∷ past)
+  after_read : IsProgressOf new.progress (Read tid first count ∷ past) → MissesStandFor shape new (Read tid first count ∷ past)
   after_read progress = record {
     shape_is = same ∙ stands.shape_is;
     cache = lines_after;
@@ -108,7 +108,7 @@ module _ (shape : Form) (past : List Event) (tid first count : ℕ) (old new : K
   }
 
   -- a write accesses as a read does
-  after_write : IsProgressOf new.progress (Write tid first count ∷ past) → StandsFor shape new (Write tid first count ∷ past)
+  after_write : IsProgressOf new.progress (Write tid first count ∷ past) → MissesStandFor shape new (Write tid first count ∷ past)
   after_write progress = record {
     shape_is = same ∙ stands.shape_is;
     cache = lines_after;
@@ -123,19 +123,19 @@ module _ (shape : Form) (past : List Event) (tid first count : ℕ) (old new : K
     progress_is = progress;
   }
 
-  pub after_access : (e : Event) → (e ≡ Read tid first count) ⊎ (e ≡ Write tid first count) → IsProgressOf new.progress (e ∷ past) → StandsFor shape new (e ∷ past)
+  pub after_access : (e : Event) → (e ≡ Read tid first count) ⊎ (e ≡ Write tid first count) → IsProgressOf new.progress (e ∷ past) → MissesStandFor shape new (e ∷ past)
   after_access e (inl is) progress =
-      subst (λ (f : Event). StandsFor shape new (f ∷ past)) (sym is) (after_read (subst (λ (f : Event). IsProgressOf new.progress (f ∷ past)) is progress))
+      subst (λ (f : Event). MissesStandFor shape new (f ∷ past)) (sym is) (after_read (subst (λ (f : Event). IsProgressOf new.progress (f ∷ past)) is progress))
   after_access e (inr is) progress =
-      subst (λ (f : Event). StandsFor shape new (f ∷ past)) (sym is) (after_write (subst (λ (f : Event). IsProgressOf new.progress (f ∷ past)) is progress))
+      subst (λ (f : Event). MissesStandFor shape new (f ∷ past)) (sym is) (after_write (subst (λ (f : Event). IsProgressOf new.progress (f ∷ past)) is progress))
 
 -- ---- an event that accesses nothing
-pub after_step : (shape : Form) (past : List Event) (tid : ℕ) (old new : Kept) → StandsFor shape old past → new.cache ≡ old.cache → new.calls ≡ old.calls → new.routines ≡ old.routines → new.steps ≡ old.steps + 1 →
-    IsProgressOf new.progress (Step tid ∷ past) → StandsFor shape new (Step tid ∷ past)
+pub after_step : (shape : Form) (past : List Event) (tid : ℕ) (old new : KeptMisses) → MissesStandFor shape old past → new.cache ≡ old.cache → new.calls ≡ old.calls → new.routines ≡ old.routines → new.steps ≡ old.steps + 1 →
+    IsProgressOf new.progress (Step tid ∷ past) → MissesStandFor shape new (Step tid ∷ past)
 after_step shape past tid old new stands cache calls_same routines more progress = record {
   shape_is = ap (λ (h : Held). h.shape) cache ∙ stands.shape_is;
-  cache = subst (λ (h : Held). lines.StandsFor h (line_accesses shape past)) (sym cache) stands.cache;
-  calls = subst (λ (s : Stacks). calls.StandsFor s (Step tid ∷ past)) (sym calls_same) (record {
+  cache = subst (λ (h : Held). lines.CacheStandsFor h (line_accesses shape past)) (sym cache) stands.cache;
+  calls = subst (λ (s : Stacks). calls.StacksStandFor s (Step tid ∷ past)) (sym calls_same) (record {
     threads_live = stands.calls.threads_live;
     threads_began = stands.calls.threads_began;
     calls_are = stands.calls.calls_are;
@@ -166,12 +166,12 @@ no_step (Ret tid target) past other = refl
 no_step (Start tid entry) past other = refl
 no_step (End tid) past other = refl
 
-pub after_other : (shape : Form) (past : List Event) (e : Event) (old new : Kept) → IsOther e → StandsFor shape old past → new.cache ≡ old.cache → new.routines ≡ old.routines → new.steps ≡ old.steps →
-    calls.StandsFor new.calls (e ∷ past) → IsProgressOf new.progress (e ∷ past) → StandsFor shape new (e ∷ past)
+pub after_other : (shape : Form) (past : List Event) (e : Event) (old new : KeptMisses) → IsOther e → MissesStandFor shape old past → new.cache ≡ old.cache → new.routines ≡ old.routines → new.steps ≡ old.steps →
+    calls.StacksStandFor new.calls (e ∷ past) → IsProgressOf new.progress (e ∷ past) → MissesStandFor shape new (e ∷ past)
 after_other shape past e old new other stands cache routines same called progress = record {
   shape_is = ap (λ (h : Held). h.shape) cache ∙ stands.shape_is;
-  cache = subst (λ (ls : List ℕ). lines.StandsFor new.cache (reverse ls ++ line_accesses shape past)) (sym (no_lines shape e other))
-      (subst (λ (h : Held). lines.StandsFor h (line_accesses shape past)) (sym cache) stands.cache);
+  cache = subst (λ (ls : List ℕ). lines.CacheStandsFor new.cache (reverse ls ++ line_accesses shape past)) (sym (no_lines shape e other))
+      (subst (λ (h : Held). lines.CacheStandsFor h (line_accesses shape past)) (sym cache) stands.cache);
   calls = called;
   routines = routines ∙ stands.routines ∙ ap by_routine (sym (append-nil (all_accesses shape past)) ∙ ap (λ ls. all_accesses shape past ++ map (λ m. record { entry = routine_at past (thread_of e); missed = m }) (missed shape (line_accesses shape past) ls)) (sym (no_lines shape e other)));
   steps_are = same ∙ stands.steps_are ∙ no_step e past other;

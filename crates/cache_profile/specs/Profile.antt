@@ -16,7 +16,7 @@ use Rattle.cache_profile.specs.LineAccesses.{line_accesses}
 
 -- What is kept of a run: the cache, the open calls, what the accesses come to by routine, and how many steps there were;
 -- and what tells with the threads that have calls which event may come next.
-pub record Kept : Type 0 where
+pub record KeptMisses : Type 0 where
   pub cache : Held
   pub calls : Stacks
   pub routines : List RoutineMisses
@@ -24,10 +24,10 @@ pub record Kept : Type 0 where
   pub progress : ProgressState
 
 -- It is that of this past, which is one that a run can have, for a cache of the shape.
-pub record StandsFor (shape : Form) (kept : Kept) (past : List Event) : Type 0 where
+pub record MissesStandFor (shape : Form) (kept : KeptMisses) (past : List Event) : Type 0 where
   pub shape_is : kept.cache.shape ≡ shape
-  pub cache : lines.StandsFor kept.cache (line_accesses shape past)
-  pub calls : calls.StandsFor kept.calls past
+  pub cache : lines.CacheStandsFor kept.cache (line_accesses shape past)
+  pub calls : calls.StacksStandFor kept.calls past
   pub routines : kept.routines ≡ by_routine (all_accesses shape past)
   pub steps_are : kept.steps ≡ steps past
   pub progress_is : IsProgressOf kept.progress past
@@ -46,14 +46,14 @@ IsOther (Step _) = ⊥
 IsOther e = Unit {0}
 
 -- the thread is one of those whose calls are kept
-abbrev pub lives : Kept → ℕ → Bool
+abbrev pub lives : KeptMisses → ℕ → Bool
 lives kept t = is_some (value_of kept.calls.threads t)
 
 -- The event may come next, as what is kept shows: what it shows is so of all pasts for which that stands.
-abbrev pub MayCome : Kept → Event → Type 0
+abbrev pub MayCome : KeptMisses → Event → Type 0
 MayCome kept e = IsAllowed e (is_of_one (lives kept) e) kept.progress
 
 -- It is that of some past.
-pub record IsOfSome (shape : Form) (kept : Kept) : Type 0 where
+pub record IsOfSome (shape : Form) (kept : KeptMisses) : Type 0 where
   pub past : List Event
-  pub now : StandsFor shape kept past
+  pub now : MissesStandFor shape kept past

@@ -6,9 +6,9 @@ ghost use Rattle.trace_model.specs.Depth.{count_begun};
 ghost use Rattle.trace_model.specs.Observing.{Observes, StandsAsBefore};
 ghost use Rattle.trace_model.specs.WellFormed.{IsWellFormed};
 ghost use Rattle.trace_order.specs.Progress.{is_of_one};
-ghost use Rattle.call_tracker.specs.CallStacks.{StandsFor as CallsOf};
+ghost use Rattle.call_tracker.specs.CallStacks.{StacksStandFor as CallsOf};
 ghost use Rattle.cache_profile.specs.ByRoutine.{innermost};
-ghost use Rattle.cache_profile.specs.Profile.{IsOther, MayCome, StandsFor, is_step_or_fill, lives};
+ghost use Rattle.cache_profile.specs.Profile.{IsOther, MayCome, MissesStandFor, is_step_or_fill, lives};
 
 use crate::RoutineMisses;
 use crate::lines::access_words;
@@ -47,9 +47,9 @@ pub struct CacheProfile<K: Shaped> {
 }
 
 impl<K: Shaped> Model for CacheProfile<K> {
-    ghost use Rattle.cache_profile.specs.Profile.{IsOfSome, Kept};
+    ghost use Rattle.cache_profile.specs.Profile.{IsOfSome, KeptMisses};
 
-    ghost Value = { Kept };
+    ghost Value = { KeptMisses };
 
     ghost view = { λ p. record {
       cache = p.cache;
@@ -82,7 +82,7 @@ impl<K: Shaped> CacheProfile<K> {
     /// No event so far.
     pub fn new(alloc: Global, shape: Shape) -> Result<CacheProfile<K>, AllocError>
         requires { shape ≡ K.shape }
-        ensures { IfOk result (λ profile. StandsFor K.shape profile []) }
+        ensures { IfOk result (λ profile. MissesStandFor K.shape profile []) }
     {
         Ok(CacheProfile {
             cache: Cache::new(alloc, shape)?,
@@ -130,7 +130,7 @@ impl<K: Shaped> CacheProfile<K> {
     /// Whether the event may come next: with it the past is still one that a run can have.
     pub fn may_follow(&self, e: &Event) -> bool
         ensures shown { IsTrue result ↔ MayCome self.now e.now }
-        ensures stands { (past : List Event) → StandsFor K.shape self.now past
+        ensures stands { (past : List Event) → MissesStandFor K.shape self.now past
             → IsTrue result ↔ IsWellFormed (e.now ∷ past) }
     {
         self.progress.allows(e, self.lives_of(e))
@@ -140,8 +140,8 @@ impl<K: Shaped> CacheProfile<K> {
     fn access(&mut self, e: &Event, tid: Tid, first: Word, count: u32) -> Result<(), AllocError>
         requires may { MayCome self.old e.now }
         requires accesses { (e.now ≡ Read tid first count) ⊎ (e.now ≡ Write tid first count) }
-        ensures stands { (past : List Event) → StandsFor K.shape self.old past
-            → OnOk result (StandsFor K.shape self.new (e.now ∷ past)) }
+        ensures stands { (past : List Event) → MissesStandFor K.shape self.old past
+            → OnOk result (MissesStandFor K.shape self.new (e.now ∷ past)) }
         ensures refused { OnErr result (self.new ≡ self.old) }
     {
         self.routines.reserve(1)?;
@@ -161,8 +161,8 @@ impl<K: Shaped> CacheProfile<K> {
     // A step of a thread.
     fn step(&mut self, tid: Tid)
         requires { MayCome self.old (Step tid) }
-        ensures { (past : List Event) → StandsFor K.shape self.old past
-            → StandsFor K.shape self.new (Step tid ∷ past) }
+        ensures { (past : List Event) → MissesStandFor K.shape self.old past
+            → MissesStandFor K.shape self.new (Step tid ∷ past) }
     {
         self.steps += 1;
         self.progress.pass(&Event::Step { tid });
@@ -172,8 +172,8 @@ impl<K: Shaped> CacheProfile<K> {
     fn pass(&mut self, e: &Event) -> Result<(), AllocError>
         requires may { MayCome self.old e.now }
         requires other { IsOther e.now }
-        ensures stands { (past : List Event) → StandsFor K.shape self.old past
-            → OnOk result (StandsFor K.shape self.new (e.now ∷ past)) }
+        ensures stands { (past : List Event) → MissesStandFor K.shape self.old past
+            → OnOk result (MissesStandFor K.shape self.new (e.now ∷ past)) }
         ensures refused { OnErr result (self.new ≡ self.old) }
         ensures no_allocation { count_begun e.now ≡ 0 → IsOk result }
     {
@@ -185,9 +185,9 @@ impl<K: Shaped> CacheProfile<K> {
 
 impl<K: Shaped> Observer for CacheProfile<K> {
     ghost use Rattle.std.specs.Prelude.{true, refl};
-    ghost use Rattle.cache_profile.specs.Profile.{StandsFor};
+    ghost use Rattle.cache_profile.specs.Profile.{MissesStandFor};
 
-    ghost stands = { StandsFor K.shape };
+    ghost stands = { MissesStandFor K.shape };
 
     ghost fits = { λ profile past. true };
 
@@ -198,8 +198,8 @@ impl<K: Shaped> Observer for CacheProfile<K> {
     // It takes every event that may come next. Steps and fills need no memory.
     fn observe(&mut self, e: Event) -> Result<Observed, AllocError>
         requires { MayCome self.old e }
-        ensures observed { IfOk result (Observes (StandsFor K.shape) (λ past. true) e self.old self.new) }
-        ensures refused { OnErr result (StandsAsBefore (StandsFor K.shape) self.old self.new) }
+        ensures observed { IfOk result (Observes (MissesStandFor K.shape) (λ past. true) e self.old self.new) }
+        ensures refused { OnErr result (StandsAsBefore (MissesStandFor K.shape) self.old self.new) }
         ensures no_allocation { is_step_or_fill e ≡ true → IsOk result }
     {
         match e {

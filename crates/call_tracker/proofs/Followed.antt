@@ -20,7 +20,7 @@ use Rattle.trace_model.specs.WellFormed.{IsLight, IsRunning, MayFollow, greatest
 use Rattle.trace_model.proofs.Pending.{open_calls-le-pending}
 use Rattle.call_tracker.specs.declared.open_calls.OpenCall.{OpenCall}
 use Rattle.call_tracker.specs.Calls.{backs}
-use Rattle.call_tracker.specs.CallStacks.{StandsFor, Stacks, call_of, calls_after, calls_of}
+use Rattle.call_tracker.specs.CallStacks.{StacksStandFor, Stacks, call_of, calls_after, calls_of}
 
 -- ---- the number of the open calls
 one-le-weight_of : (e : Event) → count_begun e ≤ weight_of e
@@ -32,22 +32,22 @@ pending-le-weight [] = omega arith
 pending-le-weight (e ∷ past) = omega (arith, pending-le-weight past, one-le-weight_of e)
 
 -- one call more can be counted
-pub few_pending : (stacks : Stacks) (past : List Event) (e : Event) → StandsFor stacks past → IsLight (e ∷ past) → stacks.pending + 1 < 2 ^ 64
+pub few_pending : (stacks : Stacks) (past : List Event) (e : Event) → StacksStandFor stacks past → IsLight (e ∷ past) → stacks.pending + 1 < 2 ^ 64
 few_pending stacks past e stands light = omega (arith, stands.pending_is, pending-le-weight past, light)
 
 -- a thread has no more open calls than there are
-pub few_calls : (stacks : Stacks) (past : List Event) (t : ℕ) → StandsFor stacks past → length (calls_of stacks t) ≤ stacks.pending
+pub few_calls : (stacks : Stacks) (past : List Event) (t : ℕ) → StacksStandFor stacks past → length (calls_of stacks t) ≤ stacks.pending
 few_calls stacks past t stands =
     omega (arith, ap length (stands.calls_are t), length-map (open_calls past t) call_of, open_calls-le-pending past t, stands.pending_is)
 
 -- ---- what may come
 -- a thread that starts has a number above all
-pub above_all : (stacks : Stacks) (past : List Event) (tid entry : ℕ) → MayFollow (Start tid entry) past → StandsFor stacks past → All (λ n. n < tid) (numbers stacks.threads)
+pub above_all : (stacks : Stacks) (past : List Event) (tid entry : ℕ) → MayFollow (Start tid entry) past → StacksStandFor stacks past → All (λ n. n < tid) (numbers stacks.threads)
 above_all stacks past tid entry may stands =
     All-weaker (λ n. n ≤ greatest_start past) (λ n. n < tid) (λ n low. omega (arith, low, may)) (numbers stacks.threads) stands.threads_began
 
 -- a thread that runs is kept
-pub running_kept : (stacks : Stacks) (past : List Event) (tid : ℕ) → IsRunning past tid → StandsFor stacks past → is_some (value_of stacks.threads tid) ≡ true
+pub running_kept : (stacks : Stacks) (past : List Event) (tid : ℕ) → IsRunning past tid → StacksStandFor stacks past → is_some (value_of stacks.threads tid) ≡ true
 running_kept stacks past tid running stands = stands.threads_live tid ∙ running.0
 
 -- ---- numbers that are equal
@@ -66,7 +66,7 @@ some_kept (Some calls) is = refl
 -- ---- a thread starts
 module _ (old new : Stacks) (past : List Event) (tid entry : ℕ)
     (threads : new.threads ≡ old.threads ++ (tid, record { entry = entry; back = None } ∷ []) ∷ [])
-    (counted : new.pending ≡ old.pending + 1) (above : All (λ n. n < tid) (numbers old.threads)) (stands : StandsFor old past) where
+    (counted : new.pending ≡ old.pending + 1) (above : All (λ n. n < tid) (numbers old.threads)) (stands : StacksStandFor old past) where
   abbrev first_calls : List OpenCall
   first_calls = record { entry = entry; back = None } ∷ []
 
@@ -88,7 +88,7 @@ module _ (old new : Stacks) (past : List Event) (tid entry : ℕ)
   calls_started t true is = ap (λ (cs : List OpenCall). record { entry = entry; back = None } ∷ cs) (sym (no_calls t is))
   calls_started t false is = stands.calls_are t
 
-  pub stands-start : StandsFor new (Start tid entry ∷ past)
+  pub stands-start : StacksStandFor new (Start tid entry ∷ past)
   stands-start = record {
     threads_live = λ t. ap is_some (reads_started t) ∙ live_started t (tid == t) refl;
     threads_began = All-same (λ n. n ≤ max tid (greatest_start past)) (numbers new.threads) (numbers old.threads ++ tid ∷ [])
@@ -101,7 +101,7 @@ module _ (old new : Stacks) (past : List Event) (tid entry : ℕ)
 
 -- ---- a thread has other calls
 module _ (old new : Stacks) (past : List Event) (tid : ℕ) (calls : List OpenCall)
-    (lives : is_some (value_of old.threads tid) ≡ true) (threads : new.threads ≡ with_value old.threads tid calls) (stands : StandsFor old past) where
+    (lives : is_some (value_of old.threads tid) ≡ true) (threads : new.threads ≡ with_value old.threads tid calls) (stands : StacksStandFor old past) where
   reads_changed : (t : ℕ) → value_of new.threads t ≡ cond (tid == t) (Some calls) (value_of old.threads t)
   reads_changed t =
       ap (λ (xs : List (ℕ × List OpenCall)). value_of xs t) threads
@@ -128,8 +128,8 @@ module _ (old new : Stacks) (past : List Event) (tid : ℕ) (calls : List OpenCa
 
 -- a call
 pub stands-call : (old new : Stacks) (past : List Event) (tid entry back : ℕ) → is_some (value_of old.threads tid) ≡ true →
-    new.threads ≡ with_value old.threads tid (record { entry = entry; back = Some back } ∷ calls_of old tid) → new.pending ≡ old.pending + 1 → StandsFor old past →
-    StandsFor new (Call tid entry back ∷ past)
+    new.threads ≡ with_value old.threads tid (record { entry = entry; back = Some back } ∷ calls_of old tid) → new.pending ≡ old.pending + 1 → StacksStandFor old past →
+    StacksStandFor new (Call tid entry back ∷ past)
 stands-call old new past tid entry back lives threads counted stands =
     let calls : List OpenCall = record { entry = entry; back = Some back } ∷ calls_of old tid in
     record {
@@ -154,12 +154,12 @@ backs-seen : (calls : List Activation) → backs (map call_of calls) ≡ activat
 backs-seen [] = refl
 backs-seen (a ∷ calls) = ap (λ (bs : List (Option ℕ)). a.back ∷ bs) (backs-seen calls)
 
-count_kept : (old : Stacks) (past : List Event) (tid target n : ℕ) → n ≡ count_returned target (backs (calls_of old tid)) → StandsFor old past →
+count_kept : (old : Stacks) (past : List Event) (tid target n : ℕ) → n ≡ count_returned target (backs (calls_of old tid)) → StacksStandFor old past →
     n ≡ count_returned target (activations.backs (open_calls past tid))
 count_kept old past tid target n count stands =
     count ∙ ap (λ calls. count_returned target (backs calls)) (stands.calls_are tid) ∙ ap (count_returned target) (backs-seen (open_calls past tid))
 
-pub ended-return : (old : Stacks) (past : List Event) (tid target n : ℕ) → n ≡ count_returned target (backs (calls_of old tid)) → StandsFor old past →
+pub ended-return : (old : Stacks) (past : List Event) (tid target n : ℕ) → n ≡ count_returned target (backs (calls_of old tid)) → StacksStandFor old past →
     n ≡ count_ended (Ret tid target) past (thread_of (Ret tid target))
 ended-return old past tid target n count stands =
     let calls = open_calls past tid in
@@ -169,7 +169,7 @@ ended-return old past tid target n count stands =
 
 pub stands-return : (old new : Stacks) (past : List Event) (tid target n : ℕ) → is_some (value_of old.threads tid) ≡ true →
     n ≡ count_returned target (backs (calls_of old tid)) → new.threads ≡ with_value old.threads tid (drop n (calls_of old tid)) → new.pending ≡ old.pending - n →
-    StandsFor old past → StandsFor new (Ret tid target ∷ past)
+    StacksStandFor old past → StacksStandFor new (Ret tid target ∷ past)
 stands-return old new past tid target n lives count threads counted stands =
     let calls = drop n (calls_of old tid) in
     record {
@@ -185,7 +185,7 @@ stands-return old new past tid target n lives count threads counted stands =
 
 -- the end of a thread
 pub stands-end : (old new : Stacks) (past : List Event) (tid n : ℕ) → n ≡ length (calls_of old tid) → new.threads ≡ without_thread old.threads tid →
-    new.pending ≡ old.pending - n → StandsFor old past → StandsFor new (End tid ∷ past)
+    new.pending ≡ old.pending - n → StacksStandFor old past → StacksStandFor new (End tid ∷ past)
 stands-end old new past tid n count threads counted stands =
     let calls = open_calls past tid in
     let k = length (activations.backs calls) in

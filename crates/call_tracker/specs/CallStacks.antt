@@ -27,7 +27,7 @@ abbrev pub calls_after : List Event → ℕ → List OpenCall
 calls_after past t = map call_of (open_calls past t)
 
 -- The threads that live are kept, with the calls that the past leaves open.
-pub record StandsFor (stacks : Stacks) (past : List Event) : Type 0 where
+pub record StacksStandFor (stacks : Stacks) (past : List Event) : Type 0 where
   pub threads_live : (t : ℕ) → is_some (value_of stacks.threads t) ≡ is_live past t
   pub threads_began : All (λ n. n ≤ greatest_start past) (numbers stacks.threads)
   pub calls_are : (t : ℕ) → calls_of stacks t ≡ calls_after past t

@@ -9,7 +9,7 @@ ghost use Rattle.trace_model.specs.Events.{thread_of};
 ghost use Rattle.trace_model.specs.Observing.{MayTake};
 ghost use Rattle.trace_model.specs.WellFormed.{is_live};
 ghost use Rattle.call_tracker.specs.Calls.{backs};
-ghost use Rattle.call_tracker.specs.CallStacks.{StandsFor, call_of, calls_of};
+ghost use Rattle.call_tracker.specs.CallStacks.{StacksStandFor, call_of, calls_of};
 
 use crate::{OpenCall, OpenCalls};
 use guest_words::{Addr, ByThread, Tid};
@@ -41,7 +41,7 @@ impl Model for CallStacks {
 impl CallStacks {
     /// No event so far.
     pub fn new(alloc: Global) -> CallStacks
-        ensures { StandsFor result [] }
+        ensures { StacksStandFor result [] }
     {
         CallStacks {
             alloc,
@@ -53,7 +53,7 @@ impl CallStacks {
     /// How many calls are open.
     pub fn pending(&self) -> u64
         ensures value { result ≡ self.now.pending }
-        ensures stands { (past : List Event) → StandsFor self.now past → result ≡ pending past }
+        ensures stands { (past : List Event) → StacksStandFor self.now past → result ≡ pending past }
     {
         self.pending
     }
@@ -61,7 +61,7 @@ impl CallStacks {
     /// The innermost open call of the thread.
     pub fn top(&self, tid: Tid) -> Option<OpenCall>
         ensures value { result ≡ slice_get (calls_of self.now tid) 0 }
-        ensures stands { (past : List Event) → StandsFor self.now past
+        ensures stands { (past : List Event) → StacksStandFor self.now past
             → result ≡ option_map call_of (slice_get (open_calls past tid) 0) }
     {
         self.threads.get(tid)?.top()
@@ -70,7 +70,7 @@ impl CallStacks {
     /// Whether the thread lives.
     pub fn lives(&self, tid: Tid) -> bool
         ensures value { result ≡ is_some (value_of self.now.threads tid) }
-        ensures stands { (past : List Event) → StandsFor self.now past
+        ensures stands { (past : List Event) → StacksStandFor self.now past
             → result ≡ is_live past tid }
     {
         self.threads.get(tid).is_some()
@@ -78,10 +78,10 @@ impl CallStacks {
 
     /// Takes one more event, and says how many calls it ended. Only an event that begins a call allocates.
     pub fn apply(&mut self, e: Event) -> Result<usize, AllocError>
-        requires { ∥ MayTake StandsFor self.old e ∥₁ }
-        ensures stands { (past : List Event) → StandsFor self.old past
-            → OnOk result (StandsFor self.new (e ∷ past)) }
-        ensures ended { (past : List Event) → StandsFor self.old past
+        requires { ∥ MayTake StacksStandFor self.old e ∥₁ }
+        ensures stands { (past : List Event) → StacksStandFor self.old past
+            → OnOk result (StacksStandFor self.new (e ∷ past)) }
+        ensures ended { (past : List Event) → StacksStandFor self.old past
             → IfOk result (λ n. n ≡ count_ended e past (thread_of e)) }
         ensures refused { OnErr result (self.new ≡ self.old) }
         ensures no_allocation { count_begun e ≡ 0 → IsOk result }

@@ -54,7 +54,7 @@ pub record AreInRange (guest : GuestOptions) : Type 0 where
   pub small_budget : guest.budget ≤ RUN_STEPS
 
 -- The numbers of a command are in their ranges.
-abbrev pub IsInRange : Command → Type 0
-IsInRange (Command.Guest command) = AreInRange (guest_in command.guest)
-IsInRange (Command.Replay replay) = Unit {0}
-IsInRange (Command.Demo number) = (1 ≤ number) × (number ≤ DEMO_ROUTINES)
+abbrev pub IsCommandInRange : Command → Type 0
+IsCommandInRange (Command.Guest command) = AreInRange (guest_in command.guest)
+IsCommandInRange (Command.Replay replay) = Unit {0}
+IsCommandInRange (Command.Demo number) = (1 ≤ number) × (number ≤ DEMO_ROUTINES)

@@ -3,7 +3,7 @@ ghost use Rattle.std.specs.Prelude.{◌≡◌, ◌≤◌, IfOk, IfErr, IfSome, f
 ghost use Rattle.std.specs.List.{list_any};
 ghost use Rattle.clap.specs.Words.{found_of, rows_of};
 ghost use Rattle.command_line.specs.Options.{AsksFor, asked_of_rows, demo_of_rows, has_zero};
-ghost use Rattle.command_line.specs.Read.{IsInRange, asked_in};
+ghost use Rattle.command_line.specs.Read.{IsCommandInRange, asked_in};
 ghost use Rattle.command_line.specs.declared.commands.CommandError.TheVariants.{Memory, Refused};
 
 use crate::guest_command::{GuestCommand, guest_command_of_matches};
@@ -85,7 +85,7 @@ fn command_of<'a>(
         ≡ Some (asked_in command)) }
     ensures refused { IfErr result (λ e. e ≡ Refused
         → asked_of_rows name.now (rows_of (found_of matches.now)) ≡ None) }
-    ensures ranges { IfOk result (λ command. IsInRange command) }
+    ensures ranges { IfOk result (λ command. IsCommandInRange command) }
 {
     if name == "replay" {
         let command = replay_of_matches(matches).ok_or(CommandError::Refused)?;
@@ -108,7 +108,7 @@ pub fn read_command<'a>(alloc: Global, words: &'a [String]) -> Result<Command<'a
     // That a word has a zero byte is seen before any memory is wanted.
     ensures zero { IfErr result (λ e. e ≡ Memory
         → list_any has_zero (map string_bytes words.entry.now) ≡ false) }
-    ensures ranges { IfOk result (λ command. IsInRange command) }
+    ensures ranges { IfOk result (λ command. IsCommandInRange command) }
 {
     if some_has_zero(words) {
         return Err(CommandError::Refused);

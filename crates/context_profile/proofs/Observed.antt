@@ -12,9 +12,9 @@ use Rattle.shadow_core.specs.Applying.{IsTaken, is_too_deep}
 use Rattle.shadow_core.specs.Stands.{Stands}
 use Rattle.shadow_core.specs.State.{State, table_of_state}
 use Rattle.shadow_core.specs.Table.{Table}
-use Rattle.context_profile.specs.Kept.{AreContextsOf, HasTree, Kept, ended_at}
+use Rattle.context_profile.specs.Kept.{AreContextsOf, HasTree, KeptProfile, ended_at}
 
-module _ (most : ℕ) (e : Event) (k : Kept) (new : State) (after : List Done) (past : List Event) (p : AreContextsOf most k past) (none : k.next ≡ None) where
+module _ (most : ℕ) (e : Event) (k : KeptProfile) (new : State) (after : List Done) (past : List Event) (p : AreContextsOf most k past) (none : k.next ≡ None) where
   -- it is taken
   pub observed : (more : ℕ) → IsTaken most e past new k.ended after → more ≡ steps (e ∷ []) →
       AreContextsOf most (record k { stamps = new; next = Some e; ended = after; steps = k.steps + more }) (e ∷ past) × (is_within most (e ∷ past) ≡ true)
@@ -48,9 +48,9 @@ module _ (most : ℕ) (e : Event) (k : Kept) (new : State) (after : List Done) (
   )
 
 -- what is kept where no event is still to come
-pub settled : (most : ℕ) (k : Kept) (past : List Event) → AreContextsOf most k past → k.next ≡ None → HasTree k.tree past
+pub settled : (most : ℕ) (k : KeptProfile) (past : List Event) → AreContextsOf most k past → k.next ≡ None → HasTree k.tree past
 settled most k past p none = subst (HasTree k.tree) (sym (p.all ∙ ap (λ n. option_to_list n ++ p.earlier) none)) p.tree
 
 -- what does not fit is too deep
-pub is_deep : (most : ℕ) (e : Event) (k : Kept) (past : List Event) → AreContextsOf most k past → is_within most (e ∷ past) ≡ false → is_too_deep most e past ≡ true
+pub is_deep : (most : ℕ) (e : Event) (k : KeptProfile) (past : List Event) → AreContextsOf most k past → is_within most (e ∷ past) ≡ false → is_too_deep most e past ≡ true
 is_deep most e k past p is = deep_does_not_fit most e (table_of_state k.stamps) past p.stands ∙ ap not is

@@ -15,9 +15,9 @@ use Rattle.context_profile.specs.declared.profile.ContextTotals.{ContextTotals}
 
 -- The stamp table, the tree unless it had no number for a context, the newest event where it is still to come into the tree,
 -- what ended at it, and how many steps there were.
-pub record Kept : Type 0 where
+pub record KeptProfile : Type 0 where
   pub stamps : State
-  pub tree : Option trees.Kept
+  pub tree : Option trees.KeptTree
   pub next : Option Event
   pub ended : List Done
   pub steps : ℕ
@@ -26,9 +26,9 @@ pub record Kept : Type 0 where
 abbrev pub IsPastNumbers : List Event → Type 0
 IsPastNumbers past = CONTEXTS < length (contexts past)
 
-abbrev pub HasTree : Option trees.Kept → List Event → Type 0
+abbrev pub HasTree : Option trees.KeptTree → List Event → Type 0
 HasTree None past = IsPastNumbers past
-HasTree (Some tree) past = trees.StandsFor tree past
+HasTree (Some tree) past = trees.TreeStandsFor tree past
 
 -- what ended at the newest event
 abbrev pub ended_at : Option Event → List Event → List Done
@@ -36,7 +36,7 @@ ended_at None past = []
 ended_at (Some e) past = ended e past
 
 -- They are those of this past, where the greatest stamp is `most`.
-pub record AreContextsOf (most : ℕ) (kept : Kept) (past : List Event) : Type 0 where
+pub record AreContextsOf (most : ℕ) (kept : KeptProfile) (past : List Event) : Type 0 where
   pub stands : stamps.StandsFor most kept.stamps past
   pub earlier : List Event
   pub all : past ≡ option_to_list kept.next ++ earlier
@@ -45,14 +45,14 @@ pub record AreContextsOf (most : ℕ) (kept : Kept) (past : List Event) : Type 0
   pub steps_are : kept.steps ≡ steps past
 
 -- It is that of some past after which the event may come, and these are the activations that the event ends.
-pub record MayGrow (tree : Option trees.Kept) (e : Event) (ends : List Done) : Type 0 where
+pub record MayGrow (tree : Option trees.KeptTree) (e : Event) (ends : List Done) : Type 0 where
   pub past : List Event
   pub now : HasTree tree past
   pub formed : IsWellFormed (e ∷ past)
   pub ends_are : ends ≡ ended e past
 
 -- They are those of some past that a run can have.
-pub record AreOfLight (most : ℕ) (kept : Kept) : Type 0 where
+pub record AreOfLight (most : ℕ) (kept : KeptProfile) : Type 0 where
   pub past : List Event
   pub now : AreContextsOf most kept past
   pub formed : IsWellFormed past
@@ -61,4 +61,4 @@ pub record AreOfLight (most : ℕ) (kept : Kept) : Type 0 where
 -- The totals of the run, with its contexts.
 pub record AreTotalsOf (most : ℕ) (totals : ContextTotals) (past : List Event) : Type 0 where
   pub totals_are : profiles.AreTotalsOf most totals.totals past
-  pub tree : trees.StandsFor totals.tree past
+  pub tree : trees.TreeStandsFor totals.tree past

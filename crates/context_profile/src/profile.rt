@@ -29,9 +29,9 @@ pub struct ContextProfile<S: Lanes> {
 }
 
 impl<S: Lanes> Model for ContextProfile<S> {
-    ghost use Rattle.context_profile.specs.Kept.{Kept};
+    ghost use Rattle.context_profile.specs.Kept.{KeptProfile};
 
-    ghost Value = { Kept };
+    ghost Value = { KeptProfile };
 
     ghost view = { λ p. record { stamps = p.profiler; tree = p.tree; next = p.next; ended = p.ended.items; steps = p.steps } };
 }

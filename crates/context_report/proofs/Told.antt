@@ -8,7 +8,7 @@ use Rattle.std.proofs.Math.Seq.{get_or-append_seam}
 use Rattle.trace_model.specs.declared.event_kinds.Event.{Event}
 use Rattle.cost_points.specs.declared.point.Point.{Point}
 use Rattle.profile_report.specs.LineForms.{ended, labelled, point_line}
-use Rattle.context_tree.specs.Numbers.{StandsFor, numbered}
+use Rattle.context_tree.specs.Numbers.{NumbersStandFor, numbered}
 use Rattle.context_tree.specs.Order.{IsFollowedBy, IsInOrder}
 use Rattle.context_tree.specs.Trees.{IsShown}
 use Rattle.context_tree.proofs.Listed.{as_long, first_listed, next_listed, next_there, some_entries, some_first}
@@ -24,7 +24,7 @@ not_none : (o : Option ℕ) → IsSome o → o ≡ None → ⊥
 not_none None is none = absurd (cc)
 not_none (Some n) is none = absurd (cc)
 
-pub stands_first : (places : List (ℕ × ℕ)) (known ordered : List (List ℕ)) → StandsFor places known → IsInOrder known ordered → (o : Option ℕ) → IsFollowedBy known [] o → 0 < length ordered → StandsAt known ordered 0 o
+pub stands_first : (places : List (ℕ × ℕ)) (known ordered : List (List ℕ)) → NumbersStandFor places known → IsInOrder known ordered → (o : Option ℕ) → IsFollowedBy known [] o → 0 < length ordered → StandsAt known ordered 0 o
 stands_first places known ordered stands in_order None next some =
     absurd (not_none None (some_first places known stands (omega (arith, some, as_long known ordered in_order)) None next) refl)
 stands_first places known ordered stands in_order (Some n) next some = record {

@@ -7,7 +7,7 @@ ghost use Rattle.context_tree.specs.Contexts.{contexts};
 ghost use Rattle.context_tree.specs.Numbers.{numbered};
 ghost use Rattle.context_tree.specs.Order.{IsInOrder};
 ghost use Rattle.guest_words.specs.declared.limits.TheConstants.{CONTEXTS};
-ghost use Rattle.context_tree.specs.Trees.{StandsFor};
+ghost use Rattle.context_tree.specs.Trees.{TreeStandsFor};
 ghost use Rattle.context_report.specs.ContextText.{context_line, context_text, contexts_text};
 
 use context_tree::Tree;
@@ -30,7 +30,7 @@ fn push_context_line(text: &mut Vec<u8>, depth: u32, entry: Addr) -> Result<(), 
 fn push_context(text: &mut Vec<u8>, tree: &Tree, n: u32) -> Result<(), AllocError>
     requires some { 1 ≤ n }
     requires within { n ≤ length tree.now.branches.places }
-    ensures { (past : List Event) → StandsFor tree.now past
+    ensures { (past : List Event) → TreeStandsFor tree.now past
         → OnOk result (text.new.items ≡ text.old.items ++ context_text past (numbered (contexts past) n)) }
 {
     let (depth, entry, points) = tree.at(n)?;
@@ -40,7 +40,7 @@ fn push_context(text: &mut Vec<u8>, tree: &Tree, n: u32) -> Result<(), AllocErro
 
 /// Appends the lines of all contexts.
 fn push_each(text: &mut Vec<u8>, tree: &Tree) -> Result<(), AllocError>
-    ensures { (past : List Event) (ordered : List (List ℕ)) → StandsFor tree.now past
+    ensures { (past : List Event) (ordered : List (List ℕ)) → TreeStandsFor tree.now past
         → IsInOrder (contexts past) ordered
         → OnOk result (text.new.items ≡ text.old.items ++ flat_map (context_text past) ordered) }
 {
@@ -56,9 +56,9 @@ fn push_each(text: &mut Vec<u8>, tree: &Tree) -> Result<(), AllocError>
 
 /// Appends the text of all contexts, in the order of the text.
 pub fn push_contexts(text: &mut Vec<u8>, tree: &Tree) -> Result<(), AllocError>
-    ensures few { (past : List Event) → StandsFor tree.now past
+    ensures few { (past : List Event) → TreeStandsFor tree.now past
         → OnOk result (length (contexts past) ≤ CONTEXTS) }
-    ensures text { (past : List Event) (ordered : List (List ℕ)) → StandsFor tree.now past
+    ensures text { (past : List Event) (ordered : List (List ℕ)) → TreeStandsFor tree.now past
         → IsInOrder (contexts past) ordered
         → OnOk result (text.new.items ≡ text.old.items ++ contexts_text past ordered) }
 {

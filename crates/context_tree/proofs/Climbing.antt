@@ -9,7 +9,7 @@ use Rattle.cost_points.specs.declared.point.Point.{Point}
 use Rattle.cost_points.specs.Points.{point_of}
 use Rattle.cost_points.proofs.Merged.{sized-more}
 use Rattle.context_tree.specs.Contexts.{same}
-use Rattle.context_tree.specs.Numbers.{StandsFor, above_of, numbered}
+use Rattle.context_tree.specs.Numbers.{NumbersStandFor, above_of, numbered}
 use Rattle.context_tree.specs.Points.{members_of, points_from, points_of}
 use Rattle.context_tree.specs.Ways.{ArePoints, HasSpare, IsWay, PointList, lists, no_points, tagged, up, with_ended}
 use Rattle.context_tree.proofs.Numbering.{other_told, same_told}
@@ -61,7 +61,7 @@ module _ (all : List (List ℕ × Done)) (b : List ℕ) (d : Done) where
   points_other c other = ap (λ ds. points_from ds) (members_other c other)
 
 -- ---- one more member among the points of all contexts
-module _ (places : List (ℕ × ℕ)) (contexts : List (List ℕ)) (stands : StandsFor places contexts) (all : List (List ℕ × Done)) (d : Done) where
+module _ (places : List (ℕ × ℕ)) (contexts : List (List ℕ)) (stands : NumbersStandFor places contexts) (all : List (List ℕ × Done)) (d : Done) where
   apart : (i j : ℕ) → j ≢ i → i < length contexts → j < length contexts → get_or contexts j [] ≢ get_or contexts i []
   apart i j other i_in j_in is = elim (cases_lt i j) [
     | inl lt ↦ absurd (stands.once i j lt j_in (sym is))
@@ -186,7 +186,7 @@ module _ (places : List (ℕ × ℕ)) (from count k n : ℕ) (way : IsWay places
         subst (λ (p : PointList). 1 ≤ p.room) (sym (first_there old read ∙ ap (λ m. get_or first (m - 1) no_points) at)) (spare k lt)
 
     pub points_more : (old new : PointList) (ended : List Done) (d : Done) → count ≡ length ended → old ≡ get_or items (n - 1) old → d ≡ get_or ended k d → new.points ≡ with_ended d old.points →
-        (contexts : List (List ℕ)) (members : List (List ℕ × Done)) → StandsFor places contexts →
+        (contexts : List (List ℕ)) (members : List (List ℕ × Done)) → NumbersStandFor places contexts →
         lists items ≡ map (points_of (members ++ tagged places contexts from (take k ended))) contexts →
         lists (set items (n - 1) new) ≡ map (points_of (members ++ tagged places contexts from (take (k + 1) ended))) contexts
     points_more old new ended d all read here added contexts members stands are =

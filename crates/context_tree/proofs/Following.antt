@@ -24,7 +24,7 @@ use Rattle.context_tree.specs.Links.{IsLinked, no_links}
 use Rattle.context_tree.specs.Numbers.{IsNumberOf, above_of, numbered}
 use Rattle.context_tree.specs.Numbers as by_number
 use Rattle.context_tree.specs.Points.{done_in_context, points_from, points_in, points_of}
-use Rattle.context_tree.specs.Branches.{Kept, StandsFor, current_of}
+use Rattle.context_tree.specs.Branches.{KeptBranches, BranchesStandFor, current_of}
 use Rattle.context_tree.specs.Private.Adding.{with_list}
 use Rattle.context_tree.specs.Ways.{ArePoints, IsWay, tagged, up}
 use Rattle.context_tree.proofs.Known.{done_known, no_members}
@@ -40,7 +40,7 @@ pub shifted : {X : Type 0} (f : ℕ → X) (i m : ℕ) → map f (range_with_len
 shifted f i zero = refl
 shifted f i (suc m) = ap₂ (λ x xs. x ∷ xs) (ap f (omega arith)) (shifted f (i + 1) m)
 
-module _ (places : List (ℕ × ℕ)) (known : List (List ℕ)) (stands : by_number.StandsFor places known) where
+module _ (places : List (ℕ × ℕ)) (known : List (List ℕ)) (stands : by_number.NumbersStandFor places known) where
   -- the one above, by number
   up_one : (n : ℕ) (a : Activation) (calls : List Activation) → n ≤ length known → numbered known n ≡ context_of (a ∷ calls) →
       (above_of places n < n) × (numbered known (above_of places n) ≡ context_of calls)
@@ -106,7 +106,7 @@ some_kept None is = absurd (cc)
 some_kept (Some n) is = refl
 
 -- each thread is in the context of its innermost activation
-threads_after : (old new : Kept) (past : List Event) (e : Event) (tid : ℕ) (v : Option ℕ) → StandsFor old past →
+threads_after : (old new : KeptBranches) (past : List Event) (e : Event) (tid : ℕ) (v : Option ℕ) → BranchesStandFor old past →
     ((t : ℕ) → value_of new.threads t ≡ cond (tid == t) v (value_of old.threads t)) →
     IsNumberOf (contexts (e ∷ past)) (number_or_none v) (context_of (open_calls (e ∷ past) tid)) →
     ((t : ℕ) → (tid == t) ≡ false → open_calls (e ∷ past) t ≡ open_calls past t) →
@@ -145,7 +145,7 @@ points_grown past c false is =
     let none : points_in past c ≡ [] = ap points_from (no_members (contexts past) c (done_in_context past) (done_known past) is) ∙ no_point in
     ap (λ (ps : List Point). map (points_in past) (contexts past) ++ ps ∷ []) (sym none) ∙ sym (map-append (points_in past) (contexts past) (c ∷ []))
 
-module _ (old new : Kept) (past : List Event) (e : Event) (tid n : ℕ) (a : Activation) (stands : StandsFor old past)
+module _ (old new : KeptBranches) (past : List Event) (e : Event) (tid n : ℕ) (a : Activation) (stands : BranchesStandFor old past)
     (opens : (t : ℕ) → open_calls (e ∷ past) t ≡ cond (tid == t) (a ∷ []) [] ++ open_calls past t)
     (begins : contexts (e ∷ past) ≡ with_context (contexts past) (context_of (open_calls (e ∷ past) tid)))
     (none : done_in_context (e ∷ past) ≡ done_in_context past) where
@@ -160,16 +160,16 @@ module _ (old new : Kept) (past : List Event) (e : Event) (tid n : ℕ) (a : Act
   grown : contexts (e ∷ past) ≡ with_context (contexts past) (numbered (contexts past) (current_of old tid) ++ a.entry ∷ [])
   grown = begins ∙ ap (with_context (contexts past)) own_context
 
-  pub stands-begun : IsLinked new.places new.links → by_number.StandsFor new.places (with_context (contexts past) (numbered (contexts past) (current_of old tid) ++ a.entry ∷ [])) →
+  pub stands-begun : IsLinked new.places new.links → by_number.NumbersStandFor new.places (with_context (contexts past) (numbered (contexts past) (current_of old tid) ++ a.entry ∷ [])) →
       length new.places ≤ CONTEXTS →
       new.points ≡ with_list (list_any (same (numbered (contexts past) (current_of old tid) ++ a.entry ∷ [])) (contexts past)) old.points →
       IsNumberOf (with_context (contexts past) (numbered (contexts past) (current_of old tid) ++ a.entry ∷ [])) n (numbered (contexts past) (current_of old tid) ++ a.entry ∷ []) →
       ((t : ℕ) → value_of new.threads t ≡ cond (tid == t) (Some n) (value_of old.threads t)) →
-      ((t : ℕ) → is_some (value_of new.threads t) ≡ is_live (e ∷ past) t) → All (λ n. n ≤ greatest_start (e ∷ past)) (numbers new.threads) → StandsFor new (e ∷ past)
+      ((t : ℕ) → is_some (value_of new.threads t) ≡ is_live (e ∷ past) t) → All (λ n. n ≤ greatest_start (e ∷ past)) (numbers new.threads) → BranchesStandFor new (e ∷ past)
   stands-begun linked places few points number reads live began = record {
     few = omega (arith, few, places.long, ap length grown);
     links_are = linked;
-    contexts_are = subst (by_number.StandsFor new.places) (sym grown) places;
+    contexts_are = subst (by_number.NumbersStandFor new.places) (sym grown) places;
     points_are =
         points ∙ ap (with_list (list_any (same context) (contexts past))) stands.points_are ∙ points_grown past context (list_any (same context) (contexts past)) refl
         ∙ ap₂ (λ all cs. map (points_of all) cs) (sym none) (sym grown);
@@ -183,7 +183,7 @@ module _ (old new : Kept) (past : List Event) (e : Event) (tid n : ℕ) (a : Act
   }
 
 -- ---- activations end
-module _ (old new : Kept) (past : List Event) (e : Event) (tid count : ℕ) (ds : List Done) (stands : StandsFor old past)
+module _ (old new : KeptBranches) (past : List Event) (e : Event) (tid count : ℕ) (ds : List Done) (stands : BranchesStandFor old past)
     (ends_are : ds ≡ map (done_of past tid) (take count (open_calls past tid)))
     (same_contexts : contexts (e ∷ past) ≡ contexts past)
     (more : done_in_context (e ∷ past) ≡ done_in_context past ++ zip (map (λ k. context_of (drop k (open_calls past tid))) (range_with_len 0 (length (take count (open_calls past tid))))) ds) where
@@ -199,16 +199,16 @@ module _ (old new : Kept) (past : List Event) (e : Event) (tid count : ℕ) (ds 
       ∙ ap (λ m. zip (map (λ k. context_of (drop k (open_calls past tid))) (range_with_len 0 m)) ds) long)
       ∙ ap₂ (λ all cs. map (points_of all) cs) (sym more) (sym same_contexts)
 
-  pub stands-ended : (v : Option ℕ) → IsLinked new.places new.links → by_number.StandsFor new.places (contexts past) →
+  pub stands-ended : (v : Option ℕ) → IsLinked new.places new.links → by_number.NumbersStandFor new.places (contexts past) →
       new.points ≡ map (points_of (done_in_context past ++ tagged old.places (contexts past) (current_of old tid) ds)) (contexts past) →
       ((t : ℕ) → value_of new.threads t ≡ cond (tid == t) v (value_of old.threads t)) →
       IsNumberOf (contexts past) (number_or_none v) (context_of (open_calls (e ∷ past) tid)) →
       ((t : ℕ) → (tid == t) ≡ false → open_calls (e ∷ past) t ≡ open_calls past t) →
-      ((t : ℕ) → is_some (value_of new.threads t) ≡ is_live (e ∷ past) t) → All (λ n. n ≤ greatest_start (e ∷ past)) (numbers new.threads) → StandsFor new (e ∷ past)
+      ((t : ℕ) → is_some (value_of new.threads t) ≡ is_live (e ∷ past) t) → All (λ n. n ≤ greatest_start (e ∷ past)) (numbers new.threads) → BranchesStandFor new (e ∷ past)
   stands-ended v linked places points reads own others live began = record {
     few = subst (λ (cs : List (List ℕ)). length cs ≤ CONTEXTS) (sym same_contexts) stands.few;
     links_are = linked;
-    contexts_are = subst (by_number.StandsFor new.places) (sym same_contexts) places;
+    contexts_are = subst (by_number.NumbersStandFor new.places) (sym same_contexts) places;
     points_are = points_ended points;
     threads_live = live;
     threads_began = began;
@@ -219,9 +219,9 @@ module _ (old new : Kept) (past : List Event) (e : Event) (tid count : ℕ) (ds 
 
 -- ---- each kind of event
 -- what the begin of a context right under another comes to
-pub record HasBegun (old new : Kept) (known : List (List ℕ)) (above entry n : ℕ) : Type 0 where
+pub record HasBegun (old new : KeptBranches) (known : List (List ℕ)) (above entry n : ℕ) : Type 0 where
   pub linked : IsLinked new.places new.links
-  pub places : by_number.StandsFor new.places (with_context known (numbered known above ++ entry ∷ []))
+  pub places : by_number.NumbersStandFor new.places (with_context known (numbered known above ++ entry ∷ []))
   pub few : length new.places ≤ CONTEXTS
   pub points : new.points ≡ with_list (list_any (same (numbered known above ++ entry ∷ [])) known) old.points
   pub number : IsNumberOf (with_context known (numbered known above ++ entry ∷ [])) n (numbered known above ++ entry ∷ [])
@@ -229,17 +229,17 @@ pub record HasBegun (old new : Kept) (known : List (List ℕ)) (above entry n : 
 nothing_more : (past : List Event) → done_in_context past ++ [] ≡ done_in_context past
 nothing_more past = append-nil (done_in_context past)
 
-first_number : (old : Kept) (tid : ℕ) → All (λ n. n < tid) (numbers old.threads) → current_of old tid ≡ 0
+first_number : (old : KeptBranches) (tid : ℕ) → All (λ n. n < tid) (numbers old.threads) → current_of old tid ≡ 0
 first_number old tid above = ap number_or_none (value_of-above old.threads tid above)
 
-pub own-start : (old : Kept) (past : List Event) (tid entry : ℕ) → All (λ n. n < tid) (numbers old.threads) → StandsFor old past →
+pub own-start : (old : KeptBranches) (past : List Event) (tid entry : ℕ) → All (λ n. n < tid) (numbers old.threads) → BranchesStandFor old past →
     context_of (open_calls (Start tid entry ∷ past) tid) ≡ numbered (contexts past) 0 ++ entry ∷ []
 own-start old past tid entry above stands =
     own_context old old past (Start tid entry) tid 0 (record { at = length past; entry = entry; back = None }) stands (λ t. refl) refl (nothing_more past)
     ∙ ap (λ m. numbered (contexts past) m ++ entry ∷ []) (first_number old tid above)
 
-module _ (old new : Kept) (past : List Event) (tid entry n : ℕ) (above : All (λ n. n < tid) (numbers old.threads)) (stands : StandsFor old past) where
-  pub stands-start : new.threads ≡ old.threads ++ (tid, n) ∷ [] → HasBegun old new (contexts past) 0 entry n → StandsFor new (Start tid entry ∷ past)
+module _ (old new : KeptBranches) (past : List Event) (tid entry n : ℕ) (above : All (λ n. n < tid) (numbers old.threads)) (stands : BranchesStandFor old past) where
+  pub stands-start : new.threads ≡ old.threads ++ (tid, n) ∷ [] → HasBegun old new (contexts past) 0 entry n → BranchesStandFor new (Start tid entry ∷ past)
   stands-start threads first =
       let begun : HasBegun old new (contexts past) (current_of old tid) entry n = subst (λ m. HasBegun old new (contexts past) m entry n) (sym (first_number old tid above)) first in
       stands-begun old new past (Start tid entry) tid n (record { at = length past; entry = entry; back = None }) stands (λ t. refl) refl (nothing_more past) begun.linked begun.places begun.few begun.points begun.number reads
@@ -257,7 +257,7 @@ module _ (old new : Kept) (past : List Event) (tid entry n : ℕ) (above : All (
       live t false is = stands.threads_live t ∙ sym (ap (λ b. b || is_live past t) (turned tid t false is))
 
 -- a thread that lives is in another context
-module _ (old new : Kept) (past : List Event) (tid n : ℕ) (lives : is_some (value_of old.threads tid) ≡ true) (threads : new.threads ≡ with_value old.threads tid n) (stands : StandsFor old past) where
+module _ (old new : KeptBranches) (past : List Event) (tid n : ℕ) (lives : is_some (value_of old.threads tid) ≡ true) (threads : new.threads ≡ with_value old.threads tid n) (stands : BranchesStandFor old past) where
   reads_changed : (t : ℕ) → value_of new.threads t ≡ cond (tid == t) (Some n) (value_of old.threads t)
   reads_changed t =
       ap (λ (xs : List (ℕ × ℕ)). value_of xs t) threads
@@ -274,30 +274,30 @@ module _ (old new : Kept) (past : List Event) (tid n : ℕ) (lives : is_some (va
   still_began =
       All-same (λ n. n ≤ greatest_start past) (numbers new.threads) (numbers old.threads) (ap numbers threads ∙ numbers-with old.threads tid n) stands.threads_began
 
-pub own-call : (old : Kept) (past : List Event) (tid entry back : ℕ) → StandsFor old past →
+pub own-call : (old : KeptBranches) (past : List Event) (tid entry back : ℕ) → BranchesStandFor old past →
     context_of (open_calls (Call tid entry back ∷ past) tid) ≡ numbered (contexts past) (current_of old tid) ++ entry ∷ []
 own-call old past tid entry back stands =
     own_context old old past (Call tid entry back) tid 0 (record { at = length past; entry = entry; back = Some back }) stands (λ t. refl) refl (nothing_more past)
 
-pub stands-call : (old new : Kept) (past : List Event) (tid entry back above n : ℕ) → above ≡ current_of old tid → is_some (value_of old.threads tid) ≡ true → new.threads ≡ with_value old.threads tid n → StandsFor old past →
-    HasBegun old new (contexts past) above entry n → StandsFor new (Call tid entry back ∷ past)
+pub stands-call : (old new : KeptBranches) (past : List Event) (tid entry back above n : ℕ) → above ≡ current_of old tid → is_some (value_of old.threads tid) ≡ true → new.threads ≡ with_value old.threads tid n → BranchesStandFor old past →
+    HasBegun old new (contexts past) above entry n → BranchesStandFor new (Call tid entry back ∷ past)
 stands-call old new past tid entry back above n at lives threads stands there =
     let begun : HasBegun old new (contexts past) (current_of old tid) entry n = subst (λ m. HasBegun old new (contexts past) m entry n) at there in
     stands-begun old new past (Call tid entry back) tid n (record { at = length past; entry = entry; back = Some back }) stands (λ t. refl) refl (nothing_more past) begun.linked begun.places begun.few begun.points begun.number
     (reads_changed old new past tid n lives threads stands) (still_live old new past tid n lives threads stands) (still_began old new past tid n lives threads stands)
 
 -- what the end of activations of the context of a number and those above it comes to
-pub record HaveEnded (old new : Kept) (from : ℕ) (ds : List Done) : Type 0 where
+pub record HaveEnded (old new : KeptBranches) (from : ℕ) (ds : List Done) : Type 0 where
   pub places : new.places ≡ old.places
   pub links : new.links ≡ old.links
-  pub points : (known : List (List ℕ)) (members : List (List ℕ × Done)) → by_number.StandsFor old.places known → old.points ≡ map (points_of members) known →
+  pub points : (known : List (List ℕ)) (members : List (List ℕ × Done)) → by_number.NumbersStandFor old.places known → old.points ≡ map (points_of members) known →
       new.points ≡ map (points_of (members ++ tagged old.places known from ds)) known
 
-still_linked : (old new : Kept) → {past : List Event} → StandsFor old past → new.places ≡ old.places → new.links ≡ old.links → IsLinked new.places new.links
+still_linked : (old new : KeptBranches) → {past : List Event} → BranchesStandFor old past → new.places ≡ old.places → new.links ≡ old.links → IsLinked new.places new.links
 still_linked old new stands places links = subst (λ ps. IsLinked ps new.links) (sym places) (subst (λ ls. IsLinked old.places ls) (sym links) stands.links_are)
 
-pub stands-return : (old new : Kept) (past : List Event) (tid target n : ℕ) (ds : List Done) → is_some (value_of old.threads tid) ≡ true → new.threads ≡ with_value old.threads tid n →
-    n ≡ up old.places (current_of old tid) (length ds) → ds ≡ ended (Ret tid target) past → StandsFor old past → HaveEnded old new (current_of old tid) ds → StandsFor new (Ret tid target ∷ past)
+pub stands-return : (old new : KeptBranches) (past : List Event) (tid target n : ℕ) (ds : List Done) → is_some (value_of old.threads tid) ≡ true → new.threads ≡ with_value old.threads tid n →
+    n ≡ up old.places (current_of old tid) (length ds) → ds ≡ ended (Ret tid target) past → BranchesStandFor old past → HaveEnded old new (current_of old tid) ds → BranchesStandFor new (Ret tid target ∷ past)
 stands-return old new past tid target n ds lives threads up_to are stands ends =
     let count = count_ending (Ret tid target) tid (backs (open_calls past tid)) in
     let long : length ds ≡ min (count_ending (Ret tid target) tid (backs (open_calls past tid))) (length (open_calls past tid)) =
@@ -307,7 +307,7 @@ stands-return old new past tid target n ds lives threads up_to are stands ends =
     let here = up_is old.places (contexts past) stands.contexts_are (current_of old tid) (open_calls past tid) (stands.threads_in tid).within (stands.threads_in tid).there (length ds) (omega (arith, long)) in
     stands-ended old new past (Ret tid target) tid (count_ending (Ret tid target) tid (backs (open_calls past tid))) ds stands are refl
     (ap (λ xs. done_in_context past ++ zip (map (λ k. context_of (drop k (open_calls past tid))) (range_with_len 0 (length (take (count_ending (Ret tid target) tid (backs (open_calls past tid))) (open_calls past tid))))) xs) (sym are))
-    (Some n) (still_linked old new stands ends.places ends.links) (subst (λ ps. by_number.StandsFor ps (contexts past)) (sym ends.places) stands.contexts_are) (ends.points (contexts past) (done_in_context past) stands.contexts_are stands.points_are)
+    (Some n) (still_linked old new stands ends.places ends.links) (subst (λ ps. by_number.NumbersStandFor ps (contexts past)) (sym ends.places) stands.contexts_are) (ends.points (contexts past) (done_in_context past) stands.contexts_are stands.points_are)
     (reads_changed old new past tid n lives threads stands)
     (record {
       within = subst (λ m. m ≤ length (contexts past)) (sym up_to) here.within;
@@ -320,12 +320,12 @@ stands-return old new past tid target n ds lives threads up_to are stands ends =
     count_all_of : ℕ → ℕ
     count_all_of t = count_returned target (backs (open_calls past t))
 
-pub stands-end : (old new : Kept) (past : List Event) (tid : ℕ) (ds : List Done) → new.threads ≡ without_thread old.threads tid →
-    ds ≡ ended (End tid) past → StandsFor old past → HaveEnded old new (current_of old tid) ds → StandsFor new (End tid ∷ past)
+pub stands-end : (old new : KeptBranches) (past : List Event) (tid : ℕ) (ds : List Done) → new.threads ≡ without_thread old.threads tid →
+    ds ≡ ended (End tid) past → BranchesStandFor old past → HaveEnded old new (current_of old tid) ds → BranchesStandFor new (End tid ∷ past)
 stands-end old new past tid ds threads are stands ends =
     stands-ended old new past (End tid) tid (count_ending (End tid) tid (backs (open_calls past tid))) ds stands are refl
     (ap (λ xs. done_in_context past ++ zip (map (λ k. context_of (drop k (open_calls past tid))) (range_with_len 0 (length (take (count_ending (End tid) tid (backs (open_calls past tid))) (open_calls past tid))))) xs) (sym are))
-    None (still_linked old new stands ends.places ends.links) (subst (λ ps. by_number.StandsFor ps (contexts past)) (sym ends.places) stands.contexts_are) (ends.points (contexts past) (done_in_context past) stands.contexts_are stands.points_are)
+    None (still_linked old new stands ends.places ends.links) (subst (λ ps. by_number.NumbersStandFor ps (contexts past)) (sym ends.places) stands.contexts_are) (ends.points (contexts past) (done_in_context past) stands.contexts_are stands.points_are)
     reads
     (record { within = omega arith; there = sym (ap context_of all_ended) })
     (λ t isnt. ap (λ b. drop (cond b (length (backs (open_calls past t))) 0) (open_calls past t)) isnt)
@@ -350,17 +350,17 @@ stands-end old new past tid ds threads are stands ends =
 pub light_before : (past : List Event) (e : Event) → IsLight (e ∷ past) → IsLight past
 light_before past e light = omega (arith, light)
 
-pub each_points : (kept : Kept) (past : List Event) → StandsFor kept past → IsLight past → All ArePoints kept.points
+pub each_points : (kept : KeptBranches) (past : List Event) → BranchesStandFor kept past → IsLight past → All ArePoints kept.points
 each_points kept past stands light =
     subst (All ArePoints) (sym stands.points_are) (All-map ArePoints (points_in past) (contexts past) (λ i d inside. rooms past light (get_or (contexts past) i d)))
 
-pub as_many : (kept : Kept) (past : List Event) → StandsFor kept past → length kept.points ≡ length kept.places
+pub as_many : (kept : KeptBranches) (past : List Event) → BranchesStandFor kept past → length kept.points ≡ length kept.places
 as_many kept past stands = ap length stands.points_are ∙ length-map (contexts past) (points_in past) ∙ sym stands.contexts_are.long
 
-pub current_within : (kept : Kept) (past : List Event) (t : ℕ) → StandsFor kept past → current_of kept t ≤ length kept.places
+pub current_within : (kept : KeptBranches) (past : List Event) (t : ℕ) → BranchesStandFor kept past → current_of kept t ≤ length kept.places
 current_within kept past t stands = omega (arith, (stands.threads_in t).within, stands.contexts_are.long)
 
-pub way_ended : (kept : Kept) (past : List Event) (tid count : ℕ) (ds : List Done) → StandsFor kept past → ds ≡ map (done_of past tid) (take count (open_calls past tid)) →
+pub way_ended : (kept : KeptBranches) (past : List Event) (tid count : ℕ) (ds : List Done) → BranchesStandFor kept past → ds ≡ map (done_of past tid) (take count (open_calls past tid)) →
     IsWay kept.places (current_of kept tid) (length ds)
 way_ended kept past tid count ds stands are =
     let long : length ds ≡ min count (length (open_calls past tid)) =
@@ -372,7 +372,7 @@ way_ended kept past tid count ds stands are =
 quiet_points : (past : List Event) → map (points_in past) (contexts past) ≡ map (points_of (done_in_context past ++ [])) (contexts past)
 quiet_points past = ap (λ all. map (points_of all) (contexts past)) (sym (nothing_more past))
 
-pub stands-step : (kept : Kept) (past : List Event) (tid : ℕ) → StandsFor kept past → StandsFor kept (Step tid ∷ past)
+pub stands-step : (kept : KeptBranches) (past : List Event) (tid : ℕ) → BranchesStandFor kept past → BranchesStandFor kept (Step tid ∷ past)
 stands-step kept past tid stands = record {
   contexts_are = stands.contexts_are;
   few = stands.few;
@@ -390,7 +390,7 @@ is_quiet (Ret _ _) = false
 is_quiet (End _) = false
 is_quiet _ = true
 
-pub stands-quiet : (kept : Kept) (past : List Event) (e : Event) → is_quiet e ≡ true → StandsFor kept past → StandsFor kept (e ∷ past)
+pub stands-quiet : (kept : KeptBranches) (past : List Event) (e : Event) → is_quiet e ≡ true → BranchesStandFor kept past → BranchesStandFor kept (e ∷ past)
 stands-quiet kept past (Step tid) is stands = stands-step kept past tid stands
 stands-quiet kept past (Read tid first count) is stands = record {
   contexts_are = stands.contexts_are;
@@ -423,19 +423,19 @@ stands-quiet kept past (Start tid entry) is stands = absurd (cc)
 stands-quiet kept past _ is stands = absurd (cc)
 
 -- a thread that starts has a number above all
-pub above_all : (kept : Kept) (past : List Event) (tid entry : ℕ) → MayFollow (Start tid entry) past → StandsFor kept past → All (λ n. n < tid) (numbers kept.threads)
+pub above_all : (kept : KeptBranches) (past : List Event) (tid entry : ℕ) → MayFollow (Start tid entry) past → BranchesStandFor kept past → All (λ n. n < tid) (numbers kept.threads)
 above_all kept past tid entry may stands =
     All-weaker (λ n. n ≤ greatest_start past) (λ n. n < tid) (λ n low. omega (arith, low, may)) (numbers kept.threads) stands.threads_began
 
 -- a thread that runs is kept
-pub running_kept : (kept : Kept) (past : List Event) (tid : ℕ) → IsRunning past tid → StandsFor kept past → is_some (value_of kept.threads tid) ≡ true
+pub running_kept : (kept : KeptBranches) (past : List Event) (tid : ℕ) → IsRunning past tid → BranchesStandFor kept past → is_some (value_of kept.threads tid) ≡ true
 running_kept kept past tid running stands = stands.threads_live tid ∙ running.0
 
 -- at first
-pub stands-none : (kept : Kept) → kept.places ≡ [] → kept.points ≡ [] → kept.links ≡ no_links ∷ [] → kept.threads ≡ [] → StandsFor kept []
+pub stands-none : (kept : KeptBranches) → kept.places ≡ [] → kept.points ≡ [] → kept.links ≡ no_links ∷ [] → kept.threads ≡ [] → BranchesStandFor kept []
 stands-none kept places points links threads = record {
   links_are = subst (λ ps. IsLinked ps kept.links) (sym places) (subst (λ ls. IsLinked [] ls) (sym links) linked_none);
-  contexts_are = subst (λ ps. by_number.StandsFor ps []) (sym places) none_stand;
+  contexts_are = subst (λ ps. by_number.NumbersStandFor ps []) (sym places) none_stand;
   few = omega arith;
   points_are = points;
   threads_live = λ t. ap (λ (xs : List (ℕ × ℕ)). is_some (value_of xs t)) threads;
@@ -451,7 +451,7 @@ ok_of (Ok x) P ok p = p
 ok_of (Err e) P ok p = absurd (cc)
 
 -- the points of the context of a number
-pub points_at : (kept : Kept) (past : List Event) → StandsFor kept past → (n : ℕ) → 1 ≤ n → n ≤ length (contexts past) → get_or kept.points (n - 1) [] ≡ points_in past (numbered (contexts past) n)
+pub points_at : (kept : KeptBranches) (past : List Event) → BranchesStandFor kept past → (n : ℕ) → 1 ≤ n → n ≤ length (contexts past) → get_or kept.points (n - 1) [] ≡ points_in past (numbered (contexts past) n)
 points_at kept past stands zero some within = absurd (omega (arith, some))
 points_at kept past stands (suc i) some within =
     let at : suc i - 1 ≡ i = omega arith in

@@ -17,7 +17,7 @@ use Rattle.context_tree.specs.Contexts.{contexts}
 use Rattle.context_tree.specs.Numbers.{numbered}
 use Rattle.context_tree.specs.Order.{IsFollowedBy}
 use Rattle.context_tree.specs.Private.Taking.{IsWhole, Takes}
-use Rattle.context_tree.specs.Trees.{AreEnded, IsOfSome, Kept, MayCome, StandsFor, lives}
+use Rattle.context_tree.specs.Trees.{AreEnded, IsOfSome, KeptTree, MayCome, TreeStandsFor, lives}
 use Rattle.context_tree.proofs.Following.{as_many, current_within, each_points, way_ended}
 use Rattle.context_tree.proofs.Once.{if_some, whole_once}
 
@@ -25,24 +25,24 @@ light_of : (past : List Event) → IsWellFormed past → IsLight past
 light_of [] formed = omega arith
 light_of (e ∷ past) formed = formed.1
 
-pub formed_next : (kept : Kept) (past : List Event) (e : Event) → StandsFor kept past → MayCome kept e → IsWellFormed (e ∷ past)
+pub formed_next : (kept : KeptTree) (past : List Event) (e : Event) → TreeStandsFor kept past → MayCome kept e → IsWellFormed (e ∷ past)
 formed_next kept past e stands may = (allowed_by e (lives kept) kept.progress past stands.progress_is stands.branches_are.threads_live).0 may
 
-pub may_next : (kept : Kept) (past : List Event) (e : Event) → StandsFor kept past → IsWellFormed (e ∷ past) → MayCome kept e
+pub may_next : (kept : KeptTree) (past : List Event) (e : Event) → TreeStandsFor kept past → IsWellFormed (e ∷ past) → MayCome kept e
 may_next kept past e stands formed = (allowed_by e (lives kept) kept.progress past stands.progress_is stands.branches_are.threads_live).1 formed
 
 -- ---- what its contexts have
-pub whole : (kept : Kept) → ∥ IsOfSome kept ∥₁ → IsWhole kept.branches
+pub whole : (kept : KeptTree) → ∥ IsOfSome kept ∥₁ → IsWhole kept.branches
 whole kept some = ∥∥₁_elim some (whole_once kept.branches) (λ of. record {
   long = as_many kept.branches of.past of.now.branches_are;
   linked = of.now.branches_are.links_are;
   each = each_points kept.branches of.past of.now.branches_are (light_of of.past of.now.progress_is.formed);
 })
 
-pub some_branches : (kept : Kept) → ∥ IsOfSome kept ∥₁ → ∥ grown.IsOfSome kept.branches ∥₁
+pub some_branches : (kept : KeptTree) → ∥ IsOfSome kept ∥₁ → ∥ grown.IsOfSome kept.branches ∥₁
 some_branches kept some = ∥∥₁_map some (λ of. record { past = of.past; now = of.now.branches_are })
 
-pub light_branches : (kept : Kept) → ∥ IsOfSome kept ∥₁ → ∥ grown.IsOfLight kept.branches ∥₁
+pub light_branches : (kept : KeptTree) → ∥ IsOfSome kept ∥₁ → ∥ grown.IsOfLight kept.branches ∥₁
 light_branches kept some = ∥∥₁_map some (λ of. record { past = of.past; now = of.now.branches_are; light = light_of of.past of.now.progress_is.formed })
 
 -- the one that comes next has a number
@@ -50,22 +50,22 @@ follower_within : (known : List (List ℕ)) (c : List ℕ) (o : Option ℕ) → 
 follower_within known c None next = tt
 follower_within known c (Some m) next = (next.0, next.1)
 
-pub next_within : (kept : Kept) (n : ℕ) (o : Option ℕ) → ∥ IsOfSome kept ∥₁ → ((past : List Event) → grown.StandsFor kept.branches past → IsFollowedBy (contexts past) (numbered (contexts past) n) o) →
+pub next_within : (kept : KeptTree) (n : ℕ) (o : Option ℕ) → ∥ IsOfSome kept ∥₁ → ((past : List Event) → grown.BranchesStandFor kept.branches past → IsFollowedBy (contexts past) (numbered (contexts past) n) o) →
     IfSome o (λ m. (1 ≤ m) × (m ≤ length kept.branches.places))
 next_within kept n o some next = ∥∥₁_elim some (if_some (λ m. (1 ≤ m) × (m ≤ length kept.branches.places)) (λ m. hlevel props) o) (λ of.
     subst (λ k. IfSome o (λ m. (1 ≤ m) × (m ≤ k))) (sym of.now.branches_are.contexts_are.long)
     (follower_within (contexts of.past) (numbered (contexts of.past) n) o (next of.past of.now.branches_are)))
 
 -- ---- what an event asks of them
-within : (kept : Kept) (tid : ℕ) → ∥ IsOfSome kept ∥₁ → grown.current_of kept.branches tid ≤ length kept.branches.places
+within : (kept : KeptTree) (tid : ℕ) → ∥ IsOfSome kept ∥₁ → grown.current_of kept.branches tid ≤ length kept.branches.places
 within kept tid some = ∥∥₁_elim some (hlevel props) (λ of. current_within kept.branches of.past tid of.now.branches_are)
 
-above : (kept : Kept) (tid entry : ℕ) → ∥ IsOfSome kept ∥₁ → MayCome kept (Start tid entry) → All (λ n. n < tid) (numbers kept.branches.threads)
+above : (kept : KeptTree) (tid entry : ℕ) → ∥ IsOfSome kept ∥₁ → MayCome kept (Start tid entry) → All (λ n. n < tid) (numbers kept.branches.threads)
 above kept tid entry some may = ∥∥₁_elim some (hlevel props) (λ of.
     let next : greatest_start of.past < tid = (formed_next kept of.past (Start tid entry) of.now may).0 in
     All-weaker (λ n. n ≤ greatest_start of.past) (λ n. n < tid) (λ n le. omega (arith, le, next)) (numbers kept.branches.threads) of.now.branches_are.threads_began)
 
-pub takes : (kept : Kept) (e : Event) (ends : List Done) → ∥ IsOfSome kept ∥₁ → MayCome kept e → AreEnded kept e ends → Takes kept.branches e ends
+pub takes : (kept : KeptTree) (e : Event) (ends : List Done) → ∥ IsOfSome kept ∥₁ → MayCome kept e → AreEnded kept e ends → Takes kept.branches e ends
 takes kept (Start tid entry) ends some may are = above kept tid entry some may
 takes kept (Call tid entry back) ends some may are = (may.0.0, within kept tid some)
 takes kept (Ret tid target) ends some may are = (
@@ -81,8 +81,8 @@ takes kept (Write tid first count) ends some may are = tt
 takes kept (Fill first count) ends some may are = tt
 
 -- ---- and it goes on
-module _ (old new : Kept) (ends : List Done) (some : ∥ IsOfSome old ∥₁) where
-  pub goes_on : (e : Event) → AreEnded old e ends → ((past : List Event) → StandsFor old past → ends ≡ ended e past → StandsFor new (e ∷ past)) → ∥ IsOfSome new ∥₁
+module _ (old new : KeptTree) (ends : List Done) (some : ∥ IsOfSome old ∥₁) where
+  pub goes_on : (e : Event) → AreEnded old e ends → ((past : List Event) → TreeStandsFor old past → ends ≡ ended e past → TreeStandsFor new (e ∷ past)) → ∥ IsOfSome new ∥₁
   goes_on (Ret tid target) are goes = ∥∥₁_map are (λ of. record { past = Ret tid target ∷ of.past; now = goes of.past of.now of.ends_are })
   goes_on (End tid) are goes = ∥∥₁_map are (λ of. record { past = End tid ∷ of.past; now = goes of.past of.now of.ends_are })
   goes_on (Start tid entry) are goes = ∥∥₁_map some (λ of. record { past = Start tid entry ∷ of.past; now = goes of.past of.now are })
@@ -93,7 +93,7 @@ module _ (old new : Kept) (ends : List Done) (some : ∥ IsOfSome old ∥₁) wh
   goes_on (Fill first count) are goes = ∥∥₁_map some (λ of. record { past = Fill first count ∷ of.past; now = goes of.past of.now are })
 
 -- ---- who kept a past with a tree knows what ended
-pub are_ended : (kept : Kept) (past : List Event) (e : Event) (ends : List Done) → StandsFor kept past → ends ≡ ended e past → AreEnded kept e ends
+pub are_ended : (kept : KeptTree) (past : List Event) (e : Event) (ends : List Done) → TreeStandsFor kept past → ends ≡ ended e past → AreEnded kept e ends
 are_ended kept past (Ret tid target) ends stands are = ∣ record { past = past; now = stands; ends_are = are } ∣₁
 are_ended kept past (End tid) ends stands are = ∣ record { past = past; now = stands; ends_are = are } ∣₁
 are_ended kept past (Start tid entry) ends stands are = are

@@ -2,7 +2,7 @@
 use Rattle.std.proofs.Common.{◌≡◌, ℕ, Bool, true, false, List, [], ◌∷◌, refl, sym, subst, arith}
 use Rattle.std.specs.Prelude.{nat_lt, ◌==◌}
 use Rattle.std.proofs.lemmas.Bool.Decides.{nat_tests}
-use Rattle.context_tree.specs.Numbers.{StandsFor}
+use Rattle.context_tree.specs.Numbers.{NumbersStandFor}
 use Rattle.context_tree.specs.Order.{IsInOrder, in_order, is_before, numbers_down_to}
 use Rattle.context_tree.proofs.Places.{in_places}
 use Rattle.context_tree.proofs.Sorting as sorting
@@ -30,5 +30,5 @@ is_in_order contexts ordered is =
     (λ c d. one_way (numbers_down_to contexts c) (numbers_down_to contexts d)) contexts ordered is.all is.order [])
 
 -- they can be put in that order
-pub have_order : (places : List (ℕ × ℕ)) (known : List (List ℕ)) → StandsFor places known → IsInOrder known (in_order known)
+pub have_order : (places : List (ℕ × ℕ)) (known : List (List ℕ)) → NumbersStandFor places known → IsInOrder known (in_order known)
 have_order places known stands = let there = sorting.in_order known places stands in subst (IsInOrder known) (is_in_order known _ there) there

@@ -7,12 +7,12 @@ use Rattle.std.proofs.lemmas.List.{get_or_default}
 use Rattle.std.proofs.lemmas.List.Sorted.{Contains-permutation, IsPermutation-sym, length_permutation}
 use Rattle.context_tree.specs.declared.order.Links.{Links}
 use Rattle.context_tree.specs.Links.{IsLinked, links_at}
-use Rattle.context_tree.specs.Numbers.{StandsFor, numbered}
+use Rattle.context_tree.specs.Numbers.{NumbersStandFor, numbered}
 use Rattle.context_tree.specs.Order.{IsFollowedBy, IsInOrder, is_before, numbers_down_to}
 use Rattle.context_tree.proofs.Before.{before_asym, before_self}
 
 -- ---- how many entries
-pub depth_is : (places : List (ℕ × ℕ)) (known : List (List ℕ)) (links : List Links) → StandsFor places known → IsLinked places links → (most n : ℕ) → n ≤ most → n ≤ length known →
+pub depth_is : (places : List (ℕ × ℕ)) (known : List (List ℕ)) (links : List Links) → NumbersStandFor places known → IsLinked places links → (most n : ℕ) → n ≤ most → n ≤ length known →
     (links_at links n).depth ≡ length (numbered known n)
 depth_is places known links stands linked most zero le within = linked.none
 depth_is places known links stands linked zero (suc i) le within = absurd (omega (arith, le))
@@ -138,13 +138,13 @@ pub before_all : (known : List (List ℕ)) (c : List ℕ) → 1 ≤ length c →
 before_all known [] some = absurd (omega (arith, some))
 before_all known (x ∷ c) some = refl
 
-pub some_entries : (places : List (ℕ × ℕ)) (known : List (List ℕ)) → StandsFor places known → (m : ℕ) → 1 ≤ m → m ≤ length known → 1 ≤ length (numbered known m)
+pub some_entries : (places : List (ℕ × ℕ)) (known : List (List ℕ)) → NumbersStandFor places known → (m : ℕ) → 1 ≤ m → m ≤ length known → 1 ≤ length (numbered known m)
 some_entries places known stands zero some within = absurd (omega (arith, some))
 some_entries places known stands (suc i) some within =
     omega (arith, ap length (stands.each i (omega (arith, within))), length-append (numbered known (get_or places i (0, 0)).0) ((get_or places i (0, 0)).1 ∷ []))
 
 -- where there is a context, one comes first
-pub some_first : (places : List (ℕ × ℕ)) (known : List (List ℕ)) → StandsFor places known → 1 ≤ length known → (o : Option ℕ) → IsFollowedBy known [] o → IsSome o
+pub some_first : (places : List (ℕ × ℕ)) (known : List (List ℕ)) → NumbersStandFor places known → 1 ≤ length known → (o : Option ℕ) → IsFollowedBy known [] o → IsSome o
 some_first places known stands some (Some n) next = refl
 some_first places known stands some None none =
     absurd (none 1 (omega arith) some (before_all known (numbered known 1) (some_entries places known stands 1 (omega arith) some)))

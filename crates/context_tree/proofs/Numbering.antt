@@ -11,7 +11,7 @@ use Rattle.std.proofs.lemmas.Option.{get_or_from_slice_get}
 use Rattle.std.proofs.Math.Seq.{get_or-append_seam}
 use Rattle.std.proofs.lemmas.List.Sums.{passes_at_first}
 use Rattle.context_tree.specs.Contexts.{same, with_context}
-use Rattle.context_tree.specs.Numbers.{IsNumberOf, StandsFor, numbered, same_place}
+use Rattle.context_tree.specs.Numbers.{IsNumberOf, NumbersStandFor, numbered, same_place}
 
 -- ---- lists with a last element
 abbrev first_or : List ℕ → ℕ
@@ -53,7 +53,7 @@ apart_numbers : (m n : ℕ) → nat_eq m n ≡ false → m ≡ n → ⊥
 apart_numbers m n test is = absurd (grind (arith, nat_tests, test, is))
 
 -- ---- contexts of numbers
-module _ (places : List (ℕ × ℕ)) (contexts : List (List ℕ)) (stands : StandsFor places contexts) where
+module _ (places : List (ℕ × ℕ)) (contexts : List (List ℕ)) (stands : NumbersStandFor places contexts) where
   some_entry : (i : ℕ) → i < length contexts → [] ≢ get_or contexts i []
   some_entry i inside is = not_none (numbered contexts (get_or places i (0, 0)).0) (get_or places i (0, 0)).1 (is ∙ stands.each i inside)
 
@@ -117,7 +117,7 @@ module _ {X : Type 0} (p : X → Bool) where
   past_all (x ∷ xs) none = grind (arith, past_all xs)
 
 -- ---- after a context was looked up or added
-module _ (places : List (ℕ × ℕ)) (contexts : List (List ℕ)) (stands : StandsFor places contexts) (above entry : ℕ) (inside : above ≤ length contexts) where
+module _ (places : List (ℕ × ℕ)) (contexts : List (List ℕ)) (stands : NumbersStandFor places contexts) (above entry : ℕ) (inside : above ≤ length contexts) where
   abbrev key : ℕ × ℕ
   key = (above, entry)
 
@@ -162,7 +162,7 @@ module _ (places : List (ℕ × ℕ)) (contexts : List (List ℕ)) (stands : Sta
     | inr over ↦ inr (omega (arith, lt, over, length-append contexts (wanted ∷ [])))
   ]
 
-  grown : list_any (same wanted) contexts ≡ false → StandsFor (places ++ key ∷ []) (contexts ++ wanted ∷ [])
+  grown : list_any (same wanted) contexts ≡ false → NumbersStandFor (places ++ key ∷ []) (contexts ++ wanted ∷ [])
   grown none = record {
     long = omega (arith, stands.long, length-append places (key ∷ []), length-append contexts (wanted ∷ []));
     above = λ i lt. elim (one_longer i lt) [
@@ -186,12 +186,12 @@ module _ (places : List (ℕ × ℕ)) (contexts : List (List ℕ)) (stands : Sta
 
   -- it stands for the contexts with this one
   pub stands_with : (new : List (ℕ × ℕ)) → new ≡ cond (list_any (same_place (above, entry)) places) places (places ++ (above, entry) ∷ []) →
-      StandsFor new (with_context contexts (numbered contexts above ++ entry ∷ []))
+      NumbersStandFor new (with_context contexts (numbered contexts above ++ entry ∷ []))
   stands_with new is =
-      subst (λ ps. StandsFor ps (with_context contexts (numbered contexts above ++ entry ∷ []))) (sym is)
-      (subst (λ b. StandsFor (cond b places (places ++ (above, entry) ∷ [])) (with_context contexts (numbered contexts above ++ entry ∷ []))) any_is (by (list_any (same wanted) contexts) refl))
+      subst (λ ps. NumbersStandFor ps (with_context contexts (numbered contexts above ++ entry ∷ []))) (sym is)
+      (subst (λ b. NumbersStandFor (cond b places (places ++ (above, entry) ∷ [])) (with_context contexts (numbered contexts above ++ entry ∷ []))) any_is (by (list_any (same wanted) contexts) refl))
     where
-      by : (b : Bool) → list_any (same wanted) contexts ≡ b → StandsFor (cond b places (places ++ key ∷ [])) (cond b contexts (contexts ++ wanted ∷ []))
+      by : (b : Bool) → list_any (same wanted) contexts ≡ b → NumbersStandFor (cond b places (places ++ key ∷ [])) (cond b contexts (contexts ++ wanted ∷ []))
       by true there = stands
       by false none = grown none
 
@@ -221,7 +221,7 @@ module _ (places : List (ℕ × ℕ)) (contexts : List (List ℕ)) (stands : Sta
             there = new_context index (first ∙ last);
           }
 
-pub none_stand : StandsFor [] []
+pub none_stand : NumbersStandFor [] []
 none_stand = record {
   long = refl;
   above = λ i lt. absurd (omega (arith, lt));
@@ -252,7 +252,7 @@ pub if_err_is : {T E : Type 0} (r : Result T E) (e : E) (P : T → Type 0) → r
 if_err_is r e P is = subst (λ o. IfOk o P) (sym is) tt
 
 -- the place of a number
-pub above_is : (places : List (ℕ × ℕ)) (contexts : List (List ℕ)) (n : ℕ) (place : ℕ × ℕ) → StandsFor places contexts → 1 ≤ n → n ≤ length places →
+pub above_is : (places : List (ℕ × ℕ)) (contexts : List (List ℕ)) (n : ℕ) (place : ℕ × ℕ) → NumbersStandFor places contexts → 1 ≤ n → n ≤ length places →
     Some place ≡ slice_get places (n - 1) → (place.0 < n) × (numbered contexts n ≡ numbered contexts place.0 ++ place.1 ∷ [])
 above_is places contexts zero place stands some within read = absurd (omega (arith, some))
 above_is places contexts (suc i) place stands some within read =

@@ -6,7 +6,7 @@ use Rattle.cost_points.specs.declared.point.Point.{Point}
 use Rattle.cost_points.specs.Search.{HasRoom, HasSplitRoom}
 use Rattle.cost_points.specs.Valid.{IsPoint, IsSplit}
 use Rattle.context_tree.specs.declared.order.Links.{Links}
-use Rattle.context_tree.specs.Branches.{Kept}
+use Rattle.context_tree.specs.Branches.{KeptBranches}
 use Rattle.context_tree.specs.Links.{IsLastUnder, IsLinked, IsNextUnder}
 use Rattle.context_tree.specs.Private.Taking.{IsWhole}
 use Rattle.context_tree.specs.Ways.{ArePoints}
@@ -35,5 +35,5 @@ last_once places n (Some l) = let next = next_once places n l None in hlevel (pr
 pub linked_once : (places : List (ℕ × ℕ)) (links : List Links) → IsProp (IsLinked places links)
 linked_once places links = hlevel (props, next_once, last_once)
 
-pub whole_once : (kept : Kept) → IsProp (IsWhole kept)
+pub whole_once : (kept : KeptBranches) → IsProp (IsWhole kept)
 whole_once kept = hlevel (props, linked_once, points_once)

@@ -6,7 +6,7 @@ use Rattle.std.proofs.lemmas.List.{append-nil, append_cancel_left, length_push, 
 use Rattle.std.proofs.lemmas.List.FromFn.{map-range_with_len_more}
 use Rattle.context_tree.specs.Contexts.{same}
 use Rattle.context_tree.specs.Links.{IsNextUnder}
-use Rattle.context_tree.specs.Numbers.{StandsFor, above_of, numbered}
+use Rattle.context_tree.specs.Numbers.{NumbersStandFor, above_of, numbered}
 use Rattle.context_tree.specs.Order.{IsFollowedBy, is_before, numbers_down_to}
 use Rattle.context_tree.specs.Private.Leaving.{Extends, IsLeftBy, IsUnder}
 use Rattle.context_tree.proofs.Before.{IsApart, before_append, before_asym, before_less, before_more, before_self, extends_or, has_last}
@@ -36,7 +36,7 @@ first_at p (x ∷ xs) (suc i) d lt is before =
     let here : p x ≡ false = before 0 (omega arith) in
     grind (arith, rest, here)
 
-module _ (places : List (ℕ × ℕ)) (known : List (List ℕ)) (stands : StandsFor places known) where
+module _ (places : List (ℕ × ℕ)) (known : List (List ℕ)) (stands : NumbersStandFor places known) where
   abbrev key : ℕ → List ℕ
   key n = numbers_down_to known (numbered known n)
 

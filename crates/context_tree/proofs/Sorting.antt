@@ -5,7 +5,7 @@ use Rattle.std.specs.List.Sorted.{IsPermutation}
 use Rattle.std.proofs.lemmas.List.{get_or_default}
 use Rattle.std.proofs.lemmas.List.Elements.{All-cons, All-head, All-nil, All-tail, All-weaker}
 use Rattle.std.proofs.lemmas.List.Sorted.{All-permutation, IsPermutation-cons, IsPermutation-middle, IsPermutation-refl, IsPermutation-trans}
-use Rattle.context_tree.specs.Numbers.{StandsFor}
+use Rattle.context_tree.specs.Numbers.{NumbersStandFor}
 use Rattle.context_tree.specs.Order.{IsInOrder, is_before, numbers_down_to}
 use Rattle.context_tree.proofs.Before.{before_either, before_trans}
 use Rattle.context_tree.proofs.Ordering.{one_key}
@@ -86,7 +86,7 @@ module _ (known : List (List ℕ)) where
     distinct_by cs (λ i j e less lt. apart (suc i) (suc j) e (omega (arith, less)) (omega (arith, lt))),
   )
 
-  pub in_order : (places : List (ℕ × ℕ)) → StandsFor places known → IsInOrder known (sorted_text known)
+  pub in_order : (places : List (ℕ × ℕ)) → NumbersStandFor places known → IsInOrder known (sorted_text known)
   in_order places stands = record {
     all = sorted_all known;
     order = all_pairs (sorted_text known) (sorted_rises known (distinct_by known (λ i j e less lt same.

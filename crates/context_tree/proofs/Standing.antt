@@ -10,7 +10,7 @@ use Rattle.trace_model.specs.declared.event_kinds.Event.TheVariants.{Call, Start
 use Rattle.trace_model.specs.declared.activations.Activation.{Activation}
 use Rattle.trace_model.specs.Activations.{open_calls}
 use Rattle.context_tree.specs.Contexts.{context_of, contexts, same, with_context}
-use Rattle.context_tree.specs.Numbers.{IsNumberOf, StandsFor, numbered, with_place}
+use Rattle.context_tree.specs.Numbers.{IsNumberOf, NumbersStandFor, numbered, with_place}
 use Rattle.context_tree.proofs.Following.{context_more}
 use Rattle.context_tree.proofs.Known.{IsKnown, open_known}
 use Rattle.context_tree.proofs.Numbering.{none_stand, stands_with, within_any}
@@ -18,7 +18,7 @@ use Rattle.context_tree.proofs.Numbering.{none_stand, stands_with, within_any}
 -- There are places that stand for them.
 pub record HavePlaces (known : List (List ℕ)) : Type 0 where
   pub places : List (ℕ × ℕ)
-  pub stands : StandsFor places known
+  pub stands : NumbersStandFor places known
 
 record HasNumber (known : List (List ℕ)) (c : List ℕ) : Type 0 where
   n : ℕ
@@ -44,7 +44,7 @@ begun_places known c above entry have number is =
     let there : c ≡ numbered known number.n ++ entry ∷ [] = is ∙ ap (λ b. b ++ entry ∷ []) (sym number.is.there) in
     record {
       places = with_place have.places (number.n, entry);
-      stands = subst (λ b. StandsFor (with_place have.places (number.n, entry)) (with_context known b)) (sym there)
+      stands = subst (λ b. NumbersStandFor (with_place have.places (number.n, entry)) (with_context known b)) (sym there)
           (stands_with have.places known have.stands number.n entry number.is.within (with_place have.places (number.n, entry)) refl);
     }
 

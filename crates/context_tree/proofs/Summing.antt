@@ -30,7 +30,7 @@ use Rattle.context_tree.specs.Contexts.{context_of, contexts, same}
 use Rattle.context_tree.specs.Numbers.{numbered}
 use Rattle.context_tree.specs.Numbers as by_number
 use Rattle.context_tree.specs.Points.{contexts_ended, done_in_context, members_of, points_from, points_in}
-use Rattle.context_tree.specs.Branches.{Kept, StandsFor}
+use Rattle.context_tree.specs.Branches.{KeptBranches, BranchesStandFor}
 use Rattle.context_tree.proofs.Following.{context_more, shifted}
 use Rattle.context_tree.proofs.Known.{IsKnown, done_known}
 use Rattle.context_tree.proofs.Numbering.{same_last, same_told}
@@ -215,7 +215,7 @@ any_turned : (b : List ℕ) (known : List (List ℕ)) → list_any (λ c. same c
 any_turned b [] = refl
 any_turned b (c ∷ known) = ap₂ (λ x y. x || y) (same_turned c b) (any_turned b known)
 
-module _ (past : List Event) (places : List (ℕ × ℕ)) (stands : by_number.StandsFor places (contexts past)) where
+module _ (past : List Event) (places : List (ℕ × ℕ)) (stands : by_number.NumbersStandFor places (contexts past)) where
   pub one_context : All (λ (x : List ℕ × Done). IsOfOne (λ c. same c x.0) (contexts past)) (done_in_context past)
   one_context = All-weaker (λ (x : List ℕ × Done). IsKnown (contexts past) x.0) (λ x. IsOfOne (λ c. same c x.0) (contexts past))
       (λ x is. record {
@@ -282,7 +282,7 @@ entries_are (x ∷ xs) c front entry ends is = by (same c x.0) refl (entries_are
         All-cons (λ (d : Done). d.entry ≡ entry) x.1 (members_of xs c) (same_last end.front front x.1.entry entry (sym end.is ∙ sym there ∙ is)) rest
 
 -- ---- one context after the other
-module _ (kept : Kept) (past : List Event) (stands : StandsFor kept past) (i : ℕ) (lt : i < length (contexts past)) (ps : List Point) (read : ps ≡ get_or kept.points i []) where
+module _ (kept : KeptBranches) (past : List Event) (stands : BranchesStandFor kept past) (i : ℕ) (lt : i < length (contexts past)) (ps : List Point) (read : ps ≡ get_or kept.points i []) where
   abbrev here : List ℕ
   here = get_or (contexts past) i []
 
@@ -317,7 +317,7 @@ module _ (kept : Kept) (past : List Event) (stands : StandsFor kept past) (i : �
       is ∙ ap contents_of (flat_map_more (members_of (done_in_context past)) [] (take i (contexts past)) here
       ∙ ap (flat_map (members_of (done_in_context past))) (sym (take_more (contexts past) i [] lt)))
 
-pub table_all : (kept : Kept) (past : List Event) (n : ℕ) (table : TableContents) → StandsFor kept past → length (contexts past) ≤ n →
+pub table_all : (kept : KeptBranches) (past : List Event) (n : ℕ) (table : TableContents) → BranchesStandFor kept past → length (contexts past) ≤ n →
     table ≡ contents_of (flat_map (members_of (done_in_context past)) (take n (contexts past))) → table ≡ contents_of (done past)
 table_all kept past n table stands all is =
     is ∙ ap (λ cs. contents_of (flat_map (members_of (done_in_context past)) cs)) (take_all n (contexts past) all) ∙ by_context past kept.places stands.contexts_are []

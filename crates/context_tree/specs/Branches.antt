@@ -16,20 +16,20 @@ use Rattle.context_tree.specs.Points.{points_in}
 
 -- The contexts by number, the points of each and which are right under it, and for each thread that lives the number of the context that it is in: that of
 -- its innermost open activation.
-pub record Kept : Type 0 where
+pub record KeptBranches : Type 0 where
   pub places : List (ℕ × ℕ)
   pub points : List (List Point)
   pub links : List Links
   pub threads : List (ℕ × ℕ)
 
 -- the number of the context that the thread is in, and 0 where it has no open activation
-abbrev pub current_of : Kept → ℕ → ℕ
+abbrev pub current_of : KeptBranches → ℕ → ℕ
 current_of kept t = option_map_or (λ n. n) (value_of kept.threads t) 0
 
 -- It is what is kept of this past. The contexts of all open activations of a thread are that of the innermost and its
 -- beginnings, so they are kept with it. There are no more contexts than can be numbered.
-pub record StandsFor (kept : Kept) (past : List Event) : Type 0 where
-  pub contexts_are : by_number.StandsFor kept.places (contexts past)
+pub record BranchesStandFor (kept : KeptBranches) (past : List Event) : Type 0 where
+  pub contexts_are : by_number.NumbersStandFor kept.places (contexts past)
   pub few : length (contexts past) ≤ CONTEXTS
   pub points_are : kept.points ≡ map (points_in past) (contexts past)
   pub links_are : IsLinked kept.places kept.links
@@ -38,12 +38,12 @@ pub record StandsFor (kept : Kept) (past : List Event) : Type 0 where
   pub threads_in : (t : ℕ) → IsNumberOf (contexts past) (current_of kept t) (context_of (open_calls past t))
 
 -- It is what is kept of some past.
-pub record IsOfSome (kept : Kept) : Type 0 where
+pub record IsOfSome (kept : KeptBranches) : Type 0 where
   pub past : List Event
-  pub now : StandsFor kept past
+  pub now : BranchesStandFor kept past
 
 -- It is what is kept of a past that is light.
-pub record IsOfLight (kept : Kept) : Type 0 where
+pub record IsOfLight (kept : KeptBranches) : Type 0 where
   pub past : List Event
-  pub now : StandsFor kept past
+  pub now : BranchesStandFor kept past
   pub light : IsLight past

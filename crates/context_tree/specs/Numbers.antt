@@ -22,7 +22,7 @@ abbrev pub with_place : List (ℕ × ℕ) → ℕ × ℕ → List (ℕ × ℕ)
 with_place places place = if list_any (same_place place) places then places else places ++ place ∷ []
 
 -- Of each context there are kept the number of the one right above it, which is smaller than its own, and its last entry.
-pub record StandsFor (places : List (ℕ × ℕ)) (contexts : List (List ℕ)) : Type 0 where
+pub record NumbersStandFor (places : List (ℕ × ℕ)) (contexts : List (List ℕ)) : Type 0 where
   pub long : length places ≡ length contexts
   pub above : (i : ℕ) → i < length contexts → (slice_index_or places i (0, 0)).0 ≤ i
   pub each : (i : ℕ) → i < length contexts →

@@ -13,36 +13,36 @@ use Rattle.context_tree.specs.Numbers.{IsBeyond}
 use Rattle.context_tree.specs.Points.{points_in}
 
 -- The contexts with their points, and what tells with the threads that live which event may come next.
-pub record Kept : Type 0 where
-  pub branches : grown.Kept
+pub record KeptTree : Type 0 where
+  pub branches : grown.KeptBranches
   pub progress : ProgressState
 
 -- It is what is kept of this past, which is one that a run can have.
-pub record StandsFor (kept : Kept) (past : List Event) : Type 0 where
-  pub branches_are : grown.StandsFor kept.branches past
+pub record TreeStandsFor (kept : KeptTree) (past : List Event) : Type 0 where
+  pub branches_are : grown.BranchesStandFor kept.branches past
   pub progress_is : IsProgressOf kept.progress past
 
 -- It is what is kept of some past.
-pub record IsOfSome (kept : Kept) : Type 0 where
+pub record IsOfSome (kept : KeptTree) : Type 0 where
   pub past : List Event
-  pub now : StandsFor kept past
+  pub now : TreeStandsFor kept past
 
 -- the thread is in a context
-abbrev pub lives : Kept → ℕ → Bool
+abbrev pub lives : KeptTree → ℕ → Bool
 lives kept t = is_some (value_of kept.branches.threads t)
 
 -- The event may come next, as what is kept shows: what it shows is so of all pasts for which that stands.
-abbrev pub MayCome : Kept → Event → Type 0
+abbrev pub MayCome : KeptTree → Event → Type 0
 MayCome kept e = IsAllowed e (is_of_one (lives kept) e) kept.progress
 
 -- They are the activations that the event ends after some past of which this is kept.
-pub record AreOfSome (kept : Kept) (e : Event) (ends : List Done) : Type 0 where
+pub record AreOfSome (kept : KeptTree) (e : Event) (ends : List Done) : Type 0 where
   pub past : List Event
-  pub now : StandsFor kept past
+  pub now : TreeStandsFor kept past
   pub ends_are : ends ≡ ended e past
 
 -- They are the activations that the event ends: a return, or the end of a thread, those of some past, and any other event none.
-abbrev pub AreEnded : Kept → Event → List Done → Type 0
+abbrev pub AreEnded : KeptTree → Event → List Done → Type 0
 AreEnded kept (Ret tid target) ends = ∥ AreOfSome kept (Ret tid target) ends ∥₁
 AreEnded kept (End tid) ends = ∥ AreOfSome kept (End tid) ends ∥₁
 AreEnded kept e ends = ends ≡ []

@@ -13,7 +13,7 @@ ghost use Rattle.context_tree.specs.Links.{IsLinked};
 ghost use Rattle.context_tree.specs.Numbers.{IsBeyond, IsNumberOf, numbered};
 ghost use Rattle.context_tree.specs.Numbers as by_number;
 ghost use Rattle.context_tree.specs.Order.{IsFollowedBy, IsInOrder};
-ghost use Rattle.context_tree.specs.Branches.{IsOfLight, IsOfSome, StandsFor, current_of};
+ghost use Rattle.context_tree.specs.Branches.{IsOfLight, IsOfSome, BranchesStandFor, current_of};
 ghost use Rattle.context_tree.specs.Trees.{HasTooMany, IsShown};
 ghost use Rattle.context_tree.specs.Private.Taking.{IsWhole, Takes};
 ghost use Rattle.context_tree.specs.Private.Adding.{with_list};
@@ -42,10 +42,10 @@ pub(crate) struct Branches {
 }
 
 impl Model for Branches {
-    ghost use Rattle.context_tree.specs.Branches.{Kept};
+    ghost use Rattle.context_tree.specs.Branches.{KeptBranches};
     ghost use Rattle.context_tree.specs.Ways.{lists};
 
-    ghost Value = { Kept };
+    ghost Value = { KeptBranches };
 
     ghost view = { λ t. record { places = t.numbers; points = lists t.points.items; links = t.links.items; threads = t.threads.list } };
 }
@@ -63,15 +63,15 @@ fn begin(
     requires within { above ≤ length numbers.old }
     requires long { length points.old.items ≡ length numbers.old }
     requires linked { IsLinked numbers.old links.old.items }
-    ensures stands { (contexts : List (List ℕ)) → by_number.StandsFor numbers.old contexts
-        → OnOk result (by_number.StandsFor numbers.new (with_context contexts (numbered contexts above ++ entry ∷ []))) }
-    ensures number { (contexts : List (List ℕ)) → by_number.StandsFor numbers.old contexts
+    ensures stands { (contexts : List (List ℕ)) → by_number.NumbersStandFor numbers.old contexts
+        → OnOk result (by_number.NumbersStandFor numbers.new (with_context contexts (numbered contexts above ++ entry ∷ []))) }
+    ensures number { (contexts : List (List ℕ)) → by_number.NumbersStandFor numbers.old contexts
         → IfOk result (λ n. IsNumberOf (with_context contexts (numbered contexts above ++ entry ∷ [])) n (numbered contexts above ++ entry ∷ [])) }
-    ensures points { (contexts : List (List ℕ)) → by_number.StandsFor numbers.old contexts
+    ensures points { (contexts : List (List ℕ)) → by_number.NumbersStandFor numbers.old contexts
         → OnOk result (lists points.new.items ≡ with_list (list_any (same (numbered contexts above ++ entry ∷ [])) contexts) (lists points.old.items)) }
-    ensures too_many { (contexts : List (List ℕ)) → by_number.StandsFor numbers.old contexts
+    ensures too_many { (contexts : List (List ℕ)) → by_number.NumbersStandFor numbers.old contexts
         → result ≡ Err TreeError.TooMany → IsBeyond contexts (numbered contexts above ++ entry ∷ []) }
-    ensures only_memory { (contexts : List (List ℕ)) → by_number.StandsFor numbers.old contexts
+    ensures only_memory { (contexts : List (List ℕ)) → by_number.NumbersStandFor numbers.old contexts
         → IsBeyond contexts (numbered contexts above ++ entry ∷ []) → result ≡ Err TreeError.TooMany }
     ensures refused_numbers { OnErr result (numbers.new ≡ numbers.old) }
     ensures linked { OnOk result (IsLinked numbers.new links.new.items) }
@@ -95,7 +95,7 @@ fn begin(
 impl Branches {
     /// No event so far.
     pub(crate) fn new(alloc: Global) -> Result<Branches, AllocError>
-        ensures { IfOk result (λ branches. StandsFor branches []) }
+        ensures { IfOk result (λ branches. BranchesStandFor branches []) }
     {
         let mut links = Vec::new(alloc);
         links.push(Links::new(0))?;
@@ -113,11 +113,11 @@ impl Branches {
     pub(crate) fn apply(&mut self, e: Event, ends: &[Done]) -> Result<(), TreeError>
         requires whole { IsWhole self.old }
         requires takes { Takes self.old e ends.now }
-        ensures stands { (past : List Event) → StandsFor self.old past → ends.now ≡ ended e past
-            → OnOk result (StandsFor self.new (e ∷ past)) }
-        ensures too_many { (past : List Event) → StandsFor self.old past
+        ensures stands { (past : List Event) → BranchesStandFor self.old past → ends.now ≡ ended e past
+            → OnOk result (BranchesStandFor self.new (e ∷ past)) }
+        ensures too_many { (past : List Event) → BranchesStandFor self.old past
             → result ≡ Err TreeError.TooMany → HasTooMany e past }
-        ensures only_memory { (past : List Event) → StandsFor self.old past → HasTooMany e past
+        ensures only_memory { (past : List Event) → BranchesStandFor self.old past → HasTooMany e past
             → result ≡ Err TreeError.TooMany }
         ensures refused { OnErr result (self.new ≡ self.old) }
         ensures no_allocation { (past : List Event) → context_begun e past ≡ None → ends.now ≡ []
@@ -136,9 +136,9 @@ impl Branches {
     pub(crate) fn contexts(&self) -> usize
         ensures value { result ≡ length self.now.places }
         ensures few { result ≤ CONTEXTS }
-        ensures stands { (past : List Event) → StandsFor self.now past
+        ensures stands { (past : List Event) → BranchesStandFor self.now past
             → result ≡ length (contexts past) }
-        ensures ordered { (past : List Event) → StandsFor self.now past
+        ensures ordered { (past : List Event) → BranchesStandFor self.now past
             → (ordered : List (List ℕ)) × IsInOrder (contexts past) ordered }
     {
         self.numbers.len()
@@ -149,7 +149,7 @@ impl Branches {
     pub(crate) fn next_in_order(&self, n: u32) -> Option<u32>
         requires linked { IsLinked self.now.places self.now.links }
         requires within { n ≤ length self.now.places }
-        ensures { (past : List Event) → StandsFor self.now past
+        ensures { (past : List Event) → BranchesStandFor self.now past
             → IsFollowedBy (contexts past) (numbered (contexts past) n) result }
     {
         match self.links[n as usize].first_child {
@@ -163,7 +163,7 @@ impl Branches {
     pub(crate) fn context(&self, i: usize) -> Result<(u32, Addr, Vec<Point>), AllocError>
         requires stands { ∥ IsOfSome self.now ∥₁ }
         requires within { i < length self.now.places }
-        ensures { (past : List Event) (ordered : List (List ℕ)) → StandsFor self.now past
+        ensures { (past : List Event) (ordered : List (List ℕ)) → BranchesStandFor self.now past
             → IsInOrder (contexts past) ordered
             → IfOk result (λ c. IsShown past (slice_index_or ordered i []) c.0 c.1 c.2.items) }
     {
@@ -176,7 +176,7 @@ impl Branches {
         requires within { i < length self.now.places }
         ensures some { 1 ≤ result }
         ensures within { result ≤ length self.now.places }
-        ensures listed { (past : List Event) (ordered : List (List ℕ)) → StandsFor self.now past
+        ensures listed { (past : List Event) (ordered : List (List ℕ)) → BranchesStandFor self.now past
             → IsInOrder (contexts past) ordered
             → numbered (contexts past) result ≡ slice_index_or ordered i [] }
     {
@@ -194,7 +194,7 @@ impl Branches {
         requires long { length self.now.points ≡ length self.now.places }
         requires some { 1 ≤ n }
         requires within { n ≤ length self.now.places }
-        ensures { (past : List Event) → StandsFor self.now past
+        ensures { (past : List Event) → BranchesStandFor self.now past
             → IfOk result (λ c. IsShown past (numbered (contexts past) n) c.0 c.1 c.2.items) }
     {
         let (_, entry) = self.numbers.place(n);
@@ -206,7 +206,7 @@ impl Branches {
     /// The points of all contexts together, by routine: those of all activations that ended.
     pub(crate) fn totals(&self, alloc: Global) -> Result<Table, AllocError>
         requires { ∥ IsOfLight self.now ∥₁ }
-        ensures { (past : List Event) → StandsFor self.now past
+        ensures { (past : List Event) → BranchesStandFor self.now past
             → IfOk result (λ table. table ≡ contents_of (done past)) }
     {
         let mut table = Table::new(alloc)?;
@@ -240,11 +240,11 @@ impl Branches {
         requires above { All (λ n. n < tid) (numbers self.old.threads) }
         requires long { length self.old.points ≡ length self.old.places }
         requires linked { IsLinked self.old.places self.old.links }
-        ensures stands { (past : List Event) → StandsFor self.old past
-            → OnOk result (StandsFor self.new (Start tid entry ∷ past)) }
-        ensures too_many { (past : List Event) → StandsFor self.old past
+        ensures stands { (past : List Event) → BranchesStandFor self.old past
+            → OnOk result (BranchesStandFor self.new (Start tid entry ∷ past)) }
+        ensures too_many { (past : List Event) → BranchesStandFor self.old past
             → result ≡ Err TreeError.TooMany → HasTooMany (Start tid entry) past }
-        ensures only_memory { (past : List Event) → StandsFor self.old past
+        ensures only_memory { (past : List Event) → BranchesStandFor self.old past
             → HasTooMany (Start tid entry) past → result ≡ Err TreeError.TooMany }
         ensures refused { OnErr result (self.new ≡ self.old) }
     {
@@ -270,11 +270,11 @@ impl Branches {
         requires within { current_of self.old tid ≤ length self.old.places }
         requires long { length self.old.points ≡ length self.old.places }
         requires linked { IsLinked self.old.places self.old.links }
-        ensures stands { (past : List Event) (back : ℕ) → StandsFor self.old past
-            → OnOk result (StandsFor self.new (Call tid entry back ∷ past)) }
-        ensures too_many { (past : List Event) (back : ℕ) → StandsFor self.old past
+        ensures stands { (past : List Event) (back : ℕ) → BranchesStandFor self.old past
+            → OnOk result (BranchesStandFor self.new (Call tid entry back ∷ past)) }
+        ensures too_many { (past : List Event) (back : ℕ) → BranchesStandFor self.old past
             → result ≡ Err TreeError.TooMany → HasTooMany (Call tid entry back) past }
-        ensures only_memory { (past : List Event) (back : ℕ) → StandsFor self.old past
+        ensures only_memory { (past : List Event) (back : ℕ) → BranchesStandFor self.old past
             → HasTooMany (Call tid entry back) past → result ≡ Err TreeError.TooMany }
         ensures refused { OnErr result (self.new ≡ self.old) }
     {
@@ -298,9 +298,9 @@ impl Branches {
         requires way { IsWay self.old.places (current_of self.old tid) (length ends.now) }
         requires long { length self.old.points ≡ length self.old.places }
         requires each { All ArePoints self.old.points }
-        ensures stands { (past : List Event) (target : ℕ) → StandsFor self.old past
+        ensures stands { (past : List Event) (target : ℕ) → BranchesStandFor self.old past
             → ends.now ≡ ended (Ret tid target) past
-            → OnOk result (StandsFor self.new (Ret tid target ∷ past)) }
+            → OnOk result (BranchesStandFor self.new (Ret tid target ∷ past)) }
         ensures refused { OnErr result (self.new ≡ self.old) }
         ensures no_allocation { ends.now ≡ [] → IsOk result }
     {
@@ -317,9 +317,9 @@ impl Branches {
         requires way { IsWay self.old.places (current_of self.old tid) (length ends.now) }
         requires long { length self.old.points ≡ length self.old.places }
         requires each { All ArePoints self.old.points }
-        ensures stands { (past : List Event) → StandsFor self.old past
+        ensures stands { (past : List Event) → BranchesStandFor self.old past
             → ends.now ≡ ended (End tid) past
-            → OnOk result (StandsFor self.new (End tid ∷ past)) }
+            → OnOk result (BranchesStandFor self.new (End tid ∷ past)) }
         ensures refused { OnErr result (self.new ≡ self.old) }
         ensures no_allocation { ends.now ≡ [] → IsOk result }
     {

@@ -2,7 +2,7 @@
 ghost use Rattle.std.specs.Prelude.{◌≡◌, ◌<◌, ◌≤◌, ◌-◌, ◌++◌, ◌∷◌, [], ℕ, List, length, slice_index_or, true, Err, IfOk, OnErr, OnOk};
 ghost use Rattle.context_tree.specs.Contexts.{with_context};
 ghost use Rattle.context_tree.specs.declared.errors.TreeError.{TreeError};
-ghost use Rattle.context_tree.specs.Numbers.{IsBeyond, IsNumberOf, StandsFor, numbered, with_place};
+ghost use Rattle.context_tree.specs.Numbers.{IsBeyond, IsNumberOf, NumbersStandFor, numbered, with_place};
 
 use crate::TreeError;
 use guest_words::Addr;
@@ -33,7 +33,7 @@ impl Model for ContextNumbers {
 impl ContextNumbers {
     /// No context but the one with no entry.
     pub fn new(alloc: Global) -> ContextNumbers
-        ensures { StandsFor result [] }
+        ensures { NumbersStandFor result [] }
     {
         ContextNumbers {
             places: IndexSet::new(alloc),
@@ -53,8 +53,8 @@ impl ContextNumbers {
         requires some { 1 ≤ n }
         requires within { n ≤ length self.now }
         ensures here { result ≡ slice_index_or self.now (n - 1) (0, 0) }
-        ensures above { (contexts : List (List ℕ)) → StandsFor self.now contexts → result.0 < n }
-        ensures context { (contexts : List (List ℕ)) → StandsFor self.now contexts
+        ensures above { (contexts : List (List ℕ)) → NumbersStandFor self.now contexts → result.0 < n }
+        ensures context { (contexts : List (List ℕ)) → NumbersStandFor self.now contexts
             → numbered contexts n ≡ numbered contexts result.0 ++ result.1 ∷ [] }
     {
         *self.places.get_index(n as usize - 1).unwrap()
@@ -63,9 +63,9 @@ impl ContextNumbers {
     /// Whether the context that has this entry right under the context `above` is not there, and can have no number.
     pub fn is_beyond(&self, above: u32, entry: Addr) -> bool
         requires { above ≤ length self.now }
-        ensures yes { (contexts : List (List ℕ)) → StandsFor self.now contexts
+        ensures yes { (contexts : List (List ℕ)) → NumbersStandFor self.now contexts
             → result ≡ true → IsBeyond contexts (numbered contexts above ++ entry ∷ []) }
-        ensures no { (contexts : List (List ℕ)) → StandsFor self.now contexts
+        ensures no { (contexts : List (List ℕ)) → NumbersStandFor self.now contexts
             → IsBeyond contexts (numbered contexts above ++ entry ∷ []) → result ≡ true }
     {
         self.places.len() >= CONTEXTS && !self.places.contains(&(above, entry))
@@ -76,13 +76,13 @@ impl ContextNumbers {
     pub fn number_of(&mut self, above: u32, entry: Addr) -> Result<u32, TreeError>
         requires { above ≤ length self.old }
         ensures places { OnOk result (self.new ≡ with_place self.old (above, entry)) }
-        ensures stands { (contexts : List (List ℕ)) → StandsFor self.old contexts
-            → OnOk result (StandsFor self.new (with_context contexts (numbered contexts above ++ entry ∷ []))) }
-        ensures number { (contexts : List (List ℕ)) → StandsFor self.old contexts
+        ensures stands { (contexts : List (List ℕ)) → NumbersStandFor self.old contexts
+            → OnOk result (NumbersStandFor self.new (with_context contexts (numbered contexts above ++ entry ∷ []))) }
+        ensures number { (contexts : List (List ℕ)) → NumbersStandFor self.old contexts
             → IfOk result (λ n. IsNumberOf (with_context contexts (numbered contexts above ++ entry ∷ [])) n (numbered contexts above ++ entry ∷ [])) }
-        ensures too_many { (contexts : List (List ℕ)) → StandsFor self.old contexts
+        ensures too_many { (contexts : List (List ℕ)) → NumbersStandFor self.old contexts
             → result ≡ Err TreeError.TooMany → IsBeyond contexts (numbered contexts above ++ entry ∷ []) }
-        ensures only_memory { (contexts : List (List ℕ)) → StandsFor self.old contexts
+        ensures only_memory { (contexts : List (List ℕ)) → NumbersStandFor self.old contexts
             → IsBeyond contexts (numbered contexts above ++ entry ∷ []) → result ≡ Err TreeError.TooMany }
         ensures refused { OnErr result (self.new ≡ self.old) }
     {

@@ -4,7 +4,7 @@ ghost use Rattle.std.specs.Vec.{vec_capacity};
 ghost use Rattle.guest_words.specs.declared.limits.TheConstants.{CONTEXTS};
 ghost use Rattle.context_tree.specs.Links.{IsLinked};
 ghost use Rattle.context_tree.specs.Private.Adding.{AreLinked};
-ghost use Rattle.context_tree.specs.Numbers.{StandsFor, numbered};
+ghost use Rattle.context_tree.specs.Numbers.{NumbersStandFor, numbered};
 ghost use Rattle.context_tree.specs.Private.Leaving.{IsLeftBy};
 
 use crate::ContextNumbers;
@@ -56,7 +56,7 @@ pub(crate) fn add_link(links: &mut Vec<Links>, above: u32)
 pub(crate) fn after_under(links: &[Links], numbers: &ContextNumbers, from: u32) -> Option<u32>
     requires linked { IsLinked numbers.now links.now }
     requires within { from ≤ length numbers.now }
-    ensures { (contexts : List (List ℕ)) → StandsFor numbers.now contexts
+    ensures { (contexts : List (List ℕ)) → NumbersStandFor numbers.now contexts
         → IsLeftBy contexts (numbered contexts from) result }
 {
     let mut n = from;

@@ -2,7 +2,7 @@
 ghost use Rattle.std.specs.Prelude.{◌≡◌, ◌≤◌, ◌+◌, ◌++◌, [], List, ℕ, length, map, IfOk, IsOk, OnErr, OnOk};
 ghost use Rattle.std.specs.List.{All};
 ghost use Rattle.trace_model.specs.declared.slow_profile.Done.{Done};
-ghost use Rattle.context_tree.specs.Numbers.{StandsFor};
+ghost use Rattle.context_tree.specs.Numbers.{NumbersStandFor};
 ghost use Rattle.cost_points.specs.Search.{HasRoom};
 ghost use Rattle.context_tree.specs.Pending.{known, with_point};
 ghost use Rattle.context_tree.specs.Points.{points_of};
@@ -144,7 +144,7 @@ pub(crate) fn add_up(
     requires each { All ArePoints (lists points.old.items) }
     ensures above { result ≡ up numbers.now from (length ended.now) }
     ensures points { (contexts : List (List ℕ)) (members : List (List ℕ × Done))
-        → StandsFor numbers.now contexts
+        → NumbersStandFor numbers.now contexts
         → lists points.old.items ≡ map (points_of members) contexts
         → lists points.new.items ≡ map (points_of (members ++ tagged numbers.now contexts from ended.now)) contexts }
 {

@@ -10,7 +10,7 @@ ghost use Rattle.guest_words.specs.declared.limits.TheConstants.{CONTEXTS};
 ghost use Rattle.context_tree.specs.Contexts.{context_begun, contexts};
 ghost use Rattle.context_tree.specs.Numbers.{numbered};
 ghost use Rattle.context_tree.specs.Order.{IsFollowedBy, IsInOrder};
-ghost use Rattle.context_tree.specs.Trees.{AreEnded, HasTooMany, IsShown, MayCome, StandsFor, lives};
+ghost use Rattle.context_tree.specs.Trees.{AreEnded, HasTooMany, IsShown, MayCome, TreeStandsFor, lives};
 
 use crate::TreeError;
 use crate::branches::Branches;
@@ -30,9 +30,9 @@ pub struct Tree {
 }
 
 impl Model for Tree {
-    ghost use Rattle.context_tree.specs.Trees.{IsOfSome, Kept};
+    ghost use Rattle.context_tree.specs.Trees.{IsOfSome, KeptTree};
 
-    ghost Value = { Kept };
+    ghost Value = { KeptTree };
 
     ghost view = { λ t. record { branches = t.branches; progress = t.progress } };
 
@@ -42,7 +42,7 @@ impl Model for Tree {
 impl Tree {
     /// No event so far.
     pub fn new(alloc: Global) -> Result<Tree, AllocError>
-        ensures { IfOk result (λ tree. StandsFor tree []) }
+        ensures { IfOk result (λ tree. TreeStandsFor tree []) }
     {
         Ok(Tree {
             branches: Branches::new(alloc)?,
@@ -63,7 +63,7 @@ impl Tree {
     /// Whether the event may come next: with it the past is still one that a run can have.
     pub fn may_follow(&self, e: &Event) -> bool
         ensures shown { IsTrue result ↔ MayCome self.now e.now }
-        ensures stands { (past : List Event) → StandsFor self.now past
+        ensures stands { (past : List Event) → TreeStandsFor self.now past
             → IsTrue result ↔ IsWellFormed (e.now ∷ past) }
     {
         self.progress.allows(e, self.lives_of(e))
@@ -74,11 +74,11 @@ impl Tree {
     pub fn apply(&mut self, e: Event, ends: &[Done]) -> Result<(), TreeError>
         requires next { MayCome self.old e }
         requires ends { AreEnded self.old e ends.now }
-        ensures stands { (past : List Event) → StandsFor self.old past → ends.now ≡ ended e past
-            → OnOk result (StandsFor self.new (e ∷ past)) }
-        ensures too_many { (past : List Event) → StandsFor self.old past
+        ensures stands { (past : List Event) → TreeStandsFor self.old past → ends.now ≡ ended e past
+            → OnOk result (TreeStandsFor self.new (e ∷ past)) }
+        ensures too_many { (past : List Event) → TreeStandsFor self.old past
             → result ≡ Err TreeError.TooMany → HasTooMany e past }
-        ensures only_memory { (past : List Event) → StandsFor self.old past → HasTooMany e past
+        ensures only_memory { (past : List Event) → TreeStandsFor self.old past → HasTooMany e past
             → result ≡ Err TreeError.TooMany }
         ensures refused { OnErr result (self.new ≡ self.old) }
         ensures no_allocation { (past : List Event) → context_begun e past ≡ None → ends.now ≡ []
@@ -94,9 +94,9 @@ impl Tree {
     pub fn contexts(&self) -> usize
         ensures value { result ≡ length self.now.branches.places }
         ensures few { result ≤ CONTEXTS }
-        ensures stands { (past : List Event) → StandsFor self.now past
+        ensures stands { (past : List Event) → TreeStandsFor self.now past
             → result ≡ length (contexts past) }
-        ensures ordered { (past : List Event) → StandsFor self.now past
+        ensures ordered { (past : List Event) → TreeStandsFor self.now past
             → (ordered : List (List ℕ)) × IsInOrder (contexts past) ordered }
     {
         self.branches.contexts()
@@ -107,7 +107,7 @@ impl Tree {
     /// once.
     pub fn next_in_order(&self, n: u32) -> Option<u32>
         requires { n ≤ length self.now.branches.places }
-        ensures follows { (past : List Event) → StandsFor self.now past
+        ensures follows { (past : List Event) → TreeStandsFor self.now past
             → IsFollowedBy (contexts past) (numbered (contexts past) n) result }
         ensures within { IfSome result
             (λ m. (1 ≤ m) × (m ≤ length self.now.branches.places)) }
@@ -119,7 +119,7 @@ impl Tree {
     /// all of them, take `next_in_order` and `at`.
     pub fn context(&self, i: usize) -> Result<(u32, Addr, Vec<Point>), AllocError>
         requires { i < length self.now.branches.places }
-        ensures { (past : List Event) (ordered : List (List ℕ)) → StandsFor self.now past
+        ensures { (past : List Event) (ordered : List (List ℕ)) → TreeStandsFor self.now past
             → IsInOrder (contexts past) ordered
             → IfOk result (λ c. IsShown past (slice_index_or ordered i []) c.0 c.1 c.2.items) }
     {
@@ -130,7 +130,7 @@ impl Tree {
     pub fn at(&self, n: u32) -> Result<(u32, Addr, Vec<Point>), AllocError>
         requires some { 1 ≤ n }
         requires within { n ≤ length self.now.branches.places }
-        ensures { (past : List Event) → StandsFor self.now past
+        ensures { (past : List Event) → TreeStandsFor self.now past
             → IfOk result (λ c. IsShown past (numbered (contexts past) n) c.0 c.1 c.2.items) }
     {
         self.branches.at(n)
@@ -138,7 +138,7 @@ impl Tree {
 
     /// The points of all contexts together, by routine: those of all activations that ended.
     pub fn totals(&self, alloc: Global) -> Result<Table, AllocError>
-        ensures { (past : List Event) → StandsFor self.now past
+        ensures { (past : List Event) → TreeStandsFor self.now past
             → IfOk result (λ table. table ≡ contents_of (done past)) }
     {
         self.branches.totals(alloc)

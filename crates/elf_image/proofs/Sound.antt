@@ -6,7 +6,7 @@ use Rattle.std.proofs.lemmas.List.{length-take}
 use Rattle.std.proofs.lemmas.List.Elements.{All-filter, All-map, filter_passes}
 use Rattle.elf_image.specs.declared.headers.ProgramHeader.{ProgramHeader}
 use Rattle.elf_image.specs.Headers.{file_header}
-use Rattle.elf_image.specs.Image.{IsPlaced, IsSound, is_code, share_byte}
+use Rattle.elf_image.specs.Image.{IsPlaced, IsSoundImage, is_code, share_byte}
 use Rattle.elf_image.specs.Private.Layout.{IsLoadable}
 use Rattle.elf_image.specs.Segments.{is_occupied, load_headers, occupied_headers, segment_of, segments_of}
 use Rattle.elf_image.specs.Tests.{fails_entry, fails_overlap, fails_pages, fails_segment_file, fails_segment_place, fails_segment_size, first_of, layout_tests, segment_tests}
@@ -62,7 +62,7 @@ module _ (file : List ℕ) (passed : first_of (segment_tests file) ≡ None) whe
     few = search (each_passes (layout_tests file) laid)
 
     pub sound_from : (place count : ℕ) (names : List (ℕ × List ℕ)) → place < 2 ^ 32 → count < 65535
-        → IsSound (record { entry = (file_header file).e_entry; header_place = place; header_count = count; segments = segments_of file; names = names })
+        → IsSoundImage (record { entry = (file_header file).e_entry; header_place = place; header_count = count; segments = segments_of file; names = names })
     sound_from place count names low short =
         let entry = and_parts (eqb ((file_header file).e_entry % 4) 0) (is_code (segments_of file) (file_header file).e_entry) (not-false _ enters) in
         record {

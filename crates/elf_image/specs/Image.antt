@@ -68,7 +68,7 @@ abbrev pub AreApart : Segment → Segment → Type 0
 AreApart s t = share_byte s t ≡ false
 
 -- What every executable keeps.
-pub record IsSound (e : Executable) : Type 0 where
+pub record IsSoundImage (e : Executable) : Type 0 where
   pub placed : All IsPlaced e.segments
   pub apart : AllPairs AreApart e.segments
   pub pages : page_count e.segments ≤ PAGES

@@ -1,7 +1,7 @@
 //! An executable that can be run, and its segments.
 ghost use Rattle.std.specs.Prelude.{◌≡◌, map, None, IfOk, IsOk};
 ghost use Rattle.elf_image.specs.Fields.{IsFilled};
-ghost use Rattle.elf_image.specs.Image.{IsSound, name_of, page_count};
+ghost use Rattle.elf_image.specs.Image.{IsSoundImage, name_of, page_count};
 
 use crate::symbol_names::SymbolNames;
 use guest_words::{Addr, Name, Rights};
@@ -126,7 +126,7 @@ impl Image {
     /// The load segments in the order of their headers, those without memory left out.
     pub fn segments(&self) -> &[Segment]
         ensures same { result.now ≡ self.now.segments }
-        ensures sound { IsSound self.now }
+        ensures sound { IsSoundImage self.now }
     {
         &self.segments
     }

@@ -111,6 +111,6 @@ output channel [] = None
 output channel (byte ∷ bytes) = Some (channel, byte ∷ bytes)
 
 -- the state, and what the last call wrote to a channel
-pub record Kept : Type 0 where
+pub record KeptKernel : Type 0 where
   pub state : KernelState
   pub out : Option (ℕ × List ℕ)

@@ -7,7 +7,7 @@ use Rattle.guest_memory.specs.Guest.{memory_of}
 use Rattle.guest_memory.specs.ReservedBy.{reserved_by}
 use Rattle.guest_calls.specs.declared.answer.Answer.{Answer}
 use Rattle.guest_calls.specs.declared.caller.Caller.{Caller}
-use Rattle.guest_calls.specs.Kernel.{KernelState, Kept}
+use Rattle.guest_calls.specs.Kernel.{KernelState, KeptKernel}
 use Rattle.guest_calls.specs.Results.{Syscall, SyscallResult, Guest}
 
 -- the call that the caller's registers hold
@@ -39,7 +39,7 @@ DoesQuietly what caller old answer new =
     → Does (what (asked caller old memory held)) answer new memory held events events
 
 -- the same with what goes out
-pub record Gives (r : SyscallResult) (answer : Answer) (kept : Kept) (memory : GuestMemory) (held : Reservations) (before after : EventList) : Type 0 where
+pub record Gives (r : SyscallResult) (answer : Answer) (kept : KeptKernel) (memory : GuestMemory) (held : Reservations) (before after : EventList) : Type 0 where
   pub does : Does r answer kept.state memory held before after
   pub out : kept.out ≡ r.out
 
@@ -51,6 +51,6 @@ pub record IsUntouched (state state_new : KernelState) (memory memory_new : Gues
   pub events_same : after.list ≡ before.list
 
 -- nothing changed, and what went out is still there
-pub record IsAsBefore (kept kept_new : Kept) (memory memory_new : GuestMemory) (held held_new : Reservations) (before after : EventList) : Type 0 where
+pub record IsAsBefore (kept kept_new : KeptKernel) (memory memory_new : GuestMemory) (held held_new : Reservations) (before after : EventList) : Type 0 where
   pub untouched : IsUntouched kept.state kept_new.state memory memory_new held held_new before after
   pub out_same : kept_new.out ≡ kept.out

@@ -31,9 +31,9 @@ pub struct Kernel {
 }
 
 impl Model for Kernel {
-    ghost use Rattle.guest_calls.specs.Kernel.{Kept};
+    ghost use Rattle.guest_calls.specs.Kernel.{KeptKernel};
 
-    ghost Value = { Kept };
+    ghost Value = { KeptKernel };
 
     ghost view = { λ k. record { state = k.state; out = k.outgoing } };
 }

@@ -27,7 +27,7 @@ use Rattle.guest_words.specs.ByThread.{value_of}
 use Rattle.guest_words.proofs.ThreadTables.{value_of-with}
 use Rattle.rv_exec.specs.Registers.{Registers}
 use Rattle.guest_machine.specs.Machine.{Hart, MachineState, no_registers, registers_of, with_registers}
-use Rattle.guest_machine.specs.Sound.{IsSound}
+use Rattle.guest_machine.specs.Sound.{IsSoundMachine}
 use Rattle.guest_machine.specs.Waking.{answered, one_woken, with_answer, woken, woken_times}
 use Rattle.guest_machine.proofs.ClockWakings.{has_registers, idle_times, sound_woken}
 use Rattle.guest_machine.proofs.Registers as registers
@@ -256,7 +256,7 @@ registers_with harts t u r lives =
 AreAnswered : MachineState → MachineState → ℕ → ℕ → Type 0
 AreAnswered m e now u = registers_of e.harts u ≡ with_due (due_answer m.kernel.deadlines now u) (registers_of m.harts u)
 
-answered_after : (n : ℕ) (m : MachineState) (now u : ℕ) → IsSound m → IsOnce m.kernel.deadlines → (moved_on m.kernel).time ≡ now → length m.kernel.deadlines ≤ n → AreAnswered m (woken_times n m) now u
+answered_after : (n : ℕ) (m : MachineState) (now u : ℕ) → IsSoundMachine m → IsOnce m.kernel.deadlines → (moved_on m.kernel).time ≡ now → length m.kernel.deadlines ≤ n → AreAnswered m (woken_times n m) now u
 unfolding AreAnswered woken_times
 answered_after zero m now u sound once time within =
     let due = none_due_of_none m.kernel (omega (arith, within)) in
@@ -274,7 +274,7 @@ answered_after (suc n) m now u sound once time within = by (answered_after n (on
     by_thread d r is own false here =
         ap (λ (o : Option Deadline). with_due (option_map (λ (x : Deadline). x.answer) o) (registers_of m.harts u)) (find_other m.kernel.deadlines now d.tid u here)
 
-    by : (IsSound (one_woken m) → IsOnce (one_woken m).kernel.deadlines → (moved_on (one_woken m).kernel).time ≡ now → length (one_woken m).kernel.deadlines ≤ n → AreAnswered (one_woken m) (woken_times n (one_woken m)) now u) →
+    by : (IsSoundMachine (one_woken m) → IsOnce (one_woken m).kernel.deadlines → (moved_on (one_woken m).kernel).time ≡ now → length (one_woken m).kernel.deadlines ≤ n → AreAnswered (one_woken m) (woken_times n (one_woken m)) now u) →
         (due : Option Deadline) → next_due m.kernel ≡ due → registers_of (woken_times n (one_woken m)).harts u ≡ with_due (due_answer m.kernel.deadlines now u) (registers_of m.harts u)
     by rest None due =
         let ahead = subst (λ (t : ℕ). All (λ (d : Deadline). t < d.at) m.kernel.deadlines) time (none_due m.kernel.deadlines (moved_on m.kernel).time due) in

@@ -26,7 +26,7 @@ use Rattle.guest_machine.specs.declared.stepped.Stepped.{Stepped}
 use Rattle.guest_machine.specs.Kept.{Parts, Steps, machine_of}
 use Rattle.guest_calls.proofs.Times.{later_is_state}
 use Rattle.guest_machine.specs.Machine.{Hart, MachineState, later, registers_of, with_registers, without_hart}
-use Rattle.guest_machine.specs.Sound.{IsSound, OfEachPc}
+use Rattle.guest_machine.specs.Sound.{IsSoundMachine, OfEachPc}
 use Rattle.guest_machine.specs.Step.{after_syscall, syscall_of, harts_after, life_events, resumed, stepped_by}
 use Rattle.guest_machine.proofs.Registers.{each-append, each-with_registers, each-without, pc_of_each, tids-with_registers}
 use Rattle.rv_exec.proofs.CallerLemmas.{next_aligned}
@@ -66,7 +66,7 @@ module _ (Holds : ℕ → Type 0) (none : Holds 0) (behind : (pc : ℕ) → Hold
       each-append Holds _ (child, registers) (resumed_each harts tid child all) (subst Holds (sym begins) (behind _ (pc_of_each Holds none harts tid all)))
 
 -- a machine is sound one step later
-pub sound-later : (m : MachineState) → IsSound m → IsSound (later m)
+pub sound-later : (m : MachineState) → IsSoundMachine m → IsSoundMachine (later m)
 sound-later m sound = record {
   same_threads = sound.same_threads;
   aligned = sound.aligned;
@@ -76,7 +76,7 @@ sound-later m sound = record {
 }
 
 -- a machine is sound after a call
-pub sound-called : (m : MachineState) (tid : ℕ) → IsSound m → IsState (syscall (syscall_of m tid)).kernel → IsBreakFree (syscall (syscall_of m tid)).guest.memory (syscall (syscall_of m tid)).kernel.program_break → IsSound (after_syscall m tid (syscall (syscall_of m tid))).machine
+pub sound-called : (m : MachineState) (tid : ℕ) → IsSoundMachine m → IsState (syscall (syscall_of m tid)).kernel → IsBreakFree (syscall (syscall_of m tid)).guest.memory (syscall (syscall_of m tid)).kernel.program_break → IsSoundMachine (after_syscall m tid (syscall (syscall_of m tid))).machine
 sound-called m tid sound state free =
     let r = syscall (syscall_of m tid) in
     let lawful = every_syscall_is_lawful (syscall_of m tid) in
@@ -89,7 +89,7 @@ sound-called m tid sound state free =
     }
 
 -- a thread more, where there is one, has its place
-pub born_room : (m : MachineState) (tid : ℕ) (child : ℕ) (registers : Registers) → IsSound m → IsState (syscall (syscall_of m tid)).kernel → (syscall (syscall_of m tid)).answer ≡ Born child registers → length m.harts < THREADS
+pub born_room : (m : MachineState) (tid : ℕ) (child : ℕ) (registers : Registers) → IsSoundMachine m → IsState (syscall (syscall_of m tid)).kernel → (syscall (syscall_of m tid)).answer ≡ Born child registers → length m.harts < THREADS
 born_room m tid child registers sound state is =
     let r = syscall (syscall_of m tid) in
     let lawful = every_syscall_is_lawful (syscall_of m tid) in
@@ -108,7 +108,7 @@ rises_below low [] last child rising above = All-nil (λ n. n < child)
 rises_below low (t ∷ threads) last child rising above =
     All-cons (λ n. n < child) t.tid (map (λ u. u.tid) threads) (omega (arith, rises_within t.tid threads last rising.1, above)) (rises_below t.tid threads last child rising.1 above)
 
-pub born_above : (m : MachineState) (tid child : ℕ) (registers : Registers) → IsSound m → (syscall (syscall_of m tid)).answer ≡ Born child registers → All (λ n. n < child) (numbers m.harts)
+pub born_above : (m : MachineState) (tid child : ℕ) (registers : Registers) → IsSoundMachine m → (syscall (syscall_of m tid)).answer ≡ Born child registers → All (λ n. n < child) (numbers m.harts)
 born_above m tid child registers sound is =
     let given = subst (λ a. GivesNumber a m.kernel (syscall (syscall_of m tid)).kernel) is (every_syscall_is_lawful (syscall_of m tid)).numbers in
     All-same (λ n. n < child) (numbers m.harts) (map (λ t. t.tid) m.kernel.threads) sound.same_threads

@@ -27,7 +27,7 @@ use Rattle.guest_calls.specs.Kernel.{later_by}
 use Rattle.guest_machine.specs.Private.Carrying.{Carries, GoesWith, IsStateOf, StepsTo, carried, went_to}
 use Rattle.guest_machine.specs.Machine.{Hart, MachineState, can_run, later, registers_of, with_registers}
 use Rattle.guest_machine.specs.Running.{MayTakeSteps, ObservesSteps, after_steps, events_of_steps}
-use Rattle.guest_machine.specs.Sound.{IsSound}
+use Rattle.guest_machine.specs.Sound.{IsSoundMachine}
 use Rattle.guest_machine.specs.Step.{StepResult, access_events, decoded_or_illegal, exec_state_of, executed, instruction_at, instruction_in, jump_events, step, with_exec_state}
 use Rattle.guest_machine.specs.Told.{steps_of}
 use Rattle.guest_machine.proofs.Handed.{past_of_steps}
@@ -48,7 +48,7 @@ pub state_holders : (c : ExecState) (tid : ℕ) (m : MachineState) → IsStateOf
 state_holders c tid m is =
     subst (λ (s : ExecState). HoldAtMost (without_thread s.held tid) (THREADS - 1)) is.state (HoldAtMost-others m tid is.sound is.able)
 
-pub state_is : (m : MachineState) (tid : ℕ) (r : Registers) → value_of m.harts tid ≡ Some r → IsSound m → can_run m tid ≡ true →
+pub state_is : (m : MachineState) (tid : ℕ) (r : Registers) → value_of m.harts tid ≡ Some r → IsSoundMachine m → can_run m tid ≡ true →
     IsStateOf (record { registers = r; memory = m.memory; held = m.held }) tid m
 state_is m tid r here sound able = record {
   state = ap (λ (s : Registers). let c : ExecState = record { registers = s; memory = m.memory; held = m.held } in c) (registers_are m.harts tid r here);

@@ -12,7 +12,7 @@ use Rattle.guest_calls.specs.Waking.{next_due, woken_by_time}
 use Rattle.guest_calls.proofs.ClockWakings.{awake, keeps_lives, none_due_of_none, one_less, rests}
 use Rattle.guest_machine.specs.Laws.{EveryWakingEnds, EveryWakingKeepsThreads, KeepsThreads}
 use Rattle.guest_machine.specs.Machine.{Hart, MachineState, registers_of, with_registers}
-use Rattle.guest_machine.specs.Sound.{AreAligned, IsSound}
+use Rattle.guest_machine.specs.Sound.{AreAligned, IsSoundMachine}
 use Rattle.guest_machine.specs.Waking.{answered, one_woken, with_answer, woken, woken_times}
 use Rattle.guest_machine.proofs.Registers.{aligned-with_registers, lives_here, pc_aligned, tids-with_registers}
 use Rattle.guest_machine.proofs.Holders.{lives-harts}
@@ -111,7 +111,7 @@ aligned_answered None harts all = all
 aligned_answered (Some d) harts all = aligned-with_registers harts d.tid (with_answer (registers_of harts d.tid) d.answer) all (pc_aligned harts d.tid all)
 
 -- a machine is sound after a waking where its kernel is
-pub sound_woken : (m : MachineState) → IsSound m → IsState (woken_by_time m.kernel) → IsSound (one_woken m)
+pub sound_woken : (m : MachineState) → IsSoundMachine m → IsState (woken_by_time m.kernel) → IsSoundMachine (one_woken m)
 sound_woken m sound state =
     let keeps = one_keeps m in
     record {
@@ -147,7 +147,7 @@ woken_some m k harts p due answers after =
     ap₂ (λ (hs : List Hart) (s : KernelState). record m { harts = hs; kernel = s }) (answers ∙ here ∙ ap (λ (o : Option Deadline). answered o m.harts) (sym found.1)) after
 
 -- the woken thread has registers
-pub has_registers : (m : MachineState) (tid : ℕ) → IsSound m → lives m.kernel tid ≡ true → is_some (value_of m.harts tid) ≡ true
+pub has_registers : (m : MachineState) (tid : ℕ) → IsSoundMachine m → lives m.kernel tid ≡ true → is_some (value_of m.harts tid) ≡ true
 has_registers m tid sound live = sym (lives_here m.harts tid) ∙ lives-harts m tid sound.same_threads ∙ live
 
 -- ---- by whether one is due

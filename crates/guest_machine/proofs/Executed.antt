@@ -17,7 +17,7 @@ use Rattle.guest_calls.specs.Kernel.{lives}
 use Rattle.guest_calls.proofs.Times.{later_is_state}
 use Rattle.guest_machine.specs.Machine.{Hart, MachineState, can_run, later, with_registers}
 use Rattle.guest_calls.specs.Lawful.{HoldersLive}
-use Rattle.guest_machine.specs.Sound.{IsSound}
+use Rattle.guest_machine.specs.Sound.{IsSoundMachine}
 use Rattle.guest_machine.specs.Kept.{Parts, Steps, machine_of}
 use Rattle.guest_machine.specs.declared.stepped.Stepped.TheVariants as stepped
 use Rattle.guest_machine.specs.Step.{StepResult, pc_of, after_effect, exec_state_of, executed, faulted, went, with_exec_state}
@@ -50,7 +50,7 @@ holders_by m tid i answer c e holders live q some = elim (cases_eq q tid) [
 ]
 
 -- the machine is sound afterwards
-pub sound-state : (m : MachineState) (tid : ℕ) (i : Instr) (answer : Outcome) (c : ExecState) → (answer, c) ≡ effect tid i (exec_state_of m tid) → IsSound m → can_run m tid ≡ true → IsSound (with_exec_state (later m) tid c)
+pub sound-state : (m : MachineState) (tid : ℕ) (i : Instr) (answer : Outcome) (c : ExecState) → (answer, c) ≡ effect tid i (exec_state_of m tid) → IsSoundMachine m → can_run m tid ≡ true → IsSoundMachine (with_exec_state (later m) tid c)
 sound-state m tid i answer c e sound can = record {
   same_threads = tids-with_registers m.harts tid c.registers ∙ sound.same_threads;
   aligned = aligned-with_registers m.harts tid c.registers sound.aligned (subst (λ (after : ExecState). after.registers.pc % 4 ≡ 0) (ap (λ p. p.1) (sym e)) (effect_aligned tid i (exec_state_of m tid) (pc_aligned m.harts tid sound.aligned)));

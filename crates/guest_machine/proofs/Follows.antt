@@ -32,7 +32,7 @@ use Rattle.guest_calls.specs.Lawful.{AreCopies, GivesNumber, tids_after}
 use Rattle.guest_calls.specs.Table.{syscall}
 use Rattle.guest_calls.proofs.AllCalls.{every_syscall_is_lawful}
 use Rattle.guest_machine.specs.Machine.{Hart, MachineState, later, registers_of}
-use Rattle.guest_machine.specs.Laws.{EachFollows, EveryStepContinues, StandsFor}
+use Rattle.guest_machine.specs.Laws.{EachFollows, EveryStepContinues, MachineStandsFor}
 use Rattle.guest_machine.specs.Step.{access_events, after_syscall, after_effect, syscall_of, exec_state_of, executed, jump_events, life_events, next_instruction, pc_of, step, with_exec_state}
 use Rattle.guest_machine.proofs.Called.{after_tids}
 use Rattle.guest_calls.proofs.Lawful.{any_thread}
@@ -285,7 +285,7 @@ live_tids : (m : MachineState) (t : ℕ) → tids_in m.harts ≡ map (λ (u : Th
     lives m.kernel t ≡ list_any (λ n. n == t) (tids_in m.harts)
 live_tids m t same = any_thread m.kernel.threads t ∙ ap (list_any (λ n. n == t)) (sym same)
 
-lives_before : (m : MachineState) (past : List Event) → StandsFor m past →
+lives_before : (m : MachineState) (past : List Event) → MachineStandsFor m past →
     Lives past (tids_in m.harts) m.kernel.last_tid
 lives_before m past stands = record {
   live = λ t. stands.live t ∙ live_tids m t stands.same_threads;
@@ -295,7 +295,7 @@ lives_before m past stands = record {
 
 stands_after : (m : MachineState) (past : List Event) →
     tids_in m.harts ≡ map (λ (t : Thread). t.tid) m.kernel.threads → Lives past (tids_in m.harts) m.kernel.last_tid →
-    StandsFor m past
+    MachineStandsFor m past
 stands_after m past same after = record {
   same_threads = same;
   rising = threads-rise 0 m.kernel.threads m.kernel.last_tid (subst (λ ns. Rises 0 ns m.kernel.last_tid) same after.rising);
@@ -305,7 +305,7 @@ stands_after m past same after = record {
 
 -- the events may follow, and the machine stands for the past with them, event by event
 abbrev Grows : MachineState → List Event → List Event → Type 0
-Grows m events past = EachFollows events past × StandsFor m (grown events past)
+Grows m events past = EachFollows events past × MachineStandsFor m (grown events past)
 
 -- the past with the step itself
 with_step : (past : List Event) (tid : ℕ) (tids : List ℕ) (last : ℕ) → Lives past tids last →
@@ -313,7 +313,7 @@ with_step : (past : List Event) (tid : ℕ) (tids : List ℕ) (last : ℕ) → L
 with_step past tid tids last before = record { live = before.live; greatest = before.greatest; rising = before.rising }
 
 effect_follows : (m : MachineState) (tid : ℕ) (i : Instr) (given : Outcome × ExecState) (past : List Event) →
-    AccessesMemory given.0 → StandsFor m past → is_live past tid ≡ true →
+    AccessesMemory given.0 → MachineStandsFor m past → is_live past tid ≡ true →
     Grows (after_effect m tid i given).machine (after_effect m tid i given).events past
 effect_follows m tid i (outcome.Went accessed, c) past few stands live =
     let back = (pc_of m tid + 4) % 2 ^ 32 in
@@ -346,12 +346,12 @@ effect_follows m tid i (outcome.Syscall, c) past few stands live =
     )
 
 executed_follows : (m : MachineState) (tid : ℕ) (found : Result Instr FaultKind) (past : List Event) →
-    StandsFor m past → is_live past tid ≡ true →
+    MachineStandsFor m past → is_live past tid ≡ true →
     Grows (executed m tid found).machine (executed m tid found).events past
 executed_follows m tid (Ok i) past stands live = effect_follows m tid i (effect tid i (exec_state_of m tid)) past (effect_accesses tid i (exec_state_of m tid)) stands live
 executed_follows m tid (Err kind) past stands live = (tt, stands)
 
-step_grows : (m : MachineState) (tid : ℕ) (past : List Event) → StandsFor m past → is_live past tid ≡ true →
+step_grows : (m : MachineState) (tid : ℕ) (past : List Event) → MachineStandsFor m past → is_live past tid ≡ true →
     Grows (step m tid).machine (step m tid).events past
 unfolding step
 step_grows m tid past stands live = executed_follows m tid (next_instruction m tid) past stands live
@@ -360,4 +360,4 @@ pub every_step_continues : EveryStepContinues
 every_step_continues m tid past stands can =
     let live = stands.live tid ∙ can_run-lives m.kernel tid can in
     let grows = step_grows m tid past stands live in
-    (grows.0, subst (StandsFor (step m tid).machine) (grown-is (step m tid).events past) grows.1)
+    (grows.0, subst (MachineStandsFor (step m tid).machine) (grown-is (step m tid).events past) grows.1)

@@ -12,7 +12,7 @@ use Rattle.guest_calls.specs.Kernel.{lives}
 use Rattle.guest_calls.proofs.Blocked as calls
 use Rattle.guest_machine.specs.Machine.{Hart, MachineState, can_run, without_hart}
 use Rattle.guest_words.specs.ByThread.{value_of}
-use Rattle.guest_machine.specs.Sound.{IsSound}
+use Rattle.guest_machine.specs.Sound.{IsSoundMachine}
 use Rattle.guest_machine.proofs.Registers.{lives_here}
 use Rattle.guest_calls.proofs.Lawful.{any_thread}
 
@@ -28,7 +28,7 @@ pub can_run-lives : (m : MachineState) (tid : ℕ) → can_run m tid ≡ true �
 can_run-lives m tid can = calls.can_run-lives m.kernel tid can
 
 -- a thread that can run has registers
-pub lives_kept : (m : MachineState) (tid : ℕ) → IsSound m → can_run m tid ≡ true → is_some (value_of m.harts tid) ≡ true
+pub lives_kept : (m : MachineState) (tid : ℕ) → IsSoundMachine m → can_run m tid ≡ true → is_some (value_of m.harts tid) ≡ true
 lives_kept m tid sound can = sym (lives_here m.harts tid) ∙ lives-harts m tid sound.same_threads ∙ can_run-lives m tid can
 
 -- the other threads are fewer
@@ -74,7 +74,7 @@ gone_by q tid held true is some same = cc
 gone_by q tid held false is some same = grind (arith, nat_tests)
 
 -- So fewer than `THREADS` threads beside one that lives have a reservation.
-pub HoldAtMost-others : (m : MachineState) (tid : ℕ) → IsSound m → can_run m tid ≡ true → HoldAtMost (without_thread m.held tid) (THREADS - 1)
+pub HoldAtMost-others : (m : MachineState) (tid : ℕ) → IsSoundMachine m → can_run m tid ≡ true → HoldAtMost (without_thread m.held tid) (THREADS - 1)
 HoldAtMost-others m tid sound can =
     let own : list_any (λ g. g.0 == tid) m.harts ≡ true = lives-harts m tid sound.same_threads ∙ can_run-lives m tid can in
     let count : length m.harts ≡ length m.kernel.threads = sym (length-map m.harts (λ h. h.0)) ∙ ap length sound.same_threads ∙ length-map m.kernel.threads (λ t. t.tid) in

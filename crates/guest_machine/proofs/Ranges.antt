@@ -30,7 +30,7 @@ use Rattle.guest_calls.specs.Lawful.{AreCopies}
 use Rattle.guest_calls.specs.Table.{syscall}
 use Rattle.guest_calls.specs.Waking.{next_due}
 use Rattle.guest_calls.proofs.AllCalls.{every_syscall_is_lawful}
-use Rattle.guest_machine.specs.Laws.{EveryStepIsInRange, EveryWakingIsInRange, HaveAddresses, IsAddress, IsInRange, IsToldInRange, TellsAddresses}
+use Rattle.guest_machine.specs.Laws.{EveryStepIsInRange, EveryWakingIsInRange, HaveAddresses, IsAddress, IsStepInRange, IsToldInRange, TellsAddresses}
 use Rattle.guest_machine.specs.Machine.{Hart, MachineState, later, registers_of}
 use Rattle.guest_machine.specs.Step.{access_events, after_effect, syscall_of, exec_state_of, executed, jump_events, life_events, next_instruction, pc_of, step, stepped_by}
 use Rattle.guest_machine.specs.Waking.{answered, one_woken, with_answer, woken, woken_times}
@@ -140,7 +140,7 @@ no_pc = omega arith
 pc_address : (m : MachineState) (tid : ℕ) → HaveAddresses m.harts → IsAddress (pc_of m tid)
 pc_address m tid all = pc_of_each IsAddress no_pc m.harts tid all
 
-effect_in_range : (m : MachineState) (tid : ℕ) (i : Instr) (given : Outcome × ExecState) → HaveAddresses m.harts → IsAtAddress given.1 → IsInRange (after_effect m tid i given)
+effect_in_range : (m : MachineState) (tid : ℕ) (i : Instr) (given : Outcome × ExecState) → HaveAddresses m.harts → IsAtAddress given.1 → IsStepInRange (after_effect m tid i given)
 effect_in_range m tid i (outcome.Went accessed, c) all new = record {
   harts = each-with_registers IsAddress m.harts tid c.registers all new;
   events = (
@@ -163,7 +163,7 @@ effect_in_range m tid i (outcome.Syscall, c) all new =
       outcome = answer_told r.answer lawful.byte;
     }
 
-executed_in_range : (m : MachineState) (tid : ℕ) (found : Result Instr FaultKind) → HaveAddresses m.harts → IsInRange (executed m tid found)
+executed_in_range : (m : MachineState) (tid : ℕ) (found : Result Instr FaultKind) → HaveAddresses m.harts → IsStepInRange (executed m tid found)
 executed_in_range m tid (Ok i) all = effect_in_range m tid i (effect tid i (exec_state_of m tid)) all (effect_address tid i (exec_state_of m tid) (pc_address m tid all))
 executed_in_range m tid (Err kind) all = record { harts = all; events = tt; outcome = pc_address m tid all }
 

@@ -12,7 +12,7 @@ use Rattle.guest_calls.specs.Kernel.{started}
 use Rattle.guest_calls.specs.Pages.{IsBreakFree}
 use Rattle.guest_machine.specs.Machine.{Hart}
 use Rattle.guest_machine.specs.Kept.{Parts, machine_of}
-use Rattle.guest_machine.specs.Sound.{IsSound}
+use Rattle.guest_machine.specs.Sound.{IsSoundMachine}
 use Rattle.guest_machine.specs.Start.{first_break, greatest_end, stack_pointer, start, start_memory}
 use Rattle.guest_machine.proofs.ImagePages.{start_free}
 
@@ -27,11 +27,11 @@ pub start_is : (image : Executable) (texts : List (List ℕ)) (inputs : List Inp
 unfolding start machine_of
 start_is image texts inputs stdin p harts kernel memory held = λ i. record { harts = harts i; kernel = kernel i; memory = memory i; held = held i }
 
-break_is_free : (image : Executable) (texts : List (List ℕ)) → elf.IsSound image → IsBreakFree (start_memory image texts) (first_break image.segments)
+break_is_free : (image : Executable) (texts : List (List ℕ)) → elf.IsSoundImage image → IsBreakFree (start_memory image texts) (first_break image.segments)
 break_is_free image texts sound page from to =
     start_free image texts page sound.placed (omega (arith, from)) (omega (arith, to))
 
-pub start_sound : (image : Executable) (texts : List (List ℕ)) (inputs : List Input) (stdin : List ℕ) → elf.IsSound image → IsState (started inputs stdin (first_break image.segments)) → IsSound (start image texts inputs stdin)
+pub start_sound : (image : Executable) (texts : List (List ℕ)) (inputs : List Input) (stdin : List ℕ) → elf.IsSoundImage image → IsState (started inputs stdin (first_break image.segments)) → IsSoundMachine (start image texts inputs stdin)
 unfolding start
 start_sound image texts inputs stdin sound state = record {
   same_threads = refl;

@@ -5,7 +5,7 @@ use Rattle.guest_memory.specs.declared.reservations.Reservations.{Reservations}
 use Rattle.guest_memory.specs.Guest.{memory_of}
 use Rattle.guest_memory.specs.ReservedBy.{reserved_by}
 use Rattle.trace_model.specs.declared.event_kinds.Event.{Event}
-use Rattle.guest_calls.specs.Kernel.{Kept}
+use Rattle.guest_calls.specs.Kernel.{KeptKernel}
 use Rattle.guest_machine.specs.declared.stepped.Stepped.{Stepped}
 use Rattle.guest_machine.specs.Machine.{Hart, MachineState}
 use Rattle.guest_machine.specs.Step.{StepResult}
@@ -13,7 +13,7 @@ use Rattle.guest_machine.specs.Step.{StepResult}
 -- The parts of a machine, as the program keeps them.
 pub record Parts : Type 0 where
   pub harts : List Hart
-  pub kernel : Kept
+  pub kernel : KeptKernel
   pub memory : GuestMemory
   pub held : Reservations
   -- where thread 1 began

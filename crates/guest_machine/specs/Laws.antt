@@ -18,7 +18,7 @@ use Rattle.guest_machine.specs.declared.stepped.Stepped.{Stepped}
 use Rattle.guest_machine.specs.declared.stepped.Stepped.TheVariants.{Faulted, Finished}
 use Rattle.guest_machine.specs.Machine.{Hart, MachineState, can_run, registers_of}
 use Rattle.guest_machine.specs.Step.{StepResult, step}
-use Rattle.guest_machine.specs.Sound.{IsSound, OfEachPc}
+use Rattle.guest_machine.specs.Sound.{IsSoundMachine, OfEachPc}
 use Rattle.guest_machine.specs.Waking.{with_answer, woken}
 
 -- these events, in order, may follow the past, one after another
@@ -27,7 +27,7 @@ EachFollows [] past = Unit {0}
 EachFollows (e ∷ events) past = MayFollow e past × EachFollows events (e ∷ past)
 
 -- the machine's threads are those that live after the past, and no number above the last one given has started
-pub record StandsFor (m : MachineState) (past : List Event) : Type 0 where
+pub record MachineStandsFor (m : MachineState) (past : List Event) : Type 0 where
   pub same_threads : map (λ h. h.0) m.harts ≡ map (λ t. t.tid) m.kernel.threads
   pub rising : RisesTo 0 m.kernel.threads m.kernel.last_tid
   pub live : (tid : ℕ) → is_live past tid ≡ lives m.kernel tid
@@ -35,12 +35,12 @@ pub record StandsFor (m : MachineState) (past : List Event) : Type 0 where
 
 -- the events may follow the past, and the machine stands for the past with them
 abbrev pub Continues : MachineState → List Event → List Event → Type 0
-Continues m events past = EachFollows events past × StandsFor m (reverse events ++ past)
+Continues m events past = EachFollows events past × MachineStandsFor m (reverse events ++ past)
 
 -- so it is after each step of a thread that can run
 abbrev pub EveryStepContinues : Type 0
 EveryStepContinues =
-    (m : MachineState) (tid : ℕ) (past : List Event) → StandsFor m past → can_run m tid ≡ true
+    (m : MachineState) (tid : ℕ) (past : List Event) → MachineStandsFor m past → can_run m tid ≡ true
     → Continues (step m tid).machine (step m tid).events past
 
 -- The events of a step weigh at most 65540, less one for each thread that it adds and more one for each that it ends. So
@@ -92,7 +92,7 @@ with_due (Some value) r = with_answer r value
 -- Each thread that is woken has its answer in a0; all other registers and the pc stay, and so do those of the other threads.
 abbrev pub EveryWakingAnswers : Type 0
 EveryWakingAnswers =
-    (m : MachineState) → IsSound m → IsOnce m.kernel.deadlines → (tid : ℕ) →
+    (m : MachineState) → IsSoundMachine m → IsOnce m.kernel.deadlines → (tid : ℕ) →
     registers_of (woken m).harts tid
     ≡ with_due (due_answer m.kernel.deadlines (moved_on m.kernel).time tid) (registers_of m.harts tid)
 
@@ -131,14 +131,14 @@ abbrev pub HaveAddresses : List Hart → Type 0
 HaveAddresses harts = OfEachPc IsAddress harts
 
 -- The pc of each thread is an address, and what the step tells are such numbers.
-pub record IsInRange (r : StepResult) : Type 0 where
+pub record IsStepInRange (r : StepResult) : Type 0 where
   pub harts : HaveAddresses r.machine.harts
   pub events : AllByRecursion TellsAddresses r.events
   pub outcome : IsToldInRange r.outcome
 
 -- So it is of each step of a machine whose threads have addresses in their pc.
 abbrev pub EveryStepIsInRange : Type 0
-EveryStepIsInRange = (m : MachineState) (tid : ℕ) → HaveAddresses m.harts → IsInRange (step m tid)
+EveryStepIsInRange = (m : MachineState) (tid : ℕ) → HaveAddresses m.harts → IsStepInRange (step m tid)
 
 -- They have after each waking.
 abbrev pub EveryWakingIsInRange : Type 0

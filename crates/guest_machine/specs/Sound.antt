@@ -14,7 +14,7 @@ OfEachPc Holds (h ∷ harts) = Holds h.1.pc × OfEachPc Holds harts
 abbrev pub AreAligned : List Hart → Type 0
 AreAligned harts = OfEachPc (λ pc. pc % 4 ≡ 0) harts
 
-pub record IsSound (m : MachineState) : Type 0 where
+pub record IsSoundMachine (m : MachineState) : Type 0 where
   -- the kernel's threads are those that have registers
   pub same_threads : map (λ h. h.0) m.harts ≡ map (λ t. t.tid) m.kernel.threads
   pub aligned : AreAligned m.harts

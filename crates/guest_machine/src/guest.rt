@@ -7,7 +7,7 @@ ghost use Rattle.guest_machine.specs.Kept.{IsAsBefore, Parts, Steps, machine_of,
 ghost use Rattle.guest_machine.specs.Machine.{can_run, later};
 ghost use Rattle.guest_machine.specs.Parts.{parts_of};
 ghost use Rattle.guest_machine.specs.Running.{MakesSteps, MayTakeSteps};
-ghost use Rattle.guest_machine.specs.Sound.{IsSound};
+ghost use Rattle.guest_machine.specs.Sound.{IsSoundMachine};
 ghost use Rattle.guest_machine.specs.Told.{IsInstruction, IsQuiet, stepped_of, told};
 ghost use Rattle.guest_machine.specs.Step.{after_syscall, syscall_of, executed, faulted, instruction_at, next_instruction, pc_of, step};
 ghost use Rattle.trace_model.specs.EventList.{EventList};
@@ -79,7 +79,7 @@ impl Guest {
     #[inline(always)]
     fn carry_out(&mut self, tid: Tid, pc: Addr, instruction: &Instr) -> Result<Advanced, FaultKind>
         requires pc { pc ≡ pc_of (machine_of (parts_of self.old)) tid }
-        requires sound { IsSound (machine_of (parts_of self.old)) }
+        requires sound { IsSoundMachine (machine_of (parts_of self.old)) }
         requires lives { is_some (value_of self.old.harts.list tid) ≡ true }
         requires can_run { can_run (machine_of (parts_of self.old)) tid ≡ true }
         requires no_call { instruction.now ≢ Ecall }
@@ -90,7 +90,7 @@ impl Guest {
             (Ok instruction.now) ≡ faulted (machine_of (parts_of self.old)) tid kind) }
         ensures kept { OnErr result (machine_of (parts_of self.new)
             ≡ machine_of (parts_of self.old)) }
-        ensures sound { IsSound (machine_of (parts_of self.new)) }
+        ensures sound { IsSoundMachine (machine_of (parts_of self.new)) }
         ensures spare { length self.new.harts.list + self.new.harts.room
             ≡ length self.old.harts.list + self.old.harts.room }
         ensures entry { self.new.entry ≡ self.old.entry }
@@ -125,7 +125,7 @@ impl Guest {
         most: u64,
         observer: &mut W,
     ) -> Result<KnownSteps, AllocError>
-        requires sound { IsSound (machine_of (parts_of self.old)) }
+        requires sound { IsSoundMachine (machine_of (parts_of self.old)) }
         requires can_run { can_run (machine_of (parts_of self.old)) tid ≡ true }
         requires next { MayTakeSteps W.stands (W.fits observer.old) observer.old
             (machine_of (parts_of self.old)) tid most }
@@ -133,7 +133,7 @@ impl Guest {
             (machine_of (parts_of self.old)) tid observer.old (parts_of self.new) observer.new) }
         ensures most { IfOk result (λ known. known.count ≤ most) }
         ensures same { W.fits observer.new ≡ W.fits observer.old }
-        ensures sound { IsSound (machine_of (parts_of self.new)) }
+        ensures sound { IsSoundMachine (machine_of (parts_of self.new)) }
         ensures spare { length self.new.harts.list + self.new.harts.room
             ≡ length self.old.harts.list + self.old.harts.room }
         ensures entry { self.new.entry ≡ self.old.entry }
@@ -150,7 +150,7 @@ impl Guest {
     #[cold]
     #[inline(never)]
     fn make_syscall(&mut self, tid: Tid, events: &mut Events) -> Result<Stepped, AllocError>
-        requires sound { IsSound (machine_of (parts_of self.old)) }
+        requires sound { IsSoundMachine (machine_of (parts_of self.old)) }
         requires lives { is_some (value_of self.old.harts.list tid) ≡ true }
         requires can_run { can_run (machine_of (parts_of self.old)) tid ≡ true }
         requires spare { THREADS ≤ length self.old.harts.list + self.old.harts.room }
@@ -160,7 +160,7 @@ impl Guest {
             (parts_of self.new) events.old.list events.new.list) }
         ensures refused { OnErr result (IsAsBefore (parts_of self.old)
             (parts_of self.new) events.old.list events.new.list) }
-        ensures sound { IsSound (machine_of (parts_of self.new)) }
+        ensures sound { IsSoundMachine (machine_of (parts_of self.new)) }
         ensures spare { THREADS ≤ length self.new.harts.list + self.new.harts.room }
         ensures entry { self.new.entry ≡ self.old.entry }
     {
@@ -186,7 +186,7 @@ impl Guest {
     /// Runs one step of a thread that can run. The events are those that are told and those that are added. An instruction
     /// other than ECALL does not allocate.
     pub(crate) fn advance(&mut self, tid: Tid, events: &mut Events) -> Result<Advanced, AllocError>
-        requires sound { IsSound (machine_of (parts_of self.old)) }
+        requires sound { IsSoundMachine (machine_of (parts_of self.old)) }
         requires can_run { can_run (machine_of (parts_of self.old)) tid ≡ true }
         requires spare { THREADS ≤ length self.old.harts.list + self.old.harts.room }
         ensures step { IfOk result (λ advanced. Steps (step (machine_of (parts_of self.old)) tid)
@@ -196,7 +196,7 @@ impl Guest {
             (parts_of self.new) events.old.list events.new.list) }
         ensures no_allocation { next_instruction (machine_of (parts_of self.old)) tid ≢ Ok Ecall
             → IsOk result }
-        ensures sound { IsSound (machine_of (parts_of self.new)) }
+        ensures sound { IsSoundMachine (machine_of (parts_of self.new)) }
         ensures spare { THREADS ≤ length self.new.harts.list + self.new.harts.room }
         ensures entry { self.new.entry ≡ self.old.entry }
         ensures quiet { IfOk result (λ advanced. IsQuiet advanced
@@ -231,7 +231,7 @@ impl Guest {
     /// Runs one step of a thread that can run, and adds its events. An instruction other than ECALL does not allocate if
     /// there is room for four events.
     pub(crate) fn step(&mut self, tid: Tid, events: &mut Events) -> Result<Stepped, AllocError>
-        requires sound { IsSound (machine_of (parts_of self.old)) }
+        requires sound { IsSoundMachine (machine_of (parts_of self.old)) }
         requires can_run { can_run (machine_of (parts_of self.old)) tid ≡ true }
         requires spare { THREADS ≤ length self.old.harts.list + self.old.harts.room }
         ensures step { IfOk result (λ stepped. Steps
@@ -241,7 +241,7 @@ impl Guest {
             (parts_of self.new) events.old.list events.new.list) }
         ensures no_allocation { 4 ≤ events.old.room → next_instruction
             (machine_of (parts_of self.old)) tid ≢ Ok Ecall → IsOk result }
-        ensures sound { IsSound (machine_of (parts_of self.new)) }
+        ensures sound { IsSoundMachine (machine_of (parts_of self.new)) }
         ensures spare { THREADS ≤ length self.new.harts.list + self.new.harts.room }
         ensures entry { self.new.entry ≡ self.old.entry }
     {

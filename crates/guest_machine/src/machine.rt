@@ -24,14 +24,14 @@ impl Model for Machine {
     ghost use Rattle.guest_words.specs.declared.limits.TheConstants.{THREADS};
     ghost use Rattle.guest_machine.specs.Kept.{Parts, machine_of};
     ghost use Rattle.guest_machine.specs.Parts.{parts_of};
-    ghost use Rattle.guest_machine.specs.Sound.{IsSound};
+    ghost use Rattle.guest_machine.specs.Sound.{IsSoundMachine};
 
     ghost Value = { Parts };
 
     ghost view = { λ m. parts_of m.guest };
 
     ghost invariant = { λ m. (THREADS ≤ length m.guest.harts.list + m.guest.harts.room)
-        × IsSound (machine_of (parts_of m.guest)) };
+        × IsSoundMachine (machine_of (parts_of m.guest)) };
 }
 
 /// The most pages of the image, so that the stack has room.

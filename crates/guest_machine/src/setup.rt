@@ -3,7 +3,7 @@ ghost use Rattle.std.specs.Prelude.{◌≡◌, ◌≤◌, ◌+◌, ◌-◌, ◌*
 ghost use Rattle.elf_image.specs.Image.{page_count};
 ghost use Rattle.guest_machine.specs.Kept.{machine_of};
 ghost use Rattle.guest_machine.specs.Parts.{parts_of};
-ghost use Rattle.guest_machine.specs.Sound.{IsSound};
+ghost use Rattle.guest_machine.specs.Sound.{IsSoundMachine};
 ghost use Rattle.guest_machine.specs.Start.{start, strings};
 
 use crate::guest::Guest;
@@ -77,7 +77,7 @@ pub(crate) fn first_guest(
     requires few { page_count image.now.segments + STACK_PAGES ≤ PAGES }
     ensures start { IfOk result (λ guest. machine_of (parts_of guest)
         ≡ start image.now (map string_bytes arguments.now) inputs stdin.items) }
-    ensures sound { IfOk result (λ guest. IsSound (machine_of (parts_of guest))) }
+    ensures sound { IfOk result (λ guest. IsSoundMachine (machine_of (parts_of guest))) }
     ensures spare { IfOk result (λ guest. THREADS ≤ length guest.harts.list + guest.harts.room) }
     ensures entry { IfOk result (λ guest. guest.entry ≡ image.now.entry) }
     ensures called { IfOk result (λ guest. guest.called ≡ false) }

@@ -4,7 +4,7 @@ ghost use Rattle.guest_words.specs.declared.limits.TheConstants.{THREADS};
 ghost use Rattle.guest_calls.specs.Waking.{next_due};
 ghost use Rattle.guest_machine.specs.Kept.{machine_of, out_of};
 ghost use Rattle.guest_machine.specs.Parts.{parts_of};
-ghost use Rattle.guest_machine.specs.Sound.{IsSound};
+ghost use Rattle.guest_machine.specs.Sound.{IsSoundMachine};
 ghost use Rattle.guest_machine.specs.Waking.{one_woken, woken};
 
 use crate::guest::Guest;
@@ -13,13 +13,13 @@ use crate::hart::answer;
 impl Guest {
     // Wakes the thread that is due first, and says whether there was one.
     fn wake_one(&mut self) -> bool
-        requires sound { IsSound (machine_of (parts_of self.old)) }
+        requires sound { IsSoundMachine (machine_of (parts_of self.old)) }
         requires spare { THREADS ≤ length self.old.harts.list + self.old.harts.room }
         ensures some { result ≡ is_some (next_due self.old.kernel.state) }
         ensures woken { machine_of (parts_of self.new)
             ≡ one_woken (machine_of (parts_of self.old)) }
         ensures out { out_of (parts_of self.new) ≡ out_of (parts_of self.old) }
-        ensures sound { IsSound (machine_of (parts_of self.new)) }
+        ensures sound { IsSoundMachine (machine_of (parts_of self.new)) }
         ensures spare { THREADS ≤ length self.new.harts.list + self.new.harts.room }
         ensures entry { self.new.entry ≡ self.old.entry }
     {
@@ -32,11 +32,11 @@ impl Guest {
 
     /// Wakes all threads that are due, each with its answer in a0.
     pub(crate) fn wake_due(&mut self)
-        requires sound { IsSound (machine_of (parts_of self.old)) }
+        requires sound { IsSoundMachine (machine_of (parts_of self.old)) }
         requires spare { THREADS ≤ length self.old.harts.list + self.old.harts.room }
         ensures woken { machine_of (parts_of self.new) ≡ woken (machine_of (parts_of self.old)) }
         ensures out { out_of (parts_of self.new) ≡ out_of (parts_of self.old) }
-        ensures sound { IsSound (machine_of (parts_of self.new)) }
+        ensures sound { IsSoundMachine (machine_of (parts_of self.new)) }
         ensures spare { THREADS ≤ length self.new.harts.list + self.new.harts.room }
         ensures entry { self.new.entry ≡ self.old.entry }
     {

@@ -19,7 +19,7 @@ use Rattle.guest_calls.specs.declared.thread.Thread.{Thread}
 use Rattle.guest_calls.specs.Invariant.{RisesTo}
 use Rattle.guest_machine.specs.declared.stepped.Stepped.{Stepped}
 use Rattle.guest_machine.specs.declared.stepped.Stepped.TheVariants.{Went}
-use Rattle.guest_machine.specs.Laws.{IsWithinLimits, KeepsThreads, StandsFor}
+use Rattle.guest_machine.specs.Laws.{IsWithinLimits, KeepsThreads, MachineStandsFor}
 use Rattle.guest_machine.specs.Machine.{Hart, MachineState, can_run}
 use Rattle.guest_machine.specs.Start.{start}
 use Rattle.guest_machine.specs.Step.{step}
@@ -112,14 +112,14 @@ each_move Kept Holds steps (suc more) at past kept able = by (chosen guest at) (
 -- ---- runs from the start
 -- the machine's threads are those that live after the past, at most as many as can, and with numbers of threads
 abbrev pub IsSoundAfter : MachineState → List Event → Type 0
-IsSoundAfter m past = StandsFor m past × IsWithinLimits m
+IsSoundAfter m past = MachineStandsFor m past × IsWithinLimits m
 
 pub sound_next : (m : MachineState) (tid : ℕ) (past : List Event) → IsSoundAfter m past → can_run m tid ≡ true →
     IsSoundAfter (step m tid).machine (past_after past (step m tid).events)
 sound_next m tid past sound can = ((every_step_continues m tid past sound.0 can).1, every_step_within m tid sound.0.same_threads sound.1)
 
 -- a machine with the same threads stands for the same past
-pub stands_kept : (m new : MachineState) (past : List Event) → KeepsThreads m new → StandsFor m past → StandsFor new past
+pub stands_kept : (m new : MachineState) (past : List Event) → KeepsThreads m new → MachineStandsFor m past → MachineStandsFor new past
 stands_kept m new past keeps stands = record {
   same_threads = keeps.numbers ∙ stands.same_threads ∙ ap (map (λ (t : Thread). t.tid)) (sym keeps.threads);
   rising = subst (λ (ts : List Thread). RisesTo 0 ts new.kernel.last_tid) (sym keeps.threads) (subst (λ (n : ℕ). RisesTo 0 m.kernel.threads n) (sym keeps.last) stands.rising);
@@ -154,7 +154,7 @@ one_live t = elim (cases_eq t 1) [
 ]
 
 start_stands : (image : Executable) (arguments : List (List ℕ)) (inputs : List Input) (stdin : List ℕ) →
-    StandsFor (start image arguments inputs stdin) (first_past image.entry)
+    MachineStandsFor (start image arguments inputs stdin) (first_past image.entry)
 unfolding start
 start_stands image arguments inputs stdin = record { same_threads = refl; rising = (omega arith, omega arith); live = one_live; started = omega arith }
 

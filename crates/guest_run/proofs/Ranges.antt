@@ -32,7 +32,7 @@ use Rattle.guest_run.specs.ObservedRun.{first_past, observed_run}
 use Rattle.guest_run.specs.Run.{Chosen, Position, by_turn, by_turn_status, chosen, chosen_by, events_of, go_on, move_of, position_after, run, run_from}
 use Rattle.guest_run.specs.Run as runs
 use Rattle.guest_run.specs.Run.Chosen.{Moves, Stops}
-use Rattle.guest_run.specs.Traces.{EveryRunTellsInRange, IsEndInRange, IsInRange, IsThread}
+use Rattle.guest_run.specs.Traces.{EveryRunTellsInRange, IsEndInRange, IsEventInRange, IsThread}
 use Rattle.guest_run.proofs.Able.{step_able}
 use Rattle.guest_run.proofs.Entries.{numbered}
 use Rattle.guest_run.proofs.Formed.{AllFollow, all_after, run_follows}
@@ -63,13 +63,13 @@ live_started (events.Start tid entry ∷ past) t all live = by (nat_eq t tid) re
     by false is some rest = let own = rest some in (own.0, omega (arith, own.1))
 
 -- each number is in its range, where no thread has a number above the last
-in_range : (past : List Event) → AllFollow past → AllByRecursion TellsAddresses past → greatest_start past ≤ LAST_TID → AllByRecursion IsInRange past
+in_range : (past : List Event) → AllFollow past → AllByRecursion TellsAddresses past → greatest_start past ≤ LAST_TID → AllByRecursion IsEventInRange past
 in_range past all tells low = by past all tells low
   where
     thread : (past : List Event) (t : ℕ) → AllFollow past → greatest_start past ≤ LAST_TID → is_live past t ≡ true → IsThread t
     thread past t all low live = let own = live_started past t all live in (own.0, omega (arith, own.1, low))
 
-    by : (past : List Event) → AllFollow past → AllByRecursion TellsAddresses past → greatest_start past ≤ LAST_TID → AllByRecursion IsInRange past
+    by : (past : List Event) → AllFollow past → AllByRecursion TellsAddresses past → greatest_start past ≤ LAST_TID → AllByRecursion IsEventInRange past
     by [] all tells low = tt
     by (events.Step tid ∷ past) all tells low = (thread past tid all.1 low all.0, by past all.1 tells.1 low)
     by (events.Read tid first count ∷ past) all tells low = ((thread past tid all.1 low all.0.0.0, all.0.1), by past all.1 tells.1 low)
@@ -197,7 +197,7 @@ every_run_in_range image arguments inputs stdin fits quantum schedule budget ent
     let tells = after_tells (events_of whole.moves) past (entry, tt) (each_move IsAddressed _ run_tells budget at past kept able) in
     let low = each_move IsSoundAfter _ run_starts budget at past sound able (omega arith) in
     record {
-      events = each_cut IsInRange fits (past_after past (events_of whole.moves)) (in_range (past_after past (events_of whole.moves)) follow tells low);
+      events = each_cut IsEventInRange fits (past_after past (events_of whole.moves)) (in_range (past_after past (events_of whole.moves)) follow tells low);
       finish = both_ends (1 + budget) _ (finish_of fits past whole IsMachineEnd tt (run_ends budget at past kept able))
           (observed_counted fits past quantum schedule budget begin);
     }

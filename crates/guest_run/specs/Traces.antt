@@ -70,15 +70,15 @@ abbrev pub IsThread : ℕ → Type 0
 IsThread tid = (1 ≤ tid) × (tid ≤ LAST_TID)
 
 -- The numbers that an event tells are those of threads, of words of memory and of addresses.
-abbrev pub IsInRange : Event → Type 0
-IsInRange (Step tid) = IsThread tid
-IsInRange (Read tid first count) = IsThread tid × AreWords first count
-IsInRange (Write tid first count) = IsThread tid × AreWords first count
-IsInRange (Fill first count) = AreWords first count
-IsInRange (Call tid entry back) = IsThread tid × IsAddress entry × IsAddress back
-IsInRange (Ret tid target) = IsThread tid × IsAddress target
-IsInRange (Start tid entry) = IsThread tid × IsAddress entry
-IsInRange (End tid) = IsThread tid
+abbrev pub IsEventInRange : Event → Type 0
+IsEventInRange (Step tid) = IsThread tid
+IsEventInRange (Read tid first count) = IsThread tid × AreWords first count
+IsEventInRange (Write tid first count) = IsThread tid × AreWords first count
+IsEventInRange (Fill first count) = AreWords first count
+IsEventInRange (Call tid entry back) = IsThread tid × IsAddress entry × IsAddress back
+IsEventInRange (Ret tid target) = IsThread tid × IsAddress target
+IsEventInRange (Start tid entry) = IsThread tid × IsAddress entry
+IsEventInRange (End tid) = IsThread tid
 
 -- An exit tells the number of a byte, a fault a thread and an address, and a schedule a line that is counted from 1, among at
 -- most as many as this.
@@ -90,7 +90,7 @@ IsEndInRange lines finish = Unit {0}
 
 -- So are those of all events that are observed of a run, and of its end.
 pub record TellsInRange (lines : ℕ) (run : ObservedRun) : Type 0 where
-  pub events : AllByRecursion IsInRange run.past
+  pub events : AllByRecursion IsEventInRange run.past
   pub finish : IsEndInRange lines run.finish
 
 -- So it is of what is observed of every run of an image whose entry is an address, under a schedule from its first line on.

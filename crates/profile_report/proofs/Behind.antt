@@ -10,7 +10,7 @@ use Rattle.profile_report.specs.declared.parse_state.ParseState.{ParseState}
 use Rattle.profile_report.specs.declared.parse_state.ParseState.TheVariants.{AtVersion, Over}
 use Rattle.profile_report.specs.Grammar.{FitsLine, line_text, may_stand, rises, next}
 use Rattle.profile_report.specs.LineForms.{ended}
-use Rattle.profile_report.specs.Reading.{led, lines_text, is_over, IsRefused, Leads, RefusesLine, RefusesRest}
+use Rattle.profile_report.specs.Reading.{led, lines_text, is_over, IsReportRefused, Leads, RefusesLine, RefusesRest}
 use Rattle.profile_report.specs.Reported.{Reported}
 use Rattle.profile_report.specs.declared.report.ReportVersion.{ReportVersion}
 use Rattle.profile_report.specs.declared.reader.ReportError.{ReportError}
@@ -119,7 +119,7 @@ behind_next text number state rest bytes after b all end fit whole lead lack is 
 
 -- the refusal of a line, and of a rest that has none
 pub refused_line : (text : List ℕ) (number : ℕ) (state : ParseState) (rest bytes after : List ℕ) (e : ReportError) (b : Behind text number state rest) → lacks 10 bytes ≡ true → rest ≡ bytes ++ 10 ∷ after
-    → RefusesLine number state bytes e → IsRefused text e
+    → RefusesLine number state bytes e → IsReportRefused text e
 refused_line text number state rest bytes after e b lack is why = (
   length b.lines,
   state,

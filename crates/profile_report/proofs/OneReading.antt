@@ -9,7 +9,7 @@ use Rattle.profile_report.specs.declared.parse_state.ParseState.TheVariants.{AtV
 use Rattle.profile_report.specs.declared.reader.ReportError.{ReportError}
 use Rattle.profile_report.specs.declared.reader.ReportError.TheVariants as errors
 use Rattle.profile_report.specs.Grammar.{FitsLine, line_text, may_stand, rises, next}
-use Rattle.profile_report.specs.Reading.{led, lines_text, HasRefusedLine, IsRefused, RefusesLine, RefusesRest}
+use Rattle.profile_report.specs.Reading.{led, lines_text, HasRefusedLine, IsReportRefused, RefusesLine, RefusesRest}
 use Rattle.profile_report.specs.Reported.{Reported}
 use Rattle.profile_report.specs.ReportText.{report_text}
 use Rattle.profile_report.specs.Valid.{IsValid}
@@ -110,7 +110,7 @@ one_stop n s rest e f (inl (bytes, more, lack, is, why)) (inr (none, because)) n
 one_stop n s rest e f (inr (none, why)) (inl (bytes, more, lack, is, because)) ne nf = absurd (lacks_not 10 bytes more (subst (λ t. lacks 10 t ≡ true) is none))
 one_stop n s rest e f (inr (none, why)) (inr (nor, because)) ne nf = one_rest n s rest e f why because
 
-pub one_refusal : (text : List ℕ) (e f : ReportError) → IsRefused text e → IsRefused text f → e ≢ errors.Memory → f ≢ errors.Memory → f ≡ e
+pub one_refusal : (text : List ℕ) (e f : ReportError) → IsReportRefused text e → IsReportRefused text f → e ≢ errors.Memory → f ≢ errors.Memory → f ≡ e
 one_refusal text e f (m, s, rest, r, a) (n, q, more, o, b) ne nf =
     let lines : r.lines ≡ o.lines = same_lines (m + 1) (n + 1) AtVersion s q r.lines o.lines rest more e f r.fit o.fit r.lead o.lead (sym r.whole ∙ o.whole) a b ne nf in
     let states : q ≡ s = same (led AtVersion o.lines) q s o.lead (ap (led AtVersion) (sym lines) ∙ r.lead) in
@@ -133,6 +133,6 @@ never_stops n p s (l ∷ ls) (k ∷ ks) rest r e fl fk ll lk is stops =
     let one : l ≡ k = line_same l k fl.0 fk.0 cut.0 in
     never_stops n (next p l) s ls ks rest r e fl.1 fk.1 (tail_leads p s l ls ll) (tail_leads_as p (Over r) l k ks one lk) cut.1 stops
 
-pub never_refused : (text : List ℕ) (r : Reported) (e : ReportError) → IsValid r → text ≡ report_text r → IsRefused text e → e ≡ errors.Memory
+pub never_refused : (text : List ℕ) (r : Reported) (e : ReportError) → IsValid r → text ≡ report_text r → IsReportRefused text e → e ≡ errors.Memory
 never_refused text r e valid is (m, s, rest, o, stops) =
     never_stops (m + 1) AtVersion s o.lines (lines_of r) rest r e o.fit (lines_of-fit r valid) o.lead (lines_of-lead r valid) (sym o.whole ∙ is ∙ sym (lines_of-text r)) stops

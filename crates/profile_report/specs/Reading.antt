@@ -81,8 +81,8 @@ abbrev pub HasRefusedLine : ℕ → ParseState → List ℕ → ReportError → 
 HasRefusedLine number state rest error = (bytes more : List ℕ) × (lacks 10 bytes ≡ true) × (rest ≡ bytes ++ 10 ∷ more) × RefusesLine number state bytes error
 
 -- why a text is no report: what stands behind the lines that lead furthest is refused
-abbrev pub IsRefused : List ℕ → ReportError → Type 0
-IsRefused text error =
+abbrev pub IsReportRefused : List ℕ → ReportError → Type 0
+IsReportRefused text error =
     (count : ℕ) × (state : ParseState) × (rest : List ℕ) × Reaches text count state rest
     × (HasRefusedLine (count + 1) state rest error ⊎ ((lacks 10 rest ≡ true) × RefusesRest (count + 1) state rest error))
 

@@ -1,6 +1,6 @@
 //! Laws on the text of reports.
 ghost use Rattle.std.specs.Prelude.{◌≡◌, ◌≢◌, ℕ, List};
-ghost use Rattle.profile_report.specs.Reading.{IsRefused};
+ghost use Rattle.profile_report.specs.Reading.{IsReportRefused};
 ghost use Rattle.profile_report.specs.Reported.{Reported};
 ghost use Rattle.profile_report.specs.ReportText.{report_text};
 ghost use Rattle.profile_report.specs.Valid.{IsValid};
@@ -13,8 +13,8 @@ pub fn a_text_is_of_one_report()
 
 /// A text reads in one way, as far as there is memory: as the report of which it is the text, or else by one refusal.
 pub fn a_text_reads_in_one_way()
-    ensures refusal { (text : List ℕ) (e f : ReportError) → IsRefused text e
-        → IsRefused text f → e ≢ ReportError.Memory → f ≢ ReportError.Memory → f ≡ e }
+    ensures refusal { (text : List ℕ) (e f : ReportError) → IsReportRefused text e
+        → IsReportRefused text f → e ≢ ReportError.Memory → f ≢ ReportError.Memory → f ≡ e }
     ensures apart { (text : List ℕ) (r : Reported) (e : ReportError) → IsValid r
-        → text ≡ report_text r → IsRefused text e → e ≡ ReportError.Memory }
+        → text ≡ report_text r → IsReportRefused text e → e ≡ ReportError.Memory }
 {}

@@ -1,6 +1,6 @@
 //! Reading a report.
 ghost use Rattle.std.specs.Prelude.{◌≡◌, ℕ, List, [], IfOk, IfErr, MatchResult};
-ghost use Rattle.profile_report.specs.Reading.{IsMisplaced, IsRefused, Leads, RefusesLine, RefusesRest};
+ghost use Rattle.profile_report.specs.Reading.{IsMisplaced, IsReportRefused, Leads, RefusesLine, RefusesRest};
 ghost use Rattle.profile_report.specs.Reported.{Reported};
 ghost use Rattle.profile_report.specs.ReportText.{report_text};
 ghost use Rattle.profile_report.specs.Valid.{IsValid};
@@ -102,7 +102,7 @@ pub fn read_report(alloc: Global, text: &[u8]) -> Result<Report, ReportError>
     ensures found { IfOk result (λ r. IsValid r × (text.now ≡ report_text r)) }
     ensures only { (r : Reported) → IsValid r → text.now ≡ report_text r
         → MatchResult result (λ x. x ≡ r) (λ e. e ≡ ReportError.Memory) }
-    ensures refused { IfErr result (λ e. IsRefused text.now e) }
+    ensures refused { IfErr result (λ e. IsReportRefused text.now e) }
 {
     let mut state = ParseState::AtVersion;
     let mut rest = text;

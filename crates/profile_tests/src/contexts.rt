@@ -1,7 +1,7 @@
 //! A routine that is called in two ways: its numbers, and its places in the order of the text.
 ghost use Rattle.std.specs.Prelude.{[], List, IfOk};
 ghost use Rattle.trace_model.specs.declared.event_kinds.Event.{Event};
-ghost use Rattle.context_tree.specs.Trees.{StandsFor};
+ghost use Rattle.context_tree.specs.Trees.{TreeStandsFor};
 ghost use Rattle.shadow_core.specs.Profiling.{StandsFor as Stamps};
 
 use context_tree::{ContextNumbers, Tree};
@@ -82,9 +82,9 @@ fn apply(
     e: &Event,
 ) -> Result<(), Fail>
     requires { (past : List Event) × (Stamps 4294967295 profiler.old past
-        × StandsFor tree.old past) }
+        × TreeStandsFor tree.old past) }
     ensures { IfOk result (λ _. (past : List Event)
-        × (Stamps 4294967295 profiler.new past × StandsFor tree.new past)) }
+        × (Stamps 4294967295 profiler.new past × TreeStandsFor tree.new past)) }
 {
     if tree.may_follow(e) {
         done.clear();
@@ -102,9 +102,9 @@ fn apply_each(
     events: &[Event],
 ) -> Result<(), Fail>
     requires { (past : List Event) × (Stamps 4294967295 profiler.old past
-        × StandsFor tree.old past) }
+        × TreeStandsFor tree.old past) }
     ensures { IfOk result (λ _. (past : List Event)
-        × (Stamps 4294967295 profiler.new past × StandsFor tree.new past)) }
+        × (Stamps 4294967295 profiler.new past × TreeStandsFor tree.new past)) }
 {
     for e in events {
         apply(profiler, tree, done, e)?;
@@ -115,8 +115,8 @@ fn apply_each(
 // The tree takes the events of a routine f and its caller that both call g, which reads a word. Each function here holds one
 // value with a destructor where it may end early: the proof of one that holds three took five times as long.
 fn grow_two_ways(alloc: Global, tree: &mut Tree) -> Result<(), Fail>
-    requires { StandsFor tree.old [] }
-    ensures { IfOk result (λ _. (past : List Event) × StandsFor tree.new past) }
+    requires { TreeStandsFor tree.old [] }
+    ensures { IfOk result (λ _. (past : List Event) × TreeStandsFor tree.new past) }
 {
     let events = [
         start(0x10054),

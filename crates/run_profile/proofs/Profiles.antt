@@ -20,7 +20,7 @@ use Rattle.shadow_core.specs.Stands.{Stands}
 use Rattle.shadow_core.specs.State.{State, table_of_state}
 use Rattle.shadow_core.specs.Table.{Table}
 use Rattle.shadow_core.proofs.Applied.{deep_does_not_fit}
-use Rattle.run_profile.specs.Profile.{IsOfLight, IsProfileOf, Kept}
+use Rattle.run_profile.specs.Profile.{IsOfLight, IsProfileOf, KeptRun}
 
 -- ---- Counts are small.
 pub steps-le-weight : (past : List Event) → steps past ≤ weight past
@@ -37,7 +37,7 @@ pub few_steps : (n more : ℕ) (e : Event) (past : List Event) → IsLight (e �
 few_steps n more e past light is adds = omega (arith, steps-le-weight (e ∷ past), one_more e past, light, is, adds)
 
 -- ---- What ended last is added to the points.
-pub few_added : (most : ℕ) (k : Kept) → IsOfLight most k → k.points.members + length k.ended < 2 ^ 63
+pub few_added : (most : ℕ) (k : KeptRun) → IsOfLight most k → k.points.members + length k.ended < 2 ^ 63
 few_added most k of =
     let p = of.now in
     omega (
@@ -54,11 +54,11 @@ all_right : {X : Type 0} (P : X → Type 0) (xs ys : List X) → All P (xs ++ ys
 all_right P [] ys all = all
 all_right P (x ∷ xs) ys all = all_right P xs ys (All-tail P x (xs ++ ys) all)
 
-pub have_parts : (most : ℕ) (k : Kept) → IsOfLight most k → All HasParts k.ended
+pub have_parts : (most : ℕ) (k : KeptRun) → IsOfLight most k → All HasParts k.ended
 have_parts most k of = all_right HasParts of.now.earlier k.ended (subst (All HasParts) (sym of.now.all) (done_has_parts of.past))
 
 -- from the list that the code has: the first `n` of them are then among the points
-module _ (most n : ℕ) (k : Kept) (now : List Done) (is : now ≡ k.ended) (points : TableContents)
+module _ (most n : ℕ) (k : KeptRun) (now : List Done) (is : now ≡ k.ended) (points : TableContents)
     (adds : (earlier : List Done) → k.points ≡ contents_of (earlier ++ take k.added now) → points ≡ contents_of (earlier ++ take n now))
     (past : List Event) (p : IsProfileOf most k past) where
   are_added : points ≡ contents_of (p.earlier ++ take n k.ended)
@@ -89,7 +89,7 @@ module _ (most n : ℕ) (k : Kept) (now : List Done) (is : now ≡ k.ended) (poi
   }
 
 -- ---- One event more.
-pub observed : (most : ℕ) (e : Event) (k : Kept) (new : State) (after : List Done) (more : ℕ) (past : List Event) → IsProfileOf most k past →
+pub observed : (most : ℕ) (e : Event) (k : KeptRun) (new : State) (after : List Done) (more : ℕ) (past : List Event) → IsProfileOf most k past →
     IsTaken most e past new k.ended after → more ≡ steps (e ∷ []) →
     IsProfileOf most (record k { stamps = new; ended = after; steps = k.steps + more }) (e ∷ past) × (is_within most (e ∷ past) ≡ true)
 observed most e k new after more past p taken adds = (
@@ -119,7 +119,7 @@ does_not_fit most e k past stands deep = turn (is_too_deep most e past) (is_with
     turn d true is none = absurd (none is)
 
 -- it is too deep
-pub refused : (most : ℕ) (e : Event) (k : Kept) (new : State) (after : List Done) (past : List Event) → IsProfileOf most k past →
+pub refused : (most : ℕ) (e : Event) (k : KeptRun) (new : State) (after : List Done) (past : List Event) → IsProfileOf most k past →
     table_of_state new ≡ table_of_state k.stamps → after ≡ k.ended → (is_too_deep most e past ≡ false → ⊥) →
     IsProfileOf most (record k { stamps = new; ended = after }) past × (is_within most (e ∷ past) ≡ false)
 refused most e k new after past p same kept deep = (
@@ -147,7 +147,7 @@ light_before : (tid n : ℕ) (past : List Event) → IsLight (with_steps tid n p
 light_before tid zero past light = light
 light_before tid (suc n) past light = light_before tid n past (omega (arith, light))
 
-pub of_light : (most tid n : ℕ) (k : Kept) → MayStepBy (IsProfileOf most) (is_within most) k tid n → 1 ≤ n → IsOfLight most k
+pub of_light : (most tid n : ℕ) (k : KeptRun) → MayStepBy (IsProfileOf most) (is_within most) k tid n → 1 ≤ n → IsOfLight most k
 of_light most tid zero k may some = absurd (omega (arith, some))
 of_light most tid (suc n) k may some = record { past = may.past; now = may.now; light = light_before tid (suc n) may.past may.formed.1 }
 
@@ -156,7 +156,7 @@ few_more tid zero past had some formed is = absurd (omega (arith, some))
 few_more tid (suc n) past had some formed is =
     omega (arith, is, steps-le-weight (with_steps tid (suc n) past), steps_more tid (suc n) past, formed.1)
 
-pub stepped : (most tid n : ℕ) (k : Kept) (new : State) (past : List Event) → IsProfileOf most k past → StandsFor most new (with_steps tid n past) →
+pub stepped : (most tid n : ℕ) (k : KeptRun) (new : State) (past : List Event) → IsProfileOf most k past → StandsFor most new (with_steps tid n past) →
     IsProfileOf most (record k { stamps = new; steps = k.steps + n }) (with_steps tid n past)
 stepped most tid n k new past p stands = record {
   stands = stands;
@@ -168,7 +168,7 @@ stepped most tid n k new past p stands = record {
 }
 
 -- ---- What the run comes to.
-pub comes_to : (most : ℕ) (k : Kept) (past : List Event) → IsProfileOf most k past → k.ended ≡ [] → k.points ≡ contents_of (done past)
+pub comes_to : (most : ℕ) (k : KeptRun) (past : List Event) → IsProfileOf most k past → k.ended ≡ [] → k.points ≡ contents_of (done past)
 comes_to most k past p none =
     p.points
     ∙ ap (λ (ds : List Done). contents_of (p.earlier ++ ds)) (ap (take k.added) none ∙ take_all k.added [] (omega arith))

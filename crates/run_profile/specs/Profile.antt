@@ -13,7 +13,7 @@ use Rattle.run_profile.specs.declared.totals.Totals.{Totals}
 
 -- What is kept of a run: the stamp table, the points, what ended last, how many of these, from the first on, are among the points already, and
 -- how many steps there were.
-pub record Kept : Type 0 where
+pub record KeptRun : Type 0 where
   pub stamps : State
   pub points : TableContents
   pub ended : List Done
@@ -21,7 +21,7 @@ pub record Kept : Type 0 where
   pub steps : ℕ
 
 -- It is that of this past, where the greatest stamp is `most`.
-pub record IsProfileOf (most : ℕ) (kept : Kept) (past : List Event) : Type 0 where
+pub record IsProfileOf (most : ℕ) (kept : KeptRun) (past : List Event) : Type 0 where
   pub stands : StandsFor most kept.stamps past
   -- what ended before
   pub earlier : List Done
@@ -31,7 +31,7 @@ pub record IsProfileOf (most : ℕ) (kept : Kept) (past : List Event) : Type 0 w
   pub steps_are : kept.steps ≡ steps past
 
 -- It is that of a past that is light.
-pub record IsOfLight (most : ℕ) (kept : Kept) : Type 0 where
+pub record IsOfLight (most : ℕ) (kept : KeptRun) : Type 0 where
   pub past : List Event
   pub now : IsProfileOf most kept past
   pub light : IsLight past

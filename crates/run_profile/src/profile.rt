@@ -27,9 +27,9 @@ pub struct Profile<S: Lanes> {
 }
 
 impl<S: Lanes> Model for Profile<S> {
-    ghost use Rattle.run_profile.specs.Profile.{Kept};
+    ghost use Rattle.run_profile.specs.Profile.{KeptRun};
 
-    ghost Value = { Kept };
+    ghost Value = { KeptRun };
 
     ghost view = { λ p. record {
       stamps = p.profiler;

@@ -2,7 +2,7 @@
 use Rattle.std.specs.Prelude.{◌≡◌, ℕ, ◌<◌, ◌≤◌, true, List, ◌++◌, length, Option, Some, None}
 use Rattle.std.specs.Option.{option_to_list}
 use Rattle.cost_points.specs.Keys.{insert_rising}
-use Rattle.call_tracker.specs.CallStacks.{StandsFor, Stacks}
+use Rattle.call_tracker.specs.CallStacks.{StacksStandFor, Stacks}
 use Rattle.stamps.specs.declared.width.StampBits.TheVariants.{B32}
 use Rattle.stamps.specs.Widths.{greatest}
 use Rattle.trace_file.specs.TraceText.{IsTextOf, Writing, event_records, text_of}
@@ -33,7 +33,7 @@ pub record IsWrittenOf (w : Written) (past : List Event) : Type 0 where
   pub entries : all_entries w.entries w.entry ≡ entries_begun past
 
 -- The open calls of all threads, and what is written, unless that became too long.
-pub record Kept : Type 0 where
+pub record KeptTrace : Type 0 where
   pub stacks : Stacks
   pub written : Option Written
 
@@ -46,8 +46,8 @@ HasText None past = IsTooLong past
 HasText (Some w) past = IsWrittenOf w past
 
 -- It is the trace of this past.
-pub record IsTraceOf (kept : Kept) (past : List Event) : Type 0 where
-  pub stacks : StandsFor kept.stacks past
+pub record IsTraceOf (kept : KeptTrace) (past : List Event) : Type 0 where
+  pub stacks : StacksStandFor kept.stacks past
   pub within : is_within (greatest B32) past ≡ true
   pub text : HasText kept.written past
 
@@ -58,7 +58,7 @@ pub record MayWrite (w : Written) : Type 0 where
   pub formed : IsWellFormed past
 
 -- It is the trace of some past that a run can have.
-pub record IsTraceOfFormed (kept : Kept) : Type 0 where
+pub record IsTraceOfFormed (kept : KeptTrace) : Type 0 where
   pub past : List Event
   pub now : IsTraceOf kept past
   pub formed : IsWellFormed past
@@ -68,5 +68,5 @@ abbrev pub AreSettled : Option Written → Type 0
 AreSettled None = Unit {0}
 AreSettled (Some w) = (w.next ≡ None) × (w.entry ≡ None) × (length w.text.text ≤ TRACE_BYTES)
 
-abbrev pub IsSettled : Kept → Type 0
+abbrev pub IsSettled : KeptTrace → Type 0
 IsSettled kept = AreSettled kept.written

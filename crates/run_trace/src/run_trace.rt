@@ -27,9 +27,9 @@ pub struct RunTrace {
 }
 
 impl Model for RunTrace {
-    ghost use Rattle.run_trace.specs.Kept.{Kept};
+    ghost use Rattle.run_trace.specs.Kept.{KeptTrace};
 
-    ghost Value = { Kept };
+    ghost Value = { KeptTrace };
 
     ghost view = { λ t. record { stacks = t.stacks; written = t.written } };
 }

@@ -33,7 +33,7 @@ abbrev pub IsBinding : Option ℕ → Type 0
 IsBinding binding = IfSome binding (λ at. at ≤ 4000000)
 
 -- What every draft keeps.
-pub record IsSound (d : Draft) : Type 0 where
+pub record IsSoundDraft (d : Draft) : Type 0 where
   pub short : length d.lines ≤ 4000000
   pub few : length d.bindings ≤ 4000000
   pub writable : All IsWritable d.lines

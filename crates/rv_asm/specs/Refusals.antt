@@ -45,9 +45,9 @@ IsOutOfReach d (Twice label) = ⊥
 IsOutOfReach d (Unencodable at) = ⊥
 
 -- What the refusals of a draft say of it. Out of memory may come at any draft.
-abbrev pub IsRefused : Draft → AsmError → Type 0
-IsRefused d (Unbound label) = first_unbound d.bindings d.lines ≡ Some label
-IsRefused d (Reach at) = (first_unbound d.bindings d.lines ≡ None) × IsFirstOut d at
-IsRefused d Memory = Unit {0}
-IsRefused d (Twice label) = ⊥
-IsRefused d (Unencodable at) = ⊥
+abbrev pub IsDraftRefused : Draft → AsmError → Type 0
+IsDraftRefused d (Unbound label) = first_unbound d.bindings d.lines ≡ Some label
+IsDraftRefused d (Reach at) = (first_unbound d.bindings d.lines ≡ None) × IsFirstOut d at
+IsDraftRefused d Memory = Unit {0}
+IsDraftRefused d (Twice label) = ⊥
+IsDraftRefused d (Unencodable at) = ⊥

@@ -3,7 +3,7 @@ ghost use Rattle.std.specs.Prelude.{◌≡◌, ◌≢◌, ◌<◌, length, true,
 ghost use Rattle.rv_isa.specs.Encoding.{IsEncodable};
 ghost use Rattle.rv_asm.specs.Assembled.{binding_of, AreAssembled};
 ghost use Rattle.rv_asm.specs.Lines.{is_jump};
-ghost use Rattle.rv_asm.specs.Refusals.{IsAccepted, IsRefused};
+ghost use Rattle.rv_asm.specs.Refusals.{IsAccepted, IsDraftRefused};
 ghost use Rattle.rv_asm.specs.Draft.{empty_draft, with_label, with_line, with_binding};
 
 use crate::assembly::{binding_of, first_unbound, is_encodable, words_of};
@@ -36,13 +36,13 @@ pub struct Builder {
 }
 
 impl Model for Builder {
-    ghost use Rattle.rv_asm.specs.Draft.{Draft, IsSound};
+    ghost use Rattle.rv_asm.specs.Draft.{Draft, IsSoundDraft};
 
     ghost Value = { Draft };
 
     ghost view = { λ b. record { lines = b.lines.items; bindings = b.bindings.items } };
 
-    ghost invariant = { λ b. IsSound (record {
+    ghost invariant = { λ b. IsSoundDraft (record {
       lines = b.lines.items;
       bindings = b.bindings.items;
     }) };
@@ -168,7 +168,7 @@ impl Builder {
     pub fn finish(self) -> Result<Code, AsmError>
         ensures words { IfOk result (AreAssembled self) }
         ensures accepted { OnOk result (IsAccepted self) }
-        ensures refused { IfErr result (IsRefused self) }
+        ensures refused { IfErr result (IsDraftRefused self) }
     {
         if let Some(label) = first_unbound(&self.lines, &self.bindings) {
             return Err(AsmError::Unbound { label });

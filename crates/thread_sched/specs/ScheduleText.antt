@@ -57,9 +57,9 @@ pub record HasEntry (text : List ℕ) : Type 0 where
   pub line : IsLineBefore (entry_text entry) rest
 
 -- why a text is no schedule, or is not read
-abbrev pub IsRefused : List ℕ → ScheduleError → Type 0
-IsRefused text (BadLine number) = IsBadLine text number
-IsRefused text Memory = HasEntry text
+abbrev pub IsScheduleRefused : List ℕ → ScheduleError → Type 0
+IsScheduleRefused text (BadLine number) = IsBadLine text number
+IsScheduleRefused text Memory = HasEntry text
 
 -- the bytes are this entry's, and no other's
 pub record Says (bytes : List ℕ) (e : Entry) : Type 0 where

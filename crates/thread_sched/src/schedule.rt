@@ -1,7 +1,7 @@
 //! Schedules, and their text.
 ghost use Rattle.std.specs.Prelude.{◌≡◌, ◌+◌, List, [], ◌∷◌, ◌++◌, length, IfErr, IfOk, MatchResult, OnOk};
 ghost use Rattle.std.specs.List.{AllByRecursion};
-ghost use Rattle.thread_sched.specs.ScheduleText.{IsEntry, IsRefused, IsText, RefusesLine, Says};
+ghost use Rattle.thread_sched.specs.ScheduleText.{IsEntry, IsScheduleRefused, IsText, RefusesLine, Says};
 ghost use Rattle.thread_sched.specs.declared.entry.Entry.{Entry};
 
 use crate::Entry;
@@ -89,7 +89,7 @@ impl Schedule {
         ensures found { IfOk result (λ s. AllByRecursion IsEntry s × IsText text.now s) }
         ensures only { (s : List Entry) → AllByRecursion IsEntry s → IsText text.now s
             → MatchResult result (λ x. x ≡ s) (λ e. e ≡ ScheduleError.Memory) }
-        ensures refused { IfErr result (λ e. IsRefused text.now e) }
+        ensures refused { IfErr result (λ e. IsScheduleRefused text.now e) }
     {
         let mut entries = Vec::new(alloc);
         let mut rest = text;

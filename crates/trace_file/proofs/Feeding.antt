@@ -15,7 +15,7 @@ use Rattle.trace_file.specs.declared.errors.TraceError.{TraceError}
 use Rattle.trace_file.specs.declared.errors.TraceError.TheVariants as errors
 use Rattle.trace_file.specs.Records.{Fits, record_bytes}
 use Rattle.trace_file.specs.Pieces.{IsBegun, IsNone, IsRecord, Stops}
-use Rattle.trace_file.specs.Reading.{HasFed, HasNext, HasRead, HasReadBy, IsAtLine, IsAtRecord, IsOutOfOrder, IsReading, IsRefused, ReaderState, RunsOutOfMemory, told_by}
+use Rattle.trace_file.specs.Reading.{HasFed, HasNext, HasRead, HasReadBy, IsAtLine, IsAtRecord, IsOutOfOrder, IsReading, IsTraceRefused, ReaderState, RunsOutOfMemory, told_by}
 use Rattle.trace_file.specs.Private.Steps.{GoesOnOr, IsFed, IsInOrder, IsNotAdded, IsOpen, IsTaken, MayReadByte, said}
 use Rattle.trace_file.proofs.ReadBytes.{behind_end, held_more, line_more, no_form, other_line, no_memory, not_added, open_of, stays, taken, text_push, whole_held}
 
@@ -76,7 +76,7 @@ at_record s bytes past high (inr at) = at
 pub fed_line : (s new : ReaderState) (b : ℕ) (es : List Event) (result : Result (Unit {0}) TraceError) → s.line < 14 → OnOk result ((get_or magic s.line 0 ≡ b) × (new ≡ record s { line = s.line + 1; at = s.at + 1 })) →
     IfErr result (λ e. (e ≡ errors.Magic) × (get_or magic s.line 0 ≢ b)) → Reading s new b es es result
 fed_line s new b es (Ok u) low ok err = record { more = []; appended = sym (append-nil es); reads = λ bytes past is. line_more s new bytes past b (at_line s bytes past low is) ok.0 ok.1 }
-fed_line s new b es (Err e) low ok err = record { more = []; appended = sym (append-nil es); reads = λ bytes past is. subst (λ x. IsRefused (bytes ++ b ∷ []) past x × (x ≢ errors.Short)) (sym err.0) (other_line s bytes past b (at_line s bytes past low is) err.1) }
+fed_line s new b es (Err e) low ok err = record { more = []; appended = sym (append-nil es); reads = λ bytes past is. subst (λ x. IsTraceRefused (bytes ++ b ∷ []) past x × (x ≢ errors.Short)) (sym err.0) (other_line s bytes past b (at_line s bytes past low is) err.1) }
 
 pub fed_behind : (s new : ReaderState) (b at : ℕ) (f : Finish) (es : List Event) → 14 ≤ s.line → s.finish ≡ Some f → at ≡ s.at → Reading s new b es es (Err (errors.Record at))
 fed_behind s new b at f es high ends place = record { more = []; appended = sym (append-nil es); reads = λ bytes past is. behind_end s bytes past f b at (at_record s bytes past high is) ends place }

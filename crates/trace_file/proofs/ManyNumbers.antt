@@ -11,7 +11,7 @@ use Rattle.trace_file.specs.declared.records.Range.{Range}
 use Rattle.trace_file.specs.declared.record_reader.Stop.{Stop}
 use Rattle.trace_file.specs.declared.record_reader.Stop.TheVariants.{Begun, NoForm, Memory}
 use Rattle.trace_file.specs.Records.{IsIn, AreInRanges, number_bytes}
-use Rattle.trace_file.specs.Private.Made.{IsSound}
+use Rattle.trace_file.specs.Private.Made.{IsSoundRange}
 use Rattle.trace_file.specs.Pieces.{AreNumbers, IsBegun, Stops}
 use Rattle.trace_file.proofs.OneNumber.{Four, as_four}
 
@@ -37,7 +37,7 @@ one_number n m xs ys low low' same =
 abbrev least_of : List Range → List ℕ
 least_of rs = map (λ r. r.least) rs
 
-least_fit : (rs : List Range) → AllByRecursion IsSound rs → AreInRanges (least_of rs) rs
+least_fit : (rs : List Range) → AllByRecursion IsSoundRange rs → AreInRanges (least_of rs) rs
 least_fit [] sound = tt
 least_fit (r ∷ rs) sound = ((le_refl r.least, sound.0.some), least_fit rs sound.1)
 
@@ -50,7 +50,7 @@ one : (r : Range) (n : ℕ) → IsIn r n → AreNumbers (r ∷ []) (number_bytes
 one r n within = (n ∷ [], (within, tt), sym (append-nil (number_bytes n)))
 
 -- where the first number stops
-first_stops : (r : Range) (rs : List Range) (bytes : List ℕ) (stop : Stop) → AllByRecursion IsSound rs → Stops (AreNumbers (r ∷ [])) bytes stop → Stops (AreNumbers (r ∷ rs)) bytes stop
+first_stops : (r : Range) (rs : List Range) (bytes : List ℕ) (stop : Stop) → AllByRecursion IsSoundRange rs → Stops (AreNumbers (r ∷ [])) bytes stop → Stops (AreNumbers (r ∷ rs)) bytes stop
 first_stops r rs bytes Begun sound stops = by stops.text
   where
     by : AreNumbers (r ∷ []) (bytes ++ stops.more) → IsBegun (AreNumbers (r ∷ rs)) bytes
@@ -85,7 +85,7 @@ cons_stops r rs n bytes NoForm within stops = λ x more rest numbers same.
 cons_stops r rs n bytes (Memory entry) within stops = tt
 
 -- behind numbers
-pub stops_later : (ns : List ℕ) (before : List Range) (r : Range) (rs : List Range) (bytes rest : List ℕ) (stop : Stop) → AreInRanges ns before → AllByRecursion IsSound rs → bytes ≡ flat_map number_bytes ns ++ rest → Stops (AreNumbers (r ∷ [])) rest stop → Stops (AreNumbers (before ++ r ∷ rs)) bytes stop
+pub stops_later : (ns : List ℕ) (before : List Range) (r : Range) (rs : List Range) (bytes rest : List ℕ) (stop : Stop) → AreInRanges ns before → AllByRecursion IsSoundRange rs → bytes ≡ flat_map number_bytes ns ++ rest → Stops (AreNumbers (r ∷ [])) rest stop → Stops (AreNumbers (before ++ r ∷ rs)) bytes stop
 stops_later [] [] r rs bytes rest stop within sound text stops = subst (λ b. Stops (AreNumbers (r ∷ rs)) b stop) (sym text) (first_stops r rs rest stop sound stops)
 stops_later [] (q ∷ before) r rs bytes rest stop within sound text stops = absurd within
 stops_later (n ∷ ns) [] r rs bytes rest stop within sound text stops = absurd within
@@ -123,11 +123,11 @@ by_recursion : (P : Range → Type 0) (d : Range) (rs : List Range) → ((k : �
 by_recursion P d [] each = tt
 by_recursion P d (r ∷ rs) each = (each 0 (omega arith), by_recursion P d rs (λ k low. each (suc k) (omega arith)))
 
-sound_later : (rs : List Range) (d : Range) (n : ℕ) → All IsSound rs → AllByRecursion IsSound (drop n rs)
-sound_later rs d n sound = by_recursion IsSound d (drop n rs) (λ k low. subst IsSound (sym (get_or-drop n rs k d)) (All-get_or IsSound rs (n + k) d (omega (arith, length-drop n rs)) sound))
+sound_later : (rs : List Range) (d : Range) (n : ℕ) → All IsSoundRange rs → AllByRecursion IsSoundRange (drop n rs)
+sound_later rs d n sound = by_recursion IsSoundRange d (drop n rs) (λ k low. subst IsSoundRange (sym (get_or-drop n rs k d)) (All-get_or IsSoundRange rs (n + k) d (omega (arith, length-drop n rs)) sound))
 
 -- where a number stops that is not the first
-pub stops_at : (numbers : List ℕ) (ranges : List Range) (i : ℕ) (d : Range) (bytes rest : List ℕ) (stop : Stop) → i < length ranges → All IsSound ranges → AreInRanges (take i numbers) (take i ranges) →
+pub stops_at : (numbers : List ℕ) (ranges : List Range) (i : ℕ) (d : Range) (bytes rest : List ℕ) (stop : Stop) → i < length ranges → All IsSoundRange ranges → AreInRanges (take i numbers) (take i ranges) →
     bytes ≡ flat_map number_bytes (take i numbers) ++ rest → Stops (AreNumbers (get_or ranges i d ∷ [])) rest stop → Stops (AreNumbers ranges) bytes stop
 stops_at numbers ranges i d bytes rest stop low sound within text stops =
     let all : take i ranges ++ get_or ranges i d ∷ drop (suc i) ranges ≡ ranges = ap (λ y. take i ranges ++ y) (sym (drop-cons ranges i d low)) ∙ take-append-drop i ranges in

@@ -12,7 +12,7 @@ use Rattle.trace_file.specs.declared.errors.TraceError.{TraceError}
 use Rattle.trace_file.specs.declared.errors.TraceError.TheVariants as errors
 use Rattle.trace_file.specs.Records.{Fits, record_bytes}
 use Rattle.trace_file.specs.Pieces.{IsBegun, IsNone, IsRecord}
-use Rattle.trace_file.specs.Reading.{Begins, FailsForm, FailsOrder, IsInLine, IsMisformed, IsOutOfOrder, IsRefused, IsShort, Leads}
+use Rattle.trace_file.specs.Reading.{Begins, FailsForm, FailsOrder, IsInLine, IsMisformed, IsOutOfOrder, IsTraceRefused, IsShort, Leads}
 use Rattle.trace_file.specs.TraceText.{IsRising, IsTold, IsTrace, Names, Told, finish_records, magic, name_records, records, told_text, whole}
 use Rattle.trace_file.specs.Laws.{IsEarlier}
 use Rattle.trace_file.proofs.OneRecord.{Longer, decode, one_record}
@@ -276,7 +276,7 @@ order_short bytes past past' at is is' =
 abbrev Once : TraceError → TraceError → List Event → List Event → Type 0
 Once e e' past past' = (e ≡ e') × (past ≡ past')
 
-pub one_refusal : (bytes : List ℕ) (past past' : List Event) (e e' : TraceError) → IsRefused bytes past e → IsRefused bytes past' e' → e ≢ errors.Memory → e' ≢ errors.Memory → Once e e' past past'
+pub one_refusal : (bytes : List ℕ) (past past' : List Event) (e e' : TraceError) → IsTraceRefused bytes past e → IsTraceRefused bytes past' e' → e ≢ errors.Memory → e' ≢ errors.Memory → Once e e' past past'
 one_refusal bytes past past' errors.Memory e' is is' m m' = absurd (m refl)
 one_refusal bytes past past' errors.Magic errors.Memory is is' m m' = absurd (m' refl)
 one_refusal bytes past past' (errors.Record at) errors.Memory is is' m m' = absurd (m' refl)
@@ -320,7 +320,7 @@ one_refusal bytes past past' errors.Short errors.Short (inr is) (inr is') m m' =
 open_end : (f : Finish) (o : Option Finish) → ◌≡◌ {A = Option Finish} (Some f) o → o ≡ None → ⊥
 open_end f o is none = let apart : ◌≡◌ {A = Option Finish} (Some f) None = is ∙ none in cc
 
-pub not_refused : (bytes : List ℕ) (past past' : List Event) (names : Names) (f : Finish) (e : TraceError) → IsTrace bytes past names f → IsRefused bytes past' e → e ≡ errors.Memory
+pub not_refused : (bytes : List ℕ) (past past' : List Event) (names : Names) (f : Finish) (e : TraceError) → IsTrace bytes past names f → IsTraceRefused bytes past' e → e ≡ errors.Memory
 not_refused bytes past past' names f errors.Magic is is' = magic_leads bytes (whole past names f) [] is'.0 (led bytes past names f is)
 not_refused bytes past past' names f (errors.Record at) is is' =
     let same = one_leads bytes (whole past names f) is'.told _ _ (led bytes past names f is) is'.leads (ended_stuck (whole past names f) f [] refl) (form_stuck bytes past' at is') in
@@ -359,7 +359,7 @@ before : (bytes : List ℕ) (past past' : List Event) (t : Told) (a : List ℕ) 
 before bytes past past' t a begins leads stuck is =
     subst (λ p. IsEarlier past p) is (subst (λ p. IsEarlier p t.past) begins.events (begins_earlier bytes t begins.told a begins.rest leads begins.leads stuck))
 
-pub earlier_refusal : (bytes : List ℕ) (past past' : List Event) (e : TraceError) → Begins bytes past → IsRefused bytes past' e → e ≢ errors.Memory → IsEarlier past past'
+pub earlier_refusal : (bytes : List ℕ) (past past' : List Event) (e : TraceError) → Begins bytes past → IsTraceRefused bytes past' e → e ≢ errors.Memory → IsEarlier past past'
 earlier_refusal bytes past past' errors.Magic begins is m = magic_leads bytes begins.told begins.rest is.0 begins.leads
 earlier_refusal bytes past past' (errors.Record at) begins is m = before bytes past past' is.told is.rest begins is.leads (form_stuck bytes past' at is) is.events
 earlier_refusal bytes past past' (errors.Order at) begins is m = before bytes past past' is.told _ begins is.leads (order_stuck bytes past' at is) is.events

@@ -15,7 +15,7 @@ use Rattle.trace_file.specs.declared.errors.TraceError.{TraceError}
 use Rattle.trace_file.specs.declared.errors.TraceError.TheVariants as errors
 use Rattle.trace_file.specs.Records.{Fits, record_bytes}
 use Rattle.trace_file.specs.Pieces.{IsBegun, IsNone, IsRecord}
-use Rattle.trace_file.specs.Reading.{GoesOn, IsAtLine, IsAtRecord, IsMisformed, IsOutOfOrder, IsReading, IsRefused, Leads, ReaderState, told_by}
+use Rattle.trace_file.specs.Reading.{GoesOn, IsAtLine, IsAtRecord, IsMisformed, IsOutOfOrder, IsReading, IsTraceRefused, Leads, ReaderState, told_by}
 use Rattle.trace_file.specs.Private.Steps.{IsAdded, IsNotAdded, IsOpen, IsTaken, said}
 use Rattle.trace_file.specs.TraceText.{IsTold, IsTrace, Names, Told, magic, records, text_of, told_text}
 use Rattle.trace_file.proofs.Heads.{begun_empty}
@@ -101,7 +101,7 @@ held_more s new bytes past b is ends same begun = subst (λ n. IsAtRecord n (byt
   goes_on = goes_on_begun s.finish (s.held ++ b ∷ []) ends begun;
 })
 
-pub no_form : (s : ReaderState) (bytes : List ℕ) (past : List Event) (b at : ℕ) → IsAtRecord s bytes past → s.finish ≡ None → at ≡ s.at → IsNone IsRecord (s.held ++ b ∷ []) → IsRefused (bytes ++ b ∷ []) past (errors.Record at) × (errors.Record at ≢ errors.Short)
+pub no_form : (s : ReaderState) (bytes : List ℕ) (past : List Event) (b at : ℕ) → IsAtRecord s bytes past → s.finish ≡ None → at ≡ s.at → IsNone IsRecord (s.held ++ b ∷ []) → IsTraceRefused (bytes ++ b ∷ []) past (errors.Record at) × (errors.Record at ≢ errors.Short)
 no_form s bytes past b at is ends place none = (
   record {
     told = told_by s past;
@@ -114,7 +114,7 @@ no_form s bytes past b at is ends place none = (
   λ same. cc,
 )
 
-pub no_memory : (s : ReaderState) (bytes : List ℕ) (past : List Event) (b : ℕ) → IsAtRecord s bytes past → IsRefused (bytes ++ b ∷ []) past errors.Memory × (errors.Memory ≢ errors.Short)
+pub no_memory : (s : ReaderState) (bytes : List ℕ) (past : List Event) (b : ℕ) → IsAtRecord s bytes past → IsTraceRefused (bytes ++ b ∷ []) past errors.Memory × (errors.Memory ≢ errors.Short)
 no_memory s bytes past b is = (
   inr (record {
     told = told_by s past;
@@ -125,7 +125,7 @@ no_memory s bytes past b is = (
   λ same. cc,
 )
 
-pub behind_end : (s : ReaderState) (bytes : List ℕ) (past : List Event) (f : Finish) (b at : ℕ) → IsAtRecord s bytes past → s.finish ≡ Some f → at ≡ s.at → IsRefused (bytes ++ b ∷ []) past (errors.Record at) × (errors.Record at ≢ errors.Short)
+pub behind_end : (s : ReaderState) (bytes : List ℕ) (past : List Event) (f : Finish) (b at : ℕ) → IsAtRecord s bytes past → s.finish ≡ Some f → at ≡ s.at → IsTraceRefused (bytes ++ b ∷ []) past (errors.Record at) × (errors.Record at ≢ errors.Short)
 behind_end s bytes past f b at is ends place = (
   record {
     told = told_by s past;
@@ -144,7 +144,7 @@ behind_end s bytes past f b at is ends place = (
 
 -- what is not added
 pub not_added : (s mid : ReaderState) (bytes : List ℕ) (past : List Event) (b : ℕ) (r : Record) (e : TraceError) → IsAtRecord s bytes past → s.finish ≡ None → Fits r → mid ≡ record s { held = s.held ++ b ∷ [] } → s.held ++ b ∷ [] ≡ record_bytes r →
-    IsNotAdded mid past r e → IsRefused (bytes ++ b ∷ []) past e × (e ≢ errors.Short)
+    IsNotAdded mid past r e → IsTraceRefused (bytes ++ b ∷ []) past e × (e ≢ errors.Short)
 not_added s mid bytes past b r errors.Magic is ends fits same text why = absurd why
 not_added s mid bytes past b r (errors.Record at) is ends fits same text why = absurd why
 not_added s mid bytes past b r (errors.Order at) is ends fits same text why = (
@@ -173,7 +173,7 @@ at_place xs i b more low =
     let long : length (take i xs) ≡ i = length-take-le i xs (omega arith) in
     ap (λ y. get_or y i 0) (append_assoc (take i xs) (b ∷ []) more) ∙ ap (λ k. get_or (take i xs ++ b ∷ more) k 0) (sym long) ∙ get_or-append_seam (take i xs) b more 0
 
-pub other_line : (s : ReaderState) (bytes : List ℕ) (past : List Event) (b : ℕ) → IsAtLine s bytes past → (get_or magic s.line 0 ≡ b → ⊥) → IsRefused (bytes ++ b ∷ []) past errors.Magic × (errors.Magic ≢ errors.Short)
+pub other_line : (s : ReaderState) (bytes : List ℕ) (past : List Event) (b : ℕ) → IsAtLine s bytes past → (get_or magic s.line 0 ≡ b → ⊥) → IsTraceRefused (bytes ++ b ∷ []) past errors.Magic × (errors.Magic ≢ errors.Short)
 other_line s bytes past b is differs = ((differs', is.none), λ same. cc)
   where
     differs' : (more rest : List ℕ) → (bytes ++ b ∷ []) ++ more ≢ magic ++ rest
@@ -234,7 +234,7 @@ ended s bytes past f (inr at) ends =
       text = text ∙ ap (λ o. told_text (record { past = past; names = s.names; finish = o })) ends;
     }
 
-pub cut_off : (s : ReaderState) (bytes : List ℕ) (past : List Event) → IsReading s bytes past → s.finish ≡ None → IsRefused bytes past errors.Short
+pub cut_off : (s : ReaderState) (bytes : List ℕ) (past : List Event) → IsReading s bytes past → s.finish ≡ None → IsTraceRefused bytes past errors.Short
 cut_off s bytes past (inl at) ends = inl (
   record {
     more = drop s.line magic;
@@ -261,7 +261,7 @@ stays_misformed None rest more none = λ x after behind r same. none x (more ++ 
 stays_misformed (Some f) [] more some = absurd (some refl)
 stays_misformed (Some f) (x ∷ rest) more some = λ none. cc
 
-pub stays : (bytes more : List ℕ) (past : List Event) (e : TraceError) → IsRefused bytes past e → e ≢ errors.Short → IsRefused (bytes ++ more) past e
+pub stays : (bytes more : List ℕ) (past : List Event) (e : TraceError) → IsTraceRefused bytes past e → e ≢ errors.Short → IsTraceRefused (bytes ++ more) past e
 stays bytes more past errors.Magic is short = ((λ after rest same. is.0 (more ++ after) rest (sym (append_assoc bytes more after) ∙ same)), is.1)
 stays bytes more past (errors.Record at) is short = record {
   told = is.told;

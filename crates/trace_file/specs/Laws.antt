@@ -4,7 +4,7 @@ use Rattle.guest_words.specs.declared.endings.Finish.{Finish}
 use Rattle.trace_model.specs.declared.event_kinds.Event.{Event}
 use Rattle.trace_file.specs.declared.errors.TraceError.{TraceError}
 use Rattle.trace_file.specs.declared.errors.TraceError.TheVariants as errors
-use Rattle.trace_file.specs.Reading.{Begins, IsRefused}
+use Rattle.trace_file.specs.Reading.{Begins, IsTraceRefused}
 use Rattle.trace_file.specs.TraceText.{IsTrace, Names}
 
 -- No two traces have one text.
@@ -16,13 +16,13 @@ TextIsOfOneTrace =
 -- Bytes are refused in one way, with one list of events before the refusal.
 abbrev pub BytesAreRefusedInOneWay : Type 0
 BytesAreRefusedInOneWay =
-    (bytes : List ℕ) (past past' : List Event) (e e' : TraceError) → IsRefused bytes past e → IsRefused bytes past' e' → e ≢ errors.Memory → e' ≢ errors.Memory →
+    (bytes : List ℕ) (past past' : List Event) (e e' : TraceError) → IsTraceRefused bytes past e → IsTraceRefused bytes past' e' → e ≢ errors.Memory → e' ≢ errors.Memory →
     (e ≡ e') × (past ≡ past')
 
 -- The text of a trace is refused only when out of memory.
 abbrev pub TracesAreNotRefused : Type 0
 TracesAreNotRefused =
-    (bytes : List ℕ) (past past' : List Event) (names : Names) (f : Finish) (e : TraceError) → IsTrace bytes past names f → IsRefused bytes past' e → e ≡ errors.Memory
+    (bytes : List ℕ) (past past' : List Event) (names : Names) (f : Finish) (e : TraceError) → IsTrace bytes past names f → IsTraceRefused bytes past' e → e ≡ errors.Memory
 
 -- the earlier past is a beginning of the later one
 abbrev pub IsEarlier : List Event → List Event → Type 0
@@ -35,4 +35,4 @@ BeginningsAreRead =
 
 abbrev pub BeginningsAreReadBeforeRefusals : Type 0
 BeginningsAreReadBeforeRefusals =
-    (bytes : List ℕ) (past past' : List Event) (e : TraceError) → Begins bytes past → IsRefused bytes past' e → e ≢ errors.Memory → IsEarlier past past'
+    (bytes : List ℕ) (past past' : List Event) (e : TraceError) → Begins bytes past → IsTraceRefused bytes past' e → e ≢ errors.Memory → IsEarlier past past'

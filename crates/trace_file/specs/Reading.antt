@@ -79,12 +79,12 @@ pub record Begins (bytes : List ℕ) (past : List Event) : Type 0 where
 
 -- The bytes are refused so, and these are the events of the records before the first that fails. When out of memory they
 -- are those of some records before it.
-abbrev pub IsRefused : List ℕ → List Event → TraceError → Type 0
-IsRefused bytes past errors.Magic = ((more rest : List ℕ) → bytes ++ more ≢ magic ++ rest) × (past ≡ [])
-IsRefused bytes past (errors.Record at) = FailsForm bytes past at
-IsRefused bytes past (errors.Order at) = FailsOrder bytes past at
-IsRefused bytes past errors.Short = (IsInLine bytes × (past ≡ [])) ⊎ IsShort bytes past
-IsRefused bytes past errors.Memory = (past ≡ []) ⊎ Begins bytes past
+abbrev pub IsTraceRefused : List ℕ → List Event → TraceError → Type 0
+IsTraceRefused bytes past errors.Magic = ((more rest : List ℕ) → bytes ++ more ≢ magic ++ rest) × (past ≡ [])
+IsTraceRefused bytes past (errors.Record at) = FailsForm bytes past at
+IsTraceRefused bytes past (errors.Order at) = FailsOrder bytes past at
+IsTraceRefused bytes past errors.Short = (IsInLine bytes × (past ≡ [])) ⊎ IsShort bytes past
+IsTraceRefused bytes past errors.Memory = (past ≡ []) ⊎ Begins bytes past
 
 -- What a reader keeps: how many bytes of the first line it has read; the bytes of the record that is begun, and its place;
 -- what tells the order of the events; the names, how the run ended, and a refusal.
@@ -126,7 +126,7 @@ IsReading s bytes past = IsAtLine s bytes past ⊎ IsAtRecord s bytes past
 -- It has read these bytes, and these are the events that it appended: nothing fails so far, or it has refused them.
 abbrev pub HasReadBy : Option TraceError → ReaderState → List ℕ → List Event → Type 0
 HasReadBy None s bytes past = IsReading s bytes past
-HasReadBy (Some e) s bytes past = IsRefused bytes past e × (e ≢ errors.Short)
+HasReadBy (Some e) s bytes past = IsTraceRefused bytes past e × (e ≢ errors.Short)
 
 abbrev pub HasRead : ReaderState → List ℕ → List Event → Type 0
 HasRead s bytes past = HasReadBy s.refusal s bytes past

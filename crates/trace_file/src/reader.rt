@@ -7,7 +7,7 @@ ghost use Rattle.trace_model.specs.declared.event_kinds.Event.{Event};
 ghost use Rattle.trace_file.specs.declared.records.Record.TheVariants.{OfEvent, OfName, OfFinish};
 ghost use Rattle.trace_file.specs.Records.{Fits};
 ghost use Rattle.std.specs.Vec.{vec_capacity};
-ghost use Rattle.trace_file.specs.Reading.{HasFed, HasRead, IsAtRecord, IsReading, IsRefused, MayFeed, RunsOutOfMemory};
+ghost use Rattle.trace_file.specs.Reading.{HasFed, HasRead, IsAtRecord, IsReading, IsTraceRefused, MayFeed, RunsOutOfMemory};
 ghost use Rattle.trace_file.specs.Private.Steps.{IsAdded, IsFed, IsInOrder, IsNotAdded, IsOpen, IsTaken, MayReadByte, said};
 ghost use Rattle.trace_file.specs.TraceText.{IsRising, IsTrace, magic};
 
@@ -311,7 +311,7 @@ impl TraceReader {
         ensures ok { (bytes : List ℕ) (past : List Event) → HasRead self bytes past
             → IfOk result (λ t. IsTrace bytes past t.names.items t.finish) }
         ensures err { (bytes : List ℕ) (past : List Event) → HasRead self bytes past
-            → IfErr result (λ e. IsRefused bytes past e) }
+            → IfErr result (λ e. IsTraceRefused bytes past e) }
         ensures memory { self.refusal ≡ None → IfErr result (λ e. e ≡ TraceError.Short) }
         ensures stays { (e : TraceError) → self.refusal ≡ Some e → result ≡ Err e }
         ensures short { self.refusal ≡ None → self.finish ≡ None → result ≡ Err TraceError.Short }

@@ -9,7 +9,7 @@ ghost use Rattle.trace_file.specs.Pieces.{AreNumbers, HasName, HasNameBody, IsBe
 ghost use Rattle.trace_file.specs.Private.Seen.{IsSeen};
 ghost use Rattle.trace_file.specs.declared.records.Record.TheVariants.{OfEvent, OfFinish};
 ghost use Rattle.trace_file.specs.Records.{AreInRanges, Fits, IsIn, form, head, kind_number, number_bytes, ranges, record_bytes, thread};
-ghost use Rattle.trace_file.specs.Private.Made.{IsLeastNumber, IsMade, IsSound, is_event};
+ghost use Rattle.trace_file.specs.Private.Made.{IsLeastNumber, IsMade, IsSoundRange, is_event};
 ghost use Rattle.std.specs.List.{flat_map, list_all};
 
 use crate::records::{Form, Range, Record};
@@ -183,7 +183,7 @@ fn behind_four(bytes: &[u8]) -> &[u8]
 /// The numbers in the ranges, of which there are at most three, and what stands behind them.
 fn read_numbers<'a>(bytes: &'a [u8], ranges: &[Range]) -> Result<([u32; 3], &'a [u8]), Stop>
     requires few { length ranges.now ≤ 3 }
-    requires sound { All IsSound ranges.now }
+    requires sound { All IsSoundRange ranges.now }
     ensures found { IfOk result (λ x. AreInRanges (take (length ranges.now) x.0) ranges.now
         × (bytes.now ≡ flat_map number_bytes (take (length ranges.now) x.0) ++ x.1.now)) }
     ensures stops { IfErr result (λ stop. Stops (AreNumbers ranges.now) bytes.now stop) }
@@ -202,7 +202,7 @@ fn read_numbers<'a>(bytes: &'a [u8], ranges: &[Range]) -> Result<([u32; 3], &'a 
 fn ranges(form: Form) -> &'static [Range]
     ensures value { result.now ≡ ranges form }
     ensures few { length result.now ≤ 3 }
-    ensures sound { All IsSound result.now }
+    ensures sound { All IsSoundRange result.now }
 {
     match form {
         Form::Step | Form::End => &[THREAD],

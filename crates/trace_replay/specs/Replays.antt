@@ -1,7 +1,7 @@
 -- What is made of a stored trace. A past is the list of its events, the newest first.
 use Rattle.std.specs.Prelude.{◌≡◌, ◌⊎◌, ℕ, Bool, List, Result, Ok, Err, None}
-use Rattle.run_profile.specs.Profile.{AreTotalsOf, IsProfileOf, Kept}
-use Rattle.trace_file.specs.Reading.{HasNext, HasRead, IsRefused, ReaderState}
+use Rattle.run_profile.specs.Profile.{AreTotalsOf, IsProfileOf, KeptRun}
+use Rattle.trace_file.specs.Reading.{HasNext, HasRead, IsTraceRefused, ReaderState}
 use Rattle.trace_file.specs.TraceText.{IsTrace}
 use Rattle.trace_file.specs.declared.errors.TraceError.{TraceError}
 use Rattle.trace_model.specs.declared.event_kinds.Event.{Event}
@@ -20,12 +20,12 @@ pub record IsReplayOf (most : ℕ) (bytes : List ℕ) (r : Replayed) : Type 0 wh
 -- how a replay ends: for a refusal, or out of memory, as the reader of traces
 abbrev pub Replays : ℕ → List ℕ → Result Replayed TraceError → Type 0
 Replays most bytes (Ok r) = IsReplayOf most bytes r
-Replays most bytes (Err e) = (past : List Event) × IsRefused bytes past e
+Replays most bytes (Err e) = (past : List Event) × IsTraceRefused bytes past e
 
 -- What goes on: the reader, the profile, and whether all events so far were taken.
 pub record Going : Type 0 where
   pub reader : ReaderState
-  pub profile : Kept
+  pub profile : KeptRun
   pub whole : Bool
 
 -- The bytes were read, and this is the profile of their events.

@@ -1,6 +1,6 @@
 //! Reading a stored trace into a profile.
 ghost use Rattle.std.specs.Prelude.{◌≡◌, ◌≤◌, ◌<◌, ◌+◌, ◌^◌, ◌++◌, [], List, ℕ, length, None, Some, Err, IfOk, OnOk, IfErr};
-ghost use Rattle.trace_file.specs.Reading.{IsRefused};
+ghost use Rattle.trace_file.specs.Reading.{IsTraceRefused};
 ghost use Rattle.trace_file.specs.declared.errors.TraceError.{TraceError};
 ghost use Rattle.trace_model.specs.declared.event_kinds.Event.{Event};
 ghost use Rattle.trace_replay.specs.Replays.{HasReplayed, IsBeforeRefusal, Replays};
@@ -70,7 +70,7 @@ impl<S: Lanes> TraceProfile<S> {
         ensures ok { (bytes : List ℕ) → HasReplayed S.MAX self.old bytes
             → OnOk result (HasReplayed S.MAX self.new (bytes ++ piece.now)) }
         ensures err { (bytes more : List ℕ) → HasReplayed S.MAX self.old bytes
-            → IfErr result (λ e. (past : List Event) × IsRefused (bytes ++ (piece.now ++ more)) past e) }
+            → IfErr result (λ e. (past : List Event) × IsTraceRefused (bytes ++ (piece.now ++ more)) past e) }
         ensures refused { (e : TraceError) → self.new.reader.refusal ≡ Some e → result ≡ Err e }
         ensures memory { (bytes : List ℕ) → HasReplayed S.MAX self.old bytes
             → self.old.reader.refusal ≡ None → result ≡ Err TraceError.Memory

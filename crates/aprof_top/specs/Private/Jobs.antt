@@ -51,13 +51,13 @@ ending_by (Ok verdict) = Decided verdict
 ending_by (Err ending) = ending
 
 -- The guest can't begin.
-abbrev pub IsRefused : Option SetupError → Type 0
-IsRefused None = ⊥
-IsRefused (Some why) = Unit {0}
+abbrev pub IsSetupRefused : Option SetupError → Type 0
+IsSetupRefused None = ⊥
+IsSetupRefused (Some why) = Unit {0}
 
 -- How the run of an executable stops before its end: its guest can't begin, a put failed, or memory ran out.
 abbrev pub RunStops : Option SetupError → ObservedRun → Sinks → Sinks → Ending → Type 0
-RunStops setup run before after (Decided verdict) = (verdict ≡ TooLarge) × IsRefused setup × (after ≡ before)
+RunStops setup run before after (Decided verdict) = (verdict ≡ TooLarge) × IsSetupRefused setup × (after ≡ before)
 RunStops setup run before after (CannotRead source) = ⊥
 RunStops setup run before after CannotWrite = (setup ≡ None) × StopsAtPut channel.Out run.moves before after
 RunStops setup run before after CannotPut = (setup ≡ None) × StopsAtPut channel.Err run.moves before after

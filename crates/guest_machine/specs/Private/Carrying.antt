@@ -8,14 +8,14 @@ use Rattle.guest_machine.specs.declared.stepped.Advanced.{Advanced}
 use Rattle.guest_machine.specs.declared.stepped.Stepped.TheVariants.{Went}
 use Rattle.guest_machine.specs.Machine.{MachineState, can_run, later}
 use Rattle.guest_machine.specs.Running.{AllGoOn, MayTakeSteps, after_steps, events_of_steps}
-use Rattle.guest_machine.specs.Sound.{IsSound}
+use Rattle.guest_machine.specs.Sound.{IsSoundMachine}
 use Rattle.guest_machine.specs.Told.{done_by}
 use Rattle.guest_machine.specs.Step.{StepResult, exec_state_of, step, with_exec_state}
 
 -- It is what a thread of a sound machine, which can run, works on.
 pub record IsStateOf (c : ExecState) (tid : ℕ) (m : MachineState) : Type 0 where
   pub state : exec_state_of m tid ≡ c
-  pub sound : IsSound m
+  pub sound : IsSoundMachine m
   pub able : can_run m tid ≡ true
 
 -- the machine `n` steps later, whose thread has this state

@@ -9,7 +9,7 @@ use Rattle.trace_model.specs.Profile.{steps}
 use Rattle.trace_model.specs.WellFormed.{IsWellFormed}
 use Rattle.thread_sched.specs.TurnRule.{SchedulerState}
 use Rattle.guest_machine.specs.Kept.{Parts, machine_of}
-use Rattle.guest_machine.specs.Laws.{IsWithinLimits, StandsFor}
+use Rattle.guest_machine.specs.Laws.{IsWithinLimits, MachineStandsFor}
 use Rattle.guest_machine.specs.Machine.{MachineState}
 use Rattle.guest_machine.specs.Running.{after_steps}
 use Rattle.guest_run.specs.declared.run.Runner.{Runner}
@@ -36,7 +36,7 @@ Leads start moves at = (n : ℕ) → run_from guest (length moves + n) start ≡
 
 -- The past is one of the machine: its threads are those that live after it, it is well formed, and each of its parts is short.
 pub record IsPastOf (past : List Event) (m : MachineState) : Type 0 where
-  pub threads : StandsFor m past
+  pub threads : MachineStandsFor m past
   pub limits : IsWithinLimits m
   pub formed : IsWellFormed past
   pub short : All IsShort (parts past)

@@ -8,7 +8,7 @@ use Rattle.trace_file.specs.declared.records.Record.{Record}
 use Rattle.trace_file.specs.Records.{Fits, form, name_bytes, numbers}
 
 -- the range has a number, and begins at 0 or 1
-pub record IsSound (r : Range) : Type 0 where
+pub record IsSoundRange (r : Range) : Type 0 where
   pub least : r.least ≤ 1
   pub some : r.least ≤ r.most
 

@@ -7,7 +7,7 @@ use Rattle.trace_file.specs.declared.records.Record.{Record}
 use Rattle.trace_file.specs.declared.records.Record.TheVariants.{OfEvent}
 use Rattle.trace_file.specs.declared.errors.TraceError.{TraceError}
 use Rattle.trace_file.specs.declared.errors.TraceError.TheVariants as errors
-use Rattle.trace_file.specs.Reading.{IsOutOfOrder, IsRefused, ReaderState, told_by}
+use Rattle.trace_file.specs.Reading.{IsOutOfOrder, IsTraceRefused, ReaderState, told_by}
 use Rattle.trace_file.specs.TraceText.{IsTold, records}
 
 -- the events that a record says
@@ -48,7 +48,7 @@ pub record IsTaken (old new : ReaderState) (past : List Event) (r : Record) : Ty
 -- It goes on, or it has refused.
 abbrev pub GoesOnOr : (ReaderState → List ℕ → List Event → Type 0) → ReaderState → List ℕ → List Event → Result (Unit {0}) TraceError → Type 0
 GoesOnOr At s bytes past (Ok u) = At s bytes past
-GoesOnOr At s bytes past (Err e) = IsRefused bytes past e × (e ≢ errors.Short)
+GoesOnOr At s bytes past (Err e) = IsTraceRefused bytes past e × (e ≢ errors.Short)
 
 -- It has read more bytes, and appended events.
 pub record IsFed (At After : ReaderState → List ℕ → List Event → Type 0) (old new : ReaderState) (piece : List ℕ) (es es' : List Event) (result : Result (Unit {0}) TraceError) : Type 0 where

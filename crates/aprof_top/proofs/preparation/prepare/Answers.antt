@@ -3,7 +3,7 @@ use Rattle.std.proofs.lemmas.Result.{err_from_is_err_and}
 use Rattle.command_line.specs.Read.{guest_in}
 use Rattle.elf_image.specs.Reading.{image_of}
 use Rattle.elf_image.specs.Tests.{first_refusal}
-use Rattle.thread_sched.specs.ScheduleText.{IsRefused, IsText}
+use Rattle.thread_sched.specs.ScheduleText.{IsScheduleRefused, IsText}
 use Rattle.aprof_top.proofs.Preparations.{image_refused, schedule_refused}
 use Rattle.aprof_top.proofs.preparation.prepare.Goals as goal
 
@@ -27,7 +27,7 @@ returns-in_err-schedule g c =
     rw (p.1, p.2) (schedule_refused (guest_in c.args.guest.now) (g.F.Files.state c.args.files.now) (g.F.Files.state c.load.new.files) all.files
     (record { are = all.are; all = all.all })
     (ap first_refusal (sym (c.as_slice.ensures.value ∙ all.keeps.image)) ∙ c.in_ok-image.ensures.accepted) c.in_err-schedule.field-0.0
-    (subst (λ text. IsRefused text c.in_err-schedule.field-0.0) (c.as_slice-2.ensures.value ∙ all.keeps.schedule) c.in_err-schedule.ensures.refused))
+    (subst (λ text. IsScheduleRefused text c.in_err-schedule.field-0.0) (c.as_slice-2.ensures.value ∙ all.keeps.schedule) c.in_err-schedule.ensures.refused))
 
 pub returns : goal.returns
 returns g c =

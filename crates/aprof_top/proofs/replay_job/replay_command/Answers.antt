@@ -1,7 +1,7 @@
 use Rattle.std.proofs.Common.{refl, subst}
 use Rattle.std.proofs.lemmas.Result.{err_from_is_err_and}
 use Rattle.command_line.specs.Read.{replay_in}
-use Rattle.trace_file.specs.Reading.{IsRefused}
+use Rattle.trace_file.specs.Reading.{IsTraceRefused}
 use Rattle.stamps.specs.Widths.{greatest}
 use Rattle.trace_replay.specs.Replays.{IsReplayOf}
 use Rattle.aprof_top.specs.Outcome.{replay_outcome}
@@ -20,7 +20,7 @@ returns-in_err-replayed g c = λ out.
     let refused = c.in_err-replayed.ensures in
     rw (p.1, p.2) (AskedEnds-refused (replay_in c.args.command.now) (g.F.Files.state c.args.files.now) (g.F.Files.state c.load_trace.new.files) out (g.E.Sink.state c.args.err.now)
     c.in_ok-bytes.bytes.items c.in_ok-bytes.ensures refused.0 c.in_err-replayed.field-0.0
-    (subst (λ bytes. IsRefused bytes refused.0 c.in_err-replayed.field-0.0) c.as_slice.ensures.value refused.1))
+    (subst (λ bytes. IsTraceRefused bytes refused.0 c.in_err-replayed.field-0.0) c.as_slice.ensures.value refused.1))
 
 pub deliver_replay-requires : goal.deliver_replay-requires
 deliver_replay-requires g c = (c.as_slice.result.now, c.in_ok-replayed.ensures)

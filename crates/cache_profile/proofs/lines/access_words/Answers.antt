@@ -1,7 +1,7 @@
 use Rattle.std.proofs.Common.{◌+◌, ◌-◌, ◌*◌, ◌/◌, ◌++◌, length, reverse, ap, sym, ◌∙◌, subst}
 use Rattle.std.specs.List.{count_by}
 use Rattle.std.proofs.lemmas.List.FromFn.{length-range_with_len}
-use Rattle.cache_lines.specs.Kept.{StandsFor}
+use Rattle.cache_lines.specs.Kept.{CacheStandsFor}
 use Rattle.cache_profile.specs.LineAccesses.{missed}
 use Rattle.cache_profile.proofs.InRow.{covered}
 use Rattle.cache_profile.proofs.lines.access_words.Goals as goal
@@ -28,4 +28,4 @@ returns-clause-after c = λ earlier stands.
     let is = covered shape c.line_of-first_line.ensures.wide c.args.first c.args.count c.line_of-first_line.result c.line_of-last_line.result c.requires.0
     (c.line_of-first_line.ensures.line ∙ ap (λ n. 4 * n / shape.line) c.number-first.ensures.same)
     (c.line_of-last_line.ensures.line ∙ ap (λ n. 4 * (n + (c.args.count - 1)) / shape.line) c.number-first.ensures.same) in
-    subst (λ lines. StandsFor c.access_lines-misses.new.cache (reverse lines ++ earlier)) is (c.access_lines-misses.ensures.after earlier stands)
+    subst (λ lines. CacheStandsFor c.access_lines-misses.new.cache (reverse lines ++ earlier)) is (c.access_lines-misses.ensures.after earlier stands)

@@ -4,7 +4,7 @@ use Rattle.std.specs.declared.alloc.Global.{Global}
 use Rattle.std.specs.List.{flat_map}
 use Rattle.trace_model.specs.declared.event_kinds.Event.{Event}
 use Rattle.context_tree.specs.Order.{IsInOrder}
-use Rattle.context_tree.specs.Trees.{StandsFor}
+use Rattle.context_tree.specs.Trees.{TreeStandsFor}
 use Rattle.std.proofs.lemmas.List.{append-nil, take_all}
 use Rattle.context_tree.specs.Contexts.{contexts}
 use Rattle.context_tree.specs.Numbers.{numbered}
@@ -26,7 +26,7 @@ pub loop-preserved : goal.loop-preserved
 loop-preserved c = elim c.match-next.branch [
   | in-Some+in_ok-push_context w ↦
       let n = w.in-Some.n in
-      let here : (past : List Event) (ordered : List (List ℕ)) → StandsFor c.args.tree.now past → IsInOrder (contexts past) ordered → c.loop.counter < length ordered →
+      let here : (past : List Event) (ordered : List (List ℕ)) → TreeStandsFor c.args.tree.now past → IsInOrder (contexts past) ordered → c.loop.counter < length ordered →
       numbered (contexts past) w.in-Some.n ≡ get_or ordered c.loop.counter [] =
       λ past ordered stands in_order lt. same_context (contexts past) ordered c.loop.counter c.loop.next w.in-Some.n w.in-Some.is (c.loop.invariant.at past ordered stands in_order lt)
       in

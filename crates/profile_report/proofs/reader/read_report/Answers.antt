@@ -4,7 +4,7 @@ use Rattle.std.proofs.lemmas.List.{length-append}
 use Rattle.std.proofs.lemmas.Result.{IfErr-weaker, IfOk-weaker, MatchResult-from_both, err_from_is_err_and}
 use Rattle.profile_report.specs.declared.parse_state.ParseState.TheVariants.{Over}
 use Rattle.profile_report.specs.declared.reader.ReportError.TheVariants as errors
-use Rattle.profile_report.specs.Reading.{IsRefused}
+use Rattle.profile_report.specs.Reading.{IsReportRefused}
 use Rattle.profile_report.specs.ReportText.{report_text}
 use Rattle.profile_report.specs.Valid.{IsValid}
 use Rattle.profile_report.proofs.Behind.{allowed, allowed_rest, behind_all, behind_more, behind_next, over_one, refused_line}
@@ -24,7 +24,7 @@ pub returns-in_err-state-clause-refused : goal.returns-in_err-state-clause-refus
 returns-in_err-state-clause-refused c =
     let given = err_from_is_err_and c.from_residual.result c.from_residual.ensures.1 in
     let refused = refused_line _ _ _ _ _ _ _ c.loop-line.invariant.behind c.in-Some.ensures.parts.0 c.in-Some.ensures.parts.1 c.in_err-state.ensures.err in
-    subst (λ r. IfErr r (λ e. IsRefused c.args.text.now e)) (sym given.1) (subst (λ e. IsRefused c.args.text.now e) (sym given.2) refused)
+    subst (λ r. IfErr r (λ e. IsReportRefused c.args.text.now e)) (sym given.1) (subst (λ e. IsReportRefused c.args.text.now e) (sym given.2) refused)
 
 pub returns-in_err-state-clause-only : goal.returns-in_err-state-clause-only
 returns-in_err-state-clause-only c r valid is =

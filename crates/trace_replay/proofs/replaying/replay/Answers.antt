@@ -1,7 +1,7 @@
 use Rattle.std.proofs.Common.{◌≡◌, ◌++◌, [], ap, ap₂, subst, sym, ◌∙◌, append_assoc}
 use Rattle.std.proofs.lemmas.List.{append-nil, take-append-drop}
 use Rattle.std.proofs.lemmas.Result.{err_from_is_err_and}
-use Rattle.trace_file.specs.Reading.{IsRefused}
+use Rattle.trace_file.specs.Reading.{IsTraceRefused}
 use Rattle.trace_replay.specs.Replays.{Replays}
 use Rattle.trace_replay.proofs.Cuts.{empty_of}
 use Rattle.trace_replay.proofs.replaying.replay.Goals as goal
@@ -14,7 +14,7 @@ returns-in_err-feed g c =
     let back = c.split_at.result.1.now in
     let joined = ap₂ ◌++◌ c.split_at.ensures.front c.split_at.ensures.back ∙ take-append-drop c.min.result c.loop-rest.rest.now in
     let refused = c.in_err-feed.ensures.err inv.0 back inv.2 in
-    rw (p.1, p.2) (refused.0, subst (λ bs. IsRefused bs refused.0 c.in_err-feed.field-0.0) (ap (λ rest. inv.0 ++ rest) joined ∙ inv.1) refused.1)
+    rw (p.1, p.2) (refused.0, subst (λ bs. IsTraceRefused bs refused.0 c.in_err-feed.field-0.0) (ap (λ rest. inv.0 ++ rest) joined ∙ inv.1) refused.1)
 
 pub loop-rest-preserved : goal.loop-rest-preserved
 loop-rest-preserved g c =

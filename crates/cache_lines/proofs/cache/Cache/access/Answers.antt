@@ -3,7 +3,7 @@ use Rattle.std.specs.Prelude.{slice_set}
 use Rattle.std.proofs.lemmas.List.{with_items_is}
 use Rattle.cache_lines.specs.Shapes.{Form}
 use Rattle.cache_lines.specs.Held.{Held}
-use Rattle.cache_lines.specs.Kept.{StandsFor}
+use Rattle.cache_lines.specs.Kept.{CacheStandsFor}
 use Rattle.cache_lines.specs.Misses.{misses}
 use Rattle.cache_lines.proofs.Rows.{length-written, written}
 use Rattle.cache_lines.proofs.Stands.{held, ready_is, access_misses, access_stands, row-length}
@@ -20,8 +20,8 @@ returns-clause-misses c = λ accesses stands.
     let places_are = c.deref_mut.ensures.value in
     let ready = ready_is c.self.inside.shape c.self.inside.used.items c.deref_mut.result.now c.args.line u s w (ap (λ (f : Form). f.sets) c.shape.view_is) (ap (λ (f : Form). f.ways) c.shape.view_is)
     c.self.invariant.shape c.index_mut-used.ensures.value c.self.invariant.all c.self.invariant.few (ap length places_are ∙ c.self.invariant.places) in
-    let before : StandsFor (held c.self.inside.shape c.self.inside.used.items c.deref_mut.result.now) accesses =
-    subst (λ ps. StandsFor (held c.self.inside.shape c.self.inside.used.items ps) accesses) (sym places_are) (subst (λ cache. StandsFor cache accesses) (sym c.self.view_is) stands) in
+    let before : CacheStandsFor (held c.self.inside.shape c.self.inside.used.items c.deref_mut.result.now) accesses =
+    subst (λ ps. CacheStandsFor (held c.self.inside.shape c.self.inside.used.items ps) accesses) (sym places_are) (subst (λ cache. CacheStandsFor cache accesses) (sym c.self.view_is) stands) in
     access_misses c.self.inside.shape c.self.inside.used.items c.deref_mut.result.now c.args.line (w * (c.args.line % s)) (w * (c.args.line % s) + w - w * (c.args.line % s)) u ready accesses c.touch.result before c.touch.ensures.missed
     ∙ ap (λ (cache : Held). misses cache.shape accesses c.args.line) c.self.view_is
 
@@ -36,8 +36,8 @@ returns-clause-after c = λ accesses stands.
     let row = c.touch.new.places in
     let ready = ready_is c.self.inside.shape c.self.inside.used.items c.deref_mut.result.now c.args.line u s w (ap (λ (f : Form). f.sets) c.shape.view_is) (ap (λ (f : Form). f.ways) c.shape.view_is)
     c.self.invariant.shape c.index_mut-used.ensures.value c.self.invariant.all c.self.invariant.few (ap length places_are ∙ c.self.invariant.places) in
-    let before : StandsFor (held c.self.inside.shape c.self.inside.used.items c.deref_mut.result.now) accesses =
-    subst (λ ps. StandsFor (held c.self.inside.shape c.self.inside.used.items ps) accesses) (sym places_are) (subst (λ cache. StandsFor cache accesses) (sym c.self.view_is) stands) in
+    let before : CacheStandsFor (held c.self.inside.shape c.self.inside.used.items c.deref_mut.result.now) accesses =
+    subst (λ ps. CacheStandsFor (held c.self.inside.shape c.self.inside.used.items ps) accesses) (sym places_are) (subst (λ cache. CacheStandsFor cache accesses) (sym c.self.view_is) stands) in
     let long : length row ≡ k = c.touch.ensures.len ∙ row-length c.self.inside.shape c.self.inside.used.items c.deref_mut.result.now c.args.line at k u ready in
     let whole : length (written at k c.deref_mut.result.now row) ≡ c.self.inside.places.len =
     length-written at k c.deref_mut.result.now row long ready.inside ∙ ap length places_are ∙ sym c.self.inside.places.ok.0 in

@@ -8,7 +8,7 @@ use Rattle.cost_points.specs.Keys.{IsRising}
 use Rattle.cache_profile.specs.declared.routines.RoutineMisses.{RoutineMisses}
 use Rattle.cache_profile.specs.Private.Added.{HasRoom}
 use Rattle.cache_profile.specs.ByRoutine.{accesses_of, all_accesses}
-use Rattle.cache_profile.specs.Profile.{Kept, MayCome, StandsFor}
+use Rattle.cache_profile.specs.Profile.{KeptMisses, MayCome, MissesStandFor}
 use Rattle.cache_profile.proofs.Bounds.{have_room}
 use Rattle.cache_profile.proofs.Following.{after_access, are_counted, formed_next, of_some}
 use Rattle.cache_profile.proofs.Groups.{entries_rise}
@@ -28,9 +28,9 @@ add-self-inside-requires-clause-room g c =
 
 pub returns-clause-stands : goal.returns-clause-stands
 returns-clause-stands g c = λ past stands.
-    let s = subst (λ (k : Kept). StandsFor g.K.Shaped.shape k past) (sym c.self.view_is) stands in
+    let s = subst (λ (k : KeptMisses). MissesStandFor g.K.Shaped.shape k past) (sym c.self.view_is) stands in
     let shape = g.K.Shaped.shape in
-    let may = subst (λ (k : Kept). MayCome k c.args.e.now) (sym c.self.view_is) c.requires.may in
+    let may = subst (λ (k : KeptMisses). MayCome k c.args.e.now) (sym c.self.view_is) c.requires.may in
     let are = are_counted g.K.Shaped.shape past c.args.tid c.args.first c.args.count c.self.inside.cache c.running-entry.result c.access_words-event.result.accesses c.access_words-event.result.misses
     s.shape_is s.cache (c.running-entry.ensures past s.calls) c.access_words-event.ensures.some c.access_words-event.ensures.accesses c.access_words-event.ensures.misses in
     after_access g.K.Shaped.shape past c.args.tid c.args.first c.args.count _ _ s c.access_words-event.ensures.shape c.access_words-event.ensures.after refl refl
@@ -40,7 +40,7 @@ returns-clause-stands g c = λ past stands.
 pub invariant_of-self-2 : goal.invariant_of-self-2
 invariant_of-self-2 g c = of_some g.K.Shaped.shape _ _ c.args.e.now c.self.invariant (λ past s.
     let shape = g.K.Shaped.shape in
-    let may = subst (λ (k : Kept). MayCome k c.args.e.now) (sym c.self.view_is) c.requires.may in
+    let may = subst (λ (k : KeptMisses). MayCome k c.args.e.now) (sym c.self.view_is) c.requires.may in
     let are = are_counted g.K.Shaped.shape past c.args.tid c.args.first c.args.count c.self.inside.cache c.running-entry.result c.access_words-event.result.accesses c.access_words-event.result.misses
     s.shape_is s.cache (c.running-entry.ensures past s.calls) c.access_words-event.ensures.some c.access_words-event.ensures.accesses c.access_words-event.ensures.misses in
     after_access g.K.Shaped.shape past c.args.tid c.args.first c.args.count _ _ s c.access_words-event.ensures.shape c.access_words-event.ensures.after refl refl

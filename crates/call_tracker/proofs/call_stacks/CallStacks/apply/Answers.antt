@@ -5,7 +5,7 @@ use Rattle.trace_model.specs.declared.event_kinds.Event.{Event}
 use Rattle.trace_model.specs.Depth.{count_ended}
 use Rattle.trace_model.specs.Events.{thread_of}
 use Rattle.trace_model.specs.WellFormed.{MayFollow}
-use Rattle.call_tracker.specs.CallStacks.{StandsFor}
+use Rattle.call_tracker.specs.CallStacks.{StacksStandFor}
 use Rattle.call_tracker.proofs.Followed.{above_all, ended-return, few_calls, few_pending, running_kept, stands-call, stands-end, stands-return, stands-start}
 use Rattle.call_tracker.proofs.call_stacks.CallStacks.apply.Goals as goal
 
@@ -35,14 +35,14 @@ end-requires c = record { few = ∥∥₁_elim c.requires (hlevel props) (λ may
 
 pub returns-in_ok-start-in-Start-clause-stands : goal.returns-in_ok-start-in-Start-clause-stands
 returns-in_ok-start-in-Start-clause-stands c = λ past stands.
-    subst (λ (e : Event). StandsFor c.start.new.self (e ∷ past)) (sym c.in-Start.is)
+    subst (λ (e : Event). StacksStandFor c.start.new.self (e ∷ past)) (sym c.in-Start.is)
     (stands-start c.args.self.now c.start.new.self past c.in-Start.tid c.in-Start.entry c.in_ok-start-in-Start.ensures.threads c.in_ok-start-in-Start.ensures.pending
     (∥∥₁_elim c.requires (hlevel props)
     (λ may. above_all c.args.self.now may.past c.in-Start.tid c.in-Start.entry (subst (λ (e : Event). MayFollow e may.past) c.in-Start.is may.formed.0) may.now)) stands)
 
 pub returns-in_ok-call-in-Call-clause-stands : goal.returns-in_ok-call-in-Call-clause-stands
 returns-in_ok-call-in-Call-clause-stands c = λ past stands.
-    subst (λ (e : Event). StandsFor c.call.new.self (e ∷ past)) (sym c.in-Call.is)
+    subst (λ (e : Event). StacksStandFor c.call.new.self (e ∷ past)) (sym c.in-Call.is)
     (stands-call c.args.self.now c.call.new.self past c.in-Call.tid c.in-Call.entry c.in-Call.back
     (∥∥₁_elim c.requires (hlevel props)
     (λ may. running_kept c.args.self.now may.past c.in-Call.tid (subst (λ (e : Event). MayFollow e may.past) c.in-Call.is may.formed.0) may.now))
@@ -50,7 +50,7 @@ returns-in_ok-call-in-Call-clause-stands c = λ past stands.
 
 pub returns-in-Ret-clause-stands : goal.returns-in-Ret-clause-stands
 returns-in-Ret-clause-stands c = λ past stands.
-    subst (λ (e : Event). StandsFor c.return_to.new.self (e ∷ past)) (sym c.in-Ret.is)
+    subst (λ (e : Event). StacksStandFor c.return_to.new.self (e ∷ past)) (sym c.in-Ret.is)
     (stands-return c.args.self.now c.return_to.new.self past c.in-Ret.tid c.in-Ret.target c.return_to.result
     (∥∥₁_elim c.requires (hlevel props)
     (λ may. running_kept c.args.self.now may.past c.in-Ret.tid (subst (λ (e : Event). MayFollow e may.past) c.in-Ret.is may.formed.0) may.now))
@@ -63,5 +63,5 @@ returns-in-Ret-clause-ended c = λ past stands.
 
 pub returns-in-End-clause-stands : goal.returns-in-End-clause-stands
 returns-in-End-clause-stands c = λ past stands.
-    subst (λ (e : Event). StandsFor c.end.new.self (e ∷ past)) (sym c.in-End.is)
+    subst (λ (e : Event). StacksStandFor c.end.new.self (e ∷ past)) (sym c.in-End.is)
     (stands-end c.args.self.now c.end.new.self past c.in-End.tid c.end.result c.end.ensures.count c.end.ensures.threads c.end.ensures.pending stands)

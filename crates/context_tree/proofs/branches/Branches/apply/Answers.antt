@@ -1,7 +1,7 @@
 use Rattle.std.proofs.Common.{◌∙◌, ◌∷◌, sym, ap, subst}
 use Rattle.trace_model.specs.declared.event_kinds.Event.{Event}
 use Rattle.trace_model.specs.Profile.{ended}
-use Rattle.context_tree.specs.Branches.{StandsFor}
+use Rattle.context_tree.specs.Branches.{BranchesStandFor}
 use Rattle.context_tree.specs.Private.Taking.{Takes}
 use Rattle.context_tree.specs.Trees.{HasTooMany}
 use Rattle.context_tree.proofs.branches.Branches.apply.Goals as goal
@@ -32,5 +32,5 @@ returns-in-Call-clause-only_memory c = λ past stands many. c.call.ensures.only_
 
 pub returns-in_ok-return_from-in-Ret-clause-stands : goal.returns-in_ok-return_from-in-Ret-clause-stands
 returns-in_ok-return_from-in-Ret-clause-stands c = λ past stands are.
-    subst (λ (e : Event). StandsFor c.return_from.new.self (e ∷ past)) (sym c.in-Ret.is)
+    subst (λ (e : Event). BranchesStandFor c.return_from.new.self (e ∷ past)) (sym c.in-Ret.is)
     (c.in_ok-return_from-in-Ret.ensures.stands past c.in-Ret.target stands (are ∙ ap (λ (e : Event). ended e past) c.in-Ret.is))

@@ -4,7 +4,7 @@ use Rattle.context_tree.specs.declared.order.Links.{Links}
 use Rattle.context_tree.specs.Contexts.{contexts}
 use Rattle.context_tree.specs.Links.{links_at, no_links}
 use Rattle.context_tree.specs.Numbers.{numbered}
-use Rattle.context_tree.specs.Branches.{Kept, StandsFor}
+use Rattle.context_tree.specs.Branches.{KeptBranches, BranchesStandFor}
 use Rattle.context_tree.specs.Ways.{PointList, lists}
 use Rattle.context_tree.proofs.Climbing.{there_is}
 use Rattle.context_tree.proofs.Following.{as_many, points_at}
@@ -13,7 +13,7 @@ use Rattle.context_tree.proofs.branches.Branches.at.Goals as goal
 
 pub returns : goal.returns
 returns c = λ past stands.
-    let s = subst (λ (k : Kept). StandsFor k past) (sym c.self.view_is) stands in
+    let s = subst (λ (k : KeptBranches). BranchesStandFor k past) (sym c.self.view_is) stands in
     let many = as_many _ past s in
     let within : c.args.n ≤ length (contexts past) = omega (arith, c.requires.within, stands.contexts_are.long) in
     let in_links : c.args.n < length c.self.inside.links.items = omega (arith, within, s.links_are.long, s.contexts_are.long) in

@@ -3,13 +3,13 @@ use Rattle.std.proofs.lemmas.List.{get_or_default}
 use Rattle.context_tree.specs.declared.order.Links.{Links}
 use Rattle.context_tree.specs.Contexts.{contexts}
 use Rattle.context_tree.specs.Links.{IsNextUnder, links_at, no_links}
-use Rattle.context_tree.specs.Branches.{Kept, StandsFor}
+use Rattle.context_tree.specs.Branches.{KeptBranches, BranchesStandFor}
 use Rattle.context_tree.proofs.Ordering.{follows_child, follows_others}
 use Rattle.context_tree.proofs.branches.Branches.next_in_order.Goals as goal
 
 pub returns-in-Some : goal.returns-in-Some
 returns-in-Some c = λ past stands.
-    let s = subst (λ (k : Kept). StandsFor k past) (sym c.self.view_is) stands in
+    let s = subst (λ (k : KeptBranches). BranchesStandFor k past) (sym c.self.view_is) stands in
     let within : c.args.n ≤ length (contexts past) = omega (arith, c.requires.within, stands.contexts_are.long) in
     let in_links : c.args.n < length c.self.inside.links.items = omega (arith, within, s.links_are.long, s.contexts_are.long) in
     let links_is : c.index.result.now ≡ links_at c.self.inside.links.items c.args.n =
@@ -20,7 +20,7 @@ returns-in-Some c = λ past stands.
 
 pub returns-in-None : goal.returns-in-None
 returns-in-None c = λ past stands.
-    let s = subst (λ (k : Kept). StandsFor k past) (sym c.self.view_is) stands in
+    let s = subst (λ (k : KeptBranches). BranchesStandFor k past) (sym c.self.view_is) stands in
     let within : c.args.n ≤ length (contexts past) = omega (arith, c.requires.within, stands.contexts_are.long) in
     let in_links : c.args.n < length c.self.inside.links.items = omega (arith, within, s.links_are.long, s.contexts_are.long) in
     let links_is : c.index.result.now ≡ links_at c.self.inside.links.items c.args.n =

@@ -6,7 +6,7 @@ use Rattle.std.proofs.Props.{props}
 use Rattle.context_tree.specs.Contexts.{contexts}
 use Rattle.context_tree.specs.Numbers.{numbered}
 use Rattle.context_tree.specs.Points.{done_in_context, members_of}
-use Rattle.context_tree.specs.Branches.{Kept, StandsFor}
+use Rattle.context_tree.specs.Branches.{KeptBranches, BranchesStandFor}
 use Rattle.context_tree.specs.Ways.{PointList, lists}
 use Rattle.context_tree.proofs.Climbing.{there_is}
 use Rattle.context_tree.proofs.Following.{as_many}
@@ -16,12 +16,12 @@ use Rattle.context_tree.proofs.branches.Branches.totals.Goals as goal
 
 pub index-requires : goal.index-requires
 index-requires c = ∥∥₁_elim c.requires (hlevel props) (λ of.
-    let s = subst (λ (k : Kept). StandsFor k of.past) (sym c.self.view_is) of.now in
+    let s = subst (λ (k : KeptBranches). BranchesStandFor k of.past) (sym c.self.view_is) of.now in
     omega (arith, c.loop-i-test.true, c.len-i-end.ensures.value, as_many _ of.past s, length-map c.self.inside.points.items (λ (p : PointList). p.points)))
 
 pub add_points-requires-clause-told : goal.add_points-requires-clause-told
 add_points-requires-clause-told c = ∥∥₁_elim c.requires (hlevel props) (λ of.
-    let s = subst (λ (k : Kept). StandsFor k of.past) (sym c.self.view_is) of.now in
+    let s = subst (λ (k : KeptBranches). BranchesStandFor k of.past) (sym c.self.view_is) of.now in
     let inside : c.loop-i.i < length c.self.inside.points.items = omega (arith, c.loop-i-test.true, c.len-i-end.ensures.value, as_many _ of.past s, length-map c.self.inside.points.items (λ (p : PointList). p.points)) in
     let lt : c.loop-i.i < length (contexts of.past) = omega (arith, c.loop-i-test.true, c.len-i-end.ensures.value, s.contexts_are.long) in
     let read : c.deref.result.now ≡ get_or (lists c.self.inside.points.items) c.loop-i.i [] =
@@ -31,7 +31,7 @@ add_points-requires-clause-told c = ∥∥₁_elim c.requires (hlevel props) (λ
 
 pub add_points-requires-clause-each : goal.add_points-requires-clause-each
 add_points-requires-clause-each c = ∥∥₁_elim c.requires (hlevel (props, point_once)) (λ of.
-    let s = subst (λ (k : Kept). StandsFor k of.past) (sym c.self.view_is) of.now in
+    let s = subst (λ (k : KeptBranches). BranchesStandFor k of.past) (sym c.self.view_is) of.now in
     let inside : c.loop-i.i < length c.self.inside.points.items = omega (arith, c.loop-i-test.true, c.len-i-end.ensures.value, as_many _ of.past s, length-map c.self.inside.points.items (λ (p : PointList). p.points)) in
     let lt : c.loop-i.i < length (contexts of.past) = omega (arith, c.loop-i-test.true, c.len-i-end.ensures.value, s.contexts_are.long) in
     let read : c.deref.result.now ≡ get_or (lists c.self.inside.points.items) c.loop-i.i [] =
@@ -41,7 +41,7 @@ add_points-requires-clause-each c = ∥∥₁_elim c.requires (hlevel (props, po
 
 pub add_points-requires-clause-few : goal.add_points-requires-clause-few
 add_points-requires-clause-few c = ∥∥₁_elim c.requires (hlevel props) (λ of.
-    let s = subst (λ (k : Kept). StandsFor k of.past) (sym c.self.view_is) of.now in
+    let s = subst (λ (k : KeptBranches). BranchesStandFor k of.past) (sym c.self.view_is) of.now in
     let inside : c.loop-i.i < length c.self.inside.points.items = omega (arith, c.loop-i-test.true, c.len-i-end.ensures.value, as_many _ of.past s, length-map c.self.inside.points.items (λ (p : PointList). p.points)) in
     let lt : c.loop-i.i < length (contexts of.past) = omega (arith, c.loop-i-test.true, c.len-i-end.ensures.value, s.contexts_are.long) in
     let read : c.deref.result.now ≡ get_or (lists c.self.inside.points.items) c.loop-i.i [] =
@@ -51,7 +51,7 @@ add_points-requires-clause-few c = ∥∥₁_elim c.requires (hlevel props) (λ 
 
 pub loop-i-preserved : goal.loop-i-preserved
 loop-i-preserved c = λ past stands.
-    let s = subst (λ (k : Kept). StandsFor k past) (sym c.self.view_is) stands in
+    let s = subst (λ (k : KeptBranches). BranchesStandFor k past) (sym c.self.view_is) stands in
     let inside : c.loop-i.i < length c.self.inside.points.items = omega (arith, c.loop-i-test.true, c.len-i-end.ensures.value, as_many _ past s, length-map c.self.inside.points.items (λ (p : PointList). p.points)) in
     let lt : c.loop-i.i < length (contexts past) = omega (arith, c.loop-i-test.true, c.len-i-end.ensures.value, s.contexts_are.long) in
     let read : c.deref.result.now ≡ get_or (lists c.self.inside.points.items) c.loop-i.i [] =
@@ -65,6 +65,6 @@ loop-i-preserved c = λ past stands.
 
 pub returns : goal.returns
 returns c = λ past stands.
-    let s = subst (λ (k : Kept). StandsFor k past) (sym c.self.view_is) stands in
+    let s = subst (λ (k : KeptBranches). BranchesStandFor k past) (sym c.self.view_is) stands in
     let all : length (contexts past) ≤ c.loop-i.i = omega (arith, c.loop-i-test.false, c.len-i-end.ensures.value, s.contexts_are.long) in
     table_all _ past c.loop-i.i c.loop-i.table s all (c.loop-i.invariant past stands)

@@ -1,6 +1,6 @@
 use Rattle.std.proofs.Common.{◌≡◌, ◌≤◌, ℕ, List, length, Bool, true, false, ap, sym, ◌∙◌, subst, arith, not, refl}
 use Rattle.std.specs.List.{list_any}
-use Rattle.context_tree.specs.Numbers.{StandsFor, same_place}
+use Rattle.context_tree.specs.Numbers.{NumbersStandFor, same_place}
 use Rattle.context_tree.proofs.Numbering.{any_is}
 use Rattle.context_tree.proofs.numbers.ContextNumbers.is_beyond.Goals as goal
 
@@ -10,7 +10,7 @@ turned true is = absurd (cc)
 
 pub returns-then-len-ge-CONTEXTS-clause-yes : goal.returns-then-len-ge-CONTEXTS-clause-yes
 returns-then-len-ge-CONTEXTS-clause-yes c = λ contexts stands is.
-    let s = subst (λ (ps : List (ℕ × ℕ)). StandsFor ps contexts) (sym c.self.view_is) stands in
+    let s = subst (λ (ps : List (ℕ × ℕ)). NumbersStandFor ps contexts) (sym c.self.view_is) stands in
     let inside : c.args.above ≤ length contexts = omega (arith, c.requires, stands.long) in
     let agree = any_is c.self.inside.places.keys contexts s c.args.above c.args.entry inside in
     let there : c.contains.result ≡ list_any (same_place (c.args.above, c.args.entry)) c.self.inside.places.keys = c.contains.ensures in
@@ -21,7 +21,7 @@ returns-then-len-ge-CONTEXTS-clause-yes c = λ contexts stands is.
 
 pub returns-then-len-ge-CONTEXTS-clause-no : goal.returns-then-len-ge-CONTEXTS-clause-no
 returns-then-len-ge-CONTEXTS-clause-no c = λ contexts stands beyond.
-    let s = subst (λ (ps : List (ℕ × ℕ)). StandsFor ps contexts) (sym c.self.view_is) stands in
+    let s = subst (λ (ps : List (ℕ × ℕ)). NumbersStandFor ps contexts) (sym c.self.view_is) stands in
     let inside : c.args.above ≤ length contexts = omega (arith, c.requires, stands.long) in
     let agree = any_is c.self.inside.places.keys contexts s c.args.above c.args.entry inside in
     let there : c.contains.result ≡ list_any (same_place (c.args.above, c.args.entry)) c.self.inside.places.keys = c.contains.ensures in

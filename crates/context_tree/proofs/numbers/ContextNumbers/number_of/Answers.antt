@@ -2,7 +2,7 @@ use Rattle.std.proofs.Common.{rules, ◌≡◌, ◌≤◌, ◌<◌, ◌+◌, ℕ
 use Rattle.std.specs.List.{list_any}
 use Rattle.guest_words.specs.declared.limits.TheConstants.{CONTEXTS}
 use Rattle.context_tree.specs.Contexts.{with_context}
-use Rattle.context_tree.specs.Numbers.{IsNumberOf, StandsFor, numbered, same_place}
+use Rattle.context_tree.specs.Numbers.{IsNumberOf, NumbersStandFor, numbered, same_place}
 use Rattle.context_tree.proofs.Numbering.{any_is, if_err_is, if_ok_is, number_with, on_err_is, on_ok_is, stands_with, still_few}
 use Rattle.context_tree.proofs.numbers.ContextNumbers.number_of.Goals as goal
 use Rattle.context_tree.proofs.numbers.ContextNumbers.number_of.Goals.{in-Ok, in-Err}
@@ -24,7 +24,7 @@ overflow_cast-result c =
 
 pub returns-clause-stands : goal.returns-clause-stands
 returns-clause-stands c = λ contexts stands.
-    let s = subst (λ (ps : List (ℕ × ℕ)). StandsFor ps contexts) (sym c.self.view_is) stands in
+    let s = subst (λ (ps : List (ℕ × ℕ)). NumbersStandFor ps contexts) (sym c.self.view_is) stands in
     let inside : c.args.above ≤ length contexts = omega (arith, c.requires, stands.long) in
     elim c.match-insert_full.branch [
       | in-Ok w ↦
@@ -35,7 +35,7 @@ returns-clause-stands c = λ contexts stands.
 
 pub returns-clause-number : goal.returns-clause-number
 returns-clause-number c = λ contexts stands.
-    let s = subst (λ (ps : List (ℕ × ℕ)). StandsFor ps contexts) (sym c.self.view_is) stands in
+    let s = subst (λ (ps : List (ℕ × ℕ)). NumbersStandFor ps contexts) (sym c.self.view_is) stands in
     let inside : c.args.above ≤ length contexts = omega (arith, c.requires, stands.long) in
     elim c.match-insert_full.branch [
       | in-Ok w ↦
@@ -46,7 +46,7 @@ returns-clause-number c = λ contexts stands.
 
 pub returns-clause-only_memory : goal.returns-clause-only_memory
 returns-clause-only_memory c = λ contexts stands beyond.
-    let s = subst (λ (ps : List (ℕ × ℕ)). StandsFor ps contexts) (sym c.self.view_is) stands in
+    let s = subst (λ (ps : List (ℕ × ℕ)). NumbersStandFor ps contexts) (sym c.self.view_is) stands in
     let inside : c.args.above ≤ length contexts = omega (arith, c.requires, stands.long) in
     let agree = any_is c.self.inside.places.keys contexts s c.args.above c.args.entry inside in
     elim c.else-len-ge-CONTEXTS.branch [
@@ -60,7 +60,7 @@ returns-clause-only_memory c = λ contexts stands beyond.
 
 pub returns-then-not-contains-clause-too_many : goal.returns-then-not-contains-clause-too_many
 returns-then-not-contains-clause-too_many c = λ contexts stands is.
-    let s = subst (λ (ps : List (ℕ × ℕ)). StandsFor ps contexts) (sym c.self.view_is) stands in
+    let s = subst (λ (ps : List (ℕ × ℕ)). NumbersStandFor ps contexts) (sym c.self.view_is) stands in
     let inside : c.args.above ≤ length contexts = omega (arith, c.requires, stands.long) in
     let agree = any_is c.self.inside.places.keys contexts s c.args.above c.args.entry inside in
     let there : c.contains.result ≡ list_any (same_place (c.args.above, c.args.entry)) c.self.inside.places.keys = c.contains.ensures in

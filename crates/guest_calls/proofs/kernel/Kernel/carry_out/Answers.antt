@@ -1,7 +1,7 @@
 use Rattle.std.proofs.Common.{◌≡◌, ◌≢◌, arith, refl, ap, sym, subst, ◌∙◌}
 use Rattle.std.specs.Prelude.{IfOk}
 use Rattle.guest_calls.specs.declared.answer.Answer.{Answer}
-use Rattle.guest_calls.specs.Kernel.{KernelState, Kept}
+use Rattle.guest_calls.specs.Kernel.{KernelState, KeptKernel}
 use Rattle.guest_calls.specs.Outcome.{asked, Does, Gives}
 use Rattle.guest_calls.specs.Results.{Syscall, SyscallResult, number}
 use Rattle.guest_calls.specs.Table.{syscall, table}
@@ -46,7 +46,7 @@ returns-in_ok-answer-in_default-clause-syscall c =
     let answer : Answer = c.in_ok-answer-in_default.answer in
     let no_write : c.number.result ≢ 64 = λ e. omega arith in
     let no_writev : c.number.result ≢ 66 = λ e. omega arith in
-    let was : c.self.inside.state ≡ c.args.self.now.state = ap (λ (k : Kept). k.state) c.self.view_is in
+    let was : c.self.inside.state ≡ c.args.self.now.state = ap (λ (k : KeptKernel). k.state) c.self.view_is in
     let does = subst (λ (k : KernelState). Does (syscall (asked (record { tid = c.args.tid; cpu = c.args.cpu.now }) k c.args.memory.now c.args.held.now)) answer c.syscall.new.self c.syscall.new.memory c.syscall.new.held c.reserve.new.self c.syscall.new.events) was c.in_ok-answer-in_default.ensures.does in
     record {
       does = does_before (syscall made) answer c.syscall.new.self c.syscall.new.memory c.syscall.new.held c.reserve.new.self c.args.events.now c.syscall.new.events c.in_ok-reserve.ensures.list does;

@@ -7,10 +7,10 @@ use Rattle.guest_machine.specs.Kept.{Steps, machine_of}
 use Rattle.guest_machine.specs.Told.{told}
 use Rattle.guest_machine.specs.Step.{executed}
 use Rattle.guest_machine.specs.declared.stepped.Stepped.{Stepped}
-use Rattle.guest_calls.specs.Kernel.{KernelState, Kept}
+use Rattle.guest_calls.specs.Kernel.{KernelState, KeptKernel}
 use Rattle.guest_machine.specs.Machine.{later, registers_of}
 use Rattle.guest_machine.specs.Parts.{parts_of}
-use Rattle.guest_machine.specs.Sound.{IsSound}
+use Rattle.guest_machine.specs.Sound.{IsSoundMachine}
 use Rattle.guest_machine.proofs.Executed.{Steps-went, executed-fault, executed-no_call, fault-state, sound-state, unchanged}
 use Rattle.guest_machine.proofs.Told.{is_alone, told-went}
 use Rattle.guest_machine.proofs.Holders.{HoldAtMost-others}
@@ -40,7 +40,7 @@ unfolding machine_of
 returns-in-Went-clause-step c = λ before.
     let after : ExecState = record { registers = registers_of c.execute_for-outcome.new.harts.list c.args.tid; memory = memory_of c.execute_for-outcome.new.memory; held = reserved_by c.execute_for-outcome.new.held } in
     let m = machine_of (parts_of c.args.self.now) in
-    let machine = ap₂ (λ harts (kernel : KernelState). record m { harts = harts; kernel = kernel; memory = after.memory; held = after.held }) c.execute_for-outcome.ensures.harts (ap (λ (k : Kept). k.state) c.advance.ensures) in
+    let machine = ap₂ (λ harts (kernel : KernelState). record m { harts = harts; kernel = kernel; memory = after.memory; held = after.held }) c.execute_for-outcome.ensures.harts (ap (λ (k : KeptKernel). k.state) c.advance.ensures) in
     subst (λ (outcome : Stepped). Steps (executed m c.args.tid (Ok c.args.instruction.now)) outcome (parts_of (record { harts = c.execute_for-outcome.new.harts; kernel = c.advance.new.self; memory = c.execute_for-outcome.new.memory; held = c.execute_for-outcome.new.held; entry = c.args.self.now.entry; called = false })) before (before ++ told c.args.tid c.told.result)) (sym c.told.ensures.stepped)
     (Steps-went (parts_of c.args.self.now) _ c.args.tid c.args.instruction.now c.in-Went.access after before _ (ap (λ o. (o, after)) (sym c.in-Went.is) ∙ c.execute_for-outcome.ensures.effect) machine refl
     (told-went (later m) c.args.tid c.args.instruction.now c.in-Went.access after before _ _ _ (c.told.ensures.events c.args.tid) c.execute_for-outcome.ensures.pc c.requires.pc))
@@ -51,8 +51,8 @@ returns-in-Went-clause-sound c =
     let m = machine_of (parts_of c.args.self.now) in
     let after : ExecState = record { registers = registers_of c.execute_for-outcome.new.harts.list c.args.tid; memory = memory_of c.execute_for-outcome.new.memory; held = reserved_by c.execute_for-outcome.new.held } in
     let sound = sound-state m c.args.tid c.args.instruction.now _ after (ap (λ o. (o, after)) (sym c.in-Went.is) ∙ c.execute_for-outcome.ensures.effect) c.requires.sound c.requires.can_run in
-    let machine = ap₂ (λ harts (kernel : KernelState). record m { harts = harts; kernel = kernel; memory = after.memory; held = after.held }) c.execute_for-outcome.ensures.harts (ap (λ (k : Kept). k.state) c.advance.ensures) in
-    subst IsSound (sym machine) sound
+    let machine = ap₂ (λ harts (kernel : KernelState). record m { harts = harts; kernel = kernel; memory = after.memory; held = after.held }) c.execute_for-outcome.ensures.harts (ap (λ (k : KeptKernel). k.state) c.advance.ensures) in
+    subst IsSoundMachine (sym machine) sound
 
 pub returns-in-Fault-clause-fault : goal.returns-in-Fault-clause-fault
 unfolding machine_of
@@ -72,7 +72,7 @@ unfolding machine_of
 returns-in-Fault-clause-sound c =
     let after : ExecState = record { registers = registers_of c.execute_for-outcome.new.harts.list c.args.tid; memory = memory_of c.execute_for-outcome.new.memory; held = reserved_by c.execute_for-outcome.new.held } in
     let m = machine_of (parts_of c.args.self.now) in
-    subst IsSound (sym (unchanged m c.args.tid after c.execute_for-outcome.new.harts.list c.requires.lives c.execute_for-outcome.ensures.harts (fault-state m c.args.tid c.args.instruction.now c.in-Fault.kind after (ap (λ o. (o, after)) (sym c.in-Fault.is) ∙ c.execute_for-outcome.ensures.effect)))) c.requires.sound
+    subst IsSoundMachine (sym (unchanged m c.args.tid after c.execute_for-outcome.new.harts.list c.requires.lives c.execute_for-outcome.ensures.harts (fault-state m c.args.tid c.args.instruction.now c.in-Fault.kind after (ap (λ o. (o, after)) (sym c.in-Fault.is) ∙ c.execute_for-outcome.ensures.effect)))) c.requires.sound
 
 pub returns-in-Went-clause-spare : goal.returns-in-Went-clause-spare
 returns-in-Went-clause-spare c =

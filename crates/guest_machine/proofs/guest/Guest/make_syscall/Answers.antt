@@ -9,7 +9,7 @@ use Rattle.guest_calls.specs.Table.{syscall}
 use Rattle.guest_machine.specs.Kept.{Steps, machine_of}
 use Rattle.guest_machine.specs.Machine.{later}
 use Rattle.guest_machine.specs.Parts.{parts_of}
-use Rattle.guest_machine.specs.Sound.{IsSound}
+use Rattle.guest_machine.specs.Sound.{IsSoundMachine}
 use Rattle.guest_machine.specs.Step.{after_syscall, syscall_of}
 use Rattle.guest_machine.proofs.Called.{Steps-called, born_above, born_room, sound-called, sound-later}
 use Rattle.guest_machine.proofs.guest.Guest.make_syscall.Goals as goal
@@ -44,7 +44,7 @@ returns-in-Ok-clause-sound c =
     let free = subst (λ (k : Memory × ℕ). IsBreakFree k.0 k.1) (ap₂ (λ m b. (m, b)) (does.memory_is ∙ ap (λ r. r.guest.memory) same) (ap (λ k. k.program_break) (does.state_is ∙ ap (λ r. r.kernel) same))) c.in-Ok.ensures.break_free in
     let sound = sound-called m c.args.tid (sound-later (machine_of (parts_of c.args.self.now)) c.requires.sound) state free in
     let steps = Steps-called (parts_of c.args.self.now) (parts_of (record { harts = c.apply_answer.new.harts; kernel = c.syscall.new.self; memory = c.syscall.new.memory; held = c.syscall.new.held; entry = c.args.self.now.entry; called = true })) c.args.tid _ c.in-Ok.answer _ c.args.events.now.list _ _ _ does.answered does.state_is c.in-Ok.ensures.syscall.out does.memory_is does.held_is c.apply_answer.ensures.harts refl c.apply_answer.ensures.outcome (c.push.ensures.list ∙ ap (λ l. l ++ Step c.args.tid ∷ []) c.in_ok-reserve.ensures.list) does.events c.apply_answer.ensures.events in
-    subst IsSound (sym (steps.machine ∙ ap (λ r. (after_syscall m c.args.tid r).machine) same)) sound
+    subst IsSoundMachine (sym (steps.machine ∙ ap (λ r. (after_syscall m c.args.tid r).machine) same)) sound
 
 pub apply_answer-requires-clause-above : goal.apply_answer-requires-clause-above
 unfolding machine_of

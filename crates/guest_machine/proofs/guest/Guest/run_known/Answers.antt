@@ -7,13 +7,13 @@ use Rattle.guest_memory.specs.Guest.{memory_of}
 use Rattle.guest_memory.specs.ReservedBy.{reserved_by}
 use Rattle.rv_exec.specs.Effects.{exec_state_of}
 use Rattle.trace_model.specs.declared.observer.Observed.{Observed}
-use Rattle.guest_calls.specs.Kernel.{Kept}
+use Rattle.guest_calls.specs.Kernel.{KeptKernel}
 use Rattle.guest_machine.specs.Private.Carrying.{IsStateOf}
 use Rattle.guest_machine.specs.Kept.{machine_of}
 use Rattle.guest_machine.specs.Machine.{MachineState, with_registers}
 use Rattle.guest_machine.specs.Parts.{parts_of}
 use Rattle.guest_machine.specs.Running.{ObservesSteps}
-use Rattle.guest_machine.specs.Sound.{IsSound}
+use Rattle.guest_machine.specs.Sound.{IsSoundMachine}
 use Rattle.guest_machine.proofs.Carried.{state_is}
 use Rattle.guest_machine.proofs.Holders.{lives_kept}
 use Rattle.guest_machine.proofs.guest.Guest.run_known.Goals as goal
@@ -30,8 +30,8 @@ returns-in_err-observed-clause-sound g c =
     let m = machine_of (parts_of c.args.self.now) in
     let here : value_of m.harts c.args.tid ≡ Some c.unwrap-cpu.result.now = sym c.get_mut.ensures.found ∙ ap option_copied_mut c.unwrap-cpu.ensures in
     let carries = c.run_on-count.ensures.carried m (state_is m c.args.tid c.unwrap-cpu.result.now here c.requires.sound c.requires.can_run) in
-    let same = ap (λ (k : Kept). let s : MachineState = record m { harts = with_registers m.harts c.args.tid c.run_on-count.new.cpu; kernel = k.state; memory = memory_of c.run_on-count.new.memory; held = reserved_by c.run_on-count.new.held } in s) c.advance_by.ensures in
-    subst IsSound (sym (same ∙ carries.machine)) carries.of.sound
+    let same = ap (λ (k : KeptKernel). let s : MachineState = record m { harts = with_registers m.harts c.args.tid c.run_on-count.new.cpu; kernel = k.state; memory = memory_of c.run_on-count.new.memory; held = reserved_by c.run_on-count.new.held } in s) c.advance_by.ensures in
+    subst IsSoundMachine (sym (same ∙ carries.machine)) carries.of.sound
 
 pub returns-in_err-observed-clause-spare : goal.returns-in_err-observed-clause-spare
 returns-in_err-observed-clause-spare g c =
@@ -43,8 +43,8 @@ returns-clause-sound g c =
     let m = machine_of (parts_of c.args.self.now) in
     let here : value_of m.harts c.args.tid ≡ Some c.unwrap-cpu.result.now = sym c.get_mut.ensures.found ∙ ap option_copied_mut c.unwrap-cpu.ensures in
     let carries = c.run_on-count.ensures.carried m (state_is m c.args.tid c.unwrap-cpu.result.now here c.requires.sound c.requires.can_run) in
-    let same = ap (λ (k : Kept). let s : MachineState = record m { harts = with_registers m.harts c.args.tid c.run_on-count.new.cpu; kernel = k.state; memory = memory_of c.run_on-count.new.memory; held = reserved_by c.run_on-count.new.held } in s) c.advance_by.ensures in
-    subst IsSound (sym (same ∙ carries.machine)) carries.of.sound
+    let same = ap (λ (k : KeptKernel). let s : MachineState = record m { harts = with_registers m.harts c.args.tid c.run_on-count.new.cpu; kernel = k.state; memory = memory_of c.run_on-count.new.memory; held = reserved_by c.run_on-count.new.held } in s) c.advance_by.ensures in
+    subst IsSoundMachine (sym (same ∙ carries.machine)) carries.of.sound
 
 pub returns-clause-spare : goal.returns-clause-spare
 returns-clause-spare g c =
@@ -57,7 +57,7 @@ returns-clause-made g c =
     let here : value_of m.harts c.args.tid ≡ Some c.unwrap-cpu.result.now = sym c.get_mut.ensures.found ∙ ap option_copied_mut c.unwrap-cpu.ensures in
     let is = state_is m c.args.tid c.unwrap-cpu.result.now here c.requires.sound c.requires.can_run in
     let carries = c.run_on-count.ensures.carried m is in
-    let same = ap (λ (k : Kept). let s : MachineState = record m { harts = with_registers m.harts c.args.tid c.run_on-count.new.cpu; kernel = k.state; memory = memory_of c.run_on-count.new.memory; held = reserved_by c.run_on-count.new.held } in s) c.advance_by.ensures in
+    let same = ap (λ (k : KeptKernel). let s : MachineState = record m { harts = with_registers m.harts c.args.tid c.run_on-count.new.cpu; kernel = k.state; memory = memory_of c.run_on-count.new.memory; held = reserved_by c.run_on-count.new.held } in s) c.advance_by.ensures in
     let observed = subst (λ (r : Result Observed AllocError). IfOk r (λ o. (k : MachineState) → IsStateOf (exec_state_of c.unwrap-cpu.result.now c.args.self.now.memory c.args.self.now.held) c.args.tid k
     → ObservesSteps g.W.Observer.stands (g.W.Observer.fits c.args.observer.now) k c.args.tid c.args.observer.now c.run_on-count.new.observer c.run_on-count.result.0 o))
     c.in_ok-observed.was c.run_on-count.ensures.observed in

@@ -2,8 +2,8 @@ use Rattle.std.proofs.Common.{◌≤◌, ℕ, ◌+◌, ◌*◌, ap, ◌∙◌, s
 use Rattle.std.specs.Prelude.{◌↔◌, is_some, not}
 use Rattle.stamps.specs.Widths.{greatest}
 use Rattle.stamps.specs.declared.width.StampBits.TheVariants.{B32}
-use Rattle.call_tracker.specs.CallStacks.{StandsFor}
-use Rattle.run_trace.specs.Kept.{Kept}
+use Rattle.call_tracker.specs.CallStacks.{StacksStandFor}
+use Rattle.run_trace.specs.Kept.{KeptTrace}
 use Rattle.run_trace.proofs.Depth.{begun_within, still_within}
 use Rattle.run_trace.proofs.run_trace.RunTrace.is_too_deep.Goals as goal
 
@@ -15,4 +15,4 @@ pub returns-then-is_some : goal.returns-then-is_some
 returns-then-is_some c = λ past is.
     begun_within (greatest B32) c.from.result c.args.e.now past
     (subst (λ (limit : ℕ). (n : ℕ) → (n ≤ limit) ↔ (3 * (n + 1) ≤ greatest B32)) (sym c.from.ensures) c.depth_limit.ensures)
-    (ap is_some (sym c.entry_begun.ensures) ∙ sym c.is_some.ensures ∙ c.if-is_some.true) is.within c.pending.result (c.pending.ensures.stands past (subst (λ (k : Kept). StandsFor k.stacks past) (sym c.self.view_is) is.stacks))
+    (ap is_some (sym c.entry_begun.ensures) ∙ sym c.is_some.ensures ∙ c.if-is_some.true) is.within c.pending.result (c.pending.ensures.stands past (subst (λ (k : KeptTrace). StacksStandFor k.stacks past) (sym c.self.view_is) is.stacks))

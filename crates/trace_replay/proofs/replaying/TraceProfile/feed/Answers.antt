@@ -1,7 +1,7 @@
 use Rattle.std.proofs.Common.{inr, ◌≡◌, List, ◌++◌, append_assoc, ap, subst, sym, ◌∙◌}
 use Rattle.std.proofs.lemmas.Result.{err_from_is_err_and}
 use Rattle.trace_file.specs.declared.errors.TraceError.TheVariants.{Memory}
-use Rattle.trace_file.specs.Reading.{HasReadBy, IsRefused}
+use Rattle.trace_file.specs.Reading.{HasReadBy, IsTraceRefused}
 use Rattle.trace_file.proofs.ReadBytes.{stays}
 use Rattle.trace_model.specs.declared.event_kinds.Event.{Event}
 use Rattle.trace_model.specs.Cut.{cut, past_after}
@@ -23,7 +23,7 @@ returns-in_err-feed-clause-err g c = λ bytes more has.
     let fed = c.in_err-feed.ensures.fed in
     let past = past_after was.past fed.more in
     let refused = subst (λ refusal. HasReadBy refusal c.feed.new.self (bytes ++ piece) past) c.in_err-feed.ensures.answer (fed.read bytes was.past was.read) in
-    rw (p.1, p.2) (past, subst (λ bs. IsRefused bs past e) (append_assoc bytes piece more) (stays (bytes ++ piece) more past e refused.0 refused.1))
+    rw (p.1, p.2) (past, subst (λ bs. IsTraceRefused bs past e) (append_assoc bytes piece more) (stays (bytes ++ piece) more past e refused.0 refused.1))
 
 pub returns-in_err-feed-clause-memory : goal.returns-in_err-feed-clause-memory
 returns-in_err-feed-clause-memory g c = λ bytes has going told.
