@@ -1,0 +1,173 @@
+#!/usr/bin/env python3
+"""Checks what the documents name and count: each name in backquotes stands somewhere in the sources, each file exists, each clause
+in the table of PROOFS.md is one of its crate, and each count below is that of the sources. Status 0 where all is so."""
+from __future__ import annotations
+
+import re
+import sys
+from collections.abc import Callable, Iterator
+from dataclasses import dataclass
+from functools import cache
+from pathlib import Path
+
+TOP = Path(__file__).resolve().parent.parent
+CRATES = TOP / "crates"
+PROVED = (".rt", ".antt", ".edit")
+SOURCES = (*PROVED, ".py", ".sh", ".c", ".h", ".txt", ".ld", "")
+
+
+def is_built(path: Path) -> bool:
+    return bool({"out", ".git", "__pycache__"} & set(path.relative_to(TOP).parts))
+
+
+@cache
+def files(folder: Path, *suffixes: str) -> tuple[Path, ...]:
+    """The files of a folder and all under it with these suffixes, but for what was built."""
+    return tuple(path for path in sorted(folder.rglob("*")) if path.suffix in suffixes and path.is_file() and not is_built(path))
+
+
+@cache
+def text_of(path: Path) -> str:
+    try:
+        return path.read_text()
+    except UnicodeDecodeError:
+        return ""
+
+
+@cache
+def words_of(folder: Path) -> frozenset[str]:
+    """The words of the sources under a folder, and the names of their files."""
+    found: set[str] = set()
+    for path in files(folder, *SOURCES):
+        found.update(re.findall(r"\w+", text_of(path)), path.relative_to(TOP).parts, [path.stem])
+    return frozenset(found)
+
+
+def documents() -> list[Path]:
+    return [*sorted(TOP.glob("*.md")), *sorted((TOP / "docs").glob("*.md")), *sorted(CRATES.glob("*/README.md"))]
+
+
+def spans(text: str) -> Iterator[str]:
+    """What stands in backquotes, but for blocks of code."""
+    yield from re.findall(r"`([^`\n]+)`", re.sub(r"^```.*?^```", "", text, flags=re.MULTILINE | re.DOTALL))
+
+
+def unknown_names(text: str) -> Iterator[str]:
+    """Names in backquotes of which a part is no word of the sources: `Machine::run_known`, `IsAnswered`, `no_allocation`."""
+    for span in spans(text):
+        if re.fullmatch(r"[A-Za-z]\w*((::|\.)[A-Za-z_]\w*)*", span) and re.search(r"::|_|[a-z][A-Z]", span):
+            if not set(re.split(r"::|\.", span)) <= words_of(TOP):
+                yield span
+
+
+def missing_files(text: str) -> Iterator[str]:
+    """Files of src/, specs/ and proofs/ that no crate has."""
+    have = [path.as_posix() for path in files(CRATES, ".rt", ".antt")]
+    for name in re.findall(r"\b[\w/]+\.(?:rt|antt)\b", text):
+        if not any(path.endswith(f"/{name}") for path in have):
+            yield name
+
+
+@cache
+def clauses_of(crate: str) -> frozenset[str]:
+    """The names of a crate's clauses, of its traits' laws, and of what its specs define, as the fields of a clause's record."""
+    found: set[str] = set()
+    for path in files(CRATES / crate / "src", ".rt"):
+        found.update(re.findall(r"\b(?:ensures|requires) (\w+) \{", text_of(path)), re.findall(r"\bghost (\w+):", text_of(path)))
+    for path in files(CRATES / crate / "specs", ".antt"):
+        found.update(re.findall(r"\bpub (?:record |data )?(\w+)", text_of(path)))
+    return frozenset(found)
+
+
+def unknown_clauses(table: str) -> Iterator[str]:
+    """The names in the last column of a table's rows `| promise | crate | function | clauses |` that are no clause of the crate."""
+    for line in table.splitlines():
+        cells = [cell.strip() for cell in line.strip().strip("|").split(" | ")]
+        if len(cells) == 4 and (CRATES / cells[1].strip("| ") / "src").is_dir():
+            crate = cells[1].strip("| ")
+            for name in spans(cells[3]):
+                if re.fullmatch(r"\w+", name) and name not in clauses_of(crate):
+                    yield f"{crate}: {name}"
+
+
+# What is counted.
+
+
+def in_file(path: str, pattern: str) -> int:
+    return len(re.findall(pattern, text_of(TOP / path), re.MULTILINE))
+
+
+def edits() -> int:
+    return sum(1 for path in files(CRATES, ".edit") if path.parent.name == "must-fail")
+
+
+def tests() -> int:
+    return sum(text_of(path).count("#[test]") for path in files(CRATES, ".rt"))
+
+
+def rows() -> int:
+    return sum(1 for path in (TOP / "rows").iterdir() if path.is_dir())
+
+
+def naming(word: str) -> int:
+    """How many files of the crates have the word."""
+    return sum(1 for path in files(CRATES, *PROVED) if re.search(rf"\b{word}\b", text_of(path)))
+
+
+def limit(name: str) -> int:
+    found = re.search(rf"\b{name}: \w+ = ([\d_]+)", text_of(CRATES / "guest_words/src/limits.rt"))
+    return int(found[1]) if found else -1
+
+
+@dataclass(frozen=True)
+class Count:
+    """A number of a document, which stands in the pattern's group, and what it has to be."""
+
+    document: str
+    pattern: str
+    right: Callable[[], int]
+
+
+COUNTS = [
+    Count("docs/ARCHITECTURE.md", r"(\d+)\s+must-fail\s+edits", edits),
+    Count("docs/PERFORMANCE.md", r"\((\d+)\s+now\)", edits),
+    Count("docs/ARCHITECTURE.md", r"table of (\d+) forms", lambda: in_file("crates/rv_isa/specs/Table.antt", r"\brow 0x")),
+    Count("docs/ARCHITECTURE.md", r"\(`Fill`\): (\d+) files", lambda: naming("Fill")),
+    Count("docs/ARCHITECTURE.md", r"\(`TRACE_BYTES`\): (\d+) files", lambda: naming("TRACE_BYTES")),
+    Count("docs/DEFINITIONS.md", r"(\d+) calls by number", lambda: in_file("crates/guest_calls/specs/Table.antt", r"\(\d+, \w+\)$")),
+    Count("docs/DEFINITIONS.md", r"(\d+) tests, each over", lambda: in_file("crates/elf_image/src/error.rt", r"^    \w+ = [1-9]")),
+    Count("docs/DEFINITIONS.md", r"at most (\d+) mapped pages", lambda: limit("PAGES")),
+    Count("docs/DEFINITIONS.md", r"(\d+) of them its stack", lambda: limit("STACK_PAGES")),
+    Count("docs/DEFINITIONS.md", r"and (\d+) live threads", lambda: limit("THREADS")),
+    Count("docs/PROOFS.md", r"what (\d+) rows come to", lambda: in_file("crates/worked_rows/stdout", r"^[^#\n]")),
+    Count("docs/PROOFS.md", r"(\d+) worked rows \(rows/\)", rows),
+    Count("docs/PROOFS.md", r"\*\*(\d+) tests\*\*", tests),
+]
+
+
+def wrong_count(count: Count) -> str | None:
+    found = re.search(count.pattern, text_of(TOP / count.document))
+    if found is None:
+        return f"{count.document}: nothing is like {count.pattern}"
+    right = count.right()
+    return None if int(found[1]) == right else f"{count.document}: {found[0]!r}, but there are {right}"
+
+
+def mistakes() -> Iterator[str]:
+    for document in documents():
+        text, name = text_of(document), document.relative_to(TOP)
+        yield from (f"{name}: `{span}` is no name of the sources" for span in unknown_names(text))
+        yield from (f"{name}: no file {path}" for path in missing_files(text))
+    yield from (f"docs/PROOFS.md: no clause {clause}" for clause in unknown_clauses(text_of(TOP / "docs/PROOFS.md")))
+    yield from (mistake for mistake in map(wrong_count, COUNTS) if mistake)
+
+
+def main() -> int:
+    found = sorted(set(mistakes()))
+    for mistake in found:
+        print(f"scripts/check_documents.py: {mistake}")
+    return 1 if found else 0
+
+
+if __name__ == "__main__":
+    sys.exit(main())
