@@ -1,11 +1,10 @@
 //! Reading a line: what a line says, where it has one of the forms.
 ghost use Rattle.std.specs.Prelude.{◌≡◌, ℕ, ◌≤◌, ◌<◌, ◌^◌, List, ◌++◌, ◌∷◌, codes, Option, Some, true, IfSome, IsSomeAnd, MatchResult, IfErr, IfOk};
 ghost use Rattle.std.specs.Fmt.{decimal};
-ghost use Rattle.std.specs.Option.{SomeIff};
 ghost use Rattle.guest_words.specs.Names.{is_name};
 ghost use Rattle.guest_words.specs.declared.endings.FaultKind.{FaultKind};
 ghost use Rattle.guest_words.specs.declared.endings.Finish.{Finish};
-ghost use Rattle.profile_report.specs.LineForms.{end_line, fault_words, first_line, hex_address, kind_number, name_word};
+ghost use Rattle.profile_report.specs.LineForms.{end_line, fault_words, first_line, hex_address, name_word};
 ghost use Rattle.profile_report.specs.declared.line.Line.{Line};
 ghost use Rattle.profile_report.specs.declared.report.ReportVersion.{ReportVersion};
 ghost use Rattle.profile_report.specs.Grammar.{FitsLine, IsPlain, line_text};
@@ -16,7 +15,6 @@ use crate::ReportVersion;
 use crate::addresses::address;
 use crate::line::{Line, LineError};
 use crate::point_reader::point_of;
-use guest_words::limits::LAST_TID;
 use guest_words::{FaultKind, Finish, Name, NameError, Tid, cut, decimal_number, first_number};
 use std::alloc::Global;
 
@@ -43,30 +41,6 @@ fn version_of(line: &[u8]) -> Option<ReportVersion>
     None
 }
 
-/// The kind of a fault by its number.
-fn kind_of(number: u64) -> Option<FaultKind>
-    ensures found { IfSome result (λ kind. number ≡ kind_number kind) }
-    ensures only { (kind : FaultKind) → number ≡ kind_number kind → result ≡ Some kind }
-{
-    match number {
-        1 => Some(FaultKind::Illegal),
-        2 => Some(FaultKind::Fetch),
-        3 => Some(FaultKind::Load),
-        4 => Some(FaultKind::Store),
-        5 => Some(FaultKind::JumpAlign),
-        6 => Some(FaultKind::AtomicAlign),
-        7 => Some(FaultKind::Break),
-        _ => None,
-    }
-}
-
-/// The thread of a number.
-fn thread_of(number: u64) -> Option<Tid>
-    ensures { SomeIff result ((1 ≤ number) × (number ≤ LAST_TID)) number }
-{
-    Tid::new(u32::try_from(number).ok()?)
-}
-
 /// The words of a fault.
 fn fault_of(words: &[u8]) -> Option<Finish>
     ensures found { IfSome result (λ f. FitsEnd f × (codes "end fault " ++ words.now
@@ -77,8 +51,8 @@ fn fault_of(words: &[u8]) -> Option<Finish>
     let (kind, rest) = first_number(words)?;
     let (tid, rest) = first_number(rest)?;
     Some(Finish::Fault {
-        kind: kind_of(kind)?,
-        tid: thread_of(tid)?,
+        kind: FaultKind::numbered(kind)?,
+        tid: Tid::numbered(tid)?,
         at: address(rest)?,
     })
 }

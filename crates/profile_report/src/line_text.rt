@@ -1,6 +1,6 @@
 //! The lines of a report, one function a form.
 ghost use Rattle.std.specs.Prelude.{◌≡◌, ◌++◌, ◌<◌, codes, OnErr, OnOk};
-ghost use Rattle.profile_report.specs.LineForms.{end_line, ended, fault_words, first_line, hex_address, hex_glyph, kind_number, labelled, name_word, point_line, routine_line, split_words};
+ghost use Rattle.profile_report.specs.LineForms.{end_line, ended, fault_words, first_line, hex_address, hex_glyph, labelled, name_word, point_line, routine_line, split_words};
 
 use crate::ReportVersion;
 use cost_points::{Point, Split};
@@ -66,19 +66,12 @@ fn push_address(text: &mut Vec<u8>, at: Addr) -> Result<(), AllocError>
     text.extend_from_slice(&hex_address(at))
 }
 
-/// The number of a fault's kind.
-fn kind_number(kind: FaultKind) -> u64
-    ensures { result ≡ kind_number kind }
-{
-    kind as u64
-}
-
 /// Appends a fault's kind, thread and address.
 fn push_fault(text: &mut Vec<u8>, kind: FaultKind, tid: Tid, at: Addr) -> Result<(), AllocError>
     ensures { OnOk result (text.new.items
         ≡ text.old.items ++ (codes "end fault " ++ fault_words kind tid at)) }
 {
-    push_labelled(text, b"end fault ", kind_number(kind))?;
+    push_labelled(text, b"end fault ", u64::from(kind.number()))?;
     push_labelled(text, b" ", u64::from(tid.number()))?;
     text.extend_from_slice(b" ")?;
     push_address(text, at)

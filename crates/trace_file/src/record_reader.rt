@@ -3,12 +3,13 @@ ghost use Rattle.std.specs.Prelude.{true, false, All, ◌≡◌, ◌≢◌, ◌�
 ghost use Rattle.byteorder.specs.Endian.{little_number};
 ghost use Rattle.trace_file.specs.declared.records.Form.{Form};
 ghost use Rattle.trace_file.specs.declared.records.Record.{Record};
+ghost use Rattle.guest_words.specs.Endings.{kind_number};
 ghost use Rattle.guest_words.specs.Names.{is_name, is_visible};
 ghost use Rattle.guest_words.specs.declared.limits.TheConstants.{NAME_BYTES};
 ghost use Rattle.trace_file.specs.Pieces.{AreNumbers, HasName, HasNameBody, IsBegun, IsBody, IsHead, IsNameOf, IsNone, IsRecord, Stops, body};
 ghost use Rattle.trace_file.specs.Private.Seen.{IsSeen};
 ghost use Rattle.trace_file.specs.declared.records.Record.TheVariants.{OfEvent, OfFinish};
-ghost use Rattle.trace_file.specs.Records.{AreInRanges, Fits, IsIn, form, head, kind_number, number_bytes, ranges, record_bytes, thread};
+ghost use Rattle.trace_file.specs.Records.{AreInRanges, Fits, IsIn, form, head, number_bytes, ranges, record_bytes, thread};
 ghost use Rattle.trace_file.specs.Private.Made.{IsLeastNumber, IsMade, IsSoundRange, is_event};
 ghost use Rattle.std.specs.List.{flat_map, list_all};
 
@@ -218,21 +219,13 @@ fn ranges(form: Form) -> &'static [Range]
     }
 }
 
-/// The kind of a fault by its number.
-fn kind_of(number: u32) -> FaultKind
+/// The kind of a fault of this number.
+fn kind(number: u32) -> FaultKind
     requires least { 1 ≤ number }
     requires most { number ≤ 7 }
     ensures { kind_number result ≡ number }
 {
-    match number {
-        1 => FaultKind::Illegal,
-        2 => FaultKind::Fetch,
-        3 => FaultKind::Load,
-        4 => FaultKind::Store,
-        5 => FaultKind::JumpAlign,
-        6 => FaultKind::AtomicAlign,
-        _ => FaultKind::Break,
-    }
+    FaultKind::numbered(u64::from(number)).unwrap_or(FaultKind::Break)
 }
 
 /// The thread of this number.
@@ -304,7 +297,7 @@ fn made_finish(form: Form, a: u32, b: u32, c: u32) -> Option<Finish>
     match form {
         Form::Exit => Some(Finish::Exit { status: a as u8 }),
         Form::Fault => Some(Finish::Fault {
-            kind: kind_of(a),
+            kind: kind(a),
             tid: thread(b),
             at: c,
         }),

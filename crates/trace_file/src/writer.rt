@@ -7,7 +7,7 @@ ghost use Rattle.trace_model.specs.Observing.{Observes, StandsAsBefore};
 ghost use Rattle.trace_model.specs.WellFormed.{IsWellFormed};
 ghost use Rattle.trace_order.specs.Order.{MayCome};
 ghost use Rattle.trace_file.specs.declared.records.Record.TheVariants.{OfEvent, OfName, OfFinish};
-ghost use Rattle.trace_file.specs.Records.{Fits, joined, kind_number, number_bytes, record_bytes};
+ghost use Rattle.trace_file.specs.Records.{Fits, joined, number_bytes, record_bytes};
 ghost use Rattle.trace_file.specs.Private.Kept.{KeepsOn};
 ghost use Rattle.trace_file.specs.TraceText.{IsRising, IsTextOf, IsTrace, name_records, trace_text};
 
@@ -139,23 +139,6 @@ fn push_names(text: &mut Vec<u8>, names: &[(Addr, Name)]) -> Result<(), AllocErr
     Ok(())
 }
 
-/// The number of a fault's kind.
-fn kind_number(kind: FaultKind) -> u32
-    ensures value { result ≡ kind_number kind }
-    ensures least { 1 ≤ result }
-    ensures most { result ≤ 7 }
-{
-    match kind {
-        FaultKind::Illegal => 1,
-        FaultKind::Fetch => 2,
-        FaultKind::Load => 3,
-        FaultKind::Store => 4,
-        FaultKind::JumpAlign => 5,
-        FaultKind::AtomicAlign => 6,
-        FaultKind::Break => 7,
-    }
-}
-
 /// Appends the record of how the run ended.
 fn push_finish(text: &mut Vec<u8>, f: Finish) -> Result<(), AllocError>
     requires { (line : ℕ) → f ≡ ends.Schedule line → 1 ≤ line }
@@ -165,7 +148,7 @@ fn push_finish(text: &mut Vec<u8>, f: Finish) -> Result<(), AllocError>
     match f {
         Finish::Exit { status } => push_record(text, &[10, 0], &[u32::from(status)], &[]),
         Finish::Fault { kind, tid, at } => {
-            push_record(text, &[10, 1], &[kind_number(kind), tid.number(), at], &[])
+            push_record(text, &[10, 1], &[kind.number(), tid.number(), at], &[])
         }
         Finish::Budget => push_record(text, &[10, 2], &[], &[]),
         Finish::Deadlock => push_record(text, &[10, 3], &[], &[]),
