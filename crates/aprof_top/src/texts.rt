@@ -41,7 +41,7 @@ fn cannot_read_text(alloc: Global, path: &str) -> Result<Text, AllocError>
     Ok(Text::Made(format!(in alloc; "aprof: cannot read {path}\n")?.into_bytes()))
 }
 
-// The text after a failed load.
+/// The text after a failed load.
 pub(crate) fn unread_text(
     alloc: Global,
     wanted: Wanted<'_, '_>,

@@ -7,7 +7,7 @@ use cost_points::{Point, Split};
 use guest_words::{Addr, FaultKind, Finish, Name, Tid, push_decimal};
 use std::alloc::AllocError;
 
-/// Appends a number after its label.
+// Appends a number after its label.
 fn push_labelled(text: &mut Vec<u8>, label: &[u8], number: u64) -> Result<(), AllocError>
     ensures { OnOk result (text.new.items ≡ text.old.items ++ labelled label.now number) }
 {
@@ -15,7 +15,7 @@ fn push_labelled(text: &mut Vec<u8>, label: &[u8], number: u64) -> Result<(), Al
     push_decimal(text, u128::from(number))
 }
 
-/// Appends a number in 128 bits after a space.
+// Appends a number in 128 bits after a space.
 fn push_wide(text: &mut Vec<u8>, number: u128) -> Result<(), AllocError>
     ensures { OnOk result (text.new.items ≡ text.old.items ++ labelled (codes " ") number) }
 {
@@ -33,7 +33,7 @@ pub fn push_first_line(text: &mut Vec<u8>, version: ReportVersion) -> Result<(),
     }
 }
 
-/// The glyph of a digit in base 16.
+// The glyph of a digit in base 16.
 fn hex_glyph(digit: u32) -> u8
     requires { digit < 16 }
     ensures { result ≡ hex_glyph digit }
@@ -59,14 +59,14 @@ pub fn hex_address(at: Addr) -> [u8; 8]
     ]
 }
 
-/// Appends an address in eight digits of base 16.
+// Appends an address in eight digits of base 16.
 fn push_address(text: &mut Vec<u8>, at: Addr) -> Result<(), AllocError>
     ensures { OnOk result (text.new.items ≡ text.old.items ++ hex_address at) }
 {
     text.extend_from_slice(&hex_address(at))
 }
 
-/// Appends a fault's kind, thread and address.
+// Appends a fault's kind, thread and address.
 fn push_fault(text: &mut Vec<u8>, kind: FaultKind, tid: Tid, at: Addr) -> Result<(), AllocError>
     ensures { OnOk result (text.new.items
         ≡ text.old.items ++ (codes "end fault " ++ fault_words kind tid at)) }
@@ -77,7 +77,7 @@ fn push_fault(text: &mut Vec<u8>, kind: FaultKind, tid: Tid, at: Addr) -> Result
     push_address(text, at)
 }
 
-/// Appends how the run ended.
+// Appends how the run ended.
 fn push_end(text: &mut Vec<u8>, finish: Finish) -> Result<(), AllocError>
     ensures { OnOk result (text.new.items ≡ text.old.items ++ end_line finish) }
 {
@@ -110,7 +110,7 @@ pub fn push_number_line(text: &mut Vec<u8>, label: &[u8], number: u64) -> Result
     text.extend_from_slice(b"\n")
 }
 
-/// Appends a routine's name, or a dash where it has none.
+// Appends a routine's name, or a dash where it has none.
 fn push_name(text: &mut Vec<u8>, name: &Option<Name>) -> Result<(), AllocError>
     ensures { OnOk result (text.new.items ≡ text.old.items ++ name_word name.now) }
 {
@@ -135,7 +135,7 @@ pub fn push_routine_line(
     text.extend_from_slice(b"\n")
 }
 
-/// Appends the parts of a point's sizes, where they are told.
+// Appends the parts of a point's sizes, where they are told.
 fn push_split(text: &mut Vec<u8>, split: Option<Split>) -> Result<(), AllocError>
     ensures { OnOk result (text.new.items ≡ text.old.items ++ split_words split) }
 {

@@ -15,7 +15,7 @@ pub struct Entry {
     pub most: u64,
 }
 
-/// The number of instructions that is written so.
+// The number of instructions that is written so.
 fn steps_of(word: &[u8]) -> Option<u64>
     ensures range { IfSome result (λ n. (1 ≤ n) × (n ≤ RUN_STEPS)) }
     ensures found { IfSome result (λ n. word.now ≡ decimal n) }
