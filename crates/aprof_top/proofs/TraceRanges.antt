@@ -8,8 +8,6 @@ use Rattle.std.proofs.lemmas.Bool.Decides.{nat_tests}
 use Rattle.std.proofs.lemmas.List.{map-append, reverse-append}
 use Rattle.std.proofs.lemmas.List.Elements.{All-cons, All-filter, All-head, All-nil, All-tail}
 use Rattle.guest_words.specs.Names.{is_dash, is_name, is_visible}
-use Rattle.guest_words.specs.declared.endings.FaultKind.{FaultKind}
-use Rattle.guest_words.specs.declared.endings.FaultKind.TheVariants.{Illegal}
 use Rattle.guest_words.specs.declared.endings.Finish.{Finish}
 use Rattle.guest_words.specs.declared.endings.Finish.TheVariants as ends
 use Rattle.guest_words.specs.declared.limits.TheConstants.{NAME_BYTES}
@@ -20,12 +18,13 @@ use Rattle.elf_image.specs.Reading.{addresses, image_of, names_of}
 use Rattle.elf_image.specs.Symbols.{Symbol, first_symbol, goes_before, is_readable, name_in, section_bytes, symbol_at, symbol_of, symbol_table, symbols, symbols_in}
 use Rattle.elf_image.specs.Tests.{first_of, first_refusal, header_tests, layout_tests, segment_tests}
 use Rattle.elf_image.proofs.NameTexts.{name_there}
+use Rattle.guest_words.proofs.FaultKinds.{kind_in_range}
 use Rattle.elf_image.proofs.Sound.{sound_from}
 use Rattle.guest_machine.specs.Laws.{IsAddress}
 use Rattle.guest_run.specs.ObservedRun.{ObservedRun}
 use Rattle.guest_run.specs.Traces.{IsEndInRange, IsEventInRange, TellsInRange}
 use Rattle.run_trace.specs.Entries.{entries_begun}
-use Rattle.trace_file.specs.Records.{Fits, kind_number}
+use Rattle.trace_file.specs.Records.{Fits}
 use Rattle.trace_file.specs.TraceText.{event_records, name_records, whole_records}
 use Rattle.trace_file.specs.declared.records.Record.TheVariants.{OfEvent, OfName, OfFinish}
 use Rattle.trace_model.specs.declared.event_kinds.Event.{Event}
@@ -191,10 +190,6 @@ names_fit image named (entry ∷ entries) low =
         → AllByRecursion Fits (name_records (option_to_list (option_map (λ name. (entry, name)) o) ++ named_entries image entries))
     by None is own rest = rest
     by (Some name) is own rest = (name_fits entry name (All-head IsAddress entry entries low) own, rest)
-
-kind_in_range : (kind : FaultKind) → (1 ≤ kind_number kind) × (kind_number kind ≤ 7)
-kind_in_range Illegal = (omega arith, omega arith)
-kind_in_range _ = (omega arith, omega arith)
 
 finish_fits : (lines : ℕ) (f : Finish) → lines < 2 ^ 64 → IsEndInRange lines f → Fits (OfFinish f)
 finish_fits lines (ends.Exit status) few is = record { ranges = ((omega arith, omega (arith, is)), tt); content = tt }

@@ -2,7 +2,7 @@
 ghost use Rattle.std.specs.Prelude.{◌≡◌, true, List, map, IfOk};
 ghost use Rattle.command_line.specs.Options.Analysis.{Cache};
 ghost use Rattle.command_line.specs.Read.{AreInRange, guest_in};
-ghost use Rattle.cache_lines.specs.Shapes.{Form};
+ghost use Rattle.cache_lines.specs.Shapes.{Dimensions};
 ghost use Rattle.elf_image.specs.Image.{Executable};
 ghost use Rattle.guest_run.specs.ObservedRun.{ObservedRun};
 ghost use Rattle.host_io.specs.Sink.{SinkState};
@@ -110,7 +110,7 @@ fn deliver_misses<F: Files>(
     report: &CacheReport,
     files: &mut F,
 ) -> Result<Verdict, Ending>
-    ensures { (shape : Form) (image : Executable) (seen : ObservedRun)
+    ensures { (shape : Dimensions) (image : Executable) (seen : ObservedRun)
         → report.now ≡ misses_of shape image seen.finish seen.past
         → (err : SinkState) → RunIsStored (analysed path.now (Cache shape) image seen)
         (desk (F.state files.old) err) (desk (F.state files.new) err) result }

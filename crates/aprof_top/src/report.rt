@@ -17,7 +17,7 @@ pub(crate) trait RoutineNames {
     /// The entries that have a name, with their names.
     ghost names: { Self → List (ℕ × List ℕ) };
 
-    /// The name of the routine at an entry, if it has one.
+    // The name of the routine at an entry, if it has one.
     fn name_at(&self, alloc: Global, entry: Addr) -> Result<Option<Name>, AllocError>
         ensures { IfOk result (λ name. name ≡ name_beside (names self.now) entry) };
 }

@@ -9,7 +9,7 @@ use guest_words::push_decimal;
 use profile_report::{Report, Routine, push_end_line};
 use std::alloc::{AllocError, Global};
 
-/// The totals of routines: how many activations they had, and the sums of these activations' sizes and costs.
+// The totals of routines: how many activations they had, and the sums of these activations' sizes and costs.
 #[derive(Clone, Copy)]
 struct Sums {
     activations: u128,

@@ -41,7 +41,7 @@ fn cannot_read_text(alloc: Global, path: &str) -> Result<Text, AllocError>
     Ok(Text::Made(format!(in alloc; "aprof: cannot read {path}\n")?.into_bytes()))
 }
 
-// The text after a failed load.
+/// The text after a failed load.
 pub(crate) fn unread_text(
     alloc: Global,
     wanted: Wanted<'_, '_>,
@@ -76,7 +76,7 @@ fn bad_trace_text(alloc: Global, error: TraceError) -> Result<Text, AllocError>
 fn fault_text(alloc: Global, kind: FaultKind, tid: Tid, at: Addr) -> Result<Text, AllocError>
     ensures { IfOk result (λ text. bytes_of text ≡ fault_text kind tid at) }
 {
-    let kind = kind as u8;
+    let kind = kind.number();
     let tid = tid.number();
     let mut text = format!(in alloc; "aprof: fault {kind} thread {tid}")?.into_bytes();
     text.extend_from_slice(b" at ")?;

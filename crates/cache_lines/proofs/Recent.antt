@@ -4,7 +4,7 @@ use Rattle.std.proofs.lemmas.List.{take-take}
 use Rattle.std.proofs.lemmas.Bool.{eq-eqb, eqb-true, or_parts}
 use Rattle.std.proofs.Math.Bool.{or-true}
 use Rattle.std.proofs.lemmas.Bool.Decides.{nat_tests}
-use Rattle.cache_lines.specs.Shapes.{Form}
+use Rattle.cache_lines.specs.Shapes.{Dimensions}
 use Rattle.cache_lines.specs.Kept.{recent}
 use Rattle.cache_lines.specs.Misses.{was_accessed, since, of_set, different, misses}
 use Rattle.cache_lines.specs.Sets.{without, touched}
@@ -159,7 +159,7 @@ among-first (suc w) n (y ∷ ys) = by_test (nat_eq y n) refl (among-first w n ys
         ∙ sym (ap₂ (λ b k. not (b || was_accessed n ys) || nat_le (suc w) (length k)) e (since_other n y ys e))
 
 -- the lines that a set holds tell whether an access misses
-pub misses_is : (shape : Form) (n : ℕ) (accesses : List ℕ) → not (was_accessed n (recent shape (n % shape.sets) accesses)) ≡ misses shape accesses n
+pub misses_is : (shape : Dimensions) (n : ℕ) (accesses : List ℕ) → not (was_accessed n (recent shape (n % shape.sets) accesses)) ≡ misses shape accesses n
 misses_is shape n accesses =
     let sets = shape.sets in
     let ways = shape.ways in

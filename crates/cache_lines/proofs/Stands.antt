@@ -8,7 +8,7 @@ use Rattle.std.proofs.Math.Nat.{mod-lt, mul-le-mul_left, mul-suc}
 use Rattle.std.proofs.lemmas.Bool.{and_parts, eqb-true}
 use Rattle.std.proofs.Math.Seq.{take-nil}
 use Rattle.std.proofs.lemmas.Bool.Decides.{nat_tests}
-use Rattle.cache_lines.specs.Shapes.{Form, shape_of, are_sets, are_ways, is_line}
+use Rattle.cache_lines.specs.Shapes.{Dimensions, shape_of, are_sets, are_ways, is_line}
 use Rattle.cache_lines.specs.declared.shape.TheConstants.{SETS, WAYS, LEAST_LINE, LINE}
 use Rattle.cache_lines.specs.Held.{Held}
 use Rattle.cache_lines.specs.Kept.{recent, CacheStandsFor}
@@ -17,11 +17,11 @@ use Rattle.cache_lines.specs.Sets.{lines_of, touched}
 use Rattle.cache_lines.proofs.Recent.{misses_is, recent_is, others_stay}
 use Rattle.cache_lines.proofs.Rows.{length-lines_of, none-lines_of, at-lines_of, set-lines_of, written}
 
-abbrev pub held : Form → List ℕ → List ℕ → Held
+abbrev pub held : Dimensions → List ℕ → List ℕ → Held
 held shape used places = record { shape = shape; sets = lines_of shape.ways used places }
 
 -- a new cache
-pub new_stands : (shape : Form) (used places : List ℕ) → used ≡ replicate shape.sets 0 → CacheStandsFor (held shape used places) []
+pub new_stands : (shape : Dimensions) (used places : List ℕ) → used ≡ replicate shape.sets 0 → CacheStandsFor (held shape used places) []
 new_stands shape used places is =
     subst (λ us. CacheStandsFor (held shape us places) []) (sym is) (record {
       all = length-lines_of shape.ways (replicate shape.sets 0) places ∙ length-replicate shape.sets 0;
@@ -29,7 +29,7 @@ new_stands shape used places is =
     })
 
 -- What the program keeps, before an access of a line: the set of the line has its places and so many of them used.
-pub record IsReady (shape : Form) (used places : List ℕ) (line at k u : ℕ) : Type 0 where
+pub record IsReady (shape : Dimensions) (used places : List ℕ) (line at k u : ℕ) : Type 0 where
   pub some_set : line % shape.sets < shape.sets
   pub some_way : 1 ≤ shape.ways
   pub at_is : at ≡ shape.ways * (line % shape.sets)
@@ -48,7 +48,7 @@ at-least-one : (n : ℕ) → nat_le 1 n ≡ true → 1 ≤ n
 at-least-one n e = grind (arith, nat_tests)
 
 -- a shape that is taken has a set, and a way
-some_of_each : (sets ways line : ℕ) (shape : Form) → shape_of sets ways line ≡ Some shape → (1 ≤ sets) × (1 ≤ ways)
+some_of_each : (sets ways line : ℕ) (shape : Dimensions) → shape_of sets ways line ≡ Some shape → (1 ≤ sets) × (1 ≤ ways)
 some_of_each sets ways line shape e =
     let passes : ((are_sets sets && are_ways ways) && is_line line) ≡ true = by_test ((are_sets sets && are_ways ways) && is_line line) (record { sets = sets; ways = ways; line = line }) e in
     let both = (and_parts (are_sets sets && are_ways ways) (is_line line) passes).0 in
@@ -56,23 +56,23 @@ some_of_each sets ways line shape e =
     let ways_are = (and_parts (are_sets sets) (are_ways ways) both).1 in
     (some-power sets (and_parts (is_power_of_two sets) (nat_le sets SETS) sets_are).0, at-least-one ways (and_parts (nat_le 1 ways) (nat_le ways WAYS) ways_are).0)
   where
-    by_test : (b : Bool) (f : Form) → cond b (Some f) None ≡ Some shape → b ≡ true
+    by_test : (b : Bool) (f : Dimensions) → cond b (Some f) None ≡ Some shape → b ≡ true
     by_test true f q = refl
     by_test false f q = absurd (cc)
 
 -- and a line of its own
-pub wide_lines : (sets ways line : ℕ) (shape : Form) → shape_of sets ways line ≡ Some shape → LEAST_LINE ≤ shape.line
+pub wide_lines : (sets ways line : ℕ) (shape : Dimensions) → shape_of sets ways line ≡ Some shape → LEAST_LINE ≤ shape.line
 wide_lines sets ways line shape e = by_test ((are_sets sets && are_ways ways) && is_line line) refl e
   where
     by_test : (b : Bool) → ((are_sets sets && are_ways ways) && is_line line) ≡ b → cond b (Some (record { sets = sets; ways = ways; line = line })) None ≡ Some shape → LEAST_LINE ≤ shape.line
     by_test true passes q =
         let line_is = (and_parts (are_sets sets && are_ways ways) (is_line line) passes).1 in
         let wide : nat_le LEAST_LINE line ≡ true = (and_parts (is_power_of_two line) (nat_le LEAST_LINE line) (and_parts (is_power_of_two line && nat_le LEAST_LINE line) (nat_le line LINE) line_is).0).1 in
-        let same : line ≡ shape.line = ap (λ (o : Option Form). option_map_or (λ (f : Form). f.line) o line) q in
+        let same : line ≡ shape.line = ap (λ (o : Option Dimensions). option_map_or (λ (f : Dimensions). f.line) o line) q in
         grind (arith, nat_tests, wide, same)
     by_test false passes q = absurd (cc)
 
-pub ready_is : (shape : Form) (used places : List ℕ) (line u s w : ℕ) → s ≡ shape.sets → w ≡ shape.ways → shape_of shape.sets shape.ways shape.line ≡ Some shape → u ≡ get_or used (line % s) u → length used ≡ shape.sets → All (λ n. n ≤ shape.ways) used → length places ≡ shape.ways * shape.sets
+pub ready_is : (shape : Dimensions) (used places : List ℕ) (line u s w : ℕ) → s ≡ shape.sets → w ≡ shape.ways → shape_of shape.sets shape.ways shape.line ≡ Some shape → u ≡ get_or used (line % s) u → length used ≡ shape.sets → All (λ n. n ≤ shape.ways) used → length places ≡ shape.ways * shape.sets
     → IsReady shape used places line (w * (line % s)) (w * (line % s) + w - w * (line % s)) u
 ready_is shape used places line u s w s_is w_is taken u_is all few long =
     let some = some_of_each shape.sets shape.ways shape.line shape taken in
@@ -91,7 +91,7 @@ ready_is shape used places line u s w s_is w_is taken u_is all few long =
       inside = omega arith;
     }
 
-module _ (shape : Form) (used places : List ℕ) (line at k u : ℕ) (ready : IsReady shape used places line at k u) where
+module _ (shape : Dimensions) (used places : List ℕ) (line at k u : ℕ) (ready : IsReady shape used places line at k u) where
   fits : u ≤ shape.ways
   fits = let h : get_or used (line % shape.sets) u ≤ shape.ways = ready.few (line % shape.sets) u (omega (arith, ready.some_set, ready.all)) in let e = ready.u_is in omega arith
 

@@ -2,7 +2,7 @@
 -- first, and the set of a line is its number modulo the number of sets.
 use Rattle.std.specs.Prelude.{ℕ, ◌%◌, Bool, not, ◌||◌, ◌==◌, nat_le, if◌then◌else◌, List, [], ◌∷◌, length, filter}
 use Rattle.std.specs.List.{list_any}
-use Rattle.cache_lines.specs.Shapes.{Form}
+use Rattle.cache_lines.specs.Shapes.{Dimensions}
 
 -- whether the line was accessed
 abbrev pub was_accessed : ℕ → List ℕ → Bool
@@ -24,7 +24,7 @@ different (m ∷ accesses) = m ∷ filter (λ x. not (x == m)) (different access
 
 -- The line was not accessed before, or since its last access at least as many different other lines of its set were as the
 -- set has ways.
-abbrev pub misses : Form → List ℕ → ℕ → Bool
+abbrev pub misses : Dimensions → List ℕ → ℕ → Bool
 misses shape accesses line =
     let others = different (of_set shape.sets (line % shape.sets) (since line accesses)) in
     not (was_accessed line accesses) || nat_le shape.ways (length others)

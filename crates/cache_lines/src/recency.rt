@@ -4,14 +4,14 @@ ghost use Rattle.std.specs.List.{position};
 ghost use Rattle.cache_lines.specs.Misses.{was_accessed};
 ghost use Rattle.cache_lines.specs.Sets.{touched};
 
-/// The place of the line, if it is one of them.
+// The place of the line, if it is one of them.
 fn place_of(lines: &[u32], line: u32) -> Option<usize>
     ensures { result ≡ position (λ m. m == line) lines.now }
 {
     lines.iter().position(|place| *place == line)
 }
 
-/// Moves the first n - 1 lines down by one place, over the n-th, and writes a line in front of them.
+// Moves the first n - 1 lines down by one place, over the n-th, and writes a line in front of them.
 fn write_first(places: &mut [u32], n: usize, line: u32)
     requires some { 1 ≤ n }
     requires within { n ≤ length places.old }

@@ -26,9 +26,9 @@ pub struct Shape {
 
 impl Model for Shape {
     ghost use Rattle.std.specs.Prelude.{◌≡◌, Some};
-    ghost use Rattle.cache_lines.specs.Shapes.{Form, shape_of};
+    ghost use Rattle.cache_lines.specs.Shapes.{Dimensions, shape_of};
 
-    ghost Value = { Form };
+    ghost Value = { Dimensions };
 
     ghost view = { λ s. record { sets = s.sets; ways = s.ways; line = s.line } };
 

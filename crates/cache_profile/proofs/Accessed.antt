@@ -4,14 +4,14 @@ use Rattle.std.specs.List.{count_by, range_with_len}
 use Rattle.std.proofs.lemmas.List.{reverse-append}
 use Rattle.std.proofs.lemmas.List.Sums.{sum_by_push}
 use Rattle.trace_model.proofs.Bounds.{range_with_len_more}
-use Rattle.cache_lines.specs.Shapes.{Form}
+use Rattle.cache_lines.specs.Shapes.{Dimensions}
 use Rattle.cache_lines.specs.Held.{Held}
 use Rattle.cache_lines.specs.Kept.{CacheStandsFor}
 use Rattle.cache_lines.specs.Misses.{misses}
 use Rattle.cache_profile.specs.LineAccesses.{missed}
 
 -- how many of them miss
-abbrev pub count_missed : Form → List ℕ → List ℕ → ℕ
+abbrev pub count_missed : Dimensions → List ℕ → List ℕ → ℕ
 count_missed shape earlier lines = count_by (λ m. m) (missed shape earlier lines)
 
 -- The lines were accessed, in this order, and so many of them missed.
@@ -27,7 +27,7 @@ none_accessed cache = record { shape = refl; few = omega arith; count = λ earli
 later : (x : ℕ) (lines earlier : List ℕ) → reverse (x ∷ lines) ++ earlier ≡ reverse lines ++ x ∷ earlier
 later x lines earlier = ap (λ ls. ls ++ earlier) (reverse-append (x ∷ []) lines) ∙ append_assoc (reverse lines) (x ∷ []) earlier
 
-missed_push : (shape : Form) (earlier lines : List ℕ) (line : ℕ) →
+missed_push : (shape : Dimensions) (earlier lines : List ℕ) (line : ℕ) →
     missed shape earlier (lines ++ line ∷ []) ≡ missed shape earlier lines ++ misses shape (reverse lines ++ earlier) line ∷ []
 missed_push shape earlier [] line = refl
 missed_push shape earlier (x ∷ lines) line =
@@ -35,7 +35,7 @@ missed_push shape earlier (x ∷ lines) line =
     (missed_push shape (x ∷ earlier) lines line
     ∙ ap (λ before. missed shape (x ∷ earlier) lines ++ misses shape before line ∷ []) (sym (later x lines earlier)))
 
-count_push : (shape : Form) (earlier lines : List ℕ) (line : ℕ) →
+count_push : (shape : Dimensions) (earlier lines : List ℕ) (line : ℕ) →
     count_missed shape earlier (lines ++ line ∷ []) ≡ count_missed shape earlier lines + cond (misses shape (reverse lines ++ earlier) line) 1 0
 count_push shape earlier lines line =
     ap (count_by (λ m. m)) (missed_push shape earlier lines line)

@@ -13,7 +13,7 @@ use Rattle.cost_points.specs.Keys.{rising, insert_rising}
 use Rattle.cost_points.proofs.Bounds.{All-grouped}
 use Rattle.cost_points.proofs.Grouped.{having}
 use Rattle.cost_points.proofs.Rising.{insert_above, insert_below, insert_same, order}
-use Rattle.cache_lines.specs.Shapes.{Form}
+use Rattle.cache_lines.specs.Shapes.{Dimensions}
 use Rattle.cache_profile.specs.Private.Added.{HasRoom}
 use Rattle.cache_profile.specs.ByRoutine.{LineAccess, accesses_of, all_accesses, by_routine, counts_of, routine_at}
 use Rattle.cache_profile.specs.LineAccesses.{line_accesses, line_of, lines_accessed, lines_over, missed}
@@ -31,20 +31,20 @@ rising-le : (xs : List ℕ) → length (rising xs) ≤ length xs
 rising-le [] = omega arith
 rising-le (x ∷ xs) = omega (arith, insert-le x (rising xs), rising-le xs)
 
-lines-le : (shape : Form) (first count : ℕ) → length (lines_over shape first count) ≤ count
+lines-le : (shape : Dimensions) (first count : ℕ) → length (lines_over shape first count) ≤ count
 lines-le shape first count =
     omega (arith, rising-le (map (line_of shape) (range_with_len first count)), length-map (range_with_len first count) (line_of shape), length-range_with_len first count)
 
-pub length-missed : (shape : Form) (earlier lines : List ℕ) → length (missed shape earlier lines) ≡ length lines
+pub length-missed : (shape : Dimensions) (earlier lines : List ℕ) → length (missed shape earlier lines) ≡ length lines
 length-missed shape earlier [] = refl
 length-missed shape earlier (line ∷ lines) = ap suc (length-missed shape (line ∷ earlier) lines)
 
-pub length-accesses_of : (shape : Form) (e : Event) (past : List Event) → length (accesses_of shape e past) ≡ length (lines_accessed shape e)
+pub length-accesses_of : (shape : Dimensions) (e : Event) (past : List Event) → length (accesses_of shape e past) ≡ length (lines_accessed shape e)
 length-accesses_of shape e past =
     length-map (missed shape (line_accesses shape past) (lines_accessed shape e)) (λ (m : Bool). record { entry = routine_at past (thread_of e); missed = m })
     ∙ length-missed shape (line_accesses shape past) (lines_accessed shape e)
 
-event-le : (shape : Form) (e : Event) (past : List Event) → MayFollow e past → length (lines_accessed shape e) ≤ 2 ^ 30
+event-le : (shape : Dimensions) (e : Event) (past : List Event) → MayFollow e past → length (lines_accessed shape e) ≤ 2 ^ 30
 event-le shape (Read tid first count) past may = omega (arith, lines-le shape first count, may.1.1)
 event-le shape (Write tid first count) past may = omega (arith, lines-le shape first count, may.1.1)
 event-le shape _ past may = omega arith
@@ -54,7 +54,7 @@ some_weight (Step tid) = omega arith
 some_weight _ = omega arith
 
 -- an event has at most as many lines as the memory has words, and weighs at least one
-all-le : (shape : Form) (past : List Event) → IsWellFormed past → length (all_accesses shape past) ≤ 2 ^ 30 * weight past
+all-le : (shape : Dimensions) (past : List Event) → IsWellFormed past → length (all_accesses shape past) ≤ 2 ^ 30 * weight past
 all-le shape [] formed = omega arith
 all-le shape (e ∷ past) formed =
     omega (
@@ -84,7 +84,7 @@ counts-fit all few =
     })
 
 -- a write weighs one and can access as many lines as the memory has words: so the counts are in 128 bits
-pub have_room : (shape : Form) (past : List Event) → IsWellFormed past → All HasRoom (by_routine (all_accesses shape past))
+pub have_room : (shape : Dimensions) (past : List Event) → IsWellFormed past → All HasRoom (by_routine (all_accesses shape past))
 have_room shape past formed = counts-fit (all_accesses shape past) (omega (arith, all-le shape past formed, is_light past formed))
 
 -- ---- steps

@@ -24,7 +24,7 @@ use Rattle.call_tracker.specs.CallStacks as calls
 use Rattle.cost_points.specs.Keys.{grouped}
 use Rattle.cache_lines.specs.Held.{Held}
 use Rattle.cache_lines.specs.Kept as lines
-use Rattle.cache_lines.specs.Shapes.{Form}
+use Rattle.cache_lines.specs.Shapes.{Dimensions}
 use Rattle.cache_profile.specs.Private.Added.{AreOf}
 use Rattle.cache_profile.specs.ByRoutine.{LineAccess, accesses_of, all_accesses, by_routine, innermost, routine_at}
 use Rattle.cache_profile.specs.LineAccesses.{line_accesses, lines_accessed, lines_over, missed}
@@ -45,7 +45,7 @@ count_named entry (m ∷ ms) =
     ∙ ap (λ n. cond m 1 0 + n) rest ∙ sym (sum_by-cons (λ b. cond b 1 0) m ms)
 
 -- what the accesses of a read come to
-pub are_of : (shape : Form) (past : List Event) (tid first count entry accesses misses : ℕ) → entry ≡ innermost past tid → 1 ≤ accesses →
+pub are_of : (shape : Dimensions) (past : List Event) (tid first count entry accesses misses : ℕ) → entry ≡ innermost past tid → 1 ≤ accesses →
     accesses ≡ length (lines_over shape first count) → misses ≡ count_missed shape (line_accesses shape past) (lines_over shape first count) →
     AreOf entry accesses misses (accesses_of shape (Read tid first count) past)
 are_of shape past tid first count entry accesses misses whose some all missing =
@@ -58,36 +58,36 @@ are_of shape past tid first count entry accesses misses whose some all missing =
     }
 
 -- and where the cache stands for the accesses before
-pub are_counted : (shape : Form) (past : List Event) (tid first count : ℕ) (cache : Held) (entry accesses misses : ℕ) → cache.shape ≡ shape → lines.CacheStandsFor cache (line_accesses shape past) →
+pub are_counted : (shape : Dimensions) (past : List Event) (tid first count : ℕ) (cache : Held) (entry accesses misses : ℕ) → cache.shape ≡ shape → lines.CacheStandsFor cache (line_accesses shape past) →
     entry ≡ innermost past tid → 1 ≤ accesses → accesses ≡ length (lines_over cache.shape first count) →
     ((earlier : List ℕ) → lines.CacheStandsFor cache earlier → misses ≡ count_missed cache.shape earlier (lines_over cache.shape first count)) →
     AreOf entry accesses misses (accesses_of shape (Read tid first count) past)
 are_counted shape past tid first count cache entry accesses misses same stands whose some all missing =
-    are_of shape past tid first count entry accesses misses whose some (all ∙ ap (λ (form : Form). length (lines_over form first count)) same)
-    (missing (line_accesses shape past) stands ∙ ap (λ (form : Form). count_missed form (line_accesses shape past) (lines_over form first count)) same)
+    are_of shape past tid first count entry accesses misses whose some (all ∙ ap (λ (form : Dimensions). length (lines_over form first count)) same)
+    (missing (line_accesses shape past) stands ∙ ap (λ (form : Dimensions). count_missed form (line_accesses shape past) (lines_over form first count)) same)
 
 -- ---- which event may come next
-pub formed_next : (shape : Form) (kept : KeptMisses) (past : List Event) (e : Event) → MissesStandFor shape kept past → MayCome kept e → IsWellFormed (e ∷ past)
+pub formed_next : (shape : Dimensions) (kept : KeptMisses) (past : List Event) (e : Event) → MissesStandFor shape kept past → MayCome kept e → IsWellFormed (e ∷ past)
 formed_next shape kept past e stands may = (allowed_by e (lives kept) kept.progress past stands.progress_is stands.calls.threads_live).0 may
 
-pub may_next : (shape : Form) (kept : KeptMisses) (past : List Event) (e : Event) → MissesStandFor shape kept past → IsWellFormed (e ∷ past) → MayCome kept e
+pub may_next : (shape : Dimensions) (kept : KeptMisses) (past : List Event) (e : Event) → MissesStandFor shape kept past → IsWellFormed (e ∷ past) → MayCome kept e
 may_next shape kept past e stands formed = (allowed_by e (lives kept) kept.progress past stands.progress_is stands.calls.threads_live).1 formed
 
 -- what follows the events of some past is of some past
-pub of_some : (shape : Form) (old new : KeptMisses) (e : Event) → ∥ IsOfSome shape old ∥₁ → ((past : List Event) → MissesStandFor shape old past → MissesStandFor shape new (e ∷ past)) → ∥ IsOfSome shape new ∥₁
+pub of_some : (shape : Dimensions) (old new : KeptMisses) (e : Event) → ∥ IsOfSome shape old ∥₁ → ((past : List Event) → MissesStandFor shape old past → MissesStandFor shape new (e ∷ past)) → ∥ IsOfSome shape new ∥₁
 of_some shape old new e of goes = ∥∥₁_map of (λ is. record { past = e ∷ is.past; now = goes is.past is.now })
 
 -- the open calls take the event
-pub may_calls : (shape : Form) (kept : KeptMisses) (e : Event) → ∥ IsOfSome shape kept ∥₁ → MayCome kept e → ∥ MayTake calls.StacksStandFor kept.calls e ∥₁
+pub may_calls : (shape : Dimensions) (kept : KeptMisses) (e : Event) → ∥ IsOfSome shape kept ∥₁ → MayCome kept e → ∥ MayTake calls.StacksStandFor kept.calls e ∥₁
 may_calls shape kept e of may = ∥∥₁_map of (λ is. record { past = is.past; now = is.now.calls; formed = formed_next shape kept is.past e is.now may })
 
 -- ---- an access
-module _ (shape : Form) (past : List Event) (tid first count : ℕ) (old new : KeptMisses) (stands : MissesStandFor shape old past) (same : new.cache.shape ≡ old.cache.shape)
+module _ (shape : Dimensions) (past : List Event) (tid first count : ℕ) (old new : KeptMisses) (stands : MissesStandFor shape old past) (same : new.cache.shape ≡ old.cache.shape)
     (after : (earlier : List ℕ) → lines.CacheStandsFor old.cache earlier → lines.CacheStandsFor new.cache (reverse (lines_over old.cache.shape first count) ++ earlier))
     (calls_same : new.calls ≡ old.calls) (steps_same : new.steps ≡ old.steps)
     (counted : new.routines ≡ by_routine (all_accesses shape past ++ accesses_of shape (Read tid first count) past)) where
   lines_after : lines.CacheStandsFor new.cache (reverse (lines_over shape first count) ++ line_accesses shape past)
-  lines_after = subst (λ (form : Form). lines.CacheStandsFor new.cache (reverse (lines_over form first count) ++ line_accesses shape past)) stands.shape_is (after (line_accesses shape past) stands.cache)
+  lines_after = subst (λ (form : Dimensions). lines.CacheStandsFor new.cache (reverse (lines_over form first count) ++ line_accesses shape past)) stands.shape_is (after (line_accesses shape past) stands.cache)
 
   calls_after : calls.StacksStandFor new.calls (Read tid first count ∷ past)
   calls_after = subst (λ (s : Stacks). calls.StacksStandFor s (Read tid first count ∷ past)) (sym calls_same) (record {
@@ -130,7 +130,7 @@ module _ (shape : Form) (past : List Event) (tid first count : ℕ) (old new : K
       subst (λ (f : Event). MissesStandFor shape new (f ∷ past)) (sym is) (after_write (subst (λ (f : Event). IsProgressOf new.progress (f ∷ past)) is progress))
 
 -- ---- an event that accesses nothing
-pub after_step : (shape : Form) (past : List Event) (tid : ℕ) (old new : KeptMisses) → MissesStandFor shape old past → new.cache ≡ old.cache → new.calls ≡ old.calls → new.routines ≡ old.routines → new.steps ≡ old.steps + 1 →
+pub after_step : (shape : Dimensions) (past : List Event) (tid : ℕ) (old new : KeptMisses) → MissesStandFor shape old past → new.cache ≡ old.cache → new.calls ≡ old.calls → new.routines ≡ old.routines → new.steps ≡ old.steps + 1 →
     IsProgressOf new.progress (Step tid ∷ past) → MissesStandFor shape new (Step tid ∷ past)
 after_step shape past tid old new stands cache calls_same routines more progress = record {
   shape_is = ap (λ (h : Held). h.shape) cache ∙ stands.shape_is;
@@ -146,7 +146,7 @@ after_step shape past tid old new stands cache calls_same routines more progress
   progress_is = progress;
 }
 
-no_lines : (shape : Form) (e : Event) → IsOther e → lines_accessed shape e ≡ []
+no_lines : (shape : Dimensions) (e : Event) → IsOther e → lines_accessed shape e ≡ []
 no_lines shape (Read tid first count) other = absurd other
 no_lines shape (Write tid first count) other = absurd other
 no_lines shape (Step tid) other = refl
@@ -166,7 +166,7 @@ no_step (Ret tid target) past other = refl
 no_step (Start tid entry) past other = refl
 no_step (End tid) past other = refl
 
-pub after_other : (shape : Form) (past : List Event) (e : Event) (old new : KeptMisses) → IsOther e → MissesStandFor shape old past → new.cache ≡ old.cache → new.routines ≡ old.routines → new.steps ≡ old.steps →
+pub after_other : (shape : Dimensions) (past : List Event) (e : Event) (old new : KeptMisses) → IsOther e → MissesStandFor shape old past → new.cache ≡ old.cache → new.routines ≡ old.routines → new.steps ≡ old.steps →
     calls.StacksStandFor new.calls (e ∷ past) → IsProgressOf new.progress (e ∷ past) → MissesStandFor shape new (e ∷ past)
 after_other shape past e old new other stands cache routines same called progress = record {
   shape_is = ap (λ (h : Held). h.shape) cache ∙ stands.shape_is;

@@ -6,13 +6,13 @@ use Rattle.std.proofs.lemmas.Nat.{le-div}
 use Rattle.std.proofs.Math.Nat.{add-div_right, div-mul-le_self}
 use Rattle.cost_points.specs.Keys.{insert_rising}
 use Rattle.cost_points.proofs.Rising.{insert_below, insert_same}
-use Rattle.cache_lines.specs.Shapes.{Form}
+use Rattle.cache_lines.specs.Shapes.{Dimensions}
 use Rattle.cache_profile.specs.LineAccesses.{line_of, lines_over}
 
 quotients-rise : (a b n : ℕ) → 0 < n → a ≤ b → a / n ≤ b / n
 quotients-rise a b n some le = le-div (a / n) b n some (omega (arith, div-mul-le_self a n, le))
 
-module _ (shape : Form) (wide : 4 ≤ shape.line) where
+module _ (shape : Dimensions) (wide : 4 ≤ shape.line) where
   some_byte : 0 < shape.line
   some_byte = omega (arith, wide)
 

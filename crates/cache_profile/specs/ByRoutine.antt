@@ -6,7 +6,7 @@ use Rattle.trace_model.specs.declared.event_kinds.Event.{Event}
 use Rattle.trace_model.specs.Activations.{open_calls}
 use Rattle.trace_model.specs.Events.{thread_of}
 use Rattle.cost_points.specs.Keys.{grouped}
-use Rattle.cache_lines.specs.Shapes.{Form}
+use Rattle.cache_lines.specs.Shapes.{Dimensions}
 use Rattle.cache_profile.specs.declared.routines.RoutineMisses.{RoutineMisses}
 use Rattle.cache_profile.specs.LineAccesses.{line_accesses, lines_accessed, missed}
 
@@ -25,13 +25,13 @@ routine_at past None = 0
 routine_at past (Some t) = innermost past t
 
 -- the line accesses of the event after the past, in their order
-abbrev pub accesses_of : Form → Event → List Event → List LineAccess
+abbrev pub accesses_of : Dimensions → Event → List Event → List LineAccess
 accesses_of shape e past =
     map (λ m. record { entry = routine_at past (thread_of e); missed = m })
     (missed shape (line_accesses shape past) (lines_accessed shape e))
 
 -- all line accesses, in their order
-abbrev pub all_accesses : Form → List Event → List LineAccess
+abbrev pub all_accesses : Dimensions → List Event → List LineAccess
 all_accesses shape [] = []
 all_accesses shape (e ∷ past) = all_accesses shape past ++ accesses_of shape e past
 

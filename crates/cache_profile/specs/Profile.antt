@@ -9,7 +9,7 @@ use Rattle.call_tracker.specs.CallStacks.{Stacks}
 use Rattle.call_tracker.specs.CallStacks as calls
 use Rattle.cache_lines.specs.Held.{Held}
 use Rattle.cache_lines.specs.Kept as lines
-use Rattle.cache_lines.specs.Shapes.{Form}
+use Rattle.cache_lines.specs.Shapes.{Dimensions}
 use Rattle.cache_profile.specs.declared.routines.RoutineMisses.{RoutineMisses}
 use Rattle.cache_profile.specs.ByRoutine.{all_accesses, by_routine}
 use Rattle.cache_profile.specs.LineAccesses.{line_accesses}
@@ -24,7 +24,7 @@ pub record KeptMisses : Type 0 where
   pub progress : ProgressState
 
 -- It is that of this past, which is one that a run can have, for a cache of the shape.
-pub record MissesStandFor (shape : Form) (kept : KeptMisses) (past : List Event) : Type 0 where
+pub record MissesStandFor (shape : Dimensions) (kept : KeptMisses) (past : List Event) : Type 0 where
   pub shape_is : kept.cache.shape ≡ shape
   pub cache : lines.CacheStandsFor kept.cache (line_accesses shape past)
   pub calls : calls.StacksStandFor kept.calls past
@@ -54,6 +54,6 @@ abbrev pub MayCome : KeptMisses → Event → Type 0
 MayCome kept e = IsAllowed e (is_of_one (lives kept) e) kept.progress
 
 -- It is that of some past.
-pub record IsOfSome (shape : Form) (kept : KeptMisses) : Type 0 where
+pub record IsOfSome (shape : Dimensions) (kept : KeptMisses) : Type 0 where
   pub past : List Event
   pub now : MissesStandFor shape kept past

@@ -15,7 +15,7 @@ pub(crate) struct EventAccesses {
     pub misses: u32,
 }
 
-/// Accesses `count` lines, from `first` on, and says how many of them missed.
+// Accesses `count` lines, from `first` on, and says how many of them missed.
 fn access_lines(cache: &mut Cache, first: u32, count: u32) -> u32
     requires { first + count ≤ 2 ^ 32 }
     ensures shape { cache.new.shape ≡ cache.old.shape }

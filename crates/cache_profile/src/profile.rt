@@ -23,9 +23,9 @@ use trace_order::{Progress, thread_of};
 
 /// The shape of a cache, carried by a type: what is known of an observer after a run is its type and its past.
 pub trait Shaped {
-    ghost use Rattle.cache_lines.specs.Shapes.{Form};
+    ghost use Rattle.cache_lines.specs.Shapes.{Dimensions};
 
-    ghost shape: { Form };
+    ghost shape: { Dimensions };
 }
 
 impl Shaped for Brand {
@@ -68,7 +68,7 @@ impl<K: Shaped> Model for CacheProfile<K> {
     }) ∥₁ };
 }
 
-/// The entry of the routine that runs in the thread: that of its innermost open call.
+// The entry of the routine that runs in the thread: that of its innermost open call.
 fn running(calls: &CallStacks, tid: Tid) -> Addr
     ensures { (past : List Event) → CallsOf calls.now past → result ≡ innermost past tid }
 {

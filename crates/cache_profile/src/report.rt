@@ -41,7 +41,7 @@ impl Model for CacheReport {
     ghost view = { λ r. record { finish = r.finish; steps = r.steps; routines = r.routines.items } };
 }
 
-/// Appends the line of a routine's counts.
+// Appends the line of a routine's counts.
 fn push_counts_line(text: &mut Vec<u8>, counts: RoutineMisses) -> Result<(), AllocError>
     ensures { OnOk result (text.new.items ≡ text.old.items ++ ended (counts_line counts)) }
 {
@@ -51,7 +51,7 @@ fn push_counts_line(text: &mut Vec<u8>, counts: RoutineMisses) -> Result<(), All
     text.extend_from_slice(b"\n")
 }
 
-/// Appends a routine's line and that of its counts.
+// Appends a routine's line and that of its counts.
 fn push_routine(text: &mut Vec<u8>, routine: &ReportedMisses) -> Result<(), AllocError>
     ensures { OnOk result (text.new.items ≡ text.old.items ++ routine_text routine.now) }
 {
@@ -59,7 +59,7 @@ fn push_routine(text: &mut Vec<u8>, routine: &ReportedMisses) -> Result<(), Allo
     push_counts_line(text, routine.counts)
 }
 
-/// Appends the lines of all routines.
+// Appends the lines of all routines.
 fn push_routines(text: &mut Vec<u8>, routines: &[ReportedMisses]) -> Result<(), AllocError>
     ensures { OnOk result (text.new.items ≡ text.old.items ++ flat_map routine_text routines.now) }
 {

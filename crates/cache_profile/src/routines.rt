@@ -18,7 +18,7 @@ pub struct RoutineMisses {
 }
 
 impl RoutineMisses {
-    /// With that many more accesses and misses.
+    // With that many more accesses and misses.
     fn with(self, accesses: u32, misses: u32) -> RoutineMisses
         requires { HasRoom self }
         ensures { result ≡ record {
@@ -35,7 +35,7 @@ impl RoutineMisses {
     }
 }
 
-/// Where the routine of the entry is, or where it would go. The place `last` is looked at first.
+// Where the routine of the entry is, or where it would go. The place `last` is looked at first.
 fn search(routines: &[RoutineMisses], last: usize, entry: Addr) -> Result<usize, usize>
     requires { IsRising (map (λ r. r.entry) routines.now) }
     ensures { FindsKey (map (λ r. r.entry) routines.now) entry result }

@@ -17,7 +17,7 @@ pub enum JumpKind {
     PopPush,
 }
 
-/// Whether the register holds return addresses.
+// Whether the register holds return addresses.
 #[inline(always)]
 fn is_link(register: Reg) -> bool
     ensures { result ≡ is_link register }
@@ -43,7 +43,7 @@ pub fn kind(i: Instr) -> JumpKind
     }
 }
 
-/// What JALR does: it goes to the address in `base`, and leaves its return address in `rd`.
+// What JALR does: it goes to the address in `base`, and leaves its return address in `rd`.
 #[inline(always)]
 fn jalr_kind(rd: Reg, base: Reg) -> JumpKind
     ensures { result ≡ jalr_kind rd base }

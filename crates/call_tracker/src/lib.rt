@@ -15,4 +15,4 @@ pub use call_stacks::CallStacks;
 pub use jumps::{JumpKind, kind};
 pub use open_calls::{OpenCall, OpenCalls};
 pub use returns::Returns;
-pub use thread_calls::{BegunCall, Tally, ThreadCalls};
+pub use thread_calls::{BegunCall, ThreadCalls, ThreadCounts};

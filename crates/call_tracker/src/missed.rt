@@ -4,7 +4,7 @@ ghost use Rattle.call_tracker.specs.Private.Missed.{AreMissed, IsMissed};
 
 use guest_words::Addr;
 
-/// How many targets are remembered.
+// How many targets are remembered.
 const PLACES: usize = 8;
 
 /// A target, and how many of the outermost calls are known not to return to it.

@@ -10,13 +10,13 @@ use std::marker::Model;
 
 /// What a thread has counted: its steps, and the words that it read where another thread, or the kernel, had written last.
 #[derive(Clone, Copy)]
-pub struct Tally {
+pub struct ThreadCounts {
     steps: u64,
     thread: u64,
     kernel: u64,
 }
 
-impl Model for Tally {
+impl Model for ThreadCounts {
     ghost use Rattle.call_tracker.specs.ThreadCalls.{Counts};
 
     ghost Value = { Counts };
@@ -26,9 +26,9 @@ impl Model for Tally {
     ghost inverse = { λ c. record { steps = c.steps; thread = c.thread; kernel = c.kernel } };
 }
 
-impl Tally {
+impl ThreadCounts {
     /// What was counted since: steps, words of other threads and words of the kernel.
-    pub fn since(self, earlier: Tally) -> (u64, u64, u64)
+    pub fn since(self, earlier: ThreadCounts) -> (u64, u64, u64)
         ensures steps { result.0 ≡ self.steps - earlier.steps }
         ensures thread { result.1 ≡ self.thread - earlier.thread }
         ensures kernel { result.2 ≡ self.kernel - earlier.kernel }
@@ -47,7 +47,7 @@ impl Tally {
 pub struct BegunCall {
     entry: Addr,
     back: Option<Addr>,
-    earlier: Tally,
+    earlier: ThreadCounts,
 }
 
 impl Model for BegunCall {
@@ -69,7 +69,7 @@ impl BegunCall {
     }
 
     /// What its thread had counted when it began.
-    pub fn earlier(self) -> Tally
+    pub fn earlier(self) -> ThreadCounts
         ensures { result ≡ self.earlier }
     {
         self.earlier
@@ -92,7 +92,7 @@ impl Returns for BegunCall {
 #[derive(Drop)]
 pub struct ThreadCalls {
     calls: OpenCalls<BegunCall>,
-    counts: Tally,
+    counts: ThreadCounts,
 }
 
 impl Model for ThreadCalls {
@@ -116,7 +116,7 @@ impl ThreadCalls {
     {
         Ok(ThreadCalls {
             calls: OpenCalls::new(alloc)?,
-            counts: Tally {
+            counts: ThreadCounts {
                 steps: 0,
                 thread: 0,
                 kernel: 0,
@@ -151,7 +151,7 @@ impl ThreadCalls {
     }
 
     /// What it has counted.
-    pub fn counts(&self) -> Tally
+    pub fn counts(&self) -> ThreadCounts
         ensures { result ≡ self.now.counts }
     {
         self.counts
@@ -190,7 +190,7 @@ impl ThreadCalls {
         ensures { self.new ≡ record self.old { counts = record self.old.counts { steps = self.old.counts.steps + steps } } }
     {
         let counts = self.counts;
-        self.counts = Tally {
+        self.counts = ThreadCounts {
             steps: counts.steps + steps,
             thread: counts.thread,
             kernel: counts.kernel,
@@ -204,7 +204,7 @@ impl ThreadCalls {
         ensures { self.new ≡ record self.old { counts = record self.old.counts { thread = self.old.counts.thread + thread; kernel = self.old.counts.kernel + kernel } } }
     {
         let counts = self.counts;
-        self.counts = Tally {
+        self.counts = ThreadCounts {
             steps: counts.steps,
             thread: counts.thread + thread,
             kernel: counts.kernel + kernel,

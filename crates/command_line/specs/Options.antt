@@ -6,7 +6,7 @@ use Rattle.std.specs.Str.{bytes_eq}
 use Rattle.std.specs.Str.Parse.{digits_value}
 use Rattle.guest_words.specs.declared.limits.TheConstants.{DEMO_ROUTINES, QUANTUM_STEPS, RUN_STEPS}
 use Rattle.command_line.specs.declared.guest_options.TheConstants.{DEFAULT_BUDGET, DEFAULT_QUANTUM}
-use Rattle.cache_lines.specs.Shapes.{Form, shape_of}
+use Rattle.cache_lines.specs.Shapes.{Dimensions, shape_of}
 use Rattle.cache_lines.specs.declared.shape.TheConstants.{LINE, SETS, WAYS}
 use Rattle.stamps.specs.declared.width.StampBits.{StampBits}
 use Rattle.stamps.specs.declared.width.StampBits.TheVariants.{B8, B16, B32}
@@ -39,7 +39,7 @@ pub record RunOptions : Type 0 where
 pub data Analysis : Type 0 where
   Run : RunOptions → Analysis
   Trace : Analysis
-  Cache : Form → Analysis
+  Cache : Dimensions → Analysis
   Contexts : StampBits → Analysis
 
 -- What `replay` is asked.
@@ -146,16 +146,16 @@ abbrev pub number_to : ℕ → Option (List ℕ) → Option ℕ
 number_to greatest text = option_and_then (number_between 1 greatest) text
 
 -- the shape of a cache of these numbers, where all are there
-abbrev pub shape_with : Option ℕ → Option ℕ → Option ℕ → Option Form
+abbrev pub shape_with : Option ℕ → Option ℕ → Option ℕ → Option Dimensions
 shape_with (Some sets) (Some ways) (Some line) = shape_of sets ways line
 shape_with _ _ _ = None
 
 -- the shape that these texts say
-abbrev pub shape_said : Option (List ℕ) → Option (List ℕ) → Option (List ℕ) → Option Form
+abbrev pub shape_said : Option (List ℕ) → Option (List ℕ) → Option (List ℕ) → Option Dimensions
 shape_said sets ways line = shape_with (number_to SETS sets) (number_to WAYS ways) (number_to LINE line)
 
 -- the shape that `clap`'s matches say
-abbrev pub shape_of_rows : List Row → Option Form
+abbrev pub shape_of_rows : List Row → Option Dimensions
 shape_of_rows rows = shape_said (first_of (codes "sets") rows) (first_of (codes "ways") rows) (first_of (codes "line") rows)
 
 -- what `run` is asked beside, with this width, where that is there; the rest is read of the rows

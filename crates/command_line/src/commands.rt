@@ -16,7 +16,7 @@ use guest_words::limits::DEMO_ROUTINES;
 use std::alloc::{AllocError, Global};
 use thiserror::Error;
 
-/// The greatest number of a demo.
+// The greatest number of a demo.
 const MAX_DEMO: u64 = DEMO_ROUTINES as u64;
 
 /// Why no command is made of the words.

@@ -15,7 +15,7 @@ use guest_words::{Addr, push_decimal};
 use profile_report::{hex_address, push_number_line, push_points};
 use std::alloc::AllocError;
 
-/// Appends the line of a context.
+// Appends the line of a context.
 fn push_context_line(text: &mut Vec<u8>, depth: u32, entry: Addr) -> Result<(), AllocError>
     ensures { OnOk result (text.new.items ≡ text.old.items ++ ended (context_line depth entry)) }
 {
@@ -26,7 +26,7 @@ fn push_context_line(text: &mut Vec<u8>, depth: u32, entry: Addr) -> Result<(), 
     text.extend_from_slice(b"\n")
 }
 
-/// Appends the lines of the context of a number.
+// Appends the lines of the context of a number.
 fn push_context(text: &mut Vec<u8>, tree: &Tree, n: u32) -> Result<(), AllocError>
     requires some { 1 ≤ n }
     requires within { n ≤ length tree.now.branches.places }
@@ -38,7 +38,7 @@ fn push_context(text: &mut Vec<u8>, tree: &Tree, n: u32) -> Result<(), AllocErro
     push_points(text, &points)
 }
 
-/// Appends the lines of all contexts.
+// Appends the lines of all contexts.
 fn push_each(text: &mut Vec<u8>, tree: &Tree) -> Result<(), AllocError>
     ensures { (past : List Event) (ordered : List (List ℕ)) → TreeStandsFor tree.now past
         → IsInOrder (contexts past) ordered

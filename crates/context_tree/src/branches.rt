@@ -50,8 +50,8 @@ impl Model for Branches {
     ghost view = { λ t. record { places = t.numbers; points = lists t.points.items; links = t.links.items; threads = t.threads.list } };
 }
 
-/// The number of the context that begins with this entry right under the context `above`. Where it is not there it comes last,
-/// with no point. A refusal changes nothing.
+// The number of the context that begins with this entry right under the context `above`. Where it is not there it comes last,
+// with no point. A refusal changes nothing.
 fn begin(
     alloc: Global,
     numbers: &mut ContextNumbers,

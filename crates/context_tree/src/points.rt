@@ -36,7 +36,7 @@ impl Model for ContextPoints {
     ghost invariant = { λ c. ForSome c.last (MayJoin (known c.earlier)) };
 }
 
-/// The point joins the points.
+// The point joins the points.
 fn join(alloc: Global, points: &mut Option<SortedPoints>, point: Point) -> Result<(), AllocError>
     requires points { ArePoints (known points.old) }
     requires fits { HasRoom point }
@@ -52,7 +52,7 @@ fn join(alloc: Global, points: &mut Option<SortedPoints>, point: Point) -> Resul
     }
 }
 
-/// The points in one piece.
+// The points in one piece.
 fn in_one(alloc: Global, points: &Option<SortedPoints>) -> Result<Vec<Point>, AllocError>
     ensures { IfOk result (λ all. all.items ≡ known points.now) }
 {
@@ -86,7 +86,7 @@ impl ContextPoints {
         Ok(points)
     }
 
-    /// Makes room for one point.
+    // Makes room for one point.
     fn reserve(&mut self) -> Result<(), AllocError>
         ensures room { OnOk result (1 ≤ self.new.room) }
         ensures points { self.new.points ≡ self.old.points }
@@ -98,7 +98,7 @@ impl ContextPoints {
         Ok(())
     }
 
-    /// Adds an activation that ended. There is room, so it does not allocate.
+    // Adds an activation that ended. There is room, so it does not allocate.
     fn add(&mut self, ended: Done)
         requires spare { 1 ≤ self.old.room }
         requires points { ArePoints self.old.points }

@@ -8,17 +8,17 @@ ghost use Rattle.cost_points.specs.Search.{FindsKey};
 use crate::Point;
 use std::alloc::{AllocError, Global};
 
-/// How many items a block has at most.
+// How many items a block has at most.
 const MOST: usize = 128;
 
-/// How many items stay in a block that is cut in two.
+// How many items stay in a block that is cut in two.
 const HALF: usize = 64;
 
 /// What stands in blocks, by its key.
 pub(crate) trait Keyed {
     ghost key_of: { Self → ℕ };
 
-    /// The key.
+    // The key.
     fn key(&self) -> u64
         ensures { result ≡ key_of self.now };
 }
@@ -35,7 +35,7 @@ impl Place {
     pub(crate) const FIRST: Place = Place { block: 0, at: 0 };
 }
 
-/// The block that the key belongs into.
+// The block that the key belongs into.
 fn block_of<T: Keyed>(blocks: &[Vec<T>], key: u64) -> usize
     requires filled { IsFilled (map (λ b. b.items) blocks.now) }
     requires rising { IsRising (map T.key_of (joined (map (λ b. b.items) blocks.now))) }
@@ -55,7 +55,7 @@ fn block_of<T: Keyed>(blocks: &[Vec<T>], key: u64) -> usize
     low
 }
 
-/// Where in a block the key stands, or where it would go.
+// Where in a block the key stands, or where it would go.
 fn search_block<T: Keyed>(block: &[T], key: u64) -> Result<usize, usize>
     requires { IsRising (map T.key_of block.now) }
     ensures { FindsKey (map T.key_of block.now) key result }
@@ -100,7 +100,7 @@ pub(crate) fn find<T: Keyed>(blocks: &[Vec<T>], last: &mut Place, key: u64) -> R
     found
 }
 
-/// Cuts a block in two. A refusal changes no item.
+// Cuts a block in two. A refusal changes no item.
 fn cut_block<T: Drop>(blocks: &mut Vec<Vec<T>>, b: usize) -> Result<(), AllocError>
     requires inside { b < length blocks.old.items }
     requires long { 128 ≤ length (get_or (map (λ v. v.items) blocks.old.items) b []) }
@@ -116,7 +116,7 @@ fn cut_block<T: Drop>(blocks: &mut Vec<Vec<T>>, b: usize) -> Result<(), AllocErr
     Ok(())
 }
 
-/// Makes a block shorter than the longest, and says where its place is then. A refusal changes no item.
+// Makes a block shorter than the longest, and says where its place is then. A refusal changes no item.
 fn shorten<T: Drop>(blocks: &mut Vec<Vec<T>>, place: Place) -> Result<Place, AllocError>
     requires inside { place.block < length blocks.old.items }
     requires at { place.at ≤ length (get_or (map (λ v. v.items) blocks.old.items) place.block []) }

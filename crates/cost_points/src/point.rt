@@ -29,7 +29,7 @@ pub struct Point {
 }
 
 impl Split {
-    /// The parts of one activation.
+    // The parts of one activation.
     fn of_one(ended: Done) -> Split
         ensures { result ≡ split_of (ended ∷ []) }
     {
@@ -41,7 +41,7 @@ impl Split {
         }
     }
 
-    /// The parts with those of others.
+    // The parts with those of others.
     fn plus(self, other: Split) -> Split
         requires own { HasSplitRoom self }
         requires others { HasSplitRoom other }

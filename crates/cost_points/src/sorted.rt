@@ -45,7 +45,7 @@ impl Keyed for Point {
     }
 }
 
-/// Where the point of the size is, or where it would go.
+// Where the point of the size is, or where it would go.
 fn search(points: &[Point], size: u64) -> Result<usize, usize>
     requires { IsRising (map (λ p. p.size) points.now) }
     ensures { FindsKey (map (λ p. p.size) points.now) size result }
@@ -71,7 +71,7 @@ pub fn insert_point(points: &mut Vec<Point>, point: Point)
     }
 }
 
-/// One more point among blocks of points, the last of which was found at a place.
+// One more point among blocks of points, the last of which was found at a place.
 fn add_to(points: &mut Vec<Vec<Point>>, last: &mut Place, point: Point) -> Result<(), AllocError>
     requires filled { IsFilled (map (λ b. b.items) points.old.items) }
     requires rising { IsRising (map (λ p. p.size) (joined (map (λ b. b.items) points.old.items))) }
@@ -99,7 +99,7 @@ fn add_to(points: &mut Vec<Vec<Point>>, last: &mut Place, point: Point) -> Resul
     }
 }
 
-/// One more activation among blocks of points, the last of which was found at a place.
+// One more activation among blocks of points, the last of which was found at a place.
 #[inline(always)]
 fn add_one(points: &mut Vec<Vec<Point>>, last: &mut Place, ended: &Done) -> Result<(), AllocError>
     requires filled { IsFilled (map (λ b. b.items) points.old.items) }
@@ -125,7 +125,7 @@ fn add_one(points: &mut Vec<Vec<Point>>, last: &mut Place, ended: &Done) -> Resu
     }
 }
 
-/// The first activation of its size: a new point at its place.
+// The first activation of its size: a new point at its place.
 #[cold]
 #[inline(never)]
 fn add_size(

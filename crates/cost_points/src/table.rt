@@ -41,7 +41,7 @@ impl Model for Table {
     }) };
 }
 
-/// Where the routine of the entry is, or where it would go.
+// Where the routine of the entry is, or where it would go.
 fn search(routines: &[RoutinePoints], entry: Addr) -> Result<usize, usize>
     requires { IsRising (map (λ r. r.entry) routines.now) }
     ensures { FindsKey (map (λ r. r.entry) routines.now) entry result }
@@ -49,7 +49,7 @@ fn search(routines: &[RoutinePoints], entry: Addr) -> Result<usize, usize>
     routines.binary_search_by_key(&entry, |routine| routine.entry)
 }
 
-/// The same, with a look at the place where a routine was found last. It becomes the place where this one is found.
+// The same, with a look at the place where a routine was found last. It becomes the place where this one is found.
 #[inline(always)]
 fn find(routines: &[RoutinePoints], last: &mut usize, entry: Addr) -> Result<usize, usize>
     requires { IsRising (map (λ r. r.entry) routines.now) }
@@ -68,7 +68,7 @@ fn find(routines: &[RoutinePoints], last: &mut usize, entry: Addr) -> Result<usi
     found
 }
 
-/// One more activation among the routines, the last of which was found at a place.
+// One more activation among the routines, the last of which was found at a place.
 #[inline(always)]
 fn add_one(
     alloc: Global,
@@ -95,7 +95,7 @@ fn add_one(
     }
 }
 
-/// The first activation of its routine: a new one at its place.
+// The first activation of its routine: a new one at its place.
 #[cold]
 #[inline(never)]
 fn add_routine(
@@ -115,7 +115,7 @@ fn add_routine(
     Ok(())
 }
 
-/// One more point among the routines.
+// One more point among the routines.
 fn add_to(
     alloc: Global,
     routines: &mut Vec<RoutinePoints>,

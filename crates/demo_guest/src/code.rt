@@ -15,7 +15,7 @@ use rv_asm::{Builder, Code, Label};
 use rv_isa::{ImmOp, Instr, LoadKind, Reg, StoreKind, Test};
 use std::alloc::{AllocError, Global};
 
-/// The register of a number.
+// The register of a number.
 fn x(n: u8) -> Reg
     requires { n < 32 }
     ensures number { result ≡ n }
@@ -23,7 +23,7 @@ fn x(n: u8) -> Reg
     Reg::new(n).unwrap()
 }
 
-/// The sum of a register and a number.
+// The sum of a register and a number.
 fn addi(rd: u8, left: u8, imm: i32) -> Instr
     requires { (rd < 32) × (left < 32) }
     ensures sum { result ≡ Immediate Addi rd left imm }
@@ -36,7 +36,7 @@ fn addi(rd: u8, left: u8, imm: i32) -> Instr
     }
 }
 
-/// A jump to a label, which sets the register of this number to the address behind it.
+// A jump to a label, which sets the register of this number to the address behind it.
 fn jal(rd: u8) -> Instr
     requires { rd < 32 }
     ensures call { result ≡ Jal rd (pos 0) }
@@ -47,7 +47,7 @@ fn jal(rd: u8) -> Instr
     }
 }
 
-/// Appends the start of a thread. The new one runs on in a loop, and the old one at the first call.
+// Appends the start of a thread. The new one runs on in a loop, and the old one at the first call.
 fn emit_start(program: &mut Builder, main: Label, worker: Label) -> Result<(), AllocError>
     requires labels { (main ≡ 0) × (worker ≡ 1) × (2 ≤ length program.old.bindings) }
     requires no_line { program.old.lines ≡ [] }
@@ -85,7 +85,7 @@ fn emit_start(program: &mut Builder, main: Label, worker: Label) -> Result<(), A
     Ok(())
 }
 
-/// Appends a call of the routine of each label. Behind each call it is the other thread's turn.
+// Appends a call of the routine of each label. Behind each call it is the other thread's turn.
 fn emit_calls(program: &mut Builder, labels: &[Label]) -> Result<(), AllocError>
     requires room { length program.old.lines + 2 * length labels.now ≤ 4000000 }
     requires labels { All (λ label. label < length program.old.bindings) labels.now }
@@ -100,7 +100,7 @@ fn emit_calls(program: &mut Builder, labels: &[Label]) -> Result<(), AllocError>
     Ok(())
 }
 
-/// Appends the end of all threads.
+// Appends the end of all threads.
 fn emit_ending(program: &mut Builder) -> Result<(), AllocError>
     requires room { length program.old.lines + 3 ≤ 4000000 }
     ensures lines { OnOk result (program.new.lines ≡ program.old.lines ++ map plain ending) }
@@ -109,7 +109,7 @@ fn emit_ending(program: &mut Builder) -> Result<(), AllocError>
     emit_all(program, &[addi(10, 0, 0), addi(17, 0, 94), Instr::Ecall])
 }
 
-/// The load of one of the words that routines read.
+// The load of one of the words that routines read.
 fn load(word: u32) -> Instr
     requires { word < 4 }
     ensures load { result ≡ load word }
@@ -122,7 +122,7 @@ fn load(word: u32) -> Instr
     }
 }
 
-/// Appends a routine.
+// Appends a routine.
 fn emit_routine(program: &mut Builder, routine: u32) -> Result<(), AllocError>
     requires room { length program.old.lines + 5 ≤ 4000000 }
     ensures lines { OnOk result (program.new.lines ≡ program.old.lines ++ routine_lines routine) }
@@ -139,7 +139,7 @@ fn emit_routine(program: &mut Builder, routine: u32) -> Result<(), AllocError>
     emit(program, back)
 }
 
-/// Appends the routines, each at its label.
+// Appends the routines, each at its label.
 fn emit_routines(program: &mut Builder, labels: &[Label]) -> Result<(), AllocError>
     requires few { length labels.now ≤ DEMO_ROUTINES }
     requires labels { labels.now ≡ range_with_len 2 (length labels.now) }
@@ -162,7 +162,7 @@ fn emit_routines(program: &mut Builder, labels: &[Label]) -> Result<(), AllocErr
     Ok(())
 }
 
-/// Makes the labels of the routines.
+// Makes the labels of the routines.
 fn routine_labels(
     alloc: Global,
     program: &mut Builder,

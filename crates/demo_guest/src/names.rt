@@ -9,10 +9,10 @@ use guest_words::{Name, NameError, push_decimal};
 use rv_asm::Symbol;
 use std::alloc::{AllocError, Global};
 
-/// The address of the first word of the code.
+// The address of the first word of the code.
 const ENTRY: u32 = 0x1_0054;
 
-/// The symbol of a word, whose name these bytes are.
+// The symbol of a word, whose name these bytes are.
 fn named(alloc: Global, name: &[u8], word: u32) -> Result<Symbol, AllocError>
     requires name { is_name name.now ≡ true }
     requires word { word ≤ 4000000 }
@@ -36,7 +36,7 @@ fn routine_name(alloc: Global, routine: u32) -> Result<Vec<u8>, AllocError>
     Ok(name)
 }
 
-/// The symbol of a routine that begins at this word.
+// The symbol of a routine that begins at this word.
 fn routine_symbol(alloc: Global, routine: u32, word: u32) -> Result<Symbol, AllocError>
     requires routine { routine < DEMO_ROUTINES }
     requires word { word ≤ 4000000 }
@@ -47,7 +47,7 @@ fn routine_symbol(alloc: Global, routine: u32, word: u32) -> Result<Symbol, Allo
     named(alloc, &name, word)
 }
 
-/// Appends the symbols of the routines.
+// Appends the symbols of the routines.
 fn push_routines(alloc: Global, symbols: &mut Vec<Symbol>, routines: u32) -> Result<(), AllocError>
     requires { routines ≤ DEMO_ROUTINES }
     ensures { OnOk result (symbols.new.items

@@ -6,7 +6,7 @@ ghost use Rattle.elf_image.specs.Tests.{first_of, format_tests, header_tests, ki
 use crate::ElfError;
 use crate::headers::FileHeader;
 
-/// The tests of the first 16 bytes and of the version.
+// The tests of the first 16 bytes and of the version.
 fn check_format(file: &[u8], header: &FileHeader) -> Result<(), ElfError>
     requires long { 52 ≤ length file.now }
     requires header { header.now ≡ file_header file.now }
@@ -27,7 +27,7 @@ fn check_format(file: &[u8], header: &FileHeader) -> Result<(), ElfError>
     Ok(())
 }
 
-/// The tests of what the file is for.
+// The tests of what the file is for.
 fn check_kind(file: &[u8], header: &FileHeader) -> Result<(), ElfError>
     requires { header.now ≡ file_header file.now }
     ensures { result ≡ unless_refused (first_of (kind_tests file.now)) }
@@ -44,7 +44,7 @@ fn check_kind(file: &[u8], header: &FileHeader) -> Result<(), ElfError>
     Ok(())
 }
 
-/// The tests of the program headers' size and place.
+// The tests of the program headers' size and place.
 fn check_table(file: &[u8], header: &FileHeader) -> Result<(), ElfError>
     requires { header.now ≡ file_header file.now }
     ensures { result ≡ unless_refused (first_of (table_tests file.now)) }

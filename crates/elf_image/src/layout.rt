@@ -12,7 +12,7 @@ use crate::headers::ProgramHeader;
 use guest_words::Addr;
 use std::alloc::{AllocError, Global};
 
-/// How many bytes a page has.
+// How many bytes a page has.
 const PAGE_SIZE: u32 = 4096;
 
 /// The same segments by rising place.
@@ -64,7 +64,7 @@ pub(crate) fn count_pages(ordered: &[ProgramHeader]) -> u32
     pages
 }
 
-/// Whether an address is one of a segment's bytes that may be run, by the headers alone.
+// Whether an address is one of a segment's bytes that may be run, by the headers alone.
 fn is_code_in(headers: &[ProgramHeader], at: Addr) -> bool
     ensures { result ≡ list_any (λ h. nat_le h.p_vaddr at && nat_lt at (h.p_vaddr + h.p_memsz)
         && (h.p_flags % 2 == 1)) headers.now }

@@ -16,14 +16,14 @@ use guest_words::Addr;
 use std::alloc::{AllocError, Global};
 use std::cmp::Ordering;
 
-/// An entry of a symbol table: its value, and its number in the table.
+// An entry of a symbol table: its value, and its number in the table.
 #[derive(Clone, Copy, Debug)]
 struct Entry {
     value: Addr,
     index: u32,
 }
 
-/// Whether a symbol goes before another at the same value.
+// Whether a symbol goes before another at the same value.
 fn goes_before(strings: &[u8], s: SymbolPlace, t: SymbolPlace) -> bool
     requires first { IsNamed strings.now s }
     requires second { IsNamed strings.now t }
@@ -35,7 +35,7 @@ fn goes_before(strings: &[u8], s: SymbolPlace, t: SymbolPlace) -> bool
     name_of(strings, s).cmp(name_of(strings, t)) == Ordering::Less
 }
 
-/// One more symbol, whose value is not below those seen.
+// One more symbol, whose value is not below those seen.
 fn merge_symbol(
     strings: &[u8],
     first: &mut Vec<SymbolPlace>,
@@ -59,7 +59,7 @@ fn merge_symbol(
     Ok(())
 }
 
-/// One more symbol, if there is one, whose value is not below those seen.
+// One more symbol, if there is one, whose value is not below those seen.
 fn merge_some(
     strings: &[u8],
     first: &mut Vec<SymbolPlace>,
@@ -80,7 +80,7 @@ fn merge_some(
     }
 }
 
-/// All entries of a symbol table.
+// All entries of a symbol table.
 fn entries(alloc: Global, file: &[u8], table: &SectionHeader) -> Result<Vec<Entry>, AllocError>
     requires { table.now.sh_offset + table.now.sh_size ≤ length file.now }
     ensures { IfOk result (λ v. v.items
@@ -96,7 +96,7 @@ fn entries(alloc: Global, file: &[u8], table: &SectionHeader) -> Result<Vec<Entr
     Ok(entries)
 }
 
-/// The same entries by rising value, those at one value in their order.
+// The same entries by rising value, those at one value in their order.
 fn order_by_value(entries: &mut Vec<Entry>) -> Result<(), AllocError>
     ensures moved { OnOk result (IsPermutation entries.old.items entries.new.items) }
     ensures rising { OnOk result (IsNonDecreasingBy (λ e. e.value) entries.new.items) }
@@ -106,7 +106,7 @@ fn order_by_value(entries: &mut Vec<Entry>) -> Result<(), AllocError>
     Ok(entries.sort_by_key(|e| e.value)?)
 }
 
-/// The symbol that goes first at each value, of entries by rising value.
+// The symbol that goes first at each value, of entries by rising value.
 fn first_of_entries(
     alloc: Global,
     file: &[u8],
@@ -132,7 +132,7 @@ fn first_of_entries(
     Ok(first)
 }
 
-/// The symbol that goes first at each value of a table.
+// The symbol that goes first at each value of a table.
 fn first_in(
     alloc: Global,
     file: &[u8],

@@ -12,19 +12,19 @@ use crate::{ElfError, Segment};
 use guest_words::{Addr, Rights};
 use std::alloc::{AllocError, Global};
 
-/// The type of a load segment.
+// The type of a load segment.
 const PT_LOAD: u32 = 1;
 
-/// The type of the segment that names an interpreter.
+// The type of the segment that names an interpreter.
 const PT_INTERP: u32 = 3;
 
-/// The least address of a segment.
+// The least address of a segment.
 const LOWEST_ADDRESS: u32 = 0x1000;
 
-/// The end of the part of memory that is for segments.
+// The end of the part of memory that is for segments.
 const END_OF_SEGMENTS: u64 = 0x4000_0000;
 
-/// All program headers.
+// All program headers.
 fn program_headers(
     alloc: Global,
     file: &[u8],
@@ -43,42 +43,42 @@ fn program_headers(
     Ok(headers)
 }
 
-/// Drops the headers that are not of load segments.
+// Drops the headers that are not of load segments.
 fn keep_loads(headers: &mut Vec<ProgramHeader>)
     ensures { headers.new.items ≡ filter is_load headers.old.items }
 {
     headers.retain(|h| h.p_type == PT_LOAD);
 }
 
-/// Drops the headers of segments that take no memory.
+// Drops the headers of segments that take no memory.
 fn keep_occupied(headers: &mut Vec<ProgramHeader>)
     ensures { headers.new.items ≡ filter is_occupied headers.old.items }
 {
     headers.retain(|h| h.p_memsz != 0);
 }
 
-/// Whether there is the name of an interpreter.
+// Whether there is the name of an interpreter.
 fn names_interpreter(headers: &[ProgramHeader]) -> bool
     ensures { result ≡ list_any (λ h. h.p_type == 3) headers.now }
 {
     headers.iter().any(|h| h.p_type == PT_INTERP)
 }
 
-/// Whether the file part of a segment is larger than the segment.
+// Whether the file part of a segment is larger than the segment.
 fn is_oversized(headers: &[ProgramHeader]) -> bool
     ensures { result ≡ list_any (λ h. nat_lt h.p_memsz h.p_filesz) headers.now }
 {
     headers.iter().any(|h| h.p_filesz > h.p_memsz)
 }
 
-/// Whether the file part of a segment ends past the file's end.
+// Whether the file part of a segment ends past the file's end.
 fn is_cut_off(headers: &[ProgramHeader], file_size: usize) -> bool
     ensures { result ≡ list_any (λ h. nat_lt file_size (h.p_offset + h.p_filesz)) headers.now }
 {
     headers.iter().any(|h| h.p_offset as u64 + h.p_filesz as u64 > file_size as u64)
 }
 
-/// Whether a segment lies too low or too high.
+// Whether a segment lies too low or too high.
 fn is_misplaced(headers: &[ProgramHeader]) -> bool
     ensures { result ≡ list_any (λ h. nat_lt h.p_vaddr 0x1000
         || nat_lt 0x40000000 (h.p_vaddr + h.p_memsz)) headers.now }
@@ -87,7 +87,7 @@ fn is_misplaced(headers: &[ProgramHeader]) -> bool
         || h.p_vaddr as u64 + h.p_memsz as u64 > END_OF_SEGMENTS)
 }
 
-/// The tests of the types of segments.
+// The tests of the types of segments.
 fn check_types(headers: &[ProgramHeader]) -> Result<(), ElfError>
     ensures { (file : List ℕ) → headers.now ≡ program_headers file
         → result ≡ unless_refused (first_of (type_tests file)) }
@@ -98,7 +98,7 @@ fn check_types(headers: &[ProgramHeader]) -> Result<(), ElfError>
     Ok(())
 }
 
-/// The tests of the file parts of load segments.
+// The tests of the file parts of load segments.
 fn check_file_parts(file: &[u8], loads: &[ProgramHeader]) -> Result<(), ElfError>
     requires { loads.now ≡ load_headers file.now }
     ensures { result ≡ unless_refused (first_of (file_part_tests file.now)) }
@@ -112,7 +112,7 @@ fn check_file_parts(file: &[u8], loads: &[ProgramHeader]) -> Result<(), ElfError
     Ok(())
 }
 
-/// The tests of the places of load segments that take memory.
+// The tests of the places of load segments that take memory.
 fn check_places(occupied: &[ProgramHeader]) -> Result<(), ElfError>
     ensures { (file : List ℕ) → occupied.now ≡ occupied_headers file
         → result ≡ unless_refused (first_of (place_tests file)) }
@@ -146,7 +146,7 @@ pub(crate) fn check_segments(
     Ok(headers)
 }
 
-/// What may be done with a segment, by its flags.
+// What may be done with a segment, by its flags.
 fn rights(flags: u32) -> Rights
     ensures { result ≡ rights_of flags }
 {
@@ -157,7 +157,7 @@ fn rights(flags: u32) -> Rights
     }
 }
 
-/// The segment of a header.
+// The segment of a header.
 fn segment(alloc: Global, file: &[u8], h: &ProgramHeader) -> Result<Segment, AllocError>
     requires { h.now.p_offset + h.now.p_filesz ≤ length file.now }
     ensures { IfOk result (λ s. s ≡ segment_of file.now h.now) }

@@ -38,7 +38,7 @@ pub(crate) fn name_of(strings: &[u8], symbol: SymbolPlace) -> &[u8]
     &strings[start..start + symbol.len as usize]
 }
 
-/// Where the symbol of this value is, among symbols by rising value.
+// Where the symbol of this value is, among symbols by rising value.
 fn search(places: &[SymbolPlace], value: Addr) -> Option<usize>
     requires { AllPairs (λ s t. s.value < t.value) places.now }
     ensures { MatchOption result (find (λ s. s.value == value) places.now ≡ None)

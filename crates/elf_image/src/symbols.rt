@@ -12,19 +12,19 @@ use guest_words::{Addr, Name, NameError};
 use memchr::memchr;
 use std::alloc::{AllocError, Global};
 
-/// The type of symbols of routines.
+// The type of symbols of routines.
 const STT_FUNC: u8 = 2;
 
-/// The section index of an undefined symbol.
+// The section index of an undefined symbol.
 const SHN_UNDEF: u16 = 0;
 
-/// The type of a symbol table.
+// The type of a symbol table.
 const SHT_SYMTAB: u32 = 2;
 
-/// The type of a string table.
+// The type of a string table.
 const SHT_STRTAB: u32 = 3;
 
-/// The size of a section header (Elf32_Shdr).
+// The size of a section header (Elf32_Shdr).
 const SECTION_HEADER_SIZE: usize = 40;
 
 /// The size of a symbol (Elf32_Sym).
@@ -40,14 +40,14 @@ pub(crate) struct SymbolPlace {
     pub(crate) len: u32,
 }
 
-/// The place of the first zero byte.
+// The place of the first zero byte.
 fn first_zero(bytes: &[u8]) -> Option<usize>
     ensures { result ≡ position is_zero bytes.now }
 {
     memchr(0, bytes)
 }
 
-/// The name of these bytes, if they are one.
+// The name of these bytes, if they are one.
 fn name_of(alloc: Global, bytes: &[u8]) -> Result<Option<Name>, AllocError>
     ensures { IfOk result (λ name. name ≡ (if is_name bytes.now then Some bytes.now else None)) }
 {
@@ -58,8 +58,8 @@ fn name_of(alloc: Global, bytes: &[u8]) -> Result<Option<Name>, AllocError>
     }
 }
 
-/// The name that begins at an offset of a string table and ends before the next zero byte. No byte is read past the end
-/// of the longest name.
+// The name that begins at an offset of a string table and ends before the next zero byte. No byte is read past the end
+// of the longest name.
 fn name_in(alloc: Global, strings: &[u8], offset: usize) -> Result<Option<Name>, AllocError>
     ensures { IfOk result (λ name. name ≡ name_in strings.now offset) }
 {
@@ -74,7 +74,7 @@ fn name_in(alloc: Global, strings: &[u8], offset: usize) -> Result<Option<Name>,
     }
 }
 
-/// Which of several symbols goes first, by the binding: the lowest.
+// Which of several symbols goes first, by the binding: the lowest.
 fn rank_of(binding: u8) -> u8
     ensures { result ≡ rank_of binding }
 {
@@ -138,7 +138,7 @@ pub(crate) fn section_header(file: &[u8], header: &FileHeader, i: u32) -> Sectio
     )
 }
 
-/// Whether section headers are of their size, and all in the file.
+// Whether section headers are of their size, and all in the file.
 fn has_sections(file: &[u8], header: &FileHeader) -> bool
     requires { header.now ≡ file_header file.now }
     ensures { result ≡ has_sections file.now }
@@ -164,7 +164,7 @@ pub(crate) fn symbol_table(file: &[u8], header: &FileHeader) -> Option<SectionHe
     None
 }
 
-/// Whether a section is all in the file.
+// Whether a section is all in the file.
 fn is_in_file(file: &[u8], section: &SectionHeader) -> bool
     ensures { result ≡ is_in_file file.now section.now }
 {

@@ -20,7 +20,7 @@ use guest_memory::{GuestMemory, Reservations};
 use guest_words::{Addr, Tid};
 use trace_model::Events;
 
-/// CLOCK_MONOTONIC, the last clock there is; the other is CLOCK_REALTIME 0.
+// CLOCK_MONOTONIC, the last clock there is; the other is CLOCK_REALTIME 0.
 const CLOCK_MONOTONIC: u32 = 1;
 
 const SECOND: u64 = 1_000_000_000;
@@ -28,20 +28,20 @@ const SECOND: u64 = 1_000_000_000;
 /// A time has this many bytes: the seconds, the nanoseconds, and padding.
 pub(crate) const TIME_SIZE: usize = 16;
 
-/// The greatest signed number of 64 bits. No time and no deadline is later.
+// The greatest signed number of 64 bits. No time and no deadline is later.
 const LATEST: u64 = i64::MAX as u64;
 
-/// TIMER_ABSTIME: the time is no time from now on.
+// TIMER_ABSTIME: the time is no time from now on.
 const TIMER_ABSTIME: u32 = 1;
 
-/// Whether there is such a clock.
+// Whether there is such a clock.
 fn is_clock(clock: u32) -> bool
     ensures { result ≡ is_clock clock }
 {
     clock <= CLOCK_MONOTONIC
 }
 
-/// A time, in nanoseconds, as it is written.
+// A time, in nanoseconds, as it is written.
 fn time_bytes(time: u64) -> [u8; TIME_SIZE]
     ensures { result ≡ time_bytes time }
 {
@@ -65,7 +65,7 @@ pub(crate) fn time_at(memory: &GuestMemory, at: Addr) -> Option<u64>
     time_of(low + (high << 32), word_at(memory, at + 8))
 }
 
-/// The time in nanoseconds; seconds and nanoseconds are each the bits of a signed number.
+// The time in nanoseconds; seconds and nanoseconds are each the bits of a signed number.
 fn time_of(seconds: u64, nanoseconds: u32) -> Option<u64>
     ensures { result ≡ time_of seconds nanoseconds }
 {
@@ -114,7 +114,7 @@ impl State {
         self.time.saturating_add(time).min(LATEST)
     }
 
-    /// When a sleep of so long is over, or until then.
+    // When a sleep of so long is over, or until then.
     fn sleep_end(&self, flags: u32, time: u64) -> u64
         ensures { result ≡ sleep_end flags self.now.time time }
     {
@@ -135,7 +135,7 @@ impl State {
         self.deadlines.set(tid, at, answer);
     }
 
-    /// The thread sleeps until then, where that is ahead.
+    // The thread sleeps until then, where that is ahead.
     fn sleep_until(&mut self, tid: Tid, end: u64) -> Answer
         requires can_run { can_run self.old tid ≡ true }
         ensures answer { result ≡ (if nat_le end self.old.time then Back 0 else Block) }

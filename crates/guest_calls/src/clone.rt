@@ -19,32 +19,32 @@ use guest_words::{Addr, Tid};
 use rv_exec::Cpu;
 use trace_model::Events;
 
-/// CLONE_VM, CLONE_SIGHAND and CLONE_THREAD: a thread of the same process.
+// CLONE_VM, CLONE_SIGHAND and CLONE_THREAD: a thread of the same process.
 const NEEDED_FLAGS: u32 = 0x1_0900;
 
-/// All flags that are taken, and the low eight bits, which are not looked at.
+// All flags that are taken, and the low eight bits, which are not looked at.
 const KNOWN_FLAGS: u32 = 0x17D_0FFF;
 
-/// The new thread gets a thread pointer.
+// The new thread gets a thread pointer.
 const CLONE_SETTLS: u32 = 0x8_0000;
 
-/// The new thread's number is written where the caller asks for it.
+// The new thread's number is written where the caller asks for it.
 const CLONE_PARENT_SETTID: u32 = 0x10_0000;
 
-/// A zero is written when the new thread ends.
+// A zero is written when the new thread ends.
 const CLONE_CHILD_CLEARTID: u32 = 0x20_0000;
 
-/// The new thread's number is written where the new thread looks for it.
+// The new thread's number is written where the new thread looks for it.
 const CLONE_CHILD_SETTID: u32 = 0x100_0000;
 
-/// Whether any of the bits is set.
+// Whether any of the bits is set.
 fn has(flags: u32, bits: u32) -> bool
     ensures { result ≡ has flags bits }
 {
     flags & bits != 0
 }
 
-/// The registers of a new thread, which goes on after its caller's system call.
+// The registers of a new thread, which goes on after its caller's system call.
 fn child_cpu(cpu: &Cpu, flags: u32, stack: u32, tls: u32) -> Cpu
     ensures { result ≡ child_registers cpu.now flags stack tls }
 {
@@ -60,21 +60,21 @@ fn child_cpu(cpu: &Cpu, flags: u32, stack: u32, tls: u32) -> Cpu
     child
 }
 
-/// Whether the flags ask for a thread of the same process and for nothing unknown.
+// Whether the flags ask for a thread of the same process and for nothing unknown.
 fn are_flags_taken(flags: u32) -> bool
     ensures { result ≡ are_flags_taken flags }
 {
     flags & NEEDED_FLAGS == NEEDED_FLAGS && flags & KNOWN_FLAGS == flags
 }
 
-/// Whether a word is asked for where it can't be written.
+// Whether a word is asked for where it can't be written.
 fn is_denied(memory: &GuestMemory, asked: bool, at: Addr) -> bool
     ensures { result ≡ is_denied (memory_of memory.now) asked at }
 {
     asked && !memory.can_write(at, 4)
 }
 
-/// Where a zero is written when the new thread ends, or 0.
+// Where a zero is written when the new thread ends, or 0.
 fn child_clear_tid(flags: u32, child: Addr) -> Addr
     ensures { result ≡ child_clear_tid flags child }
 {
@@ -85,7 +85,7 @@ fn child_clear_tid(flags: u32, child: Addr) -> Addr
     }
 }
 
-/// The kernel writes a word where that is asked for; then each byte can be written.
+// The kernel writes a word where that is asked for; then each byte can be written.
 fn fill_word_if(
     asked: bool,
     memory: &mut GuestMemory,
@@ -106,7 +106,7 @@ fn fill_word_if(
 }
 
 impl State {
-    /// The number of the next thread; None where as many threads live as can, or the numbers are spent.
+    // The number of the next thread; None where as many threads live as can, or the numbers are spent.
     fn next_tid(&self) -> Option<Tid>
         ensures none { IfNone result (is_full self.now ≡ true) }
         ensures some { IfSome result (λ tid. tid ≡ self.now.last_tid + 1) }
@@ -118,7 +118,7 @@ impl State {
         Tid::new(self.last_tid.number() + 1)
     }
 
-    /// One more thread lives.
+    // One more thread lives.
     fn add_thread(&mut self, tid: Tid, clear_tid: Addr)
         requires next { tid ≡ self.old.last_tid + 1 }
         requires room { is_full self.old ≡ false }

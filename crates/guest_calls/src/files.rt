@@ -114,7 +114,7 @@ impl State {
         }
     }
 
-    /// What an offset is counted from, by `whence`: the start, the position or the end.
+    // What an offset is counted from, by `whence`: the start, the position or the end.
     fn origin(&self, file: Descriptor, whence: u32) -> u64
         requires { IsSoundDescriptor file }
         ensures value { result ≡ origin self.now file whence }
@@ -127,7 +127,7 @@ impl State {
         }
     }
 
-    /// The new position in a file; None where it is out of range.
+    // The new position in a file; None where it is out of range.
     fn target(&self, file: Descriptor, offset: i64, whence: u32) -> Option<u64>
         requires within { IsSoundDescriptor file }
         ensures some { IfSome result (λ position. position
@@ -179,14 +179,14 @@ impl State {
     }
 }
 
-/// The signed number of two words.
+// The signed number of two words.
 fn offset_of(high: u32, low: u32) -> i64
     ensures { result ≡ cast_signed w64 (high * 2 ^ 32 + low) }
 {
     (u64::from(high) * 0x1_0000_0000 + u64::from(low)).cast_signed()
 }
 
-/// A position and an offset from it. None where that is below 0 or no signed number.
+// A position and an offset from it. None where that is below 0 or no signed number.
 fn checked_seek(origin: u64, offset: i64) -> Option<u64>
     requires { origin < 2 ^ 63 }
     ensures some { IfSome result (λ position. position ≡ unsigned_abs (pos origin +ℤ offset)) }
@@ -198,7 +198,7 @@ fn checked_seek(origin: u64, offset: i64) -> Option<u64>
     u64::try_from(target).ok()
 }
 
-/// The bytes from the position on, of which there is none past the end.
+// The bytes from the position on, of which there is none past the end.
 fn bytes_from(bytes: &[u8], position: u64) -> &[u8]
     requires { position < 2 ^ 63 }
     ensures value { result.now ≡ drop position bytes.now }

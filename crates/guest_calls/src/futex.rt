@@ -31,23 +31,23 @@ use guest_words::limits::THREADS;
 use guest_words::{Addr, Tid};
 use trace_model::Events;
 
-/// A wait's time is by the realtime clock.
+// A wait's time is by the realtime clock.
 const FUTEX_CLOCK_REALTIME: u32 = 256;
 
-/// The bits of an operation's number: all but FUTEX_PRIVATE_FLAG and FUTEX_CLOCK_REALTIME.
+// The bits of an operation's number: all but FUTEX_PRIVATE_FLAG and FUTEX_CLOCK_REALTIME.
 const NUMBER_BITS: u32 = u32::MAX - 128 - FUTEX_CLOCK_REALTIME;
 
-/// The bits of a wait or a wake that names none.
+// The bits of a wait or a wake that names none.
 const ALL_BITS: u32 = u32::MAX;
 
-/// Whether it is a wait with a limit.
+// Whether it is a wait with a limit.
 fn has_limit(operation: Operation, caller: &Caller) -> bool
     ensures { result ≡ (is_wait operation && not (slice_index caller.now.cpu.regs 13 == 0)) }
 {
     operation.is_wait() && caller.argument(3) != 0
 }
 
-/// Whether it is a wait whose limit can't be read.
+// Whether it is a wait whose limit can't be read.
 fn is_limit_denied(memory: &GuestMemory, caller: &Caller, operation: Operation) -> bool
     ensures { result ≡ ((is_wait operation && not (slice_index caller.now.cpu.regs 13 == 0))
         && not (can_read (memory_of memory.now) (slice_index caller.now.cpu.regs 13) 16)) }
@@ -55,7 +55,7 @@ fn is_limit_denied(memory: &GuestMemory, caller: &Caller, operation: Operation) 
     has_limit(operation, caller) && !memory.can_read(caller.argument(3), TIME_SIZE as u64)
 }
 
-/// Whether it is a wait whose limit, which can be read, is a bad time.
+// Whether it is a wait whose limit, which can be read, is a bad time.
 #[tactic(auto, using(crate::proofs::Passed::asked_reach))]
 fn is_limit_bad(memory: &GuestMemory, caller: &Caller, operation: Operation) -> bool
     requires { ((is_wait operation && not (slice_index caller.now.cpu.regs 13 == 0))
@@ -66,7 +66,7 @@ fn is_limit_bad(memory: &GuestMemory, caller: &Caller, operation: Operation) -> 
     has_limit(operation, caller) && time_at(memory, caller.argument(3)).is_none()
 }
 
-/// The answer of the first test that holds.
+// The answer of the first test that holds.
 #[tactic(auto, using(crate::proofs::Waits::limit_in_reach))]
 fn refusal(memory: &GuestMemory, caller: &Caller, operation: Operation) -> Option<u32>
     ensures value { (state : KernelState) (held : Reservations)
@@ -103,7 +103,7 @@ fn refusal(memory: &GuestMemory, caller: &Caller, operation: Operation) -> Optio
     None
 }
 
-/// Whether the word is the value. It is read, and the read is an event.
+// Whether the word is the value. It is read, and the read is an event.
 fn compare(memory: &GuestMemory, events: &mut Events, caller: &Caller, value: u32) -> bool
     requires reach { can_read (memory_of memory.now) (slice_index caller.now.cpu.regs 10) 4 ≡ true }
     requires room { 1 ≤ events.old.room }
@@ -118,7 +118,7 @@ fn compare(memory: &GuestMemory, events: &mut Events, caller: &Caller, value: u3
     word_at(memory, at) == value
 }
 
-/// The limit of a wait is read, where it has one, and the read is an event.
+// The limit of a wait is read, where it has one, and the read is an event.
 fn note_limit(memory: &GuestMemory, events: &mut Events, caller: &Caller, end: Option<u64>)
     requires reach { is_some end ≡ true → can_read (memory_of memory.now)
         (slice_index caller.now.cpu.regs 13) 16 ≡ true }
@@ -135,7 +135,7 @@ fn note_limit(memory: &GuestMemory, events: &mut Events, caller: &Caller, end: O
 }
 
 impl State {
-    /// When a wait with a limit is over.
+    // When a wait with a limit is over.
     fn limit_end(&self, operation: Operation, time: u64) -> u64
         ensures { result ≡ limit_end operation self.now.time time }
     {
@@ -145,7 +145,7 @@ impl State {
         }
     }
 
-    /// When a wait is over, where it has a limit.
+    // When a wait is over, where it has a limit.
     fn wait_end(&self, memory: &GuestMemory, caller: &Caller, operation: Operation) -> Option<u64>
         requires reach { slice_index caller.now.cpu.regs 13 ≢ 0
             → can_read (memory_of memory.now) (slice_index caller.now.cpu.regs 13) 16 ≡ true }
@@ -162,7 +162,7 @@ impl State {
         Some(self.limit_end(operation, time))
     }
 
-    /// Whether the time has come.
+    // Whether the time has come.
     fn is_over(&self, end: Option<u64>) -> bool
         ensures { result ≡ is_over end self.now.time }
     {
@@ -172,7 +172,7 @@ impl State {
         }
     }
 
-    /// The thread, which has no deadline, has the end of its wait as one, where there is one.
+    // The thread, which has no deadline, has the end of its wait as one, where there is one.
     fn set_end(&mut self, tid: Tid, end: Option<u64>)
         requires lives { lives self.old tid ≡ true }
         requires none { has self.old.deadlines tid ≡ false }
@@ -183,7 +183,7 @@ impl State {
         }
     }
 
-    /// The thread begins to wait until the end, where that is ahead.
+    // The thread begins to wait until the end, where that is ahead.
     fn wait_until(&mut self, at: Addr, tid: Tid, bits: u32, end: Option<u64>) -> Answer
         requires can_run { can_run self.old tid ≡ true }
         requires bits { bits ≢ 0 }
@@ -199,7 +199,7 @@ impl State {
         Answer::Block
     }
 
-    /// The thread begins to wait.
+    // The thread begins to wait.
     fn begin_to_wait(&mut self, at: Addr, tid: Tid, bits: u32)
         requires can_run { can_run self.old tid ≡ true }
         requires bits { bits ≢ 0 }
@@ -212,7 +212,7 @@ impl State {
         self.waiting.wait(at, tid, bits);
     }
 
-    /// Moves the first that wait at the address to another, and answers how many. They keep their deadlines.
+    // Moves the first that wait at the address to another, and answers how many. They keep their deadlines.
     fn move_waiters(&mut self, at: Addr, most: u32, to: Addr) -> u32
         ensures moved { result ≡ length (woken self.old.waiting at most all_bits) }
         ensures few { result ≤ THREADS }
@@ -223,7 +223,7 @@ impl State {
         moved
     }
 
-    /// Wakes the first that wait at the address, and moves the next to another. Answers how many of each.
+    // Wakes the first that wait at the address, and moves the next to another. Answers how many of each.
     fn requeue(&mut self, at: Addr, most: u32, shift: u32, to: Addr) -> (u32, u32)
         ensures woken { result.0 ≡ length (woken self.old.waiting at most all_bits) }
         ensures moved { result.1 ≡ length (shifted self.old.waiting at most shift) }
@@ -236,7 +236,7 @@ impl State {
         (count, moved)
     }
 
-    /// FUTEX_WAIT and FUTEX_WAIT_BITSET: the thread waits where the word is the value and its end is ahead.
+    // FUTEX_WAIT and FUTEX_WAIT_BITSET: the thread waits where the word is the value and its end is ahead.
     fn futex_wait(
         &mut self,
         memory: &GuestMemory,
@@ -266,7 +266,7 @@ impl State {
         self.wait_until(caller.argument(0), caller.tid, bits, end)
     }
 
-    /// FUTEX_WAKE and FUTEX_WAKE_BITSET
+    // FUTEX_WAKE and FUTEX_WAKE_BITSET
     fn futex_wake(&mut self, caller: &Caller, bits: u32) -> Answer
         ensures { (memory : GuestMemory) (held : Reservations) (events : EventList)
             → let c = asked caller.now self.old memory held in Does
@@ -277,7 +277,7 @@ impl State {
         Answer::Back { value: count }
     }
 
-    /// FUTEX_REQUEUE
+    // FUTEX_REQUEUE
     fn futex_requeue(&mut self, caller: &Caller) -> Answer
         ensures { (memory : GuestMemory) (held : Reservations) (events : EventList)
             → let c = asked caller.now self.old memory held in Does
@@ -293,7 +293,7 @@ impl State {
         Answer::Back { value: woken }
     }
 
-    /// FUTEX_CMP_REQUEUE
+    // FUTEX_CMP_REQUEUE
     fn futex_cmp_requeue(
         &mut self,
         memory: &GuestMemory,

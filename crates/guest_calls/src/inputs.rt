@@ -48,7 +48,7 @@ impl Inputs {
         })
     }
 
-    /// Whether there is a file of this name.
+    // Whether there is a file of this name.
     #[tactic(auto, using(crate::proofs::Found::found_where_any))]
     fn has(&self, name: &[u8]) -> bool
         ensures { result ≡ list_any (is_named name.now) self.now }

@@ -11,9 +11,9 @@ ghost use Rattle.guest_calls.specs.Outcome.{asked, Gives, IsAsBefore};
 ghost use Rattle.guest_calls.specs.Table.{syscall};
 
 use crate::caller::Caller;
+use crate::numbers::{NR_WRITE, NR_WRITEV};
 use crate::outgoing::Outgoing;
 use crate::state::State;
-use crate::table::{WRITE, WRITEV};
 use crate::{Answer, Inputs};
 use guest_memory::{GuestMemory, Reservations};
 use guest_words::limits::SYSCALL_EVENTS;
@@ -82,8 +82,8 @@ impl Kernel {
         events.reserve(SYSCALL_EVENTS)?;
         let caller = Caller { tid, cpu: *cpu };
         match caller.number() {
-            WRITE => Ok(self.write(memory, events, &caller)),
-            WRITEV => self.writev(memory, events, &caller),
+            NR_WRITE => Ok(self.write(memory, events, &caller)),
+            NR_WRITEV => self.writev(memory, events, &caller),
             _ => {
                 let answer = self.state.syscall(memory, held, events, &caller)?;
                 self.outgoing.clear();

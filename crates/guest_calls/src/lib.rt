@@ -16,6 +16,7 @@ mod futex;
 mod inputs;
 mod kernel;
 mod laws;
+mod numbers;
 mod operation;
 mod outgoing;
 mod pages;

@@ -20,10 +20,10 @@ use std::alloc::AllocError;
 
 const PAGE_SIZE: u32 = 4096;
 
-/// The break cannot pass this.
+// The break cannot pass this.
 const BREAK_LIMIT: u32 = 0x4000_0000;
 
-/// The bits of the flags that hold the type of a mapping.
+// The bits of the flags that hold the type of a mapping.
 const MAP_TYPE: u32 = 0xF;
 
 const MAP_PRIVATE: u32 = 2;
@@ -40,7 +40,7 @@ const PROT_WRITE: u32 = 2;
 
 const PROT_EXEC: u32 = 4;
 
-/// How many pages the bytes fill, the last one perhaps in part.
+// How many pages the bytes fill, the last one perhaps in part.
 fn pages(bytes: u32) -> u32
     ensures value { result ≡ pages bytes }
     ensures most { result ≤ 2 ^ 20 }
@@ -48,7 +48,7 @@ fn pages(bytes: u32) -> u32
     bytes.div_ceil(PAGE_SIZE)
 }
 
-/// What can be done with pages of this protection.
+// What can be done with pages of this protection.
 fn rights_of(prot: u32) -> Rights
     ensures { result ≡ rights_of prot }
 {
@@ -59,7 +59,7 @@ fn rights_of(prot: u32) -> Rights
     }
 }
 
-/// Maps free pages, where the limit allows it.
+// Maps free pages, where the limit allows it.
 fn map(memory: &mut GuestMemory, page: u32, count: u32, rights: Rights) -> Result<(), AllocError>
     requires range { page + count ≤ 1048576 }
     requires free { AreFree (memory_of memory.old) page count }
@@ -94,7 +94,7 @@ pub(crate) fn munmap(memory: &mut GuestMemory, caller: &Caller) -> Answer
     Answer::Back { value: 0 }
 }
 
-/// Whether each page of the range is mapped.
+// Whether each page of the range is mapped.
 fn are_mapped(memory: &GuestMemory, page: u32, count: u32) -> bool
     requires { page + count ≤ 1048576 }
     ensures value { result ≡ are_mapped (memory_of memory.now) page count }
@@ -127,7 +127,7 @@ pub(crate) fn mprotect(memory: &mut GuestMemory, caller: &Caller) -> Answer
     Answer::Back { value: 0 }
 }
 
-/// The lowest page from 0x40000000 on at which `count` free pages stand.
+// The lowest page from 0x40000000 on at which `count` free pages stand.
 fn first_fit(memory: &GuestMemory, count: u32) -> Option<u32>
     requires { 1 ≤ count }
     ensures value { result ≡ first_fit (memory_of memory.now) count }
@@ -138,7 +138,7 @@ fn first_fit(memory: &GuestMemory, count: u32) -> Option<u32>
     memory.find_free(count)
 }
 
-/// Whether the flags ask for a private mapping.
+// Whether the flags ask for a private mapping.
 #[tactic(auto, using(std::proofs::lemmas::Nat::and_mask))]
 fn is_private(flags: u32) -> bool
     ensures { result ≡ (flags % 2 ^ 4 == 2) }

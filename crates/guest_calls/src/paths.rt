@@ -20,13 +20,13 @@ use guest_memory::{GuestMemory, Size};
 use guest_words::Addr;
 use trace_model::Events;
 
-/// The most bytes of a path with its zero byte.
+// The most bytes of a path with its zero byte.
 const PATH_LIMIT: usize = 4096;
 
-/// O_ACCMODE, O_CREAT and O_TRUNC: the flags of a file that is written.
+// O_ACCMODE, O_CREAT and O_TRUNC: the flags of a file that is written.
 const WRITING_FLAGS: u32 = 0x243;
 
-/// Whether a byte can be read. No byte at or past 2^32 can.
+// Whether a byte can be read. No byte at or past 2^32 can.
 fn is_readable(memory: &GuestMemory, at: u64) -> bool
     ensures { result ≡ can_read (memory_of memory.now) at 1 }
 {
@@ -36,7 +36,7 @@ fn is_readable(memory: &GuestMemory, at: u64) -> bool
     }
 }
 
-/// Whether a path ends at a byte: it can't be read, or is zero.
+// Whether a path ends at a byte: it can't be read, or is zero.
 fn ends_path(memory: &GuestMemory, at: u64) -> bool
     ensures { result ≡ ends_path (memory_of memory.now) at }
 {
@@ -46,7 +46,7 @@ fn ends_path(memory: &GuestMemory, at: u64) -> bool
     }
 }
 
-/// The first byte from the path on that can't be read or is zero.
+// The first byte from the path on that can't be read or is zero.
 fn path_end(memory: &GuestMemory, path: Addr) -> Option<u64>
     ensures value { result ≡ path_end (memory_of memory.now) path }
     ensures range { IfSome result (λ stop. (path ≤ stop) × (stop < path + 4096)) }
@@ -63,7 +63,7 @@ fn path_end(memory: &GuestMemory, path: Addr) -> Option<u64>
 }
 
 impl State {
-    /// The index of the input that bytes of the guest's memory name.
+    // The index of the input that bytes of the guest's memory name.
     fn input_named(&self, memory: &GuestMemory, path: Addr, size: usize) -> Option<usize>
         requires few { size ≤ 4096 }
         requires reach { can_read (memory_of memory.now) path size ≡ true }
@@ -75,7 +75,7 @@ impl State {
         self.inputs.index_of(&buffer[..size])
     }
 
-    /// The least number that is free.
+    // The least number that is free.
     fn least_free(&self) -> Option<usize>
         ensures value { result ≡ least_free self.now }
         ensures in_range { IfSome result (λ fd. fd < 32) }

@@ -13,10 +13,10 @@ use std::alloc::{AllocError, Global};
 use std::marker::Model;
 use virtual_clock::Deadlines;
 
-/// The numbers of descriptors are 0 to 31.
+// The numbers of descriptors are 0 to 31.
 const DESCRIPTORS: usize = 32;
 
-/// How long a step takes, in nanoseconds.
+// How long a step takes, in nanoseconds.
 const STEP_TIME: u64 = 1000;
 
 /// What the kernel keeps of a guest.
@@ -130,7 +130,7 @@ impl State {
         self.waiting.waits(tid) || self.deadlines.has(tid)
     }
 
-    /// Whether the thread lives.
+    // Whether the thread lives.
     fn lives(&self, tid: Tid) -> bool
         ensures { result ≡ lives self.now tid }
     {

@@ -10,6 +10,12 @@ ghost use Rattle.guest_calls.specs.Table.{syscall};
 use crate::Answer;
 use crate::caller::Caller;
 use crate::errors::{ENOSYS, ENOTTY};
+use crate::numbers::{
+    NR_BRK, NR_CLOCK_GETTIME, NR_CLOCK_NANOSLEEP, NR_CLONE, NR_CLOSE, NR_EXIT, NR_EXIT_GROUP,
+    NR_FUTEX, NR_GETPID, NR_GETTID, NR_IOCTL, NR_LLSEEK, NR_MADVISE, NR_MMAP2, NR_MPROTECT,
+    NR_MUNMAP, NR_OPENAT, NR_READ, NR_READV, NR_RT_SIGACTION, NR_RT_SIGPROCMASK, NR_SCHED_YIELD,
+    NR_SET_ROBUST_LIST, NR_SET_TID_ADDRESS,
+};
 use crate::pages::{mmap2, mprotect, munmap};
 use crate::state::State;
 use crate::threads::rt_sigprocmask;
@@ -18,11 +24,7 @@ use guest_words::limits::SYSCALL_EVENTS;
 use std::alloc::AllocError;
 use trace_model::Events;
 
-pub(crate) const WRITE: u32 = 64;
-
-pub(crate) const WRITEV: u32 = 66;
-
-/// The call does nothing, and this is answered.
+// The call does nothing, and this is answered.
 fn always(value: u32) -> Answer
     ensures { result ≡ Back value }
 {
@@ -42,8 +44,8 @@ impl State {
         requires can_run { can_run self.old caller.now.tid ≡ true }
         requires break_free { IsBreakFree (memory_of memory.old) self.old.program_break }
         requires room { SYSCALL_EVENTS ≤ events.old.room }
-        requires no_write { slice_index caller.now.cpu.regs 17 ≢ WRITE }
-        requires no_writev { slice_index caller.now.cpu.regs 17 ≢ WRITEV }
+        requires no_write { slice_index caller.now.cpu.regs 17 ≢ NR_WRITE }
+        requires no_writev { slice_index caller.now.cpu.regs 17 ≢ NR_WRITEV }
         ensures does { IfOk result (λ answer. Does
             (syscall (asked caller.now self.old memory.old held.old)) answer
             self.new memory.new held.new events.old events.new) }
@@ -52,37 +54,30 @@ impl State {
         ensures room { events.old.room ≤ events.new.room + SYSCALL_EVENTS }
     {
         match caller.number() {
-            // ioctl
-            29 => Ok(always(ENOTTY)),
-            56 => Ok(self.openat(memory, events, caller)),
-            57 => Ok(self.close(caller)),
-            62 => Ok(self.llseek(memory, held, events, caller)),
-            63 => Ok(self.read(memory, held, events, caller)),
-            65 => self.readv(memory, held, events, caller),
-            93 => Ok(self.exit(memory, held, events, caller)),
-            94 => Ok(self.exit_group(held, caller)),
-            96 => Ok(self.set_tid_address(caller)),
-            // set_robust_list
-            99 => Ok(always(0)),
-            // sched_yield
-            124 => Ok(Answer::Yield),
-            // rt_sigaction
-            134 => Ok(always(0)),
-            135 => Ok(rt_sigprocmask(memory, held, events, caller)),
-            // getpid
-            172 => Ok(always(1)),
-            // gettid
-            178 => Ok(always(caller.tid.number())),
-            214 => self.brk(memory, caller),
-            215 => Ok(munmap(memory, caller)),
-            220 => Ok(self.clone_thread(memory, held, events, caller)),
-            222 => mmap2(memory, caller),
-            226 => Ok(mprotect(memory, caller)),
-            // madvise
-            233 => Ok(always(0)),
-            403 => Ok(self.clock_gettime(memory, held, events, caller)),
-            407 => Ok(self.clock_nanosleep(memory, events, caller)),
-            422 => Ok(self.futex(memory, events, caller)),
+            NR_IOCTL => Ok(always(ENOTTY)),
+            NR_OPENAT => Ok(self.openat(memory, events, caller)),
+            NR_CLOSE => Ok(self.close(caller)),
+            NR_LLSEEK => Ok(self.llseek(memory, held, events, caller)),
+            NR_READ => Ok(self.read(memory, held, events, caller)),
+            NR_READV => self.readv(memory, held, events, caller),
+            NR_EXIT => Ok(self.exit(memory, held, events, caller)),
+            NR_EXIT_GROUP => Ok(self.exit_group(held, caller)),
+            NR_SET_TID_ADDRESS => Ok(self.set_tid_address(caller)),
+            NR_SET_ROBUST_LIST => Ok(always(0)),
+            NR_SCHED_YIELD => Ok(Answer::Yield),
+            NR_RT_SIGACTION => Ok(always(0)),
+            NR_RT_SIGPROCMASK => Ok(rt_sigprocmask(memory, held, events, caller)),
+            NR_GETPID => Ok(always(1)),
+            NR_GETTID => Ok(always(caller.tid.number())),
+            NR_BRK => self.brk(memory, caller),
+            NR_MUNMAP => Ok(munmap(memory, caller)),
+            NR_CLONE => Ok(self.clone_thread(memory, held, events, caller)),
+            NR_MMAP2 => mmap2(memory, caller),
+            NR_MPROTECT => Ok(mprotect(memory, caller)),
+            NR_MADVISE => Ok(always(0)),
+            NR_CLOCK_GETTIME => Ok(self.clock_gettime(memory, held, events, caller)),
+            NR_CLOCK_NANOSLEEP => Ok(self.clock_nanosleep(memory, events, caller)),
+            NR_FUTEX => Ok(self.futex(memory, events, caller)),
             _ => Ok(always(ENOSYS)),
         }
     }

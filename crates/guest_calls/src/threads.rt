@@ -23,14 +23,14 @@ use guest_words::{Addr, Tid};
 use trace_model::Events;
 
 impl State {
-    /// Whether another thread lives.
+    // Whether another thread lives.
     fn has_others(&self, tid: Tid) -> bool
         ensures { result ≡ has_others self.now tid }
     {
         self.threads.iter().any(|t| t.tid != tid)
     }
 
-    /// Where a zero is written when the thread ends, or 0.
+    // Where a zero is written when the thread ends, or 0.
     fn clear_tid_of(&self, tid: Tid) -> Addr
         ensures { result ≡ clear_tid_of self.now tid }
     {
@@ -42,7 +42,7 @@ impl State {
         0
     }
 
-    /// Removes the thread, which is not blocked.
+    // Removes the thread, which is not blocked.
     fn remove(&mut self, tid: Tid)
         requires { can_run self.old tid ≡ true }
         ensures { self.new ≡ record self.old { threads = other_threads self.old tid } }
@@ -80,7 +80,7 @@ impl State {
     }
 
     #[tactic(auto, using(crate::proofs::Leaving::told_where_cleared))]
-    /// Writes a zero where the thread's end is waited for, and wakes one that waits there, if another thread lives.
+    // Writes a zero where the thread's end is waited for, and wakes one that waits there, if another thread lives.
     fn tell_end(
         &mut self,
         memory: &mut GuestMemory,
@@ -117,7 +117,7 @@ impl State {
         self.deadlines.forget(tid);
     }
 
-    /// Wakes the first that waits at the address and whose bits meet these, if there is one.
+    // Wakes the first that waits at the address and whose bits meet these, if there is one.
     fn wake_first(&mut self, at: Addr, bits: u32) -> bool
         ensures found { result ≡ is_some (first_at self.old.waiting at bits) }
         ensures after { self.new ≡ woken_one (first_at self.old.waiting at bits) self.old }
@@ -171,7 +171,7 @@ impl State {
     }
 }
 
-/// Takes a thread out.
+// Takes a thread out.
 fn remove_thread(threads: &mut Vec<Thread>, tid: Tid)
     ensures left { threads.new.items ≡ filter (λ t. not (is_thread tid t)) threads.old.items }
     ensures room { vec_capacity threads.new ≡ vec_capacity threads.old }
@@ -179,7 +179,7 @@ fn remove_thread(threads: &mut Vec<Thread>, tid: Tid)
     threads.retain(|t| t.tid != tid);
 }
 
-/// Sets where a zero is written when the thread ends.
+// Sets where a zero is written when the thread ends.
 fn set_clear_tid(threads: &mut [Thread], tid: Tid, at: Addr)
     ensures { threads.new ≡ map (with_clear_tid tid at) threads.old }
 {

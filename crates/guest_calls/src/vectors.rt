@@ -21,10 +21,10 @@ use guest_words::{Addr, Tid};
 use std::alloc::{AllocError, Global};
 use trace_model::Events;
 
-/// The most parts of one call.
+// The most parts of one call.
 const PART_LIMIT: u32 = 1024;
 
-/// The most bytes that the parts of one call have.
+// The most bytes that the parts of one call have.
 const SUM_LIMIT: u64 = 0x7FFF_FFFF;
 
 /// A part of the bytes that one call carries.
@@ -42,7 +42,7 @@ pub(crate) fn word_at(memory: &GuestMemory, at: Addr) -> u32
     memory.load(at, Size::Four).unwrap_or(0)
 }
 
-/// The part at an address: an address and a length.
+// The part at an address: an address and a length.
 #[tactic(auto, using(crate::proofs::Reach::reads_within))]
 fn part_at(memory: &GuestMemory, at: Addr) -> IoVec
     requires reach { can_read (memory_of memory.now) at 8 ≡ true }
@@ -87,7 +87,7 @@ pub(crate) fn total(parts: &[IoVec]) -> u64
     sum
 }
 
-/// Cuts the parts to their first bytes.
+// Cuts the parts to their first bytes.
 fn truncate_parts(parts: &mut [IoVec], most: usize)
     ensures { parts.new ≡ carried most parts.old }
 {
@@ -175,7 +175,7 @@ pub(crate) fn read_table(
     Ok(parts)
 }
 
-/// Copies the bytes to the parts, one part after another.
+// Copies the bytes to the parts, one part after another.
 fn fill_parts(
     memory: &mut GuestMemory,
     held: &mut Reservations,

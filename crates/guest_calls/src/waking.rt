@@ -9,14 +9,14 @@ use crate::state::State;
 use guest_words::Tid;
 
 impl State {
-    /// Whether one of the live threads can run.
+    // Whether one of the live threads can run.
     fn can_some_run(&self) -> bool
         ensures { result ≡ some_can_run self.now }
     {
         self.threads.iter().any(|t| !self.is_blocked(t.tid))
     }
 
-    /// Where no thread can run, the time goes on to the earliest deadline, if it is ahead.
+    // Where no thread can run, the time goes on to the earliest deadline, if it is ahead.
     fn move_on(&mut self)
         ensures { self.new ≡ moved_on self.old }
     {

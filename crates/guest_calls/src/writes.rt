@@ -18,7 +18,7 @@ use std::alloc::AllocError;
 use trace_model::Events;
 
 impl Kernel {
-    /// The channel of output that a descriptor stands for.
+    // The channel of output that a descriptor stands for.
     fn channel_of(&self, fd: u32) -> Option<u32>
         ensures value { result ≡ channel (descriptor self.now.state fd) }
         ensures range { IfSome result (λ n. (1 ≤ n) × (n ≤ 2)) }

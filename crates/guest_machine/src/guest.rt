@@ -28,10 +28,10 @@ use rv_isa::{Instr, decode};
 use std::alloc::AllocError;
 use trace_model::{Event, Events, Observer};
 
-/// The room for the events of an instruction: its step, and at most two accesses, or a return and a call.
+// The room for the events of an instruction: its step, and at most two accesses, or a return and a call.
 const EVENTS_OF_AN_INSTRUCTION: usize = 4;
 
-/// A call has its step, at most `SYSCALL_EVENTS` copies that the kernel makes, and ends at most `THREADS` threads.
+// A call has its step, at most `SYSCALL_EVENTS` copies that the kernel makes, and ends at most `THREADS` threads.
 const EVENTS_OF_A_CALL_STEP: usize = 1 + SYSCALL_EVENTS + THREADS;
 
 /// The parts of a machine.

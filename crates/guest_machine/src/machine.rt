@@ -34,7 +34,7 @@ impl Model for Machine {
         × IsSoundMachine (machine_of (parts_of m.guest)) };
 }
 
-/// The most pages of the image, so that the stack has room.
+// The most pages of the image, so that the stack has room.
 const IMAGE_LIMIT: u32 = PAGES - STACK_PAGES;
 
 impl Machine {

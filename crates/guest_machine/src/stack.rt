@@ -14,7 +14,7 @@ pub const STRINGS_LIMIT: usize = 65536;
 /// Where the sixteen bytes stand that stand for random ones.
 pub(crate) const RANDOM_ADDRESS: u32 = 0x7FFF_FFF0;
 
-/// The keys of the auxiliary vector, getauxval(3).
+// The keys of the auxiliary vector, getauxval(3).
 const AT_NULL: u32 = 0;
 
 const AT_PHDR: u32 = 3;

@@ -13,7 +13,7 @@ use guest_words::limits::{PAGES, STACK_PAGES};
 use guest_words::{Addr, Rights};
 use std::alloc::{AllocError, Global};
 
-/// The first page of the stack.
+// The first page of the stack.
 const STACK_PAGE: u32 = 0x7F800;
 
 // Maps the stack, which can be read and written.

@@ -69,7 +69,7 @@ fn observe_two<W: Observer>(
     }
 }
 
-/// Hands out the accesses of an instruction.
+// Hands out the accesses of an instruction.
 #[inline(always)]
 fn hand_access<W: Observer>(
     tid: Tid,
@@ -98,7 +98,7 @@ fn hand_access<W: Observer>(
     }
 }
 
-/// Hands out the calls and the returns of a jump.
+// Hands out the calls and the returns of a jump.
 #[inline(always)]
 fn hand_jump<W: Observer>(
     tid: Tid,

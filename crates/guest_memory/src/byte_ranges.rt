@@ -45,7 +45,7 @@ impl Directory {
         None
     }
 
-    /// The little-endian number of that size, whose bytes are mapped.
+    // The little-endian number of that size, whose bytes are mapped.
     fn number(&self, at: u64, size: Size) -> u32
         requires range { at < 2 ^ 32 }
         requires mapped { AreMapped (memory_in self.now) at (byte_count size) }

@@ -1,5 +1,5 @@
 -- A run from its begin to its end.
-use Rattle.std.proofs.Common.{◌≡◌, ℕ, suc, ◌+◌, ◌-◌, ◌<◌, Bool, true, List, [], ◌∷◌, ◌++◌, length, length-append, Option, Some, None, Result, Ok, Err, IfOk, IfErr, refl, sym, ap, subst, ◌∙◌, append-nil, arith}
+use Rattle.std.proofs.Common.{◌≡◌, ControlFlow, ℕ, suc, ◌+◌, ◌-◌, ◌<◌, Bool, true, List, [], ◌∷◌, ◌++◌, length, length-append, Option, Some, None, Result, Ok, Err, IfOk, IfErr, refl, sym, ap, subst, ◌∙◌, append-nil, arith}
 use Rattle.guest_words.specs.declared.endings.Finish.{Finish}
 use Rattle.guest_words.specs.declared.endings.Finish.TheVariants.{Budget}
 use Rattle.guest_words.specs.declared.limits.TheConstants.{RUN_STEPS}
@@ -12,7 +12,6 @@ use Rattle.guest_machine.specs.Machine.{MachineState}
 use Rattle.guest_machine.specs.Start as machine
 use Rattle.guest_run.specs.declared.run.Ended.{Ended}
 use Rattle.guest_run.specs.declared.run.Runner.{Runner}
-use Rattle.guest_run.specs.declared.run.Turned.{Turned}
 use Rattle.guest_run.specs.declared.run_error.RunError.{RunError}
 use Rattle.guest_run.specs.declared.run_error.RunError.TheVariants.{CannotPut, Memory}
 use Rattle.guest_run.specs.Private.CurrentTurn.{position, recorded, with_present}
@@ -113,7 +112,7 @@ remains_same Stands fits same is first begin before count r observer now remains
     subst (λ (test : List Event → Bool). Remains Stands test first begin before count r observer now) (sym is) remains
 
 pub turn_same : {W : Type 0} (Stands : W → List Event → Type 0) (fits same : List Event → Bool) → same ≡ fits → (first : List Event) (begin : Position MachineState)
-    (before : Sinks) (budget : ℕ) (r : Standing) (observer : W) (after : Sinks) (result : Result Turned RunError) →
+    (before : Sinks) (budget : ℕ) (r : Standing) (observer : W) (after : Sinks) (result : Result (ControlFlow Finish ℕ) RunError) →
     TurnEnds Stands same first begin before budget r observer after result → TurnEnds Stands fits first begin before budget r observer after result
 turn_same Stands fits same is first begin before budget r observer after result ends =
     subst (λ (test : List Event → Bool). TurnEnds Stands test first begin before budget r observer after result) is ends

@@ -19,6 +19,7 @@ use guest_words::limits::RUN_STEPS;
 use guest_words::{Addr, Finish, Tid};
 use host_io::Sink;
 use std::alloc::{AllocError, Global};
+use std::ops::ControlFlow;
 use thread_sched::{Recording, Sched};
 use trace_model::{Event, Observed, Observer};
 
@@ -27,13 +28,6 @@ use trace_model::{Event, Observed, Observer};
 pub struct Ended {
     pub finish: Finish,
     pub recording: Recording,
-}
-
-// A run after moves of a turn: it goes on, with the number of moves made, or is at its end.
-#[derive(Clone, Copy)]
-enum Turned {
-    GoesOn { count: u64 },
-    Ends { finish: Finish },
 }
 
 /// A run that goes on.
@@ -62,7 +56,7 @@ fn observe_start<W: Observer>(observer: &mut W, entry: Addr) -> Result<(), Alloc
 }
 
 impl Runner {
-    /// A run that made no move.
+    // A run that made no move.
     fn new(alloc: Global, machine: Machine, turns: Sched) -> Result<Runner, AllocError>
         ensures { IfOk result (IsNewRunner machine turns) }
     {
@@ -73,8 +67,8 @@ impl Runner {
         })
     }
 
-    /// Makes one move, or says how the run ends, by this move or before one. It stands apart from the loop over moves whose
-    /// instruction is known.
+    // Makes one move, or says how the run ends, by this move or before one. It stands apart from the loop over moves whose
+    // instruction is known.
     #[inline(never)]
     fn advance<W: Observer, O: Sink, E: Sink>(
         &mut self,
@@ -108,14 +102,14 @@ impl Runner {
         }
     }
 
-    // Makes further moves of the present turn, after the `made` ones, while their instructions are known, the turn has some left and
-    // the budget lasts.
+    // Makes further moves of the present turn, after the `made` ones, while their instructions are known, the turn has some left
+    // and the budget lasts. The run goes on, with the number of moves made, or is at its end.
     fn run_known<W: Observer>(
         &mut self,
         made: u64,
         budget: u64,
         observer: &mut W,
-    ) -> Result<Turned, RunError>
+    ) -> Result<ControlFlow<Finish, u64>, RunError>
         requires remains { (now : Sinks)
             × RemainsSome W.stands (W.fits observer.old) made (standing_of self.old) observer.old now }
         requires budget { made ≤ budget }
@@ -128,23 +122,20 @@ impl Runner {
     {
         let most = self.turn.left.min(budget - made);
         if most == 0 {
-            return Ok(Turned::GoesOn { count: made });
+            return Ok(ControlFlow::Continue(made));
         }
         let tid = self.turn.tid;
         let known = self.stepper.machine.run_known(tid, most, observer)?;
         self.turn.left -= known.count;
         self.recorder.made += known.count;
         match known.observed {
-            Observed::Taken => Ok(Turned::GoesOn {
-                count: made + known.count,
-            }),
-            Observed::Refused => Ok(Turned::Ends {
-                finish: Finish::Deep,
-            }),
+            Observed::Taken => Ok(ControlFlow::Continue(made + known.count)),
+            Observed::Refused => Ok(ControlFlow::Break(Finish::Deep)),
         }
     }
 
-    /// Makes moves after the `made` ones: the next one, and those that follow it in its turn while the budget lasts.
+    // Makes moves after the `made` ones: the next one, and those that follow it in its turn while the budget lasts. The run goes
+    // on, with the number of moves made, or is at its end.
     fn take_turn<W: Observer, O: Sink, E: Sink>(
         &mut self,
         made: u64,
@@ -152,7 +143,7 @@ impl Runner {
         observer: &mut W,
         out: &mut O,
         err: &mut E,
-    ) -> Result<Turned, RunError>
+    ) -> Result<ControlFlow<Finish, u64>, RunError>
         requires remains { RemainsSome W.stands (W.fits observer.old) made (standing_of self.old) observer.old
             (sinks (O.state out.old) (E.state err.old)) }
         requires budget { made < budget }
@@ -165,12 +156,12 @@ impl Runner {
         ensures made { IfOk result (λ end. self.new.recorder.made ≤ RUN_STEPS) }
     {
         if let Some(finish) = self.advance(observer, out, err)? {
-            return Ok(Turned::Ends { finish });
+            return Ok(ControlFlow::Break(finish));
         }
         self.run_known(made + 1, budget, observer)
     }
 
-    /// What is known of the run, which ends so.
+    // What is known of the run, which ends so.
     fn finish(self, finish: Finish) -> Result<Ended, RunError>
         requires { self.recorder.made ≤ RUN_STEPS }
         ensures ended { IfOk result (λ ended. (ended.recording ≡ recorded self.recorder [])
@@ -210,8 +201,8 @@ pub fn run_guest<W: Observer, O: Sink, E: Sink>(
     let mut count = 0;
     'run: while count < budget {
         match runner.take_turn(count, budget, observer, out, err)? {
-            Turned::GoesOn { count: made } => count = made,
-            Turned::Ends { finish } => return runner.finish(finish),
+            ControlFlow::Continue(made) => count = made,
+            ControlFlow::Break(finish) => return runner.finish(finish),
         }
     }
     runner.finish(Finish::Budget)

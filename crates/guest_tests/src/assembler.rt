@@ -86,7 +86,7 @@ fn jalr(base: Reg) -> Instr {
     }
 }
 
-/// Ends with status 0.
+// Ends with status 0.
 fn exit(alloc: Global) -> Result<Code, AsmError>
     ensures { IfOk result (λ code. length code ≡ 3) }
 {
@@ -97,7 +97,7 @@ fn exit(alloc: Global) -> Result<Code, AsmError>
     program.finish()
 }
 
-/// Calls a routine that reads a word twice.
+// Calls a routine that reads a word twice.
 fn call(alloc: Global) -> Result<Code, AsmError>
     ensures { IfOk result (λ code. length code ≡ 7) }
 {
@@ -114,7 +114,7 @@ fn call(alloc: Global) -> Result<Code, AsmError>
     program.finish()
 }
 
-/// Jumps to a label that stands for no word, and before that, perhaps, to one that does.
+// Jumps to a label that stands for no word, and before that, perhaps, to one that does.
 fn never_bound(alloc: Global, earlier: bool) -> Result<Code, AsmError> {
     let mut program = Builder::new(alloc)?;
     if earlier {
@@ -135,7 +135,7 @@ fn bound_twice(alloc: Global) -> Result<Code, AsmError> {
     program.finish()
 }
 
-/// A branch over `words` words to a label.
+// A branch over `words` words to a label.
 fn branch_over(alloc: Global, words: u32) -> Result<Code, AsmError>
     requires { words ≤ 2000 }
 {

@@ -1,4 +1,5 @@
 pub mod Cuts
+pub mod FaultKinds
 pub mod Found
 pub mod Numerals
 pub mod ReadyPlaces

@@ -33,7 +33,7 @@ impl<T> Model for ByThread<T> {
     ghost invariant = { λ t. IsRising (numbers t.entries.items) };
 }
 
-/// The place of the thread, if it has one.
+// The place of the thread, if it has one.
 #[inline(always)]
 fn find<T>(entries: &[(Tid, T)], tid: Tid) -> Option<usize>
     ensures { result ≡ position (λ x. x.0 == tid) entries.now }

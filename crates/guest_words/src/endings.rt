@@ -1,4 +1,8 @@
 //! How a run ends.
+ghost use Rattle.std.specs.Prelude.{◌≡◌, ◌≤◌, true, IfSome, Some};
+ghost use Rattle.std.specs.Option.{is_some};
+ghost use Rattle.guest_words.specs.Endings.{kind_number};
+
 use crate::{Addr, Tid};
 
 /// Why an instruction can't run. Each kind's number stands beside it.
@@ -18,6 +22,43 @@ pub enum FaultKind {
     AtomicAlign = 6,
     /// EBREAK.
     Break = 7,
+}
+
+impl FaultKind {
+    /// The kind's number, by which texts name it.
+    pub fn number(self) -> u32
+        ensures value { result ≡ kind_number self }
+        ensures least { 1 ≤ result }
+        ensures most { result ≤ 7 }
+    {
+        match self {
+            FaultKind::Illegal => 1,
+            FaultKind::Fetch => 2,
+            FaultKind::Load => 3,
+            FaultKind::Store => 4,
+            FaultKind::JumpAlign => 5,
+            FaultKind::AtomicAlign => 6,
+            FaultKind::Break => 7,
+        }
+    }
+
+    /// The kind of this number; None where it is that of no kind.
+    pub fn numbered(number: u64) -> Option<FaultKind>
+        ensures found { IfSome result (λ kind. number ≡ kind_number kind) }
+        ensures only { (kind : FaultKind) → number ≡ kind_number kind → result ≡ Some kind }
+        ensures some { 1 ≤ number → number ≤ 7 → is_some result ≡ true }
+    {
+        match number {
+            1 => Some(FaultKind::Illegal),
+            2 => Some(FaultKind::Fetch),
+            3 => Some(FaultKind::Load),
+            4 => Some(FaultKind::Store),
+            5 => Some(FaultKind::JumpAlign),
+            6 => Some(FaultKind::AtomicAlign),
+            7 => Some(FaultKind::Break),
+            _ => None,
+        }
+    }
 }
 
 /// How a run of the guest ends.

@@ -47,21 +47,21 @@ impl From<AllocError> for NameError {
     }
 }
 
-/// Whether the bytes are the one byte that stands for no name.
+// Whether the bytes are the one byte that stands for no name.
 fn is_dash(bytes: &[u8]) -> bool
     ensures { result ≡ is_dash bytes.now }
 {
     bytes.len() == 1 && bytes[0] == b'-'
 }
 
-/// Whether each byte is visible.
+// Whether each byte is visible.
 fn is_visible_text(bytes: &[u8]) -> bool
     ensures { result ≡ list_all is_visible bytes.now }
 {
     bytes.iter().all(|b| 0x21 <= *b && *b <= 0x7e)
 }
 
-/// Whether the bytes are a name.
+// Whether the bytes are a name.
 #[tactic(auto, using(std::proofs::lemmas::Bool::Decides::nat_tests))]
 fn is_name(bytes: &[u8]) -> bool
     ensures { result ≡ is_name bytes.now }

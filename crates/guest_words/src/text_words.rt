@@ -23,7 +23,7 @@ pub fn cut(bytes: &[u8], byte: u8) -> Option<(&[u8], &[u8])>
     None
 }
 
-/// Whether the word begins with no plus sign, and with no zero that more follows.
+// Whether the word begins with no plus sign, and with no zero that more follows.
 fn is_plain(word: &[u8]) -> bool
     ensures { IsTrue result ↔ ((slice_index word.now 0 ≢ 43) × (slice_index word.now 0 ≡ 48
         → length word.now ≡ 1)) }
@@ -35,7 +35,7 @@ fn is_plain(word: &[u8]) -> bool
     }
 }
 
-/// The number that digits say, with leading zeros or a plus sign too.
+// The number that digits say, with leading zeros or a plus sign too.
 fn parsed(word: &[u8]) -> Option<u128>
     ensures found { IfSome result (λ n. IsNumeral 10 (without_leading_plus word.now) × (n
         ≡ digits_value 10 (without_leading_plus word.now))) }

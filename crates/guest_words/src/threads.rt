@@ -35,6 +35,13 @@ impl Tid {
         }
     }
 
+    /// The thread of this number, which may have 64 bits; None where the number is out of range.
+    pub fn numbered(number: u64) -> Option<Tid>
+        ensures { SomeIff result ((1 ≤ number) × (number ≤ LAST_TID)) number }
+    {
+        Tid::new(u32::try_from(number).ok()?)
+    }
+
     /// The number of the thread.
     pub fn number(self) -> u32
         ensures same { result ≡ self }

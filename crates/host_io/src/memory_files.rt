@@ -77,7 +77,7 @@ impl MemoryFiles {
         }
     }
 
-    /// Notes that the call failed at this path.
+    // Notes that the call failed at this path.
     fn note_failure(&mut self, path: &str) -> Result<(), AllocError>
         ensures ok { OnOk result (files_state self.new
             ≡ with_failure path.now (files_state self.old)) }

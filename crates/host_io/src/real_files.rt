@@ -36,7 +36,7 @@ impl<'a, R> RealFiles<'a, R> {
     }
 }
 
-/// Why a load fails. Out of memory, in the program or in the system, is no failure.
+// Why a load fails. Out of memory, in the program or in the system, is no failure.
 fn load_error(error: io::Error) -> LoadError
     ensures memory { error_kind error ≡ ErrorKind.OutOfMemory → result ≡ LoadError.Memory }
     ensures failed { error_kind error ≢ ErrorKind.OutOfMemory → result ≡ LoadError.Failed }
@@ -48,7 +48,7 @@ fn load_error(error: io::Error) -> LoadError
     }
 }
 
-/// Why a store fails whose file was not opened. Out of memory left the file as it was, and is no failure.
+// Why a store fails whose file was not opened. Out of memory left the file as it was, and is no failure.
 fn opening_error(error: io::Error) -> StoreError
     ensures memory { error_kind error ≡ ErrorKind.OutOfMemory → result ≡ StoreError.Memory }
     ensures failed { error_kind error ≢ ErrorKind.OutOfMemory → result ≡ StoreError.Failed }
@@ -68,7 +68,7 @@ pub(crate) fn limited<R: Read>(reader: R, most: usize) -> Take<R>
     reader.take((most as u64).saturating_add(1))
 }
 
-/// What a load gives, by how the reading ended and what was read.
+// What a load gives, by how the reading ended and what was read.
 fn loaded(read: io::Result<usize>, bytes: Vec<u8>, most: usize) -> Result<Vec<u8>, LoadError>
     ensures given { IfOk read (λ _. vec_len bytes ≤ most → result ≡ Ok bytes) }
     ensures only { IfOk result (λ kept. IsOk read × (vec_len bytes ≤ most) × (kept ≡ bytes)) }

@@ -27,8 +27,8 @@ impl<W: Write> StreamSink<W> {
     }
 }
 
-/// Writes all of a piece and flushes it. An interrupted write is tried again, as std does, and a write that takes
-/// nothing is an error.
+// Writes all of a piece and flushes it. An interrupted write is tried again, as std does, and a write that takes
+// nothing is an error.
 fn write_out<W: Write>(writer: &mut W, piece: &[u8]) -> io::Result<()>
     ensures { OnOk result (Appends (W.contents writer.old) (W.contents writer.new) piece.now) }
 {

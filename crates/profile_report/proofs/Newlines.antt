@@ -8,7 +8,7 @@ use Rattle.std.proofs.lemmas.Bool.Decides.{nat_tests}
 use Rattle.std.proofs.lemmas.List.Folds.{list_all-append}
 use Rattle.guest_words.specs.Names.{is_visible}
 use Rattle.guest_words.specs.declared.endings.Finish.TheVariants.{Exit, Fault, Budget, Deadlock, Deep, Schedule}
-use Rattle.guest_words.specs.declared.endings.FaultKind.TheVariants.{Illegal}
+use Rattle.guest_words.specs.Endings.{kind_number}
 use Rattle.guest_words.specs.declared.endings.FaultKind.{FaultKind}
 use Rattle.cost_points.specs.declared.point.Point.{Point}
 use Rattle.cost_points.specs.declared.point.Split.{Split}
@@ -17,9 +17,10 @@ use Rattle.profile_report.specs.declared.line.Line.TheVariants.{First, End, Step
 use Rattle.profile_report.specs.declared.report.ReportVersion.TheVariants.{One, Two}
 use Rattle.profile_report.specs.Fits.{FitsName, FitsPoint, FitsSplit}
 use Rattle.profile_report.specs.Grammar.{FitsLine, line_text}
-use Rattle.profile_report.specs.LineForms.{hex_address, kind_number, labelled, name_word, point_line, split_words}
+use Rattle.profile_report.specs.LineForms.{hex_address, labelled, name_word, point_line, split_words}
 use Rattle.guest_words.specs.Separators.{lacks}
 use Rattle.guest_words.proofs.Cuts.{lacks_decimal}
+use Rattle.guest_words.proofs.FaultKinds.{kind_in_range}
 use Rattle.profile_report.proofs.Digits.{lacks_address}
 
 -- two parts without the byte
@@ -66,8 +67,7 @@ point p fits =
     (number p.least (omega (arith, fits.least)))) (number p.most (omega (arith, fits.most)))) (number p.sum fits.sum)) (split p.split fits.split)
 
 pub kind_small : (k : FaultKind) → kind_number k < 2 ^ 128
-kind_small Illegal = omega arith
-kind_small _ = omega arith
+kind_small k = omega (arith, (kind_in_range k).1)
 
 pub line_lacks : (l : Line) → FitsLine l → lacks 10 (line_text l) ≡ true
 line_lacks (First One) fits = refl

@@ -9,12 +9,12 @@ use Rattle.guest_words.specs.Names.{is_name}
 use Rattle.guest_words.specs.declared.endings.Finish.{Finish}
 use Rattle.guest_words.specs.declared.endings.Finish.TheVariants.{Exit, Fault, Budget, Deadlock, Deep, Schedule}
 use Rattle.guest_words.specs.declared.endings.FaultKind.{FaultKind}
-use Rattle.guest_words.specs.declared.endings.FaultKind.TheVariants.{Illegal, Fetch, Load, Store, JumpAlign, AtomicAlign, Break}
+use Rattle.guest_words.specs.Endings.{kind_number}
 use Rattle.profile_report.specs.declared.line.Line.{Line}
 use Rattle.profile_report.specs.declared.line.Line.TheVariants.{First, End, Steps, Open, OfRoutine, OfPoint, Done}
 use Rattle.profile_report.specs.Fits.{FitsEnd, FitsName}
 use Rattle.profile_report.specs.Grammar.{FitsLine, line_text}
-use Rattle.profile_report.specs.LineForms.{end_line, fault_words, first_line, hex_address, hex_glyph, kind_number, name_word, routine_line}
+use Rattle.profile_report.specs.LineForms.{end_line, fault_words, first_line, hex_address, hex_glyph, name_word, routine_line}
 use Rattle.profile_report.specs.Reading.{led, lines_text, Says}
 use Rattle.profile_report.specs.Reported.{Reported}
 use Rattle.profile_report.specs.ReportText.{report_text}
@@ -27,6 +27,7 @@ use Rattle.profile_report.proofs.Behind.{lines_first, next_line, no_line, over_o
 use Rattle.guest_words.proofs.Cuts.{cut_once}
 use Rattle.profile_report.proofs.Digits.{lacks_address}
 use Rattle.profile_report.proofs.Digits.{by_digits}
+use Rattle.guest_words.proofs.FaultKinds.{kind_same}
 use Rattle.guest_words.proofs.Found.{same}
 use Rattle.profile_report.proofs.Letters.{alike}
 use Rattle.profile_report.proofs.Newlines.{kind_small, line_lacks}
@@ -73,17 +74,6 @@ name_same None None fm fn is = refl
 name_same None (Some n) fm fn is = absurd (no_dash n fn is)
 name_same (Some m) None fm fn is = absurd (no_dash m fm (sym is))
 name_same (Some m) (Some n) fm fn is = ap Some is
-
--- the kind of a number
-abbrev kind_at : ℕ → FaultKind
-kind_at n = cond (eqb n 1) Illegal (cond (eqb n 2) Fetch (cond (eqb n 3) Load (cond (eqb n 4) Store (cond (eqb n 5) JumpAlign (cond (eqb n 6) AtomicAlign Break)))))
-
-kind_back : (k : FaultKind) → kind_at (kind_number k) ≡ k
-kind_back Illegal = refl
-kind_back _ = refl
-
-kind_same : (j k : FaultKind) → kind_number j ≡ kind_number k → j ≡ k
-kind_same j k is = sym (kind_back j) ∙ ap kind_at is ∙ kind_back k
 
 -- the form of an end, by two of its bytes
 abbrev end_form : Finish → ℕ

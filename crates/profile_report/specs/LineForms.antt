@@ -4,7 +4,7 @@ use Rattle.std.specs.Fmt.{decimal}
 use Rattle.guest_words.specs.declared.endings.Finish.{Finish}
 use Rattle.guest_words.specs.declared.endings.Finish.TheVariants.{Exit, Fault, Budget, Deadlock, Deep, Schedule}
 use Rattle.guest_words.specs.declared.endings.FaultKind.{FaultKind}
-use Rattle.guest_words.specs.declared.endings.FaultKind.TheVariants.{Illegal, Fetch, Load, Store, JumpAlign, AtomicAlign, Break}
+use Rattle.guest_words.specs.Endings.{kind_number}
 use Rattle.cost_points.specs.declared.point.Point.{Point}
 use Rattle.cost_points.specs.declared.point.Split.{Split}
 use Rattle.profile_report.specs.declared.report.ReportVersion.{ReportVersion}
@@ -35,16 +35,6 @@ hex_address at =
     ∷ hex_glyph (at / 0x10 % 16)
     ∷ hex_glyph (at % 16)
     ∷ []
-
--- the number of a fault's kind
-abbrev pub kind_number : FaultKind → ℕ
-kind_number Illegal = 1
-kind_number Fetch = 2
-kind_number Load = 3
-kind_number Store = 4
-kind_number JumpAlign = 5
-kind_number AtomicAlign = 6
-kind_number Break = 7
 
 -- a number after its label
 abbrev pub labelled : List ℕ → ℕ → List ℕ

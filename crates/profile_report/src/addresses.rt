@@ -5,7 +5,7 @@ ghost use Rattle.profile_report.specs.LineForms.{hex_address, hex_glyph};
 use crate::line_text::hex_address;
 use guest_words::Addr;
 
-/// The digit in base 16 that a glyph stands for, and 0 where it stands for none.
+// The digit in base 16 that a glyph stands for, and 0 where it stands for none.
 fn hex_digit(glyph: u8) -> u32
     ensures range { result < 16 }
     ensures read { (d : ℕ) → d < 16 → glyph ≡ hex_glyph d → result ≡ d }
@@ -17,7 +17,7 @@ fn hex_digit(glyph: u8) -> u32
     }
 }
 
-/// The number of eight digits in base 16.
+// The number of eight digits in base 16.
 fn hex_number(glyphs: &[u8]) -> Addr
     requires { length glyphs.now ≡ 8 }
     ensures { (at : ℕ) → at < 2 ^ 32 → glyphs.now ≡ hex_address at → result ≡ at }
@@ -32,7 +32,7 @@ fn hex_number(glyphs: &[u8]) -> Addr
         + hex_digit(glyphs[7])
 }
 
-/// Whether the address is written so.
+// Whether the address is written so.
 fn is_written_address(at: Addr, word: &[u8]) -> bool
     ensures { IsTrue result ↔ (word.now ≡ hex_address at) }
 {

@@ -1,11 +1,10 @@
 //! Reading a line: what a line says, where it has one of the forms.
 ghost use Rattle.std.specs.Prelude.{◌≡◌, ℕ, ◌≤◌, ◌<◌, ◌^◌, List, ◌++◌, ◌∷◌, codes, Option, Some, true, IfSome, IsSomeAnd, MatchResult, IfErr, IfOk};
 ghost use Rattle.std.specs.Fmt.{decimal};
-ghost use Rattle.std.specs.Option.{SomeIff};
 ghost use Rattle.guest_words.specs.Names.{is_name};
 ghost use Rattle.guest_words.specs.declared.endings.FaultKind.{FaultKind};
 ghost use Rattle.guest_words.specs.declared.endings.Finish.{Finish};
-ghost use Rattle.profile_report.specs.LineForms.{end_line, fault_words, first_line, hex_address, kind_number, name_word};
+ghost use Rattle.profile_report.specs.LineForms.{end_line, fault_words, first_line, hex_address, name_word};
 ghost use Rattle.profile_report.specs.declared.line.Line.{Line};
 ghost use Rattle.profile_report.specs.declared.report.ReportVersion.{ReportVersion};
 ghost use Rattle.profile_report.specs.Grammar.{FitsLine, IsPlain, line_text};
@@ -16,11 +15,10 @@ use crate::ReportVersion;
 use crate::addresses::address;
 use crate::line::{Line, LineError};
 use crate::point_reader::point_of;
-use guest_words::limits::LAST_TID;
 use guest_words::{FaultKind, Finish, Name, NameError, Tid, cut, decimal_number, first_number};
 use std::alloc::Global;
 
-/// What stands behind a label.
+// What stands behind a label.
 fn behind<'a>(label: &[u8], line: &'a [u8]) -> Option<&'a [u8]>
     ensures found { IfSome result (λ rest. line.now ≡ label.now ++ rest.now) }
     ensures only { (rest : List ℕ) → line.now ≡ label.now ++ rest
@@ -29,7 +27,7 @@ fn behind<'a>(label: &[u8], line: &'a [u8]) -> Option<&'a [u8]>
     line.strip_prefix(label)
 }
 
-/// The version whose first line this is.
+// The version whose first line this is.
 fn version_of(line: &[u8]) -> Option<ReportVersion>
     ensures found { IfSome result (λ v. line.now ≡ first_line v) }
     ensures only { (v : ReportVersion) → line.now ≡ first_line v → result ≡ Some v }
@@ -43,31 +41,7 @@ fn version_of(line: &[u8]) -> Option<ReportVersion>
     None
 }
 
-/// The kind of a fault by its number.
-fn kind_of(number: u64) -> Option<FaultKind>
-    ensures found { IfSome result (λ kind. number ≡ kind_number kind) }
-    ensures only { (kind : FaultKind) → number ≡ kind_number kind → result ≡ Some kind }
-{
-    match number {
-        1 => Some(FaultKind::Illegal),
-        2 => Some(FaultKind::Fetch),
-        3 => Some(FaultKind::Load),
-        4 => Some(FaultKind::Store),
-        5 => Some(FaultKind::JumpAlign),
-        6 => Some(FaultKind::AtomicAlign),
-        7 => Some(FaultKind::Break),
-        _ => None,
-    }
-}
-
-/// The thread of a number.
-fn thread_of(number: u64) -> Option<Tid>
-    ensures { SomeIff result ((1 ≤ number) × (number ≤ LAST_TID)) number }
-{
-    Tid::new(u32::try_from(number).ok()?)
-}
-
-/// The words of a fault.
+// The words of a fault.
 fn fault_of(words: &[u8]) -> Option<Finish>
     ensures found { IfSome result (λ f. FitsEnd f × (codes "end fault " ++ words.now
         ≡ end_line f)) }
@@ -77,13 +51,13 @@ fn fault_of(words: &[u8]) -> Option<Finish>
     let (kind, rest) = first_number(words)?;
     let (tid, rest) = first_number(rest)?;
     Some(Finish::Fault {
-        kind: kind_of(kind)?,
-        tid: thread_of(tid)?,
+        kind: FaultKind::numbered(kind)?,
+        tid: Tid::numbered(tid)?,
         at: address(rest)?,
     })
 }
 
-/// The status in 8 bits that is written so.
+// The status in 8 bits that is written so.
 fn status_of(word: &[u8]) -> Option<Finish>
     ensures found { IfSome result (λ f. FitsEnd f × (codes "end exit " ++ word.now ≡ end_line f)) }
     ensures only { (status : ℕ) → status < 2 ^ 8 → word.now ≡ decimal status
@@ -93,7 +67,7 @@ fn status_of(word: &[u8]) -> Option<Finish>
     Some(Finish::Exit { status })
 }
 
-/// The line of a schedule that is written so, counted from 1.
+// The line of a schedule that is written so, counted from 1.
 fn schedule_of(word: &[u8]) -> Option<Finish>
     ensures found { IfSome result (λ f. FitsEnd f × (codes "end schedule " ++ word.now
         ≡ end_line f)) }
@@ -106,7 +80,7 @@ fn schedule_of(word: &[u8]) -> Option<Finish>
     }
 }
 
-/// An end that has no words of its own.
+// An end that has no words of its own.
 fn plain_end_of(line: &[u8]) -> Option<Finish>
     ensures found { IfSome result (λ f. FitsEnd f × (line.now ≡ end_line f)) }
     ensures budget { line.now ≡ codes "end budget" → result ≡ Some Finish.Budget }
@@ -125,7 +99,7 @@ fn plain_end_of(line: &[u8]) -> Option<Finish>
     None
 }
 
-/// How the run ended.
+// How the run ended.
 fn end_of(line: &[u8]) -> Option<Finish>
     ensures found { IfSome result (λ f. FitsEnd f × (line.now ≡ end_line f)) }
     ensures only { (f : Finish) → FitsEnd f → line.now ≡ end_line f → result ≡ Some f }
@@ -142,7 +116,7 @@ fn end_of(line: &[u8]) -> Option<Finish>
     plain_end_of(line)
 }
 
-/// A name, or the dash that stands for none.
+// A name, or the dash that stands for none.
 fn name_of(alloc: Global, word: &[u8]) -> Result<Option<Name>, LineError>
     ensures found { IfOk result (λ name. FitsName name × (word.now ≡ name_word name)) }
     ensures only { (name : Option (List ℕ)) → FitsName name → word.now ≡ name_word name
@@ -159,7 +133,7 @@ fn name_of(alloc: Global, word: &[u8]) -> Result<Option<Name>, LineError>
     }
 }
 
-/// A routine's entry and its name.
+// A routine's entry and its name.
 fn routine_of(alloc: Global, words: &[u8]) -> Result<Line, LineError>
     ensures found { IfOk result (λ l. FitsLine l × (codes "routine " ++ words.now
         ≡ line_text l)) }
@@ -178,7 +152,7 @@ fn routine_of(alloc: Global, words: &[u8]) -> Result<Line, LineError>
     }
 }
 
-/// The number of instructions that is written so.
+// The number of instructions that is written so.
 fn steps_of(word: &[u8]) -> Option<Line>
     ensures found { IfSome result (λ l. FitsLine l × (codes "steps " ++ word.now
         ≡ line_text l)) }
@@ -187,7 +161,7 @@ fn steps_of(word: &[u8]) -> Option<Line>
     Some(Line::Steps(decimal_number(word)?))
 }
 
-/// The number of open activations that is written so.
+// The number of open activations that is written so.
 fn pending_of(word: &[u8]) -> Option<Line>
     ensures found { IfSome result (λ l. FitsLine l × (codes "open " ++ word.now
         ≡ line_text l)) }
@@ -196,7 +170,7 @@ fn pending_of(word: &[u8]) -> Option<Line>
     Some(Line::Open(decimal_number(word)?))
 }
 
-/// The number of routines that is written so.
+// The number of routines that is written so.
 fn count_of(word: &[u8]) -> Option<Line>
     ensures found { IfSome result (λ l. FitsLine l × (codes "done " ++ word.now
         ≡ line_text l)) }
@@ -205,7 +179,7 @@ fn count_of(word: &[u8]) -> Option<Line>
     Some(Line::Done(decimal_number(word)?))
 }
 
-/// A line that has no name.
+// A line that has no name.
 fn plain_line(line: &[u8]) -> Option<Line>
     ensures found { IfSome result (λ l. FitsLine l × (line.now ≡ line_text l)) }
     ensures only { (l : Line) → IsPlain l → FitsLine l → line.now ≡ line_text l

@@ -1,13 +1,13 @@
 //! The lines of a report, one function a form.
 ghost use Rattle.std.specs.Prelude.{◌≡◌, ◌++◌, ◌<◌, codes, OnErr, OnOk};
-ghost use Rattle.profile_report.specs.LineForms.{end_line, ended, fault_words, first_line, hex_address, hex_glyph, kind_number, labelled, name_word, point_line, routine_line, split_words};
+ghost use Rattle.profile_report.specs.LineForms.{end_line, ended, fault_words, first_line, hex_address, hex_glyph, labelled, name_word, point_line, routine_line, split_words};
 
 use crate::ReportVersion;
 use cost_points::{Point, Split};
 use guest_words::{Addr, FaultKind, Finish, Name, Tid, push_decimal};
 use std::alloc::AllocError;
 
-/// Appends a number after its label.
+// Appends a number after its label.
 fn push_labelled(text: &mut Vec<u8>, label: &[u8], number: u64) -> Result<(), AllocError>
     ensures { OnOk result (text.new.items ≡ text.old.items ++ labelled label.now number) }
 {
@@ -15,7 +15,7 @@ fn push_labelled(text: &mut Vec<u8>, label: &[u8], number: u64) -> Result<(), Al
     push_decimal(text, u128::from(number))
 }
 
-/// Appends a number in 128 bits after a space.
+// Appends a number in 128 bits after a space.
 fn push_wide(text: &mut Vec<u8>, number: u128) -> Result<(), AllocError>
     ensures { OnOk result (text.new.items ≡ text.old.items ++ labelled (codes " ") number) }
 {
@@ -33,7 +33,7 @@ pub fn push_first_line(text: &mut Vec<u8>, version: ReportVersion) -> Result<(),
     }
 }
 
-/// The glyph of a digit in base 16.
+// The glyph of a digit in base 16.
 fn hex_glyph(digit: u32) -> u8
     requires { digit < 16 }
     ensures { result ≡ hex_glyph digit }
@@ -59,32 +59,25 @@ pub fn hex_address(at: Addr) -> [u8; 8]
     ]
 }
 
-/// Appends an address in eight digits of base 16.
+// Appends an address in eight digits of base 16.
 fn push_address(text: &mut Vec<u8>, at: Addr) -> Result<(), AllocError>
     ensures { OnOk result (text.new.items ≡ text.old.items ++ hex_address at) }
 {
     text.extend_from_slice(&hex_address(at))
 }
 
-/// The number of a fault's kind.
-fn kind_number(kind: FaultKind) -> u64
-    ensures { result ≡ kind_number kind }
-{
-    kind as u64
-}
-
-/// Appends a fault's kind, thread and address.
+// Appends a fault's kind, thread and address.
 fn push_fault(text: &mut Vec<u8>, kind: FaultKind, tid: Tid, at: Addr) -> Result<(), AllocError>
     ensures { OnOk result (text.new.items
         ≡ text.old.items ++ (codes "end fault " ++ fault_words kind tid at)) }
 {
-    push_labelled(text, b"end fault ", kind_number(kind))?;
+    push_labelled(text, b"end fault ", u64::from(kind.number()))?;
     push_labelled(text, b" ", u64::from(tid.number()))?;
     text.extend_from_slice(b" ")?;
     push_address(text, at)
 }
 
-/// Appends how the run ended.
+// Appends how the run ended.
 fn push_end(text: &mut Vec<u8>, finish: Finish) -> Result<(), AllocError>
     ensures { OnOk result (text.new.items ≡ text.old.items ++ end_line finish) }
 {
@@ -117,7 +110,7 @@ pub fn push_number_line(text: &mut Vec<u8>, label: &[u8], number: u64) -> Result
     text.extend_from_slice(b"\n")
 }
 
-/// Appends a routine's name, or a dash where it has none.
+// Appends a routine's name, or a dash where it has none.
 fn push_name(text: &mut Vec<u8>, name: &Option<Name>) -> Result<(), AllocError>
     ensures { OnOk result (text.new.items ≡ text.old.items ++ name_word name.now) }
 {
@@ -142,7 +135,7 @@ pub fn push_routine_line(
     text.extend_from_slice(b"\n")
 }
 
-/// Appends the parts of a point's sizes, where they are told.
+// Appends the parts of a point's sizes, where they are told.
 fn push_split(text: &mut Vec<u8>, split: Option<Split>) -> Result<(), AllocError>
     ensures { OnOk result (text.new.items ≡ text.old.items ++ split_words split) }
 {

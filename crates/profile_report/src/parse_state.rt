@@ -27,7 +27,7 @@ pub enum ParseState {
     Over(Report),
 }
 
-/// Whether the routine that began last has a point, where one began.
+// Whether the routine that began last has a point, where one began.
 fn has_points(begun: &Option<Routine>) -> bool
     ensures { result ≡ has_points begun.now }
 {
@@ -37,7 +37,7 @@ fn has_points(begun: &Option<Routine>) -> bool
     }
 }
 
-/// The number of routines, with the one that began last.
+// The number of routines, with the one that began last.
 fn count_of(report: &Report, begun: &Option<Routine>) -> u64
     ensures { result ≡ count_of report.now begun.now }
 {
@@ -48,7 +48,7 @@ fn count_of(report: &Report, begun: &Option<Routine>) -> u64
     }
 }
 
-/// Whether a point is one of the version: the parts of its sizes are told in version 2 only.
+// Whether a point is one of the version: the parts of its sizes are told in version 2 only.
 fn is_of_version(version: ReportVersion, point: &Point) -> bool
     ensures { result ≡ is_of_version version point.now }
 {
@@ -78,7 +78,7 @@ pub fn may_stand(state: &ParseState, line: &Line) -> bool
     }
 }
 
-/// The entry of the routine that began last, where one began.
+// The entry of the routine that began last, where one began.
 fn last_entry(begun: &Option<Routine>) -> Option<u64>
     ensures { result ≡ last_entry begun.now }
 {
@@ -88,7 +88,7 @@ fn last_entry(begun: &Option<Routine>) -> Option<u64>
     }
 }
 
-/// The last size of the routine that began last, where it has a point.
+// The last size of the routine that began last, where it has a point.
 fn last_size(begun: &Option<Routine>) -> Option<u64>
     ensures { result ≡ last_size begun.now }
 {
@@ -101,7 +101,7 @@ fn last_size(begun: &Option<Routine>) -> Option<u64>
     }
 }
 
-/// Whether a number is above the last one, where there is one.
+// Whether a number is above the last one, where there is one.
 fn is_above(last: Option<u64>, number: u64) -> bool
     ensures { result ≡ is_above last number }
 {
@@ -127,7 +127,7 @@ pub fn rises(state: &ParseState, line: &Line) -> bool
     }
 }
 
-/// The report with the routine that began last, where one began.
+// The report with the routine that began last, where one began.
 fn closed(mut report: Report, begun: Option<Routine>) -> Result<Report, AllocError>
     ensures ok { IfOk result (λ r. r ≡ closed report begun) }
     ensures err { IfErr result (λ _. is_some begun ≡ true) }
@@ -138,7 +138,7 @@ fn closed(mut report: Report, begun: Option<Routine>) -> Result<Report, AllocErr
     Ok(report)
 }
 
-/// A report that has no routine yet.
+// A report that has no routine yet.
 fn without_routines(
     alloc: Global,
     version: ReportVersion,
@@ -163,7 +163,7 @@ fn without_routines(
     }
 }
 
-/// A routine that has no point yet.
+// A routine that has no point yet.
 fn without_points(alloc: Global, entry: Addr, name: Option<Name>) -> Routine
     ensures { result ≡ record { entry = entry; name = name; points = [] } }
 {
@@ -174,7 +174,7 @@ fn without_points(alloc: Global, entry: Addr, name: Option<Name>) -> Routine
     }
 }
 
-/// The routine with one more point.
+// The routine with one more point.
 fn with_point(mut routine: Routine, point: Point) -> Result<Routine, AllocError>
     ensures { IfOk result (λ r. r ≡ record routine { points = routine.points ++ point ∷ [] }) }
 {

@@ -11,7 +11,7 @@ ghost use Rattle.profile_report.specs.Fits.{FitsPoint, FitsSplit};
 use cost_points::{Point, Split};
 use guest_words::{cut, first_number, wide_decimal_number};
 
-/// The sum of the parts, where it is one of 128 bits.
+// The sum of the parts, where it is one of 128 bits.
 fn sum_of_parts(split: Split) -> Option<u128>
     ensures { SomeIff result (split.plain + split.thread + split.kernel < 2 ^ 128) (split.plain
         + split.thread + split.kernel) }
@@ -22,15 +22,15 @@ fn sum_of_parts(split: Split) -> Option<u128>
         .checked_add(split.kernel)
 }
 
-/// Whether parts are those of as many sizes: they add up to them, and the plain read memory size lies between the plain
-/// part and all of them.
+// Whether parts are those of as many sizes: they add up to them, and the plain read memory size lies between the plain
+// part and all of them.
 fn is_split(sizes: u128, split: Split) -> bool
     ensures { IsTrue result ↔ IsSplit sizes split }
 {
     sum_of_parts(split) == Some(sizes) && split.plain <= split.bare && split.bare <= sizes
 }
 
-/// Whether the sum is one of as many costs from the least up to the greatest.
+// Whether the sum is one of as many costs from the least up to the greatest.
 fn has_costs(point: Point) -> bool
     ensures { IsTrue result ↔ ((1 ≤ point.calls) × (point.least ≤ point.most) × (point.calls
         * point.least ≤ point.sum) × (point.sum ≤ point.calls * point.most)) }
@@ -42,7 +42,7 @@ fn has_costs(point: Point) -> bool
         && point.sum <= calls * u128::from(point.most)
 }
 
-/// Whether the parts of a point, where they are told, are those of its sizes.
+// Whether the parts of a point, where they are told, are those of its sizes.
 fn has_parts(point: Point) -> bool
     ensures { IsTrue result ↔ IfSome point.split (IsSplit (point.size * point.calls)) }
 {
@@ -53,14 +53,14 @@ fn has_parts(point: Point) -> bool
     }
 }
 
-/// Whether a point can be one of activations.
+// Whether a point can be one of activations.
 fn is_point(point: Point) -> bool
     ensures { IsTrue result ↔ IsPoint point }
 {
     has_costs(point) && has_parts(point)
 }
 
-/// The number in 128 bits before the first space, and what stands behind that.
+// The number in 128 bits before the first space, and what stands behind that.
 fn first_wide_number(words: &[u8]) -> Option<(u128, &[u8])>
     ensures found { IfSome result (λ x. words.now ≡ decimal x.0 ++ 32 ∷ x.1.now) }
     ensures only { (n : ℕ) (rest : List ℕ) → n < 2 ^ 128 → words.now ≡ decimal n ++ 32 ∷ rest
@@ -70,7 +70,7 @@ fn first_wide_number(words: &[u8]) -> Option<(u128, &[u8])>
     Some((wide_decimal_number(word)?, rest))
 }
 
-/// The four parts of sizes.
+// The four parts of sizes.
 fn split_of(words: &[u8]) -> Option<Split>
     ensures found { IfSome result (λ s. FitsSplit s × (codes " " ++ words.now
         ≡ split_words (Some s))) }
@@ -88,7 +88,7 @@ fn split_of(words: &[u8]) -> Option<Split>
     })
 }
 
-/// A sum of costs, and behind it the parts of sizes where they are told.
+// A sum of costs, and behind it the parts of sizes where they are told.
 fn sum_and_split(words: &[u8]) -> Option<(u128, Option<Split>)>
     ensures found { IfSome result (λ x. IfSome x.1 FitsSplit × (words.now ≡ decimal x.0
         ++ split_words x.1)) }

@@ -45,7 +45,7 @@ impl From<AllocError> for ReportError {
     }
 }
 
-/// The refusal of a line that may not come in a state.
+// The refusal of a line that may not come in a state.
 fn misplaced(state: &ParseState, number: u64) -> ReportError
     ensures { (bytes : List ℕ) → IsMisplaced state.now bytes
         → RefusesLine number state.now bytes result }
@@ -56,7 +56,7 @@ fn misplaced(state: &ParseState, number: u64) -> ReportError
     }
 }
 
-/// The state behind a line of this number.
+// The state behind a line of this number.
 fn step(
     alloc: Global,
     state: ParseState,
@@ -80,7 +80,7 @@ fn step(
     Ok(next(alloc, state, line)?)
 }
 
-/// The report behind whose lines stands a rest that has no whole line.
+// The report behind whose lines stands a rest that has no whole line.
 fn finish(state: ParseState, rest: &[u8], number: u64) -> Result<Report, ReportError>
     ensures ok { IfOk result (λ r. (state ≡ Over r) × (rest.now ≡ [])) }
     ensures err { IfErr result (λ e. RefusesRest number state rest.now e) }

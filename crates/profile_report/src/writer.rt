@@ -22,7 +22,7 @@ pub fn push_points(text: &mut Vec<u8>, points: &[Point]) -> Result<(), AllocErro
     Ok(())
 }
 
-/// Appends a routine's line and those of its points.
+// Appends a routine's line and those of its points.
 fn push_routine(text: &mut Vec<u8>, routine: &Routine) -> Result<(), AllocError>
     ensures { OnOk result (text.new.items ≡ text.old.items ++ routine_text routine.now) }
 {
@@ -30,7 +30,7 @@ fn push_routine(text: &mut Vec<u8>, routine: &Routine) -> Result<(), AllocError>
     push_points(text, &routine.points)
 }
 
-/// Appends the lines of all routines.
+// Appends the lines of all routines.
 fn push_routines(text: &mut Vec<u8>, routines: &[Routine]) -> Result<(), AllocError>
     ensures { OnOk result (text.new.items
         ≡ text.old.items ++ flat_map routine_text routines.now) }

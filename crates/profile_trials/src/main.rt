@@ -17,13 +17,13 @@ use std::io;
 use std::process::ExitCode;
 use trace_model::Event;
 
-/// How many random traces there are at a width.
+// How many random traces there are at a width.
 const TRACES: u64 = 1000;
 
-/// How often a word is read that stays as it is.
+// How often a word is read that stays as it is.
 const READS: u32 = 1_000_000;
 
-/// How often a word is read that is filled before each read.
+// How often a word is read that is filled before each read.
 const FILLS: u32 = 70_000;
 
 fn main(rt: HostRuntime) -> io::Result<ExitCode> {

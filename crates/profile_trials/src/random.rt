@@ -25,7 +25,7 @@ impl Random {
         z ^ (z >> 31)
     }
 
-    /// A number below `n`.
+    // A number below `n`.
     fn below(&mut self, n: u32) -> u32
         requires { 0 < n }
         ensures { result < n }

@@ -17,7 +17,7 @@ pub(crate) fn binding_of(bindings: &[Option<u32>], label: u32) -> Option<u32>
     bindings.get(label as usize).copied().flatten()
 }
 
-/// Whether a line needs no label, or one that is bound.
+// Whether a line needs no label, or one that is bound.
 fn is_ready(to: Option<u32>, bindings: &[Option<u32>]) -> bool
     ensures { result ≡ is_ready bindings.now to }
 {
@@ -39,7 +39,7 @@ pub(crate) fn first_unbound(lines: &[Line], bindings: &[Option<u32>]) -> Option<
     None
 }
 
-/// The instruction of the line at a word, where each label stands for a word of the code or for its end.
+// The instruction of the line at a word, where each label stands for a word of the code or for its end.
 fn instruction_at(line: Line, at: u32, bindings: &[Option<u32>]) -> Instr
     requires at { at ≤ 4000000 }
     requires bindings { All IsBinding bindings.now }
@@ -61,7 +61,7 @@ pub(crate) fn is_encodable(instruction: &Instr) -> bool
     encode(*instruction).is_some()
 }
 
-/// The word of an instruction, where it has one.
+// The word of an instruction, where it has one.
 fn word_of(instruction: Instr) -> Option<u32>
     ensures encodable { IsSome result ↔ IsEncodable instruction }
     ensures word { IfSome result (IsWordOf instruction) }

@@ -18,22 +18,22 @@ pub struct Symbol {
     pub at: Addr,
 }
 
-/// The first bytes of each file (e_ident).
+// The first bytes of each file (e_ident).
 const IDENT: [u8; 16] = [0x7f, 0x45, 0x4c, 0x46, 1, 1, 1, 0, 0, 0, 0, 0, 0, 0, 0, 0];
 
-/// The address where the file's first byte is loaded.
+// The address where the file's first byte is loaded.
 const ADDRESS: u32 = 0x1_0000;
 
-/// The address of the first word of code, where the program begins to run.
+// The address of the first word of code, where the program begins to run.
 const ENTRY: u32 = 0x1_0054;
 
-/// The size of the file header and the program header.
+// The size of the file header and the program header.
 const HEADERS: u32 = 84;
 
-/// The size of an entry of the symbol table.
+// The size of an entry of the symbol table.
 const SYMBOL_SIZE: u32 = 16;
 
-/// Appends the file header, with the section headers at a place.
+// Appends the file header, with the section headers at a place.
 fn push_file_header(file: &mut Vec<u8>, e_shoff: u32, e_shnum: u16) -> Result<(), AllocError>
     ensures { OnOk result (file.new.items
         ≡ file.old.items ++ (e_ident ++ bytes_of (file_fields (file_header e_shoff e_shnum)))) }
@@ -57,7 +57,7 @@ fn push_file_header(file: &mut Vec<u8>, e_shoff: u32, e_shnum: u16) -> Result<()
     header.push(file)
 }
 
-/// Appends the header of the segment, which holds the first bytes of the file.
+// Appends the header of the segment, which holds the first bytes of the file.
 fn push_program_header(file: &mut Vec<u8>, size: u32) -> Result<(), AllocError>
     ensures { OnOk result (file.new.items
         ≡ file.old.items ++ bytes_of (program_fields (program_header size))) }
@@ -75,7 +75,7 @@ fn push_program_header(file: &mut Vec<u8>, size: u32) -> Result<(), AllocError>
     header.push(file)
 }
 
-/// Appends the headers and the code.
+// Appends the headers and the code.
 #[tactic(auto, unfolding(crate::specs::Executable::image_bytes))]
 fn push_image(
     file: &mut Vec<u8>,
@@ -92,7 +92,7 @@ fn push_image(
     push_words(file, words)
 }
 
-/// The file without symbols.
+// The file without symbols.
 #[tactic(auto, unfolding(crate::specs::Executable::plain_file))]
 fn plain_file(alloc: Global, words: &[u32]) -> Result<Vec<u8>, AllocError>
     requires { 84 + 4 * length words.now < 2 ^ 32 }
@@ -103,7 +103,7 @@ fn plain_file(alloc: Global, words: &[u32]) -> Result<Vec<u8>, AllocError>
     Ok(file)
 }
 
-/// The file with symbols.
+// The file with symbols.
 #[tactic(auto, unfolding(crate::specs::Executable::named_file))]
 fn named_file(alloc: Global, words: &[u32], symbols: &[Symbol]) -> Result<Vec<u8>, AllocError>
     requires { strings_end words.now symbols.now + 4 < 2 ^ 32 }

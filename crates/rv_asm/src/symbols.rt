@@ -7,7 +7,7 @@ use crate::executable::Symbol;
 use crate::headers::{SectionHeader, SymbolEntry};
 use std::alloc::{AllocError, Global};
 
-/// Appends a name and the zero byte that ends it.
+// Appends a name and the zero byte that ends it.
 fn push_string(strings: &mut Vec<u8>, symbol: &Symbol) -> Result<(), AllocError>
     ensures { OnOk result (strings.new.items ≡ strings.old.items ++ string_of symbol.now) }
 {
@@ -28,7 +28,7 @@ pub(crate) fn string_table(alloc: Global, symbols: &[Symbol]) -> Result<Vec<u8>,
     Ok(strings)
 }
 
-/// Appends the entry of a symbol: a global symbol of a routine, with an absolute value.
+// Appends the entry of a symbol: a global symbol of a routine, with an absolute value.
 fn push_symbol(file: &mut Vec<u8>, st_name: u32, symbol: &Symbol) -> Result<(), AllocError>
     ensures { OnOk result (file.new.items
         ≡ file.old.items ++ bytes_of (symbol_fields (symbol_entry st_name symbol.now))) }

@@ -49,7 +49,7 @@ pub fn atomic(
     }
 }
 
-/// LR: loads the word and reserves it for the thread.
+// LR: loads the word and reserves it for the thread.
 fn load_reserved(
     cpu: &mut Cpu,
     memory: &GuestMemory,
@@ -78,7 +78,7 @@ fn load_reserved(
     }
 }
 
-/// SC: stores where the thread has reserved the word.
+// SC: stores where the thread has reserved the word.
 fn store_conditional(
     cpu: &mut Cpu,
     memory: &mut GuestMemory,
@@ -110,7 +110,7 @@ fn store_conditional(
     }
 }
 
-/// The other operations: the word becomes the operation's result.
+// The other operations: the word becomes the operation's result.
 fn modify(
     cpu: &mut Cpu,
     memory: &mut GuestMemory,
@@ -140,7 +140,7 @@ fn modify(
     }
 }
 
-/// What the operation leaves in the word.
+// What the operation leaves in the word.
 fn atomic_result(op: AtomicOp, old: u32, n: u32) -> u32
     ensures { result ≡ atomic_result op old n }
 {

@@ -90,7 +90,7 @@ pub fn execute(
     }
 }
 
-/// A branch, which goes to a target where the test holds.
+// A branch, which goes to a target where the test holds.
 #[inline(always)]
 fn branch(cpu: &mut Cpu, test: Test, left: Reg, right: Reg, offset: i32) -> Outcome
     ensures { (result, cpu.new) ≡ branched

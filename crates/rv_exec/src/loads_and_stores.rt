@@ -12,7 +12,7 @@ use guest_memory::{GuestMemory, Reservations, Size};
 use guest_words::{Addr, FaultKind, Tid};
 use rv_isa::{LoadKind, Reg, StoreKind};
 
-/// How many bytes a load reads.
+// How many bytes a load reads.
 #[inline(always)]
 fn load_size(kind: LoadKind) -> Size
     ensures { result ≡ load_size kind }
@@ -24,7 +24,7 @@ fn load_size(kind: LoadKind) -> Size
     }
 }
 
-/// What a load writes to its register, of the number that its bytes give.
+// What a load writes to its register, of the number that its bytes give.
 #[inline(always)]
 fn extended(kind: LoadKind, n: u32) -> u32
     ensures { result ≡ extended kind n }
@@ -36,7 +36,7 @@ fn extended(kind: LoadKind, n: u32) -> u32
     }
 }
 
-/// The 32 bits of the number that the bits stand for in two's complement, where the topmost one weighs `sign`.
+// The 32 bits of the number that the bits stand for in two's complement, where the topmost one weighs `sign`.
 fn sign_extended(n: u32, sign: u32) -> u32
     requires narrow { sign ≤ 2 ^ 15 }
     requires fits { n < 2 * sign }
@@ -49,7 +49,7 @@ fn sign_extended(n: u32, sign: u32) -> u32
     }
 }
 
-/// How many bytes a store writes.
+// How many bytes a store writes.
 #[inline(always)]
 fn store_size(kind: StoreKind) -> Size
     ensures { result ≡ store_size kind }
@@ -75,7 +75,7 @@ pub fn load(cpu: &mut Cpu, memory: &GuestMemory, kind: LoadKind, rd: Reg, at: Ad
     }
 }
 
-/// A load, whose code is made for the kind that a call names.
+// A load, whose code is made for the kind that a call names.
 #[inline(always)]
 fn load_as(cpu: &mut Cpu, memory: &GuestMemory, kind: LoadKind, rd: Reg, at: Addr) -> Outcome
     ensures { (result, cpu.new) ≡ loads kind rd at (memory_of memory.now) cpu.old }

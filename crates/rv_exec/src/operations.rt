@@ -32,7 +32,7 @@ pub fn register_result(op: RegOp, left: u32, right: u32) -> u32
     }
 }
 
-/// The upper 32 bits of the product of two signed numbers.
+// The upper 32 bits of the product of two signed numbers.
 fn upper_signed(left: u32, right: u32) -> u32
     ensures { result ≡ register_result RegOp.Mulh left right }
 {
@@ -40,7 +40,7 @@ fn upper_signed(left: u32, right: u32) -> u32
     (product.cast_unsigned() >> 32) as u32
 }
 
-/// The upper 32 bits of the product of a signed and an unsigned number.
+// The upper 32 bits of the product of a signed and an unsigned number.
 fn upper_signed_unsigned(left: u32, right: u32) -> u32
     ensures { result ≡ register_result RegOp.Mulhsu left right }
 {
@@ -48,7 +48,7 @@ fn upper_signed_unsigned(left: u32, right: u32) -> u32
     (product.cast_unsigned() >> 32) as u32
 }
 
-/// The signed quotient, and all ones over zero.
+// The signed quotient, and all ones over zero.
 #[inline(never)]
 fn quotient(left: u32, right: u32) -> u32
     ensures { result ≡ register_result RegOp.Div left right }
@@ -59,7 +59,7 @@ fn quotient(left: u32, right: u32) -> u32
     signed(left).wrapping_div(signed(right)).cast_unsigned()
 }
 
-/// The signed remainder, and the left number over zero.
+// The signed remainder, and the left number over zero.
 #[inline(never)]
 fn remainder(left: u32, right: u32) -> u32
     ensures { result ≡ register_result RegOp.Rem left right }

@@ -59,7 +59,7 @@ pub fn encode(i: Instr) -> Option<u32>
     }
 }
 
-/// The word of an instruction that has no fields.
+// The word of an instruction that has no fields.
 #[tactic(auto, using(crate::proofs::Rows::unparted))]
 fn fixed_word(i: Instr) -> Option<u32>
     ensures decoded { IfSome result (λ word. decoded word ≡ Some i) }
@@ -77,7 +77,7 @@ fn fixed_word(i: Instr) -> Option<u32>
     }
 }
 
-/// The word of the six fields that the format R has, from the topmost down.
+// The word of the six fields that the format R has, from the topmost down.
 fn word_of(funct7: u32, rs2: u32, rs1: u32, funct3: u32, rd: u32, opcode: u32) -> u32
     requires funct7 { funct7 < 2 ^ 7 }
     requires rs2 { rs2 < 2 ^ 5 }
@@ -91,7 +91,7 @@ fn word_of(funct7: u32, rs2: u32, rs1: u32, funct3: u32, rd: u32, opcode: u32) -
     ((((funct7 << 5 | rs2) << 5 | rs1) << 3 | funct3) << 5 | rd) << 7 | opcode
 }
 
-/// The field of a word that holds the number of a register.
+// The field of a word that holds the number of a register.
 fn field(register: Reg) -> u32
     ensures number { result ≡ register }
     ensures small { result < 2 ^ 5 }
@@ -99,7 +99,7 @@ fn field(register: Reg) -> u32
     u32::from(register.number())
 }
 
-/// A word of the format R.
+// A word of the format R.
 fn r_word(funct7: u32, rs2: Reg, rs1: Reg, funct3: u32, rd: Reg, opcode: u32) -> u32
     requires funct7 { funct7 < 2 ^ 7 }
     requires funct3 { funct3 < 2 ^ 3 }
@@ -109,7 +109,7 @@ fn r_word(funct7: u32, rs2: Reg, rs1: Reg, funct3: u32, rd: Reg, opcode: u32) ->
     word_of(funct7, field(rs2), field(rs1), funct3, field(rd), opcode)
 }
 
-/// A word of the format I, where the immediate is in its range.
+// A word of the format I, where the immediate is in its range.
 fn i_word(imm: i32, rs1: Reg, funct3: u32, rd: Reg, opcode: u32) -> Option<u32>
     requires funct3 { funct3 < 2 ^ 3 }
     requires opcode { opcode < 2 ^ 7 }
@@ -124,7 +124,7 @@ fn i_word(imm: i32, rs1: Reg, funct3: u32, rd: Reg, opcode: u32) -> Option<u32>
     Some(word_of(upper, lower, field(rs1), funct3, field(rd), opcode))
 }
 
-/// A word of the format S, where the immediate is in its range.
+// A word of the format S, where the immediate is in its range.
 fn s_word(imm: i32, rs2: Reg, rs1: Reg, funct3: u32, opcode: u32) -> Option<u32>
     requires funct3 { funct3 < 2 ^ 3 }
     requires opcode { opcode < 2 ^ 7 }
@@ -139,7 +139,7 @@ fn s_word(imm: i32, rs2: Reg, rs1: Reg, funct3: u32, opcode: u32) -> Option<u32>
     Some(word_of(upper, field(rs2), field(rs1), funct3, lower, opcode))
 }
 
-/// A word of the format B, where the offset is in its range.
+// A word of the format B, where the offset is in its range.
 fn b_word(imm: i32, rs2: Reg, rs1: Reg, funct3: u32, opcode: u32) -> Option<u32>
     requires funct3 { funct3 < 2 ^ 3 }
     requires opcode { opcode < 2 ^ 7 }
@@ -155,7 +155,7 @@ fn b_word(imm: i32, rs2: Reg, rs1: Reg, funct3: u32, opcode: u32) -> Option<u32>
     Some(word_of(upper, field(rs2), field(rs1), funct3, lower, opcode))
 }
 
-/// The word of the three fields that the formats U and J have.
+// The word of the three fields that the formats U and J have.
 fn upper_word(imm: u32, rd: Reg, opcode: u32) -> u32
     requires imm { imm < 2 ^ 20 }
     requires opcode { opcode < 2 ^ 7 }
@@ -164,7 +164,7 @@ fn upper_word(imm: u32, rd: Reg, opcode: u32) -> u32
     (imm << 5 | field(rd)) << 7 | opcode
 }
 
-/// A word of the format U, where the immediate is in its range.
+// A word of the format U, where the immediate is in its range.
 fn u_word(imm: u32, rd: Reg, opcode: u32) -> Option<u32>
     requires { opcode < 2 ^ 7 }
     ensures range { IsSome result ↔ (imm < 2 ^ 20) }
@@ -177,7 +177,7 @@ fn u_word(imm: u32, rd: Reg, opcode: u32) -> Option<u32>
     }
 }
 
-/// A word of the format J, where the offset is in its range.
+// A word of the format J, where the offset is in its range.
 fn j_word(imm: i32, rd: Reg, opcode: u32) -> Option<u32>
     requires { opcode < 2 ^ 7 }
     ensures range { IsSome result ↔ IsJumpOffset imm }
@@ -192,7 +192,7 @@ fn j_word(imm: i32, rd: Reg, opcode: u32) -> Option<u32>
     Some(upper_word(upper << 9 | lower, rd, opcode))
 }
 
-/// The funct3 of a branch.
+// The funct3 of a branch.
 #[tactic(auto, using(crate::proofs::Rows::branches, std::proofs::lemmas::Bool::Decides::nat_tests))]
 fn branch_funct3(test: Test) -> u32
     ensures small { result < 2 ^ 3 }
@@ -209,7 +209,7 @@ fn branch_funct3(test: Test) -> u32
     }
 }
 
-/// The funct3 of a load.
+// The funct3 of a load.
 #[tactic(auto, using(crate::proofs::Rows::loads, std::proofs::lemmas::Bool::Decides::nat_tests))]
 fn load_funct3(kind: LoadKind) -> u32
     ensures small { result < 2 ^ 3 }
@@ -225,7 +225,7 @@ fn load_funct3(kind: LoadKind) -> u32
     }
 }
 
-/// The funct3 of a store.
+// The funct3 of a store.
 #[tactic(auto, using(crate::proofs::Rows::stores, std::proofs::lemmas::Bool::Decides::nat_tests))]
 fn store_funct3(kind: StoreKind) -> u32
     ensures small { result < 2 ^ 3 }
@@ -239,7 +239,7 @@ fn store_funct3(kind: StoreKind) -> u32
     }
 }
 
-/// The funct7 and the funct3 of an operation on two registers.
+// The funct7 and the funct3 of an operation on two registers.
 #[tactic(auto, using(crate::proofs::Rows::registers))]
 fn register_functs(op: RegOp) -> (u32, u32)
     ensures small_funct7 { result.0 < 2 ^ 7 }
@@ -270,7 +270,7 @@ fn register_functs(op: RegOp) -> (u32, u32)
     }
 }
 
-/// The word of an operation on two registers.
+// The word of an operation on two registers.
 fn register(op: RegOp, rd: Reg, left: Reg, right: Reg) -> u32
     ensures decoded { decoded result ≡ Some (Instr.Register op rd left right) }
 {
@@ -278,7 +278,7 @@ fn register(op: RegOp, rd: Reg, left: Reg, right: Reg) -> u32
     r_word(funct7, right, left, funct3, rd, 0x33)
 }
 
-/// A word of the format R whose rs2 is a constant amount, where that is in its range.
+// A word of the format R whose rs2 is a constant amount, where that is in its range.
 fn shift_word(funct7: u32, amount: i32, rs1: Reg, funct3: u32, rd: Reg) -> Option<u32>
     requires funct7 { funct7 < 2 ^ 7 }
     requires funct3 { funct3 < 2 ^ 3 }
@@ -292,7 +292,7 @@ fn shift_word(funct7: u32, amount: i32, rs1: Reg, funct3: u32, rd: Reg) -> Optio
     Some(word_of(funct7, amount, field(rs1), funct3, field(rd), 0x13))
 }
 
-/// The word of an operation on a register and an immediate, where that is in its range.
+// The word of an operation on a register and an immediate, where that is in its range.
 #[tactic(auto, using(crate::proofs::Rows::all_immediates))]
 fn immediate(op: ImmOp, rd: Reg, left: Reg, imm: i32) -> Option<u32>
     ensures range { IsSome result ↔ IsOperand op imm }
@@ -311,7 +311,7 @@ fn immediate(op: ImmOp, rd: Reg, left: Reg, imm: i32) -> Option<u32>
     }
 }
 
-/// The funct5 of an atomic operation.
+// The funct5 of an atomic operation.
 #[tactic(auto, using(crate::proofs::Rows::all_atomics))]
 fn atomic_funct5(op: AtomicOp) -> u32
     ensures small { result < 2 ^ 5 }
@@ -334,14 +334,14 @@ fn atomic_funct5(op: AtomicOp) -> u32
     }
 }
 
-/// Whether the operation can have this value register. LR has none, so that its field is x0.
+// Whether the operation can have this value register. LR has none, so that its field is x0.
 fn is_value_of(op: AtomicOp, value: Reg) -> bool
     ensures value { IsTrue result ↔ IsValueOf op value }
 {
     op != AtomicOp::Lr || value.number() == 0
 }
 
-/// A word of the format R whose funct7 is a funct5 and the order.
+// A word of the format R whose funct7 is a funct5 and the order.
 fn atomic_word(funct5: u32, order: u32, rs2: Reg, rs1: Reg, rd: Reg) -> u32
     requires funct5 { funct5 < 2 ^ 5 }
     requires order { order < 2 ^ 2 }
@@ -357,7 +357,7 @@ fn atomic_word(funct5: u32, order: u32, rs2: Reg, rs1: Reg, rd: Reg) -> u32
     )
 }
 
-/// The word of an atomic operation, where its order and its value register are in their ranges.
+// The word of an atomic operation, where its order and its value register are in their ranges.
 fn atomic(op: AtomicOp, rd: Reg, base: Reg, value: Reg, order: u8) -> Option<u32>
     ensures range { IsSome result ↔ (order < 4) × IsValueOf op value }
     ensures word { IfSome result (λ word. decoded word

@@ -25,7 +25,7 @@ pub(crate) fn bits(word: u32, high: u32, low: u32) -> u32
     (word >> low) & ((1 << (high - low + 1)) - 1)
 }
 
-/// The number that bits stand for in two's complement, whose topmost bit weighs `sign`.
+// The number that bits stand for in two's complement, whose topmost bit weighs `sign`.
 fn sign_extended(value: u32, sign: u32) -> i32
     requires narrow { sign < 2 ^ 30 }
     requires fits { value < 2 * sign }
@@ -38,7 +38,7 @@ fn sign_extended(value: u32, sign: u32) -> i32
     }
 }
 
-/// The register that five bits from `low` on name.
+// The register that five bits from `low` on name.
 fn register(word: u32, low: u32) -> Reg
     requires { low ≤ 27 }
     ensures number { result ≡ bits word (low + 4) low }

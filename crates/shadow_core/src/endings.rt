@@ -8,23 +8,23 @@ ghost use Rattle.shadow_core.specs.Private.Ending.{IsEnded};
 ghost use Rattle.shadow_core.specs.Frames.{frames_after_pops};
 ghost use Rattle.shadow_core.specs.Records.{nat_of, record_of};
 
-use call_tracker::{BegunCall, Tally};
+use call_tracker::{BegunCall, ThreadCounts};
 use guest_words::Tid;
 use shadow_stack::Sums;
 use stamp_lanes::Lanes;
 use stamp_renumber::{EndedCall, Threads};
 use trace_model::Done;
 
-/// A number, and 0 for one below it.
+// A number, and 0 for one below it.
 fn nat_of(n: i64) -> u64
     ensures { result ≡ nat_of n }
 {
     if n < 0 { 0 } else { n as u64 }
 }
 
-/// What is recorded of a call of the thread that ends, with the sums of its frame, by what the thread has counted.
+// What is recorded of a call of the thread that ends, with the sums of its frame, by what the thread has counted.
 #[inline(always)]
-fn done_with(tid: Tid, counts: Tally, sums: Sums, call: BegunCall) -> Done
+fn done_with(tid: Tid, counts: ThreadCounts, sums: Sums, call: BegunCall) -> Done
     requires { nat_of sums.plain + (counts.thread - call.earlier.thread)
         + (counts.kernel - call.earlier.kernel) < 2 ^ 64 }
     ensures { result ≡ record_of tid counts sums call }
@@ -58,7 +58,7 @@ pub(crate) fn record_call(tid: Tid, ended: EndedCall, done: &mut Vec<Done>)
     done.push(recorded).unwrap();
 }
 
-/// Ends the innermost call of the thread, and records it. There is room for the record.
+// Ends the innermost call of the thread, and records it. There is room for the record.
 #[inline(always)]
 fn end_call<S: Lanes>(threads: &mut Threads<S>, tid: Tid, done: &mut Vec<Done>)
     requires lives { is_some (value_of threads.old.threads tid) ≡ true }

@@ -584,7 +584,7 @@ fn begins(e: &Event) -> bool
     }
 }
 
-/// Whether a step is by another thread than the step before. The first step is no switch.
+// Whether a step is by another thread than the step before. The first step is no switch.
 #[inline(always)]
 fn is_switch(last: Option<Tid>, tid: Tid) -> bool
     ensures { result ≡ is_switch last tid }
@@ -595,7 +595,7 @@ fn is_switch(last: Option<Tid>, tid: Tid) -> bool
     }
 }
 
-/// Whether the last step was by the thread.
+// Whether the last step was by the thread.
 #[inline(always)]
 fn is_running(last: Option<Tid>, tid: Tid) -> bool
     ensures { result ≡ true → last ≡ Some tid }

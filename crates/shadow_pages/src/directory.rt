@@ -5,7 +5,7 @@ ghost use Rattle.shadow_pages.specs.Directory.{IsApart, IsDirectory, HasTable, H
 use std::alloc::{AllocError, Global};
 use std::marker::Model;
 
-/// How many entries a table has, and how many tables there are.
+// How many entries a table has, and how many tables there are.
 const TABLE_ENTRIES: usize = 1024;
 
 /// For each page number below 2^20 the place of the page, or none. An absent table is an empty vector.

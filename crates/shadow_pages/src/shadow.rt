@@ -13,7 +13,7 @@ use std::marker::Model;
 /// How many words a page has.
 pub const PAGE_WORDS: usize = 1024;
 
-/// A page.
+// A page.
 #[derive(Drop)]
 struct Page<S: Stamp> {
     number: u32,
@@ -253,7 +253,7 @@ impl<S: Stamp> Shadow<S> {
     }
 }
 
-/// The numbers of the pages of a range of words: the first, and the end.
+// The numbers of the pages of a range of words: the first, and the end.
 fn page_range(first: Word, count: u32) -> (u32, u32)
     requires { first + count ≤ 2 ^ 30 }
     ensures order { result.0 ≤ result.1 }
@@ -270,7 +270,7 @@ fn page_range(first: Word, count: u32) -> (u32, u32)
     }
 }
 
-/// Sets a part of a row.
+// Sets a part of a row.
 fn fill_row<S: Stamp>(row: &mut [S], from: usize, to: usize, s: S)
     requires order { from ≤ to }
     requires within { to ≤ length row.old }
@@ -284,7 +284,7 @@ fn fill_row<S: Stamp>(row: &mut [S], from: usize, to: usize, s: S)
     }
 }
 
-/// The stamps of a new page.
+// The stamps of a new page.
 fn zero_stamps<S: Stamp>(alloc: Global) -> Result<Vec<S>, AllocError>
     ensures { IfOk result (λ v. map S.number_of v.items ≡ zeros) }
 {
@@ -295,7 +295,7 @@ fn zero_stamps<S: Stamp>(alloc: Global) -> Result<Vec<S>, AllocError>
     Ok(stamps)
 }
 
-/// Says in the directory the places of the pages from a place on.
+// Says in the directory the places of the pages from a place on.
 fn enter<S: Stamp>(directory: &mut Directory, pages: &[Page<S>], from: usize)
     requires within { from ≤ length pages.now }
     requires indexed { IsIndexed directory.old (map

@@ -8,7 +8,7 @@ use std::alloc::{AllocError, Global};
 use std::marker::{Brand, Model};
 use std::sync::ledger::{Blank, Ledger};
 
-/// One frame.
+// One frame.
 #[derive(Clone, Copy)]
 struct Frame<S: Stamp> {
     start: S,
@@ -132,7 +132,7 @@ impl<S: Stamp> Frames<S> {
     }
 }
 
-/// Gives each frame its new start.
+// Gives each frame its new start.
 fn restart<S: Stamp>(frames: &mut [Frame<S>], starts: &[S])
     requires { length starts.now ≡ length frames.old }
     ensures list { map (λ x. record { start = S.number_of x.start; sums = x.sums }) frames.new
@@ -146,7 +146,7 @@ fn restart<S: Stamp>(frames: &mut [Frame<S>], starts: &[S])
     }
 }
 
-/// How many frames, from the outermost on, have a start at most n.
+// How many frames, from the outermost on, have a start at most n.
 fn first_above<S: Stamp, L: Ledger>(frames: &[Frame<S>], n: u32, steps: &mut Steps<L>) -> usize
     requires { IsRising (map (λ x. S.number_of x.start) frames.now) }
     ensures within { result ≤ length frames.now }
@@ -171,7 +171,7 @@ fn first_above<S: Stamp, L: Ledger>(frames: &[Frame<S>], n: u32, steps: &mut Ste
     low
 }
 
-/// The same search, with a count of its own in the ledger of `blank`.
+// The same search, with a count of its own in the ledger of `blank`.
 fn find_with<S: Stamp, L: Ledger>(frames: &Frames<S>, stamp: S, blank: Blank) -> Option<usize>
     requires name { blank.name ≡ L.name }
     requires parts { blank.parts ≡ L.parts }

@@ -22,7 +22,7 @@ pub(crate) fn collect_starts<S: Stamp>(frames: &Frames<S>, starts: &mut Vec<S>)
     }
 }
 
-/// The new starts of the frames, the outermost first. There is room for them.
+// The new starts of the frames, the outermost first. There is room for them.
 fn renewed_starts<S: Stamp>(frames: &Frames<S>, starts: &[S], renewed: &mut Vec<S>)
     requires sorted { IsNonDecreasingBy S.number_of starts.now }
     requires fit { 3 * length starts.now + 2 ≤ S.MAX }

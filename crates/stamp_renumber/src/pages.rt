@@ -9,7 +9,7 @@ use crate::rows::WorkRows;
 use shadow_pages::{PAGE_WORDS, Shadow};
 use stamp_lanes::Lanes;
 
-/// A thread's page of access stamps. A page without write stamps was not written.
+// A thread's page of access stamps. A page without write stamps was not written.
 fn renew_access_page<S: Lanes>(
     shadow: &mut Shadow<S>,
     i: usize,
@@ -33,7 +33,7 @@ fn renew_access_page<S: Lanes>(
     shadow.page_mut(i).copy_from_slice(rows.renewed());
 }
 
-/// A page of write stamps.
+// A page of write stamps.
 fn renew_write_page<S: Lanes>(
     writes: &mut Shadow<S>,
     i: usize,

@@ -12,7 +12,7 @@ use guest_words::{ByThread, Tid};
 use shadow_pages::Shadow;
 use stamp_lanes::Lanes;
 
-/// The starts of the frames of all threads. There is room for them.
+// The starts of the frames of all threads. There is room for them.
 fn gather_starts<S: Lanes>(threads: &[(Tid, ThreadStamps<S>)], starts: &mut Vec<S>)
     requires room { length (all_starts threads.now) ≤ vec_capacity starts.old }
     ensures items { map S.number_of starts.new.items ≡ all_starts threads.now }

@@ -36,7 +36,7 @@ impl<S: Stamp> Model for WorkRows<S> {
         (map S.number_of r.untouched.items) };
 }
 
-/// A row of zeros.
+// A row of zeros.
 fn zero_row<S: Stamp>(alloc: Global) -> Result<Vec<S>, AllocError>
     ensures { IfOk result (λ v. map S.number_of v.items ≡ zeros) }
 {
@@ -47,7 +47,7 @@ fn zero_row<S: Stamp>(alloc: Global) -> Result<Vec<S>, AllocError>
     Ok(row)
 }
 
-/// The new stamps of a row of access stamps, by the row of their words' write stamps.
+// The new stamps of a row of access stamps, by the row of their words' write stamps.
 fn renew_row<S: Lanes>(
     own: &[S],
     write: &[S],
@@ -73,7 +73,7 @@ fn renew_row<S: Lanes>(
     S::renew_into(own, own_classes, write, write_classes, into);
 }
 
-/// The new stamps of a row of write stamps, each renewed against itself.
+// The new stamps of a row of write stamps, each renewed against itself.
 fn rewrite_row<S: Lanes>(own: &[S], starts: &[S], classes: &mut [S], into: &mut [S])
     requires sorted { IsNonDecreasingBy S.number_of starts.now }
     requires room { 3 * length starts.now + 2 ≤ S.MAX }

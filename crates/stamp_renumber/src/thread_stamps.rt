@@ -11,7 +11,7 @@ ghost use Rattle.stamp_renumber.specs.Returned.{returned_by};
 use crate::frames::renew_frames;
 use crate::pages::renew_accesses;
 use crate::rows::WorkRows;
-use call_tracker::{BegunCall, Tally, ThreadCalls};
+use call_tracker::{BegunCall, ThreadCalls, ThreadCounts};
 use guest_words::Addr;
 use shadow_pages::Shadow;
 use shadow_stack::{Frames, Sums};
@@ -25,7 +25,7 @@ use std::marker::Model;
 pub struct EndedCall {
     pub call: BegunCall,
     pub sums: Sums,
-    pub counts: Tally,
+    pub counts: ThreadCounts,
 }
 
 /// What a return ends: one call, which then has ended, or several, which are still open.

@@ -1,11 +1,10 @@
 //! Entries of a schedule.
 ghost use Rattle.std.specs.Prelude.{◌≡◌, ℕ, ◌≤◌, ◌++◌, IfSome, OnOk, Some};
 ghost use Rattle.std.specs.Fmt.{decimal};
-ghost use Rattle.std.specs.Option.{SomeIff};
 ghost use Rattle.thread_sched.specs.ScheduleText.{IsEntry, entry_text};
 ghost use Rattle.thread_sched.specs.declared.entry.Entry.{Entry};
 
-use guest_words::limits::{LAST_TID, RUN_STEPS};
+use guest_words::limits::RUN_STEPS;
 use guest_words::{Tid, decimal_number, first_number, push_decimal};
 use std::alloc::AllocError;
 
@@ -16,14 +15,7 @@ pub struct Entry {
     pub most: u64,
 }
 
-/// The thread of a number.
-fn thread_of(number: u64) -> Option<Tid>
-    ensures { SomeIff result ((1 ≤ number) × (number ≤ LAST_TID)) number }
-{
-    Tid::new(u32::try_from(number).ok()?)
-}
-
-/// The number of instructions that is written so.
+// The number of instructions that is written so.
 fn steps_of(word: &[u8]) -> Option<u64>
     ensures range { IfSome result (λ n. (1 ≤ n) × (n ≤ RUN_STEPS)) }
     ensures found { IfSome result (λ n. word.now ≡ decimal n) }
@@ -42,7 +34,7 @@ pub fn entry_of(line: &[u8]) -> Option<Entry>
 {
     let (tid, rest) = first_number(line)?;
     Some(Entry {
-        tid: thread_of(tid)?,
+        tid: Tid::numbered(tid)?,
         most: steps_of(rest)?,
     })
 }

@@ -59,7 +59,7 @@ impl<T: Drop> From<AllocFailed<T>> for ScheduleError {
     }
 }
 
-/// Adds the entry of one more line, without the byte that ends it.
+// Adds the entry of one more line, without the byte that ends it.
 fn push_line(entries: &mut Vec<Entry>, line: &[u8]) -> Result<(), ScheduleError>
     ensures ok { OnOk result ((e : Entry) × Says line.now e × (entries.new.items
         ≡ entries.old.items ++ e ∷ [])) }

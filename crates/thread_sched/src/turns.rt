@@ -19,7 +19,7 @@ pub enum Turn {
     Mismatch { line: u64 },
 }
 
-/// The lesser of the two, where there are two.
+// The lesser of the two, where there are two.
 fn lesser(tid: Tid, other: Option<Tid>) -> Tid
     ensures { result ≡ lesser tid other }
 {
@@ -29,7 +29,7 @@ fn lesser(tid: Tid, other: Option<Tid>) -> Tid
     }
 }
 
-/// The least so far, with one more thread where it is taken.
+// The least so far, with one more thread where it is taken.
 fn with_taken(best: Option<Tid>, tid: Tid, is_taken: bool) -> Option<Tid>
     ensures { result ≡ (if is_taken then Some (lesser tid best) else best) }
 {
@@ -40,7 +40,7 @@ fn with_taken(best: Option<Tid>, tid: Tid, is_taken: bool) -> Option<Tid>
     }
 }
 
-/// The least thread that can run.
+// The least thread that can run.
 fn least_able(live: &ReadyList) -> Option<Tid>
     ensures { result ≡ least (able live.now) }
 {
@@ -52,7 +52,7 @@ fn least_able(live: &ReadyList) -> Option<Tid>
     best
 }
 
-/// The least thread above the last one that can run.
+// The least thread above the last one that can run.
 fn least_above(last: u32, live: &ReadyList) -> Option<Tid>
     ensures { result ≡ least (above last (able live.now)) }
 {
@@ -64,7 +64,7 @@ fn least_above(last: u32, live: &ReadyList) -> Option<Tid>
     best
 }
 
-/// Whether the thread can run.
+// Whether the thread can run.
 fn is_able(tid: Tid, live: &ReadyList) -> bool
     ensures { result ≡ list_any (λ other. other == tid) (able live.now) }
 {
@@ -117,7 +117,7 @@ impl Sched {
         }
     }
 
-    /// The turn by the next entry, where there is one, else the thread's in rotation.
+    // The turn by the next entry, where there is one, else the thread's in rotation.
     fn scheduled(&self, next: Tid, live: &ReadyList) -> Turn
         ensures { result ≡ scheduled self.now (able live.now) next self.now.entries }
     {
@@ -136,7 +136,7 @@ impl Sched {
         }
     }
 
-    /// The next turn.
+    // The next turn.
     fn turn_of(&self, live: &ReadyList) -> Turn
         ensures { result ≡ turn_of self.now live.now }
     {

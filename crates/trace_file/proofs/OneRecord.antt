@@ -3,8 +3,6 @@ use Rattle.std.proofs.Common.{inl, inr, ◌⊎◌, ◌≡◌, ℕ, ◌+◌, ◌*
 use Rattle.std.specs.List.{flat_map, AllByRecursion}
 use Rattle.std.proofs.Math.Seq.{take-append_seam}
 use Rattle.std.proofs.lemmas.List.{append_cancel_left}
-use Rattle.guest_words.specs.declared.endings.FaultKind.{FaultKind}
-use Rattle.guest_words.specs.declared.endings.FaultKind.TheVariants.{Illegal, Fetch, Load, Store, JumpAlign, AtomicAlign, Break}
 use Rattle.guest_words.specs.declared.endings.Finish.TheVariants as ends
 use Rattle.trace_model.specs.declared.event_kinds.Event.TheVariants as events
 use Rattle.trace_file.specs.declared.records.Form.{Form}
@@ -12,26 +10,13 @@ use Rattle.trace_file.specs.declared.records.Form.TheVariants.{Step, Read, Write
 use Rattle.trace_file.specs.declared.records.Range.{Range}
 use Rattle.trace_file.specs.declared.records.Record.{Record}
 use Rattle.trace_file.specs.declared.records.Record.TheVariants.{OfEvent, OfName, OfFinish}
-use Rattle.trace_file.specs.Records.{AreInRanges, Fits, form, head, kind_number, name_bytes, number_bytes, numbers, ranges, record_bytes}
+use Rattle.trace_file.specs.Records.{AreInRanges, Fits, form, head, name_bytes, number_bytes, numbers, ranges, record_bytes}
 use Rattle.trace_file.specs.Pieces.{body}
+use Rattle.guest_words.proofs.FaultKinds.{kind_at, kind_back}
 use Rattle.trace_file.proofs.Heads.{one_head}
 use Rattle.trace_file.proofs.ManyNumbers.{one_number, same_rest}
 
 -- ---- a record by its form, numbers and name
-abbrev kind_at : ℕ → FaultKind
-kind_at n =
-    if nat_eq n 1 then Illegal else
-    if nat_eq n 2 then Fetch else
-    if nat_eq n 3 then Load else
-    if nat_eq n 4 then Store else
-    if nat_eq n 5 then JumpAlign else
-    if nat_eq n 6 then AtomicAlign else
-    Break
-
-kind_back : (k : FaultKind) → kind_at (kind_number k) ≡ k
-kind_back Illegal = refl
-kind_back _ = refl
-
 made_back : Form → List ℕ → List ℕ → Record
 made_back Step ns name = OfEvent (events.Step (get_or ns 0 0))
 made_back Read ns name = OfEvent (events.Read (get_or ns 0 0) (get_or ns 1 0) (get_or ns 2 0))

@@ -4,8 +4,7 @@ use Rattle.std.specs.List.{flat_map}
 use Rattle.byteorder.specs.Endian.{little_bytes}
 use Rattle.guest_words.specs.Names.{is_name}
 use Rattle.guest_words.specs.declared.limits.TheConstants.{LAST_TID, NAME_BYTES}
-use Rattle.guest_words.specs.declared.endings.FaultKind.{FaultKind}
-use Rattle.guest_words.specs.declared.endings.FaultKind.TheVariants.{Illegal, Fetch, Load, Store, JumpAlign, AtomicAlign, Break}
+use Rattle.guest_words.specs.Endings.{kind_number}
 use Rattle.guest_words.specs.declared.endings.Finish.TheVariants as ends
 use Rattle.trace_model.specs.declared.event_kinds.Event.TheVariants as events
 use Rattle.trace_file.specs.declared.records.Form.{Form}
@@ -59,16 +58,6 @@ ranges Budget = []
 ranges Deadlock = []
 ranges Deep = []
 ranges Schedule = free ∷ free ∷ []
-
--- the number of a fault's kind
-abbrev pub kind_number : FaultKind → ℕ
-kind_number Illegal = 1
-kind_number Fetch = 2
-kind_number Load = 3
-kind_number Store = 4
-kind_number JumpAlign = 5
-kind_number AtomicAlign = 6
-kind_number Break = 7
 
 -- the form of a record
 abbrev pub form : Record → Form

@@ -62,7 +62,7 @@ impl Model for TraceReader {
     ghost invariant = { λ r. RECORD_BYTES ≤ vec_capacity r.held };
 }
 
-/// Whether an entry is above those of all names, which rise.
+// Whether an entry is above those of all names, which rise.
 fn is_above(names: &[(Addr, Name)], entry: Addr) -> bool
     requires { IsRising names.now }
     ensures { (name : List ℕ) → IsTrue result ↔ IsRising (names.now ++ (entry, name) ∷ []) }
@@ -70,7 +70,7 @@ fn is_above(names: &[(Addr, Name)], entry: Addr) -> bool
     names.is_empty() || names[names.len() - 1].0 < entry
 }
 
-/// Appends a name.
+// Appends a name.
 fn push_name(names: &mut Vec<(Addr, Name)>, entry: Addr, name: Name) -> Result<(), AllocError>
     ensures ok { OnOk result (names.new.items ≡ names.old.items ++ (entry, name) ∷ []) }
     ensures err { OnErr result (names.new.items ≡ names.old.items) }
@@ -79,7 +79,7 @@ fn push_name(names: &mut Vec<(Addr, Name)>, entry: Addr, name: Name) -> Result<(
     Ok(())
 }
 
-/// Appends a byte, where there is room for it.
+// Appends a byte, where there is room for it.
 fn push_byte(held: &mut Vec<u8>, byte: u8)
     requires { vec_len held.old < vec_capacity held.old }
     ensures items { held.new.items ≡ held.old.items ++ byte ∷ [] }

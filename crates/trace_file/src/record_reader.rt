@@ -3,12 +3,13 @@ ghost use Rattle.std.specs.Prelude.{true, false, All, ◌≡◌, ◌≢◌, ◌�
 ghost use Rattle.byteorder.specs.Endian.{little_number};
 ghost use Rattle.trace_file.specs.declared.records.Form.{Form};
 ghost use Rattle.trace_file.specs.declared.records.Record.{Record};
+ghost use Rattle.guest_words.specs.Endings.{kind_number};
 ghost use Rattle.guest_words.specs.Names.{is_name, is_visible};
 ghost use Rattle.guest_words.specs.declared.limits.TheConstants.{NAME_BYTES};
 ghost use Rattle.trace_file.specs.Pieces.{AreNumbers, HasName, HasNameBody, IsBegun, IsBody, IsHead, IsNameOf, IsNone, IsRecord, Stops, body};
 ghost use Rattle.trace_file.specs.Private.Seen.{IsSeen};
 ghost use Rattle.trace_file.specs.declared.records.Record.TheVariants.{OfEvent, OfFinish};
-ghost use Rattle.trace_file.specs.Records.{AreInRanges, Fits, IsIn, form, head, kind_number, number_bytes, ranges, record_bytes, thread};
+ghost use Rattle.trace_file.specs.Records.{AreInRanges, Fits, IsIn, form, head, number_bytes, ranges, record_bytes, thread};
 ghost use Rattle.trace_file.specs.Private.Made.{IsLeastNumber, IsMade, IsSoundRange, is_event};
 ghost use Rattle.std.specs.List.{flat_map, list_all};
 
@@ -56,7 +57,7 @@ const STATUS: Range = Range {
 
 const KIND: Range = Range { least: 1, most: 7 };
 
-/// The form that the first byte says alone.
+// The form that the first byte says alone.
 fn short_head(first: u8) -> Option<Form>
     ensures found { IfSome result (λ f. first ∷ [] ≡ head f) }
     ensures none { IfNone result (first ≢ 10 → (rest : List ℕ) → IsNone IsHead (first ∷ rest)) }
@@ -75,7 +76,7 @@ fn short_head(first: u8) -> Option<Form>
     }
 }
 
-/// The form of an end that the second byte says.
+// The form of an end that the second byte says.
 fn end_head(second: u8) -> Option<Form>
     ensures found { IfSome result (λ f. 10 ∷ second ∷ [] ≡ head f) }
     ensures none { IfNone result ((rest : List ℕ) → IsNone IsHead (10 ∷ second ∷ rest)) }
@@ -91,7 +92,7 @@ fn end_head(second: u8) -> Option<Form>
     }
 }
 
-/// The form, and what stands behind its head.
+// The form, and what stands behind its head.
 fn read_head(bytes: &[u8]) -> Result<(Form, &[u8]), Stop>
     ensures found { IfOk result (λ x. bytes.now ≡ head x.0 ++ x.1.now) }
     ensures stops { IfErr result (λ stop. Stops IsHead bytes.now stop) }
@@ -115,7 +116,7 @@ fn read_head(bytes: &[u8]) -> Result<(Form, &[u8]), Stop>
     }
 }
 
-/// A byte, or 0 behind the last one.
+// A byte, or 0 behind the last one.
 fn byte_or_zero(bytes: &[u8], i: usize) -> u32
     ensures value { result ≡ slice_index bytes.now i }
     ensures range { result < 256 }
@@ -126,7 +127,7 @@ fn byte_or_zero(bytes: &[u8], i: usize) -> u32
     }
 }
 
-/// The number in the first four bytes, where those that are not there count as 0.
+// The number in the first four bytes, where those that are not there count as 0.
 fn known_number(bytes: &[u8]) -> u32
     ensures value { result ≡ little_number 4 bytes.now }
     ensures range { result < 2 ^ 32 }
@@ -136,7 +137,7 @@ fn known_number(bytes: &[u8]) -> u32
     first + 256 * (second + 256 * (third + 256 * fourth))
 }
 
-/// The least number in the range, or above it, whose first bytes are these.
+// The least number in the range, or above it, whose first bytes are these.
 fn least_number(bytes: &[u8], range: Range) -> u64
     ensures { IsLeastNumber bytes.now range result }
 {
@@ -153,7 +154,7 @@ fn least_number(bytes: &[u8], range: Range) -> u64
     }
 }
 
-/// The number in the first four bytes, where it is in the range.
+// The number in the first four bytes, where it is in the range.
 fn read_number(bytes: &[u8], range: Range) -> Result<u32, Stop>
     requires least { range.least ≤ 1 }
     requires some { range.least ≤ range.most }
@@ -172,7 +173,7 @@ fn read_number(bytes: &[u8], range: Range) -> Result<u32, Stop>
     Ok(known_number(bytes))
 }
 
-/// What stands behind the first four bytes.
+// What stands behind the first four bytes.
 fn behind_four(bytes: &[u8]) -> &[u8]
     requires { 4 ≤ length bytes.now }
     ensures { result.now ≡ drop 4 bytes.now }
@@ -180,7 +181,7 @@ fn behind_four(bytes: &[u8]) -> &[u8]
     &bytes[4..]
 }
 
-/// The numbers in the ranges, of which there are at most three, and what stands behind them.
+// The numbers in the ranges, of which there are at most three, and what stands behind them.
 fn read_numbers<'a>(bytes: &'a [u8], ranges: &[Range]) -> Result<([u32; 3], &'a [u8]), Stop>
     requires few { length ranges.now ≤ 3 }
     requires sound { All IsSoundRange ranges.now }
@@ -198,7 +199,7 @@ fn read_numbers<'a>(bytes: &'a [u8], ranges: &[Range]) -> Result<([u32; 3], &'a 
     Ok((numbers, rest))
 }
 
-/// The ranges of a form's numbers.
+// The ranges of a form's numbers.
 fn ranges(form: Form) -> &'static [Range]
     ensures value { result.now ≡ ranges form }
     ensures few { length result.now ≤ 3 }
@@ -218,24 +219,16 @@ fn ranges(form: Form) -> &'static [Range]
     }
 }
 
-/// The kind of a fault by its number.
-fn kind_of(number: u32) -> FaultKind
+// The kind of a fault of this number.
+fn kind(number: u32) -> FaultKind
     requires least { 1 ≤ number }
     requires most { number ≤ 7 }
     ensures { kind_number result ≡ number }
 {
-    match number {
-        1 => FaultKind::Illegal,
-        2 => FaultKind::Fetch,
-        3 => FaultKind::Load,
-        4 => FaultKind::Store,
-        5 => FaultKind::JumpAlign,
-        6 => FaultKind::AtomicAlign,
-        _ => FaultKind::Break,
-    }
+    FaultKind::numbered(u64::from(number)).unwrap_or(FaultKind::Break)
 }
 
-/// The thread of this number.
+// The thread of this number.
 fn thread(number: u32) -> Tid
     requires { IsIn thread number }
     ensures { result ≡ number }
@@ -243,7 +236,7 @@ fn thread(number: u32) -> Tid
     Tid::new(number).unwrap_or(Tid::FIRST)
 }
 
-/// The word of this number.
+// The word of this number.
 fn word(number: u32) -> Word
     requires { number < 2 ^ 30 }
     ensures { result ≡ number }
@@ -251,7 +244,7 @@ fn word(number: u32) -> Word
     Word::of(4 * number)
 }
 
-/// The event of a form with these numbers.
+// The event of a form with these numbers.
 fn made_event(form: Form, a: u32, b: u32, c: u32) -> Option<Event>
     requires { AreInRanges (take (length (ranges form)) (a ∷ b ∷ c ∷ [])) (ranges form) }
     ensures found { IfSome result (λ e. IsMade form (take (length (ranges form)) (a ∷ b ∷ c ∷ []))
@@ -292,7 +285,7 @@ fn made_event(form: Form, a: u32, b: u32, c: u32) -> Option<Event>
     }
 }
 
-/// The end of a form with these numbers. The line 0 of a schedule is none.
+// The end of a form with these numbers. The line 0 of a schedule is none.
 fn made_finish(form: Form, a: u32, b: u32, c: u32) -> Option<Finish>
     requires plain { form ≢ Form.Named }
     requires later { is_event form ≡ false }
@@ -304,7 +297,7 @@ fn made_finish(form: Form, a: u32, b: u32, c: u32) -> Option<Finish>
     match form {
         Form::Exit => Some(Finish::Exit { status: a as u8 }),
         Form::Fault => Some(Finish::Fault {
-            kind: kind_of(a),
+            kind: kind(a),
             tid: thread(b),
             at: c,
         }),
@@ -321,7 +314,7 @@ fn made_finish(form: Form, a: u32, b: u32, c: u32) -> Option<Finish>
     }
 }
 
-/// The record of a form with these numbers, which is not a name. The line 0 of a schedule is none.
+// The record of a form with these numbers, which is not a name. The line 0 of a schedule is none.
 fn made(form: Form, a: u32, b: u32, c: u32) -> Option<Record>
     requires plain { form ≢ Form.Named }
     requires fits { AreInRanges (take (length (ranges form)) (a ∷ b ∷ c ∷ [])) (ranges form) }
@@ -338,21 +331,21 @@ fn made(form: Form, a: u32, b: u32, c: u32) -> Option<Record>
     }
 }
 
-/// Whether each byte can stand in a name.
+// Whether each byte can stand in a name.
 fn are_visible(bytes: &[u8]) -> bool
     ensures { result ≡ list_all is_visible bytes.now }
 {
     bytes.iter().all(|b| 0x21 <= *b && *b <= 0x7e)
 }
 
-/// The bytes behind the first `seen`.
+// The bytes behind the first `seen`.
 fn behind(bytes: &[u8], seen: usize) -> &[u8]
     ensures { result.now ≡ drop (min seen (length bytes.now)) bytes.now }
 {
     &bytes[seen.min(bytes.len())..]
 }
 
-/// A name of `len` bytes, of the routine with an entry. The first `seen` bytes were seen to be bytes of a name.
+// A name of `len` bytes, of the routine with an entry. The first `seen` bytes were seen to be bytes of a name.
 fn read_name(
     alloc: Global,
     entry: Addr,
@@ -382,7 +375,7 @@ fn read_name(
     }
 }
 
-/// The record of a form whose numbers and bytes stand first. Of a name `seen` bytes were seen.
+// The record of a form whose numbers and bytes stand first. Of a name `seen` bytes were seen.
 fn read_body(alloc: Global, wanted: Form, bytes: &[u8], seen: usize) -> Result<Record, Stop>
     requires { wanted ≡ Form.Named → IsSeen seen bytes.now }
     ensures found { IfOk result (λ r. Fits r × (form r ≡ wanted)
@@ -402,7 +395,7 @@ fn read_body(alloc: Global, wanted: Form, bytes: &[u8], seen: usize) -> Result<R
     }
 }
 
-/// How many bytes of a name's record stand before its name.
+// How many bytes of a name's record stand before its name.
 const NAME_AT: usize = 9;
 
 /// The record that stands first. The first `known` bytes are known to be the beginning of one, so those of a name among them

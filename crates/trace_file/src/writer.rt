@@ -7,7 +7,7 @@ ghost use Rattle.trace_model.specs.Observing.{Observes, StandsAsBefore};
 ghost use Rattle.trace_model.specs.WellFormed.{IsWellFormed};
 ghost use Rattle.trace_order.specs.Order.{MayCome};
 ghost use Rattle.trace_file.specs.declared.records.Record.TheVariants.{OfEvent, OfName, OfFinish};
-ghost use Rattle.trace_file.specs.Records.{Fits, joined, kind_number, number_bytes, record_bytes};
+ghost use Rattle.trace_file.specs.Records.{Fits, joined, number_bytes, record_bytes};
 ghost use Rattle.trace_file.specs.Private.Kept.{KeepsOn};
 ghost use Rattle.trace_file.specs.TraceText.{IsRising, IsTextOf, IsTrace, name_records, trace_text};
 
@@ -34,7 +34,7 @@ impl Model for TraceWriter {
     ghost view = { λ w. record { text = w.text.items; order = w.order } };
 }
 
-/// Appends a number.
+// Appends a number.
 #[tactic(auto, unfolding(crate::specs::Records::number_bytes))]
 fn push_number(text: &mut Vec<u8>, number: u32) -> Result<(), AllocError>
     ensures ok { OnOk result (text.new.items ≡ text.old.items ++ number_bytes number) }
@@ -43,7 +43,7 @@ fn push_number(text: &mut Vec<u8>, number: u32) -> Result<(), AllocError>
     text.extend_from_slice(&number.to_le_bytes())
 }
 
-/// Appends numbers.
+// Appends numbers.
 #[tactic(auto, using(crate::proofs::Texts::keeps, crate::proofs::Texts::keeps_same, crate::proofs::Texts::keeps_further))]
 fn push_numbers(text: &mut Vec<u8>, numbers: &[u32]) -> Result<(), AllocError>
     ensures ok { OnOk result (text.new.items
@@ -56,7 +56,7 @@ fn push_numbers(text: &mut Vec<u8>, numbers: &[u32]) -> Result<(), AllocError>
     Ok(())
 }
 
-/// Appends a head, numbers and bytes.
+// Appends a head, numbers and bytes.
 #[tactic(auto, using(crate::proofs::Texts::keeps, crate::proofs::Texts::keeps_same, crate::proofs::Texts::keeps_further))]
 fn push_parts(
     text: &mut Vec<u8>,
@@ -73,7 +73,7 @@ fn push_parts(
     text.extend_from_slice(bytes)
 }
 
-/// Appends a head, numbers and bytes, or nothing where there is no memory.
+// Appends a head, numbers and bytes, or nothing where there is no memory.
 #[tactic(auto, using(crate::proofs::Texts::put_back))]
 fn push_record(
     text: &mut Vec<u8>,
@@ -93,7 +93,7 @@ fn push_record(
     pushed
 }
 
-/// Appends the record of an event, or nothing where there is no memory.
+// Appends the record of an event, or nothing where there is no memory.
 fn push_event(text: &mut Vec<u8>, e: Event) -> Result<(), AllocError>
     ensures ok { OnOk result (text.new.items ≡ text.old.items ++ record_bytes (OfEvent e)) }
     ensures err { OnErr result (text.new.items ≡ text.old.items) }
@@ -117,7 +117,7 @@ fn push_event(text: &mut Vec<u8>, e: Event) -> Result<(), AllocError>
     }
 }
 
-/// Appends the record of a name.
+// Appends the record of a name.
 fn push_name(text: &mut Vec<u8>, entry: Addr, name: &Name) -> Result<(), AllocError>
     ensures ok { OnOk result (text.new.items
         ≡ text.old.items ++ record_bytes (OfName entry name.now)) }
@@ -127,7 +127,7 @@ fn push_name(text: &mut Vec<u8>, entry: Addr, name: &Name) -> Result<(), AllocEr
     push_record(text, &[9], &[entry, bytes.len() as u32], bytes)
 }
 
-/// Appends the records of names.
+// Appends the records of names.
 fn push_names(text: &mut Vec<u8>, names: &[(Addr, Name)]) -> Result<(), AllocError>
     ensures ok { OnOk result (text.new.items
         ≡ text.old.items ++ flat_map record_bytes (name_records names.now)) }
@@ -139,24 +139,7 @@ fn push_names(text: &mut Vec<u8>, names: &[(Addr, Name)]) -> Result<(), AllocErr
     Ok(())
 }
 
-/// The number of a fault's kind.
-fn kind_number(kind: FaultKind) -> u32
-    ensures value { result ≡ kind_number kind }
-    ensures least { 1 ≤ result }
-    ensures most { result ≤ 7 }
-{
-    match kind {
-        FaultKind::Illegal => 1,
-        FaultKind::Fetch => 2,
-        FaultKind::Load => 3,
-        FaultKind::Store => 4,
-        FaultKind::JumpAlign => 5,
-        FaultKind::AtomicAlign => 6,
-        FaultKind::Break => 7,
-    }
-}
-
-/// Appends the record of how the run ended.
+// Appends the record of how the run ended.
 fn push_finish(text: &mut Vec<u8>, f: Finish) -> Result<(), AllocError>
     requires { (line : ℕ) → f ≡ ends.Schedule line → 1 ≤ line }
     ensures ok { OnOk result (text.new.items ≡ text.old.items ++ record_bytes (OfFinish f)) }
@@ -165,7 +148,7 @@ fn push_finish(text: &mut Vec<u8>, f: Finish) -> Result<(), AllocError>
     match f {
         Finish::Exit { status } => push_record(text, &[10, 0], &[u32::from(status)], &[]),
         Finish::Fault { kind, tid, at } => {
-            push_record(text, &[10, 1], &[kind_number(kind), tid.number(), at], &[])
+            push_record(text, &[10, 1], &[kind.number(), tid.number(), at], &[])
         }
         Finish::Budget => push_record(text, &[10, 2], &[], &[]),
         Finish::Deadlock => push_record(text, &[10, 3], &[], &[]),

@@ -15,7 +15,7 @@ pub struct Activation {
     pub back: Option<Addr>,
 }
 
-/// How many of the open activations, the outermost first, a return to the target ends.
+// How many of the open activations, the outermost first, a return to the target ends.
 fn count_returned(target: Addr, calls: &[Activation]) -> usize
     ensures count { result ≡ count_returned target (backs (reverse calls.now)) }
     ensures within { result ≤ length calls.now }
@@ -45,7 +45,7 @@ pub fn count_ending(e: &Event, tid: Tid, calls: &[Activation]) -> usize
     }
 }
 
-/// The activation of the thread that the event begins, which stands at the position.
+// The activation of the thread that the event begins, which stands at the position.
 fn begun(e: &Event, tid: Tid, at: usize) -> Option<Activation>
     ensures { option_to_list result ≡ begun e.now tid at }
 {
@@ -68,7 +68,7 @@ fn begun(e: &Event, tid: Tid, at: usize) -> Option<Activation>
     }
 }
 
-/// Brings the thread's open activations, the outermost first, from before the event to after it.
+// Brings the thread's open activations, the outermost first, from before the event to after it.
 fn follow(calls: &mut Vec<Activation>, e: &Event, at: usize, tid: Tid) -> Result<(), AllocError>
     ensures { OnOk result (reverse calls.new.items
         ≡ calls_after e.now tid at (reverse calls.old.items)) }

@@ -38,7 +38,7 @@ pub enum Touch {
     ByKernel,
 }
 
-/// Whether the word is one of the `count` words from `first` on.
+// Whether the word is one of the `count` words from `first` on.
 fn covers(first: Word, count: u32, word: u64) -> bool
     ensures { result ≡ covers first count word }
 {

@@ -25,7 +25,7 @@ impl SizeParts {
         kernel: 0,
     };
 
-    /// One more word, by how it was touched last where its read counts.
+    // One more word, by how it was touched last where its read counts.
     fn with(self, counted: Option<Touch>) -> SizeParts
         requires plain { self.plain < 2 ^ 63 }
         requires thread { self.thread < 2 ^ 63 }
@@ -50,7 +50,7 @@ impl SizeParts {
         }
     }
 
-    /// The parts of both.
+    // The parts of both.
     fn plus(self, more: SizeParts) -> SizeParts
         requires plain { self.plain + more.plain < 2 ^ 64 }
         requires thread { self.thread + more.thread < 2 ^ 64 }
@@ -65,7 +65,7 @@ impl SizeParts {
     }
 }
 
-/// How the thread saw the word touched last.
+// How the thread saw the word touched last.
 fn last_touch(events: &[Event], tid: Tid, word: u64) -> Touch
     ensures { result ≡ last_touch (reverse events.now) tid word }
 {
@@ -78,8 +78,8 @@ fn last_touch(events: &[Event], tid: Tid, word: u64) -> Touch
     Touch::Untouched
 }
 
-/// How the word was touched last in the whole past, where a read of it by the thread counts. It does not where the last
-/// touch inside the activation is the thread's own.
+// How the word was touched last in the whole past, where a read of it by the thread counts. It does not where the last
+// touch inside the activation is the thread's own.
 fn counted_touch(inside: &[Event], before: &[Event], tid: Tid, word: u64) -> Option<Touch>
     ensures { (cause : Cause) → counts_touch cause result
         ≡ counts_by cause (reverse inside.now) (reverse before.now) tid word }
@@ -91,7 +91,7 @@ fn counted_touch(inside: &[Event], before: &[Event], tid: Tid, word: u64) -> Opt
     }
 }
 
-/// The parts that a read of `count` words from `first` on adds.
+// The parts that a read of `count` words from `first` on adds.
 fn parts_of_read(inside: &[Event], before: &[Event], tid: Tid, first: Word, count: u32) -> SizeParts
     ensures { result
         ≡ parts_by (λ cause. count_by
@@ -127,7 +127,7 @@ pub fn parts_of(inside: &[Event], before: &[Event], tid: Tid) -> SizeParts
     parts
 }
 
-/// Whether the thread read or wrote the word.
+// Whether the thread read or wrote the word.
 fn is_accessed(inside: &[Event], tid: Tid, word: u64) -> bool
     ensures { result ≡ accessed (reverse inside.now) tid word }
 {
@@ -139,7 +139,7 @@ fn is_accessed(inside: &[Event], tid: Tid, word: u64) -> bool
     false
 }
 
-/// How many of the `count` words from `first` on the thread has not accessed.
+// How many of the `count` words from `first` on the thread has not accessed.
 fn count_unaccessed(inside: &[Event], tid: Tid, first: Word, count: u32) -> u64
     ensures { result ≡ count_by (λ l. not (accessed (reverse inside.now) tid l))
         (range_with_len first count) }

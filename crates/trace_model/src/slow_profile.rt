@@ -26,7 +26,7 @@ pub struct Done {
     pub bare: u64,
 }
 
-/// What the profile has of the thread's activation, which ends after the past.
+// What the profile has of the thread's activation, which ends after the past.
 fn done_of(trace: &[Event], tid: Tid, call: Activation) -> Done
     requires light { IsLight (reverse trace.now) }
     requires begun { call.at < length trace.now }
@@ -46,7 +46,7 @@ fn done_of(trace: &[Event], tid: Tid, call: Activation) -> Done
     }
 }
 
-/// Records the innermost `ended` of the thread's open activations, the innermost first.
+// Records the innermost `ended` of the thread's open activations, the innermost first.
 fn end_calls(
     trace: &[Event],
     tid: Tid,
@@ -67,7 +67,7 @@ fn end_calls(
     Ok(())
 }
 
-/// Records what the event ends after the past.
+// Records what the event ends after the past.
 fn end_by(alloc: Global, e: Event, trace: &[Event], done: &mut Vec<Done>) -> Result<(), AllocError>
     requires { IsLight (reverse trace.now) }
     ensures { OnOk result (done.new.items ≡ done.old.items ++ ended e (reverse trace.now)) }

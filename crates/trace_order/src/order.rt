@@ -41,7 +41,7 @@ impl Model for Order {
     }) };
 }
 
-/// The place of the thread, if it is one of these.
+// The place of the thread, if it is one of these.
 fn find(threads: &[Tid], tid: Tid) -> Option<usize>
     requires { AllPairs (λ t u. t < u) threads.now }
     ensures { MatchOption result (is_among threads.now tid ≡ false)
@@ -50,7 +50,7 @@ fn find(threads: &[Tid], tid: Tid) -> Option<usize>
     threads.binary_search(&tid).ok()
 }
 
-/// Takes the thread out, if it is one of these.
+// Takes the thread out, if it is one of these.
 fn remove(threads: &mut Vec<Tid>, tid: Tid)
     requires { AllPairs (λ t u. t < u) threads.old.items }
     ensures rising { AllPairs (λ t u. t < u) threads.new.items }

@@ -48,14 +48,14 @@ pub fn thread_of(e: &Event) -> Option<Tid>
     }
 }
 
-/// Whether there is at least one word, and all are words of the guest's memory.
+// Whether there is at least one word, and all are words of the guest's memory.
 fn are_words(first: Word, count: u32) -> bool
     ensures { IsTrue result ↔ AreWords first count }
 {
     1 <= count && count <= (1 << 30) - first.number()
 }
 
-/// One for the event, and one for each word that it reads.
+// One for the event, and one for each word that it reads.
 fn weight_of(e: &Event) -> u64
     ensures value { result ≡ weight_of e.now }
     ensures range { result ≤ 2 ^ 32 }

@@ -13,7 +13,7 @@ use std::marker::Model;
 use trace_file::{TraceEnd, TraceError, TraceReader};
 use trace_model::{Events, Observed, feed};
 
-/// How many bytes are read at a time.
+// How many bytes are read at a time.
 const PIECE: usize = 4096;
 
 /// The totals of a stored trace, as `IsReplayOf` says.

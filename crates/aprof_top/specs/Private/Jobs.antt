@@ -27,7 +27,7 @@ use Rattle.context_profile.specs.Kept.{IsPastNumbers}
 use Rattle.context_profile.specs.Kept as contexts
 use Rattle.context_profile.specs.declared.profile.ContextTotals.{ContextTotals}
 use Rattle.aprof_top.specs.declared.trace_job.TracedRun.{TracedRun}
-use Rattle.cache_lines.specs.Shapes.{Form}
+use Rattle.cache_lines.specs.Shapes.{Dimensions}
 use Rattle.cache_profile.specs.ReportText.{Reported}
 use Rattle.elf_image.specs.Image.{Executable}
 use Rattle.aprof_top.specs.CacheMisses.{misses_of}
@@ -97,7 +97,7 @@ pub record IsTraced (traced : TracedRun) (run : ObservedRun) : Type 0 where
   pub finish : traced.finish ≡ run.finish
 
 -- this is the report of a run's cache misses
-abbrev pub IsMissed : Form → Executable → Reported → ObservedRun → Type 0
+abbrev pub IsMissed : Dimensions → Executable → Reported → ObservedRun → Type 0
 IsMissed shape image report run = report ≡ misses_of shape image run.finish run.past
 
 -- the totals of the run with its contexts, unless they are more than can be numbered

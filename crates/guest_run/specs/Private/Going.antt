@@ -13,8 +13,8 @@ use Rattle.guest_machine.specs.Laws.{IsWithinLimits, MachineStandsFor}
 use Rattle.guest_machine.specs.Machine.{MachineState}
 use Rattle.guest_machine.specs.Running.{after_steps}
 use Rattle.guest_run.specs.declared.run.Runner.{Runner}
-use Rattle.guest_run.specs.declared.run.Turned.{Turned}
-use Rattle.guest_run.specs.declared.run.Turned.TheVariants as turned
+use Rattle.core.specs.declared.ops.ControlFlow.{ControlFlow}
+use Rattle.core.specs.declared.ops.ControlFlow.TheVariants.{Continue, Break}
 use Rattle.guest_run.specs.declared.run_error.RunError.{RunError}
 use Rattle.guest_run.specs.declared.run_error.RunError.TheVariants.{CannotPut, Memory}
 use Rattle.guest_run.specs.declared.turns.CurrentTurn.{CurrentTurn}
@@ -147,22 +147,22 @@ moved s n = record {
 -- How a run goes on with moves of a turn: it remains after some moves in all, or its budget shows how it ended or why it was
 -- given up.
 abbrev pub TurnEnds : {W : Type 0} → (W → List Event → Type 0) → (List Event → Bool) → List Event → Position MachineState → Sinks → ℕ →
-    Standing → W → Sinks → Result Turned RunError → Type 0
-TurnEnds Stands fits first start before budget r observer after (Ok (turned.GoesOn count)) = Remains Stands fits first start before count r observer after
-TurnEnds Stands fits first start before budget r observer after (Ok (turned.Ends finish)) =
+    Standing → W → Sinks → Result (ControlFlow Finish ℕ) RunError → Type 0
+TurnEnds Stands fits first start before budget r observer after (Ok (Continue count)) = Remains Stands fits first start before count r observer after
+TurnEnds Stands fits first start before budget r observer after (Ok (Break finish)) =
     IsOver Stands (observed fits first start budget) before r observer after finish
 TurnEnds Stands fits first start before budget r observer after (Err e) =
     RunEnds Stands (observed fits first start budget) before observer after (Err e)
 
 -- Whatever run remains after `made` moves, it goes on so with moves of a turn.
 abbrev pub MakesMoves : {W : Type 0} → (W → List Event → Type 0) → (List Event → Bool) → ℕ → ℕ → Standing → W → Sinks →
-    Standing → W → Sinks → Result Turned RunError → Type 0
+    Standing → W → Sinks → Result (ControlFlow Finish ℕ) RunError → Type 0
 MakesMoves Stands fits made budget old observed now new observer after result =
     (first : List Event) (start : Position MachineState) (before : Sinks)
     → Remains Stands fits first start before made old observed now
     → TurnEnds Stands fits first start before budget new observer after result
 
 -- if the run goes on, no fewer moves were made than before, and no more than the budget
-abbrev pub IsCounted : ℕ → ℕ → Result Turned RunError → Type 0
-IsCounted made budget (Ok (turned.GoesOn count)) = (made ≤ count) × (count ≤ budget)
+abbrev pub IsCounted : ℕ → ℕ → Result (ControlFlow Finish ℕ) RunError → Type 0
+IsCounted made budget (Ok (Continue count)) = (made ≤ count) × (count ≤ budget)
 IsCounted made budget other = Unit {0}

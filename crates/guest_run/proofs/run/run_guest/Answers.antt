@@ -1,9 +1,9 @@
-use Rattle.std.proofs.Common.{Err, Ok, ◌+◌, subst, ◌∙◌, arith}
+use Rattle.std.proofs.Common.{ControlFlow, Err, Ok, ℕ, ◌+◌, subst, ◌∙◌, arith}
 use Rattle.std.proofs.lemmas.Result.{err_from_is_err_and}
 use Rattle.guest_words.specs.declared.endings.Finish.TheVariants.{Budget}
 use Rattle.guest_machine.specs.Kept.{machine_of}
 use Rattle.guest_run.specs.Private.Going.{IsCounted, TurnEnds, standing_of}
-use Rattle.guest_run.specs.declared.run.Turned.{Turned}
+use Rattle.guest_words.specs.declared.endings.Finish.{Finish}
 use Rattle.guest_run.specs.Machine.{guest}
 use Rattle.guest_run.specs.Output.{sinks}
 use Rattle.guest_run.specs.ObservedRun.{first_past, observed_run}
@@ -46,8 +46,8 @@ returns-in_err-made-clause-ends g c =
     (c.in_err-made.ensures.ends first begin before
     (remains_same g.W.Observer.stands fits (g.W.Observer.fits c.run.observer) c.run.invariant.same first begin before c.run.count (standing_of c.run.runner) c.run.observer now c.run.invariant.remains)))
 
-pub returns-in-Ends-clause-ends : goal.returns-in-Ends-clause-ends
-returns-in-Ends-clause-ends g c =
+pub returns-in-Break-clause-ends : goal.returns-in-Break-clause-ends
+returns-in-Break-clause-ends g c =
     let begin = start c.args.turns (machine_of c.args.machine) in
     let first = first_past c.args.machine.entry in
     let before = sinks (g.O.Sink.state c.args.out.now) (g.E.Sink.state c.args.err.now) in
@@ -58,8 +58,8 @@ returns-in-Ends-clause-ends g c =
     (standing_of c.take_turn.new.self) c.take_turn.new.observer after (Ok c.in_ok-made.field-0)
     (c.in_ok-made.ensures.ends first begin before
     (remains_same g.W.Observer.stands fits (g.W.Observer.fits c.run.observer) c.run.invariant.same first begin before c.run.count (standing_of c.run.runner) c.run.observer now c.run.invariant.remains)) in
-    let over = subst (λ (t : Turned). TurnEnds g.W.Observer.stands fits first begin before c.args.budget (standing_of c.take_turn.new.self) c.take_turn.new.observer after (Ok t)) c.in-Ends.is ends in
-    ends_over g.W.Observer.stands _ before (standing_of c.take_turn.new.self) c.take_turn.new.observer after c.in-Ends.finish over
+    let over = subst (λ (t : ControlFlow Finish ℕ). TurnEnds g.W.Observer.stands fits first begin before c.args.budget (standing_of c.take_turn.new.self) c.take_turn.new.observer after (Ok t)) c.in-Break.is ends in
+    ends_over g.W.Observer.stands _ before (standing_of c.take_turn.new.self) c.take_turn.new.observer after c.in-Break.finish over
     c.finish.result c.finish.ensures.ended c.finish.ensures.refused
 
 pub run-preserved : goal.run-preserved
@@ -74,8 +74,8 @@ run-preserved g c =
     (standing_of c.take_turn.new.self) c.take_turn.new.observer after (Ok c.in_ok-made.field-0)
     (c.in_ok-made.ensures.ends first begin before
     (remains_same g.W.Observer.stands fits (g.W.Observer.fits c.run.observer) c.run.invariant.same first begin before c.run.count (standing_of c.run.runner) c.run.observer now c.run.invariant.remains)) in
-    let remains = subst (λ (t : Turned). TurnEnds g.W.Observer.stands fits first begin before c.args.budget (standing_of c.take_turn.new.self) c.take_turn.new.observer after (Ok t)) c.in-GoesOn.is ends in
-    let counted = subst (λ (t : Turned). IsCounted (c.run.count + 1) c.args.budget (Ok t)) c.in-GoesOn.is c.in_ok-made.ensures.count in
+    let remains = subst (λ (t : ControlFlow Finish ℕ). TurnEnds g.W.Observer.stands fits first begin before c.args.budget (standing_of c.take_turn.new.self) c.take_turn.new.observer after (Ok t)) c.in-Continue.is ends in
+    let counted = subst (λ (t : ControlFlow Finish ℕ). IsCounted (c.run.count + 1) c.args.budget (Ok t)) c.in-Continue.is c.in_ok-made.ensures.count in
     record {
       remains = remains;
       same = c.in_ok-made.ensures.same ∙ c.run.invariant.same;
