@@ -1,18 +1,22 @@
 -- The contexts of a run with one event more.
-use Rattle.std.proofs.Common.{◌≡◌, ◌∙◌, ℕ, ◌+◌, false, true, List, [], ◌∷◌, ◌++◌, None, Some, ap, subst, sym, arith}
+use Rattle.std.proofs.Common.{◌≡◌, ◌∙◌, ℕ, zero, suc, ◌+◌, ◌≤◌, false, true, List, [], ◌∷◌, ◌++◌, Option, None, Some, ap, subst, sym, arith}
 use Rattle.std.specs.Prelude.{not}
 use Rattle.std.specs.Option.{option_to_list}
 use Rattle.trace_model.specs.declared.event_kinds.Event.{Event}
 use Rattle.trace_model.specs.declared.slow_profile.Done.{Done}
 use Rattle.trace_model.specs.Depth.{is_within}
+use Rattle.trace_model.specs.Observing.{MayStepBy, with_steps}
 use Rattle.trace_model.specs.Profile.{ended, steps}
-use Rattle.run_profile.proofs.Profiles.{does_not_fit, one_more}
+use Rattle.trace_model.specs.WellFormed.{IsWellFormed}
+use Rattle.context_tree.specs.Trees as trees
+use Rattle.run_profile.proofs.Profiles.{does_not_fit, light_before, one_more, steps_more}
 use Rattle.shadow_core.proofs.Applied.{deep_does_not_fit}
 use Rattle.shadow_core.specs.Applying.{IsTaken, is_too_deep}
 use Rattle.shadow_core.specs.Stands.{Stands}
 use Rattle.shadow_core.specs.State.{State, table_of_state}
 use Rattle.shadow_core.specs.Table.{Table}
-use Rattle.context_profile.specs.Kept.{AreContextsOf, HasTree, KeptProfile, ended_at}
+use Rattle.shadow_core.specs.Profiling.{StandsFor}
+use Rattle.context_profile.specs.Kept.{AreContextsOf, AreOfLight, HasTree, IsPastNumbers, KeptProfile, ended_at}
 
 module _ (most : ℕ) (e : Event) (k : KeptProfile) (new : State) (after : List Done) (past : List Event) (p : AreContextsOf most k past) (none : k.next ≡ None) where
   -- it is taken
@@ -54,3 +58,34 @@ settled most k past p none = subst (HasTree k.tree) (sym (p.all ∙ ap (λ n. op
 -- what does not fit is too deep
 pub is_deep : (most : ℕ) (e : Event) (k : KeptProfile) (past : List Event) → AreContextsOf most k past → is_within most (e ∷ past) ≡ false → is_too_deep most e past ≡ true
 is_deep most e k past p is = deep_does_not_fit most e (table_of_state k.stamps) past p.stands ∙ ap not is
+
+-- ---- Steps in a row.
+formed_before : (t n : ℕ) (past : List Event) → IsWellFormed (with_steps t n past) → IsWellFormed past
+formed_before t zero past formed = formed
+formed_before t (suc n) past formed = formed_before t n past formed.2
+
+pub of_light : (most t n : ℕ) (k : KeptProfile) → MayStepBy (AreContextsOf most) (is_within most) k t n → 1 ≤ n → AreOfLight most k
+of_light most t zero k may some = absurd (omega (arith, some))
+of_light most t (suc n) k may some = record {
+  past = may.past;
+  now = may.now;
+  formed = formed_before t (suc n) may.past may.formed;
+  light = light_before t (suc n) may.past may.formed.1;
+}
+
+-- they begin no context
+pub still_many : (t n : ℕ) (past : List Event) → IsPastNumbers past → IsPastNumbers (with_steps t n past)
+still_many t zero past many = many
+still_many t (suc n) past many = still_many t n past many
+
+pub stepped : (most t n : ℕ) (k : KeptProfile) (new : State) (tree : Option trees.KeptTree) (past : List Event) → AreContextsOf most k past → k.next ≡ None →
+    StandsFor most new (with_steps t n past) → HasTree tree (with_steps t n past) →
+    AreContextsOf most (record k { stamps = new; tree = tree; steps = k.steps + n }) (with_steps t n past)
+stepped most t n k new tree past p none stands grown = record {
+  stands = stands;
+  earlier = with_steps t n past;
+  all = sym (ap (λ o. option_to_list o ++ with_steps t n past) none);
+  tree = grown;
+  ended_is = p.ended_is ∙ ap (λ o. ended_at o p.earlier) none ∙ sym (ap (λ o. ended_at o (with_steps t n past)) none);
+  steps_are = omega (arith, p.steps_are, steps_more t n past);
+}

@@ -3,6 +3,7 @@ use Rattle.std.specs.Prelude.{◌≡◌, ℕ, ◌<◌, List, [], ◌∷◌, ◌+
 use Rattle.std.specs.Option.{option_to_list}
 use Rattle.trace_model.specs.declared.event_kinds.Event.{Event}
 use Rattle.trace_model.specs.declared.slow_profile.Done.{Done}
+use Rattle.trace_model.specs.Observing.{with_steps}
 use Rattle.trace_model.specs.Profile.{ended, steps}
 use Rattle.trace_model.specs.WellFormed.{IsLight, IsWellFormed}
 use Rattle.context_tree.specs.Contexts.{contexts}
@@ -50,6 +51,12 @@ pub record MayGrow (tree : Option trees.KeptTree) (e : Event) (ends : List Done)
   pub now : HasTree tree past
   pub formed : IsWellFormed (e ∷ past)
   pub ends_are : ends ≡ ended e past
+
+-- It is that of some past after which these steps of the thread may come.
+pub record MayGrowBySteps (tree : Option trees.KeptTree) (tid count : ℕ) : Type 0 where
+  pub past : List Event
+  pub now : HasTree tree past
+  pub formed : IsWellFormed (with_steps tid count past)
 
 -- They are those of some past that a run can have.
 pub record AreOfLight (most : ℕ) (kept : KeptProfile) : Type 0 where

@@ -3,11 +3,12 @@ ghost use Rattle.std.specs.Prelude.{◌≡◌, ◌≤◌, [], ◌∷◌, List, f
 ghost use Rattle.trace_model.specs.declared.event_kinds.Event.{Event};
 ghost use Rattle.trace_model.specs.declared.observer.Observed.{Observed};
 ghost use Rattle.trace_model.specs.Depth.{is_within};
-ghost use Rattle.trace_model.specs.Observing.{MayTake, Observes, StandsAsBefore};
+ghost use Rattle.trace_model.specs.Observing.{MayStepBy, MayTake, Observes, StandsAsBefore, StepsBy, with_steps};
 ghost use Rattle.trace_model.specs.Profile.{ended};
-ghost use Rattle.context_profile.specs.Kept.{AreContextsOf, AreOfLight, AreTotalsOf, HasTree, IsPastNumbers, MayGrow};
+ghost use Rattle.context_profile.specs.Kept.{AreContextsOf, AreOfLight, AreTotalsOf, HasTree, IsPastNumbers, MayGrow, MayGrowBySteps};
 
 use context_tree::{Tree, TreeError};
+use guest_words::Tid;
 use run_profile::{Totals, steps_of};
 use shadow_core::{ApplyError, Profiler};
 use stamp_lanes::Lanes;
@@ -63,6 +64,19 @@ fn grow(tree: &mut Option<Tree>, e: Event, ends: &[Done]) -> Result<(), AllocErr
             Ok(())
         }
         Err(TreeError::Memory) => Err(AllocError),
+    }
+}
+
+// Takes steps of a thread in a row into the tree, if there still is one.
+#[inline(always)]
+fn grow_by_steps(tree: &mut Option<Tree>, tid: Tid, count: u64)
+    requires some { 1 ≤ count }
+    requires next { MayGrowBySteps tree.old tid count }
+    ensures { (past : List Event) → HasTree tree.old past
+        → HasTree tree.new (with_steps tid count past) }
+{
+    if let Some(kept) = tree {
+        kept.take_steps(tid, count);
     }
 }
 
@@ -165,5 +179,18 @@ impl<S: Lanes> Observer for ContextProfile<S> {
             Err(ApplyError::TooDeep { .. }) => Ok(Observed::Refused),
             Err(ApplyError::Memory) => Err(AllocError),
         }
+    }
+
+    #[inline(always)]
+    fn observe_steps(&mut self, tid: Tid, count: u64) -> Result<(), AllocError>
+        requires may { MayStepBy (AreContextsOf S.MAX) (is_within S.MAX) self.old tid count }
+        requires some { 1 ≤ count }
+        ensures stepped { OnOk result (StepsBy (AreContextsOf S.MAX) (is_within S.MAX) tid count self.old self.new) }
+    {
+        self.settle()?;
+        self.profiler.take_steps(tid, count);
+        grow_by_steps(&mut self.tree, tid, count);
+        self.steps += count;
+        Ok(())
     }
 }

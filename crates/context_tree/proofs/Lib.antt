@@ -12,6 +12,7 @@ pub mod Listed
 pub mod Sorting
 pub mod InOrder
 pub mod Standing
+pub mod Stepping
 pub mod Once
 pub mod Growing
 pub mod AddingUp

@@ -4,7 +4,9 @@ use Rattle.guest_words.specs.ByThread.{value_of}
 use Rattle.trace_model.specs.declared.event_kinds.Event.{Event}
 use Rattle.trace_model.specs.declared.event_kinds.Event.TheVariants.{End, Ret}
 use Rattle.trace_model.specs.declared.slow_profile.Done.{Done}
+use Rattle.trace_model.specs.Observing.{with_steps}
 use Rattle.trace_model.specs.Profile.{ended}
+use Rattle.trace_model.specs.WellFormed.{IsWellFormed}
 use Rattle.trace_order.specs.Progress.{IsAllowed, IsProgressOf, ProgressState, is_of_one}
 use Rattle.cost_points.specs.declared.point.Point.{Point}
 use Rattle.context_tree.specs.Branches as grown
@@ -46,6 +48,12 @@ abbrev pub AreEnded : KeptTree → Event → List Done → Type 0
 AreEnded kept (Ret tid target) ends = ∥ AreOfSome kept (Ret tid target) ends ∥₁
 AreEnded kept (End tid) ends = ∥ AreOfSome kept (End tid) ends ∥₁
 AreEnded kept e ends = ends ≡ []
+
+-- It is what is kept of some past after which these steps of the thread may come.
+pub record MayStepOn (kept : KeptTree) (tid count : ℕ) : Type 0 where
+  pub past : List Event
+  pub now : TreeStandsFor kept past
+  pub formed : IsWellFormed (with_steps tid count past)
 
 -- They are the depth of the context, one less than its entries, the last of these, and its points.
 pub record IsShown (past : List Event) (c : List ℕ) (depth entry : ℕ) (points : List Point) : Type 0 where

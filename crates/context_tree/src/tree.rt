@@ -1,6 +1,7 @@
 //! The calling contexts of a run that goes on.
 ghost use Rattle.std.specs.Prelude.{◌≡◌, ◌↔◌, ◌<◌, ◌≤◌, ◌∷◌, [], ℕ, List, length, slice_index_or, true, Err, IfOk, IfSome, IsOk, IsTrue, None, OnErr, OnOk};
 ghost use Rattle.trace_model.specs.declared.event_kinds.Event.{Event};
+ghost use Rattle.trace_model.specs.Observing.{with_steps};
 ghost use Rattle.trace_model.specs.Profile.{done, ended};
 ghost use Rattle.trace_model.specs.WellFormed.{IsWellFormed};
 ghost use Rattle.trace_order.specs.Progress.{is_of_one};
@@ -10,12 +11,12 @@ ghost use Rattle.guest_words.specs.declared.limits.TheConstants.{CONTEXTS};
 ghost use Rattle.context_tree.specs.Contexts.{context_begun, contexts};
 ghost use Rattle.context_tree.specs.Numbers.{numbered};
 ghost use Rattle.context_tree.specs.Order.{IsFollowedBy, IsInOrder};
-ghost use Rattle.context_tree.specs.Trees.{AreEnded, HasTooMany, IsShown, MayCome, TreeStandsFor, lives};
+ghost use Rattle.context_tree.specs.Trees.{AreEnded, HasTooMany, IsShown, MayCome, MayStepOn, TreeStandsFor, lives};
 
 use crate::TreeError;
 use crate::branches::Branches;
 use cost_points::{Point, Table};
-use guest_words::Addr;
+use guest_words::{Addr, Tid};
 use std::alloc::{AllocError, Global};
 use std::marker::Model;
 use trace_model::{Done, Event};
@@ -88,6 +89,17 @@ impl Tree {
         self.branches.apply(*event, ends)?;
         self.progress.pass(event);
         Ok(())
+    }
+
+    /// Takes steps of a thread in a row. They begin no context and end no activation, so none is refused.
+    #[inline(always)]
+    pub fn take_steps(&mut self, tid: Tid, count: u64)
+        requires some { 1 ≤ count }
+        requires next { MayStepOn self.old tid count }
+        ensures { (past : List Event) → TreeStandsFor self.old past
+            → TreeStandsFor self.new (with_steps tid count past) }
+    {
+        self.progress.pass_steps(tid, count);
     }
 
     /// How many contexts there are.

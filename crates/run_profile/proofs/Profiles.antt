@@ -139,11 +139,11 @@ done_steps : (tid n : ℕ) (past : List Event) → done past ≡ done (with_step
 done_steps tid zero past = refl
 done_steps tid (suc n) past = done_steps tid n past ∙ sym (append-nil (done (with_steps tid n past)))
 
-steps_more : (tid n : ℕ) (past : List Event) → steps (with_steps tid n past) ≡ steps past + n
+pub steps_more : (tid n : ℕ) (past : List Event) → steps (with_steps tid n past) ≡ steps past + n
 steps_more tid zero past = omega arith
 steps_more tid (suc n) past = omega (arith, steps_more tid n past)
 
-light_before : (tid n : ℕ) (past : List Event) → IsLight (with_steps tid n past) → IsLight past
+pub light_before : (tid n : ℕ) (past : List Event) → IsLight (with_steps tid n past) → IsLight past
 light_before tid zero past light = light
 light_before tid (suc n) past light = light_before tid n past (omega (arith, light))
 

@@ -1,13 +1,14 @@
 -- What the progress tells of a past.
-use Rattle.std.proofs.Common.{◌≡◌, ◌↔◌, ℕ, ◌+◌, ◌≤◌, Bool, false, List, ◌∷◌, All, refl, sym, ap, ◌∙◌, subst, arith}
+use Rattle.std.proofs.Common.{◌≡◌, ◌↔◌, ℕ, zero, suc, ◌+◌, ◌≤◌, Bool, false, List, ◌∷◌, All, refl, sym, ap, ◌∙◌, subst, arith}
 use Rattle.std.specs.Prelude.{Option, Some, None}
 use Rattle.std.specs.Option.{option_map_or}
 use Rattle.trace_model.specs.declared.event_kinds.Event.{Event}
 use Rattle.trace_model.specs.Events.{thread_of}
 use Rattle.trace_model.specs.declared.event_kinds.Event.TheVariants.{Step, Read, Write, Fill, Call, Ret, Start, End}
-use Rattle.trace_model.specs.WellFormed.{IsWellFormed, MayFollow, is_live, weight_of}
+use Rattle.trace_model.specs.Observing.{with_steps}
+use Rattle.trace_model.specs.WellFormed.{IsWellFormed, MayFollow, greatest_start, is_live, weight, weight_of}
 use Rattle.trace_order.specs.Order.{IsOrderOf, MayCome, OrderState, is_among, is_start, progress_of}
-use Rattle.trace_order.specs.Progress.{Allows, IsAllowed, IsProgressOf, ProgressState, is_of_one, passed}
+use Rattle.trace_order.specs.Progress.{Allows, IsAllowed, IsProgressOf, ProgressState, is_of_one, passed, passed_steps}
 
 follows : (e : Event) (lives : Bool) (p : ProgressState) (past : List Event) → IsProgressOf p past → lives ≡ is_of_one (is_live past) e → Allows e lives p ↔ MayFollow e past
 follows (Step tid) lives p past of is = (λ h. sym is ∙ h, λ h. is ∙ h)
@@ -48,6 +49,24 @@ passes (Call tid entry back) p past of formed = record { last = of.last; greates
 passes (Ret tid target) p past of formed = record { last = of.last; greatest = of.greatest; weight = omega (arith, of.weight); formed = formed }
 passes (Start tid entry) p past of formed = record { last = of.last; greatest = omega (arith, formed.0); weight = omega (arith, of.weight); formed = formed }
 passes (End tid) p past of formed = record { last = of.last; greatest = of.greatest; weight = omega (arith, of.weight); formed = formed }
+
+-- ---- steps of a thread in a row
+pub heavier : (t n : ℕ) (past : List Event) → weight (with_steps t n past) ≡ weight past + n
+heavier t zero past = omega arith
+heavier t (suc n) past = omega (arith, heavier t n past)
+
+greatest_same : (t n : ℕ) (past : List Event) → greatest_start (with_steps t n past) ≡ greatest_start past
+greatest_same t zero past = refl
+greatest_same t (suc n) past = greatest_same t n past
+
+pub passes_steps : (t n : ℕ) (p : ProgressState) (past : List Event) → 1 ≤ n → IsProgressOf p past → IsWellFormed (with_steps t n past) → IsProgressOf (passed_steps t n p) (with_steps t n past)
+passes_steps t zero p past some of formed = absurd (omega (arith, some))
+passes_steps t (suc n) p past some of formed = record {
+  last = refl;
+  greatest = of.greatest ∙ sym (greatest_same t (suc n) past);
+  weight = omega (arith, of.weight, heavier t (suc n) past);
+  formed = formed;
+}
 
 -- ---- what is so of the progress with one more event
 pub weighs : (e : Event) (p : ProgressState) → (passed e p).weight ≡ p.weight + weight_of e

@@ -44,3 +44,7 @@ abbrev pub passed : Event → ProgressState → ProgressState
 passed (Step tid) p = record { last = Some tid; greatest = p.greatest; weight = p.weight + 1 }
 passed (Start tid _) p = record { last = p.last; greatest = tid; weight = p.weight + 1 }
 passed e p = record { last = p.last; greatest = p.greatest; weight = p.weight + weight_of e }
+
+-- and with steps of a thread in a row
+abbrev pub passed_steps : ℕ → ℕ → ProgressState → ProgressState
+passed_steps tid count p = record { last = Some tid; greatest = p.greatest; weight = p.weight + count }

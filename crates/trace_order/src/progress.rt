@@ -4,7 +4,8 @@ ghost use Rattle.guest_words.specs.declared.limits.TheConstants.{TRACE_WEIGHT};
 ghost use Rattle.trace_model.specs.declared.event_kinds.Event.{Event};
 ghost use Rattle.trace_model.specs.Events.{thread_of};
 ghost use Rattle.trace_model.specs.WellFormed.{AreWords, IsWellFormed, is_live, weight_of};
-ghost use Rattle.trace_order.specs.Progress.{Allows, IsAllowed, IsProgressOf, is_of_one, passed};
+ghost use Rattle.trace_model.specs.Observing.{with_steps};
+ghost use Rattle.trace_order.specs.Progress.{Allows, IsAllowed, IsProgressOf, is_of_one, passed, passed_steps};
 
 use guest_words::limits::TRACE_WEIGHT;
 use guest_words::{Tid, Word};
@@ -123,5 +124,19 @@ impl Progress {
             _ => {}
         }
         self.weight += weight_of(e);
+    }
+
+    /// Goes on by steps of a thread in a row, which may come next.
+    #[inline(always)]
+    pub fn pass_steps(&mut self, tid: Tid, count: u64)
+        requires some { 1 ≤ count }
+        requires light { self.old.weight + count < TRACE_WEIGHT }
+        ensures value { self.new ≡ passed_steps tid count self.old }
+        ensures stands { (past : List Event) → IsProgressOf self.old past
+            → IsWellFormed (with_steps tid count past)
+            → IsProgressOf self.new (with_steps tid count past) }
+    {
+        self.last = Some(tid);
+        self.weight += count;
     }
 }
