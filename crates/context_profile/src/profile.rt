@@ -68,6 +68,7 @@ fn grow(tree: &mut Option<Tree>, e: Event, ends: &[Done]) -> Result<(), AllocErr
 }
 
 // Takes steps of a thread in a row into the tree, if there still is one.
+#[tactic(auto, using(crate::proofs::Observed::still_many))]
 #[inline(always)]
 fn grow_by_steps(tree: &mut Option<Tree>, tid: Tid, count: u64)
     requires some { 1 ≤ count }
