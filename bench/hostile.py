@@ -1,7 +1,8 @@
 #!/usr/bin/env python3
 """bench/hostile.py PROGRAM: executables that are made to cost much, each with the time and the most memory that it took:
-65534 load headers; 400000 symbols of as many values, whose names are long and overlap in a string table of 1 MiB; and a routine
-of 100000 sizes that fall one by one. Of the last, the host's instructions for one of the guest's are counted too, on shorter runs."""
+65534 load headers; 400000 symbols of as many values, whose names are long and overlap in a string table of 1 MiB; a routine of
+100000 sizes that fall one by one; and 100000 routines that are called from the highest address down. Of the last two, the host's
+instructions for one of the guest's are counted too, on shorter runs."""
 import os
 import pathlib
 import struct
@@ -11,7 +12,7 @@ import tempfile
 import time
 
 import run
-from guests import EXIT, RETURN, addi, branch, image, jal, lw, number, sw
+from guests import BASE, EXIT, HEADERS, RETURN, addi, branch, image, jal, jalr, lw, number, sw
 
 TOP = pathlib.Path(__file__).resolve().parent.parent
 
@@ -55,12 +56,20 @@ def falling(levels):
     return image(begin + down + back + leaf)
 
 
-def count_falling():
-    """Host instructions for one of the guest's, as the levels grow."""
-    for levels in (2500, 5000):
+def routines(count):
+    """Routines of one instruction, called from the highest address down, so that each comes before all that were called."""
+    loop = [jalr(1, 8), addi(8, 8, -4), branch(1, 8, 9, -8)]
+    size = 4 + len(loop) + len(EXIT)
+    first = BASE + HEADERS + 4 * size
+    return image(number(8, first + 4 * (count - 1)) + number(9, first - 4) + loop + EXIT + [RETURN] * count)
+
+
+def count_host(name, guest):
+    """Host instructions for one of the guest's, as the guest grows."""
+    for size in (2500, 5000):
         with tempfile.TemporaryDirectory() as folder:
-            (few, less), (many, more) = (run.host(falling(count), folder, []) for count in (levels, 2 * levels))
-        print(f"from {levels} to {2 * levels} falling sizes: {(more - less) / (many - few):.0f} host instructions a step")
+            (few, less), (many, more) = (run.host(guest(count), folder, []) for count in (size, 2 * size))
+        print(f"from {size} to {2 * size} {name}: {(more - less) / (many - few):.0f} host instructions a step")
 
 
 def measure(program, name, image):
@@ -81,8 +90,10 @@ def main():
     measure(program, "65534 headers", headers())
     measure(program, "400000 symbols", symbols(400_000))
     measure(program, "100000 falling sizes", falling(100_000))
+    measure(program, "100000 falling routines", routines(100_000))
     run.PROGRAM = program
-    count_falling()
+    count_host("falling sizes", falling)
+    count_host("falling routines", routines)
 
 
 main()
