@@ -2,6 +2,7 @@
 ghost use Rattle.std.specs.Prelude.{◌≡◌, ◌≢◌, ◌≤◌, ◌+◌, true, IfOk, OnErr, slice_index};
 ghost use Rattle.guest_memory.specs.Guest.{memory_of};
 ghost use Rattle.guest_calls.specs.declared.answer.Answer.TheVariants.{Back};
+ghost use Rattle.guest_calls.specs.declared.numbers.TheConstants.{NR_WRITE, NR_WRITEV};
 ghost use Rattle.guest_calls.specs.Kernel.{can_run};
 ghost use Rattle.guest_calls.specs.Outcome.{asked, Does, IsUntouched};
 ghost use Rattle.guest_calls.specs.Pages.{IsBreakFree};
