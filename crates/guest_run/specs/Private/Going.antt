@@ -13,8 +13,8 @@ use Rattle.guest_machine.specs.Laws.{IsWithinLimits, MachineStandsFor}
 use Rattle.guest_machine.specs.Machine.{MachineState}
 use Rattle.guest_machine.specs.Running.{after_steps}
 use Rattle.guest_run.specs.declared.run.Runner.{Runner}
-use Rattle.core.specs.declared.ops.ControlFlow.{ControlFlow}
-use Rattle.core.specs.declared.ops.ControlFlow.TheVariants.{Continue, Break}
+use Rattle.std.specs.declared.ops.ControlFlow.{ControlFlow}
+use Rattle.std.specs.declared.ops.ControlFlow.TheVariants.{Continue, Break}
 use Rattle.guest_run.specs.declared.run_error.RunError.{RunError}
 use Rattle.guest_run.specs.declared.run_error.RunError.TheVariants.{CannotPut, Memory}
 use Rattle.guest_run.specs.declared.turns.CurrentTurn.{CurrentTurn}
