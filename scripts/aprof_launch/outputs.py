@@ -78,8 +78,22 @@ def is_stdout(path: str) -> bool:
 
 def notes(read: Words) -> list[str]:
     """What is told before a run that is not refused."""
-    is_dash = read.values.get("-o") == "-" and os.environ.get("APROF_HINTS") != "0"
-    return ["aprof: `-o -` is a file of that name; /dev/stdout is standard output"] if is_dash else []
+    if os.environ.get("APROF_HINTS") == "0":
+        return []
+    is_dash = read.values.get("-o") == "-"
+    told = ["aprof: `-o -` is a file of that name; /dev/stdout is standard output"] if is_dash else []
+    return told + (["aprof: the program does not read `< FILE`; --stdin FILE gives it the file"] if is_unread_input(read) else [])
+
+
+def is_unread_input(read: Words) -> bool:
+    """Whether standard input is a file with something left in it, and the program could read it but is not told to."""
+    if read.command is None or read.command.option("--stdin") is None or "--stdin" in read.values:
+        return False
+    try:
+        own = os.fstat(0)
+        return stat.S_ISREG(own.st_mode) and own.st_size > os.lseek(0, 0, os.SEEK_CUR)
+    except OSError:
+        return False
 
 
 def has_trace_end(data: bytes) -> bool:

@@ -18,6 +18,17 @@ class Runs(Launched):
     def test_standard_input(self) -> None:
         self.assertIn("what is read", self.run_words("run -o r bubble", FAKE_READ="1").stdout)
 
+    def test_unread_input(self) -> None:
+        """A file behind `<` is not what the program reads, which is said before the run."""
+        note = "aprof: the program does not read `< FILE`; --stdin FILE gives it the file\n"
+        cases = [("run -o r bubble", "text", note), ("run --stdin text -o r bubble", "text", ""), ("replay -o r trace", "text", ""),
+                 ("run -o r bubble", "/dev/null", "")]  # fmt: skip
+        (self.folder / "trace").write_text("aprof trace 1\n")
+        for words, path, told in cases:
+            with open(self.folder / path, "rb") as file:
+                done = subprocess.run([str(self.launcher), *words.split()], cwd=self.folder, stdin=file, capture_output=True, text=True)
+            self.assertEqual((done.returncode, done.stderr), (0, told), words)
+
     def test_installed(self) -> None:
         """Where there are no crates the program stands in bin/, and nothing is built."""
         (self.top / "bin").mkdir()
