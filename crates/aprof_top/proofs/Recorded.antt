@@ -28,8 +28,8 @@ use Rattle.aprof_top.specs.declared.ending.Verdict.{Verdict}
 use Rattle.aprof_top.specs.Delivery.{StoreFails}
 use Rattle.aprof_top.specs.Private.Ending.{of_store}
 use Rattle.aprof_top.specs.Private.Jobs.{Desk, RunIsStored, desk}
-use Rattle.context_profile.specs.Kept.{IsPastNumbers}
 use Rattle.context_tree.specs.Contexts.{contexts}
+use Rattle.run_profile.specs.Contexts.{IsPastNumbers}
 use Rattle.aprof_top.specs.ContextReports.{can_be_numbered}
 use Rattle.aprof_top.specs.Outcome.{Left, Outcome, one_file, run_outcome}
 use Rattle.aprof_top.specs.Traces.{is_storable, named_entries}

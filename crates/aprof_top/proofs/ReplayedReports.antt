@@ -16,7 +16,7 @@ use Rattle.guest_run.specs.Run.{recording}
 use Rattle.guest_run.specs.Traces.{TellsInRange}
 use Rattle.guest_run.proofs.Ranges.{every_run_in_range}
 use Rattle.profile_report.specs.ReportText.{report_text}
-use Rattle.shadow_core.specs.Counting.{renumberings}
+use Rattle.stamp_table.specs.Counting.{renumberings}
 use Rattle.stamps.specs.declared.width.StampBits.{StampBits}
 use Rattle.stamps.specs.declared.width.StampBits.TheVariants.{B8, B16, B32}
 use Rattle.stamps.specs.Widths.{greatest}

@@ -22,7 +22,7 @@ use Rattle.trace_model.specs.declared.event_kinds.Event.{Event}
 use Rattle.trace_model.specs.Cut.{cut}
 use Rattle.trace_model.specs.Depth.{is_within}
 use Rattle.profile_report.specs.ReportText.{report_text}
-use Rattle.shadow_core.specs.Counting.{renumberings}
+use Rattle.stamp_table.specs.Counting.{renumberings}
 use Rattle.stamps.specs.declared.width.StampBits.{StampBits}
 use Rattle.stamps.specs.declared.width.StampBits.TheVariants.{B32}
 use Rattle.stamps.specs.Widths.{greatest}

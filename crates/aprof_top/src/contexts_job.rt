@@ -1,10 +1,10 @@
 //! The command `contexts`: a guest's output, and the report of its run with its calling contexts.
-ghost use Rattle.std.specs.Prelude.{◌≡◌, ℕ, List, true, IfOk, ◌≤◌};
+ghost use Rattle.std.specs.Prelude.{◌≡◌, ℕ, List, true, IfOk};
 ghost use Rattle.command_line.specs.Options.Analysis.{Contexts};
 ghost use Rattle.command_line.specs.Read.{AreInRange, guest_in};
-ghost use Rattle.context_profile.specs.Kept.{AreTotalsOf};
 ghost use Rattle.guest_run.specs.ObservedRun.{ObservedRun};
 ghost use Rattle.host_io.specs.Sink.{SinkState};
+ghost use Rattle.run_profile.specs.Contexts.{AreContextTotalsOf};
 ghost use Rattle.stamps.specs.declared.width.StampBits.{StampBits};
 ghost use Rattle.trace_model.specs.declared.event_kinds.Event.{Event};
 ghost use Rattle.aprof_top.specs.ContextReports.{can_be_numbered, contexts_report};
@@ -17,17 +17,17 @@ ghost use Rattle.guest_run.specs.Output.{sinks};
 
 use crate::delivery::store_result;
 use crate::ending::{Ending, Verdict};
-use crate::guest_job::{GuestFiles, run_image};
+use crate::guest_job::GuestFiles;
 use crate::preparation::Prepared;
+use crate::profiled_run::{KeptRun, keep_run};
 use crate::report::report_of;
 use command_line::GuestOptions;
-use context_profile::{ContextProfile, ContextTotals};
 use context_report::push_contexts;
 use elf_image::Image;
 use guest_words::Finish;
 use host_io::{Files, Sink};
 use profile_report::write_report;
-use stamp_lanes::Lanes;
+use run_profile::{ContextTotals, Contexts};
 use stamps::StampBits;
 use std::alloc::{AllocError, Global};
 
@@ -36,30 +36,6 @@ use std::alloc::{AllocError, Global};
 pub(crate) struct ContextsRun {
     pub(crate) contexts: Option<ContextTotals>,
     pub(crate) finish: Finish,
-}
-
-// Runs an executable, and tells its contexts apart by stamps of one width.
-fn contexts_by<S: Lanes, O: Sink, E: Sink>(
-    alloc: Global,
-    options: &GuestOptions<'_>,
-    image: &Image,
-    files: GuestFiles,
-    out: &mut O,
-    err: &mut E,
-) -> Result<ContextsRun, Ending>
-    requires range { AreInRange (guest_in options.now) }
-    requires stamps { 6 ≤ S.MAX }
-    ensures { GuestIsRun (HasContexts S.MAX) (is_within S.MAX)
-        (guest_in options.now) image.now files
-        (sinks (O.state out.old) (E.state err.old)) (sinks (O.state out.new) (E.state err.new)) result }
-{
-    let mut profile = ContextProfile::<S>::new(alloc)?;
-    let ended = run_image(alloc, options, image, files, &mut profile, out, err)?;
-    let contexts = profile.into_totals(alloc)?;
-    Ok(ContextsRun {
-        contexts,
-        finish: ended.finish,
-    })
 }
 
 // Runs an executable, and tells its contexts apart by stamps of the width.
@@ -77,11 +53,18 @@ fn contexts_of_run<O: Sink, E: Sink>(
         (guest_in options.now) image.now files
         (sinks (O.state out.old) (E.state err.old)) (sinks (O.state out.new) (E.state err.new)) result }
 {
-    match bits {
-        StampBits::B8 => contexts_by::<u8, O, E>(alloc, options, image, files, out, err),
-        StampBits::B16 => contexts_by::<u16, O, E>(alloc, options, image, files, out, err),
-        StampBits::B32 => contexts_by::<u32, O, E>(alloc, options, image, files, out, err),
-    }
+    let none = Contexts::new(alloc)?;
+    let run = keep_run(alloc, bits, options, image, files, none, out, err)?;
+    let KeptRun {
+        kept,
+        counts,
+        ended,
+    } = run;
+    let contexts = kept.into_totals(alloc, counts)?;
+    Ok(ContextsRun {
+        contexts,
+        finish: ended.finish,
+    })
 }
 
 // The text of a report, and behind it the contexts.
@@ -91,11 +74,11 @@ fn contexts_report(
     contexts: &ContextTotals,
     finish: &Finish,
 ) -> Result<Vec<u8>, AllocError>
-    requires { (most : ℕ) × ((past : List Event) × AreTotalsOf most contexts.now past) }
+    requires { (most : ℕ) × ((past : List Event) × AreContextTotalsOf most contexts.now past) }
     ensures few { IfOk result (λ text. (most : ℕ) (past : List Event)
-        → AreTotalsOf most contexts.now past → can_be_numbered past ≡ true) }
+        → AreContextTotalsOf most contexts.now past → can_be_numbered past ≡ true) }
     ensures text { IfOk result (λ text. (most : ℕ) (seen : ObservedRun)
-        → AreTotalsOf most contexts.now seen.past → finish.now ≡ seen.finish
+        → AreContextTotalsOf most contexts.now seen.past → finish.now ≡ seen.finish
         → text.items ≡ contexts_report image.now seen) }
 {
     let report = report_of(alloc, image, &contexts.totals, *finish)?;

@@ -91,7 +91,7 @@ fn deliver_replay<F: Files, E: Sink>(
         RunIsStored (replay_outcome (replay_in command.now) replayed.names.items replayed.finish is.past)
         (desk (F.state files.old) (E.state err.old)) (desk (F.state files.new) (E.state err.new)) result }
 {
-    let renumbered = replayed.totals.renumbered;
+    let renumbered = replayed.totals.counts.renumbered;
     let stores = replay_stores(alloc, command.report, command.bits, replayed)?;
     store_all(stores.as_slice(), files)?;
     put_stats(alloc, command.stats, renumbered, err)?;

@@ -66,8 +66,8 @@ pub(crate) fn report_of<N: RoutineNames>(
     Ok(Report {
         version: ReportVersion::Two,
         finish,
-        steps: totals.steps,
-        pending: totals.pending,
+        steps: totals.counts.steps,
+        pending: totals.counts.pending,
         routines,
     })
 }

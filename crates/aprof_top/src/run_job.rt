@@ -77,7 +77,7 @@ fn deliver_run<F: Files, E: Sink>(
 {
     let stores = run_stores(alloc, path, options, image, run)?;
     store_all(stores.as_slice(), files)?;
-    put_stats(alloc, options.stats, run.totals.renumbered, err)?;
+    put_stats(alloc, options.stats, run.totals.counts.renumbered, err)?;
     Ok(Verdict::Ran(run.ended.finish))
 }
 

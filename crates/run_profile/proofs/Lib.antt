@@ -1,1 +1,3 @@
 pub mod Profiles
+mod Points
+mod Contexts

@@ -1,1 +1,4 @@
+pub mod Contexts
+pub mod Keeping
+pub mod Points
 pub mod Profile

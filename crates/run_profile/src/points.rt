@@ -1,33 +1,104 @@
-//! The points of activations that ended.
-ghost use Rattle.std.specs.Prelude.{◌≡◌, ◌≤◌, ◌<◌, ◌+◌, ◌^◌, ◌++◌, List, length, take, OnOk};
+//! The points of the activations that ended.
+ghost use Rattle.std.specs.Prelude.{◌≡◌, ◌≤◌, ◌<◌, ◌+◌, ◌^◌, ◌++◌, [], ℕ, List, length, take, IfOk, OnOk};
 ghost use Rattle.std.specs.List.{All};
+ghost use Rattle.trace_model.specs.declared.event_kinds.Event.{Event};
 ghost use Rattle.trace_model.specs.declared.slow_profile.Done.{Done};
 ghost use Rattle.trace_model.specs.Profile.{HasParts};
 ghost use Rattle.cost_points.specs.Contents.{contents_of};
+ghost use Rattle.run_profile.specs.Points.{HoldsPoints};
+ghost use Rattle.run_profile.specs.Profile.{AreCountsOf, AreTotalsOf};
 
+use crate::{Counts, Keeper, Totals};
 use cost_points::Table;
-use std::alloc::AllocError;
-use trace_model::Done;
+use guest_words::Tid;
+use std::alloc::{AllocError, Global};
+use std::marker::Model;
+use trace_model::{Done, Event};
 
-/// Adds activations that ended to the points, those from the place `added` on. An `Err` has added some of them.
+/// The points of the activations that ended, by routine and size.
+#[derive(Drop)]
+pub struct Points {
+    table: Table,
+    // How many of the activations that ended last are in the table.
+    added: usize,
+}
+
+impl Model for Points {
+    ghost use Rattle.run_profile.specs.Points.{KeptPoints};
+
+    ghost Value = { KeptPoints };
+
+    ghost view = { λ p. record { table = p.table; added = p.added } };
+}
+
+// Adds activations that ended to the points, those from the place `added` on. An `Err` has added some of them.
 #[inline(always)]
-pub(crate) fn add_ended(
-    points: &mut Table,
-    ended: &[Done],
-    added: &mut usize,
-) -> Result<(), AllocError>
-    requires few { points.old.members + length ended.now < 2 ^ 63 }
-    requires parts { All HasParts ended.now }
-    requires inside { added.old ≤ length ended.now }
-    ensures points { (earlier : List Done) → points.old
-        ≡ contents_of (earlier ++ take added.old ended.now)
-        → points.new ≡ contents_of (earlier ++ take added.new ended.now) }
-    ensures inside { added.new ≤ length ended.now }
-    ensures all { OnOk result (added.new ≡ length ended.now) }
+fn add_ended(table: &mut Table, ends: &[Done], added: &mut usize) -> Result<(), AllocError>
+    requires few { table.old.members + length ends.now < 2 ^ 63 }
+    requires parts { All HasParts ends.now }
+    requires inside { added.old ≤ length ends.now }
+    ensures points { (earlier : List Done) → table.old
+        ≡ contents_of (earlier ++ take added.old ends.now)
+        → table.new ≡ contents_of (earlier ++ take added.new ends.now) }
+    ensures inside { added.new ≤ length ends.now }
+    ensures all { OnOk result (added.new ≡ length ends.now) }
 {
-    while *added < ended.len() {
-        points.add_ended(&ended[*added])?;
+    while *added < ends.len() {
+        table.add_ended(&ends[*added])?;
         *added += 1;
     }
     Ok(())
+}
+
+impl Points {
+    /// No activation ended so far.
+    pub fn new(alloc: Global) -> Result<Points, AllocError>
+        ensures { IfOk result (λ points. HoldsPoints points [] []) }
+    {
+        Ok(Points {
+            table: Table::new(alloc)?,
+            added: 0,
+        })
+    }
+
+    /// The totals of a run with these counts.
+    pub fn into_totals(self, counts: Counts) -> Totals
+        ensures { (most : ℕ) (past : List Event) → HoldsPoints self past [] → AreCountsOf most counts past
+            → AreTotalsOf most result past }
+    {
+        Totals {
+            points: self.table,
+            counts,
+        }
+    }
+}
+
+impl Keeper for Points {
+    ghost use Rattle.run_profile.specs.Points.{HoldsPoints};
+    ghost use Rattle.run_profile.proofs.Points.{points_begin};
+
+    ghost holds = { HoldsPoints };
+
+    ghost begins = { points_begin };
+
+    ghost is_too_much = { λ past. ⊥ };
+
+    // An event that ends no activation changes no point.
+    #[inline(always)]
+    fn pass(&mut self, e: &Event, ends: &[Done]) -> bool {
+        let _ = e;
+        ends.is_empty()
+    }
+
+    fn take(&mut self, e: Event, ends: &[Done]) -> Result<(), AllocError> {
+        let _ = e;
+        add_ended(&mut self.table, ends, &mut self.added)?;
+        self.added = 0;
+        Ok(())
+    }
+
+    #[inline(always)]
+    fn take_steps(&mut self, tid: Tid, count: u64) {
+        let _ = (tid, count);
+    }
 }

@@ -1,12 +1,13 @@
 //! The profile of a run that goes on.
-ghost use Rattle.std.specs.Prelude.{◌≡◌, ◌≤◌, ◌∷◌, [], List, IfOk, IsOk, OnOk};
+ghost use Rattle.std.specs.Prelude.{◌≡◌, ◌≤◌, ◌∷◌, [], List, None, false, Ok, IfOk, IsOk, OnErr, OnOk};
 ghost use Rattle.trace_model.specs.declared.event_kinds.Event.{Event};
-ghost use Rattle.trace_model.specs.Profile.{steps};
-ghost use Rattle.run_profile.specs.Profile.{AreTotalsOf, IsOfLight, IsProfileOf};
+ghost use Rattle.trace_model.specs.declared.observer.Observed.{Observed};
+ghost use Rattle.trace_model.specs.Depth.{is_within};
+ghost use Rattle.trace_model.specs.Observing.{MayStepBy, MayTake, Observes, StandsAsBefore, StepsBy};
+ghost use Rattle.trace_model.specs.Profile.{ended, steps};
+ghost use Rattle.run_profile.specs.Profile.{AreCountsOf, IsOfFormed, IsProfileOf};
 
-use crate::Totals;
-use crate::points::add_ended;
-use cost_points::Table;
+use crate::{Counts, Keeper};
 use guest_words::Tid;
 use shadow_core::{ApplyError, Profiler};
 use stamp_lanes::Lanes;
@@ -14,35 +15,36 @@ use std::alloc::{AllocError, Global};
 use std::marker::Model;
 use trace_model::{Done, Event, Observed, Observer};
 
-/// The profile of the events so far, by stamps of a width. It takes all pasts whose open activations the stamps tell apart.
+/// The profile of the events so far, by stamps of a width, with what a keeper keeps of the activations that ended. It takes all
+/// pasts whose open activations the stamps tell apart.
 #[derive(Drop)]
-pub struct Profile<S: Lanes> {
+pub struct Profile<S: Lanes, K: Keeper> {
     profiler: Profiler<S>,
-    points: Table,
-    // What ended at the last event, of which the first `added` are among the points: an event that was taken is not refused
-    // for lack of a point.
+    kept: K,
+    // The newest event, where the keeper is still to take it, and what ended at it: an event that was taken is not refused for
+    // lack of a point or a context.
+    next: Option<Event>,
     ended: Vec<Done>,
-    added: usize,
     steps: u64,
 }
 
-impl<S: Lanes> Model for Profile<S> {
+impl<S: Lanes, K: Keeper> Model for Profile<S, K> {
     ghost use Rattle.run_profile.specs.Profile.{KeptRun};
 
-    ghost Value = { KeptRun };
+    ghost Value = { KeptRun K };
 
     ghost view = { λ p. record {
       stamps = p.profiler;
-      points = p.points;
+      kept = p.kept;
+      next = p.next;
       ended = p.ended.items;
-      added = p.added;
       steps = p.steps;
     } };
 }
 
-/// How many steps the event is.
+// How many steps the event is.
 #[inline(always)]
-pub fn steps_of(e: &Event) -> u64
+fn steps_of(e: &Event) -> u64
     ensures { result ≡ steps (e.now ∷ []) }
 {
     match *e {
@@ -51,77 +53,74 @@ pub fn steps_of(e: &Event) -> u64
     }
 }
 
-impl<S: Lanes> Profile<S> {
-    /// No event so far.
-    pub fn new(alloc: Global) -> Result<Profile<S>, AllocError>
-        requires { 3 ≤ S.MAX }
-        ensures { IfOk result (λ profile. IsProfileOf S.MAX profile []) }
+impl<S: Lanes, K: Keeper> Profile<S, K> {
+    /// No event so far; `kept` is a keeper that took none.
+    pub fn new(alloc: Global, kept: K) -> Result<Profile<S, K>, AllocError>
+        requires stamps { 3 ≤ S.MAX }
+        requires nothing { K.holds kept [] [] }
+        ensures { IfOk result (λ profile. IsProfileOf S.MAX K.holds profile []) }
     {
         Ok(Profile {
             profiler: Profiler::new(alloc)?,
-            points: Table::new(alloc)?,
+            kept,
+            next: None,
             ended: Vec::new(alloc),
-            added: 0,
             steps: 0,
         })
     }
 
-    // Adds what ended last to the points, where anything did.
+    // Hands the newest event to the keeper, where that is still to take it.
     #[inline(always)]
     fn settle(&mut self) -> Result<(), AllocError>
-        requires { IsOfLight S.MAX self.old }
-        ensures stands { (past : List Event) → IsProfileOf S.MAX self.old past
-            → IsProfileOf S.MAX self.new past }
-        ensures settled { OnOk result (self.new.ended ≡ []) }
-        ensures no_allocation { self.old.ended ≡ [] → IsOk result }
+        requires { IsOfFormed S.MAX K.holds self.old }
+        ensures stands { (past : List Event) → IsProfileOf S.MAX K.holds self.old past
+            → IsProfileOf S.MAX K.holds self.new past }
+        ensures settled { OnOk result (self.new.next ≡ None) }
+        ensures no_allocation { (past : List Event) → IsProfileOf S.MAX K.holds self.old past
+            → K.is_too_much past → IsOk result }
+        ensures nothing { self.old.next ≡ None → IsOk result }
     {
-        if self.ended.is_empty() {
-            return Ok(());
+        if let Some(e) = self.next {
+            self.kept.take(e, &self.ended)?;
+            self.ended.clear();
+            self.next = None;
         }
-        self.settle_ended()
-    }
-
-    // Adds what ended last to the points.
-    #[inline(never)]
-    fn settle_ended(&mut self) -> Result<(), AllocError>
-        requires { IsOfLight S.MAX self.old }
-        ensures stands { (past : List Event) → IsProfileOf S.MAX self.old past
-            → IsProfileOf S.MAX self.new past }
-        ensures settled { OnOk result (self.new.ended ≡ []) }
-    {
-        add_ended(&mut self.points, &self.ended, &mut self.added)?;
-        self.ended.clear();
-        self.added = 0;
         Ok(())
     }
 
-    /// The totals of the run.
-    pub fn into_totals(self) -> Result<Totals, AllocError>
-        requires { IsOfLight S.MAX self }
-        ensures { IfOk result (λ totals. (past : List Event) → IsProfileOf S.MAX self past
-            → AreTotalsOf S.MAX totals past) }
+    /// What was kept of the run, and what was counted.
+    pub fn into_kept(self) -> Result<(K, Counts), AllocError>
+        requires { IsOfFormed S.MAX K.holds self }
+        ensures kept { IfOk result (λ parts. (past : List Event) → IsProfileOf S.MAX K.holds self past
+            → K.holds parts.0 past []) }
+        ensures counts { IfOk result (λ parts. (past : List Event) → IsProfileOf S.MAX K.holds self past
+            → AreCountsOf S.MAX parts.1 past) }
+        ensures no_allocation { (past : List Event) → IsProfileOf S.MAX K.holds self past
+            → K.is_too_much past → IsOk result }
     {
         let mut profile = self;
         profile.settle()?;
-        Ok(Totals {
-            pending: profile.profiler.pending(),
-            renumbered: profile.profiler.renumbered(),
-            steps: profile.steps,
-            points: profile.points,
-        })
+        let Profile {
+            profiler,
+            kept,
+            steps,
+            ..
+        } = profile;
+        let counts = Counts {
+            steps,
+            pending: profiler.pending(),
+            renumbered: profiler.renumbered(),
+        };
+        Ok((kept, counts))
     }
 }
 
-impl<S: Lanes> Observer for Profile<S> {
-    ghost use Rattle.std.specs.Prelude.{true, ◌≤◌, Ok, OnErr, OnOk};
-    ghost use Rattle.shadow_core.specs.Applying.{is_too_deep};
+impl<S: Lanes, K: Keeper> Observer for Profile<S, K> {
     ghost use Rattle.trace_model.specs.Depth.{is_within};
-    ghost use Rattle.trace_model.specs.Profile.{ended};
-    ghost use Rattle.trace_model.specs.Observing.{MayStepBy, MayTake, Observes, StandsAsBefore, StepsBy};
     ghost use Rattle.trace_model.proofs.Cut.{steps_within, within_closed};
     ghost use Rattle.run_profile.specs.Profile.{IsProfileOf};
 
-    ghost stands = { IsProfileOf S.MAX };
+    ghost stands = { IsProfileOf S.MAX K.holds };
 
     ghost fits = { λ _. is_within S.MAX };
 
@@ -129,20 +128,27 @@ impl<S: Lanes> Observer for Profile<S> {
 
     ghost steps_fit = { λ _. steps_within S.MAX };
 
+    // What is too deep is refused without allocating.
     #[inline(always)]
     fn observe(&mut self, e: Event) -> Result<Observed, AllocError>
-        requires { MayTake (IsProfileOf S.MAX) self.old e }
-        ensures observed { IfOk result (Observes (IsProfileOf S.MAX) (is_within S.MAX) e self.old self.new) }
-        ensures refused { OnErr result (StandsAsBefore (IsProfileOf S.MAX) self.old self.new) }
-        ensures deep { (past : List Event) → IsProfileOf S.MAX self.old past → self.old.ended ≡ []
-            → is_too_deep S.MAX e past ≡ true → result ≡ Ok Observed.Refused }
-        ensures last { (past : List Event) → IsProfileOf S.MAX self.old past
+        requires { MayTake (IsProfileOf S.MAX K.holds) self.old e }
+        ensures observed { IfOk result (Observes (IsProfileOf S.MAX K.holds) (is_within S.MAX) e self.old self.new) }
+        ensures refused { OnErr result (StandsAsBefore (IsProfileOf S.MAX K.holds) self.old self.new) }
+        ensures too_deep { (past : List Event) → IsProfileOf S.MAX K.holds self.old past
+            → is_within S.MAX (e ∷ past) ≡ false → result ≡ Ok Observed.Refused }
+        ensures last { (past : List Event) → IsProfileOf S.MAX K.holds self.old past
             → IfOk result (λ observed. observed ≡ Observed.Taken → self.new.ended ≡ ended e past) }
     {
+        if self.profiler.is_too_deep(&e) {
+            return Ok(Observed::Refused);
+        }
         self.settle()?;
         match self.profiler.apply(e, &mut self.ended) {
             Ok(()) => {
                 self.steps += steps_of(&e);
+                if !self.kept.pass(&e, &self.ended) {
+                    self.next = Some(e);
+                }
                 Ok(Observed::Taken)
             }
             Err(ApplyError::TooDeep { .. }) => Ok(Observed::Refused),
@@ -152,12 +158,13 @@ impl<S: Lanes> Observer for Profile<S> {
 
     #[inline(always)]
     fn observe_steps(&mut self, tid: Tid, count: u64) -> Result<(), AllocError>
-        requires may { MayStepBy (IsProfileOf S.MAX) (is_within S.MAX) self.old tid count }
+        requires may { MayStepBy (IsProfileOf S.MAX K.holds) (is_within S.MAX) self.old tid count }
         requires some { 1 ≤ count }
-        ensures stepped { OnOk result (StepsBy (IsProfileOf S.MAX) (is_within S.MAX) tid count self.old self.new) }
+        ensures stepped { OnOk result (StepsBy (IsProfileOf S.MAX K.holds) (is_within S.MAX) tid count self.old self.new) }
     {
         self.settle()?;
         self.profiler.take_steps(tid, count);
+        self.kept.take_steps(tid, count);
         self.steps += count;
         Ok(())
     }

@@ -6,10 +6,10 @@ use Rattle.trace_model.specs.declared.event_kinds.Event.TheVariants.{Fill, Write
 use Rattle.shadow_pages.specs.Pages.{Page, stamp_at}
 use Rattle.call_tracker.specs.ThreadCalls.{Calls, no_counts}
 use Rattle.stamp_renumber.specs.Threads.{Live, Stamped, calls_of, frames_of, pages_of, stamped}
-use Rattle.shadow_core.specs.Renewal.{bounded_tick}
-use Rattle.shadow_core.specs.Ticks.{table_after}
+use Rattle.stamp_table.specs.Renewal.{bounded_tick}
+use Rattle.stamp_table.specs.Ticks.{table_after}
 use Rattle.shadow_core.specs.State.{State, table_of_state}
-use Rattle.shadow_core.specs.StateRows.{AreStamped, Has}
+use Rattle.shadow_core.specs.Private.StateRows.{AreStamped, Has}
 use Rattle.shadow_core.specs.Private.Reading.{IsChanged}
 use Rattle.shadow_core.specs.Profiling.{Clock, IsAdvanced, with_clock}
 use Rattle.shadow_core.proofs.StateEvents.{event_is_made, stamped_is_there}

@@ -19,37 +19,25 @@ use Rattle.shadow_pages.specs.Pages as pages
 use Rattle.shadow_pages.specs.Pages.{AreCovered, Page, page_of, stamp_at, stamp_in}
 use Rattle.stamp_renumber.specs.Returned.{returned_by}
 use Rattle.stamp_renumber.specs.Threads.{Stamped, all_starts, calls_of, pages_of}
-use Rattle.shadow_core.specs.Applying.{AreInUse, DeepDoesNotFit, IsTaken, DoesNotAllocate, access_of, is_too_deep}
-use Rattle.shadow_core.specs.Past.{call_of}
+use Rattle.shadow_core.specs.Applying.{AreInUse, IsTaken, DoesNotAllocate, access_of}
+use Rattle.stamp_table.specs.Allows.{is_too_deep}
+use Rattle.stamp_table.proofs.Deep.{deep_does_not_fit}
+use Rattle.stamp_table.specs.Past.{call_of}
 use Rattle.shadow_core.specs.Profiling.{StandsFor}
-use Rattle.shadow_core.specs.Records.{finished}
-use Rattle.shadow_core.specs.Renewal.{bounded_tick}
-use Rattle.shadow_core.specs.Stands.{Stands}
+use Rattle.stamp_table.specs.Records.{finished}
+use Rattle.stamp_table.specs.Renewal.{bounded_tick}
+use Rattle.stamp_table.specs.Stands.{Stands}
 use Rattle.shadow_core.specs.State.{State, as_thread, as_threads, table_of_state}
 use Rattle.call_tracker.specs.ThreadCalls.{Calls, CountedCall, no_counts}
-use Rattle.shadow_core.specs.Table.{Table, Thread, empty_table}
-use Rattle.shadow_core.specs.Ticks.{table_after, table_at}
+use Rattle.stamp_table.specs.Table.{Table, Thread, empty_table}
+use Rattle.stamp_table.specs.Ticks.{table_after, table_at}
 use Rattle.shadow_core.proofs.Profiled.{may_advance, there_too}
-use Rattle.shadow_core.proofs.Room.{fits_by_frames, allows_what_may_follow}
-use Rattle.shadow_core.proofs.Runs.{empty_stands, finishes_what_ends, stands_on}
+use Rattle.stamp_table.proofs.Room.{fits_by_frames, allows_what_may_follow}
+use Rattle.stamp_table.proofs.Runs.{empty_stands, finishes_what_ends, stands_on}
 use Rattle.shadow_core.proofs.StateThreads.{own_test}
 use Rattle.shadow_core.proofs.StateTold.{frames_are_told}
 
 -- ---- What is too deep.
-not_below : (m k : ℕ) → nat_lt m k ≡ not (nat_le k m)
-not_below m k = grind arith
-
-turned : (e : Event) (m k : ℕ) → (nat_lt 0 (count_begun e) && nat_lt m k) ≡ not (nat_eq (count_begun e) 0 || nat_le k m)
-turned (Start t entry) m k = not_below m k
-turned (Call t entry back) m k = not_below m k
-turned _ m k = refl
-
-pub deep_does_not_fit : DeepDoesNotFit
-deep_does_not_fit most e table past s =
-    ap (λ n. nat_lt 0 (count_begun e) && nat_lt most (3 * (n + 2))) (sym s.counted.frames)
-    ∙ turned e most (3 * (length (Rattle.shadow_core.specs.Renewal.all_starts table.threads) + 2))
-    ∙ ap not (sym (fits_by_frames most e table past s))
-
 -- by how many frames there are
 pub deep_by_frames : (most : ℕ) (e : Event) (s : State) (past : List Event) → StandsFor most s past →
     is_too_deep most e past ≡ (nat_lt 0 (count_begun e) && nat_lt most (3 * (length (all_starts s.live.threads) + 2)))

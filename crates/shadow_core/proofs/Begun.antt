@@ -12,18 +12,18 @@ use Rattle.shadow_stack.specs.Frames.{Frame, new_frame, starts_of}
 use Rattle.shadow_pages.specs.Pages.{Page, stamp_at}
 use Rattle.call_tracker.specs.ThreadCalls.{Calls}
 use Rattle.stamp_renumber.specs.Threads.{HasRoom, Live, Stamped, calls_of, frames_of, pages_of, spare_of, stamped}
-use Rattle.shadow_core.specs.Laws.{IsFresh}
-use Rattle.shadow_core.specs.Renewal.{bounded_tick}
-use Rattle.shadow_core.specs.Stands.{Agrees, IsFalling}
-use Rattle.shadow_core.specs.Ticks.{table_after}
+use Rattle.stamp_table.specs.Laws.{IsFresh}
+use Rattle.stamp_table.specs.Renewal.{bounded_tick}
+use Rattle.stamp_table.specs.Stands.{Agrees, IsFalling}
+use Rattle.stamp_table.specs.Ticks.{table_after}
 use Rattle.shadow_core.specs.State.{State, table_of_state}
-use Rattle.shadow_core.specs.StateRows.{Has}
+use Rattle.shadow_core.specs.Private.StateRows.{Has}
 use Rattle.shadow_core.specs.Profiling.{Clock, IsAdvanced, StandsFor, with_clock}
 use Rattle.shadow_core.proofs.Accessed.{its_calls, its_frames, its_pages}
 use Rattle.shadow_core.proofs.Profiled.{MayAdvance, has_after, may_advance}
 use Rattle.shadow_core.proofs.ReadEvents.{may_same}
 use Rattle.shadow_core.proofs.Reading.{All-reverse, starts_reverse}
-use Rattle.shadow_core.proofs.Renewed.{bounded_tick_is_tick}
+use Rattle.stamp_table.proofs.Renewed.{bounded_tick_is_tick}
 use Rattle.shadow_core.proofs.StateEvents.{event_is_made, stamped_is_there}
 use Rattle.shadow_core.proofs.StateRows.{calls_by_parts}
 use Rattle.shadow_core.proofs.StateTold.{room_is_not_told, thread_is_told}

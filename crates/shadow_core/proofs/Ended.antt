@@ -15,29 +15,29 @@ use Rattle.stamp_renumber.specs.LentThread.{with_calls}
 use Rattle.stamp_renumber.specs.Threads.{Live, Stamped, calls_of, frames_of, pages_of, stamped}
 use Rattle.stamp_renumber.specs.Returned.{returned_by}
 use Rattle.stamp_renumber.proofs.Changed.{unchanged}
-use Rattle.shadow_core.specs.Allows.{AreWithin}
+use Rattle.stamp_table.specs.Allows.{AreWithin}
 use Rattle.shadow_core.specs.Private.Ending.{IsEnded}
-use Rattle.shadow_core.specs.Frames.{frames_after_pops}
-use Rattle.shadow_core.specs.Parts.{ArePopped}
-use Rattle.shadow_core.specs.Past.{call_of}
-use Rattle.shadow_core.specs.Records.{finished, records}
-use Rattle.shadow_core.specs.Renewal.{bounded_tick}
+use Rattle.stamp_table.specs.Frames.{frames_after_pops}
+use Rattle.shadow_core.specs.Private.Parts.{ArePopped}
+use Rattle.stamp_table.specs.Past.{call_of}
+use Rattle.stamp_table.specs.Records.{finished, records}
+use Rattle.stamp_table.specs.Renewal.{bounded_tick}
 use Rattle.call_tracker.specs.ThreadCalls.{Calls, CountedCall}
-use Rattle.shadow_core.specs.Table.{Thread}
-use Rattle.shadow_core.specs.Ticks.{table_after}
+use Rattle.stamp_table.specs.Table.{Thread}
+use Rattle.stamp_table.specs.Ticks.{table_after}
 use Rattle.shadow_core.specs.State.{State, as_thread, table_of_state}
-use Rattle.shadow_core.specs.StateRows.{Has}
+use Rattle.shadow_core.specs.Private.StateRows.{Has}
 use Rattle.shadow_core.specs.Profiling.{StandsFor}
 use Rattle.shadow_core.proofs.Accessed.{its_calls, its_frames, its_pages}
 use Rattle.shadow_core.proofs.Popped.{fits_pop, none_ended, sums_left}
 use Rattle.shadow_core.proofs.Profiled.{alive}
 use Rattle.shadow_core.proofs.Reading.{within_more}
-use Rattle.shadow_core.proofs.Room.{counts_stay_within, pops_stay_within}
+use Rattle.stamp_table.proofs.Room.{counts_stay_within, pops_stay_within}
 use Rattle.shadow_core.proofs.StateEvents.{event_is_made, no_tick_is_made}
 use Rattle.shadow_core.proofs.StateRows.{ends_by_parts, finishes_by_parts, returns_by_parts}
 use Rattle.shadow_core.proofs.StateThreads.{own_test}
 use Rattle.shadow_core.proofs.StateTold.{thread_is_told}
-use Rattle.shadow_core.proofs.There.{depth_is}
+use Rattle.stamp_table.proofs.There.{depth_is}
 
 -- What the end of calls asks of the threads.
 pub record MayEndIn (live : Live) (t : ℕ) : Type 0 where
@@ -54,7 +54,7 @@ pub record MayEnd (s : State) (t : ℕ) : Type 0 where
 
 pub may_end : (most t : ℕ) (e : Event) (s now : State) → s ≡ now → (may : MayTake (StandsFor most) now e) → is_live may.past t ≡ true → MayEnd s t
 may_end most t e s now is may lives =
-    let agrees = subst (λ (k : State). Rattle.shadow_core.specs.Stands.Agrees (table_of_state k) may.past) (sym is) may.now.agrees in
+    let agrees = subst (λ (k : State). Rattle.stamp_table.specs.Stands.Agrees (table_of_state k) may.past) (sym is) may.now.agrees in
     let light = may.formed.1 in
     let a = alive s t may.past agrees lives in
     let fs = a.was.frames in

@@ -17,10 +17,10 @@ use Rattle.shadow_stack.specs.Frames.{Frame, FitsSums, IsRising, added, plus, st
 use Rattle.shadow_pages.specs.Pages.{Page, covers, in_range, stamp_at}
 use Rattle.stamp_renumber.specs.LentThread.{with_pages}
 use Rattle.stamp_renumber.specs.Threads.{Live, frames_of, pages_of}
-use Rattle.shadow_core.specs.Allows.{AreWithin, IsWithin}
+use Rattle.stamp_table.specs.Allows.{AreWithin, IsWithin}
 use Rattle.shadow_core.specs.Private.Reading.{IsChanged, IsRead, places_at}
-use Rattle.shadow_core.specs.Stands.{IsFalling}
-use Rattle.shadow_core.proofs.Kept.{falling-weaker}
+use Rattle.stamp_table.specs.Stands.{IsFalling}
+use Rattle.stamp_table.proofs.Kept.{falling-weaker}
 use Rattle.shadow_core.proofs.StateThreads.{differ}
 use Rattle.shadow_core.proofs.StateWords.{reads_all_words}
 use Rattle.shadow_core.proofs.Reading.{All-reverse, changed_own, changed_twice, frames_changed, lent_changed, lives_changed, pages_changed, places_on, read_on, starts_reverse}

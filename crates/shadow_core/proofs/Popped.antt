@@ -8,17 +8,17 @@ use Rattle.stamp_renumber.proofs.Changed.{unchanged}
 use Rattle.guest_words.specs.ByThread.{value_of, with_value}
 use Rattle.std.proofs.lemmas.Int.{ints}
 use Rattle.std.proofs.lemmas.List.Elements.{All-head, All-tail}
-use Rattle.shadow_core.specs.Allows.{AreWithin, IsWithin}
+use Rattle.stamp_table.specs.Allows.{AreWithin, IsWithin}
 use Rattle.std.specs.Prelude.{Option, None, is_some, reverse}
 use Rattle.shadow_core.proofs.Accessed.{its_pages}
-use Rattle.shadow_core.specs.Frames.{frames_after_pops}
+use Rattle.stamp_table.specs.Frames.{frames_after_pops}
 use Rattle.shadow_core.proofs.Reading.{All-reverse}
 use Rattle.shadow_core.proofs.Reversed.{pops_in_order}
 use Rattle.shadow_core.proofs.StateEvents.{last_change_counts, stamped_value}
 use Rattle.shadow_stack.specs.Frames.{FitsPop, Frame, IsPopped, added_to_last}
 use Rattle.shadow_core.specs.Private.Ending.{IsEnded}
-use Rattle.shadow_core.specs.Parts.{ArePopped}
-use Rattle.shadow_core.specs.Records.{record_of, records}
+use Rattle.shadow_core.specs.Private.Parts.{ArePopped}
+use Rattle.stamp_table.specs.Records.{record_of, records}
 use Rattle.call_tracker.specs.ThreadCalls.{CountedCall, Counts}
 
 -- one frame more

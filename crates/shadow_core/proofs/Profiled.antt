@@ -10,16 +10,16 @@ use Rattle.trace_model.specs.WellFormed.{is_live, last_step, weight, weight_of}
 use Rattle.call_tracker.specs.ThreadCalls.{Calls}
 use Rattle.stamp_renumber.specs.LentThread.{with_calls}
 use Rattle.stamp_renumber.specs.Threads.{Live, Stamped, all_starts, calls_of, frames_of, pages_of, spare_of}
-use Rattle.shadow_core.specs.Ticks.{is_switch, ticks, table_after}
-use Rattle.shadow_core.specs.Renewal.{bounded_tick}
-use Rattle.shadow_core.specs.Counting.{counter_of, renumberings}
-use Rattle.shadow_core.specs.Stands.{Agrees}
+use Rattle.stamp_table.specs.Ticks.{is_switch, ticks, table_after}
+use Rattle.stamp_table.specs.Renewal.{bounded_tick}
+use Rattle.stamp_table.specs.Counting.{counter_of, renumberings}
+use Rattle.stamp_table.specs.Stands.{Agrees}
 use Rattle.shadow_core.specs.State.{State, as_thread, table_of_state}
-use Rattle.shadow_core.specs.StateRows.{Has}
+use Rattle.shadow_core.specs.Private.StateRows.{Has}
 use Rattle.shadow_core.specs.Profiling.{Clock, IsAdvanced, StandsFor, with_clock}
 use Rattle.shadow_core.proofs.Accessed.{its_calls, its_frames, its_pages}
-use Rattle.shadow_core.proofs.Counted.{room, so_far}
-use Rattle.shadow_core.proofs.Room.{counts_stay_within}
+use Rattle.stamp_table.proofs.Counted.{room, so_far}
+use Rattle.stamp_table.proofs.Room.{counts_stay_within}
 use Rattle.shadow_core.proofs.StateEvents.{event_is_made}
 use Rattle.shadow_core.proofs.StateRows.{steps_by_parts}
 use Rattle.shadow_core.proofs.StateTold.{frames_are_told, life_is_told, numbers_are_told, thread_is_told}

@@ -16,25 +16,25 @@ use Rattle.shadow_pages.specs.Pages.{Page, stamp_at}
 use Rattle.call_tracker.specs.ThreadCalls.{Calls}
 use Rattle.stamp_renumber.specs.LentThread.{with_calls}
 use Rattle.stamp_renumber.specs.Threads.{Live, Stamped, calls_of, frames_of, pages_of, spare_of, stamped}
-use Rattle.shadow_core.specs.Allows.{AreWithin, IsWithin}
-use Rattle.shadow_core.specs.Frames.{frames_after_reads}
+use Rattle.stamp_table.specs.Allows.{AreWithin, IsWithin}
+use Rattle.stamp_table.specs.Frames.{frames_after_reads}
 use Rattle.shadow_core.specs.Profiling.{StandsFor}
 use Rattle.shadow_core.specs.Private.Reading.{IsChanged, IsRead, places_at}
-use Rattle.shadow_core.specs.Renewal.{bounded_tick}
-use Rattle.shadow_core.specs.Stands.{IsFalling, Stands}
+use Rattle.stamp_table.specs.Renewal.{bounded_tick}
+use Rattle.stamp_table.specs.Stands.{IsFalling, Stands}
 use Rattle.shadow_core.specs.State.{State, as_thread, table_of_state}
-use Rattle.shadow_core.specs.StateRows.{Has}
-use Rattle.shadow_core.specs.Table.{Table, Thread, empty_table}
-use Rattle.shadow_core.specs.Table.{stamped as stamped_as}
-use Rattle.shadow_core.specs.Ticks.{table_after}
+use Rattle.shadow_core.specs.Private.StateRows.{Has}
+use Rattle.stamp_table.specs.Table.{Table, Thread, empty_table}
+use Rattle.stamp_table.specs.Table.{stamped as stamped_as}
+use Rattle.stamp_table.specs.Ticks.{table_after}
 use Rattle.shadow_core.proofs.Accessed.{its_calls, own_room}
 use Rattle.shadow_core.proofs.Profiled.{alive}
 use Rattle.shadow_core.proofs.Reading.{All-reverse, lives_changed, starts_reverse, within_more}
-use Rattle.shadow_core.proofs.Room.{counts_stay_within, pops_stay_within}
+use Rattle.stamp_table.proofs.Room.{counts_stay_within, pops_stay_within}
 use Rattle.shadow_core.proofs.StateEvents.{event_is_made, last_change_counts, no_tick_is_made}
 use Rattle.shadow_core.proofs.StateRows.{reads_by_parts}
 use Rattle.shadow_core.proofs.StateTold.{empty_is_told, thread_is_told}
-use Rattle.shadow_core.proofs.There.{has_frame}
+use Rattle.stamp_table.proofs.There.{has_frame}
 
 -- What a read asks of the parts.
 pub record MayRead (s : State) (t first count : ℕ) : Type 0 where

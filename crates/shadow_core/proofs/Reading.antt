@@ -20,12 +20,12 @@ use Rattle.stamp_renumber.specs.Threads.{Live, Stamped, calls_of, frames_of, pag
 use Rattle.call_tracker.specs.ThreadCalls.{no_counts}
 use Rattle.stamp_renumber.specs.LentThread.{with_pages}
 use Rattle.stamp_renumber.proofs.Changed.{length_changed, unchanged}
-use Rattle.shadow_core.specs.Frames.{added_to_top, negated, taken_at, gain, frames_after_read, frames_after_reads}
-use Rattle.shadow_core.specs.Parts.{taken}
-use Rattle.shadow_core.proofs.Frames.{same_sums, starts-reads}
+use Rattle.stamp_table.specs.Frames.{added_to_top, negated, taken_at, gain, frames_after_read, frames_after_reads}
+use Rattle.shadow_core.specs.Private.Parts.{taken}
+use Rattle.stamp_table.proofs.Frames.{same_sums, starts-reads}
 use Rattle.shadow_core.proofs.StateThreads.{differ}
 use Rattle.shadow_core.proofs.Reversed.{reads_where_found, reads_go_on}
-use Rattle.shadow_core.specs.Allows.{AreWithin, IsWithin}
+use Rattle.stamp_table.specs.Allows.{AreWithin, IsWithin}
 use Rattle.shadow_core.specs.Private.Reading.{AreSmall, IsChanged, IsRead, places_at}
 
 -- ---- sums that are within some bound

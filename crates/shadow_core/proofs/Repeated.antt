@@ -13,15 +13,15 @@ use Rattle.shadow_stack.specs.Frames.{Frame, plus, starts_of}
 use Rattle.shadow_pages.specs.Pages.{in_range, stamp_at}
 use Rattle.call_tracker.specs.ThreadCalls.{Calls}
 use Rattle.stamp_renumber.specs.Threads.{frames_of, pages_of}
-use Rattle.shadow_core.specs.Frames.{added_to_top, frames_after_read, gain, negated, taken_at}
+use Rattle.stamp_table.specs.Frames.{added_to_top, frames_after_read, gain, negated, taken_at}
 use Rattle.shadow_core.specs.Profiling.{StandsFor}
 use Rattle.shadow_core.specs.Private.Reading.{IsChanged, IsRead, places_at}
-use Rattle.shadow_core.specs.Renewal.{bounded_tick}
-use Rattle.shadow_core.specs.Stands.{IsFalling}
+use Rattle.stamp_table.specs.Renewal.{bounded_tick}
+use Rattle.stamp_table.specs.Stands.{IsFalling}
 use Rattle.shadow_core.specs.State.{State, as_thread, table_of_state}
-use Rattle.shadow_core.specs.Ticks.{table_after}
+use Rattle.stamp_table.specs.Ticks.{table_after}
 use Rattle.shadow_core.proofs.Accessed.{its_calls, written}
-use Rattle.shadow_core.proofs.Frames.{same_sums}
+use Rattle.stamp_table.proofs.Frames.{same_sums}
 use Rattle.shadow_core.proofs.Profiled.{IsAlive, alive_here, lives_here}
 use Rattle.shadow_core.proofs.ReadEvents.{MayRead, frames_had, may_read, pages_had, read_made, with_found}
 use Rattle.shadow_core.proofs.Reading.{in_one, not_changed}

@@ -7,8 +7,8 @@ use Rattle.std.proofs.lemmas.List.Sums.{sum_by-append}
 use Rattle.shadow_stack.specs.declared.sums.Sums.{Sums}
 use Rattle.shadow_stack.specs.Frames.{Frame, IsLastAtMost, added, added_to_last, plus, starts_of}
 use Rattle.shadow_stack.proofs.Places.{last_added}
-use Rattle.shadow_core.specs.Frames.{added_to_top, negated, taken_at, gain, frames_after_read, pop, popped, frames_after_pops}
-use Rattle.shadow_core.specs.Parts.{PushesInFront, taken, TakesWhereFound, AddsToTheTop, AddsAtTheLast, ReadsWhereFound, PopsTheTop, PopsInOrder, PopsGoOn, ReadsGoOn, ReadsOneMore, CountsGoOn}
+use Rattle.stamp_table.specs.Frames.{added_to_top, negated, taken_at, gain, frames_after_read, pop, popped, frames_after_pops}
+use Rattle.shadow_core.specs.Private.Parts.{PushesInFront, taken, TakesWhereFound, AddsToTheTop, AddsAtTheLast, ReadsWhereFound, PopsTheTop, PopsInOrder, PopsGoOn, ReadsGoOn, ReadsOneMore, CountsGoOn}
 
 pub pushes_in_front : PushesInFront
 pushes_in_front fs f = reverse-append fs (f ∷ [])

@@ -17,9 +17,9 @@ use Rattle.stamp_renumber.specs.Classes.{new_write}
 use Rattle.stamp_renumber.specs.Threads.{HasRoom, Live, Stamped, calls_of, frames_of, pages_of, spare_of, stamped}
 use Rattle.stamp_renumber.specs.Threads as parts
 use Rattle.call_tracker.specs.ThreadCalls.{Calls, no_counts}
-use Rattle.shadow_core.specs.Table.{Table, Thread}
-use Rattle.shadow_core.specs.Renewal.{all_starts, bounded_tick, plain_tick, renewed, renewed_thread}
-use Rattle.shadow_core.specs.Ticks.{table_after}
+use Rattle.stamp_table.specs.Table.{Table, Thread}
+use Rattle.stamp_table.specs.Renewal.{all_starts, bounded_tick, plain_tick, renewed, renewed_thread}
+use Rattle.stamp_table.specs.Ticks.{table_after}
 use Rattle.shadow_core.specs.State.{State, as_thread, as_threads, table_of_state}
 use Rattle.shadow_core.specs.Profiling.{Clock, IsAdvanced, StandsFor, with_clock}
 use Rattle.shadow_core.proofs.Accessed.{its_calls, its_frames, its_pages}

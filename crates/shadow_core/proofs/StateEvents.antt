@@ -5,10 +5,10 @@ use Rattle.guest_words.specs.ByThread.{IsRising, numbers, value_of, with_value}
 use Rattle.guest_words.proofs.ThreadTables.{numbers-with, value_of-with}
 use Rattle.trace_model.specs.Depth.{count_begun}
 use Rattle.stamp_renumber.specs.Threads.{Stamped}
-use Rattle.shadow_core.specs.Table.{event_after}
-use Rattle.shadow_core.specs.Renewal.{bounded_tick}
+use Rattle.stamp_table.specs.Table.{event_after}
+use Rattle.stamp_table.specs.Renewal.{bounded_tick}
 use Rattle.shadow_core.specs.State.{table_of_state}
-use Rattle.shadow_core.specs.StateEvents.{StampsAreTold, TickIsMade, NoTickIsMade, EventIsMade, ThreadsStay, StampedIsThere, LastChangeCounts}
+use Rattle.shadow_core.specs.Private.StateEvents.{StampsAreTold, TickIsMade, NoTickIsMade, EventIsMade, ThreadsStay, StampedIsThere, LastChangeCounts}
 use Rattle.shadow_core.proofs.StateRows.{weighs_by_parts}
 use Rattle.shadow_core.proofs.StateThreads.{own_test}
 use Rattle.shadow_core.proofs.StateTold.{frames_are_told}

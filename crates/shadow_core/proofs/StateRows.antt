@@ -6,11 +6,11 @@ use Rattle.shadow_stack.specs.declared.sums.Sums.{Sums}
 use Rattle.shadow_stack.specs.Frames.{Frame, new_frame}
 use Rattle.shadow_pages.specs.Pages.{stamp_at}
 use Rattle.stamp_renumber.specs.Threads.{Live, Stamped}
-use Rattle.shadow_core.specs.Frames.{popped, frames_after_pops}
-use Rattle.shadow_core.specs.Table.{Thread, no_thread, changed, stamped, with_frame, thread_after_read, thread_after_ret}
-use Rattle.shadow_core.specs.Records.{records, records_of}
+use Rattle.stamp_table.specs.Frames.{popped, frames_after_pops}
+use Rattle.stamp_table.specs.Table.{Thread, no_thread, changed, stamped, with_frame, thread_after_read, thread_after_ret}
+use Rattle.stamp_table.specs.Records.{records, records_of}
 use Rattle.shadow_core.specs.State.{State, as_thread, as_threads, table_of_state}
-use Rattle.shadow_core.specs.StateRows.{StepsByParts, StartsByParts, CallsByParts, ReadsByParts, WritesByParts, FillsByParts, ReturnsByParts, EndsByParts, FinishesByParts, WeighsByParts}
+use Rattle.shadow_core.specs.Private.StateRows.{StepsByParts, StartsByParts, CallsByParts, ReadsByParts, WritesByParts, FillsByParts, ReturnsByParts, EndsByParts, FinishesByParts, WeighsByParts}
 use Rattle.shadow_core.proofs.Reversed.{pushes_in_front, pops_in_order}
 use Rattle.shadow_core.proofs.StateThreads.{threads_change, threads_come, threads_go, value_as}
 

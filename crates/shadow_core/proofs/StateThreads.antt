@@ -7,9 +7,9 @@ use Rattle.std.proofs.lemmas.Bool.Decides.{nat_tests}
 use Rattle.std.proofs.lemmas.List.Elements.{All-head, All-tail}
 use Rattle.guest_words.specs.ByThread.{numbers, value_of, with_value, without_thread}
 use Rattle.stamp_renumber.specs.Threads.{Stamped}
-use Rattle.shadow_core.specs.Table.{Thread}
+use Rattle.stamp_table.specs.Table.{Thread}
 use Rattle.shadow_core.specs.State.{as_thread, as_threads}
-use Rattle.shadow_core.specs.StateThreads.{ThreadsChange, ThreadsCome, ThreadsGo, LastChanges}
+use Rattle.shadow_core.specs.Private.StateThreads.{ThreadsChange, ThreadsCome, ThreadsGo, LastChanges}
 
 -- ---- numbers
 pub differ : (t u : ℕ) → t ≢ u → (t == u) ≡ false

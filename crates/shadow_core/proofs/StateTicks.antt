@@ -15,10 +15,10 @@ use Rattle.stamp_renumber.specs.Renumbered.{IsThreadRenumbered}
 use Rattle.stamp_renumber.specs.Threads.{Stamped}
 use Rattle.stamp_renumber.specs.Threads as parts
 use Rattle.stamp_renumber.specs.declared.ticks.Ticked.{Ticked}
-use Rattle.shadow_core.specs.Table.{Thread}
-use Rattle.shadow_core.specs.Renewal.{all_starts, renewed_thread, renewed, plain_tick}
+use Rattle.stamp_table.specs.Table.{Thread}
+use Rattle.stamp_table.specs.Renewal.{all_starts, renewed_thread, renewed, plain_tick}
 use Rattle.shadow_core.specs.State.{State, as_thread, as_threads, table_of_state}
-use Rattle.shadow_core.specs.StateTicks.{CountsPlainly, RenewsAll, TicksByParts}
+use Rattle.shadow_core.specs.Private.StateTicks.{CountsPlainly, RenewsAll, TicksByParts}
 
 pub counts_plainly : CountsPlainly
 counts_plainly s = refl

@@ -5,9 +5,9 @@ use Rattle.std.specs.Option.{option_map_or}
 use Rattle.guest_words.specs.ByThread.{numbers, value_of, with_value}
 use Rattle.guest_words.proofs.ThreadTables.{with_own}
 use Rattle.stamp_renumber.specs.Threads.{Stamped}
-use Rattle.shadow_core.specs.Table.{Thread}
+use Rattle.stamp_table.specs.Table.{Thread}
 use Rattle.shadow_core.specs.State.{as_thread, as_threads, table_of_state}
-use Rattle.shadow_core.specs.StateTold.{empty_state, EmptyIsTold, NumbersAreTold, LifeIsTold, FramesAreTold, ThreadIsTold, RoomIsNotTold, PagesAreNotTold}
+use Rattle.shadow_core.specs.Private.StateTold.{empty_state, EmptyIsTold, NumbersAreTold, LifeIsTold, FramesAreTold, ThreadIsTold, RoomIsNotTold, PagesAreNotTold}
 use Rattle.shadow_core.proofs.StateThreads.{threads_change, value_as}
 use Rattle.shadow_core.proofs.StateTicks.{length-starts}
 use Rattle.shadow_core.proofs.StateRows.{with_threads}

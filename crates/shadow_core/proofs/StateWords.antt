@@ -12,12 +12,12 @@ use Rattle.shadow_stack.specs.declared.sums.Sums.{Sums}
 use Rattle.shadow_stack.specs.Frames.{Frame, starts_of}
 use Rattle.shadow_pages.specs.Pages.{stamp_at}
 use Rattle.stamp_renumber.specs.Threads.{Stamped}
-use Rattle.shadow_core.specs.Frames.{frames_after_read, frames_after_reads, added_to_top}
+use Rattle.stamp_table.specs.Frames.{frames_after_read, frames_after_reads, added_to_top}
 use Rattle.shadow_core.specs.State.{State}
-use Rattle.shadow_core.specs.StateRows.{places_of}
-use Rattle.shadow_core.specs.StateWords.{place_of, StampsNone, StampsOneMore, StampsNotYet, ReadsNextWord, CountsNextWord, ReadsAllWords}
-use Rattle.shadow_core.specs.Stands.{IsFalling}
-use Rattle.shadow_core.proofs.Bulk.{reads_at_once}
+use Rattle.shadow_core.specs.Private.StateRows.{places_of}
+use Rattle.shadow_core.specs.Private.StateWords.{place_of, StampsNone, StampsOneMore, StampsNotYet, ReadsNextWord, CountsNextWord, ReadsAllWords}
+use Rattle.stamp_table.specs.Stands.{IsFalling}
+use Rattle.stamp_table.proofs.Bulk.{reads_at_once}
 use Rattle.shadow_core.proofs.Reversed.{adds_at_the_last, pushes_in_front, reads_where_found, reads_one_more}
 
 -- ---- ranges

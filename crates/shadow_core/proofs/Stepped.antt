@@ -15,15 +15,15 @@ use Rattle.shadow_pages.specs.Pages.{stamp_at}
 use Rattle.stamp_renumber.specs.LentThread.{with_calls}
 use Rattle.stamp_renumber.specs.Threads.{Stamped, calls_of, frames_of, pages_of, spare_of}
 use Rattle.shadow_core.specs.Profiling.{StandsFor}
-use Rattle.shadow_core.specs.Renewal.{bounded_tick}
-use Rattle.shadow_core.specs.Stands.{Stands}
+use Rattle.stamp_table.specs.Renewal.{bounded_tick}
+use Rattle.stamp_table.specs.Stands.{Stands}
 use Rattle.shadow_core.specs.State.{State, as_thread, table_of_state}
-use Rattle.shadow_core.specs.Table.{Table, Thread, changed, event_after}
-use Rattle.shadow_core.specs.Ticks.{is_switch, table_after, table_after_steps}
+use Rattle.stamp_table.specs.Table.{Table, Thread, changed, event_after}
+use Rattle.stamp_table.specs.Ticks.{is_switch, table_after, table_after_steps}
 use Rattle.shadow_core.proofs.Accessed.{its_calls, its_frames, its_pages}
 use Rattle.shadow_core.proofs.Profiled.{alive_for_step, no_switch}
-use Rattle.shadow_core.proofs.Room.{allows_what_may_follow, counts_stay_within}
-use Rattle.shadow_core.proofs.Runs.{stands_on}
+use Rattle.stamp_table.proofs.Room.{allows_what_may_follow, counts_stay_within}
+use Rattle.stamp_table.proofs.Runs.{stands_on}
 use Rattle.shadow_core.proofs.StateThreads.{threads_change}
 use Rattle.shadow_core.proofs.StateTold.{thread_is_told}
 

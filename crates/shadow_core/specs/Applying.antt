@@ -10,19 +10,11 @@ use Rattle.trace_model.specs.Events.{covers}
 use Rattle.trace_model.specs.Profile.{ended}
 use Rattle.shadow_pages.specs.Pages as pages
 use Rattle.stamp_renumber.specs.Threads.{pages_of}
-use Rattle.shadow_core.specs.Table.{Table}
-use Rattle.shadow_core.specs.Records.{finished}
-use Rattle.shadow_core.specs.Stands.{Stands}
+use Rattle.stamp_table.specs.Table.{Table}
+use Rattle.stamp_table.specs.Records.{finished}
+use Rattle.stamp_table.specs.Stands.{Stands}
 use Rattle.shadow_core.specs.State.{State}
 use Rattle.shadow_core.specs.Profiling.{StandsFor}
-
--- It begins an activation, and three stamps for each that is then open and three more are more than there are.
-abbrev pub is_too_deep : ℕ → Event → List Event → Bool
-is_too_deep most e past = nat_lt 0 (count_begun e) && nat_lt most (3 * (pending past + 2))
-
--- what is too deep is what does not fit
-abbrev pub DeepDoesNotFit : Type 0
-DeepDoesNotFit = (most : ℕ) (e : Event) (table : Table) (past : List Event) → Stands most table past → is_too_deep most e past ≡ not (is_within most (e ∷ past))
 
 -- The event was taken after this past: the profiler stands for the past with it, which fits, and what is recorded more is what
 -- the definitions say of the activations that it ends.

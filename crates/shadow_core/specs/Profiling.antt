@@ -4,8 +4,8 @@ use Rattle.guest_words.specs.ByThread.{numbers, value_of}
 use Rattle.trace_model.specs.declared.event_kinds.Event.{Event}
 use Rattle.shadow_pages.specs.Pages.{Page, covers}
 use Rattle.stamp_renumber.specs.Threads.{Live, Stamped}
-use Rattle.shadow_core.specs.Renewal.{bounded_tick}
-use Rattle.shadow_core.specs.Stands.{Stands}
+use Rattle.stamp_table.specs.Renewal.{bounded_tick}
+use Rattle.stamp_table.specs.Stands.{Stands}
 use Rattle.shadow_core.specs.State.{State, table_of_state}
 
 -- the state's table stands for the past

@@ -2,7 +2,7 @@
 use Rattle.std.specs.Prelude.{ℕ, List, map, reverse, Option}
 use Rattle.shadow_pages.specs.Pages.{Page, stamp_at}
 use Rattle.stamp_renumber.specs.Threads.{Live, Stamped}
-use Rattle.shadow_core.specs.Table.{Thread, Table}
+use Rattle.stamp_table.specs.Table.{Thread, Table}
 
 -- The counter; the pages of the write stamps and of the marks; the live threads, with their frames, stamps and calls; the rest is
 -- as in the table.

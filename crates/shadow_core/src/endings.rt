@@ -3,10 +3,10 @@ ghost use Rattle.std.specs.Prelude.{◌≡◌, ◌+◌, ◌-◌, ◌<◌, ◌≤
 ghost use Rattle.std.specs.Vec.{vec_capacity};
 ghost use Rattle.guest_words.specs.ByThread.{value_of};
 ghost use Rattle.stamp_renumber.specs.Threads.{calls_of, frames_of};
-ghost use Rattle.shadow_core.specs.Allows.{AreWithin};
+ghost use Rattle.stamp_table.specs.Allows.{AreWithin};
 ghost use Rattle.shadow_core.specs.Private.Ending.{IsEnded};
-ghost use Rattle.shadow_core.specs.Frames.{frames_after_pops};
-ghost use Rattle.shadow_core.specs.Records.{nat_of, record_of};
+ghost use Rattle.stamp_table.specs.Frames.{frames_after_pops};
+ghost use Rattle.stamp_table.specs.Records.{nat_of, record_of};
 
 use call_tracker::{BegunCall, ThreadCounts};
 use guest_words::Tid;

@@ -6,9 +6,9 @@ ghost use Rattle.shadow_pages.specs.Pages.{AreCovered, HasPlace, covers, stamp_a
 ghost use Rattle.shadow_stack.specs.Frames.{starts_of};
 ghost use Rattle.stamp_lanes.specs.Plain.{is_by_kernel, is_by_thread};
 ghost use Rattle.stamp_renumber.specs.Threads.{frames_of, pages_of};
-ghost use Rattle.shadow_core.specs.Allows.{AreWithin};
-ghost use Rattle.shadow_core.specs.Frames.{frames_after_read, gain, negated};
-ghost use Rattle.shadow_core.specs.Parts.{taken};
+ghost use Rattle.stamp_table.specs.Allows.{AreWithin};
+ghost use Rattle.stamp_table.specs.Frames.{frames_after_read, gain, negated};
+ghost use Rattle.shadow_core.specs.Private.Parts.{taken};
 ghost use Rattle.shadow_core.specs.Private.Reading.{AreSmall, IsChanged, IsRead, places_at};
 
 use crate::rows::{ZeroRows, read_page, row_of};

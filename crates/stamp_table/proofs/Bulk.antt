@@ -8,10 +8,10 @@ use Rattle.std.proofs.lemmas.List.Sums.{sum_by-cons}
 use Rattle.stamp_lanes.specs.Plain.{Place, is_old, is_plain, is_untouched}
 use Rattle.shadow_stack.specs.declared.sums.Sums.{Sums}
 use Rattle.shadow_stack.specs.Frames.{Frame, plus, starts_of}
-use Rattle.shadow_core.specs.Frames.{added_to_top, negated, no_sums, taken_at, gain, frames_after_read, frames_after_reads}
-use Rattle.shadow_core.specs.Stands.{IsFalling}
-use Rattle.shadow_core.specs.Bulk.{ReadsAtOnce}
-use Rattle.shadow_core.proofs.Frames.{same_sums, none-plus}
+use Rattle.stamp_table.specs.Frames.{added_to_top, negated, no_sums, taken_at, gain, frames_after_read, frames_after_reads}
+use Rattle.stamp_table.specs.Stands.{IsFalling}
+use Rattle.stamp_table.specs.Bulk.{ReadsAtOnce}
+use Rattle.stamp_table.proofs.Frames.{same_sums, none-plus}
 
 -- no frame starts at 0
 taken-none : (by : Sums) (own limit : ℕ) (frames : List Frame) → own ≡ 0 → IsFalling limit (starts_of frames) → taken_at by own frames ≡ frames

@@ -15,18 +15,18 @@ use Rattle.trace_model.specs.Depth.{pending, count_begun, count_ended, is_within
 use Rattle.trace_model.proofs.Pending.{open_calls-le-pending}
 use Rattle.stamp_renumber.specs.Classes.{new_start}
 use Rattle.shadow_stack.specs.Frames.{Frame, starts_of}
-use Rattle.shadow_core.specs.Table.{Thread, Table, event_after}
-use Rattle.shadow_core.specs.Ticks.{table_at, ticks}
-use Rattle.shadow_core.specs.Renewal.{all_starts, renewed_thread, renewed, plain_tick, bounded_tick}
-use Rattle.shadow_core.specs.Counting.{next_counter, counter_of}
-use Rattle.shadow_core.specs.Stands.{Agrees}
-use Rattle.shadow_core.specs.Laws.{CounterFits, IsFresh}
-use Rattle.shadow_core.proofs.Events.{apart, open_calls-apart}
-use Rattle.shadow_core.proofs.Past.{of_thread, same_thread}
-use Rattle.shadow_core.proofs.Threads.{frame_count, frames_of, count-cons}
-use Rattle.shadow_core.proofs.There.{zip-length}
-use Rattle.shadow_core.proofs.Own.{change}
-use Rattle.shadow_core.proofs.Whole.{event_agrees, of_none}
+use Rattle.stamp_table.specs.Table.{Thread, Table, event_after}
+use Rattle.stamp_table.specs.Ticks.{table_at, ticks}
+use Rattle.stamp_table.specs.Renewal.{all_starts, renewed_thread, renewed, plain_tick, bounded_tick}
+use Rattle.stamp_table.specs.Counting.{next_counter, counter_of}
+use Rattle.stamp_table.specs.Stands.{Agrees}
+use Rattle.stamp_table.specs.Laws.{CounterFits, IsFresh}
+use Rattle.stamp_table.proofs.Events.{apart, open_calls-apart}
+use Rattle.stamp_table.proofs.Past.{of_thread, same_thread}
+use Rattle.stamp_table.proofs.Threads.{frame_count, frames_of, count-cons}
+use Rattle.stamp_table.proofs.There.{zip-length}
+use Rattle.stamp_table.proofs.Own.{change}
+use Rattle.stamp_table.proofs.Whole.{event_agrees, of_none}
 
 -- ---- a thread that does not live has no open activation
 own_closed : (e : Event) (past : List Event) (t : ℕ) → IsWellFormed (e ∷ past) → thread_of e ≡ Some t → is_live (e ∷ past) t ≡ false → open_calls (e ∷ past) t ≡ []

@@ -7,7 +7,7 @@ use Rattle.trace_model.specs.Events.{touch, words_read, steps_run, thread_of}
 use Rattle.trace_model.specs.Activations.{begun, count_ending, open_calls, backs}
 use Rattle.trace_model.specs.Sizes.{newer, is_own}
 use Rattle.trace_model.specs.WellFormed.{is_live}
-use Rattle.shadow_core.specs.Past.{is_by_others, writes_word}
+use Rattle.stamp_table.specs.Past.{is_by_others, writes_word}
 
 -- the event is of another thread, or of none
 pub record IsApart (e : Event) (t : ℕ) : Type 0 where

@@ -7,8 +7,8 @@ use Rattle.std.proofs.lemmas.Int.{ints}
 use Rattle.stamp_lanes.specs.Plain.{Place}
 use Rattle.shadow_stack.specs.declared.sums.Sums.{Sums}
 use Rattle.shadow_stack.specs.Frames.{Frame, plus, starts_of}
-use Rattle.shadow_core.specs.Frames.{no_sums, negated, added_to_top, taken_at, gain, frames_after_read, frames_after_reads, frames_after_pops, popped}
-use Rattle.shadow_core.specs.Stands.{totals, IsFalling}
+use Rattle.stamp_table.specs.Frames.{no_sums, negated, added_to_top, taken_at, gain, frames_after_read, frames_after_reads, frames_after_pops, popped}
+use Rattle.stamp_table.specs.Stands.{totals, IsFalling}
 
 -- ---- sums
 pub same_sums : (s r : Sums) → s.plain ≡ r.plain → s.bare ≡ r.bare → s ≡ r

@@ -18,8 +18,8 @@ use Rattle.trace_model.proofs.Causes.{is_foreign, counts_by_is}
 use Rattle.trace_model.proofs.Positions.{since_more, since_none, before_more, before_all}
 use Rattle.shadow_stack.specs.declared.sums.Sums.{Sums}
 use Rattle.call_tracker.specs.ThreadCalls.{Counts}
-use Rattle.shadow_core.specs.Past.{is_by_others, is_filled, counts_of, call_of, sums_of}
-use Rattle.shadow_core.proofs.Frames.{same_sums, with_gains}
+use Rattle.stamp_table.specs.Past.{is_by_others, is_filled, counts_of, call_of, sums_of}
+use Rattle.stamp_table.proofs.Frames.{same_sums, with_gains}
 
 pub map_same : {A B : Type 0} (P : A → Type 0) (f g : A → B) → ((x : A) → P x → f x ≡ g x) → (xs : List A) → All P xs → map f xs ≡ map g xs
 map_same P f g same [] all = refl

@@ -16,13 +16,13 @@ use Rattle.trace_model.proofs.Positions.{since_more, since_none}
 use Rattle.stamp_lanes.specs.Plain.{Place}
 use Rattle.shadow_stack.specs.declared.sums.Sums.{Sums}
 use Rattle.shadow_stack.specs.Frames.{starts_of}
-use Rattle.shadow_core.specs.Frames.{no_sums, frames_after_reads, frames_after_pops}
+use Rattle.stamp_table.specs.Frames.{no_sums, frames_after_reads, frames_after_pops}
 use Rattle.call_tracker.specs.ThreadCalls.{CountedCall, Counts}
-use Rattle.shadow_core.specs.Table.{Thread, Table, places_read, count_pops, with_frame}
-use Rattle.shadow_core.specs.Past.{is_by_others, counts_of, call_of, sums_of}
-use Rattle.shadow_core.specs.Stands.{totals, IsStartOf, IsFalling, outermost, ThreadStands}
-use Rattle.shadow_core.proofs.Frames.{starts-reads, starts-pops, totals-reads, totals-pops, Tells, with_gains, zip-map}
-use Rattle.shadow_core.proofs.Inside.{IsBegun, gained, calls_more, sums_more, call_now, sums_now, counts_idle, plain_is}
+use Rattle.stamp_table.specs.Table.{Thread, Table, places_read, count_pops, with_frame}
+use Rattle.stamp_table.specs.Past.{is_by_others, counts_of, call_of, sums_of}
+use Rattle.stamp_table.specs.Stands.{totals, IsStartOf, IsFalling, outermost, ThreadStands}
+use Rattle.stamp_table.proofs.Frames.{starts-reads, starts-pops, totals-reads, totals-pops, Tells, with_gains, zip-map}
+use Rattle.stamp_table.proofs.Inside.{IsBegun, gained, calls_more, sums_more, call_now, sums_now, counts_idle, plain_is}
 
 -- ---- starts
 start_more : (e : Event) (past : List Event) (t : ℕ) (access access' : ℕ → ℕ) (s : ℕ) (a : Activation) → IsBegun past a →

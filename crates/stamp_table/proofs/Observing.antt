@@ -1,9 +1,9 @@
 -- The table takes the events that fit, whatever past it stands for.
 use Rattle.std.proofs.Common.{ap, ◌++◌, ◌∙◌, sym}
 use Rattle.trace_model.specs.Profile.{done}
-use Rattle.shadow_core.specs.Observing.{TakesEvents}
-use Rattle.shadow_core.proofs.Room.{allows_what_may_follow, fits_by_frames}
-use Rattle.shadow_core.proofs.Runs.{stands_on, finishes_what_ends}
+use Rattle.stamp_table.specs.Observing.{TakesEvents}
+use Rattle.stamp_table.proofs.Room.{allows_what_may_follow, fits_by_frames}
+use Rattle.stamp_table.proofs.Runs.{stands_on, finishes_what_ends}
 
 pub takes_events : TakesEvents
 takes_events most e table may =

@@ -23,17 +23,17 @@ use Rattle.trace_model.proofs.Pairs.{contains_first}
 use Rattle.stamp_lanes.specs.Plain.{is_by_thread, is_by_kernel}
 use Rattle.shadow_stack.specs.Frames.{starts_of}
 use Rattle.call_tracker.specs.ThreadCalls.{Counts}
-use Rattle.shadow_core.specs.Table.{Thread, Table, with_frame, changed, count_pops, event_after, no_thread, places_read, stamped, thread_after_read, thread_after_ret}
-use Rattle.shadow_core.specs.Ticks.{ticks}
-use Rattle.shadow_core.specs.Past.{is_by_others, is_filled, counts_of}
-use Rattle.shadow_core.specs.Stands.{IsStartOf, outermost, ThreadStands, HasStart, Agrees}
-use Rattle.shadow_core.specs.Laws.{IsAbove, IsFresh}
-use Rattle.shadow_core.proofs.Frames.{starts-reads, starts-pops}
-use Rattle.shadow_core.proofs.Inside.{counts_idle, same_counts, kernel_is, other_is}
-use Rattle.shadow_core.proofs.Past.{IsUnstarted, unstarted, rooted, returned-lt}
-use Rattle.shadow_core.proofs.Threads.{value_of-changed, frame_count, frames_of, count-changed, count-pushed, count-without}
-use Rattle.shadow_core.proofs.There.{IsThere, there, depth_is, has_frame, positive_by}
-use Rattle.shadow_core.proofs.Kept.{IsStill, still_stands, still_thread, begun_stands, backs-stand, popped_stands, outermost-le}
+use Rattle.stamp_table.specs.Table.{Thread, Table, with_frame, changed, count_pops, event_after, no_thread, places_read, stamped, thread_after_read, thread_after_ret}
+use Rattle.stamp_table.specs.Ticks.{ticks}
+use Rattle.stamp_table.specs.Past.{is_by_others, is_filled, counts_of}
+use Rattle.stamp_table.specs.Stands.{IsStartOf, outermost, ThreadStands, HasStart, Agrees}
+use Rattle.stamp_table.specs.Laws.{IsAbove, IsFresh}
+use Rattle.stamp_table.proofs.Frames.{starts-reads, starts-pops}
+use Rattle.stamp_table.proofs.Inside.{counts_idle, same_counts, kernel_is, other_is}
+use Rattle.stamp_table.proofs.Past.{IsUnstarted, unstarted, rooted, returned-lt}
+use Rattle.stamp_table.proofs.Threads.{value_of-changed, frame_count, frames_of, count-changed, count-pushed, count-without}
+use Rattle.stamp_table.proofs.There.{IsThere, there, depth_is, has_frame, positive_by}
+use Rattle.stamp_table.proofs.Kept.{IsStill, still_stands, still_thread, begun_stands, backs-stand, popped_stands, outermost-le}
 
 -- ---- what an event makes of its thread
 pub record Change (e : Event) (table : Table) (past : List Event) (t : ℕ) : Type 0 where

@@ -12,9 +12,9 @@ use Rattle.trace_model.specs.Activations.{is_back, count_returned, open_calls, b
 use Rattle.trace_model.specs.Sizes.{last_touch}
 use Rattle.trace_model.specs.WellFormed.{is_live, greatest_start, MayFollow, IsWellFormed}
 use Rattle.call_tracker.specs.ThreadCalls.{no_counts}
-use Rattle.shadow_core.specs.Past.{is_by_others, is_written, writes_word, counts_of}
-use Rattle.shadow_core.proofs.Events.{apart, open_calls-apart}
-use Rattle.shadow_core.proofs.Inside.{counts_idle}
+use Rattle.stamp_table.specs.Past.{is_by_others, is_written, writes_word, counts_of}
+use Rattle.stamp_table.proofs.Events.{apart, open_calls-apart}
+use Rattle.stamp_table.proofs.Inside.{counts_idle}
 
 -- ---- a thread that is yet to start
 earlier_start : (e : Event) (past : List Event) (t : ℕ) → greatest_start (e ∷ past) < t → greatest_start past < t

@@ -16,14 +16,14 @@ use Rattle.shadow_stack.specs.declared.sums.Sums.{Sums}
 use Rattle.shadow_stack.specs.Frames.{Frame, plus, starts_of}
 use Rattle.stamp_renumber.specs.Classes.{new_start, new_write, new_access}
 use Rattle.stamp_renumber.proofs.Order.{class-strict, starts_keep_order, accesses_keep_order, writes_keep_order, writes_stay, new_stamps_fit}
-use Rattle.shadow_core.specs.Frames.{no_sums}
-use Rattle.shadow_core.specs.Table.{Thread, Table}
-use Rattle.shadow_core.specs.Renewal.{all_starts, renewed_thread, renewed, plain_tick}
-use Rattle.shadow_core.specs.Stands.{totals, IsStartOf, IsFalling, outermost, ThreadStands, HasStart, AreDistinct, Agrees}
-use Rattle.shadow_core.specs.Laws.{IsAbove, IsFresh, IsTick, TicksKeepTheTable}
-use Rattle.shadow_core.proofs.Threads.{starts_among}
-use Rattle.shadow_core.proofs.Kept.{falling-weaker}
-use Rattle.shadow_core.proofs.Own.{the_same}
+use Rattle.stamp_table.specs.Frames.{no_sums}
+use Rattle.stamp_table.specs.Table.{Thread, Table}
+use Rattle.stamp_table.specs.Renewal.{all_starts, renewed_thread, renewed, plain_tick}
+use Rattle.stamp_table.specs.Stands.{totals, IsStartOf, IsFalling, outermost, ThreadStands, HasStart, AreDistinct, Agrees}
+use Rattle.stamp_table.specs.Laws.{IsAbove, IsFresh, IsTick, TicksKeepTheTable}
+use Rattle.stamp_table.proofs.Threads.{starts_among}
+use Rattle.stamp_table.proofs.Kept.{falling-weaker}
+use Rattle.stamp_table.proofs.Own.{the_same}
 
 -- ---- the counter rises by one
 plain_tick_is_tick : IsTick plain_tick

@@ -16,17 +16,17 @@ use Rattle.trace_model.specs.Depth.{count_begun, pending}
 use Rattle.trace_model.proofs.Bounds.{weight-append, pairs-le-weight, cost-le-weight, count_range-le}
 use Rattle.shadow_stack.specs.declared.sums.Sums.{Sums}
 use Rattle.shadow_stack.specs.Frames.{Frame, plus}
-use Rattle.shadow_core.specs.Frames.{no_sums, frames_after_reads, frames_after_pops}
+use Rattle.stamp_table.specs.Frames.{no_sums, frames_after_reads, frames_after_pops}
 use Rattle.call_tracker.specs.ThreadCalls.{Counts}
-use Rattle.shadow_core.specs.Table.{Table, places_read}
-use Rattle.shadow_core.specs.Renewal.{all_starts}
-use Rattle.shadow_core.specs.Past.{sums_of}
-use Rattle.shadow_core.specs.Stands.{totals, Agrees}
-use Rattle.shadow_core.specs.Allows.{Allows, IsWithin, AllowsWhatMayFollow, AreWithin, CountsStayWithin, FitsByFrames, PopsStayWithin, SumsStayWithin}
-use Rattle.shadow_core.proofs.Frames.{totals-pops, with_gains}
-use Rattle.shadow_core.proofs.Inside.{gained, gains, inside_before}
-use Rattle.shadow_core.proofs.Kept.{totals_after}
-use Rattle.shadow_core.proofs.Counted.{room}
+use Rattle.stamp_table.specs.Table.{Table, places_read}
+use Rattle.stamp_table.specs.Renewal.{all_starts}
+use Rattle.stamp_table.specs.Past.{sums_of}
+use Rattle.stamp_table.specs.Stands.{totals, Agrees}
+use Rattle.stamp_table.specs.Allows.{Allows, IsWithin, AllowsWhatMayFollow, AreWithin, CountsStayWithin, FitsByFrames, PopsStayWithin, SumsStayWithin}
+use Rattle.stamp_table.proofs.Frames.{totals-pops, with_gains}
+use Rattle.stamp_table.proofs.Inside.{gained, gains, inside_before}
+use Rattle.stamp_table.proofs.Kept.{totals_after}
+use Rattle.stamp_table.proofs.Counted.{room}
 
 may : (e : Event) (table : Table) (past : List Event) → Agrees table past → Allows e table ↔ MayFollow e past
 may (Step t) table past s = ((λ h. sym (s.live t) ∙ h), (λ h. s.live t ∙ h))

@@ -3,15 +3,15 @@ use Rattle.std.proofs.Common.{◌≡◌, ℕ, ◌+◌, ◌≤◌, Bool, true, fa
 use Rattle.std.proofs.lemmas.Bool.{false≢true, le-leb}
 use Rattle.std.proofs.lemmas.List.Elements.{All-nil}
 use Rattle.trace_model.specs.declared.event_kinds.Event.{Event}
-use Rattle.shadow_core.specs.Table.{Table, empty_table}
-use Rattle.shadow_core.specs.Ticks.{table_at, table_of, ticks}
-use Rattle.shadow_core.specs.Renewal.{bounded_tick}
-use Rattle.shadow_core.specs.Counting.{next_counter}
-use Rattle.shadow_core.specs.Stands.{Agrees}
-use Rattle.shadow_core.specs.Laws.{IsFresh, IsTick, AgreesOn, EmptyStands, CountsOn, StandsOn, FinishesWhatEnds, FinishesWhatIsDone, RunsAgree}
-use Rattle.shadow_core.proofs.Whole.{counter_after, event_agrees, event_finishes}
-use Rattle.shadow_core.proofs.Renewed.{bounded_tick_is_tick}
-use Rattle.shadow_core.proofs.Counted.{frames_after, renumbered_after, ticked_counter, ticked_frames, ticked_renumbered}
+use Rattle.stamp_table.specs.Table.{Table, empty_table}
+use Rattle.stamp_table.specs.Ticks.{table_at, table_of, ticks}
+use Rattle.stamp_table.specs.Renewal.{bounded_tick}
+use Rattle.stamp_table.specs.Counting.{next_counter}
+use Rattle.stamp_table.specs.Stands.{Agrees}
+use Rattle.stamp_table.specs.Laws.{IsFresh, IsTick, AgreesOn, EmptyStands, CountsOn, StandsOn, FinishesWhatEnds, FinishesWhatIsDone, RunsAgree}
+use Rattle.stamp_table.proofs.Whole.{counter_after, event_agrees, event_finishes}
+use Rattle.stamp_table.proofs.Renewed.{bounded_tick_is_tick}
+use Rattle.stamp_table.proofs.Counted.{frames_after, renumbered_after, ticked_counter, ticked_frames, ticked_renumbered}
 
 module _ (tick : Table → Table) (is_tick : IsTick tick) where
   -- the table at an event agrees, and is fresh where the event ticks

@@ -10,10 +10,10 @@ use Rattle.trace_model.specs.declared.activations.Activation.{Activation}
 use Rattle.trace_model.specs.Activations.{open_calls, backs}
 use Rattle.trace_model.specs.WellFormed.{is_live, IsWellFormed}
 use Rattle.shadow_stack.specs.Frames.{starts_of}
-use Rattle.shadow_core.specs.Table.{Thread, Table}
-use Rattle.shadow_core.specs.Stands.{IsFalling, ThreadStands, Agrees}
-use Rattle.shadow_core.specs.Laws.{IsFresh}
-use Rattle.shadow_core.proofs.Past.{rooted, rooted-positive}
+use Rattle.stamp_table.specs.Table.{Thread, Table}
+use Rattle.stamp_table.specs.Stands.{IsFalling, ThreadStands, Agrees}
+use Rattle.stamp_table.specs.Laws.{IsFresh}
+use Rattle.stamp_table.proofs.Past.{rooted, rooted-positive}
 
 -- after a tick the counter is not 0
 pub positive_by : {table : Table} → IsFresh table → 0 < table.counter

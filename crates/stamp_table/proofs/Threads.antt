@@ -9,8 +9,8 @@ use Rattle.std.proofs.lemmas.List.Elements.{Contains-append_left, Contains-appen
 use Rattle.guest_words.specs.ByThread.{IsRising, numbers, value_of, with_value, without_thread}
 use Rattle.guest_words.proofs.ThreadTables.{numbers-with, value_of-with}
 use Rattle.shadow_stack.specs.Frames.{starts_of}
-use Rattle.shadow_core.specs.Table.{Thread, changed}
-use Rattle.shadow_core.specs.Renewal.{all_starts}
+use Rattle.stamp_table.specs.Table.{Thread, changed}
+use Rattle.stamp_table.specs.Renewal.{all_starts}
 
 pub value_of-changed : (xs : List (ℕ × Thread)) (t : ℕ) (change : Thread → Thread) (v : Thread) → value_of xs t ≡ Some v →
     (u : ℕ) → value_of (changed t change xs) u ≡ cond (t == u) (Some (change v)) (value_of xs u)

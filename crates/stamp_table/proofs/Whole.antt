@@ -18,21 +18,21 @@ use Rattle.trace_model.specs.Profile.{done_of, ended}
 use Rattle.trace_model.specs.WellFormed.{is_live, last_step, greatest_start, weight_of, MayFollow, IsWellFormed}
 use Rattle.trace_model.proofs.Causes.{foreign_parts_are_counts, parts-sum}
 use Rattle.shadow_stack.specs.Frames.{Frame, starts_of}
-use Rattle.shadow_core.specs.Frames.{popped}
-use Rattle.shadow_core.specs.Table.{Thread, Table, with_frame, count_pops, event_after, no_thread, changed}
-use Rattle.shadow_core.specs.Ticks.{is_switch, ticks}
-use Rattle.shadow_core.specs.Records.{finished, record_of, records, records_of}
-use Rattle.shadow_core.specs.Past.{is_by_others, is_written, is_filled, writes_word, counts_of, call_of, sums_of}
-use Rattle.shadow_core.specs.Stands.{IsFalling, ThreadStands, HasStart, Agrees}
-use Rattle.shadow_core.specs.Laws.{IsAbove, IsFresh, OpenAreAsDefined}
-use Rattle.shadow_core.proofs.Frames.{popped-totals}
-use Rattle.shadow_core.proofs.Events.{apart}
-use Rattle.shadow_core.proofs.Inside.{inside_before, counts_idle}
-use Rattle.shadow_core.proofs.Past.{of_thread, same_thread}
-use Rattle.shadow_core.proofs.Threads.{numbers-changed}
-use Rattle.shadow_core.proofs.Kept.{still_stands, backs-stand}
-use Rattle.shadow_core.proofs.There.{IsThere, there, positive, positive_by, zip-length}
-use Rattle.shadow_core.proofs.Own.{Change, change, at_most}
+use Rattle.stamp_table.specs.Frames.{popped}
+use Rattle.stamp_table.specs.Table.{Thread, Table, with_frame, count_pops, event_after, no_thread, changed}
+use Rattle.stamp_table.specs.Ticks.{is_switch, ticks}
+use Rattle.stamp_table.specs.Records.{finished, record_of, records, records_of}
+use Rattle.stamp_table.specs.Past.{is_by_others, is_written, is_filled, writes_word, counts_of, call_of, sums_of}
+use Rattle.stamp_table.specs.Stands.{IsFalling, ThreadStands, HasStart, Agrees}
+use Rattle.stamp_table.specs.Laws.{IsAbove, IsFresh, OpenAreAsDefined}
+use Rattle.stamp_table.proofs.Frames.{popped-totals}
+use Rattle.stamp_table.proofs.Events.{apart}
+use Rattle.stamp_table.proofs.Inside.{inside_before, counts_idle}
+use Rattle.stamp_table.proofs.Past.{of_thread, same_thread}
+use Rattle.stamp_table.proofs.Threads.{numbers-changed}
+use Rattle.stamp_table.proofs.Kept.{still_stands, backs-stand}
+use Rattle.stamp_table.proofs.There.{IsThere, there, positive, positive_by, zip-length}
+use Rattle.stamp_table.proofs.Own.{Change, change, at_most}
 
 -- ---- what each event makes of the counter and the write stamps
 pub counter_after : (e : Event) (table : Table) → (event_after e table).counter ≡ table.counter

@@ -1,17 +1,17 @@
 -- Which event may come next, by the table alone, and what then fits.
-use Rattle.std.specs.Prelude.{◌≡◌, ◌↔◌, ℕ, ◌+◌, ◌*◌, ◌<◌, ◌≤◌, ℤ, pos, neg_ℤ, ◌≤ℤ◌, Bool, true, ◌||◌, nat_eq, nat_le, List, ◌∷◌, Some, All, is_some, length}
+use Rattle.std.specs.Prelude.{◌≡◌, ◌↔◌, ℕ, ◌+◌, ◌*◌, ◌<◌, ◌≤◌, ℤ, pos, neg_ℤ, ◌≤ℤ◌, Bool, true, not, ◌&&◌, ◌||◌, nat_eq, nat_le, nat_lt, List, ◌∷◌, Some, All, is_some, length}
 use Rattle.std.specs.List.{range_with_len}
 use Rattle.guest_words.specs.ByThread.{value_of}
 use Rattle.guest_words.specs.declared.limits.TheConstants.{TRACE_WEIGHT}
 use Rattle.trace_model.specs.declared.event_kinds.Event.{Event}
 use Rattle.trace_model.specs.declared.event_kinds.Event.TheVariants.{Step, Read, Write, Fill, Call, Ret, Start, End}
 use Rattle.trace_model.specs.WellFormed.{weight, weight_of, AreWords, IsWellFormed}
-use Rattle.trace_model.specs.Depth.{count_begun, is_within}
+use Rattle.trace_model.specs.Depth.{count_begun, is_within, pending}
 use Rattle.shadow_stack.specs.Frames.{Frame}
-use Rattle.shadow_core.specs.Frames.{frames_after_reads, frames_after_pops}
-use Rattle.shadow_core.specs.Table.{Thread, Table, places_read}
-use Rattle.shadow_core.specs.Renewal.{all_starts}
-use Rattle.shadow_core.specs.Stands.{Agrees, Stands}
+use Rattle.stamp_table.specs.Frames.{frames_after_reads, frames_after_pops}
+use Rattle.stamp_table.specs.Table.{Thread, Table, places_read}
+use Rattle.stamp_table.specs.Renewal.{all_starts}
+use Rattle.stamp_table.specs.Stands.{Agrees, Stands}
 
 -- the thread is in the table
 abbrev pub IsThere : Table → ℕ → Type 0
@@ -48,6 +48,14 @@ has_stamps most e table = nat_eq (count_begun e) 0 || nat_le (3 * (length (all_s
 abbrev pub FitsByFrames : Type 0
 FitsByFrames = (most : ℕ) (e : Event) (table : Table) (past : List Event) → Stands most table past →
     is_within most (e ∷ past) ≡ has_stamps most e table
+
+-- It begins an activation, and three stamps for each that is then open and three more are more than there are.
+abbrev pub is_too_deep : ℕ → Event → List Event → Bool
+is_too_deep most e past = nat_lt 0 (count_begun e) && nat_lt most (3 * (pending past + 2))
+
+-- what is too deep is what does not fit
+abbrev pub DeepDoesNotFit : Type 0
+DeepDoesNotFit = (most : ℕ) (e : Event) (table : Table) (past : List Event) → Stands most table past → is_too_deep most e past ≡ not (is_within most (e ∷ past))
 
 -- the sum is at most so great, and minus it at least
 abbrev pub IsWithin : ℕ → ℤ → Type 0

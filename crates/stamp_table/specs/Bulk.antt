@@ -3,8 +3,8 @@ use Rattle.std.specs.Prelude.{◌≡◌, ℕ, pos, List, ◌∷◌}
 use Rattle.stamp_lanes.specs.declared.bulk.Bulk.{Bulk}
 use Rattle.stamp_lanes.specs.Plain.{Place, IsBulk}
 use Rattle.shadow_stack.specs.Frames.{Frame, starts_of}
-use Rattle.shadow_core.specs.Frames.{frames_after_reads, added_to_top}
-use Rattle.shadow_core.specs.Stands.{IsFalling}
+use Rattle.stamp_table.specs.Frames.{frames_after_reads, added_to_top}
+use Rattle.stamp_table.specs.Stands.{IsFalling}
 
 -- where no place is old by the innermost start, a read changes the innermost frame alone, by two counts of the places
 abbrev pub ReadsAtOnce : Type 0

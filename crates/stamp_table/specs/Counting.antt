@@ -3,7 +3,7 @@ use Rattle.std.specs.Prelude.{ℕ, ◌+◌, ◌*◌, not, ◌&&◌, if◌then◌
 use Rattle.trace_model.specs.declared.event_kinds.Event.{Event}
 use Rattle.trace_model.specs.WellFormed.{last_step}
 use Rattle.trace_model.specs.Depth.{pending}
-use Rattle.shadow_core.specs.Ticks.{ticks}
+use Rattle.stamp_table.specs.Ticks.{ticks}
 
 -- the counter after a tick, with `depth` activations open
 abbrev pub next_counter : ℕ → ℕ → ℕ → ℕ

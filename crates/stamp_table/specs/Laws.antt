@@ -7,13 +7,13 @@ use Rattle.trace_model.specs.Depth.{is_within}
 use Rattle.trace_model.specs.Profile.{done_of, ended, done}
 use Rattle.trace_model.specs.WellFormed.{IsWellFormed}
 use Rattle.shadow_stack.specs.Frames.{starts_of}
-use Rattle.shadow_core.specs.Frames.{popped}
-use Rattle.shadow_core.specs.Table.{Thread, Table, empty_table}
-use Rattle.shadow_core.specs.Ticks.{table_at, table_after, table_of}
-use Rattle.shadow_core.specs.Renewal.{bounded_tick}
-use Rattle.shadow_core.specs.Counting.{counter_of}
-use Rattle.shadow_core.specs.Records.{finished, finished_of, records}
-use Rattle.shadow_core.specs.Stands.{IsFalling, Agrees, IsCounted, Stands}
+use Rattle.stamp_table.specs.Frames.{popped}
+use Rattle.stamp_table.specs.Table.{Thread, Table, empty_table}
+use Rattle.stamp_table.specs.Ticks.{table_at, table_after, table_of}
+use Rattle.stamp_table.specs.Renewal.{bounded_tick}
+use Rattle.stamp_table.specs.Counting.{counter_of}
+use Rattle.stamp_table.specs.Records.{finished, finished_of, records}
+use Rattle.stamp_table.specs.Stands.{IsFalling, Agrees, IsCounted, Stands}
 
 -- ---- What a tick has to do.
 -- the stamp is above each stamp of the thread

@@ -5,12 +5,12 @@ use Rattle.trace_model.specs.declared.observer.Observed.TheVariants.{Taken, Refu
 use Rattle.trace_model.specs.Depth.{is_within}
 use Rattle.trace_model.specs.Observing.{MayTake, Observes}
 use Rattle.trace_model.specs.Profile.{done}
-use Rattle.shadow_core.specs.Table.{Table}
-use Rattle.shadow_core.specs.Ticks.{table_at, table_after}
-use Rattle.shadow_core.specs.Renewal.{bounded_tick}
-use Rattle.shadow_core.specs.Records.{finished}
-use Rattle.shadow_core.specs.Stands.{Stands}
-use Rattle.shadow_core.specs.Allows.{has_stamps}
+use Rattle.stamp_table.specs.Table.{Table}
+use Rattle.stamp_table.specs.Ticks.{table_at, table_after}
+use Rattle.stamp_table.specs.Renewal.{bounded_tick}
+use Rattle.stamp_table.specs.Records.{finished}
+use Rattle.stamp_table.specs.Stands.{Stands}
+use Rattle.stamp_table.specs.Allows.{has_stamps}
 
 pub record TakesEvent (most : ℕ) (e : Event) (table : Table) : Type 0 where
   -- where there are stamps for the event, the table after it stands for the longer past

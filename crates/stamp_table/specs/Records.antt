@@ -5,10 +5,10 @@ use Rattle.trace_model.specs.declared.event_kinds.Event.{Event}
 use Rattle.trace_model.specs.declared.event_kinds.Event.TheVariants.{Ret, End}
 use Rattle.trace_model.specs.declared.slow_profile.Done.{Done}
 use Rattle.shadow_stack.specs.declared.sums.Sums.{Sums}
-use Rattle.shadow_core.specs.Frames.{popped}
+use Rattle.stamp_table.specs.Frames.{popped}
 use Rattle.call_tracker.specs.ThreadCalls.{CountedCall, Counts}
-use Rattle.shadow_core.specs.Table.{Thread, Table, count_pops}
-use Rattle.shadow_core.specs.Ticks.{table_at, table_of}
+use Rattle.stamp_table.specs.Table.{Thread, Table, count_pops}
+use Rattle.stamp_table.specs.Ticks.{table_at, table_of}
 
 -- a number, and 0 for one below it
 abbrev pub nat_of : ℤ → ℕ

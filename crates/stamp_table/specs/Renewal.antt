@@ -3,7 +3,7 @@ use Rattle.std.specs.Prelude.{ℕ, ◌+◌, ◌*◌, if◌then◌else◌, nat_lt
 use Rattle.std.specs.List.{flat_map}
 use Rattle.shadow_stack.specs.Frames.{Frame, starts_of}
 use Rattle.stamp_renumber.specs.Classes.{new_start, new_write, new_access}
-use Rattle.shadow_core.specs.Table.{Thread, Table}
+use Rattle.stamp_table.specs.Table.{Thread, Table}
 
 -- the start stamps of all threads' frames
 abbrev pub all_starts : List (ℕ × Thread) → List ℕ

@@ -10,11 +10,11 @@ use Rattle.trace_model.specs.WellFormed.{is_live, last_step, greatest_start, wei
 use Rattle.trace_model.specs.Depth.{pending, is_within}
 use Rattle.shadow_stack.specs.declared.sums.Sums.{Sums}
 use Rattle.shadow_stack.specs.Frames.{Frame, plus, starts_of}
-use Rattle.shadow_core.specs.Frames.{no_sums}
-use Rattle.shadow_core.specs.Table.{Thread, Table}
-use Rattle.shadow_core.specs.Renewal.{all_starts}
-use Rattle.shadow_core.specs.Past.{is_written, is_filled, is_by_others, counts_of, call_of, sums_of}
-use Rattle.shadow_core.specs.Counting.{counter_of, renumberings}
+use Rattle.stamp_table.specs.Frames.{no_sums}
+use Rattle.stamp_table.specs.Table.{Thread, Table}
+use Rattle.stamp_table.specs.Renewal.{all_starts}
+use Rattle.stamp_table.specs.Past.{is_written, is_filled, is_by_others, counts_of, call_of, sums_of}
+use Rattle.stamp_table.specs.Counting.{counter_of, renumberings}
 
 -- ---- What the frames of a thread say.
 -- for each frame, the sum of the sums from it up to the innermost; `above` is that of the frames further in

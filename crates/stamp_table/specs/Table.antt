@@ -11,7 +11,7 @@ use Rattle.trace_model.specs.WellFormed.{weight_of}
 use Rattle.call_tracker.specs.ThreadCalls.{Counts, CountedCall, no_counts}
 use Rattle.stamp_lanes.specs.Plain.{Place, is_by_thread, is_by_kernel}
 use Rattle.shadow_stack.specs.Frames.{Frame, new_frame}
-use Rattle.shadow_core.specs.Frames.{frames_after_reads, frames_after_pops}
+use Rattle.stamp_table.specs.Frames.{frames_after_reads, frames_after_pops}
 
 -- A thread: its frames and open calls, which are as many; the stamp of its last access of each word, 0 for none; its counts.
 pub record Thread : Type 0 where

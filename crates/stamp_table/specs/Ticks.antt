@@ -2,7 +2,7 @@
 use Rattle.std.specs.Prelude.{ℕ, zero, suc, Bool, true, false, not, if◌then◌else◌, nat_eq, List, [], ◌∷◌, Option, Some, None}
 use Rattle.trace_model.specs.declared.event_kinds.Event.{Event}
 use Rattle.trace_model.specs.declared.event_kinds.Event.TheVariants.{Step, Fill, Call, Start}
-use Rattle.shadow_core.specs.Table.{Table, empty_table, event_after}
+use Rattle.stamp_table.specs.Table.{Table, empty_table, event_after}
 
 -- the step is by another thread than the step before; the first step is no switch
 abbrev pub is_switch : Option ℕ → ℕ → Bool

@@ -3,9 +3,9 @@ use Rattle.std.specs.Prelude.{◌≡◌, true, reverse}
 use Rattle.trace_model.specs.Depth.{is_within}
 use Rattle.trace_model.specs.Profile.{done}
 use Rattle.trace_model.specs.WorkedTraces.{kernel_fills, other_thread_writes, own_write_between}
-use Rattle.shadow_core.specs.Ticks.{table_of}
-use Rattle.shadow_core.specs.Renewal.{bounded_tick}
-use Rattle.shadow_core.specs.Records.{finished_of}
+use Rattle.stamp_table.specs.Ticks.{table_of}
+use Rattle.stamp_table.specs.Renewal.{bounded_tick}
+use Rattle.stamp_table.specs.Records.{finished_of}
 
 pub record WorkedTables : Type 0 where
   pub writes : finished_of (bounded_tick 12) (reverse other_thread_writes) ≡ done (reverse other_thread_writes)

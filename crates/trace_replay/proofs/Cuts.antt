@@ -5,12 +5,8 @@ use Rattle.std.specs.Prelude.{◌==◌}
 use Rattle.std.proofs.lemmas.Bool.Decides.{nat_tests}
 use Rattle.trace_model.specs.declared.event_kinds.Event.{Event}
 use Rattle.trace_model.specs.Cut.{IsPrefixClosed, cut, past_after}
-use Rattle.trace_model.specs.WellFormed.{IsLight, IsWellFormed}
+use Rattle.trace_model.specs.WellFormed.{IsWellFormed}
 use Rattle.trace_model.proofs.Cut.{cut-earlier, fits-earlier}
-
-pub light_of : (past : List Event) → IsWellFormed past → IsLight past
-light_of [] formed = omega arith
-light_of (e ∷ past) formed = formed.1
 
 pub cut_formed : (fits : List Event → Bool) (past : List Event) → IsWellFormed past → IsWellFormed (cut fits past)
 cut_formed fits [] formed = tt

@@ -1,5 +1,6 @@
 -- What is made of a stored trace. A past is the list of its events, the newest first.
 use Rattle.std.specs.Prelude.{◌≡◌, ◌⊎◌, ℕ, Bool, List, Result, Ok, Err, None}
+use Rattle.run_profile.specs.Points.{HoldsPoints, KeptPoints}
 use Rattle.run_profile.specs.Profile.{AreTotalsOf, IsProfileOf, KeptRun}
 use Rattle.trace_file.specs.Reading.{HasNext, HasRead, IsTraceRefused, ReaderState}
 use Rattle.trace_file.specs.TraceText.{IsTrace}
@@ -25,14 +26,14 @@ Replays most bytes (Err e) = (past : List Event) × IsTraceRefused bytes past e
 -- What goes on: the reader, the profile, and whether all events so far were taken.
 pub record Going : Type 0 where
   pub reader : ReaderState
-  pub profile : KeptRun
+  pub profile : KeptRun KeptPoints
   pub whole : Bool
 
 -- The bytes were read, and this is the profile of their events.
 pub record HasReplayed (most : ℕ) (g : Going) (bytes : List ℕ) : Type 0 where
   pub past : List Event
   pub read : HasRead g.reader bytes past
-  pub profile : IsProfileOf most g.profile (cut (is_within most) past)
+  pub profile : IsProfileOf most HoldsPoints g.profile (cut (is_within most) past)
   pub whole : g.whole ≡ is_within most past
 
 -- Nothing that was read of the bytes is refused: nothing fails in them, or memory failed for a whole record that may come there.

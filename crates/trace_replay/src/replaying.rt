@@ -6,7 +6,7 @@ ghost use Rattle.trace_model.specs.declared.event_kinds.Event.{Event};
 ghost use Rattle.trace_replay.specs.Replays.{HasReplayed, IsBeforeRefusal, Replays};
 
 use guest_words::{Addr, Finish, Name};
-use run_profile::{Profile, Totals};
+use run_profile::{Points, Profile, Totals};
 use stamp_lanes::Lanes;
 use std::alloc::{AllocError, Global};
 use std::marker::Model;
@@ -34,7 +34,7 @@ pub struct Replayed {
 #[derive(Drop)]
 pub struct TraceProfile<S: Lanes> {
     reader: TraceReader,
-    profile: Profile<S>,
+    profile: Profile<S, Points>,
     whole: bool,
     // Room for the events of a piece.
     events: Events,
@@ -56,7 +56,7 @@ impl<S: Lanes> TraceProfile<S> {
     {
         Ok(TraceProfile {
             reader: TraceReader::new(alloc)?,
-            profile: Profile::new(alloc)?,
+            profile: Profile::new(alloc, Points::new(alloc)?)?,
             whole: true,
             events: Events::new(alloc)?,
         })
@@ -103,9 +103,9 @@ impl<S: Lanes> TraceProfile<S> {
             ..
         } = self;
         let TraceEnd { names, finish } = reader.finish()?;
-        let totals = profile.into_totals()?;
+        let (points, counts) = profile.into_kept()?;
         Ok(Replayed {
-            totals,
+            totals: points.into_totals(counts),
             whole,
             names,
             finish,

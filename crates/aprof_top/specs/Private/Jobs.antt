@@ -19,13 +19,14 @@ use Rattle.aprof_top.specs.declared.ending.Ending.{Ending}
 use Rattle.aprof_top.specs.declared.ending.Ending.TheVariants.{Decided, CannotRead, CannotWrite, CannotPut, OutOfMemory}
 use Rattle.aprof_top.specs.declared.ending.Verdict.{Verdict}
 use Rattle.aprof_top.specs.declared.ending.Verdict.TheVariants.{Summarized, TooLarge}
-use Rattle.run_profile.specs.Profile.{AreTotalsOf}
+use Rattle.run_profile.specs.Contexts.{AreContextTotalsOf, IsPastNumbers}
+use Rattle.run_profile.specs.Profile.{AreCountsOf, AreTotalsOf}
+use Rattle.run_profile.specs.declared.totals.ContextTotals.{ContextTotals}
+use Rattle.run_profile.specs.declared.totals.Counts.{Counts}
+use Rattle.trace_model.specs.declared.slow_profile.Done.{Done}
 use Rattle.aprof_top.specs.declared.delivery.Store.{Store}
 use Rattle.aprof_top.specs.declared.profiled_run.ProfiledRun.{ProfiledRun}
 use Rattle.aprof_top.specs.declared.contexts_job.ContextsRun.{ContextsRun}
-use Rattle.context_profile.specs.Kept.{IsPastNumbers}
-use Rattle.context_profile.specs.Kept as contexts
-use Rattle.context_profile.specs.declared.profile.ContextTotals.{ContextTotals}
 use Rattle.aprof_top.specs.declared.trace_job.TracedRun.{TracedRun}
 use Rattle.cache_lines.specs.Shapes.{Dimensions}
 use Rattle.cache_profile.specs.ReportText.{Reported}
@@ -80,6 +81,19 @@ GuestIsRun IsMade fits options image files =
     ImageIsRun IsMade (setup_refusal image (arguments options))
     (observed_from fits options files.schedule image.entry (start image (arguments options) files.inputs files.stdin.items))
 
+-- What a keeper has of a run, what was counted of it, and how it ended.
+pub record KeptGuest (K : Type 0) : Type 0 where
+  pub kept : K
+  pub counts : Counts
+  pub ended : Ended
+
+-- The keeper holds the past of a run, and these are its counts, by stamps up to the greatest, its recording and its end.
+pub record IsKept {K : Type 0} (Holds : K → List Event → List Done → Type 0) (most : ℕ) (kept : KeptGuest K) (run : ObservedRun) : Type 0 where
+  pub holds : Holds kept.kept run.past []
+  pub counts : AreCountsOf most kept.counts run.past
+  pub recorded : kept.ended.recording ≡ recording run.moves
+  pub finish : kept.ended.finish ≡ run.finish
+
 -- These are the totals of a run, by stamps up to the greatest, its recording and its end.
 pub record IsProfiled (most : ℕ) (profiled : ProfiledRun) (run : ObservedRun) : Type 0 where
   pub totals : AreTotalsOf most profiled.totals run.past
@@ -103,7 +117,7 @@ IsMissed shape image report run = report ≡ misses_of shape image run.finish ru
 -- the totals of the run with its contexts, unless they are more than can be numbered
 abbrev pub HaveContexts : ℕ → Option ContextTotals → List Event → Type 0
 HaveContexts most None past = IsPastNumbers past
-HaveContexts most (Some totals) past = contexts.AreTotalsOf most totals past
+HaveContexts most (Some totals) past = AreContextTotalsOf most totals past
 
 -- These are the contexts of a run, by stamps up to the greatest, and its end.
 pub record HasContexts (most : ℕ) (told : ContextsRun) (run : ObservedRun) : Type 0 where

@@ -4,8 +4,8 @@ use Rattle.guest_words.specs.ByThread.{with_value}
 use Rattle.trace_model.specs.declared.slow_profile.Done.{Done}
 use Rattle.shadow_stack.specs.declared.sums.Sums.{Sums}
 use Rattle.stamp_renumber.specs.Threads.{Live, calls_of, frames_of, pages_of, stamped}
-use Rattle.shadow_core.specs.Parts.{ArePopped}
-use Rattle.shadow_core.specs.Records.{records}
+use Rattle.shadow_core.specs.Private.Parts.{ArePopped}
+use Rattle.stamp_table.specs.Records.{records}
 
 -- `n` calls of the thread ended, the innermost first: their frames are popped, and each is recorded with its sums.
 pub record IsEnded (t n : ℕ) (old new : Live) (done more : List Done) : Type 0 where

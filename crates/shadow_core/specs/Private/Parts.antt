@@ -4,7 +4,7 @@ use Rattle.std.specs.Option.{option_map_or}
 use Rattle.stamp_lanes.specs.Plain.{Place}
 use Rattle.shadow_stack.specs.declared.sums.Sums.{Sums}
 use Rattle.shadow_stack.specs.Frames.{Frame, IsLastAtMost, IsPopped, added, added_to_last, starts_of}
-use Rattle.shadow_core.specs.Frames.{added_to_top, negated, taken_at, gain, frames_after_read, frames_after_reads, pop, popped, frames_after_pops}
+use Rattle.stamp_table.specs.Frames.{added_to_top, negated, taken_at, gain, frames_after_read, frames_after_reads, pop, popped, frames_after_pops}
 
 -- ---- Frames.
 -- a push puts the frame in front

@@ -7,8 +7,8 @@ use Rattle.shadow_stack.specs.declared.sums.Sums.{Sums}
 use Rattle.shadow_stack.specs.Frames.{Frame}
 use Rattle.shadow_pages.specs.Pages.{Page, covers, in_range, stamp_at}
 use Rattle.stamp_renumber.specs.Threads.{Live, calls_of, frames_of, pages_of, spare_of, stamped}
-use Rattle.shadow_core.specs.Frames.{frames_after_reads}
-use Rattle.shadow_core.specs.Allows.{IsWithin}
+use Rattle.stamp_table.specs.Frames.{frames_after_reads}
+use Rattle.stamp_table.specs.Allows.{IsWithin}
 
 -- each of the two is 1, 0 or minus 1
 abbrev pub AreSmall : Sums → Type 0

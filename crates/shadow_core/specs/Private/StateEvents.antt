@@ -7,13 +7,13 @@ use Rattle.trace_model.specs.WellFormed.{weight_of}
 use Rattle.shadow_pages.specs.Pages.{Page}
 use Rattle.stamp_renumber.specs.Threads.{Live, Stamped, all_starts}
 use Rattle.stamp_renumber.specs.Ticks.{IsRenumbered}
-use Rattle.shadow_core.specs.Table.{row}
-use Rattle.shadow_core.specs.Ticks.{ticks, table_at, table_after}
-use Rattle.shadow_core.specs.Renewal.{bounded_tick}
-use Rattle.shadow_core.specs.Allows.{has_stamps}
+use Rattle.stamp_table.specs.Table.{row}
+use Rattle.stamp_table.specs.Ticks.{ticks, table_at, table_after}
+use Rattle.stamp_table.specs.Renewal.{bounded_tick}
+use Rattle.stamp_table.specs.Allows.{has_stamps}
 use Rattle.shadow_core.specs.State.{State, table_of_state}
-use Rattle.shadow_core.specs.StateRows.{Has}
-use Rattle.shadow_core.specs.StateTicks.{renumbered_to}
+use Rattle.shadow_core.specs.Private.StateRows.{Has}
+use Rattle.shadow_core.specs.Private.StateTicks.{renumbered_to}
 
 -- there are stamps for the event, by how many frames there are
 abbrev pub StampsAreTold : Type 0

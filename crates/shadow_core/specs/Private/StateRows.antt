@@ -12,11 +12,11 @@ use Rattle.shadow_stack.specs.declared.sums.Sums.{Sums}
 use Rattle.shadow_stack.specs.Frames.{Frame, new_frame}
 use Rattle.shadow_pages.specs.Pages.{Page, stamp_at}
 use Rattle.stamp_renumber.specs.Threads.{Live, Stamped}
-use Rattle.shadow_core.specs.Frames.{frames_after_reads}
+use Rattle.stamp_table.specs.Frames.{frames_after_reads}
 use Rattle.call_tracker.specs.ThreadCalls.{no_counts}
-use Rattle.shadow_core.specs.Table.{stamped, after_start, after_call, after_step, after_read, after_write, after_fill, after_ret, after_end, row, event_after}
-use Rattle.shadow_core.specs.Records.{records, records_of}
-use Rattle.shadow_core.specs.Parts.{ArePopped}
+use Rattle.stamp_table.specs.Table.{stamped, after_start, after_call, after_step, after_read, after_write, after_fill, after_ret, after_end, row, event_after}
+use Rattle.stamp_table.specs.Records.{records, records_of}
+use Rattle.shadow_core.specs.Private.Parts.{ArePopped}
 use Rattle.shadow_core.specs.State.{State, table_of_state}
 
 -- The threads are by rising number, and the thread is one of them, with these frames, stamps and calls.

@@ -2,7 +2,7 @@
 use Rattle.std.specs.Prelude.{◌≡◌, ℕ, ◌<◌, List, [], ◌∷◌, ◌++◌, Some, All}
 use Rattle.guest_words.specs.ByThread.{numbers, value_of, with_value, without_thread}
 use Rattle.stamp_renumber.specs.Threads.{Stamped}
-use Rattle.shadow_core.specs.Table.{Thread, changed}
+use Rattle.stamp_table.specs.Table.{Thread, changed}
 use Rattle.shadow_core.specs.State.{as_thread, as_threads}
 
 -- the thread's new parts are a change of its old ones

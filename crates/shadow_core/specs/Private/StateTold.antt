@@ -4,10 +4,10 @@ use Rattle.guest_words.specs.ByThread.{numbers, value_of, with_value}
 use Rattle.shadow_pages.specs.Pages.{Page, stamp_at}
 use Rattle.stamp_renumber.specs.Threads.{Live, Stamped}
 use Rattle.stamp_renumber.specs.Threads as parts
-use Rattle.shadow_core.specs.Table.{empty_table}
-use Rattle.shadow_core.specs.Renewal.{all_starts}
+use Rattle.stamp_table.specs.Table.{empty_table}
+use Rattle.stamp_table.specs.Renewal.{all_starts}
 use Rattle.shadow_core.specs.State.{State, table_of_state}
-use Rattle.shadow_core.specs.StateRows.{Has}
+use Rattle.shadow_core.specs.Private.StateRows.{Has}
 
 -- the state before all events
 abbrev pub empty_state : Live → State

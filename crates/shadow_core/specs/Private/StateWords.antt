@@ -5,11 +5,11 @@ use Rattle.stamp_lanes.specs.Plain.{Place, IsBulk}
 use Rattle.shadow_stack.specs.Frames.{Frame, IsLastAtMost, added, starts_of}
 use Rattle.shadow_pages.specs.Pages.{Page, stamp_at}
 use Rattle.stamp_renumber.specs.Threads.{Stamped}
-use Rattle.shadow_core.specs.Frames.{gain, frames_after_reads}
-use Rattle.shadow_core.specs.Parts.{taken}
+use Rattle.stamp_table.specs.Frames.{gain, frames_after_reads}
+use Rattle.shadow_core.specs.Private.Parts.{taken}
 use Rattle.shadow_core.specs.State.{State}
-use Rattle.shadow_core.specs.Stands.{IsFalling}
-use Rattle.shadow_core.specs.StateRows.{AreStamped, places_of}
+use Rattle.stamp_table.specs.Stands.{IsFalling}
+use Rattle.shadow_core.specs.Private.StateRows.{AreStamped, places_of}
 
 -- ---- Stamps of words.
 abbrev pub StampsNone : Type 0

@@ -24,7 +24,7 @@ returns-in_err-put_stats g c = λ bytes is.
     let new = g.E.Sink.state c.put_stats.new.err in
     rw (p.1, p.2) (stats_unfinished outcome (map store_of c.as_slice.result.now) (ap (map store_of) c.as_slice.ensures.value ∙ c.in_ok-stores.ensures bytes is)
     (g.F.Files.state c.args.files.now) (g.F.Files.state c.store_all.new.files) err new c.in_ok-store_all.ensures c.in_err-put_stats.field-0.0
-    (subst (λ count. StatsEnd (stats_of options.stats count) err new (Err c.in_err-put_stats.field-0.0)) is.totals.renumbered_are c.in_err-put_stats.ensures))
+    (subst (λ count. StatsEnd (stats_of options.stats count) err new (Err c.in_err-put_stats.field-0.0)) is.totals.counts.renumbered_are c.in_err-put_stats.ensures))
 
 pub returns : goal.returns
 returns g c = λ bytes is.
@@ -34,4 +34,4 @@ returns g c = λ bytes is.
     let new = g.E.Sink.state c.put_stats.new.err in
     stats_done outcome (map store_of c.as_slice.result.now) (ap (map store_of) c.as_slice.ensures.value ∙ c.in_ok-stores.ensures bytes is)
     (g.F.Files.state c.args.files.now) (g.F.Files.state c.store_all.new.files) err new c.in_ok-store_all.ensures Replayed refl
-    (c.in_ok-put_stats.ensures ∙ ap (λ count. appended err (stats_of options.stats count)) is.totals.renumbered_are)
+    (c.in_ok-put_stats.ensures ∙ ap (λ count. appended err (stats_of options.stats count)) is.totals.counts.renumbered_are)

@@ -1,6 +1,6 @@
 use Rattle.std.proofs.Common.{◌∙◌, ◌++◌, ◌∷◌, [], ap, arith}
 use Rattle.call_tracker.specs.ThreadCalls.{Counts}
-use Rattle.shadow_core.specs.Records.{record_of}
+use Rattle.stamp_table.specs.Records.{record_of}
 use Rattle.shadow_core.proofs.Popped.{fits_pop, one_ended}
 use Rattle.shadow_core.proofs.endings.end_call.Goals as goal
 

@@ -3,8 +3,8 @@ use Rattle.std.specs.Prelude.{slice_index}
 use Rattle.stamp_lanes.specs.Plain.{Place}
 use Rattle.shadow_stack.specs.Frames.{Frame, Stack, starts_of}
 use Rattle.stamp_renumber.specs.Threads.{frames_of, pages_of}
-use Rattle.shadow_core.specs.Allows.{AreWithin}
-use Rattle.shadow_core.specs.Parts.{taken}
+use Rattle.stamp_table.specs.Allows.{AreWithin}
+use Rattle.shadow_core.specs.Private.Parts.{taken}
 use Rattle.shadow_core.proofs.Reading.{frames_changed, length_taken, lives_changed, moved, moved_alone, not_changed, one_fits, small_back, taken_within, unmoved}
 use Rattle.shadow_core.proofs.reads.read_frames.Goals as goal
 

@@ -6,7 +6,7 @@ use Rattle.shadow_stack.specs.Frames.{Frame, Stack}
 use Rattle.shadow_pages.specs.Pages.{Pages, covers, stamp_at}
 use Rattle.stamp_renumber.specs.LentThread.{with_pages}
 use Rattle.stamp_renumber.specs.Threads.{Live, frames_of, pages_of}
-use Rattle.shadow_core.specs.Allows.{AreWithin, IsWithin}
+use Rattle.stamp_table.specs.Allows.{AreWithin, IsWithin}
 use Rattle.shadow_core.specs.Private.Reading.{IsRead}
 use Rattle.shadow_core.proofs.PartReads.{number_within, places_are, read_at_once, read_singly, some_fits, stamps_from}
 use Rattle.shadow_core.proofs.Reading.{frames_changed, lent_changed, lives_changed, pages_changed}

@@ -1,6 +1,6 @@
 use Rattle.std.proofs.Common.{arith, ◌+◌, ◌^◌, ℕ, Option, subst, sym}
 use Rattle.stamp_renumber.specs.Threads.{frames_of, pages_of}
-use Rattle.shadow_core.specs.Parts.{taken}
+use Rattle.shadow_core.specs.Private.Parts.{taken}
 use Rattle.shadow_core.specs.Private.Reading.{IsChanged}
 use Rattle.shadow_core.proofs.Reading.{not_changed, one_fits}
 use Rattle.shadow_core.proofs.reads.take.Goals as goal

@@ -2,7 +2,7 @@ use Rattle.std.proofs.Common.{◌∙◌, ap, sym, subst, List}
 use Rattle.shadow_pages.specs.Pages.{Page, Pages, covers, stamp_at}
 use Rattle.stamp_renumber.specs.LentThread.{with_pages}
 use Rattle.stamp_renumber.specs.Threads.{frames_of}
-use Rattle.shadow_core.specs.Table.{stamped}
+use Rattle.stamp_table.specs.Table.{stamped}
 use Rattle.shadow_core.specs.Private.Reading.{IsChanged}
 use Rattle.shadow_core.proofs.Reading.{lent_changed, pages_changed}
 use Rattle.shadow_core.proofs.writes.write_one.Goals as goal

@@ -1,7 +1,7 @@
-use Rattle.shadow_core.proofs.Room.{allows_what_may_follow, fits_by_frames, pops_stay_within, sums_stay_within, counts_stay_within}
-use Rattle.shadow_core.proofs.Applied.{deep_does_not_fit}
-use Rattle.shadow_core.proofs.Bulk.{reads_at_once}
-use Rattle.shadow_core.proofs.laws.a_table_tells_what_may_follow.Goals as goal
+use Rattle.stamp_table.proofs.Room.{allows_what_may_follow, fits_by_frames, pops_stay_within, sums_stay_within, counts_stay_within}
+use Rattle.stamp_table.proofs.Deep.{deep_does_not_fit}
+use Rattle.stamp_table.proofs.Bulk.{reads_at_once}
+use Rattle.stamp_table.proofs.laws.a_table_tells_what_may_follow.Goals as goal
 
 pub returns-clause-allows : goal.returns-clause-allows
 returns-clause-allows c = allows_what_may_follow

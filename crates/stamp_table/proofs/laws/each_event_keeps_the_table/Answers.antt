@@ -1,6 +1,6 @@
-use Rattle.shadow_core.proofs.Runs.{empty_stands, agrees_on, stands_on, finishes_what_ends, finishes_what_is_done}
-use Rattle.shadow_core.proofs.Whole.{open_are_as_defined}
-use Rattle.shadow_core.proofs.laws.each_event_keeps_the_table.Goals as goal
+use Rattle.stamp_table.proofs.Runs.{empty_stands, agrees_on, stands_on, finishes_what_ends, finishes_what_is_done}
+use Rattle.stamp_table.proofs.Whole.{open_are_as_defined}
+use Rattle.stamp_table.proofs.laws.each_event_keeps_the_table.Goals as goal
 
 pub returns-clause-empty : goal.returns-clause-empty
 returns-clause-empty c = empty_stands

@@ -1,6 +1,6 @@
-use Rattle.shadow_core.proofs.Counted.{counter_fits}
-use Rattle.shadow_core.proofs.Runs.{counts_on, runs_agree}
-use Rattle.shadow_core.proofs.laws.the_counter_is_that_of_the_trace.Goals as goal
+use Rattle.stamp_table.proofs.Counted.{counter_fits}
+use Rattle.stamp_table.proofs.Runs.{counts_on, runs_agree}
+use Rattle.stamp_table.proofs.laws.the_counter_is_that_of_the_trace.Goals as goal
 
 pub returns-clause-counts_on : goal.returns-clause-counts_on
 returns-clause-counts_on c = counts_on

@@ -2,10 +2,10 @@ use Rattle.std.proofs.Common.{◌≡◌, ◌∙◌, ℕ, ◌<◌, ap, sym, subst
 use Rattle.trace_model.specs.declared.event_kinds.Event.TheVariants.{Call}
 use Rattle.shadow_stack.specs.Frames.{starts_of}
 use Rattle.stamp_renumber.specs.Threads.{frames_of}
-use Rattle.shadow_core.specs.Renewal.{bounded_tick}
-use Rattle.shadow_core.specs.Stands.{Agrees}
+use Rattle.stamp_table.specs.Renewal.{bounded_tick}
+use Rattle.stamp_table.specs.Stands.{Agrees}
 use Rattle.shadow_core.specs.State.{State, table_of_state}
-use Rattle.shadow_core.specs.Ticks.{table_after}
+use Rattle.stamp_table.specs.Ticks.{table_after}
 use Rattle.shadow_core.proofs.Begun.{IsRoomy, advance_with_room, begin_fits, begin_lives, begin_room, called, frame_room}
 use Rattle.shadow_core.proofs.Profiled.{alive_here, lives_here, on_err}
 use Rattle.shadow_core.proofs.profiler.Profiler.call.Goals as goal

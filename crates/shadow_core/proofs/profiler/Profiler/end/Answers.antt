@@ -2,10 +2,10 @@ use Rattle.std.proofs.Common.{◌≡◌, ◌∙◌, ◌++◌, ap, arith, length}
 use Rattle.trace_model.specs.declared.event_kinds.Event.TheVariants.{End}
 use Rattle.shadow_stack.specs.Frames.{Stack}
 use Rattle.stamp_renumber.specs.Threads.{calls_of}
-use Rattle.shadow_core.specs.Records.{finished}
-use Rattle.shadow_core.specs.Renewal.{bounded_tick}
+use Rattle.stamp_table.specs.Records.{finished}
+use Rattle.stamp_table.specs.Renewal.{bounded_tick}
 use Rattle.shadow_core.specs.State.{State, table_of_state}
-use Rattle.shadow_core.specs.Ticks.{table_after}
+use Rattle.stamp_table.specs.Ticks.{table_after}
 use Rattle.shadow_core.proofs.Ended.{all_recorded, may_end, thread_ended}
 use Rattle.shadow_core.proofs.profiler.Profiler.end.Goals as goal
 

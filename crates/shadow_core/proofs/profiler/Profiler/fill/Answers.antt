@@ -1,9 +1,9 @@
 use Rattle.std.proofs.Common.{◌≡◌, ◌∙◌, ℕ, ap, cond, subst, sym, true}
 use Rattle.trace_model.specs.declared.event_kinds.Event.TheVariants.{Fill}
 use Rattle.shadow_pages.specs.Pages.{AreCovered, covers, in_range, stamp_at}
-use Rattle.shadow_core.specs.Renewal.{bounded_tick}
+use Rattle.stamp_table.specs.Renewal.{bounded_tick}
 use Rattle.shadow_core.specs.State.{State, table_of_state}
-use Rattle.shadow_core.specs.Ticks.{table_after}
+use Rattle.stamp_table.specs.Ticks.{table_after}
 use Rattle.shadow_core.proofs.Accessed.{filled}
 use Rattle.shadow_core.proofs.Profiled.{advance_here}
 use Rattle.shadow_core.proofs.SamePages.{advanced_alike, seen_same}

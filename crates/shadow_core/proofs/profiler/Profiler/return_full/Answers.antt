@@ -6,10 +6,10 @@ use Rattle.stamp_renumber.specs.LentThread.{with_calls}
 use Rattle.stamp_renumber.specs.Returned.{returned_by}
 use Rattle.stamp_renumber.specs.Threads.{Live, calls_of, pages_of}
 use Rattle.shadow_core.specs.Private.Ending.{IsEnded}
-use Rattle.shadow_core.specs.Records.{finished}
-use Rattle.shadow_core.specs.Renewal.{bounded_tick}
+use Rattle.stamp_table.specs.Records.{finished}
+use Rattle.stamp_table.specs.Renewal.{bounded_tick}
 use Rattle.shadow_core.specs.State.{State, table_of_state}
-use Rattle.shadow_core.specs.Ticks.{table_after}
+use Rattle.stamp_table.specs.Ticks.{table_after}
 use Rattle.shadow_core.proofs.Ended.{MayEndIn, left_as_before, may_end, recorded, returned, same_calls}
 use Rattle.shadow_core.proofs.Profiled.{on_err}
 use Rattle.shadow_core.proofs.SamePages.{seen_same, with_alike}

@@ -6,10 +6,10 @@ use Rattle.stamp_renumber.specs.declared.thread_stamps.Returned.{Returned}
 use Rattle.stamp_renumber.specs.Returned.{IsReturned, returned_by}
 use Rattle.stamp_renumber.specs.Threads.{Live, calls_of, pages_of}
 use Rattle.shadow_core.specs.Private.Ending.{IsEnded}
-use Rattle.shadow_core.specs.Records.{finished, record_of}
-use Rattle.shadow_core.specs.Renewal.{bounded_tick}
+use Rattle.stamp_table.specs.Records.{finished, record_of}
+use Rattle.stamp_table.specs.Renewal.{bounded_tick}
 use Rattle.shadow_core.specs.State.{State, table_of_state}
-use Rattle.shadow_core.specs.Ticks.{table_after}
+use Rattle.stamp_table.specs.Ticks.{table_after}
 use Rattle.shadow_core.proofs.Applied.{few_ended}
 use Rattle.shadow_core.proofs.Ended.{MayEndIn, left_as_before, may_end, may_pop, recorded, returned}
 use Rattle.shadow_core.proofs.Popped.{one_ended}

@@ -2,8 +2,8 @@ use Rattle.std.proofs.Common.{◌∙◌, ap, refl, sym, subst}
 use Rattle.trace_model.specs.declared.event_kinds.Event.TheVariants.{Step}
 use Rattle.trace_model.specs.Observing.{MayTake}
 use Rattle.shadow_core.specs.State.{State, table_of_state}
-use Rattle.shadow_core.specs.Renewal.{bounded_tick}
-use Rattle.shadow_core.specs.Ticks.{table_after}
+use Rattle.stamp_table.specs.Renewal.{bounded_tick}
+use Rattle.stamp_table.specs.Ticks.{table_after}
 use Rattle.shadow_core.specs.Profiling.{StandsFor}
 use Rattle.shadow_core.proofs.Profiled.{lives_after, may_advance, step_fits, stepped}
 use Rattle.shadow_core.proofs.SamePages.{advanced_alike, calls_alike, seen_same}

@@ -2,9 +2,9 @@ use Rattle.std.proofs.Common.{◌≡◌, ◌-◌, suc, subst, arith}
 use Rattle.trace_model.specs.Depth.{is_within}
 use Rattle.trace_model.specs.Observing.{MayStepBy}
 use Rattle.shadow_core.specs.Profiling.{StandsFor}
-use Rattle.shadow_core.specs.Renewal.{bounded_tick}
+use Rattle.stamp_table.specs.Renewal.{bounded_tick}
 use Rattle.shadow_core.specs.State.{table_of_state}
-use Rattle.shadow_core.specs.Ticks.{table_after_steps}
+use Rattle.stamp_table.specs.Ticks.{table_after_steps}
 use Rattle.shadow_core.proofs.Stepped.{may_step_on, may_step_once, turned_steps}
 use Rattle.shadow_core.proofs.profiler.Profiler.steps_first.Goals as goal
 

@@ -2,9 +2,9 @@ use Rattle.std.proofs.Common.{◌≡◌, ◌∙◌, ℕ, ap, cond, subst, sym}
 use Rattle.trace_model.specs.declared.event_kinds.Event.TheVariants.{Write}
 use Rattle.shadow_pages.specs.Pages.{AreCovered, covers, in_range, stamp_at}
 use Rattle.stamp_renumber.specs.Threads.{pages_of}
-use Rattle.shadow_core.specs.Renewal.{bounded_tick}
+use Rattle.stamp_table.specs.Renewal.{bounded_tick}
 use Rattle.shadow_core.specs.State.{State, table_of_state}
-use Rattle.shadow_core.specs.Ticks.{table_after}
+use Rattle.stamp_table.specs.Ticks.{table_after}
 use Rattle.shadow_core.proofs.Accessed.{all_room, own_room, written}
 use Rattle.shadow_core.proofs.Profiled.{advance_here, alive_here, lives_here, on_err}
 use Rattle.shadow_core.proofs.Reading.{lives_changed}

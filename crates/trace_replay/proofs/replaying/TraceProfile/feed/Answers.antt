@@ -9,6 +9,7 @@ use Rattle.trace_model.specs.Depth.{is_within}
 use Rattle.trace_model.specs.Observing.{is_taken}
 use Rattle.trace_model.specs.WellFormed.{IsWellFormed}
 use Rattle.trace_model.proofs.Cut.{cut-fits, within_closed}
+use Rattle.run_profile.specs.Points.{HoldsPoints}
 use Rattle.run_profile.specs.Profile.{IsProfileOf}
 use Rattle.trace_replay.specs.Replays.{Going, HasReplayed}
 use Rattle.trace_replay.proofs.Cuts.{cut_stays, formed_read}
@@ -44,7 +45,7 @@ feed-requires-then-self g c =
     let formed = formed_read c.feed.new.self (c.requires.0 ++ c.args.piece.now) (past_after was.past fed.more) c.in_ok-feed.ensures.answer (fed.read c.requires.0 was.past was.read) in
     record {
       past = was.past;
-      now = subst (λ past. IsProfileOf g.S.Stamp.MAX c.self.inside.profile past) (cut-fits (is_within g.S.Stamp.MAX) was.past fits) was.profile;
+      now = subst (λ past. IsProfileOf g.S.Stamp.MAX HoldsPoints c.self.inside.profile past) (cut-fits (is_within g.S.Stamp.MAX) was.past fits) was.profile;
       fitting = fits;
       formed = subst (λ (es : List Event). IsWellFormed (past_after was.past es)) (sym events) formed;
     }
@@ -54,9 +55,9 @@ returns-in-Taken-clause-ok g c = λ bytes has.
     let was = subst (λ (k : Going). HasReplayed g.S.Stamp.MAX k bytes) (sym c.self.view_is) has in
     let fed = c.in_ok-feed.ensures.fed in
     let fits = sym was.whole ∙ c.if-self.true in
-    let now = subst (λ past. IsProfileOf g.S.Stamp.MAX c.self.inside.profile past) (cut-fits (is_within g.S.Stamp.MAX) was.past fits) was.profile in
+    let now = subst (λ past. IsProfileOf g.S.Stamp.MAX HoldsPoints c.self.inside.profile past) (cut-fits (is_within g.S.Stamp.MAX) was.past fits) was.profile in
     let events = c.list.ensures ∙ fed.appended ∙ ap (λ (es : List Event). es ++ fed.more) c.clear.ensures.list in
-    let taken = subst (λ (es : List Event). IsProfileOf g.S.Stamp.MAX c.feed-then-self.new.observer (cut (is_within g.S.Stamp.MAX) (past_after was.past es)) × (is_within g.S.Stamp.MAX (past_after was.past es) ≡ is_taken c.in_ok-feed-2.field-0)) events
+    let taken = subst (λ (es : List Event). IsProfileOf g.S.Stamp.MAX HoldsPoints c.feed-then-self.new.observer (cut (is_within g.S.Stamp.MAX) (past_after was.past es)) × (is_within g.S.Stamp.MAX (past_after was.past es) ≡ is_taken c.in_ok-feed-2.field-0)) events
     (c.in_ok-feed-2.ensures.observed was.past now fits) in
     record {
       past = past_after was.past fed.more;
@@ -70,9 +71,9 @@ returns-in-Refused-clause-ok g c = λ bytes has.
     let was = subst (λ (k : Going). HasReplayed g.S.Stamp.MAX k bytes) (sym c.self.view_is) has in
     let fed = c.in_ok-feed.ensures.fed in
     let fits = sym was.whole ∙ c.if-self.true in
-    let now = subst (λ past. IsProfileOf g.S.Stamp.MAX c.self.inside.profile past) (cut-fits (is_within g.S.Stamp.MAX) was.past fits) was.profile in
+    let now = subst (λ past. IsProfileOf g.S.Stamp.MAX HoldsPoints c.self.inside.profile past) (cut-fits (is_within g.S.Stamp.MAX) was.past fits) was.profile in
     let events = c.list.ensures ∙ fed.appended ∙ ap (λ (es : List Event). es ++ fed.more) c.clear.ensures.list in
-    let taken = subst (λ (es : List Event). IsProfileOf g.S.Stamp.MAX c.feed-then-self.new.observer (cut (is_within g.S.Stamp.MAX) (past_after was.past es)) × (is_within g.S.Stamp.MAX (past_after was.past es) ≡ is_taken c.in_ok-feed-2.field-0)) events
+    let taken = subst (λ (es : List Event). IsProfileOf g.S.Stamp.MAX HoldsPoints c.feed-then-self.new.observer (cut (is_within g.S.Stamp.MAX) (past_after was.past es)) × (is_within g.S.Stamp.MAX (past_after was.past es) ≡ is_taken c.in_ok-feed-2.field-0)) events
     (c.in_ok-feed-2.ensures.observed was.past now fits) in
     record {
       past = past_after was.past fed.more;
@@ -89,6 +90,6 @@ returns-else-self-clause-ok g c = λ bytes has.
     record {
       past = past_after was.past fed.more;
       read = fed.read bytes was.past was.read;
-      profile = subst (λ past. IsProfileOf g.S.Stamp.MAX c.self.inside.profile past) (sym stays.0) was.profile;
+      profile = subst (λ past. IsProfileOf g.S.Stamp.MAX HoldsPoints c.self.inside.profile past) (sym stays.0) was.profile;
       whole = c.if-self.false ∙ sym stays.1;
     }

@@ -3,7 +3,7 @@ use Rattle.std.proofs.lemmas.Result.{err_from_is_err_and}
 use Rattle.trace_model.specs.Cut.{cut}
 use Rattle.trace_model.specs.Depth.{is_within}
 use Rattle.trace_replay.specs.Replays.{Going, HasReplayed}
-use Rattle.trace_replay.proofs.Cuts.{cut_formed, light_of}
+use Rattle.trace_replay.proofs.Cuts.{cut_formed}
 use Rattle.trace_replay.proofs.replaying.TraceProfile.finish.Goals as goal
 
 pub returns-in_err-names-clause-replays : goal.returns-in_err-names-clause-replays
@@ -12,12 +12,14 @@ returns-in_err-names-clause-replays g c = λ bytes has.
     let p = err_from_is_err_and c.from_residual.result c.from_residual.ensures.1 in
     rw (p.1, p.2) (was.past, c.in_err-names.ensures.err bytes was.past was.read)
 
-pub into_totals-requires : goal.into_totals-requires
-into_totals-requires g c =
+pub into_kept-requires : goal.into_kept-requires
+into_kept-requires g c =
     let was = subst (λ (k : Going). HasReplayed g.S.Stamp.MAX k c.requires.0) (sym c.self.view_is) c.requires.1 in
-    let formed = cut_formed (is_within g.S.Stamp.MAX) was.past (c.in_ok-names.ensures.ok c.requires.0 was.past was.read).told.formed in
-    let past = cut (is_within g.S.Stamp.MAX) was.past in
-    record { past = past; now = was.profile; light = light_of past formed }
+    record {
+      past = cut (is_within g.S.Stamp.MAX) was.past;
+      now = was.profile;
+      formed = cut_formed (is_within g.S.Stamp.MAX) was.past (c.in_ok-names.ensures.ok c.requires.0 was.past was.read).told.formed;
+    }
 
 pub returns-clause-replays : goal.returns-clause-replays
 returns-clause-replays g c = λ bytes has.
@@ -25,7 +27,9 @@ returns-clause-replays g c = λ bytes has.
     record {
       past = was.past;
       trace = c.in_ok-names.ensures.ok bytes was.past was.read;
-      totals = c.in_ok-totals.ensures (cut (is_within g.S.Stamp.MAX) was.past) was.profile;
+      totals =
+          let past = cut (is_within g.S.Stamp.MAX) was.past in
+          c.into_totals.ensures g.S.Stamp.MAX past (c.in_ok-into_kept.ensures.kept past was.profile) (c.in_ok-into_kept.ensures.counts past was.profile);
       whole = was.whole;
     }
 

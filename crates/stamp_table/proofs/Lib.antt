@@ -1,0 +1,16 @@
+pub mod Frames
+pub mod Events
+pub mod Inside
+pub mod Past
+pub mod Threads
+pub mod Kept
+pub mod There
+pub mod Own
+pub mod Whole
+pub mod Renewed
+pub mod Counted
+pub mod Runs
+pub mod Observing
+pub mod Room
+pub mod Bulk
+pub mod Deep

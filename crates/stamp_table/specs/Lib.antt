@@ -1,0 +1,13 @@
+pub mod Frames
+pub mod Table
+pub mod Ticks
+pub mod Renewal
+pub mod Counting
+pub mod Records
+pub mod Past
+pub mod Stands
+pub mod Laws
+pub mod Allows
+pub mod Observing
+pub mod Bulk
+pub mod Worked
