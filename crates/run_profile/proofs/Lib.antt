@@ -1,3 +1,3 @@
 pub mod Profiles
-mod Points
-mod Contexts
+mod KeptPoints
+mod ManyContexts

@@ -16,7 +16,7 @@ use Rattle.stamp_table.specs.Stands.{Stands}
 use Rattle.shadow_core.specs.State.{State, table_of_state}
 use Rattle.stamp_table.specs.Table.{Table}
 use Rattle.stamp_table.proofs.Deep.{deep_does_not_fit}
-use Rattle.run_profile.specs.Keeping.{MayKeep, Passes}
+use Rattle.run_profile.specs.Keeping.{MayKeep}
 use Rattle.run_profile.specs.Profile.{IsOfFormed, IsProfileOf, KeptRun, ended_at}
 
 -- ---- Counts are small.

@@ -20,7 +20,7 @@ pub record MayKeepSteps {K : Type 0} (Holds : K → List Event → List Done →
   pub now : Holds k past []
   pub formed : IsWellFormed (with_steps tid count past)
 
--- it holds the past with the event, or still without it
-abbrev pub Passes : {K : Type 0} → (K → List Event → List Done → Type 0) → K → Event → List Event → Bool → Type 0
-Passes Holds k e past true = Holds k (e ∷ past) []
-Passes Holds k e past false = Holds k past []
+-- it holds the past with the event, or still without it and without what the event ended
+abbrev pub Passes : {K : Type 0} → (K → List Event → List Done → Type 0) → K → Event → List Event → List Done → Bool → Type 0
+Passes Holds k e past ends true = Holds k (e ∷ past) []
+Passes Holds k e past ends false = Holds k past ends

@@ -66,14 +66,13 @@ impl Keeper for Contexts {
 
     ghost holds = { HoldsContexts };
 
-    ghost begins = { λ contexts past ends holds. holds };
-
     ghost is_too_much = { IsPastNumbers };
 
     // The tree takes each event when the next one comes.
     #[inline(always)]
     fn pass(&mut self, e: &Event, ends: &[Done]) -> bool {
-        let _ = (e, ends);
+        let _ = e;
+        let _ = ends;
         false
     }
 
@@ -92,6 +91,7 @@ impl Keeper for Contexts {
         }
     }
 
+    #[tactic(auto, using(crate::proofs::ManyContexts::still_many))]
     #[inline(always)]
     fn take_steps(&mut self, tid: Tid, count: u64) {
         if let Some(tree) = &mut self.tree {

@@ -13,21 +13,18 @@ use trace_model::{Done, Event};
 /// What keeps the activations of a run that ended. It takes each event after the profiler did, with the activations that ended at
 /// it, the innermost first: at once where that needs no memory, and else before the next event, so that an event that was taken
 /// is not refused for lack of memory here.
-pub trait Keeper {
+pub trait Keeper: Drop {
     /// It keeps this past, and of these activations, which ended at the event behind it, the first some.
     ghost holds: { Self → List Event → List Done → Type 0 };
-
-    /// While it keeps none of them, it is the same whatever they are.
-    ghost begins: { (k : Self) (past : List Event) (ends : List Done) → holds k past [] → holds k past ends };
 
     /// A past of which it keeps nothing.
     ghost is_too_much: { List Event → Type 0 };
 
-    /// Takes the event, if that needs no memory. Otherwise it says `false`, and all is as before.
+    /// Takes the event, if that needs no memory. Otherwise it says `false`, and is still to take it.
     fn pass(&mut self, e: &Event, ends: &[Done]) -> bool
         requires { MayKeep holds self.old [] e.now ends.now }
         ensures passes { (past : List Event) → holds self.old past [] → ends.now ≡ ended e.now past
-            → Passes holds self.new e.now past result }
+            → Passes holds self.new e.now past ends.now result }
         ensures nothing { result ≡ true → ends.now ≡ [] };
 
     /// Takes the event. After an `Err` it may keep the first some of the activations, and takes the rest when it is called again.

@@ -75,11 +75,8 @@ impl Points {
 
 impl Keeper for Points {
     ghost use Rattle.run_profile.specs.Points.{HoldsPoints};
-    ghost use Rattle.run_profile.proofs.Points.{points_begin};
 
     ghost holds = { HoldsPoints };
-
-    ghost begins = { points_begin };
 
     ghost is_too_much = { λ past. ⊥ };
 
@@ -99,6 +96,7 @@ impl Keeper for Points {
 
     #[inline(always)]
     fn take_steps(&mut self, tid: Tid, count: u64) {
-        let _ = (tid, count);
+        let _ = tid;
+        let _ = count;
     }
 }

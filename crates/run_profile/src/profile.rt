@@ -60,8 +60,9 @@ impl<S: Lanes, K: Keeper> Profile<S, K> {
         requires nothing { K.holds kept [] [] }
         ensures { IfOk result (λ profile. IsProfileOf S.MAX K.holds profile []) }
     {
+        let profiler = Profiler::new(alloc)?;
         Ok(Profile {
-            profiler: Profiler::new(alloc)?,
+            profiler,
             kept,
             next: None,
             ended: Vec::new(alloc),

@@ -8,7 +8,6 @@ use Rattle.trace_model.specs.declared.event_kinds.Event.TheVariants.{Step}
 use Rattle.trace_model.specs.declared.slow_profile.Done.{Done}
 use Rattle.trace_model.specs.Profile.{HasParts, done, ended}
 use Rattle.trace_model.specs.Observing.{with_steps}
-use Rattle.trace_model.specs.WellFormed.{IsWellFormed}
 use Rattle.trace_model.proofs.Causes.{done_has_parts}
 use Rattle.cost_points.proofs.Small.{few_done}
 use Rattle.cost_points.specs.Contents.{TableContents, contents_of}
