@@ -1,6 +1,6 @@
 //! The command `contexts`: a guest's output, and the report of its run with its calling contexts.
 ghost use Rattle.std.specs.Prelude.{◌≡◌, ℕ, List, true, IfOk};
-ghost use Rattle.command_line.specs.Options.Analysis.{Contexts};
+ghost use Rattle.command_line.specs.Options.Analysis.{Contexts as ContextsAsked};
 ghost use Rattle.command_line.specs.Read.{AreInRange, guest_in};
 ghost use Rattle.guest_run.specs.ObservedRun.{ObservedRun};
 ghost use Rattle.host_io.specs.Sink.{SinkState};
@@ -98,7 +98,7 @@ fn deliver_contexts<F: Files>(
     requires { (most : ℕ) × ((past : List Event) × HaveContexts most run.contexts past) }
     ensures { (bits : StampBits) (most : ℕ) (seen : ObservedRun) → run.finish ≡ seen.finish
         → HaveContexts most run.contexts seen.past
-        → (err : SinkState) → RunIsStored (analysed path.now (Contexts bits) image.now seen)
+        → (err : SinkState) → RunIsStored (analysed path.now (ContextsAsked bits) image.now seen)
         (desk (F.state files.old) err) (desk (F.state files.new) err) result }
 {
     let ContextsRun { contexts, finish } = run;
@@ -121,7 +121,7 @@ pub(crate) fn contexts_job<F: Files, O: Sink, E: Sink>(
     err: &mut E,
 ) -> Result<Verdict, Ending>
     requires { AreInRange (guest_in guest.now) }
-    ensures { JobRuns (job_of (guest_in guest.now) path.now (Contexts bits)) prepared
+    ensures { JobRuns (job_of (guest_in guest.now) path.now (ContextsAsked bits)) prepared
         (outside (F.state files.old) (O.state out.old) (E.state err.old))
         (outside (F.state files.new) (O.state out.new) (E.state err.new)) (ending_by result) }
 {

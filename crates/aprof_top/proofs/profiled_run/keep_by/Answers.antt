@@ -9,7 +9,7 @@ into_kept-requires g c = record {
   formed = formed_observed _ _ _ _ _ _ c.requires.range.small_budget;
 }
 
-pub returns-in_err-into_kept : goal.returns-in_err-into_kept
-returns-in_err-into_kept g c =
-    let p = err_from_is_err_and c.from_residual-in_err-into_kept.result c.from_residual-in_err-into_kept.ensures.1 in
+pub returns-in_err-kept : goal.returns-in_err-kept
+returns-in_err-kept g c =
+    let p = err_from_is_err_and c.from_residual-in_err-kept.result c.from_residual-in_err-kept.ensures.1 in
     rw (p.1, p.2) (stops_whole _ _ _ _ c.in_ok-ended.ensures.0 c.in_ok-ended.ensures.1.output)
