@@ -26,7 +26,7 @@ started_holds inputs stdin first_break = record {
   few = omega arith;
   blocked_live = λ tid h. refl;
   stdin_within = omega arith;
-  descriptors_sound = λ fd. sound_at (started inputs stdin first_break).descriptors fd (tt, ((omega arith, omega arith), ((omega arith, omega arith), closed_are_sound 29)));
+  descriptors_sound = λ fd. sound_at (started inputs stdin first_break).descriptors fd (tt, (tt, (tt, closed_are_sound 29)));
 }
 
 pub started_is_state : (k : KernelState) (inputs : List Input) (stdin : List ℕ) (first_break : ℕ) → k ≡ started inputs stdin first_break → IsState k

@@ -5,6 +5,8 @@ use Rattle.std.specs.Option.{option_map_or}
 use Rattle.std.specs.Int.{w64, cast_signed, to_le_bytes}
 use Rattle.guest_memory.specs.Memory.{Memory, bytes_at}
 use Rattle.rv_exec.specs.Accesses.{can_read}
+use Rattle.guest_calls.specs.declared.channel.Channel.{Channel}
+use Rattle.guest_calls.specs.declared.channel.Channel.TheVariants.{Out}
 use Rattle.guest_calls.specs.declared.descriptor.Descriptor.{Descriptor}
 use Rattle.guest_calls.specs.declared.descriptor.Descriptor.TheVariants.{Closed, StandardInput, Output, InputFile}
 use Rattle.guest_calls.specs.Errors.{enoent, ebadf, eacces, efault, einval, emfile, espipe, enametoolong}
@@ -28,8 +30,8 @@ is_source StandardInput = true
 is_source (InputFile _ _) = true
 is_source _ = false
 
--- the channel of output, 1 or 2
-abbrev pub channel : Descriptor → Option ℕ
+-- the channel of output
+abbrev pub channel : Descriptor → Option Channel
 channel (Output n) = Some n
 channel _ = None
 
@@ -182,7 +184,7 @@ write_effect c =
     let n = write_count c in
     returns c n
     ▷ reads c.tid (arg c 1) n
-    ▷ puts (unwrap_or (channel (descriptor c.kernel (arg c 0))) 0) (bytes_at c.memory (arg c 1) n)
+    ▷ puts (unwrap_or (channel (descriptor c.kernel (arg c 0))) Out) (bytes_at c.memory (arg c 1) n)
 
 abbrev pub write : Syscall → SyscallResult
 write c = unless c (write_tests c) λ _. write_effect c

@@ -2,7 +2,7 @@
 use Rattle.std.specs.Prelude.{◌≡◌, ℕ, ◌<◌, ◌≤◌, ◌^◌, false, List, [], ◌∷◌, length}
 use Rattle.guest_words.specs.declared.limits.TheConstants.{THREADS}
 use Rattle.guest_calls.specs.declared.descriptor.Descriptor.{Descriptor}
-use Rattle.guest_calls.specs.declared.descriptor.Descriptor.TheVariants.{StandardInput, Output, InputFile}
+use Rattle.guest_calls.specs.declared.descriptor.Descriptor.TheVariants.{StandardInput, InputFile}
 use Rattle.guest_calls.specs.declared.thread.Thread.{Thread}
 use Rattle.guest_calls.specs.Kernel.{KernelState, lives, is_blocked, descriptor}
 
@@ -11,9 +11,8 @@ abbrev pub RisesTo : ℕ → List Thread → ℕ → Type 0
 RisesTo low [] last = low ≤ last
 RisesTo low (t ∷ threads) last = (low < t.tid) × RisesTo t.tid threads last
 
--- a channel of output is 1 or 2, and the position in an input file can be a signed 64-bit number
+-- the position in an input file can be a signed 64-bit number
 abbrev pub IsSoundDescriptor : Descriptor → Type 0
-IsSoundDescriptor (Output n) = (1 ≤ n) × (n ≤ 2)
 IsSoundDescriptor (InputFile input position) = position < 2 ^ 63
 IsSoundDescriptor _ = Unit {0}
 

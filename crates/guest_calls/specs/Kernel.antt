@@ -7,6 +7,8 @@ use Rattle.futex_table.specs.Waiting as futexes
 use Rattle.virtual_clock.specs.declared.deadline.Deadline.{Deadline}
 use Rattle.virtual_clock.specs.Once.{has}
 use Rattle.virtual_clock.specs.Steps as clock
+use Rattle.guest_calls.specs.declared.channel.Channel.{Channel}
+use Rattle.guest_calls.specs.declared.channel.Channel.TheVariants.{Out, Err}
 use Rattle.guest_calls.specs.declared.descriptor.Descriptor.{Descriptor}
 use Rattle.guest_calls.specs.declared.descriptor.Descriptor.TheVariants.{Closed, StandardInput, Output}
 use Rattle.guest_calls.specs.declared.thread.Thread.{Thread}
@@ -38,7 +40,7 @@ started inputs stdin first_break = record {
   threads = record { tid = 1; clear_tid = 0 } ∷ [];
   waiting = [];
   deadlines = [];
-  descriptors = StandardInput ∷ Output 1 ∷ Output 2 ∷ [] ++ replicate 29 Closed;
+  descriptors = StandardInput ∷ Output Out ∷ Output Err ∷ [] ++ replicate 29 Closed;
   stdin = stdin;
   stdin_position = 0;
   inputs = inputs;
@@ -106,11 +108,11 @@ ready k = map (λ t. (t.tid, not (is_blocked k t.tid))) k.threads
 
 -- ---- the kernel between calls
 -- bytes that go out, with their channel; of no byte there is nothing
-abbrev pub output : ℕ → List ℕ → Option (ℕ × List ℕ)
+abbrev pub output : Channel → List ℕ → Option (Channel × List ℕ)
 output channel [] = None
 output channel (byte ∷ bytes) = Some (channel, byte ∷ bytes)
 
 -- the state, and what the last call wrote to a channel
 pub record KeptKernel : Type 0 where
   pub state : KernelState
-  pub out : Option (ℕ × List ℕ)
+  pub out : Option (Channel × List ℕ)

@@ -10,6 +10,7 @@ use Rattle.rv_exec.specs.Accesses.{can_read, can_write}
 use Rattle.rv_exec.specs.Registers.{Registers}
 use Rattle.guest_calls.specs.declared.answer.Answer.{Answer}
 use Rattle.guest_calls.specs.declared.answer.Answer.TheVariants.{Back}
+use Rattle.guest_calls.specs.declared.channel.Channel.{Channel}
 use Rattle.guest_calls.specs.declared.descriptor.Descriptor.{Descriptor}
 use Rattle.guest_calls.specs.Kernel.{KernelState, with_descriptor, output}
 
@@ -39,8 +40,8 @@ pub record SyscallResult : Type 0 where
   pub answer : Answer
   pub kernel : KernelState
   pub guest : Guest
-  -- bytes that go out, with their channel 1 or 2
-  pub out : Option (ℕ × List ℕ)
+  -- bytes that go out, with their channel
+  pub out : Option (Channel × List ℕ)
 
 -- nothing changes, and this is answered
 abbrev pub returns : Syscall → ℕ → SyscallResult
@@ -148,7 +149,7 @@ abbrev pub forgets : ℕ → SyscallResult → SyscallResult
 forgets tid r = record r { guest = record r.guest { held = without_thread r.guest.held tid } }
 
 -- bytes go out on the channel
-abbrev pub puts : ℕ → List ℕ → SyscallResult → SyscallResult
+abbrev pub puts : Channel → List ℕ → SyscallResult → SyscallResult
 puts channel bytes r = record r { out = output channel bytes }
 
 -- ---- what the tests look at

@@ -4,6 +4,7 @@ use Rattle.std.specs.List.{list_all}
 use Rattle.guest_memory.specs.Memory.{Memory, bytes_at, number_at}
 use Rattle.rv_exec.specs.Accesses.{can_read, can_write}
 use Rattle.trace_model.specs.declared.event_kinds.Event.{Event}
+use Rattle.guest_calls.specs.declared.channel.Channel.TheVariants.{Out}
 use Rattle.guest_calls.specs.declared.vectors.IoVec.{IoVec}
 use Rattle.guest_calls.specs.Errors.{ebadf, efault, einval}
 use Rattle.guest_calls.specs.Kernel.{descriptor}
@@ -105,7 +106,7 @@ writev_effect c =
     returns c (writev_count c)
     ▷ reads c.tid (arg c 1) (8 * arg c 2)
     ▷ reads_parts c.tid (writev_parts c)
-    ▷ puts (unwrap_or (channel (descriptor c.kernel (arg c 0))) 0) (bytes_of c.memory (writev_parts c))
+    ▷ puts (unwrap_or (channel (descriptor c.kernel (arg c 0))) Out) (bytes_of c.memory (writev_parts c))
 
 abbrev pub writev : Syscall → SyscallResult
 writev c = unless c (writev_tests c) λ _. writev_effect c

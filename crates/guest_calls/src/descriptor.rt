@@ -1,4 +1,5 @@
 //! File descriptors.
+use crate::Channel;
 
 /// What a descriptor's number stands for.
 #[derive(Clone, Copy, Debug, PartialEq, Eq)]
@@ -6,14 +7,13 @@ pub enum Descriptor {
     /// Nothing: the number is free.
     Closed,
     StandardInput,
-    /// Standard output, 1, or standard error, 2.
-    Output { channel: u32 },
+    Output { channel: Channel },
     /// The input at an index of the list, and the position in it.
     InputFile { input: usize, position: u64 },
 }
 
 impl Descriptor {
-    ghost use Rattle.std.specs.Prelude.{◌≡◌, ◌<◌, ◌≤◌, ◌^◌, IfSome};
+    ghost use Rattle.std.specs.Prelude.{◌≡◌, ◌<◌, ◌^◌};
     ghost use Rattle.guest_calls.specs.Files.{is_closed, is_input_file, is_source, channel, with_position};
     ghost use Rattle.guest_calls.specs.Invariant.{IsSoundDescriptor};
 
@@ -42,9 +42,8 @@ impl Descriptor {
     }
 
     /// The channel of output.
-    pub(crate) fn channel(self) -> Option<u32>
-        ensures value { result ≡ channel self }
-        ensures range { IsSoundDescriptor self → IfSome result (λ n. (1 ≤ n) × (n ≤ 2)) }
+    pub(crate) fn channel(self) -> Option<Channel>
+        ensures { result ≡ channel self }
     {
         match self {
             Descriptor::Output { channel } => Some(channel),

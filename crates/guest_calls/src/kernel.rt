@@ -14,7 +14,7 @@ use crate::caller::Caller;
 use crate::numbers::{NR_WRITE, NR_WRITEV};
 use crate::outgoing::Outgoing;
 use crate::state::State;
-use crate::{Answer, Inputs};
+use crate::{Answer, Channel, Inputs};
 use guest_memory::{GuestMemory, Reservations};
 use guest_words::limits::SYSCALL_EVENTS;
 use guest_words::{Addr, ReadyList, Tid};
@@ -164,10 +164,9 @@ impl Kernel {
         woken
     }
 
-    /// The channel, 1 or 2, and the bytes of the last call, where it was a write of at least one byte.
-    pub fn outgoing(&self) -> Option<(u32, &[u8])>
+    /// The channel and the bytes of the last call, where it was a write of at least one byte.
+    pub fn outgoing(&self) -> Option<(Channel, &[u8])>
         ensures out { option_map (λ out. (out.0, out.1.now)) result ≡ self.now.out }
-        ensures channel { IfSome result (λ out. (1 ≤ out.0) × (out.0 ≤ 2)) }
     {
         self.outgoing.bytes()
     }

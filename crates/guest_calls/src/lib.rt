@@ -6,6 +6,7 @@
 
 mod answer;
 mod caller;
+mod channel;
 mod clock;
 mod clone;
 mod copies;
@@ -30,6 +31,7 @@ mod waking;
 mod writes;
 
 pub use answer::Answer;
+pub use channel::Channel;
 pub use inputs::Inputs;
 pub use kernel::Kernel;
 pub use laws::{every_syscall_is_lawful, wakes_exactly};

@@ -1,5 +1,5 @@
 //! The bytes that a call writes.
-ghost use Rattle.std.specs.Prelude.{◌≡◌, ◌≤◌, true, None, IfOk, IfSome};
+ghost use Rattle.std.specs.Prelude.{◌≡◌, ◌≤◌, true, None, IfOk};
 ghost use Rattle.guest_memory.specs.Guest.{memory_of};
 ghost use Rattle.guest_memory.specs.Memory.{bytes_at};
 ghost use Rattle.guest_calls.specs.Kernel.{output};
@@ -7,6 +7,7 @@ ghost use Rattle.rv_exec.specs.Accesses.{can_read};
 ghost use Rattle.guest_calls.specs.Vectors.{all_in_reach, bytes_of, total};
 ghost use Rattle.std.specs.Option.{option_map};
 
+use crate::Channel;
 use crate::copies::copy_to;
 use crate::vectors::{IoVec, copy_parts};
 use guest_memory::GuestMemory;
@@ -20,22 +21,22 @@ pub const WRITE_LIMIT: u32 = 65536;
 /// The bytes of the last write and their channel. The room for them is taken as it is made.
 #[derive(Drop)]
 pub(crate) struct Outgoing {
-    channel: u32,
+    channel: Channel,
     count: usize,
     buffer: Vec<u8>,
 }
 
 impl Model for Outgoing {
     ghost use Rattle.std.specs.Prelude.{◌≡◌, ◌≤◌, ℕ, List, Option, take, length};
+    ghost use Rattle.guest_calls.specs.declared.channel.Channel.{Channel};
     ghost use Rattle.guest_calls.specs.Kernel.{output};
     ghost use Rattle.guest_calls.specs.declared.outgoing.TheConstants.{WRITE_LIMIT};
 
-    ghost Value = { Option (ℕ × List ℕ) };
+    ghost Value = { Option (Channel × List ℕ) };
 
     ghost view = { λ o. output o.channel (take o.count o.buffer.items) };
 
-    ghost invariant = { λ o. (length o.buffer.items ≡ WRITE_LIMIT) × (o.count ≤ WRITE_LIMIT)
-        × (1 ≤ o.channel) × (o.channel ≤ 2) };
+    ghost invariant = { λ o. (length o.buffer.items ≡ WRITE_LIMIT) × (o.count ≤ WRITE_LIMIT) };
 }
 
 impl Outgoing {
@@ -44,7 +45,7 @@ impl Outgoing {
         ensures { IfOk result (λ out. out ≡ None) }
     {
         Ok(Outgoing {
-            channel: 1,
+            channel: Channel::Out,
             count: 0,
             buffer: vec![in alloc; 0u8; WRITE_LIMIT as usize]?,
         })
@@ -58,9 +59,8 @@ impl Outgoing {
     }
 
     /// The channel and the bytes; None where there is no byte.
-    pub fn bytes(&self) -> Option<(u32, &[u8])>
-        ensures out { option_map (λ out. (out.0, out.1.now)) result ≡ self.now }
-        ensures channel { IfSome result (λ out. (1 ≤ out.0) × (out.0 ≤ 2)) }
+    pub fn bytes(&self) -> Option<(Channel, &[u8])>
+        ensures { option_map (λ out. (out.0, out.1.now)) result ≡ self.now }
     {
         if self.count == 0 {
             None
@@ -70,8 +70,7 @@ impl Outgoing {
     }
 
     /// Bytes of the guest's memory go out, each of which can be read.
-    pub fn put(&mut self, channel: u32, memory: &GuestMemory, at: Addr, count: u32)
-        requires channel { (1 ≤ channel) × (channel ≤ 2) }
+    pub fn put(&mut self, channel: Channel, memory: &GuestMemory, at: Addr, count: u32)
         requires few { count ≤ WRITE_LIMIT }
         requires reach { can_read (memory_of memory.now) at count ≡ true }
         ensures { self.new ≡ output channel (bytes_at (memory_of memory.now) at count) }
@@ -82,8 +81,7 @@ impl Outgoing {
     }
 
     /// The bytes of the parts go out, each of which can be read.
-    pub fn put_parts(&mut self, channel: u32, memory: &GuestMemory, parts: &[IoVec])
-        requires channel { (1 ≤ channel) × (channel ≤ 2) }
+    pub fn put_parts(&mut self, channel: Channel, memory: &GuestMemory, parts: &[IoVec])
         requires few { total parts.now ≤ WRITE_LIMIT }
         requires reach { all_in_reach (can_read (memory_of memory.now)) parts.now ≡ true }
         ensures { self.new ≡ output channel (bytes_of (memory_of memory.now) parts.now) }

@@ -3,9 +3,9 @@ ghost use Rattle.std.specs.Prelude.{◌≡◌, IfOk};
 ghost use Rattle.guest_calls.specs.Invariant.{IsState};
 ghost use Rattle.guest_calls.specs.Kernel.{can_run, is_blocked, later, later_by, lives, ready, started};
 
-use crate::Inputs;
 use crate::descriptor::Descriptor;
 use crate::thread::Thread;
+use crate::{Channel, Inputs};
 use futex_table::FutexTable;
 use guest_words::limits::THREADS;
 use guest_words::{Addr, ReadyList, Tid};
@@ -65,8 +65,12 @@ impl State {
         })?;
         let mut descriptors = [Descriptor::Closed; DESCRIPTORS];
         descriptors[0] = Descriptor::StandardInput;
-        descriptors[1] = Descriptor::Output { channel: 1 };
-        descriptors[2] = Descriptor::Output { channel: 2 };
+        descriptors[1] = Descriptor::Output {
+            channel: Channel::Out,
+        };
+        descriptors[2] = Descriptor::Output {
+            channel: Channel::Err,
+        };
         Ok(State {
             alloc,
             threads,

@@ -1,5 +1,5 @@
 //! The calls that write: write(2) and writev(2).
-ghost use Rattle.std.specs.Prelude.{◌≡◌, ◌≤◌, ◌+◌, IfOk, IfSome, OnErr};
+ghost use Rattle.std.specs.Prelude.{◌≡◌, ◌≤◌, ◌+◌, IfOk, OnErr};
 ghost use Rattle.guest_memory.specs.declared.reservations.Reservations.{Reservations};
 ghost use Rattle.guest_calls.specs.Files.{channel, write};
 ghost use Rattle.guest_calls.specs.Kernel.{descriptor};
@@ -11,7 +11,7 @@ use crate::copies::note_read;
 use crate::errors::{EBADF, EFAULT};
 use crate::outgoing::WRITE_LIMIT;
 use crate::vectors::{TableError, can_read_parts, note_parts, read_table, total, truncated};
-use crate::{Answer, Kernel};
+use crate::{Answer, Channel, Kernel};
 use guest_memory::GuestMemory;
 use guest_words::limits::SYSCALL_EVENTS;
 use std::alloc::AllocError;
@@ -19,9 +19,8 @@ use trace_model::Events;
 
 impl Kernel {
     // The channel of output that a descriptor stands for.
-    fn channel_of(&self, fd: u32) -> Option<u32>
-        ensures value { result ≡ channel (descriptor self.now.state fd) }
-        ensures range { IfSome result (λ n. (1 ≤ n) × (n ≤ 2)) }
+    fn channel_of(&self, fd: u32) -> Option<Channel>
+        ensures { result ≡ channel (descriptor self.now.state fd) }
     {
         self.state.descriptor(fd).channel()
     }

@@ -5,6 +5,7 @@ use Rattle.guest_memory.specs.declared.reservations.Reservations.{Reservations}
 use Rattle.guest_memory.specs.Guest.{memory_of}
 use Rattle.guest_memory.specs.ReservedBy.{reserved_by}
 use Rattle.trace_model.specs.declared.event_kinds.Event.{Event}
+use Rattle.guest_calls.specs.declared.channel.Channel.{Channel}
 use Rattle.guest_calls.specs.Kernel.{KeptKernel}
 use Rattle.guest_machine.specs.declared.stepped.Stepped.{Stepped}
 use Rattle.guest_machine.specs.Machine.{Hart, MachineState}
@@ -31,7 +32,7 @@ machine_of p = record {
 }
 
 -- the bytes that the last step put out, with their channel
-abbrev pub out_of : Parts → Option (ℕ × List ℕ)
+abbrev pub out_of : Parts → Option (Channel × List ℕ)
 out_of p = if p.called then p.kernel.out else None
 
 -- the outcome, the machine, what goes out and the events that were added are those of the result

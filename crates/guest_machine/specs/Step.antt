@@ -22,6 +22,7 @@ use Rattle.guest_calls.specs.Results as calls
 use Rattle.guest_calls.specs.Results.{SyscallResult}
 use Rattle.guest_calls.specs.declared.answer.Answer.{Answer}
 use Rattle.guest_calls.specs.declared.answer.Answer.TheVariants.{Back, Yield, Block, ThreadEnd, ProcessEnd, Born}
+use Rattle.guest_calls.specs.declared.channel.Channel.{Channel}
 use Rattle.guest_calls.specs.Table.{syscall}
 use Rattle.guest_machine.specs.declared.stepped.Stepped.{Stepped}
 use Rattle.guest_machine.specs.declared.stepped.Stepped.TheVariants.{Went, Yielded, Blocked, Ended, Finished, Faulted}
@@ -32,8 +33,8 @@ pub record StepResult : Type 0 where
   pub machine : MachineState
   -- its events, in order
   pub events : List Event
-  -- bytes that go out, with their channel 1 or 2
-  pub out : Option (ℕ × List ℕ)
+  -- bytes that go out, with their channel
+  pub out : Option (Channel × List ℕ)
   pub outcome : Stepped
 
 -- ---- an instruction

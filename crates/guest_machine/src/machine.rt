@@ -6,7 +6,7 @@ use crate::setup::first_guest;
 use crate::stack::strings_length;
 use crate::{Advanced, KnownSteps, SetupError, Stepped};
 use elf_image::Image;
-use guest_calls::Inputs;
+use guest_calls::{Channel, Inputs};
 use guest_words::limits::{PAGES, STACK_PAGES};
 use guest_words::{Addr, ReadyList, Tid};
 use std::alloc::{AllocError, Global};
@@ -78,11 +78,10 @@ impl Machine {
         Ok(Machine { guest })
     }
 
-    /// The channel, 1 or 2, and the bytes that the last step wrote, where it was a write of at least one byte.
+    /// The channel and the bytes that the last step wrote, where it was a write of at least one byte.
     #[inline(always)]
-    pub fn outgoing(&self) -> Option<(u32, &[u8])>
+    pub fn outgoing(&self) -> Option<(Channel, &[u8])>
         ensures out { option_map (λ out. (out.0, out.1.now)) result ≡ out_of self.now }
-        ensures channel { IfSome result (λ out. (1 ≤ out.0) × (out.0 ≤ 2)) }
     {
         if self.guest.called {
             self.guest.kernel.outgoing()

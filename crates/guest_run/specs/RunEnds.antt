@@ -6,7 +6,7 @@ use Rattle.guest_calls.specs.Inputs.{Input}
 use Rattle.guest_machine.specs.Kept.{Parts, machine_of}
 use Rattle.guest_machine.specs.Start.{start}
 use Rattle.guest_run.specs.declared.run.Ended.{Ended}
-use Rattle.guest_run.specs.declared.run_error.Channel.{Channel}
+use Rattle.guest_calls.specs.declared.channel.Channel.{Channel}
 use Rattle.guest_run.specs.declared.run_error.RunError.{RunError}
 use Rattle.guest_run.specs.declared.run_error.RunError.TheVariants.{CannotPut, Memory}
 use Rattle.guest_run.specs.Output.{FailsOn, Sinks, with_output}

@@ -53,8 +53,8 @@ fn put_outgoing<O: Sink, E: Sink>(
         (sinks (O.state out.new) (E.state err.new)) result }
 {
     match machine.outgoing() {
-        Some((1, bytes)) => put(bytes, Channel::Out, out),
-        Some((_, bytes)) => put(bytes, Channel::Err, err),
+        Some((Channel::Out, bytes)) => put(bytes, Channel::Out, out),
+        Some((Channel::Err, bytes)) => put(bytes, Channel::Err, err),
         None => Ok(()),
     }
 }

@@ -5,7 +5,7 @@ use Rattle.trace_model.specs.declared.event_kinds.Event.{Event}
 use Rattle.trace_model.specs.Cut.{cut, past_after}
 use Rattle.guest_machine.specs.Machine.{MachineState}
 use Rattle.host_io.specs.Sink.{SinkState, appended}
-use Rattle.guest_run.specs.declared.run_error.Channel.{Channel}
+use Rattle.guest_calls.specs.declared.channel.Channel.{Channel}
 use Rattle.guest_run.specs.declared.run_error.RunError.{RunError}
 use Rattle.guest_run.specs.declared.run_error.RunError.TheVariants.{CannotPut, Memory}
 use Rattle.guest_run.specs.declared.turn_status.TurnStatus.{TurnStatus}
@@ -20,7 +20,7 @@ PutEndsOn channel bytes old new (Err (CannotPut failed)) = (failed ≡ channel) 
 PutEndsOn channel bytes old new (Err Memory) = new ≡ old
 
 -- how the bytes of a step are put
-abbrev pub PutsSent : Option (ℕ × List ℕ) → Sinks → Sinks → Result Unit RunError → Type 0
+abbrev pub PutsSent : Option (Channel × List ℕ) → Sinks → Sinks → Result Unit RunError → Type 0
 PutsSent out before after (Ok done) = after ≡ with_sent out before
 PutsSent out before after (Err (CannotPut channel)) = FailsOn channel out before after
 PutsSent out before after (Err Memory) = after ≡ before
