@@ -13,7 +13,7 @@ use Rattle.guest_calls.specs.declared.caller.Caller.{Caller}
 use Rattle.guest_calls.specs.Clone.{are_flags_taken, child_clear_tid, child_registers, clone, clone_effect, is_denied, is_full, sets_child, sets_parent, with_thread}
 use Rattle.guest_calls.specs.Errors.{eagain, efault, enosys}
 use Rattle.guest_calls.specs.Kernel.{KernelState}
-use Rattle.guest_calls.specs.Outcome.{asked, guest_of, Does}
+use Rattle.guest_calls.specs.Outcome.{asked, guest_of, Does, KeepsRoom}
 use Rattle.guest_calls.specs.Results.{Syscall, SyscallResult, Guest, answered_or, arg, filled_where, first_answer, has, ◌⇒◌, ◌or◌}
 
 none_holds : (a b d e : Bool) → a ≡ false → b ≡ false → d ≡ false → e ≡ false
@@ -58,8 +58,9 @@ pub clone_does : (caller : Caller) (state after : KernelState) (memory last : Gu
     → child ≡ child_registers c.registers flags (arg c 1) (arg c 3)
     → after ≡ with_thread tid (child_clear_tid flags at) state
     → reserved_by left ≡ without_thread (reserved_by kept) tid
+    → KeepsRoom events all
     → Does (clone c) (Born tid child) after last left events all)
-clone_does caller state after memory last held kept left events all between flags to at n m tid b d child e0 e2 e4 next n_is m_is b_is d_is same one two child_is after_is left_is =
+clone_does caller state after memory last held kept left events all between flags to at n m tid b d child e0 e2 e4 next n_is m_is b_is d_is same one two child_is after_is left_is room =
     let c = asked caller state memory held in
     let number = state.last_tid + 1 in
     let both : guest_of last kept all ≡ filled_where (has (arg c 0) sets_child) (arg c 4) number
@@ -71,5 +72,5 @@ clone_does caller state after memory last held kept left events all between flag
       state_is = cc;
       memory_is = ap (λ (g : Guest). g.memory) parts;
       held_is = left_of ∙ ap (λ (g : Guest). without_thread g.held number) parts;
-      events = ap (λ (g : Guest). g.events) parts;
+      events = record { list_is = ap (λ (g : Guest). g.events) parts; room = room };
     })

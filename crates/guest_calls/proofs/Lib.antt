@@ -19,6 +19,7 @@ pub mod Queues
 pub mod Reach
 pub mod Refusals
 pub mod Rising
+pub mod Room
 pub mod Rows
 pub mod Settled
 pub mod Sleeps

@@ -21,7 +21,7 @@ use Rattle.guest_calls.specs.Clock.{clock_nanosleep, is_clock, sleep_end, sleeps
 use Rattle.guest_calls.specs.Errors.{efault, einval}
 use Rattle.guest_calls.specs.Invariant.{IsState}
 use Rattle.guest_calls.specs.Kernel.{KernelState, is_thread, lives}
-use Rattle.guest_calls.specs.Outcome.{Does, asked}
+use Rattle.guest_calls.specs.Outcome.{Adds, Does, asked}
 use Rattle.guest_calls.specs.Results.{Syscall, SyscallResult, answered_or, arg, either, first_answer, read_event, readable, reads, returns, ◌▷◌}
 use Rattle.guest_calls.proofs.Blocked.{unblocked_parts}
 use Rattle.guest_calls.proofs.Leaving.{still_gone}
@@ -88,7 +88,7 @@ pub nanosleep_does : (caller : Caller) (state new : KernelState) (memory : Guest
     → end ≡ sleep_end (arg (asked caller state memory held) 1) state.time time
     → answer ≡ cond (nat_le end state.time) (Back 0) Block
     → new ≡ cond (nat_le end state.time) state (with_deadline caller.tid end 0 state)
-    → after.list ≡ before.list ++ read_event caller.tid (arg (asked caller state memory held) 2) time_size
+    → Adds (read_event caller.tid (arg (asked caller state memory held) 2) time_size) before after
     → Does (clock_nanosleep (asked caller state memory held)) answer new memory held before after
 nanosleep_does caller state new memory held before after time end answer known reach read end_is answered becomes events =
     let c = asked caller state memory held in

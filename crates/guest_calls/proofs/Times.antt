@@ -10,7 +10,7 @@ use Rattle.guest_memory.specs.ReservedBy.{reserved_by}
 use Rattle.trace_model.specs.EventList.{EventList}
 use Rattle.guest_calls.specs.declared.answer.Answer.TheVariants.{Back}
 use Rattle.guest_calls.specs.declared.caller.Caller.{Caller}
-use Rattle.guest_calls.specs.Outcome.{Does, asked}
+use Rattle.guest_calls.specs.Outcome.{Adds, Does, asked}
 use Rattle.guest_calls.specs.Clock.{clock_gettime, is_clock, time_bytes, time_size}
 use Rattle.guest_calls.specs.Errors.{efault, einval}
 use Rattle.guest_calls.specs.Invariant.{IsState}
@@ -55,7 +55,7 @@ pub filled_does : (caller : Caller) (state : KernelState) (memory memory' : Gues
     → bytes ≡ wanted
     → memory_of memory' ≡ with_bytes (memory_of memory) at bytes
     → reserved_by held' ≡ after_write (reserved_by held) None (at / 4) (words_touched at (length bytes))
-    → after.list ≡ before.list ++ fill_event at (length bytes)
+    → Adds (fill_event at (length bytes)) before after
     → Does (returns (asked caller state memory held) 0 ▷ fills at wanted) (Back 0) state memory' held' before after
 filled_does caller state memory memory' held held' before after at bytes wanted is memories reserved events =
     subst (λ (bs : List ℕ). Does (returns (asked caller state memory held) 0 ▷ fills at bs) (Back 0) state memory' held' before after) is (record {

@@ -149,11 +149,15 @@ count_woken c bits = length (woken c.kernel.waiting (futex_at c) (futex_value c)
 abbrev pub count_shifted : Syscall → ℕ
 count_shifted c = length (shifted c.kernel.waiting (futex_at c) (futex_value c) (futex_limit c))
 
+-- those that wait at the word and meet the bits are woken
+abbrev pub wakes_with : ℕ → Syscall → SyscallResult
+wakes_with bits c = returns c (count_woken c bits) ▷ wakes (futex_at c) (futex_value c) bits
+
 abbrev pub performed : Operation → Syscall → SyscallResult
 performed Wait c = waited c all_bits (wait_end Wait c)
 performed WaitBitset c = waited c (futex_value3 c) (wait_end WaitBitset c)
-performed Wake c = returns c (count_woken c all_bits) ▷ wakes (futex_at c) (futex_value c) all_bits
-performed WakeBitset c = returns c (count_woken c (futex_value3 c)) ▷ wakes (futex_at c) (futex_value c) (futex_value3 c)
+performed Wake c = wakes_with all_bits c
+performed WakeBitset c = wakes_with (futex_value3 c) c
 performed Requeue c = returns c (count_woken c all_bits) ▷ requeues c
 performed CmpRequeue c = returns c (count_woken c all_bits + count_shifted c) ▷ compares c (futex_value3 c) (requeues c)
 

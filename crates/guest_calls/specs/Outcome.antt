@@ -1,14 +1,20 @@
 -- What the code of a call gives, over the types of the code.
-use Rattle.std.specs.Prelude.{◌≡◌, ◌++◌}
+use Rattle.std.specs.Prelude.{◌≡◌, ℕ, ◌≤◌, ◌+◌, List, ◌++◌, length}
 use Rattle.trace_model.specs.EventList.{EventList}
+use Rattle.trace_model.specs.declared.event_kinds.Event.{Event}
 use Rattle.guest_memory.specs.declared.memory.GuestMemory.{GuestMemory}
 use Rattle.guest_memory.specs.declared.reservations.Reservations.{Reservations}
 use Rattle.guest_memory.specs.Guest.{memory_of}
 use Rattle.guest_memory.specs.ReservedBy.{reserved_by}
+use Rattle.rv_exec.specs.Registers.{Registers}
 use Rattle.guest_calls.specs.declared.answer.Answer.{Answer}
 use Rattle.guest_calls.specs.declared.caller.Caller.{Caller}
 use Rattle.guest_calls.specs.Kernel.{KernelState, KeptKernel}
 use Rattle.guest_calls.specs.Results.{Syscall, SyscallResult, Guest}
+
+-- the thread calls, with these registers
+abbrev pub calling : ℕ → Registers → Caller
+calling tid registers = record { tid = tid; cpu = registers }
 
 -- the call that the caller's registers hold
 abbrev pub asked : Caller → KernelState → GuestMemory → Reservations → Syscall
@@ -24,13 +30,22 @@ asked caller kernel memory held = record {
 abbrev pub guest_of : GuestMemory → Reservations → EventList → Guest
 guest_of memory held events = record { memory = memory_of memory; held = reserved_by held; events = events.list }
 
+-- no room is lost: a place for an event is still free, or an event has it
+abbrev pub KeepsRoom : EventList → EventList → Type 0
+KeepsRoom before after = length before.list + before.room ≤ length after.list + after.room
+
+-- the events are added, each in a place that there was room for
+pub record Adds (events : List Event) (before after : EventList) : Type 0 where
+  pub list_is : after.list ≡ before.list ++ events
+  pub room : KeepsRoom before after
+
 -- the answer, the state, the memory and the reservations are those of the result, and its events are added
 pub record Does (r : SyscallResult) (answer : Answer) (state : KernelState) (memory : GuestMemory) (held : Reservations) (before after : EventList) : Type 0 where
   pub answered : answer ≡ r.answer
   pub state_is : state ≡ r.kernel
   pub memory_is : memory_of memory ≡ r.guest.memory
   pub held_is : reserved_by held ≡ r.guest.held
-  pub events : after.list ≡ before.list ++ r.guest.events
+  pub events : Adds r.guest.events before after
 
 -- the same of a call that leaves the guest as it is, whatever the guest is
 abbrev pub DoesQuietly : (Syscall → SyscallResult) → Caller → KernelState → Answer → KernelState → Type 0
@@ -38,17 +53,24 @@ DoesQuietly what caller old answer new =
     (memory : GuestMemory) (held : Reservations) (events : EventList)
     → Does (what (asked caller old memory held)) answer new memory held events events
 
+-- the same of a call that leaves all but the memory as it is, whatever that is
+abbrev pub DoesToMemory : (Syscall → SyscallResult) → Caller → GuestMemory → Answer → GuestMemory → Type 0
+DoesToMemory what caller old answer new =
+    (kernel : KernelState) (held : Reservations) (events : EventList)
+    → Does (what (asked caller kernel old held)) answer kernel new held events events
+
 -- the same with what goes out
 pub record Gives (r : SyscallResult) (answer : Answer) (kept : KeptKernel) (memory : GuestMemory) (held : Reservations) (before after : EventList) : Type 0 where
   pub does : Does r answer kept.state memory held before after
   pub out : kept.out ≡ r.out
 
--- nothing changed
+-- nothing changed, and no room is lost
 pub record IsUntouched (state state_new : KernelState) (memory memory_new : GuestMemory) (held held_new : Reservations) (before after : EventList) : Type 0 where
   pub state_same : state_new ≡ state
   pub memory_same : memory_of memory_new ≡ memory_of memory
   pub held_same : reserved_by held_new ≡ reserved_by held
   pub events_same : after.list ≡ before.list
+  pub room : KeepsRoom before after
 
 -- nothing changed, and what went out is still there
 pub record IsAsBefore (kept kept_new : KeptKernel) (memory memory_new : GuestMemory) (held held_new : Reservations) (before after : EventList) : Type 0 where

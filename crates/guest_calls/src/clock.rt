@@ -94,7 +94,6 @@ impl State {
         ensures does { Does (specs.clock_gettime
             (asked caller.now self.now memory.old held.old)) result
             self.now memory.new held.new events.old events.new }
-        ensures room { events.old.room ≤ events.new.room + 1 }
     {
         if !is_clock(caller.argument(0)) {
             return Answer::Back { value: EINVAL };
@@ -162,7 +161,6 @@ impl State {
             (specs.clock_nanosleep
             (asked caller.now self.old memory.now held)) result
             self.new memory.now held events.old events.new }
-        ensures room { events.old.room ≤ events.new.room + 1 }
     {
         if !is_clock(caller.argument(0)) {
             return Answer::Back { value: EINVAL };

@@ -3,7 +3,7 @@ ghost use Rattle.std.specs.Prelude.{◌≡◌, ◌≤◌, ◌+◌, true, false, 
 ghost use Rattle.guest_memory.specs.Guest.{memory_of};
 ghost use Rattle.guest_calls.specs.Clone.{are_flags_taken, child_clear_tid, child_registers, is_denied, is_full, with_thread};
 ghost use Rattle.guest_calls.specs.Clone as specs;
-ghost use Rattle.guest_calls.specs.Outcome.{asked, guest_of, Does};
+ghost use Rattle.guest_calls.specs.Outcome.{asked, guest_of, Does, KeepsRoom};
 ghost use Rattle.guest_calls.specs.Results.{filled_where, has};
 ghost use Rattle.rv_exec.specs.Accesses.{can_write};
 
@@ -98,7 +98,7 @@ fn fill_word_if(
     requires room { 1 ≤ events.old.room }
     ensures filled { guest_of memory.new held.new events.new
         ≡ filled_where asked at value (guest_of memory.old held.old events.old) }
-    ensures room { events.old.room ≤ events.new.room + 1 }
+    ensures room { KeepsRoom events.old events.new }
 {
     if asked {
         fill_word(memory, held, events, at, value);
@@ -140,7 +140,6 @@ impl State {
         ensures does { Does (specs.clone
             (asked caller.now self.old memory.old held.old)) result
             self.new memory.new held.new events.old events.new }
-        ensures room { events.old.room ≤ events.new.room + 2 }
     {
         let (flags, parent, child) = (caller.argument(0), caller.argument(2), caller.argument(4));
         if !are_flags_taken(flags) {

@@ -6,6 +6,7 @@ ghost use Rattle.guest_memory.specs.Memory.{bytes_at, with_bytes};
 ghost use Rattle.guest_memory.specs.Reserved.{after_write};
 ghost use Rattle.guest_memory.specs.ReservedBy.{reserved_by};
 ghost use Rattle.rv_exec.specs.Accesses.{can_read, can_write};
+ghost use Rattle.guest_calls.specs.Outcome.{Adds};
 ghost use Rattle.guest_calls.specs.Results.{fill_event, read_event, words_touched};
 
 use guest_memory::{GuestMemory, Reservations};
@@ -13,7 +14,7 @@ use guest_words::{Addr, Tid, words_over};
 use trace_model::{Event, Events};
 
 /// The kernel writes bytes, each of which can be written. That drops all reservations on their words.
-#[tactic(auto, using(crate::proofs::Reach::writable_end, crate::proofs::Reach::filled_some, crate::proofs::Reach::filled_none, crate::proofs::Reach::untouched))]
+#[tactic(auto, using(crate::proofs::Reach::writable_end, crate::proofs::Reach::filled_some, crate::proofs::Reach::filled_none, crate::proofs::Reach::untouched, crate::proofs::Room::pushed))]
 pub(crate) fn fill(
     memory: &mut GuestMemory,
     held: &mut Reservations,
@@ -27,8 +28,7 @@ pub(crate) fn fill(
     ensures memory { memory_of memory.new ≡ with_bytes (memory_of memory.old) at bytes.now }
     ensures held { reserved_by held.new ≡ after_write (reserved_by held.old) None (at / 4)
         (words_touched at (length bytes.now)) }
-    ensures events { events.new.list ≡ events.old.list ++ fill_event at (length bytes.now) }
-    ensures room { events.old.room ≤ events.new.room + 1 }
+    ensures events { Adds (fill_event at (length bytes.now)) events.old events.new }
 {
     memory.copy_in(at, bytes).unwrap();
     if !bytes.is_empty() {
@@ -52,19 +52,17 @@ pub(crate) fn fill_word(
         (to_le_bytes w32 value) }
     ensures held { reserved_by held.new ≡ after_write (reserved_by held.old) None (at / 4)
         (words_touched at 4) }
-    ensures events { events.new.list ≡ events.old.list ++ fill_event at 4 }
-    ensures room { events.old.room ≤ events.new.room + 1 }
+    ensures events { Adds (fill_event at 4) events.old events.new }
 {
     fill(memory, held, events, at, &value.to_le_bytes());
 }
 
 /// The kernel has read `bytes` bytes for the thread, each of which can be read.
-#[tactic(auto, using(crate::proofs::Reach::readable_end, crate::proofs::Reach::read_some))]
+#[tactic(auto, using(crate::proofs::Reach::readable_end, crate::proofs::Reach::read_some, crate::proofs::Room::pushed))]
 pub(crate) fn note_read(memory: &GuestMemory, events: &mut Events, tid: Tid, at: Addr, bytes: u32)
     requires reach { can_read (memory_of memory.now) at bytes ≡ true }
     requires room { 1 ≤ events.old.room }
-    ensures events { events.new.list ≡ events.old.list ++ read_event tid at bytes }
-    ensures room { events.old.room ≤ events.new.room + 1 }
+    ensures events { Adds (read_event tid at bytes) events.old events.new }
 {
     if bytes > 0 {
         let (first, count) = words_over(at, bytes);

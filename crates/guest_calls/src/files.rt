@@ -95,7 +95,6 @@ impl State {
         ensures does { Does (specs.read
             (asked caller.now self.old memory.old held.old)) result
             self.new memory.new held.new events.old events.new }
-        ensures room { events.old.room ≤ events.new.room + 1 }
     {
         let (fd, at) = (caller.argument(0), caller.argument(1));
         let file = self.descriptor(fd);
@@ -153,7 +152,6 @@ impl State {
         ensures does { Does (specs.llseek
             (asked caller.now self.old memory.old held.old)) result
             self.new memory.new held.new events.old events.new }
-        ensures room { events.old.room ≤ events.new.room + 1 }
     {
         let (fd, result_at, whence) = (caller.argument(0), caller.argument(3), caller.argument(4));
         let file = self.descriptor(fd);

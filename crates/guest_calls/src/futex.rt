@@ -5,18 +5,16 @@ ghost use Rattle.virtual_clock.specs.Once.{has};
 ghost use Rattle.guest_memory.specs.declared.reservations.Reservations.{Reservations};
 ghost use Rattle.guest_memory.specs.Guest.{memory_of};
 ghost use Rattle.guest_memory.specs.Memory.{number_at};
-ghost use Rattle.guest_memory.specs.declared.memory.GuestMemory.{GuestMemory};
-ghost use Rattle.trace_model.specs.EventList.{EventList};
 ghost use Rattle.guest_calls.specs.declared.answer.Answer.TheVariants.{Back, Block};
 ghost use Rattle.guest_calls.specs.declared.operation.Operation.TheVariants.{Requeue, CmpRequeue};
 ghost use Rattle.rv_exec.specs.Accesses.{can_read};
-ghost use Rattle.guest_calls.specs.Futex.{count_woken, futex_at, futex_tests, futex_value, has_bitset, is_over, is_wait, limit_end, moved_at, performed, reads_word, requeued, wait_end, waited, wakes, with_end, with_waiter};
+ghost use Rattle.guest_calls.specs.Futex.{futex_tests, has_bitset, is_over, is_wait, limit_end, moved_at, performed, reads_word, requeued, wait_end, waited, wakes_with, with_end, with_waiter};
 ghost use Rattle.guest_calls.specs.Clock.{time_at};
 ghost use Rattle.guest_calls.specs.Errors.{etimedout};
 ghost use Rattle.guest_calls.specs.Futex as specs;
 ghost use Rattle.guest_calls.specs.Kernel.{KernelState, can_run, lives};
-ghost use Rattle.guest_calls.specs.Outcome.{asked, Does};
-ghost use Rattle.guest_calls.specs.Results.{first_answer, read_event, returns, ◌▷◌};
+ghost use Rattle.guest_calls.specs.Outcome.{asked, Adds, Does, DoesQuietly};
+ghost use Rattle.guest_calls.specs.Results.{first_answer, read_event};
 
 use crate::Answer;
 use crate::caller::Caller;
@@ -109,9 +107,8 @@ fn compare(memory: &GuestMemory, events: &mut Events, caller: &Caller, value: u3
     requires room { 1 ≤ events.old.room }
     ensures same { result ≡ (number_at (memory_of memory.now)
         (slice_index caller.now.cpu.regs 10) 4 == value) }
-    ensures events { events.new.list ≡ events.old.list
-        ++ read_event caller.now.tid (slice_index caller.now.cpu.regs 10) 4 }
-    ensures room { events.old.room ≤ events.new.room + 1 }
+    ensures events { Adds (read_event caller.now.tid (slice_index caller.now.cpu.regs 10) 4)
+        events.old events.new }
 {
     let at = caller.argument(0);
     note_read(memory, events, caller.tid, at, 4);
@@ -123,10 +120,9 @@ fn note_limit(memory: &GuestMemory, events: &mut Events, caller: &Caller, end: O
     requires reach { is_some end ≡ true → can_read (memory_of memory.now)
         (slice_index caller.now.cpu.regs 13) 16 ≡ true }
     requires room { 1 ≤ events.old.room }
-    ensures events { events.new.list ≡ events.old.list
-        ++ (if is_some end then read_event caller.now.tid (slice_index caller.now.cpu.regs 13) 16
-        else []) }
-    ensures room { events.old.room ≤ events.new.room + 1 }
+    ensures events { Adds
+        (if is_some end then read_event caller.now.tid (slice_index caller.now.cpu.regs 13) 16
+        else []) events.old events.new }
 {
     if end.is_some() {
         let limit = caller.argument(3);
@@ -256,7 +252,6 @@ impl State {
             → let c = asked caller.now self.old memory.now held in Does
             (waited c bits (wait_end operation c)) result
             self.new memory.now held events.old events.new }
-        ensures room { events.old.room ≤ events.new.room + 2 }
     {
         let end = self.wait_end(memory, caller, operation);
         note_limit(memory, events, caller, end);
@@ -268,10 +263,7 @@ impl State {
 
     // FUTEX_WAKE and FUTEX_WAKE_BITSET
     fn futex_wake(&mut self, caller: &Caller, bits: u32) -> Answer
-        ensures { (memory : GuestMemory) (held : Reservations) (events : EventList)
-            → let c = asked caller.now self.old memory held in Does
-            (returns c (count_woken c bits) ▷ wakes (futex_at c)
-            (futex_value c) bits) result self.new memory held events events }
+        ensures { DoesQuietly (wakes_with bits) caller.now self.old result self.new }
     {
         let count = self.wake(caller.argument(0), caller.argument(2), bits);
         Answer::Back { value: count }
@@ -279,9 +271,7 @@ impl State {
 
     // FUTEX_REQUEUE
     fn futex_requeue(&mut self, caller: &Caller) -> Answer
-        ensures { (memory : GuestMemory) (held : Reservations) (events : EventList)
-            → let c = asked caller.now self.old memory held in Does
-            (performed Requeue c) result self.new memory held events events }
+        ensures { DoesQuietly (performed Requeue) caller.now self.old result self.new }
     {
         let (at, most, shift, to) = (
             caller.argument(0),
@@ -306,7 +296,6 @@ impl State {
         ensures does { (held : Reservations)
             → let c = asked caller.now self.old memory.now held in Does
             (performed CmpRequeue c) result self.new memory.now held events.old events.new }
-        ensures room { events.old.room ≤ events.new.room + 1 }
     {
         if !compare(memory, events, caller, caller.argument(5)) {
             return Answer::Back { value: EAGAIN };
@@ -335,7 +324,6 @@ impl State {
         ensures does { (held : Reservations) → Does
             (specs.futex (asked caller.now self.old memory.now held)) result
             self.new memory.now held events.old events.new }
-        ensures room { events.old.room ≤ events.new.room + 2 }
     {
         let Some(operation) = Operation::numbered(caller.argument(1) & NUMBER_BITS) else {
             return Answer::Back { value: ENOSYS };

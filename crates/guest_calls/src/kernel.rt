@@ -7,7 +7,7 @@ ghost use Rattle.guest_calls.specs.Kernel.{started, can_run, later, later_by, li
 ghost use Rattle.guest_calls.specs.Pages.{IsBreakFree};
 ghost use Rattle.guest_calls.specs.Waking.{moved_on, next_due, woken_by_time};
 ghost use Rattle.virtual_clock.specs.Order.{IsDue};
-ghost use Rattle.guest_calls.specs.Outcome.{asked, Gives, IsAsBefore};
+ghost use Rattle.guest_calls.specs.Outcome.{asked, calling, Gives, IsAsBefore};
 ghost use Rattle.guest_calls.specs.Table.{syscall};
 
 use crate::caller::Caller;
@@ -71,13 +71,11 @@ impl Kernel {
         requires can_run { can_run self.old.state tid ≡ true }
         requires break_free { IsBreakFree (memory_of memory.old) self.old.state.program_break }
         ensures syscall { IfOk result (λ answer. Gives
-            (syscall (asked (record { tid = tid; cpu = cpu.now })
-            self.old.state memory.old held.old)) answer
+            (syscall (asked (calling tid cpu.now) self.old.state memory.old held.old)) answer
             self.new memory.new held.new events.old events.new) }
         ensures refused { OnErr result (IsAsBefore self.old self.new
             memory.old memory.new held.old held.new events.old events.new) }
         ensures break_free { IsBreakFree (memory_of memory.new) self.new.state.program_break }
-        ensures room { events.old.room ≤ events.new.room + SYSCALL_EVENTS }
     {
         events.reserve(SYSCALL_EVENTS)?;
         let caller = Caller { tid, cpu: *cpu };
@@ -107,14 +105,12 @@ impl Kernel {
         requires can_run { can_run self.old.state tid ≡ true }
         requires break_free { IsBreakFree (memory_of memory.old) self.old.state.program_break }
         ensures syscall { IfOk result (λ answer. Gives
-            (syscall (asked (record { tid = tid; cpu = cpu.now })
-            (later self.old.state) memory.old held.old)) answer
+            (syscall (asked (calling tid cpu.now) (later self.old.state) memory.old held.old)) answer
             self.new memory.new held.new events.old events.new) }
         ensures refused { OnErr result (IsAsBefore self.old self.new
             memory.old memory.new held.old held.new events.old events.new) }
         ensures break_free { IsBreakFree (memory_of memory.new) self.new.state.program_break }
         ensures state { IsState self.new.state }
-        ensures room { events.old.room ≤ events.new.room + SYSCALL_EVENTS }
     {
         let before = self.state.time;
         self.state.tick();

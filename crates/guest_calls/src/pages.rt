@@ -4,8 +4,7 @@ ghost use Rattle.guest_memory.specs.declared.reservations.Reservations.{Reservat
 ghost use Rattle.guest_memory.specs.Guest.{memory_of};
 ghost use Rattle.guest_memory.specs.Memory.{AreFree, ArePagesMapped, mapped_pages, with_pages};
 ghost use Rattle.trace_model.specs.EventList.{EventList};
-ghost use Rattle.guest_calls.specs.Kernel.{KernelState};
-ghost use Rattle.guest_calls.specs.Outcome.{asked, Does};
+ghost use Rattle.guest_calls.specs.Outcome.{asked, Does, DoesToMemory};
 ghost use Rattle.guest_calls.specs.Pages.{pages, rights_of, first_fit, are_mapped, IsBreakFree};
 ghost use Rattle.guest_calls.specs.Pages as specs;
 
@@ -76,9 +75,7 @@ fn map(memory: &mut GuestMemory, page: u32, count: u32, rights: Rights) -> Resul
 
 /// munmap(2)
 pub(crate) fn munmap(memory: &mut GuestMemory, caller: &Caller) -> Answer
-    ensures { (state : KernelState) (held : Reservations) (events : EventList)
-        → Does (specs.munmap
-        (asked caller.now state memory.old held)) result state memory.new held events events }
+    ensures { DoesToMemory specs.munmap caller.now memory.old result memory.new }
 {
     let (at, count) = (caller.argument(0), pages(caller.argument(1)));
     if at % PAGE_SIZE != 0 {
@@ -105,9 +102,7 @@ fn are_mapped(memory: &GuestMemory, page: u32, count: u32) -> bool
 
 /// mprotect(2)
 pub(crate) fn mprotect(memory: &mut GuestMemory, caller: &Caller) -> Answer
-    ensures { (state : KernelState) (held : Reservations) (events : EventList)
-        → Does (specs.mprotect
-        (asked caller.now state memory.old held)) result state memory.new held events events }
+    ensures { DoesToMemory specs.mprotect caller.now memory.old result memory.new }
 {
     let (at, bytes) = (caller.argument(0), caller.argument(1));
     if at % PAGE_SIZE != 0 {
@@ -148,10 +143,8 @@ fn is_private(flags: u32) -> bool
 
 /// mmap2(2)
 pub(crate) fn mmap2(memory: &mut GuestMemory, caller: &Caller) -> Result<Answer, AllocError>
-    ensures does { (state : KernelState) (held : Reservations) (events : EventList)
-        → IfOk result (λ answer. Does
-        (specs.mmap2 (asked caller.now state memory.old held)) answer
-        state memory.new held events events) }
+    ensures does { IfOk result (λ answer. DoesToMemory specs.mmap2 caller.now
+        memory.old answer memory.new) }
     ensures refused { OnErr result (memory_of memory.new ≡ memory_of memory.old) }
     ensures high { (page : ℕ) → page < 0x40000
         → (memory_of memory.new).rights page ≡ (memory_of memory.old).rights page }

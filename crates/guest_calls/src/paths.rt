@@ -94,7 +94,6 @@ impl State {
         ensures does { (held : Reservations) → Does
             (specs.openat (asked caller.now self.old memory.now held)) result
             self.new memory.now held events.old events.new }
-        ensures room { events.old.room ≤ events.new.room + 1 }
     {
         let path = caller.argument(1);
         let Some(stop) = path_end(memory, path) else {

@@ -52,7 +52,6 @@ impl State {
             self.new memory.new held.new events.old events.new) }
         ensures refused { OnErr result (IsUntouched self.old self.new
             memory.old memory.new held.old held.new events.old events.new) }
-        ensures room { events.old.room ≤ events.new.room + SYSCALL_EVENTS }
     {
         match caller.number() {
             NR_IOCTL => Ok(always(ENOTTY)),

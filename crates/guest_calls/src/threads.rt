@@ -63,7 +63,6 @@ impl State {
         ensures does { Does (specs.exit
             (asked caller.now self.old memory.old held.old)) result
             self.new memory.new held.new events.old events.new }
-        ensures room { events.old.room ≤ events.new.room + 1 }
     {
         let tid = caller.tid;
         let goes_on = self.has_others(tid);
@@ -93,7 +92,6 @@ impl State {
         ensures told { Does (specs.told_end (asked caller.now self.old memory.old held.old))
             (Back 0) self.new memory.new held.new events.old events.new }
         ensures can_run { can_run self.new caller.now.tid ≡ true }
-        ensures room { events.old.room ≤ events.new.room + 1 }
     {
         if !self.has_others(caller.tid) {
             return;
@@ -202,7 +200,6 @@ pub(crate) fn rt_sigprocmask(
         (specs.rt_sigprocmask
         (asked caller.now state memory.old held.old)) result
         state memory.new held.new events.old events.new }
-    ensures room { events.old.room ≤ events.new.room + 1 }
 {
     let old = caller.argument(2);
     if old != 0 {

@@ -3,7 +3,7 @@ ghost use Rattle.std.specs.Prelude.{◌≡◌, ◌≤◌, ◌<◌, ◌+◌, ◌*
 ghost use Rattle.guest_memory.specs.Guest.{memory_of};
 ghost use Rattle.guest_memory.specs.Memory.{number_at};
 ghost use Rattle.rv_exec.specs.Accesses.{can_read, can_write};
-ghost use Rattle.guest_calls.specs.Outcome.{asked, guest_of, Does, IsUntouched};
+ghost use Rattle.guest_calls.specs.Outcome.{asked, guest_of, Adds, Does, IsUntouched, KeepsRoom};
 ghost use Rattle.guest_calls.specs.Results.{first_answer};
 ghost use Rattle.guest_calls.specs.Private.IoVecRefusal.{IsRefusal};
 ghost use Rattle.guest_calls.specs.Vectors.{part_at, parts_at, table_tests, total, carried, all_in_reach, filled_parts, read_events, bytes_of};
@@ -188,7 +188,7 @@ fn fill_parts(
     requires room { length parts.now ≤ events.old.room }
     ensures filled { guest_of memory.new held.new events.new
         ≡ filled_parts parts.now bytes.now (guest_of memory.old held.old events.old) }
-    ensures room { events.old.room ≤ events.new.room + length parts.now }
+    ensures room { KeepsRoom events.old events.new }
 {
     let mut rest = bytes;
     for p in parts {
@@ -199,11 +199,11 @@ fn fill_parts(
 }
 
 /// The kernel has read the parts for the thread.
+#[tactic(auto, using(crate::proofs::Room::room_read))]
 pub(crate) fn note_parts(memory: &GuestMemory, events: &mut Events, tid: Tid, parts: &[IoVec])
     requires reach { all_in_reach (can_read (memory_of memory.now)) parts.now ≡ true }
     requires room { length parts.now ≤ events.old.room }
-    ensures events { events.new.list ≡ events.old.list ++ read_events tid parts.now }
-    ensures room { events.old.room ≤ events.new.room + length parts.now }
+    ensures events { Adds (read_events tid parts.now) events.old events.new }
 {
     for p in parts {
         note_read(memory, events, tid, p.at, p.size);
@@ -227,6 +227,7 @@ pub(crate) fn copy_parts(memory: &GuestMemory, parts: &[IoVec], front: &mut [u8]
 
 impl State {
     /// readv(2)
+    #[tactic(auto, using(crate::proofs::Room::room_read))]
     pub(crate) fn readv(
         &mut self,
         memory: &mut GuestMemory,
@@ -240,7 +241,6 @@ impl State {
             self.new memory.new held.new events.old events.new) }
         ensures refused { OnErr result (IsUntouched self.old self.new
             memory.old memory.new held.old held.new events.old events.new) }
-        ensures room { events.old.room ≤ events.new.room + SYSCALL_EVENTS }
     {
         let (fd, at, count) = (caller.argument(0), caller.argument(1), caller.argument(2));
         let file = self.descriptor(fd);

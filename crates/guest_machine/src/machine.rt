@@ -47,7 +47,7 @@ impl Machine {
     ghost use Rattle.guest_machine.specs.Kept.{machine_of, out_of, IsAsBefore, Steps};
     ghost use Rattle.guest_machine.specs.Machine.{can_run, ready};
     ghost use Rattle.guest_machine.specs.Running.{MakesSteps, MayTakeSteps};
-    ghost use Rattle.guest_machine.specs.Told.{IsQuiet, stepped_of, told};
+    ghost use Rattle.guest_machine.specs.Told.{IsQuiet, StepsTold};
     ghost use Rattle.std.specs.Prelude.{◌++◌};
     ghost use Rattle.guest_machine.specs.Step.{next_instruction, step};
     ghost use Rattle.guest_machine.specs.Waking.{woken};
@@ -115,8 +115,8 @@ impl Machine {
     /// any other step are added. An instruction other than ECALL does not allocate.
     pub fn advance(&mut self, tid: Tid, events: &mut Events) -> Result<Advanced, AllocError>
         requires { can_run (machine_of self.old) tid ≡ true }
-        ensures step { IfOk result (λ advanced. Steps (step (machine_of self.old) tid)
-            (stepped_of advanced) self.new events.old.list (events.new.list ++ told tid advanced)) }
+        ensures step { IfOk result (λ advanced. StepsTold (step (machine_of self.old) tid)
+            tid advanced self.new events.old.list events.new.list) }
         ensures refused { OnErr result (IsAsBefore self.old self.new
             events.old.list events.new.list) }
         ensures no_allocation { next_instruction (machine_of self.old) tid ≢ Ok Ecall → IsOk result }

@@ -1,7 +1,7 @@
 use Rattle.std.proofs.Common.{◌≡◌, true, ◌≤◌, ◌+◌, drop, length}
 use Rattle.guest_memory.specs.Guest.{memory_of}
 use Rattle.rv_exec.specs.Accesses.{can_write}
-use Rattle.guest_calls.specs.Outcome.{guest_of}
+use Rattle.guest_calls.specs.Outcome.{guest_of, KeepsRoom}
 use Rattle.guest_calls.specs.Vectors.{all_in_reach, filled_parts, total}
 use Rattle.guest_calls.proofs.vectors.fill_parts.Given as goal
 
@@ -11,5 +11,5 @@ invariant-loop-p l = record {
   reach : all_in_reach (can_write (memory_of l.memory)) (drop l.p-index l.parts) ≡ true;
   all : total (drop l.p-index l.parts) ≤ length l.rest;
   room : length l.parts ≤ l.events.room + l.p-index;
-  kept : l.fn.events.room ≤ l.events.room + l.p-index;
+  kept : KeepsRoom l.fn.events l.events;
 }

@@ -15,7 +15,7 @@ unfolding table
 returns-in-64-clause-syscall c =
     let made : Syscall = asked (record { tid = c.args.tid; cpu = c.args.cpu.now }) c.args.self.now.state c.args.memory.now c.args.held.now in
     let is : number made ≡ 64 = sym c.number.ensures ∙ c.in-64.is in
-    gives_before (syscall made) c.write.result c.write.new.self c.args.memory.now c.args.held.now c.reserve.new.self c.args.events.now c.write.new.events c.in_ok-reserve.ensures.list
+    gives_before (syscall made) c.write.result c.write.new.self c.args.memory.now c.args.held.now c.reserve.new.self c.args.events.now c.write.new.events c.in_ok-reserve.ensures.list c.in_ok-reserve.ensures.kept
     (subst (λ (r : SyscallResult). Gives r c.write.result c.write.new.self c.args.memory.now c.args.held.now c.reserve.new.self c.write.new.events) (sym (called made 64 is)) (c.write.ensures.does c.args.held.now))
 
 pub returns-in-64-clause-break_free : goal.returns-in-64-clause-break_free
@@ -28,12 +28,12 @@ unfolding table
 returns-in-66-clause-syscall c =
     let made : Syscall = asked (record { tid = c.args.tid; cpu = c.args.cpu.now }) c.args.self.now.state c.args.memory.now c.args.held.now in
     let is : number made ≡ 66 = sym c.number.ensures ∙ c.in-66.is in
-    if_gives_before c.writev.result (syscall made) c.writev.new.self c.args.memory.now c.args.held.now c.reserve.new.self c.args.events.now c.writev.new.events c.in_ok-reserve.ensures.list
+    if_gives_before c.writev.result (syscall made) c.writev.new.self c.args.memory.now c.args.held.now c.reserve.new.self c.args.events.now c.writev.new.events c.in_ok-reserve.ensures.list c.in_ok-reserve.ensures.kept
     (subst (λ (r : SyscallResult). IfOk c.writev.result (λ (answer : Answer). Gives r answer c.writev.new.self c.args.memory.now c.args.held.now c.reserve.new.self c.writev.new.events)) (sym (called made 66 is)) (c.writev.ensures.does c.args.held.now))
 
 pub returns-in-66-clause-refused : goal.returns-in-66-clause-refused
 returns-in-66-clause-refused c =
-    refused_before c.writev.result c.args.self.now c.writev.new.self c.args.memory.now c.args.memory.now c.args.held.now c.args.held.now c.reserve.new.self c.args.events.now c.writev.new.events c.in_ok-reserve.ensures.list (c.writev.ensures.refused c.args.held.now)
+    refused_before c.writev.result c.args.self.now c.writev.new.self c.args.memory.now c.args.memory.now c.args.held.now c.args.held.now c.reserve.new.self c.args.events.now c.writev.new.events c.in_ok-reserve.ensures.list c.in_ok-reserve.ensures.kept (c.writev.ensures.refused c.args.held.now)
 
 pub returns-in-66-clause-break_free : goal.returns-in-66-clause-break_free
 returns-in-66-clause-break_free c =
@@ -49,7 +49,7 @@ returns-in_ok-answer-in_default-clause-syscall c =
     let was : c.self.inside.state ≡ c.args.self.now.state = ap (λ (k : KeptKernel). k.state) c.self.view_is in
     let does = subst (λ (k : KernelState). Does (syscall (asked (record { tid = c.args.tid; cpu = c.args.cpu.now }) k c.args.memory.now c.args.held.now)) answer c.syscall.new.self c.syscall.new.memory c.syscall.new.held c.reserve.new.self c.syscall.new.events) was c.in_ok-answer-in_default.ensures.does in
     record {
-      does = does_before (syscall made) answer c.syscall.new.self c.syscall.new.memory c.syscall.new.held c.reserve.new.self c.args.events.now c.syscall.new.events c.in_ok-reserve.ensures.list does;
+      does = does_before (syscall made) answer c.syscall.new.self c.syscall.new.memory c.syscall.new.held c.reserve.new.self c.args.events.now c.syscall.new.events c.in_ok-reserve.ensures.list c.in_ok-reserve.ensures.kept does;
       out = c.clear.ensures ∙ sym ((every_syscall_is_lawful made).silent (λ e. no_write (c.number.ensures ∙ e)) (λ e. no_writev (c.number.ensures ∙ e)));
     }
 

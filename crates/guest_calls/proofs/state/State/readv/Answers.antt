@@ -28,7 +28,7 @@ returns-clause-does c =
     let filled : guest_of c.fill_parts.new.memory c.fill_parts.new.held c.fill_parts.new.events ≡ filled_parts into bytes (guest_of c.args.memory.now c.args.held.now c.note_read.new.events) = search rules in
     subst (λ (r : SyscallResult). Does r (Back (length bytes)) c.advance.new.self c.fill_parts.new.memory c.fill_parts.new.held c.args.events.now c.fill_parts.new.events) is
     (readv_does c.args.caller.now c.args.self.now c.advance.new.self c.args.memory.now c.fill_parts.new.memory c.args.held.now c.fill_parts.new.held c.args.events.now c.note_read.new.events c.fill_parts.new.events file bytes into
-    (search rules) (search rules) (search rules) (search rules) filled (search rules))
+    (search rules) (search rules) (search rules) (search rules) filled c.fill_parts.ensures.room (search rules))
 
 pub returns-in-Err-Refused-clause-does : goal.returns-in-Err-Refused-clause-does
 returns-in-Err-Refused-clause-does c =

@@ -24,6 +24,22 @@ pub returns-in-226-clause-does : goal.returns-in-226-clause-does
 unfolding table
 returns-in-226-clause-does c = let h = c.mprotect.ensures c.args.self.now c.args.held.now c.args.events.now in grind (arith, call_is, h)
 
+pub returns-in-56-clause-does : goal.returns-in-56-clause-does
+unfolding table
+returns-in-56-clause-does c = let h = c.openat.ensures.does c.args.held.now in grind (arith, call_is, h)
+
+pub returns-in-135-clause-does : goal.returns-in-135-clause-does
+unfolding table
+returns-in-135-clause-does c = let h = c.rt_sigprocmask.ensures.does c.args.self.now in grind (arith, call_is, h)
+
+pub returns-in-407-clause-does : goal.returns-in-407-clause-does
+unfolding table
+returns-in-407-clause-does c = let h = c.clock_nanosleep.ensures.does c.args.held.now in grind (arith, call_is, h)
+
+pub returns-in-422-clause-does : goal.returns-in-422-clause-does
+unfolding table
+returns-in-422-clause-does c = let h = c.futex.ensures.does c.args.held.now in grind (arith, call_is, h)
+
 -- the number is that of no row
 pub returns-in_default-clause-does : goal.returns-in_default-clause-does
 unfolding table
