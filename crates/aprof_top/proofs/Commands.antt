@@ -6,7 +6,7 @@ use Rattle.std.proofs.lemmas.Bool.Decides.{nat_tests}
 use Rattle.std.proofs.lemmas.Option.{slice_get_within}
 use Rattle.command_line.specs.Options.{Analysis, Asked, AsksFor, GuestOptions, has_zero}
 use Rattle.command_line.specs.Options.Asked.{Demo, Guest}
-use Rattle.guest_calls.specs.declared.channel.Channel.TheVariants as channel
+use Rattle.guest_kernel.specs.declared.channel.Channel.TheVariants as channel
 use Rattle.host_io.specs.Files.{FilesState}
 use Rattle.host_io.specs.Sink.{PutEnds, SinkState, appended}
 use Rattle.host_io.specs.declared.sink.PutError.{PutError}

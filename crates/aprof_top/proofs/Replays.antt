@@ -5,7 +5,7 @@ use Rattle.std.proofs.lemmas.Bool.Decides.{nat_tests}
 use Rattle.command_line.specs.Options.{AsksFor, ReplayOptions}
 use Rattle.command_line.specs.Options.Asked.{Replay}
 use Rattle.command_line.proofs.Refusals.{no_zero}
-use Rattle.guest_calls.specs.declared.channel.Channel.TheVariants as channel
+use Rattle.guest_kernel.specs.declared.channel.Channel.TheVariants as channel
 use Rattle.host_io.specs.Files.{Contents, ExceedsLimit, FilesState, GivesFile, Holds, HoldsMore}
 use Rattle.host_io.specs.Sink.{SinkState, appended}
 use Rattle.host_io.specs.declared.files.StoreError.{StoreError}

@@ -8,18 +8,20 @@ use Rattle.guest_memory.specs.ReservedBy.{reserved_by}
 use Rattle.rv_exec.specs.Accesses.{can_write}
 use Rattle.trace_model.specs.EventList.{EventList}
 use Rattle.trace_model.specs.declared.event_kinds.Event.{Event}
-use Rattle.guest_calls.specs.declared.answer.Answer.TheVariants.{Back}
+use Rattle.guest_kernel.specs.declared.answer.Answer.TheVariants.{Back}
 use Rattle.guest_calls.specs.declared.caller.Caller.{Caller}
-use Rattle.guest_calls.specs.declared.descriptor.Descriptor.{Descriptor}
-use Rattle.guest_calls.specs.declared.vectors.IoVec.{IoVec}
-use Rattle.guest_calls.specs.Errors.{ebadf, efault}
-use Rattle.guest_calls.specs.Files.{is_source, advanced}
-use Rattle.guest_calls.specs.Kernel.{KernelState, descriptor}
-use Rattle.guest_calls.specs.Outcome.{asked, guest_of, Adds, Does, KeepsRoom}
-use Rattle.guest_calls.specs.Results.{Syscall, SyscallResult, Guest, arg, answered_or, first_answer, returns, unless, ◌⇒◌, ◌or◌, ◌▷◌, changes, reads, read_event}
-use Rattle.guest_calls.specs.Vectors.{all_in_reach, fills_parts, filled_parts, readv, readv_effect, readv_parts, readv_tests, table_tests}
+use Rattle.guest_kernel.specs.declared.descriptor.Descriptor.{Descriptor}
+use Rattle.guest_kernel.specs.declared.parts.IoVec.{IoVec}
+use Rattle.guest_kernel.specs.Errors.{ebadf, efault}
+use Rattle.guest_kernel.specs.Descriptors.{is_source, advanced}
+use Rattle.guest_kernel.specs.Kernel.{KernelState, descriptor}
+use Rattle.guest_kernel.specs.Copies.{Adds, KeepsRoom, read_event}
+use Rattle.guest_calls.specs.Outcome.{asked, guest_of, Does}
+use Rattle.guest_calls.specs.Results.{Syscall, SyscallResult, Guest, arg, answered_or, first_answer, returns, unless, ◌⇒◌, ◌or◌, ◌▷◌, changes, reads}
+use Rattle.guest_kernel.specs.Parts.{all_in_reach}
+use Rattle.guest_calls.specs.Vectors.{fills_parts, filled_parts, readv, readv_effect, readv_parts, readv_tests, table_tests}
 use Rattle.guest_calls.proofs.PartLists.{behind, filled_behind}
-use Rattle.guest_calls.proofs.Room.{adds_none}
+use Rattle.guest_kernel.proofs.Room.{adds_none}
 
 through_cond : (b : Bool) (e : ℕ) (o p : Option ℕ) → cond b (Some e) o ≡ None → (o ≡ None → o ≡ None) → (b ≡ false) × (o ≡ None)
 through_cond true e o p h same = absurd (cc)

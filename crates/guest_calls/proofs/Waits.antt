@@ -1,22 +1,24 @@
 -- Waits that may have an end.
-use Rattle.std.proofs.Common.{◌≡◌, ℕ, Bool, true, false, cond, List, [], ◌++◌, Option, Some, None, refl, ap, ap₂, append_assoc, subst, ◌∙◌}
+use Rattle.std.proofs.Common.{◌≡◌, ℕ, Bool, true, false, cond, List, [], ◌++◌, Option, Some, None, refl, ap₂, subst}
 use Rattle.std.specs.Prelude.{◌&&◌, ◌==◌, is_some, not}
 use Rattle.std.proofs.lemmas.Bool.{ne_eqb}
 use Rattle.trace_model.specs.EventList.{EventList}
 use Rattle.trace_model.specs.declared.event_kinds.Event.{Event}
 use Rattle.guest_memory.specs.declared.memory.GuestMemory.{GuestMemory}
 use Rattle.guest_memory.specs.declared.reservations.Reservations.{Reservations}
-use Rattle.guest_calls.specs.declared.answer.Answer.{Answer}
-use Rattle.guest_calls.specs.declared.answer.Answer.TheVariants.{Back, Block}
+use Rattle.guest_kernel.specs.declared.answer.Answer.{Answer}
+use Rattle.guest_kernel.specs.declared.answer.Answer.TheVariants.{Back, Block}
 use Rattle.guest_calls.specs.declared.caller.Caller.{Caller}
 use Rattle.guest_calls.specs.Clock.{time_size}
-use Rattle.guest_calls.specs.Errors.{eagain, etimedout}
-use Rattle.guest_calls.specs.Futex.{futex_at, futex_limit, futex_value, is_over, waited, waits_for, with_end, with_waiter}
-use Rattle.guest_calls.specs.Kernel.{KernelState}
+use Rattle.guest_kernel.specs.Errors.{eagain, etimedout}
+use Rattle.guest_kernel.specs.Waits.{with_waiter}
+use Rattle.guest_calls.specs.Futex.{futex_at, futex_limit, futex_value, is_over, waited, waits_for, with_end}
+use Rattle.guest_kernel.specs.Kernel.{KernelState}
 use Rattle.guest_calls.proofs.Passed.{asked_reach}
-use Rattle.guest_calls.proofs.Room.{adds_more}
-use Rattle.guest_calls.specs.Outcome.{Adds, Does, asked}
-use Rattle.guest_calls.specs.Results.{Syscall, SyscallResult, answers, either, read_event, reads, returns, when, word, ◌▷◌}
+use Rattle.guest_kernel.proofs.Room.{adds_more}
+use Rattle.guest_kernel.specs.Copies.{Adds, read_event}
+use Rattle.guest_calls.specs.Outcome.{Does, asked}
+use Rattle.guest_calls.specs.Results.{Syscall, SyscallResult, answers, either, reads, returns, when, word, ◌▷◌}
 
 abbrev pub limit_read : Option ℕ → ℕ → ℕ → List Event
 limit_read end tid at = cond (is_some end) (read_event tid at time_size) []

@@ -1,16 +1,17 @@
 -- What the code of a call gives, over the types of the code.
-use Rattle.std.specs.Prelude.{◌≡◌, ℕ, ◌≤◌, ◌+◌, List, ◌++◌, length}
+use Rattle.std.specs.Prelude.{◌≡◌, ℕ}
 use Rattle.trace_model.specs.EventList.{EventList}
-use Rattle.trace_model.specs.declared.event_kinds.Event.{Event}
 use Rattle.guest_memory.specs.declared.memory.GuestMemory.{GuestMemory}
 use Rattle.guest_memory.specs.declared.reservations.Reservations.{Reservations}
 use Rattle.guest_memory.specs.Guest.{memory_of}
 use Rattle.guest_memory.specs.ReservedBy.{reserved_by}
 use Rattle.rv_exec.specs.Registers.{Registers}
-use Rattle.guest_calls.specs.declared.answer.Answer.{Answer}
+use Rattle.guest_kernel.specs.declared.answer.Answer.{Answer}
 use Rattle.guest_calls.specs.declared.caller.Caller.{Caller}
-use Rattle.guest_calls.specs.Kernel.{KernelState, KeptKernel}
+use Rattle.guest_kernel.specs.Kernel.{KernelState}
+use Rattle.guest_kernel.specs.declared.kernel.Kernel.{Kernel}
 use Rattle.guest_calls.specs.Results.{Syscall, SyscallResult, Guest}
+use Rattle.guest_kernel.specs.Copies.{Adds, KeepsRoom}
 
 -- the thread calls, with these registers
 abbrev pub calling : ℕ → Registers → Caller
@@ -29,15 +30,6 @@ asked caller kernel memory held = record {
 -- the guest, with all events so far
 abbrev pub guest_of : GuestMemory → Reservations → EventList → Guest
 guest_of memory held events = record { memory = memory_of memory; held = reserved_by held; events = events.list }
-
--- no room is lost: a place for an event is still free, or an event has it
-abbrev pub KeepsRoom : EventList → EventList → Type 0
-KeepsRoom before after = length before.list + before.room ≤ length after.list + after.room
-
--- the events are added, each in a place that there was room for
-pub record Adds (events : List Event) (before after : EventList) : Type 0 where
-  pub list_is : after.list ≡ before.list ++ events
-  pub room : KeepsRoom before after
 
 -- the answer, the state, the memory and the reservations are those of the result, and its events are added
 pub record Does (r : SyscallResult) (answer : Answer) (state : KernelState) (memory : GuestMemory) (held : Reservations) (before after : EventList) : Type 0 where
@@ -60,9 +52,9 @@ DoesToMemory what caller old answer new =
     → Does (what (asked caller kernel old held)) answer kernel new held events events
 
 -- the same with what goes out
-pub record Gives (r : SyscallResult) (answer : Answer) (kept : KeptKernel) (memory : GuestMemory) (held : Reservations) (before after : EventList) : Type 0 where
+pub record Gives (r : SyscallResult) (answer : Answer) (kept : Kernel) (memory : GuestMemory) (held : Reservations) (before after : EventList) : Type 0 where
   pub does : Does r answer kept.state memory held before after
-  pub out : kept.out ≡ r.out
+  pub out : kept.outgoing ≡ r.out
 
 -- nothing changed, and no room is lost
 pub record IsUntouched (state state_new : KernelState) (memory memory_new : GuestMemory) (held held_new : Reservations) (before after : EventList) : Type 0 where
@@ -73,6 +65,6 @@ pub record IsUntouched (state state_new : KernelState) (memory memory_new : Gues
   pub room : KeepsRoom before after
 
 -- nothing changed, and what went out is still there
-pub record IsAsBefore (kept kept_new : KeptKernel) (memory memory_new : GuestMemory) (held held_new : Reservations) (before after : EventList) : Type 0 where
+pub record IsAsBefore (kept kept_new : Kernel) (memory memory_new : GuestMemory) (held held_new : Reservations) (before after : EventList) : Type 0 where
   pub untouched : IsUntouched kept.state kept_new.state memory memory_new held held_new before after
-  pub out_same : kept_new.out ≡ kept.out
+  pub out_same : kept_new.outgoing ≡ kept.outgoing

@@ -8,10 +8,8 @@ ghost use Rattle.guest_calls.specs.Outcome.{asked, Does, DoesToMemory};
 ghost use Rattle.guest_calls.specs.Pages.{pages, rights_of, first_fit, are_mapped, IsBreakFree};
 ghost use Rattle.guest_calls.specs.Pages as specs;
 
-use crate::Answer;
 use crate::caller::Caller;
-use crate::errors::{EINVAL, ENOMEM, ENOSYS};
-use crate::state::State;
+use guest_kernel::{Answer, EINVAL, ENOMEM, ENOSYS, State};
 use guest_memory::GuestMemory;
 use guest_words::Rights;
 use guest_words::limits::PAGES;
@@ -175,37 +173,35 @@ pub(crate) fn mmap2(memory: &mut GuestMemory, caller: &Caller) -> Result<Answer,
     })
 }
 
-impl State {
-    /// brk(2)
-    pub(crate) fn brk(
-        &mut self,
-        memory: &mut GuestMemory,
-        caller: &Caller,
-    ) -> Result<Answer, AllocError>
-        requires break_free { IsBreakFree (memory_of memory.old) self.old.program_break }
-        ensures does { (held : Reservations) (events : EventList)
-            → IfOk result (λ answer. Does
-            (specs.brk (asked caller.now self.old memory.old held)) answer
-            self.new memory.new held events events) }
-        ensures memory_refused { OnErr result (memory_of memory.new ≡ memory_of memory.old) }
-        ensures state_refused { OnErr result (self.new ≡ self.old) }
-        ensures break_free { IsBreakFree (memory_of memory.new) self.new.program_break }
-    {
-        let (at, old) = (caller.argument(0), self.program_break);
-        if at < self.first_break {
-            return Ok(Answer::Back { value: old });
-        }
-        if at > BREAK_LIMIT {
-            return Ok(Answer::Back { value: old });
-        }
-        let (old_end, end) = (pages(old), pages(at));
-        let growth = end.saturating_sub(old_end);
-        if memory.mapped() + growth > PAGES {
-            return Ok(Answer::Back { value: old });
-        }
-        map(memory, old_end, growth, rights_of(PROT_READ | PROT_WRITE))?;
-        memory.unmap(end, old_end.saturating_sub(end));
-        self.program_break = at;
-        Ok(Answer::Back { value: at })
+/// brk(2)
+pub(crate) fn brk(
+    state: &mut State,
+    memory: &mut GuestMemory,
+    caller: &Caller,
+) -> Result<Answer, AllocError>
+    requires break_free { IsBreakFree (memory_of memory.old) state.old.program_break }
+    ensures does { (held : Reservations) (events : EventList)
+        → IfOk result (λ answer. Does
+        (specs.brk (asked caller.now state.old memory.old held)) answer
+        state.new memory.new held events events) }
+    ensures memory_refused { OnErr result (memory_of memory.new ≡ memory_of memory.old) }
+    ensures state_refused { OnErr result (state.new ≡ state.old) }
+    ensures break_free { IsBreakFree (memory_of memory.new) state.new.program_break }
+{
+    let (at, old) = (caller.argument(0), state.program_break());
+    if at < state.first_break() {
+        return Ok(Answer::Back { value: old });
     }
+    if at > BREAK_LIMIT {
+        return Ok(Answer::Back { value: old });
+    }
+    let (old_end, end) = (pages(old), pages(at));
+    let growth = end.saturating_sub(old_end);
+    if memory.mapped() + growth > PAGES {
+        return Ok(Answer::Back { value: old });
+    }
+    map(memory, old_end, growth, rights_of(PROT_READ | PROT_WRITE))?;
+    memory.unmap(end, old_end.saturating_sub(end));
+    state.set_program_break(at);
+    Ok(Answer::Back { value: at })
 }

@@ -20,9 +20,9 @@ use Rattle.call_tracker.specs.declared.jumps.JumpKind.{JumpKind}
 use Rattle.call_tracker.specs.declared.jumps.JumpKind.TheVariants.{Nothing, Push, Pop, PopPush}
 use Rattle.guest_calls.specs.Results as calls
 use Rattle.guest_calls.specs.Results.{SyscallResult}
-use Rattle.guest_calls.specs.declared.answer.Answer.{Answer}
-use Rattle.guest_calls.specs.declared.answer.Answer.TheVariants.{Back, Yield, Block, ThreadEnd, ProcessEnd, Born}
-use Rattle.guest_calls.specs.declared.channel.Channel.{Channel}
+use Rattle.guest_kernel.specs.declared.answer.Answer.{Answer}
+use Rattle.guest_kernel.specs.declared.answer.Answer.TheVariants.{Back, Yield, Block, ThreadEnd, ProcessEnd, Born}
+use Rattle.guest_kernel.specs.declared.channel.Channel.{Channel}
 use Rattle.guest_calls.specs.Table.{syscall}
 use Rattle.guest_machine.specs.declared.stepped.Stepped.{Stepped}
 use Rattle.guest_machine.specs.declared.stepped.Stepped.TheVariants.{Went, Yielded, Blocked, Ended, Finished, Faulted}

@@ -18,7 +18,8 @@ use crate::known::run_on;
 use crate::step_events::{add_jump, add_step};
 use crate::telling::told;
 use crate::{Advanced, KnownSteps, Stepped};
-use guest_calls::Kernel;
+use guest_calls::syscall;
+use guest_kernel::Kernel;
 use guest_memory::{GuestMemory, Reservations};
 use guest_words::limits::{SYSCALL_EVENTS, THREADS};
 use guest_words::{Addr, ByThread, FaultKind, Tid};
@@ -166,10 +167,14 @@ impl Guest {
         events.reserve(EVENTS_OF_A_CALL_STEP)?;
         events.push(Event::Step { tid });
         let cpu = *cpu_of(&self.harts, tid);
-        match self
-            .kernel
-            .syscall(&mut self.memory, &mut self.held, tid, &cpu, events)
-        {
+        match syscall(
+            &mut self.kernel,
+            &mut self.memory,
+            &mut self.held,
+            tid,
+            &cpu,
+            events,
+        ) {
             Ok(answer) => {
                 self.called = true;
                 Ok(apply_answer(&mut self.harts, tid, answer, events))

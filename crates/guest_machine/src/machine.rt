@@ -6,7 +6,7 @@ use crate::setup::first_guest;
 use crate::stack::strings_length;
 use crate::{Advanced, KnownSteps, SetupError, Stepped};
 use elf_image::Image;
-use guest_calls::{Channel, Inputs};
+use guest_kernel::{Channel, Inputs};
 use guest_words::limits::{PAGES, STACK_PAGES};
 use guest_words::{Addr, ReadyList, Tid};
 use std::alloc::{AllocError, Global};

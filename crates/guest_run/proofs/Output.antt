@@ -1,8 +1,8 @@
 -- What comes to the sinks, move by move.
 use Rattle.std.proofs.Common.{◌≡◌, ℕ, List, [], ◌∷◌, ◌++◌, Option, Some, None, refl, sym, ap, ap₂, ◌∙◌, append-nil, append_assoc}
 use Rattle.std.specs.Io.KnownBytes.{append_known}
-use Rattle.guest_calls.specs.declared.channel.Channel.{Channel}
-use Rattle.guest_calls.specs.declared.channel.Channel.TheVariants as channel
+use Rattle.guest_kernel.specs.declared.channel.Channel.{Channel}
+use Rattle.guest_kernel.specs.declared.channel.Channel.TheVariants as channel
 use Rattle.host_io.specs.Sink.{SinkState, appended}
 use Rattle.guest_run.specs.Output.{Sinks, with_output, with_sent}
 use Rattle.guest_run.specs.Run.{Move, bytes_on, events_of, sent}

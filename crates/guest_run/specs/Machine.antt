@@ -2,8 +2,8 @@
 use Rattle.std.specs.Prelude.{ℕ, Bool, List, Option}
 use Rattle.guest_words.specs.declared.endings.Finish.TheVariants.{Exit, Fault}
 use Rattle.trace_model.specs.declared.event_kinds.Event.{Event}
-use Rattle.guest_calls.specs.declared.channel.Channel.{Channel}
-use Rattle.guest_calls.specs.Kernel.{ready}
+use Rattle.guest_kernel.specs.declared.channel.Channel.{Channel}
+use Rattle.guest_kernel.specs.Kernel.{ready}
 use Rattle.guest_machine.specs.declared.stepped.Stepped.{Stepped}
 use Rattle.guest_machine.specs.declared.stepped.Stepped.TheVariants.{Went, Yielded, Blocked, Ended, Finished, Faulted}
 use Rattle.guest_machine.specs.Machine.{MachineState}

@@ -1,8 +1,8 @@
 -- The two sinks of a run, and what the guest's writes put on them.
 use Rattle.std.specs.Prelude.{◌≡◌, ℕ, ◌<◌, List, length, Option}
 use Rattle.host_io.specs.Sink.{SinkState, FailsToAppend, appended}
-use Rattle.guest_calls.specs.declared.channel.Channel.{Channel}
-use Rattle.guest_calls.specs.declared.channel.Channel.TheVariants as channel
+use Rattle.guest_kernel.specs.declared.channel.Channel.{Channel}
+use Rattle.guest_kernel.specs.declared.channel.Channel.TheVariants as channel
 use Rattle.guest_run.specs.Run.{Move, bytes_on, sent}
 
 -- what the two sinks mean

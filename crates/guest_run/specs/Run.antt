@@ -3,8 +3,8 @@ use Rattle.std.specs.Prelude.{ℕ, zero, suc, pred, Bool, true, false, if◌then
 use Rattle.guest_words.specs.declared.endings.Finish.{Finish}
 use Rattle.guest_words.specs.declared.endings.Finish.TheVariants.{Budget, Deadlock, Schedule}
 use Rattle.trace_model.specs.declared.event_kinds.Event.{Event}
-use Rattle.guest_calls.specs.declared.channel.Channel.{Channel}
-use Rattle.guest_calls.specs.declared.channel.Channel.TheVariants as channel
+use Rattle.guest_kernel.specs.declared.channel.Channel.{Channel}
+use Rattle.guest_kernel.specs.declared.channel.Channel.TheVariants as channel
 use Rattle.thread_sched.specs.declared.entry.Entry.{Entry}
 use Rattle.thread_sched.specs.declared.turns.Turn.{Turn}
 use Rattle.thread_sched.specs.declared.turns.Turn.TheVariants as turn

@@ -12,7 +12,7 @@ mod stepper;
 mod turn_status;
 mod turns;
 
-pub use guest_calls::Channel;
+pub use guest_kernel::Channel;
 pub use laws::{
     recordings_are_schedules, runs_replay, runs_stay_within, runs_tell_in_range,
     traces_are_well_formed,

@@ -1,6 +1,6 @@
 //! Why a run is given up.
 
-use guest_calls::Channel;
+use guest_kernel::Channel;
 use std::alloc::AllocError;
 use thiserror::Error;
 

@@ -3,7 +3,8 @@ ghost use Rattle.guest_memory.specs.Guest.{memory_of};
 ghost use Rattle.guest_calls.specs.Pages.{IsBreakFree};
 
 use anyhow::{Context, Result, bail};
-use guest_calls::{Answer, Channel, Inputs, Kernel};
+use guest_calls::syscall;
+use guest_kernel::{Answer, Channel, Inputs, Kernel};
 use guest_memory::{GuestMemory, Reservations};
 use guest_words::{Rights, Tid};
 use rv_exec::Cpu;
@@ -95,7 +96,7 @@ impl Guest {
             bail!("it can't run");
         }
         let (memory, held, events) = (&mut self.memory, &mut self.held, &mut self.events);
-        Ok(self.kernel.syscall(memory, held, tid, &cpu, events)?)
+        Ok(syscall(&mut self.kernel, memory, held, tid, &cpu, events)?)
     }
 
     // Which thread the clock wakes, with which answer.

@@ -4,7 +4,7 @@ use Rattle.rv_exec.specs.Effects.{ExecState}
 use Rattle.trace_model.specs.declared.event_kinds.Event.{Event}
 use Rattle.trace_model.specs.declared.event_kinds.Event.TheVariants.{Step}
 use Rattle.trace_model.specs.declared.observer.Observed.{Observed}
-use Rattle.guest_calls.specs.Kernel.{later_by}
+use Rattle.guest_kernel.specs.Kernel.{later_by}
 use Rattle.guest_machine.specs.declared.stepped.Advanced.{Advanced}
 use Rattle.guest_machine.specs.declared.stepped.Stepped.TheVariants.{Went}
 use Rattle.guest_machine.specs.Machine.{MachineState, can_run, later}

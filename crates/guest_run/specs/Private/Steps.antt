@@ -8,7 +8,7 @@ use Rattle.guest_machine.specs.Kept.{Parts, Steps}
 use Rattle.guest_machine.specs.Machine.{MachineState}
 use Rattle.guest_machine.specs.Step.{StepResult}
 use Rattle.host_io.specs.Sink.{SinkState, appended}
-use Rattle.guest_calls.specs.declared.channel.Channel.{Channel}
+use Rattle.guest_kernel.specs.declared.channel.Channel.{Channel}
 use Rattle.guest_run.specs.declared.run_error.RunError.{RunError}
 use Rattle.guest_run.specs.declared.run_error.RunError.TheVariants.{CannotPut, Memory}
 use Rattle.guest_run.specs.declared.turn_status.TurnStatus.{TurnStatus}

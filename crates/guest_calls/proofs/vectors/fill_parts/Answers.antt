@@ -1,9 +1,9 @@
 use Rattle.std.proofs.Common.{arith, ◌∙◌}
 use Rattle.guest_memory.specs.Guest.{memory_of}
-use Rattle.guest_calls.specs.declared.vectors.IoVec.{IoVec}
+use Rattle.guest_kernel.specs.declared.parts.IoVec.{IoVec}
 use Rattle.guest_calls.specs.Outcome.{guest_of}
 use Rattle.guest_calls.proofs.PartLists.{filled_next, rest_in_reach, total_from}
-use Rattle.guest_calls.proofs.Room.{room_filled}
+use Rattle.guest_kernel.proofs.Room.{room_filled}
 use Rattle.guest_calls.proofs.vectors.fill_parts.Goals as goal
 
 pub loop-p-preserved : goal.loop-p-preserved

@@ -1,5 +1,5 @@
 use Rattle.std.proofs.Common.{◌≡◌, ◌≤◌, ◌+◌, ◌++◌, take, length}
-use Rattle.guest_calls.specs.Outcome.{KeepsRoom}
+use Rattle.guest_kernel.specs.Copies.{KeepsRoom}
 use Rattle.guest_calls.specs.Vectors.{read_events}
 use Rattle.guest_calls.proofs.vectors.note_parts.Given as goal
 
