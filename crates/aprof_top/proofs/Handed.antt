@@ -32,13 +32,17 @@ writes_of-append : (moves more : List Move) → writes_of (moves ++ more) ≡ wr
 writes_of-append [] more = refl
 writes_of-append (move ∷ moves) more = ap (with_write move.out) (writes_of-append moves more) ∙ with_write-append move.out (writes_of moves) (writes_of more)
 
+sent_none : (on : Channel) → sent on None ≡ []
+sent_none channel.Out = refl
+sent_none channel.Err = refl
+
 -- what moves put on a channel is what their writes do
 pub put_is : (on : Channel) (moves : List Move) → put_on on (writes_of moves) ≡ bytes_on on moves
 put_is on [] = refl
 put_is on (move ∷ moves) = by move.out (put_is on moves)
   where
     by : (out : Option Write) → put_on on (writes_of moves) ≡ bytes_on on moves → put_on on (with_write out (writes_of moves)) ≡ sent on out ++ bytes_on on moves
-    by None rest = rest
+    by None rest = rest ∙ ap (λ bytes. bytes ++ bytes_on on moves) (sym (sent_none on))
     by (Some write) rest = ap (λ bytes. sent on (Some write) ++ bytes) rest
 
 -- What a move puts on a channel is one write.
