@@ -6,6 +6,7 @@ use Rattle.std.proofs.lemmas.Bool.Decides.{nat_tests}
 use Rattle.std.proofs.lemmas.Option.{slice_get_within}
 use Rattle.command_line.specs.Options.{Analysis, Asked, AsksFor, GuestOptions, has_zero}
 use Rattle.command_line.specs.Options.Asked.{Demo, Guest}
+use Rattle.guest_kernel.specs.declared.channel.Channel.TheVariants as channel
 use Rattle.host_io.specs.Files.{FilesState}
 use Rattle.host_io.specs.Sink.{PutEnds, SinkState, appended}
 use Rattle.host_io.specs.declared.sink.PutError.{PutError}
@@ -190,7 +191,7 @@ AskedEnds-unput number summary files out new err is_demo refused.Memory same som
     AskedEnds-shown number (summed summary) (outside files out err) (outside files new err) is_demo ending.OutOfMemory tt
     (record {
       earlier = [];
-      later = (1, summary) ∷ [];
+      later = (channel.Out, summary) ∷ [];
       are = refl;
       out = same ∙ appended-nothing out;
       err = appended-nothing err;

@@ -4,7 +4,7 @@ use Rattle.trace_model.specs.Depth.{is_within}
 use Rattle.command_line.specs.Options.{GuestOptions, arguments}
 use Rattle.elf_image.specs.Image.{Executable}
 use Rattle.elf_image.specs.Reading.{image_of}
-use Rattle.guest_calls.specs.Inputs.{Input}
+use Rattle.guest_kernel.specs.Inputs.{Input}
 use Rattle.guest_machine.specs.Start.{start}
 use Rattle.guest_run.specs.ObservedRun.{ObservedRun}
 use Rattle.stamps.specs.declared.width.StampBits.TheVariants.{B32}

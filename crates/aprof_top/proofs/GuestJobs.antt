@@ -6,7 +6,7 @@ use Rattle.guest_machine.specs.declared.setup.SetupError.{SetupError}
 use Rattle.guest_machine.specs.declared.setup.SetupError.TheVariants as setup
 use Rattle.guest_machine.specs.Machine.{MachineState}
 use Rattle.guest_run.specs.declared.run.Ended.{Ended}
-use Rattle.guest_run.specs.declared.run_error.Channel.TheVariants as channel
+use Rattle.guest_kernel.specs.declared.channel.Channel.TheVariants as channel
 use Rattle.guest_run.specs.declared.run_error.RunError.{RunError}
 use Rattle.guest_run.specs.declared.run_error.RunError.TheVariants as run
 use Rattle.guest_run.specs.Laws.{scheduler}

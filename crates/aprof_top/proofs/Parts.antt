@@ -3,6 +3,8 @@ use Rattle.std.proofs.Common.{◌≡◌, ◌⊎◌, ℕ, List, [], ◌∷◌, �
 use Rattle.std.specs.Io.KnownBytes.{append_known}
 use Rattle.std.proofs.Math.Seq.{take-length}
 use Rattle.std.proofs.lemmas.List.{append-nil, take-append-drop}
+use Rattle.guest_kernel.specs.declared.channel.Channel.{Channel}
+use Rattle.guest_kernel.specs.declared.channel.Channel.TheVariants as channel
 use Rattle.host_io.specs.Files.{FilesState, stored_in, with_path}
 use Rattle.host_io.specs.Sink.{SinkState, appended}
 use Rattle.aprof_top.specs.Delivery.{DoesAll, FailsAtStats, FailsAtStore, FailsOnErr, FailsOnOut, FailsWithin, StopsShort}
@@ -128,12 +130,12 @@ module _ (words : List (List ℕ)) (before after : Outside) (mid : SinkState) wh
     err_whole err = ap (λ (s : SinkState). s.bytes) err ∙ ap (append_known before.err.bytes) (sym (append-nil (err_of outcome)))
 
     -- the first writes came to a sink
-    abbrev some_put : (on : ℕ) (old new : SinkState) (earlier later : List Write) → earlier ++ later ≡ outcome.writes → new ≡ appended old (put_on on earlier) → GotFirst (put_on on outcome.writes) old new
+    abbrev some_put : (on : Channel) (old new : SinkState) (earlier later : List Write) → earlier ++ later ≡ outcome.writes → new ≡ appended old (put_on on earlier) → GotFirst (put_on on outcome.writes) old new
     some_put on old new earlier later are gained =
         (length (put_on on earlier), ap (λ (s : SinkState). s.bytes) gained ∙ ap (append_known old.bytes) (sym (first_put on outcome.writes earlier later are)))
 
     -- and then some of the next one
-    abbrev some_and_more : (on : ℕ) (bytes : List ℕ) (old new : SinkState) (earlier : List Write) (piece : List ℕ) (fails : FailsWithin piece (appended old (put_on on earlier)) new)
+    abbrev some_and_more : (on : Channel) (bytes : List ℕ) (old new : SinkState) (earlier : List Write) (piece : List ℕ) (fails : FailsWithin piece (appended old (put_on on earlier)) new)
         → take (length (put_on on earlier ++ take fails.count piece)) bytes ≡ put_on on earlier ++ take fails.count piece → GotFirst bytes old new
     some_and_more on bytes old new earlier piece fails first = (
       length (put_on on earlier ++ take fails.count piece),
@@ -154,17 +156,17 @@ module _ (words : List (List ℕ)) (before after : Outside) (mid : SinkState) wh
 
     pub part_on_out : FailsOnOut outcome before between → LeavesPart outcome text before after
     part_on_out fails = record {
-      out = some_and_more 1 (out_of outcome) before.out after.out fails.earlier fails.bytes fails.out (first_put-more 1 fails.out.count outcome.writes fails.earlier fails.later fails.bytes refl fails.are);
-      err = part_of_err (length (put_on 2 fails.earlier)) (some_put 2 before.err mid fails.earlier ((1, fails.bytes) ∷ fails.later) fails.are fails.err).1;
+      out = some_and_more channel.Out (out_of outcome) before.out after.out fails.earlier fails.bytes fails.out (first_put-more channel.Out fails.out.count outcome.writes fails.earlier fails.later fails.bytes refl fails.are);
+      err = part_of_err (length (put_on channel.Err fails.earlier)) (some_put channel.Err before.err mid fails.earlier ((channel.Out, fails.bytes) ∷ fails.later) fails.are fails.err).1;
       files = inl (0, unstored fails.files);
       output_first = inr (unstored fails.files);
     }
 
     pub part_on_err : FailsOnErr outcome before between → LeavesPart outcome text before after
     part_on_err fails =
-        let came = some_and_more 2 (err_of outcome) before.err mid fails.earlier fails.bytes fails.err (first_put-more 2 fails.err.count outcome.writes fails.earlier fails.later fails.bytes refl fails.are) in
+        let came = some_and_more channel.Err (err_of outcome) before.err mid fails.earlier fails.bytes fails.err (first_put-more channel.Err fails.err.count outcome.writes fails.earlier fails.later fails.bytes refl fails.are) in
         record {
-          out = some_put 1 before.out after.out fails.earlier ((2, fails.bytes) ∷ fails.later) fails.are fails.out;
+          out = some_put channel.Out before.out after.out fails.earlier ((channel.Err, fails.bytes) ∷ fails.later) fails.are fails.out;
           err = part_of_err came.0 came.1;
           files = inl (0, unstored fails.files);
           output_first = inr (unstored fails.files);
@@ -195,8 +197,8 @@ module _ (words : List (List ℕ)) (before after : Outside) (mid : SinkState) wh
 
     pub part_short : StopsShort outcome before between → LeavesPart outcome text before after
     part_short short = record {
-      out = some_put 1 before.out after.out short.earlier short.later short.are short.out;
-      err = part_of_err (length (put_on 2 short.earlier)) (some_put 2 before.err mid short.earlier short.later short.are short.err).1;
+      out = some_put channel.Out before.out after.out short.earlier short.later short.are short.out;
+      err = part_of_err (length (put_on channel.Err short.earlier)) (some_put channel.Err before.err mid short.earlier short.later short.are short.err).1;
       files = inl (short.count, ap (λ (f : FilesState). f.contents) short.files);
       output_first = first short.output_first;
     }
@@ -204,5 +206,5 @@ module _ (words : List (List ℕ)) (before after : Outside) (mid : SinkState) wh
         first : (short.later ≡ []) ⊎ (short.count ≡ 0) → GotOutput outcome before after ⊎ (after.files.contents ≡ before.files.contents)
         first (inl none) =
             let all : short.earlier ≡ outcome.writes = sym (append-nil short.earlier) ∙ ap (λ later. short.earlier ++ later) (sym none) ∙ short.are in
-            inl (output_came (short.out ∙ ap (λ writes. appended before.out (put_on 1 writes)) all) [] (err_whole (short.err ∙ ap (λ writes. appended before.err (put_on 2 writes)) all)))
+            inl (output_came (short.out ∙ ap (λ writes. appended before.out (put_on channel.Out writes)) all) [] (err_whole (short.err ∙ ap (λ writes. appended before.err (put_on channel.Err writes)) all)))
         first (inr none) = inr (ap (λ (f : FilesState). f.contents) (short.files ∙ ap (λ count. with_stores (take count outcome.stores) before.files) none))

@@ -5,6 +5,7 @@ use Rattle.std.proofs.lemmas.Bool.Decides.{nat_tests}
 use Rattle.command_line.specs.Options.{AsksFor, ReplayOptions}
 use Rattle.command_line.specs.Options.Asked.{Replay}
 use Rattle.command_line.proofs.Refusals.{no_zero}
+use Rattle.guest_kernel.specs.declared.channel.Channel.TheVariants as channel
 use Rattle.host_io.specs.Files.{Contents, ExceedsLimit, FilesState, GivesFile, Holds, HoldsMore}
 use Rattle.host_io.specs.Sink.{SinkState, appended}
 use Rattle.host_io.specs.declared.files.StoreError.{StoreError}
@@ -160,10 +161,10 @@ module _ (options : ReplayOptions) (files loaded : FilesState) (out err : SinkSt
       -- by how it is stored: it has no output
       module _ (no_writes : outcome.writes ≡ []) (new : FilesState) (last : SinkState) where
         out_is : out ≡ appended out (out_of outcome)
-        out_is = appended-nothing out ∙ ap (λ writes. appended out (put_on 1 writes)) (sym no_writes)
+        out_is = appended-nothing out ∙ ap (λ writes. appended out (put_on channel.Out writes)) (sym no_writes)
 
         err_is : err ≡ appended err (err_of outcome)
-        err_is = appended-nothing err ∙ ap (λ writes. appended err (put_on 2 writes)) (sym no_writes)
+        err_is = appended-nothing err ∙ ap (λ writes. appended err (put_on channel.Err writes)) (sym no_writes)
 
         delivered : (result : Result Verdict declared.Ending) → RunIsStored outcome (desk files err) (desk new last) result → Delivers outcome before (outside new out last) (ending_by result)
         delivered (Ok v) (same, done) = (

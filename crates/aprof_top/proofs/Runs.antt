@@ -9,7 +9,7 @@ use Rattle.command_line.specs.Options.{GuestOptions, arguments, inputs}
 use Rattle.elf_image.specs.Image.{Executable}
 use Rattle.elf_image.specs.Reading.{image_of}
 use Rattle.elf_image.specs.Tests.{first_refusal}
-use Rattle.guest_calls.specs.Inputs.{Input}
+use Rattle.guest_kernel.specs.Inputs.{Input}
 use Rattle.guest_machine.specs.declared.setup.SetupError.{SetupError}
 use Rattle.guest_machine.specs.Setup.{setup_refusal}
 use Rattle.guest_machine.specs.Start.{start}

@@ -4,7 +4,7 @@ use Rattle.std.specs.Option.{option_to_list}
 use Rattle.std.specs.declared.alloc.Global.{Global}
 use Rattle.std.proofs.lemmas.List.{length-append, length-map, map-append, take_more}
 use Rattle.command_line.specs.Options.{GuestOptions, inputs}
-use Rattle.guest_calls.specs.Inputs.{Input, with_input}
+use Rattle.guest_kernel.specs.Inputs.{Input, with_input}
 use Rattle.aprof_top.specs.declared.loaded.Loaded as kept
 use Rattle.aprof_top.specs.Private.Loading.{contents_of}
 use Rattle.aprof_top.specs.Loads.{file_at, first_file, loaded_of, with_inputs}

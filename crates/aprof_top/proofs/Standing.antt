@@ -12,6 +12,7 @@ use Rattle.command_line.specs.Options.Asked.{Guest}
 use Rattle.elf_image.specs.declared.error.ElfError.{ElfError}
 use Rattle.elf_image.specs.Reading.{image_of}
 use Rattle.elf_image.specs.Tests.{first_refusal}
+use Rattle.guest_kernel.specs.declared.channel.Channel.TheVariants as channel
 use Rattle.guest_machine.specs.declared.setup.SetupError.{SetupError}
 use Rattle.guest_machine.specs.Setup.{setup_refusal}
 use Rattle.command_line.specs.Options.{arguments}
@@ -361,7 +362,7 @@ module _ (words : List (List ℕ)) (status : ℕ) (before after : Outside) where
       by (inr (decision, short)) = record {
         files = ap (λ (f : FilesState). f.faults) short.files ∙ with_stores-faults (take short.count decision.outcome.stores) before.files;
         out = ap (λ (s : SinkState). s.faults) short.out;
-        err = text_calm (put_on 2 short.earlier) short.err ends.told;
+        err = text_calm (put_on channel.Err short.earlier) short.err ends.told;
       }
 
   -- ---- the other statuses
@@ -401,13 +402,13 @@ module _ (words : List (List ℕ)) (status : ℕ) (before after : Outside) where
     where
       by : FailsAtStore reached.decision.outcome before (outside after.files after.out mid) ⊎ FailsOnOut reached.decision.outcome before (outside after.files after.out mid) → (front : List ℕ) × (mid ≡ appended before.err front)
       by (inl fails) = (err_of reached.decision.outcome, fails.output.err)
-      by (inr fails) = (put_on 2 fails.earlier, fails.err)
+      by (inr fails) = (put_on channel.Err fails.earlier, fails.err)
   grew CannotPut mid other reached = absurd (other refl)
   grew OutOfMemory mid other reached = by reached.done
     where
       by : (outside after.files after.out mid ≡ before) ⊎ ((decision : Decision words before (outside after.files after.out mid)) × StopsShort decision.outcome before (outside after.files after.out mid)) → (front : List ℕ) × (mid ≡ appended before.err front)
       by (inl same) = ([], ap (λ (o : Outside). o.err) same ∙ appended-nothing before.err)
-      by (inr (decision, short)) = (put_on 2 short.earlier, short.err)
+      by (inr (decision, short)) = (put_on channel.Err short.earlier, short.err)
 
   -- the last text came whole, where no put on `err` failed
   module _ (end : End) (ends : EndsBy words end status before after) (quiet : Rose before.err.faults after.err.faults → ⊥) where

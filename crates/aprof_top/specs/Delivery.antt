@@ -1,6 +1,7 @@
 -- How an outcome is handed out to the sinks and the files.
 use Rattle.std.specs.Prelude.{◌≡◌, ◌⊎◌, ◌<◌, ℕ, List, [], ◌∷◌, ◌++◌, length, take, slice_get, Some}
 use Rattle.std.specs.Io.KnownBytes.{append_known}
+use Rattle.guest_kernel.specs.declared.channel.Channel.TheVariants as channel
 use Rattle.host_io.specs.Faults.{Rose}
 use Rattle.host_io.specs.Files.{FilesState, FailsToPut}
 use Rattle.host_io.specs.Sink.{SinkState, appended}
@@ -47,9 +48,9 @@ pub record FailsOnOut (outcome : Outcome) (before after : Outside) : Type 0 wher
   pub earlier : List Write
   pub bytes : List ℕ
   pub later : List Write
-  pub are : earlier ++ (1, bytes) ∷ later ≡ outcome.writes
-  pub out : FailsWithin bytes (appended before.out (put_on 1 earlier)) after.out
-  pub err : after.err ≡ appended before.err (put_on 2 earlier)
+  pub are : earlier ++ (channel.Out, bytes) ∷ later ≡ outcome.writes
+  pub out : FailsWithin bytes (appended before.out (put_on channel.Out earlier)) after.out
+  pub err : after.err ≡ appended before.err (put_on channel.Err earlier)
   pub files : after.files ≡ before.files
 
 -- The same of a write on `err`.
@@ -57,9 +58,9 @@ pub record FailsOnErr (outcome : Outcome) (before after : Outside) : Type 0 wher
   pub earlier : List Write
   pub bytes : List ℕ
   pub later : List Write
-  pub are : earlier ++ (2, bytes) ∷ later ≡ outcome.writes
-  pub out : after.out ≡ appended before.out (put_on 1 earlier)
-  pub err : FailsWithin bytes (appended before.err (put_on 2 earlier)) after.err
+  pub are : earlier ++ (channel.Err, bytes) ∷ later ≡ outcome.writes
+  pub out : after.out ≡ appended before.out (put_on channel.Out earlier)
+  pub err : FailsWithin bytes (appended before.err (put_on channel.Err earlier)) after.err
   pub files : after.files ≡ before.files
 
 -- All of the output was put and all was stored, and the put of the statistics failed.
@@ -74,8 +75,8 @@ pub record StopsShort (outcome : Outcome) (before after : Outside) : Type 0 wher
   pub earlier : List Write
   pub later : List Write
   pub are : earlier ++ later ≡ outcome.writes
-  pub out : after.out ≡ appended before.out (put_on 1 earlier)
-  pub err : after.err ≡ appended before.err (put_on 2 earlier)
+  pub out : after.out ≡ appended before.out (put_on channel.Out earlier)
+  pub err : after.err ≡ appended before.err (put_on channel.Err earlier)
   pub count : ℕ
   pub files : after.files ≡ with_stores (take count outcome.stores) before.files
   pub output_first : (later ≡ []) ⊎ (count ≡ 0)

@@ -3,7 +3,7 @@ use Rattle.std.specs.Prelude.{ℕ, ◌+◌, Bool, ◌||◌, nat_lt, List, [], �
 use Rattle.std.specs.List.{list_any}
 use Rattle.std.specs.Option.{option_to_list}
 use Rattle.command_line.specs.Options.{GuestOptions, inputs}
-use Rattle.guest_calls.specs.Inputs.{Input, with_input}
+use Rattle.guest_kernel.specs.Inputs.{Input, with_input}
 use Rattle.aprof_top.specs.Limits.{file_limit, inputs_limit}
 
 -- their paths

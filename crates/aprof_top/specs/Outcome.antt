@@ -8,6 +8,8 @@ use Rattle.elf_image.specs.declared.error.ElfError.{ElfError}
 use Rattle.elf_image.specs.Image.{Executable}
 use Rattle.elf_image.specs.Reading.{image_of}
 use Rattle.elf_image.specs.Tests.{first_refusal}
+use Rattle.guest_kernel.specs.declared.channel.Channel.{Channel}
+use Rattle.guest_kernel.specs.declared.channel.Channel.TheVariants as channel
 use Rattle.guest_machine.specs.declared.setup.SetupError.{SetupError}
 use Rattle.guest_machine.specs.Setup.{setup_refusal}
 use Rattle.guest_run.specs.ObservedRun.{ObservedRun}
@@ -45,9 +47,9 @@ use Rattle.aprof_top.specs.Schedules.{Reading, Reads}
 use Rattle.aprof_top.specs.Schedules.Reading.{Turns, BadLine}
 
 -- ---- the output
--- bytes that are put at once, and the channel: 1 is `out`, and 2 is `err`
+-- bytes that are put at once, and their channel
 abbrev pub Write : Type 0
-Write = ℕ × List ℕ
+Write = Channel × List ℕ
 
 -- what one move writes, and then these
 abbrev pub with_write : Option Write → List Write → List Write
@@ -60,9 +62,9 @@ writes_of [] = []
 writes_of (move ∷ moves) = with_write move.out (writes_of moves)
 
 -- the bytes that are put on a channel
-abbrev pub put_on : ℕ → List Write → List ℕ
-put_on channel [] = []
-put_on channel (write ∷ writes) = sent channel (Some write) ++ put_on channel writes
+abbrev pub put_on : Channel → List Write → List ℕ
+put_on on [] = []
+put_on on (write ∷ writes) = sent on (Some write) ++ put_on on writes
 
 -- What the written product answers.
 pub record Outcome : Type 0 where
@@ -77,10 +79,10 @@ pub record Outcome : Type 0 where
 
 -- its output on each channel
 abbrev pub out_of : Outcome → List ℕ
-out_of outcome = put_on 1 outcome.writes
+out_of outcome = put_on channel.Out outcome.writes
 
 abbrev pub err_of : Outcome → List ℕ
-err_of outcome = put_on 2 outcome.writes
+err_of outcome = put_on channel.Err outcome.writes
 
 -- nothing is put or stored but the last text
 abbrev pub refusal : Verdict → Outcome
@@ -275,7 +277,7 @@ demo_files file = record { image = file; inputs = []; stdin = []; schedule = [] 
 abbrev pub demo_outcome : ℕ → Executable → ObservedRun → Outcome
 demo_outcome number image run = record {
   verdict = Summarized;
-  writes = (1, summary_text number (report_of image.names run.finish run.past)) ∷ [];
+  writes = (channel.Out, summary_text number (report_of image.names run.finish run.past)) ∷ [];
   stores = [];
   stats = [];
 }

@@ -4,8 +4,8 @@ use Rattle.guest_words.specs.Limits.{AreLimits}
 use Rattle.cache_lines.specs.declared.shape.TheConstants.{LEAST_LINE, LINE, SETS, WAYS}
 use Rattle.command_line.specs.declared.guest_options.TheConstants.{DEFAULT_BUDGET, DEFAULT_QUANTUM}
 use Rattle.guest_calls.specs.Files.{path_limit, write_limit}
-use Rattle.guest_calls.specs.Inputs.{Input}
-use Rattle.guest_calls.specs.Kernel.{started}
+use Rattle.guest_kernel.specs.Inputs.{Input}
+use Rattle.guest_kernel.specs.Kernel.{started}
 use Rattle.guest_calls.specs.Vectors.{part_limit}
 use Rattle.guest_machine.specs.Start.{strings_limit}
 use Rattle.stamps.specs.Widths.{greatest}

@@ -13,7 +13,7 @@ use crate::summary::summary;
 use command_line::{DEFAULT_BUDGET, DEFAULT_QUANTUM, GuestOptions};
 use demo_guest::demo_image;
 use elf_image::read_image;
-use guest_calls::Inputs;
+use guest_kernel::Inputs;
 use guest_words::limits::DEMO_ROUTINES;
 use host_io::DropSink;
 use stamps::StampBits;

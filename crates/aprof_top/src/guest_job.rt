@@ -12,7 +12,7 @@ ghost use Rattle.aprof_top.specs.Run.{observed_from};
 use crate::ending::Ending;
 use command_line::GuestOptions;
 use elf_image::Image;
-use guest_calls::Inputs;
+use guest_kernel::Inputs;
 use guest_machine::Machine;
 use guest_run::{Ended, run_guest};
 use host_io::Sink;

@@ -8,7 +8,7 @@ ghost use Rattle.aprof_top.specs.Loads.{file_at, first_file, loaded_of, loaded_p
 ghost use Rattle.aprof_top.specs.Private.Loading.{Keeps};
 
 use command_line::GuestOptions;
-use guest_calls::Inputs;
+use guest_kernel::Inputs;
 use std::alloc::{AllocError, Global};
 use std::collections::VecDeque;
 

@@ -2,7 +2,7 @@
 use Rattle.std.proofs.Common.{◌≡◌, ℕ, Bool, true, false, cond, List, [], ◌∷◌, refl, sym, ◌∙◌}
 use Rattle.std.specs.Prelude.{◌==◌}
 use Rattle.std.proofs.lemmas.Bool.{eqb-true}
-use Rattle.guest_calls.specs.Errors.{enosys, enotty}
+use Rattle.guest_kernel.specs.Errors.{enosys, enotty}
 use Rattle.guest_calls.specs.Laws.{EverySyscallIsLawful}
 use Rattle.guest_calls.specs.Lawful.{IsLawful}
 use Rattle.guest_calls.specs.Results.{Syscall, SyscallResult, number}

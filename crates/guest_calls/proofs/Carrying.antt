@@ -1,7 +1,6 @@
 -- Calls that carry parts.
-use Rattle.std.proofs.Common.{◌≡◌, ℕ, ◌*◌, Bool, true, false, cond, List, [], ◌∷◌, ◌++◌, length, Option, Some, None, refl, ap, sym, subst, ◌∙◌}
+use Rattle.std.proofs.Common.{◌≡◌, ℕ, ◌*◌, Bool, true, false, cond, List, [], ◌∷◌, ◌++◌, length, Option, Some, None, arith, refl, ap, sym, subst, ◌∙◌}
 use Rattle.std.specs.Prelude.{not}
-use Rattle.std.proofs.lemmas.List.{append-nil}
 use Rattle.guest_memory.specs.declared.memory.GuestMemory.{GuestMemory}
 use Rattle.guest_memory.specs.declared.reservations.Reservations.{Reservations}
 use Rattle.guest_memory.specs.Guest.{memory_of}
@@ -9,17 +8,20 @@ use Rattle.guest_memory.specs.ReservedBy.{reserved_by}
 use Rattle.rv_exec.specs.Accesses.{can_write}
 use Rattle.trace_model.specs.EventList.{EventList}
 use Rattle.trace_model.specs.declared.event_kinds.Event.{Event}
-use Rattle.guest_calls.specs.declared.answer.Answer.TheVariants.{Back}
+use Rattle.guest_kernel.specs.declared.answer.Answer.TheVariants.{Back}
 use Rattle.guest_calls.specs.declared.caller.Caller.{Caller}
-use Rattle.guest_calls.specs.declared.descriptor.Descriptor.{Descriptor}
-use Rattle.guest_calls.specs.declared.vectors.IoVec.{IoVec}
-use Rattle.guest_calls.specs.Errors.{ebadf, efault}
-use Rattle.guest_calls.specs.Files.{is_source, advanced}
-use Rattle.guest_calls.specs.Kernel.{KernelState, descriptor}
+use Rattle.guest_kernel.specs.declared.descriptor.Descriptor.{Descriptor}
+use Rattle.guest_kernel.specs.declared.parts.IoVec.{IoVec}
+use Rattle.guest_kernel.specs.Errors.{ebadf, efault}
+use Rattle.guest_kernel.specs.Descriptors.{is_source, advanced}
+use Rattle.guest_kernel.specs.Kernel.{KernelState, descriptor}
+use Rattle.guest_kernel.specs.Copies.{Adds, KeepsRoom, read_event}
 use Rattle.guest_calls.specs.Outcome.{asked, guest_of, Does}
-use Rattle.guest_calls.specs.Results.{Syscall, SyscallResult, Guest, arg, answered_or, first_answer, returns, unless, ◌⇒◌, ◌or◌, ◌▷◌, changes, reads, read_event}
-use Rattle.guest_calls.specs.Vectors.{all_in_reach, fills_parts, filled_parts, readv, readv_effect, readv_parts, readv_tests, table_tests}
+use Rattle.guest_calls.specs.Results.{Syscall, SyscallResult, Guest, arg, answered_or, first_answer, returns, unless, ◌⇒◌, ◌or◌, ◌▷◌, changes, reads}
+use Rattle.guest_kernel.specs.Parts.{all_in_reach}
+use Rattle.guest_calls.specs.Vectors.{fills_parts, filled_parts, readv, readv_effect, readv_parts, readv_tests, table_tests}
 use Rattle.guest_calls.proofs.PartLists.{behind, filled_behind}
+use Rattle.guest_kernel.proofs.Room.{adds_none}
 
 through_cond : (b : Bool) (e : ℕ) (o p : Option ℕ) → cond b (Some e) o ≡ None → (o ≡ None → o ≡ None) → (b ≡ false) × (o ≡ None)
 through_cond true e o p h same = absurd (cc)
@@ -61,15 +63,16 @@ pub readv_does : (caller : Caller) (state new : KernelState) (memory memory' : G
     → is_source file ≡ true
     → first_answer (table_tests (memory_of memory) (arg (asked caller state memory held) 1) (arg (asked caller state memory held) 2)) ≡ None
     → all_in_reach (can_write (memory_of memory)) into ≡ true
-    → middle.list ≡ before.list ++ read_event caller.tid (arg (asked caller state memory held) 1) (8 * arg (asked caller state memory held) 2)
+    → Adds (read_event caller.tid (arg (asked caller state memory held) 1) (8 * arg (asked caller state memory held) 2)) before middle
     → guest_of memory' held' after ≡ filled_parts into bytes (guest_of memory held middle)
+    → KeepsRoom middle after
     → new ≡ advanced file (arg (asked caller state memory held) 0) (length bytes) state
     → Does (readv_of (asked caller state memory held) file bytes into) (Back (length bytes)) new memory' held' before after
-readv_does caller state new memory memory' held held' before middle after file bytes into source passed reach noted filled moved =
+readv_does caller state new memory memory' held held' before middle after file bytes into source passed reach noted filled kept moved =
     let c = asked caller state memory held in
     let e = read_event caller.tid (arg c 1) (8 * arg c 2) in
     let is : guest_of memory' held' after ≡ behind before.list (filled_parts into bytes (record { memory = memory_of memory; held = reserved_by held; events = e })) =
-    filled ∙ ap (λ (es : List Event). filled_parts into bytes (record { memory = memory_of memory; held = reserved_by held; events = es })) noted
+    filled ∙ ap (λ (es : List Event). filled_parts into bytes (record { memory = memory_of memory; held = reserved_by held; events = es })) noted.list_is
     ∙ filled_behind into bytes (memory_of memory) (reserved_by held) before.list e
     in
     subst (λ (r : SyscallResult). Does r (Back (length bytes)) new memory' held' before after) (sym (readv_carries c file bytes into source passed reach)) (record {
@@ -77,7 +80,7 @@ readv_does caller state new memory memory' held held' before middle after file b
       state_is = moved;
       memory_is = ap (λ (g : Guest). g.memory) is;
       held_is = ap (λ (g : Guest). g.held) is;
-      events = ap (λ (g : Guest). g.events) is;
+      events = record { list_is = ap (λ (g : Guest). g.events) is; room = let first = noted.room in omega (arith, first, kept) };
     })
 
 -- the first of some tests that holds is the first of more
@@ -102,4 +105,4 @@ readv_refused caller state memory held events errno source refused =
     ap (λ (b : Bool). cond (not b) (Some ebadf) (first_answer (table_tests made.memory (arg made 1) (arg made 2) ++ last))) source
     ∙ first_answer_some (table_tests made.memory (arg made 1) (arg made 2)) last errno refused in
     subst (λ (o : Option ℕ). Does (answered_or o made (λ _. readv_effect made)) (Back errno) state memory held events events) (sym tests)
-    (record { answered = refl; state_is = refl; memory_is = refl; held_is = refl; events = sym (append-nil events.list) })
+    (record { answered = refl; state_is = refl; memory_is = refl; held_is = refl; events = adds_none events })

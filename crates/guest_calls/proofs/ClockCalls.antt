@@ -2,12 +2,13 @@
 use Rattle.std.proofs.Common.{arith, refl}
 use Rattle.std.specs.Prelude.{nat_le}
 use Rattle.std.proofs.lemmas.Bool.{not-false}
-use Rattle.guest_calls.specs.declared.answer.Answer.TheVariants.{Back, Block}
-use Rattle.guest_calls.specs.Clock.{clock_gettime, clock_gettime_effect, clock_gettime_tests, clock_nanosleep, clock_nanosleep_effect, clock_nanosleep_tests, nanosleep_end, sleeps, time_bytes, time_size, with_deadline}
+use Rattle.guest_kernel.specs.declared.answer.Answer.TheVariants.{Back, Block}
+use Rattle.guest_kernel.specs.Waits.{with_deadline}
+use Rattle.guest_calls.specs.Clock.{clock_gettime, clock_gettime_effect, clock_gettime_tests, clock_nanosleep, clock_nanosleep_effect, clock_nanosleep_tests, nanosleep_end, sleeps, time_bytes, time_size}
 use Rattle.guest_calls.specs.Lawful.{IsLawful}
 use Rattle.guest_calls.specs.Results.{Syscall, arg, readable, reads, returns, ◌▷◌}
 use Rattle.guest_calls.proofs.Lawful.{AreFailed, kept, lawful_by, lawful_either, lawful_fills, lawful_unless, read_fair, steady}
-use Rattle.guest_calls.proofs.Reach.{readable_end}
+use Rattle.guest_kernel.proofs.Reach.{readable_end}
 
 pub clock_gettime_is_lawful : (c : Syscall) → IsLawful c (clock_gettime c)
 clock_gettime_is_lawful c =

@@ -7,15 +7,22 @@ use Rattle.std.proofs.lemmas.Bool.{and_parts}
 use Rattle.std.proofs.lemmas.List.{map-append}
 use Rattle.std.proofs.lemmas.List.Folds.{list_any-append}
 use Rattle.guest_memory.specs.Memory.{Memory}
+use Rattle.rv_exec.specs.Accesses.{can_write}
+use Rattle.guest_calls.proofs.Passed.{asked_reach}
 use Rattle.guest_memory.proofs.CallerLemmas.{some_of_rest}
-use Rattle.guest_calls.specs.declared.thread.Thread.{Thread}
+use Rattle.guest_kernel.specs.declared.thread.Thread.{Thread}
 use Rattle.guest_calls.specs.Clone.{child_clear_tid, clone, clone_effect, clone_tests, is_denied, sets_child, sets_parent}
-use Rattle.guest_calls.specs.Kernel.{is_blocked, is_thread, lives}
+use Rattle.guest_kernel.specs.Kernel.{is_blocked, is_thread, lives}
 use Rattle.guest_calls.specs.Lawful.{IsLawful}
-use Rattle.guest_calls.specs.Results.{Syscall, Guest, arg, fill_event, filled_where, has, returns}
-use Rattle.guest_calls.proofs.Births.{not_denied}
-use Rattle.guest_calls.proofs.Lawful.{AreFailed, AreFair, IsKept, fill_copies, fill_fair, fill_few, fill_weight, filled_kept, kept, kept_free, lawful_unless, none_fair, steady, two_fair}
-use Rattle.guest_calls.proofs.Reach.{writable_end}
+use Rattle.guest_kernel.specs.Copies.{fill_event}
+use Rattle.guest_calls.specs.Results.{Syscall, Guest, arg, filled_where, has, returns}
+use Rattle.guest_kernel.proofs.Room.{fill_few}
+use Rattle.guest_calls.proofs.Lawful.{AreFailed, AreFair, IsKept, fill_copies, fill_fair, fill_weight, filled_kept, kept, kept_free, lawful_unless, none_fair, steady, two_fair}
+use Rattle.guest_kernel.proofs.Reach.{writable_end}
+
+-- what is asked for and not denied can be written
+pub not_denied : (m : Memory) (asked : Bool) (at : ℕ) → is_denied m asked at ≡ false → asked ≡ true → can_write m at 4 ≡ true
+not_denied m asked at h is = asked_reach asked (can_write m at 4) h is
 
 -- a word that is asked for where it is not denied
 asked_end : (m : Memory) (asked : Bool) (at : ℕ) → is_denied m asked at ≡ false → asked ≡ true → at + 4 ≤ 2 ^ 32

@@ -1,5 +1,5 @@
 -- clone(2): that no test refuses it, and what its two fills come to.
-use Rattle.std.proofs.Common.{◌≡◌, ℕ, ◌+◌, Bool, true, false, not, List, [], ◌++◌, Option, None, append_assoc, append-nil, refl, ap, sym, subst, ◌∙◌}
+use Rattle.std.proofs.Common.{◌≡◌, ℕ, ◌≤◌, ◌+◌, Bool, true, false, not, List, [], ◌++◌, Option, None, append_assoc, append-nil, length, length-append, arith, refl, ap, sym, subst, ◌∙◌}
 use Rattle.trace_model.specs.declared.event_kinds.Event.{Event}
 use Rattle.trace_model.specs.EventList.{EventList}
 use Rattle.guest_memory.specs.declared.memory.GuestMemory.{GuestMemory}
@@ -8,13 +8,16 @@ use Rattle.guest_memory.specs.Memory.{Memory}
 use Rattle.guest_memory.specs.Reserved.{Reserved, without_thread}
 use Rattle.guest_memory.specs.ReservedBy.{reserved_by}
 use Rattle.rv_exec.specs.Registers.{Registers}
-use Rattle.guest_calls.specs.declared.answer.Answer.TheVariants.{Born}
+use Rattle.guest_kernel.specs.declared.answer.Answer.TheVariants.{Born}
 use Rattle.guest_calls.specs.declared.caller.Caller.{Caller}
-use Rattle.guest_calls.specs.Clone.{are_flags_taken, child_clear_tid, child_registers, clone, clone_effect, is_denied, is_full, sets_child, sets_parent, with_thread}
-use Rattle.guest_calls.specs.Errors.{eagain, efault, enosys}
-use Rattle.guest_calls.specs.Kernel.{KernelState}
+use Rattle.guest_kernel.specs.Threads.{is_full, with_thread}
+use Rattle.guest_calls.specs.Clone.{are_flags_taken, child_clear_tid, child_registers, clone, clone_effect, is_denied, sets_child, sets_parent}
+use Rattle.guest_kernel.specs.Errors.{eagain, efault, enosys}
+use Rattle.guest_kernel.specs.Kernel.{KernelState}
+use Rattle.guest_kernel.specs.Copies.{KeepsRoom, fill_event}
 use Rattle.guest_calls.specs.Outcome.{asked, guest_of, Does}
 use Rattle.guest_calls.specs.Results.{Syscall, SyscallResult, Guest, answered_or, arg, filled_where, first_answer, has, ◌⇒◌, ◌or◌}
+use Rattle.guest_kernel.proofs.Room.{fill_few}
 
 none_holds : (a b d e : Bool) → a ≡ false → b ≡ false → d ≡ false → e ≡ false
     → first_answer (a ⇒ enosys or b ⇒ eagain or d ⇒ efault or e ⇒ efault) ≡ None
@@ -46,6 +49,14 @@ filled_twice b d to at n m h before =
     ap (λ (es : List Event). filled_where d at n (filled_where b to n (record { memory = m; held = h; events = es }))) (sym (append-nil before))
     ∙ (ap (filled_where d at n) (filled_behind b to n start before) ∙ filled_behind d at n (filled_where b to n start) before)
 
+-- a word that is filled where that is asked for
+pub room_where : (asked : Bool) (at n : ℕ) (old new : Guest) → new ≡ filled_where asked at n old → length new.events ≤ length old.events + 1
+room_where true at n old new is =
+    let e = ap (λ (g : Guest). length g.events) is ∙ length-append old.events (fill_event at 4) in
+    let few = fill_few at 4 in
+    omega (arith, e, few)
+room_where false at n old new is = let e = ap (λ (g : Guest). length g.events) is in omega (arith, e)
+
 -- what the code does is the effect
 pub clone_does : (caller : Caller) (state after : KernelState) (memory last : GuestMemory) (held kept left : Reservations)
     (events all : EventList) (between : Guest) (flags to at n m tid : ℕ) (b d : Bool) (child : Registers)
@@ -58,8 +69,9 @@ pub clone_does : (caller : Caller) (state after : KernelState) (memory last : Gu
     → child ≡ child_registers c.registers flags (arg c 1) (arg c 3)
     → after ≡ with_thread tid (child_clear_tid flags at) state
     → reserved_by left ≡ without_thread (reserved_by kept) tid
+    → KeepsRoom events all
     → Does (clone c) (Born tid child) after last left events all)
-clone_does caller state after memory last held kept left events all between flags to at n m tid b d child e0 e2 e4 next n_is m_is b_is d_is same one two child_is after_is left_is =
+clone_does caller state after memory last held kept left events all between flags to at n m tid b d child e0 e2 e4 next n_is m_is b_is d_is same one two child_is after_is left_is room =
     let c = asked caller state memory held in
     let number = state.last_tid + 1 in
     let both : guest_of last kept all ≡ filled_where (has (arg c 0) sets_child) (arg c 4) number
@@ -71,5 +83,5 @@ clone_does caller state after memory last held kept left events all between flag
       state_is = cc;
       memory_is = ap (λ (g : Guest). g.memory) parts;
       held_is = left_of ∙ ap (λ (g : Guest). without_thread g.held number) parts;
-      events = ap (λ (g : Guest). g.events) parts;
+      events = record { list_is = ap (λ (g : Guest). g.events) parts; room = room };
     })

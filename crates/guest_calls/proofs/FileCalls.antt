@@ -5,16 +5,18 @@ use Rattle.std.specs.Int.{w64, to_le_bytes}
 use Rattle.std.specs.Option.{option_map_or}
 use Rattle.std.proofs.lemmas.Bool.{not-false}
 use Rattle.rv_exec.specs.Accesses.{can_read}
-use Rattle.guest_calls.specs.declared.answer.Answer.TheVariants.{Back}
-use Rattle.guest_calls.specs.declared.descriptor.Descriptor.{Descriptor}
-use Rattle.guest_calls.specs.declared.descriptor.Descriptor.TheVariants.{Closed, StandardInput, Output, InputFile}
-use Rattle.guest_calls.specs.Files.{advanced, close, close_tests, ends_path, input_index, least_free, llseek, llseek_effect, llseek_tests, openat, openat_effect, openat_tests, path_end, read, read_bytes, read_effect, read_tests, target, with_position, write, write_count, write_effect, write_tests}
-use Rattle.guest_calls.specs.Kernel.{KernelState, can_run, descriptor, with_descriptor}
+use Rattle.guest_kernel.specs.declared.answer.Answer.TheVariants.{Back}
+use Rattle.guest_kernel.specs.declared.descriptor.Descriptor.{Descriptor}
+use Rattle.guest_kernel.specs.declared.descriptor.Descriptor.TheVariants.{Closed, StandardInput, Output, InputFile}
+use Rattle.guest_kernel.specs.Descriptors.{advanced, least_free, with_position}
+use Rattle.guest_calls.specs.Files.{close, close_tests, ends_path, input_index, llseek, llseek_effect, llseek_tests, openat, openat_effect, openat_tests, path_end, read, read_bytes, read_effect, read_tests, target, write, write_count, write_effect, write_tests}
+use Rattle.guest_kernel.specs.Kernel.{KernelState, can_run, descriptor, with_descriptor}
 use Rattle.guest_calls.specs.Lawful.{IsLawful}
-use Rattle.guest_calls.specs.Results.{Syscall, arg, number, read_event, readable, returns, sets, ◌▷◌}
+use Rattle.guest_kernel.specs.Copies.{read_event}
+use Rattle.guest_calls.specs.Results.{Syscall, arg, number, readable, returns, sets, ◌▷◌}
 use Rattle.guest_calls.proofs.Lawful.{AreFailed, AreFair, IsSteady, calm_lawful, kept, lawful_by, lawful_changes, lawful_fills, lawful_unless, read_fair, steady}
 use Rattle.guest_calls.proofs.Passed.{found_below, found_from}
-use Rattle.guest_calls.proofs.Reach.{readable_end}
+use Rattle.guest_kernel.proofs.Reach.{readable_end}
 
 -- a number stands for something else
 sets_steady : (k : KernelState) (fd : ℕ) (d : Descriptor) → IsSteady k (with_descriptor k fd d)

@@ -4,19 +4,22 @@ use Rattle.std.specs.Prelude.{not, ◌&&◌, ◌==◌, is_some}
 use Rattle.std.specs.Option.{option_map_or}
 use Rattle.std.proofs.lemmas.Bool.{not-false}
 use Rattle.futex_table.specs.Waiting.{all_bits}
-use Rattle.guest_calls.specs.declared.answer.Answer.TheVariants.{Back, Block}
+use Rattle.guest_kernel.specs.declared.answer.Answer.TheVariants.{Back, Block}
 use Rattle.guest_calls.specs.declared.operation.Operation.{Operation}
 use Rattle.guest_calls.specs.declared.operation.Operation.TheVariants.{Wait, Wake, Requeue, CmpRequeue, WaitBitset, WakeBitset}
 use Rattle.guest_calls.specs.Clock.{time_size}
-use Rattle.guest_calls.specs.Errors.{eagain, enosys, etimedout}
-use Rattle.guest_calls.specs.Futex.{count_shifted, count_woken, futex, futex_at, futex_by, futex_limit, futex_tests, futex_to, futex_value, futex_value3, has_limit, is_over, operation, performed, reads_word, requeued, requeues, wait_end, waited, waits_for, woken_at}
-use Rattle.guest_calls.specs.Kernel.{KernelState, can_run}
+use Rattle.guest_kernel.specs.Errors.{eagain, enosys, etimedout}
+use Rattle.guest_kernel.specs.Waits.{requeued, woken_at}
+use Rattle.guest_calls.specs.Futex.{count_shifted, count_woken, futex, futex_at, futex_by, futex_limit, futex_tests, futex_to, futex_value, futex_value3, has_limit, is_over, operation, performed, reads_word, requeues, wait_end, waited, waits_for}
+use Rattle.guest_kernel.specs.Kernel.{KernelState, can_run}
 use Rattle.guest_calls.specs.Lawful.{IsLawful}
-use Rattle.guest_calls.specs.Results.{Syscall, SyscallResult, answers, either, read_event, readable, reads, returns, when, word, ◌▷◌}
-use Rattle.guest_calls.proofs.Lawful.{AreFailed, AreFair, IsSteady, kept, lawful_by, lawful_changes, lawful_either, lawful_returns, lawful_unless, read_copies, read_fair, read_few, read_weight, steady, two_fair}
-use Rattle.guest_calls.proofs.Leaving.{woken_can_run}
-use Rattle.guest_calls.proofs.Queues.{requeued_can_run}
-use Rattle.guest_calls.proofs.Reach.{readable_end}
+use Rattle.guest_kernel.specs.Copies.{read_event}
+use Rattle.guest_calls.specs.Results.{Syscall, SyscallResult, answers, either, readable, reads, returns, when, word, ◌▷◌}
+use Rattle.guest_kernel.proofs.Room.{read_few}
+use Rattle.guest_calls.proofs.Lawful.{AreFailed, AreFair, IsSteady, kept, lawful_by, lawful_changes, lawful_either, lawful_returns, lawful_unless, read_copies, read_fair, read_weight, steady, two_fair}
+use Rattle.guest_kernel.proofs.Leaving.{woken_can_run}
+use Rattle.guest_kernel.proofs.Queues.{requeued_can_run}
+use Rattle.guest_kernel.proofs.Reach.{readable_end}
 
 -- ---- wakes
 wakes_lawful : (c : Syscall) (value bits : ℕ) →

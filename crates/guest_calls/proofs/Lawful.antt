@@ -11,15 +11,17 @@ use Rattle.guest_memory.proofs.CallerLemmas.{some_of_rest}
 use Rattle.trace_model.specs.declared.event_kinds.Event.{Event}
 use Rattle.trace_model.specs.WellFormed.{AreWords, weight}
 use Rattle.trace_model.proofs.Bounds.{weight-append}
-use Rattle.guest_calls.specs.declared.answer.Answer.{Answer}
-use Rattle.guest_calls.specs.declared.answer.Answer.TheVariants.{Back, Yield, Block}
-use Rattle.guest_calls.specs.declared.thread.Thread.{Thread}
-use Rattle.guest_calls.specs.Kernel.{KernelState, can_run, lives}
+use Rattle.guest_kernel.specs.declared.answer.Answer.{Answer}
+use Rattle.guest_kernel.specs.declared.answer.Answer.TheVariants.{Back, Yield, Block}
+use Rattle.guest_kernel.specs.declared.thread.Thread.{Thread}
+use Rattle.guest_kernel.specs.Kernel.{KernelState, can_run, lives}
 use Rattle.guest_calls.specs.Lawful.{AreCopies, BeginsBehind, EndsWithByte, GivesNumber, IsLawful, goes_on, tids, tids_after}
 use Rattle.guest_calls.specs.Pages.{IsBreakFree, remaps}
-use Rattle.guest_calls.specs.Results.{Syscall, SyscallResult, Guest, ◌▷◌, answered_or, changes, either, fill_event, filled, fills, first_answer, number, read_event, returns, unless, writable}
+use Rattle.guest_kernel.specs.Copies.{fill_event, read_event}
+use Rattle.guest_calls.specs.Results.{Syscall, SyscallResult, Guest, ◌▷◌, answered_or, changes, either, filled, fills, first_answer, number, returns, unless, writable}
 use Rattle.guest_calls.proofs.Passed.{failed}
-use Rattle.guest_calls.proofs.Reach.{writable_end}
+use Rattle.guest_kernel.proofs.Reach.{writable_end}
+use Rattle.guest_kernel.proofs.Room.{fill_few, read_few}
 
 -- ---- events
 -- few events of little weight, each a copy for the thread
@@ -42,14 +44,6 @@ fill_copies tid at (suc n) fits = (words_of at (suc n) (omega arith) (fits (omeg
 pub copies_append : (tid : ℕ) (xs ys : List Event) → AreCopies tid xs → AreCopies tid ys → AreCopies tid (xs ++ ys)
 copies_append tid [] ys front back = back
 copies_append tid (e ∷ xs) ys front back = (front.0, copies_append tid xs ys front.1 back)
-
-pub read_few : (tid at n : ℕ) → length (read_event tid at n) ≤ 1
-read_few tid at zero = omega arith
-read_few tid at (suc n) = omega arith
-
-pub fill_few : (at n : ℕ) → length (fill_event at n) ≤ 1
-fill_few at zero = omega arith
-fill_few at (suc n) = omega arith
 
 -- a read weighs one for itself and at most two words more than its bytes fill
 pub read_weight : (tid at n : ℕ) → weight (read_event tid at n) ≤ n / 4 + 3

@@ -7,10 +7,12 @@ use Rattle.guest_memory.specs.Memory.{Memory, with_bytes}
 use Rattle.guest_memory.specs.Reserved.{Reserved, after_write}
 use Rattle.rv_exec.specs.Accesses.{can_write}
 use Rattle.trace_model.specs.declared.event_kinds.Event.{Event}
-use Rattle.guest_calls.specs.declared.vectors.IoVec.{IoVec}
-use Rattle.guest_calls.specs.Results.{Guest, fill_event, filled, words_touched}
-use Rattle.guest_calls.specs.Vectors.{part_at, parts_at, all_in_reach, carried, filled_parts, total}
-use Rattle.guest_calls.proofs.Reach.{writable_kept}
+use Rattle.guest_kernel.specs.declared.parts.IoVec.{IoVec}
+use Rattle.guest_kernel.specs.Copies.{fill_event, words_touched}
+use Rattle.guest_calls.specs.Results.{Guest, filled}
+use Rattle.guest_kernel.specs.Parts.{all_in_reach, total}
+use Rattle.guest_calls.specs.Vectors.{part_at, parts_at, carried, filled_parts}
+use Rattle.guest_kernel.proofs.Reach.{writable_kept}
 
 -- one more part
 pub parts_snoc : (m : Memory) (at i : ℕ) → parts_at m at (i + 1) ≡ parts_at m at i ++ part_at m (at + 8 * i) ∷ []

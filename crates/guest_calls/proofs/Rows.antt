@@ -2,7 +2,7 @@
 use Rattle.std.proofs.Common.{◌≡◌, ◌≢◌, ℕ, Bool, cond, List, [], ◌∷◌, ◌++◌, append-nil, refl, ap, sym, ◌∙◌}
 use Rattle.std.proofs.lemmas.Bool.{ne_eqb}
 use Rattle.trace_model.specs.EventList.{EventList}
-use Rattle.guest_calls.specs.Errors.{enosys}
+use Rattle.guest_kernel.specs.Errors.{enosys}
 use Rattle.guest_calls.specs.Results.{Syscall, SyscallResult, number, returns}
 use Rattle.guest_calls.specs.Table.{always, syscall, syscall_numbered, table}
 

@@ -6,17 +6,18 @@ use Rattle.std.specs.List.{list_any}
 use Rattle.std.proofs.lemmas.Bool.{or_parts, and_parts}
 use Rattle.std.proofs.lemmas.Bool.Decides.{nat_tests}
 use Rattle.futex_table.specs.Waiting.{all_bits}
-use Rattle.guest_calls.specs.declared.answer.Answer.{Answer}
-use Rattle.guest_calls.specs.declared.answer.Answer.TheVariants.{Back, Yield, ThreadEnd, ProcessEnd}
-use Rattle.guest_calls.specs.declared.thread.Thread.{Thread}
+use Rattle.guest_kernel.specs.declared.answer.Answer.{Answer}
+use Rattle.guest_kernel.specs.declared.answer.Answer.TheVariants.{Back, Yield, ThreadEnd, ProcessEnd}
+use Rattle.guest_kernel.specs.declared.thread.Thread.{Thread}
 use Rattle.guest_calls.specs.Futex.{wakes}
-use Rattle.guest_calls.specs.Kernel.{KernelState, has_others, is_blocked, is_thread, other_threads}
+use Rattle.guest_kernel.specs.Kernel.{KernelState, has_others, is_blocked, is_thread, other_threads}
 use Rattle.guest_calls.specs.Lawful.{BeginsBehind, EndsWithByte, GivesNumber, IsLawful, goes_on, tids, tids_after}
 use Rattle.guest_calls.specs.Results.{Syscall, Guest, answers, arg, fills, fills_word, returns, when, writable, ◌▷◌}
-use Rattle.guest_calls.specs.Threads.{clear_tid, exit, exit_group, is_cleared, leaves, rt_sigprocmask, rt_sigprocmask_effect, rt_sigprocmask_tests, sched_yield, set_tid_address, status, with_clear_tid}
+use Rattle.guest_kernel.specs.Threads.{with_clear_tid}
+use Rattle.guest_calls.specs.Threads.{clear_tid, exit, exit_group, is_cleared, leaves, rt_sigprocmask, rt_sigprocmask_effect, rt_sigprocmask_tests, sched_yield, set_tid_address, status}
 use Rattle.guest_calls.proofs.Lawful.{AreFailed, AreFair, IsKept, IsSteady, fill_fair, filled_kept, kept, kept_free, lawful_by, lawful_changes, lawful_fills, lawful_returns, lawful_unless, lives_by, none_fair, steady}
-use Rattle.guest_calls.proofs.Leaving.{cleared_lives, still_gone, tid_kept}
-use Rattle.guest_calls.proofs.Reach.{writable_end}
+use Rattle.guest_kernel.proofs.Leaving.{cleared_lives, still_gone, tid_kept}
+use Rattle.guest_kernel.proofs.Reach.{writable_end}
 
 -- ---- small calls
 cleared_tids : (threads : List Thread) (tid at : ℕ) →

@@ -1,6 +1,6 @@
--- The time of a state says nothing of its threads.
-use Rattle.std.proofs.Common.{◌≡◌, ℕ, zero, suc, ◌+◌, ◌*◌, ◌/◌, ◌≤◌, Bool, true, List, [], ◌∷◌, ◌++◌, length, None, refl, ap, ap₂, sym, subst, ◌∙◌, arith}
-use Rattle.std.specs.Prelude.{min, not}
+-- A time that is read from the clock.
+use Rattle.std.proofs.Common.{◌≡◌, ℕ, ◌/◌, Bool, true, List, [], ◌∷◌, length, None, refl, ap₂, sym, subst, ◌∙◌}
+use Rattle.std.specs.Prelude.{not}
 use Rattle.guest_memory.specs.declared.memory.GuestMemory.{GuestMemory}
 use Rattle.guest_memory.specs.declared.reservations.Reservations.{Reservations}
 use Rattle.guest_memory.specs.Guest.{memory_of}
@@ -8,41 +8,14 @@ use Rattle.guest_memory.specs.Memory.{with_bytes}
 use Rattle.guest_memory.specs.Reserved.{after_write}
 use Rattle.guest_memory.specs.ReservedBy.{reserved_by}
 use Rattle.trace_model.specs.EventList.{EventList}
-use Rattle.guest_calls.specs.declared.answer.Answer.TheVariants.{Back}
+use Rattle.guest_kernel.specs.declared.answer.Answer.TheVariants.{Back}
 use Rattle.guest_calls.specs.declared.caller.Caller.{Caller}
+use Rattle.guest_kernel.specs.Copies.{Adds, fill_event, words_touched}
 use Rattle.guest_calls.specs.Outcome.{Does, asked}
 use Rattle.guest_calls.specs.Clock.{clock_gettime, is_clock, time_bytes, time_size}
-use Rattle.guest_calls.specs.Errors.{efault, einval}
-use Rattle.guest_calls.specs.Invariant.{IsState}
-use Rattle.guest_calls.specs.Kernel.{KernelState, last_time, later, later_by, step_time}
-use Rattle.guest_calls.specs.Results.{Syscall, answered_or, arg, fill_event, fills, first_answer, returns, words_touched, writable, ◌▷◌}
-
-at_time : (k : KernelState) (time : ℕ) → IsState k → IsState (record k { time = time })
-at_time k time is = record {
-  rising = is.rising;
-  few = is.few;
-  blocked_live = is.blocked_live;
-  stdin_within = is.stdin_within;
-  descriptors_sound = is.descriptors_sound;
-}
-
-pub at_time_is_state : (k new : KernelState) (time : ℕ) → IsState k → new ≡ record k { time = time } → IsState new
-at_time_is_state k new time is after = subst IsState (sym after) (at_time k time is)
-
-pub later_is_state : (k : KernelState) → IsState k → IsState (later k)
-later_is_state k is = at_time k (later k).time is
-
--- so many steps later, counted at once
-pub later_by_is : (n : ℕ) (k : KernelState) → k.time ≤ last_time → later_by n k ≡ record k { time = min (k.time + min (n * step_time) last_time) last_time }
-later_by_is zero k most = ap (λ time. record k { time = time }) (let e : k.time ≡ min (k.time + min (0 * step_time) last_time) last_time = omega (arith, most) in e)
-later_by_is (suc n) k most =
-    ap later (later_by_is n k most)
-    ∙ ap (λ time. record k { time = time })
-    (let e : min (min (k.time + min (n * step_time) last_time) last_time + step_time) last_time ≡ min (k.time + min (suc n * step_time) last_time) last_time = omega arith in e)
-
-pub later_by_is_state : (n : ℕ) (k : KernelState) → IsState k → IsState (later_by n k)
-later_by_is_state zero k is = is
-later_by_is_state (suc n) k is = later_is_state (later_by n k) (later_by_is_state n k is)
+use Rattle.guest_kernel.specs.Errors.{efault, einval}
+use Rattle.guest_kernel.specs.Kernel.{KernelState}
+use Rattle.guest_calls.specs.Results.{Syscall, answered_or, arg, fills, first_answer, returns, writable, ◌▷◌}
 
 -- where there is such a clock and room for a time, it is written
 pub gettime_passed : (c : Syscall) (clock at : ℕ) → clock ≡ arg c 0 → at ≡ arg c 1 → is_clock clock ≡ true → writable c at time_size ≡ true → clock_gettime c ≡ (returns c 0 ▷ fills at (time_bytes c.kernel.time))
@@ -55,7 +28,7 @@ pub filled_does : (caller : Caller) (state : KernelState) (memory memory' : Gues
     → bytes ≡ wanted
     → memory_of memory' ≡ with_bytes (memory_of memory) at bytes
     → reserved_by held' ≡ after_write (reserved_by held) None (at / 4) (words_touched at (length bytes))
-    → after.list ≡ before.list ++ fill_event at (length bytes)
+    → Adds (fill_event at (length bytes)) before after
     → Does (returns (asked caller state memory held) 0 ▷ fills at wanted) (Back 0) state memory' held' before after
 filled_does caller state memory memory' held held' before after at bytes wanted is memories reserved events =
     subst (λ (bs : List ℕ). Does (returns (asked caller state memory held) 0 ▷ fills at bs) (Back 0) state memory' held' before after) is (record {

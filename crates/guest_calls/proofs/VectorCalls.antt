@@ -9,17 +9,20 @@ use Rattle.guest_memory.specs.Memory.{Memory}
 use Rattle.rv_exec.specs.Accesses.{can_read, can_write}
 use Rattle.trace_model.specs.WellFormed.{weight}
 use Rattle.trace_model.proofs.Bounds.{weight-append}
-use Rattle.guest_calls.specs.declared.answer.Answer.TheVariants.{Back}
-use Rattle.guest_calls.specs.declared.vectors.IoVec.{IoVec}
-use Rattle.guest_calls.specs.Files.{advanced}
-use Rattle.guest_calls.specs.Kernel.{descriptor}
+use Rattle.guest_kernel.specs.declared.answer.Answer.TheVariants.{Back}
+use Rattle.guest_kernel.specs.declared.parts.IoVec.{IoVec}
+use Rattle.guest_kernel.specs.Descriptors.{advanced}
+use Rattle.guest_kernel.specs.Kernel.{descriptor}
 use Rattle.guest_calls.specs.Lawful.{AreCopies, IsLawful}
-use Rattle.guest_calls.specs.Results.{Syscall, Guest, arg, fill_event, filled, number, read_event, reads, returns, ◌▷◌}
-use Rattle.guest_calls.specs.Vectors.{all_in_reach, filled_parts, parts, parts_at, read_events, readv, readv_bytes, readv_effect, readv_parts, readv_tests, total, writev, writev_count, writev_effect, writev_parts, writev_tests}
+use Rattle.guest_kernel.specs.Copies.{fill_event, read_event}
+use Rattle.guest_calls.specs.Results.{Syscall, Guest, arg, filled, number, reads, returns, ◌▷◌}
+use Rattle.guest_kernel.specs.Parts.{all_in_reach, total}
+use Rattle.guest_calls.specs.Vectors.{filled_parts, parts, parts_at, read_events, readv, readv_bytes, readv_effect, readv_parts, readv_tests, writev, writev_count, writev_effect, writev_parts, writev_tests}
 use Rattle.guest_calls.proofs.FileCalls.{advanced_able, advanced_steady, min_few}
-use Rattle.guest_calls.proofs.Lawful.{AreFailed, AreFair, IsKept, calm_lawful, copies_append, fill_copies, fill_few, fill_weight, filled_kept, kept, lawful_by, lawful_unless, read_copies, read_few, read_weight}
+use Rattle.guest_kernel.proofs.Room.{fill_few, read_few}
+use Rattle.guest_calls.proofs.Lawful.{AreFailed, AreFair, IsKept, calm_lawful, copies_append, fill_copies, fill_weight, filled_kept, kept, lawful_by, lawful_unless, read_copies, read_weight}
 use Rattle.guest_calls.proofs.PartLists.{length_carried, total_carried}
-use Rattle.guest_calls.proofs.Reach.{readable_end, writable_end}
+use Rattle.guest_kernel.proofs.Reach.{readable_end, writable_end}
 
 -- ---- parts that are filled
 filled_few : (ps : List IoVec) (bytes : List ℕ) (g : Guest) →

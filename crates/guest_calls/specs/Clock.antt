@@ -3,11 +3,10 @@
 use Rattle.std.specs.Prelude.{ℕ, ◌+◌, ◌-◌, ◌*◌, ◌/◌, ◌%◌, ◌^◌, min, Bool, not, ◌||◌, nat_lt, nat_le, List, ◌++◌, replicate, is_none, unwrap_or, Option, Some, None, if◌then◌else◌}
 use Rattle.std.specs.Int.{w32, w64, to_le_bytes}
 use Rattle.guest_memory.specs.Memory.{Memory, number_at}
-use Rattle.virtual_clock.specs.Steps.{after_set}
-use Rattle.guest_calls.specs.declared.answer.Answer.TheVariants.{Block}
-use Rattle.guest_calls.specs.Errors.{efault, einval}
-use Rattle.guest_calls.specs.Kernel.{KernelState}
+use Rattle.guest_kernel.specs.declared.answer.Answer.TheVariants.{Block}
+use Rattle.guest_kernel.specs.Errors.{efault, einval}
 use Rattle.guest_calls.specs.Results.{Syscall, SyscallResult, arg, returns, unless, ◌⇒◌, ◌or◌, ◌▷◌, either, answers, changes, fills, reads, readable, writable, has}
+use Rattle.guest_kernel.specs.Waits.{with_deadline}
 
 -- CLOCK_REALTIME 0 and CLOCK_MONOTONIC 1
 abbrev pub is_clock : ℕ → Bool
@@ -63,10 +62,6 @@ from_now now time = min (now + time) latest
 -- TIMER_ABSTIME: the time is no time from now on
 abbrev pub timer_abstime : ℕ
 timer_abstime = 1
-
--- the thread wakes at the time, with the answer
-abbrev pub with_deadline : ℕ → ℕ → ℕ → KernelState → KernelState
-with_deadline tid at answer k = record k { deadlines = after_set k.deadlines tid at answer }
 
 abbrev pub clock_nanosleep_tests : Syscall → List (Bool × ℕ)
 clock_nanosleep_tests c =

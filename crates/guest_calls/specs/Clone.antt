@@ -1,13 +1,12 @@
 -- A new thread: clone(2).
-use Rattle.std.specs.Prelude.{ℕ, ◌+◌, ◌%◌, ◌^◌, Bool, not, ◌&&◌, ◌||◌, ◌==◌, nat_le, bit_and, List, [], ◌∷◌, ◌++◌, length, slice_set, if◌then◌else◌}
-use Rattle.guest_words.specs.declared.limits.TheConstants.{LAST_TID, THREADS}
+use Rattle.std.specs.Prelude.{ℕ, ◌+◌, ◌%◌, ◌^◌, Bool, not, ◌&&◌, ◌==◌, bit_and, List, slice_set, if◌then◌else◌}
 use Rattle.guest_memory.specs.Memory.{Memory}
 use Rattle.rv_exec.specs.Accesses.{can_write}
 use Rattle.rv_exec.specs.Registers.{Registers}
-use Rattle.guest_calls.specs.declared.answer.Answer.TheVariants.{Born}
-use Rattle.guest_calls.specs.Errors.{eagain, efault, enosys}
-use Rattle.guest_calls.specs.Kernel.{KernelState}
+use Rattle.guest_kernel.specs.declared.answer.Answer.TheVariants.{Born}
+use Rattle.guest_kernel.specs.Errors.{eagain, efault, enosys}
 use Rattle.guest_calls.specs.Results.{Syscall, SyscallResult, arg, returns, unless, ◌⇒◌, ◌or◌, ◌▷◌, answers, changes, fills_word_where, forgets, has}
+use Rattle.guest_kernel.specs.Threads.{is_full, with_thread}
 
 -- CLONE_VM 0x100, CLONE_SIGHAND 0x800 and CLONE_THREAD 0x10000: a thread of the same process, and no other child
 abbrev pub needed_flags : ℕ
@@ -42,17 +41,9 @@ child_registers r flags stack tls =
     let regs = if has flags sets_tls then slice_set regs 4 tls else regs in
     record { pc = (r.pc + 4) % 2 ^ 32; regs = regs }
 
-abbrev pub with_thread : ℕ → ℕ → KernelState → KernelState
-with_thread tid clear_tid k =
-    record k { threads = k.threads ++ record { tid = tid; clear_tid = clear_tid } ∷ []; last_tid = tid }
-
 -- a thread of the same process is asked for, and nothing unknown
 abbrev pub are_flags_taken : ℕ → Bool
 are_flags_taken flags = bit_and flags needed_flags == needed_flags && bit_and flags known_flags == flags
-
--- as many threads live as can, or the last number was given
-abbrev pub is_full : KernelState → Bool
-is_full k = nat_le THREADS (length k.threads) || k.last_tid == LAST_TID
 
 -- a word is asked for at an address where it can't be written
 abbrev pub is_denied : Memory → Bool → ℕ → Bool

@@ -1,53 +1,19 @@
 -- The calls on files: openat(2), close(2), _llseek(2), read(2), write(2).
-use Rattle.std.specs.Prelude.{ℕ, ℤ, ◌+◌, ◌-◌, ◌*◌, ◌^◌, pos, ◌+ℤ◌, int_lt, unsigned_abs, Bool, true, false, not, ◌||◌, ◌==◌, nat_lt, min, List, [], length, take, drop, slice_index_or, is_none, unwrap_or, Option, Some, None, if◌then◌else◌}
+use Rattle.std.specs.Prelude.{ℕ, ℤ, ◌+◌, ◌-◌, ◌*◌, ◌^◌, pos, ◌+ℤ◌, int_lt, unsigned_abs, Bool, false, not, ◌||◌, ◌==◌, nat_lt, min, List, length, take, is_none, unwrap_or, Option, if◌then◌else◌}
 use Rattle.std.specs.List.{position}
 use Rattle.std.specs.Option.{option_map_or}
 use Rattle.std.specs.Int.{w64, cast_signed, to_le_bytes}
 use Rattle.guest_memory.specs.Memory.{Memory, bytes_at}
 use Rattle.rv_exec.specs.Accesses.{can_read}
-use Rattle.guest_calls.specs.declared.descriptor.Descriptor.{Descriptor}
-use Rattle.guest_calls.specs.declared.descriptor.Descriptor.TheVariants.{Closed, StandardInput, Output, InputFile}
-use Rattle.guest_calls.specs.Errors.{enoent, ebadf, eacces, efault, einval, emfile, espipe, enametoolong}
-use Rattle.guest_calls.specs.Inputs.{is_named}
-use Rattle.guest_calls.specs.Kernel.{KernelState, descriptor, with_descriptor}
+use Rattle.guest_kernel.specs.declared.channel.Channel.TheVariants.{Out}
+use Rattle.guest_kernel.specs.declared.descriptor.Descriptor.{Descriptor}
+use Rattle.guest_kernel.specs.declared.descriptor.Descriptor.TheVariants.{Closed, InputFile}
+use Rattle.guest_kernel.specs.Errors.{enoent, ebadf, eacces, efault, einval, emfile, espipe, enametoolong}
+use Rattle.guest_kernel.specs.Inputs.{is_named}
+use Rattle.guest_kernel.specs.Kernel.{KernelState, descriptor}
 use Rattle.guest_calls.specs.Search.{first_passing}
 use Rattle.guest_calls.specs.Results.{Syscall, SyscallResult, arg, returns, unless, ◌⇒◌, ◌or◌, ◌▷◌, changes, sets, reads, fills, puts, readable, writable, has}
-
--- ---- descriptors
-abbrev pub is_closed : Descriptor → Bool
-is_closed Closed = true
-is_closed _ = false
-
-abbrev pub is_input_file : Descriptor → Bool
-is_input_file (InputFile _ _) = true
-is_input_file _ = false
-
--- standard input or an input file
-abbrev pub is_source : Descriptor → Bool
-is_source StandardInput = true
-is_source (InputFile _ _) = true
-is_source _ = false
-
--- the channel of output, 1 or 2
-abbrev pub channel : Descriptor → Option ℕ
-channel (Output n) = Some n
-channel _ = None
-
--- the bytes of an input, by its index
-abbrev pub input_bytes : KernelState → ℕ → List ℕ
-input_bytes k input = (slice_index_or k.inputs input (record { name = []; bytes = [] })).bytes
-
--- the bytes from the position on, of which there is none past the end
-abbrev pub bytes_left : KernelState → Descriptor → List ℕ
-bytes_left k StandardInput = drop k.stdin_position k.stdin
-bytes_left k (InputFile input position) = drop position (input_bytes k input)
-bytes_left k _ = []
-
--- the position of the descriptor moves by `n` bytes
-abbrev pub advanced : Descriptor → ℕ → ℕ → KernelState → KernelState
-advanced StandardInput fd n k = record k { stdin_position = k.stdin_position + n }
-advanced (InputFile input position) fd n k = with_descriptor k fd (InputFile input (position + n))
-advanced _ fd n k = k
+use Rattle.guest_kernel.specs.Descriptors.{advanced, bytes_left, channel, input_bytes, is_closed, is_input_file, is_source, least_free, with_position}
 
 -- ---- openat
 -- a path with its zero byte is no longer than this
@@ -73,10 +39,6 @@ path_name m path = bytes_at m path (unwrap_or (path_end m path) path - path)
 -- the index of the input with the path's name, if there is one
 abbrev pub input_index : Syscall → ℕ → Option ℕ
 input_index c path = position (is_named (path_name c.memory path)) c.kernel.inputs
-
--- the least number that is free, if one is
-abbrev pub least_free : KernelState → Option ℕ
-least_free k = position is_closed k.descriptors
 
 abbrev pub openat_tests : Syscall → List (Bool × ℕ)
 openat_tests c =
@@ -112,10 +74,6 @@ abbrev pub origin : KernelState → Descriptor → ℕ → ℕ
 origin k (InputFile input position) whence =
     if whence == 1 then position else (if whence == 2 then length (input_bytes k input) else 0)
 origin k _ whence = 0
-
-abbrev pub with_position : Descriptor → ℕ → Descriptor
-with_position (InputFile input _) position = InputFile input position
-with_position d position = d
 
 -- the new position; the offset is signed, in two words of which the higher comes first
 abbrev pub target : KernelState → Descriptor → ℕ → ℕ → ℕ → ℤ
@@ -182,7 +140,7 @@ write_effect c =
     let n = write_count c in
     returns c n
     ▷ reads c.tid (arg c 1) n
-    ▷ puts (unwrap_or (channel (descriptor c.kernel (arg c 0))) 0) (bytes_at c.memory (arg c 1) n)
+    ▷ puts (unwrap_or (channel (descriptor c.kernel (arg c 0))) Out) (bytes_at c.memory (arg c 1) n)
 
 abbrev pub write : Syscall → SyscallResult
 write c = unless c (write_tests c) λ _. write_effect c

@@ -1,17 +1,15 @@
 -- Waiting at a word and waking: futex(2), with 64-bit times.
-use Rattle.std.specs.Prelude.{ℕ, ◌+◌, ◌-◌, ◌%◌, ◌^◌, Bool, true, false, not, ◌&&◌, ◌==◌, bit_and, nat_le, List, [], ◌∷◌, length, filter, is_none, is_some, unwrap_or, Option, Some, None, if◌then◌else◌}
+use Rattle.std.specs.Prelude.{ℕ, ◌+◌, ◌-◌, ◌%◌, ◌^◌, Bool, true, false, not, ◌&&◌, ◌==◌, bit_and, nat_le, List, [], ◌∷◌, length, is_none, is_some, unwrap_or, Option, Some, None, if◌then◌else◌}
 use Rattle.std.specs.Option.{option_map, option_map_or}
 use Rattle.std.specs.List.{find}
-use Rattle.futex_table.specs.declared.waiter.Waiter.{Waiter}
-use Rattle.futex_table.specs.Once.{waits}
-use Rattle.futex_table.specs.Waiting.{all_bits, after_wait, woken, after_wake, shifted, after_shift}
-use Rattle.virtual_clock.specs.declared.deadline.Deadline.{Deadline}
-use Rattle.guest_calls.specs.declared.answer.Answer.TheVariants.{Back, Block}
+use Rattle.futex_table.specs.Waiting.{all_bits, woken, shifted}
+use Rattle.guest_kernel.specs.declared.answer.Answer.TheVariants.{Back, Block}
 use Rattle.guest_calls.specs.declared.operation.Operation.{Operation}
 use Rattle.guest_calls.specs.declared.operation.Operation.TheVariants.{Wait, Wake, Requeue, CmpRequeue, WaitBitset, WakeBitset}
-use Rattle.guest_calls.specs.Errors.{eagain, efault, einval, enosys, etimedout}
-use Rattle.guest_calls.specs.Clock.{from_now, time_at, time_size, with_deadline}
-use Rattle.guest_calls.specs.Kernel.{KernelState, unblocked}
+use Rattle.guest_kernel.specs.Errors.{eagain, efault, einval, enosys, etimedout}
+use Rattle.guest_kernel.specs.Waits.{with_deadline, requeued, with_waiter, woken_at}
+use Rattle.guest_calls.specs.Clock.{from_now, time_at, time_size}
+use Rattle.guest_kernel.specs.Kernel.{KernelState}
 use Rattle.guest_calls.specs.Results.{Syscall, SyscallResult, arg, returns, unless, ◌⇒◌, ◌or◌, ◌▷◌, either, when, answers, changes, reads, readable, word, has}
 
 abbrev pub operations : List (ℕ × Operation)
@@ -92,10 +90,6 @@ abbrev pub compares : Syscall → ℕ → (SyscallResult → SyscallResult) → 
 compares c value effect r =
     r ▷ reads c.tid (futex_at c) 4 ▷ either (word c (futex_at c) == value) effect (answers (Back eagain))
 
--- the thread is behind all others that wait, with these bits
-abbrev pub with_waiter : ℕ → ℕ → ℕ → KernelState → KernelState
-with_waiter at tid bits k = record k { waiting = after_wait k.waiting at tid bits }
-
 -- where its wait has an end, that is its deadline, with the answer ETIMEDOUT
 abbrev pub with_end : ℕ → Option ℕ → KernelState → KernelState
 with_end tid None k = k
@@ -113,30 +107,6 @@ waited c bits end =
     ▷ when (is_some end) (reads c.tid (futex_limit c) time_size)
     ▷ compares c (futex_value c) (either (is_over end c.kernel.time) (answers (Back etimedout)) (waits_for c bits end))
 
--- this one waits no more
-abbrev pub woken_one : Option Waiter → KernelState → KernelState
-woken_one None k = k
-woken_one (Some w) k = unblocked w.tid k
-
--- the deadlines of all others than these
-abbrev pub deadlines_without : List Deadline → List Waiter → List Deadline
-deadlines_without deadlines gone = filter (λ d. not (waits gone d.tid)) deadlines
-
--- the first `most` that wait at the address and meet the bits are woken, and have no deadline any more
-abbrev pub woken_at : ℕ → ℕ → ℕ → KernelState → KernelState
-woken_at at most bits k = record k {
-  waiting = after_wake k.waiting at most bits;
-  deadlines = deadlines_without k.deadlines (woken k.waiting at most bits);
-}
-
--- the first `most` that wait at the address are moved to the other, and keep their deadlines
-abbrev pub moved_at : ℕ → ℕ → ℕ → KernelState → KernelState
-moved_at at most to k = record k { waiting = after_shift k.waiting at most to }
-
--- the first are woken, and the next are moved to the other address
-abbrev pub requeued : ℕ → ℕ → ℕ → ℕ → KernelState → KernelState
-requeued at most shift to k = moved_at at shift to (woken_at at most all_bits k)
-
 abbrev pub wakes : ℕ → ℕ → ℕ → SyscallResult → SyscallResult
 wakes at most bits r = r ▷ changes (woken_at at most bits)
 
@@ -149,11 +119,15 @@ count_woken c bits = length (woken c.kernel.waiting (futex_at c) (futex_value c)
 abbrev pub count_shifted : Syscall → ℕ
 count_shifted c = length (shifted c.kernel.waiting (futex_at c) (futex_value c) (futex_limit c))
 
+-- those that wait at the word and meet the bits are woken
+abbrev pub wakes_with : ℕ → Syscall → SyscallResult
+wakes_with bits c = returns c (count_woken c bits) ▷ wakes (futex_at c) (futex_value c) bits
+
 abbrev pub performed : Operation → Syscall → SyscallResult
 performed Wait c = waited c all_bits (wait_end Wait c)
 performed WaitBitset c = waited c (futex_value3 c) (wait_end WaitBitset c)
-performed Wake c = returns c (count_woken c all_bits) ▷ wakes (futex_at c) (futex_value c) all_bits
-performed WakeBitset c = returns c (count_woken c (futex_value3 c)) ▷ wakes (futex_at c) (futex_value c) (futex_value3 c)
+performed Wake c = wakes_with all_bits c
+performed WakeBitset c = wakes_with (futex_value3 c) c
 performed Requeue c = returns c (count_woken c all_bits) ▷ requeues c
 performed CmpRequeue c = returns c (count_woken c all_bits + count_shifted c) ▷ compares c (futex_value3 c) (requeues c)
 

@@ -5,10 +5,10 @@ use Rattle.trace_model.specs.declared.event_kinds.Event.{Event}
 use Rattle.trace_model.specs.declared.event_kinds.Event.TheVariants.{Read, Fill}
 use Rattle.trace_model.specs.WellFormed.{AreWords, weight}
 use Rattle.guest_memory.specs.Reserved.{Reserved}
-use Rattle.guest_calls.specs.declared.answer.Answer.{Answer}
-use Rattle.guest_calls.specs.declared.answer.Answer.TheVariants.{Back, ThreadEnd, ProcessEnd, Born}
-use Rattle.guest_calls.specs.Clone.{is_full}
-use Rattle.guest_calls.specs.Kernel.{KernelState, can_run, lives}
+use Rattle.guest_kernel.specs.declared.answer.Answer.{Answer}
+use Rattle.guest_kernel.specs.declared.answer.Answer.TheVariants.{Back, ThreadEnd, ProcessEnd, Born}
+use Rattle.guest_kernel.specs.Threads.{is_full}
+use Rattle.guest_kernel.specs.Kernel.{KernelState, can_run, lives}
 use Rattle.guest_calls.specs.Pages.{IsBreakFree}
 use Rattle.guest_calls.specs.Results.{Syscall, SyscallResult, number}
 

@@ -3,7 +3,7 @@ use Rattle.std.specs.Prelude.{ℕ, zero, suc, ◌+◌, ◌-◌, ◌*◌, ◌/◌
 use Rattle.guest_words.specs.declared.limits.TheConstants.{PAGES}
 use Rattle.guest_words.specs.declared.rights.Rights.{Rights}
 use Rattle.guest_memory.specs.Memory.{Memory, AreFree, mapped_pages, with_pages, with_rights}
-use Rattle.guest_calls.specs.Errors.{enomem, einval, enosys}
+use Rattle.guest_kernel.specs.Errors.{enomem, einval, enosys}
 use Rattle.guest_calls.specs.Search.{first_passing}
 use Rattle.guest_calls.specs.Results.{Syscall, SyscallResult, arg, returns, unless, ◌⇒◌, ◌or◌, ◌▷◌, changes, has}
 

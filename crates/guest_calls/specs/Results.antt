@@ -1,17 +1,17 @@
 -- What a call is made with and what it results in, and the words in which the calls are written.
-use Rattle.std.specs.Prelude.{ℕ, zero, suc, ◌+◌, ◌/◌, Bool, true, false, not, ◌==◌, bit_and, List, [], ◌∷◌, ◌++◌, length, slice_index, Option, Some, None, if◌then◌else◌}
+use Rattle.std.specs.Prelude.{ℕ, ◌+◌, ◌/◌, Bool, true, false, not, ◌==◌, bit_and, List, [], ◌∷◌, ◌++◌, length, slice_index, Option, Some, None, if◌then◌else◌}
 use Rattle.std.specs.Int.{w32, to_le_bytes}
-use Rattle.guest_words.specs.Words.{word_count}
 use Rattle.trace_model.specs.declared.event_kinds.Event.{Event}
-use Rattle.trace_model.specs.declared.event_kinds.Event.TheVariants.{Read, Fill}
 use Rattle.guest_memory.specs.Memory.{Memory, with_bytes, number_at}
 use Rattle.guest_memory.specs.Reserved.{Reserved, after_write, without_thread}
 use Rattle.rv_exec.specs.Accesses.{can_read, can_write}
 use Rattle.rv_exec.specs.Registers.{Registers}
-use Rattle.guest_calls.specs.declared.answer.Answer.{Answer}
-use Rattle.guest_calls.specs.declared.answer.Answer.TheVariants.{Back}
-use Rattle.guest_calls.specs.declared.descriptor.Descriptor.{Descriptor}
-use Rattle.guest_calls.specs.Kernel.{KernelState, with_descriptor, output}
+use Rattle.guest_kernel.specs.declared.answer.Answer.{Answer}
+use Rattle.guest_kernel.specs.declared.answer.Answer.TheVariants.{Back}
+use Rattle.guest_kernel.specs.declared.channel.Channel.{Channel}
+use Rattle.guest_kernel.specs.declared.descriptor.Descriptor.{Descriptor}
+use Rattle.guest_kernel.specs.Kernel.{KernelState, with_descriptor, output}
+use Rattle.guest_kernel.specs.Copies.{fill_event, read_event, words_touched}
 
 -- ---- a call and its result
 -- the calling thread and its registers, and all that a call can look at
@@ -39,8 +39,8 @@ pub record SyscallResult : Type 0 where
   pub answer : Answer
   pub kernel : KernelState
   pub guest : Guest
-  -- bytes that go out, with their channel 1 or 2
-  pub out : Option (ℕ × List ℕ)
+  -- bytes that go out, with their channel
+  pub out : Option (Channel × List ℕ)
 
 -- nothing changes, and this is answered
 abbrev pub returns : Syscall → ℕ → SyscallResult
@@ -100,21 +100,6 @@ changes change r = record r { kernel = change r.kernel }
 abbrev pub sets : ℕ → Descriptor → SyscallResult → SyscallResult
 sets fd d = changes (λ k. with_descriptor k fd d)
 
--- the event of a copy from the guest; of no byte there is none
-abbrev pub read_event : ℕ → ℕ → ℕ → List Event
-read_event tid at zero = []
-read_event tid at (suc n) = Read tid (at / 4) (word_count at (suc n)) ∷ []
-
--- the event of a copy to the guest
-abbrev pub fill_event : ℕ → ℕ → List Event
-fill_event at zero = []
-fill_event at (suc n) = Fill (at / 4) (word_count at (suc n)) ∷ []
-
--- how many words the bytes overlap
-abbrev pub words_touched : ℕ → ℕ → ℕ
-words_touched at zero = 0
-words_touched at (suc n) = word_count at (suc n)
-
 -- the kernel reads `n` bytes for the thread
 abbrev pub reads : ℕ → ℕ → ℕ → SyscallResult → SyscallResult
 reads tid at n r = record r { guest = record r.guest { events = r.guest.events ++ read_event tid at n } }
@@ -148,7 +133,7 @@ abbrev pub forgets : ℕ → SyscallResult → SyscallResult
 forgets tid r = record r { guest = record r.guest { held = without_thread r.guest.held tid } }
 
 -- bytes go out on the channel
-abbrev pub puts : ℕ → List ℕ → SyscallResult → SyscallResult
+abbrev pub puts : Channel → List ℕ → SyscallResult → SyscallResult
 puts channel bytes r = record r { out = output channel bytes }
 
 -- ---- what the tests look at

@@ -1,6 +1,6 @@
 -- The table of the kernel's calls, by their numbers on riscv32. Each is modelled on its Linux manual page.
 use Rattle.std.specs.Prelude.{ℕ, ◌==◌, List, [], ◌∷◌, if◌then◌else◌}
-use Rattle.guest_calls.specs.Errors.{enotty, enosys}
+use Rattle.guest_kernel.specs.Errors.{enotty, enosys}
 use Rattle.guest_calls.specs.Results.{Syscall, SyscallResult, number, returns}
 use Rattle.guest_calls.specs.Files.{openat, close, llseek, read, write}
 use Rattle.guest_calls.specs.Vectors.{readv, writev}

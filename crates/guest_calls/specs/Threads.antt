@@ -1,24 +1,18 @@
 -- The calls on threads and the process: exit(2), exit_group(2), set_tid_address(2), sched_yield(2), rt_sigprocmask(2).
 use Rattle.std.specs.Prelude.{ℕ, ◌%◌, ◌^◌, Bool, not, ◌&&◌, ◌==◌, List, [], map, replicate, if◌then◌else◌}
-use Rattle.std.specs.List.{find}
-use Rattle.std.specs.Option.{option_map_or}
 use Rattle.guest_memory.specs.Reserved.{nothing_reserved}
 use Rattle.futex_table.specs.Waiting.{all_bits}
-use Rattle.guest_calls.specs.declared.answer.Answer.TheVariants.{Yield, ThreadEnd, ProcessEnd}
-use Rattle.guest_calls.specs.declared.thread.Thread.{Thread}
-use Rattle.guest_calls.specs.Errors.{efault}
+use Rattle.guest_kernel.specs.declared.answer.Answer.TheVariants.{Yield, ThreadEnd, ProcessEnd}
+use Rattle.guest_kernel.specs.Errors.{efault}
 use Rattle.guest_calls.specs.Futex.{wakes}
-use Rattle.guest_calls.specs.Kernel.{KernelState, is_thread, has_others, other_threads}
+use Rattle.guest_kernel.specs.Kernel.{has_others, other_threads}
 use Rattle.guest_calls.specs.Results.{Syscall, SyscallResult, arg, returns, unless, ◌⇒◌, ◌▷◌, when, answers, changes, fills, fills_word, forgets, writable}
+use Rattle.guest_kernel.specs.Threads.{clear_tid_of, with_clear_tid}
 
 -- ---- ends
 -- the exit status
 abbrev pub status : Syscall → ℕ
 status c = arg c 0 % 2 ^ 8
-
--- where a zero is written when a thread ends, or 0
-abbrev pub clear_tid_of : KernelState → ℕ → ℕ
-clear_tid_of k tid = option_map_or (λ t. t.clear_tid) (find (is_thread tid) k.threads) 0
 
 abbrev pub clear_tid : Syscall → ℕ
 clear_tid c = clear_tid_of c.kernel c.tid
@@ -50,10 +44,6 @@ ends_all r = record r {
 
 abbrev pub exit_group : Syscall → SyscallResult
 exit_group c = returns c 0 ▷ ends_all ▷ answers (ProcessEnd (status c))
-
--- ---- small calls
-abbrev pub with_clear_tid : ℕ → ℕ → Thread → Thread
-with_clear_tid tid at t = if is_thread tid t then record t { clear_tid = at } else t
 
 abbrev pub set_tid_address : Syscall → SyscallResult
 set_tid_address c =

@@ -1,14 +1,17 @@
 -- The calls on files in parts: readv(2) and writev(2).
-use Rattle.std.specs.Prelude.{ℕ, zero, suc, ◌+◌, ◌-◌, ◌*◌, ◌^◌, Bool, not, nat_lt, nat_le, min, List, [], ◌∷◌, ◌++◌, length, take, drop, sum_by, flat_map, is_none, unwrap_or}
-use Rattle.std.specs.List.{list_all}
-use Rattle.guest_memory.specs.Memory.{Memory, bytes_at, number_at}
+use Rattle.std.specs.Prelude.{ℕ, zero, suc, ◌+◌, ◌-◌, ◌*◌, ◌^◌, Bool, not, nat_lt, nat_le, min, List, [], ◌∷◌, ◌++◌, length, take, drop, flat_map, is_none, unwrap_or}
+use Rattle.guest_memory.specs.Memory.{Memory, number_at}
 use Rattle.rv_exec.specs.Accesses.{can_read, can_write}
 use Rattle.trace_model.specs.declared.event_kinds.Event.{Event}
-use Rattle.guest_calls.specs.declared.vectors.IoVec.{IoVec}
-use Rattle.guest_calls.specs.Errors.{ebadf, efault, einval}
-use Rattle.guest_calls.specs.Kernel.{descriptor}
-use Rattle.guest_calls.specs.Files.{is_source, channel, bytes_left, advanced, write_limit}
-use Rattle.guest_calls.specs.Results.{Syscall, SyscallResult, arg, returns, unless, ◌⇒◌, ◌or◌, ◌▷◌, Guest, changes, reads, read_event, filled, puts}
+use Rattle.guest_kernel.specs.declared.channel.Channel.TheVariants.{Out}
+use Rattle.guest_kernel.specs.declared.parts.IoVec.{IoVec}
+use Rattle.guest_kernel.specs.Errors.{ebadf, efault, einval}
+use Rattle.guest_kernel.specs.Kernel.{descriptor}
+use Rattle.guest_kernel.specs.Descriptors.{is_source, channel, bytes_left, advanced}
+use Rattle.guest_calls.specs.Files.{write_limit}
+use Rattle.guest_kernel.specs.Copies.{read_event}
+use Rattle.guest_calls.specs.Results.{Syscall, SyscallResult, arg, returns, unless, ◌⇒◌, ◌or◌, ◌▷◌, Guest, changes, reads, filled, puts}
+use Rattle.guest_kernel.specs.Parts.{all_in_reach, bytes_of, total}
 
 -- a part is an address and a length, a word each
 abbrev pub part_at : Memory → ℕ → IoVec
@@ -19,16 +22,10 @@ abbrev pub parts_at : Memory → ℕ → ℕ → List IoVec
 parts_at m at zero = []
 parts_at m at (suc n) = part_at m at ∷ parts_at m (at + 8) n
 
-abbrev pub total : List IoVec → ℕ
-total ps = sum_by (λ p. p.size) ps
-
 -- the first n bytes of the parts
 abbrev pub carried : ℕ → List IoVec → List IoVec
 carried n [] = []
 carried n (p ∷ ps) = record { at = p.at; size = min n p.size } ∷ carried (n - p.size) ps
-
-abbrev pub all_in_reach : (ℕ → ℕ → Bool) → List IoVec → Bool
-all_in_reach reach ps = list_all (λ p. reach p.at p.size) ps
 
 -- the guest after the bytes are copied to the parts, one part after another
 abbrev pub filled_parts : List IoVec → List ℕ → Guest → Guest
@@ -44,10 +41,6 @@ read_events tid ps = flat_map (λ p. read_event tid p.at p.size) ps
 
 abbrev pub reads_parts : ℕ → List IoVec → SyscallResult → SyscallResult
 reads_parts tid ps r = record r { guest = record r.guest { events = r.guest.events ++ read_events tid ps } }
-
--- the bytes of the parts, one part after another
-abbrev pub bytes_of : Memory → List IoVec → List ℕ
-bytes_of m ps = flat_map (λ p. bytes_at m p.at p.size) ps
 
 abbrev pub part_limit : ℕ
 part_limit = 1024
@@ -105,7 +98,7 @@ writev_effect c =
     returns c (writev_count c)
     ▷ reads c.tid (arg c 1) (8 * arg c 2)
     ▷ reads_parts c.tid (writev_parts c)
-    ▷ puts (unwrap_or (channel (descriptor c.kernel (arg c 0))) 0) (bytes_of c.memory (writev_parts c))
+    ▷ puts (unwrap_or (channel (descriptor c.kernel (arg c 0))) Out) (bytes_of c.memory (writev_parts c))
 
 abbrev pub writev : Syscall → SyscallResult
 writev c = unless c (writev_tests c) λ _. writev_effect c

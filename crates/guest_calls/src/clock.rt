@@ -1,21 +1,19 @@
 //! The clock: clock_gettime(2) and clock_nanosleep(2).
-ghost use Rattle.std.specs.Prelude.{◌≡◌, ◌≤◌, ◌+◌, nat_le, true, false, if◌then◌else◌};
+ghost use Rattle.std.specs.Prelude.{◌≡◌, ◌≤◌, ◌+◌, nat_le, true, if◌then◌else◌};
 ghost use Rattle.guest_memory.specs.declared.reservations.Reservations.{Reservations};
 ghost use Rattle.guest_memory.specs.Guest.{memory_of};
 ghost use Rattle.rv_exec.specs.Accesses.{can_read};
 ghost use Rattle.virtual_clock.specs.Once.{has};
-ghost use Rattle.guest_calls.specs.Clock.{from_now, is_clock, sleep_end, time_at, time_bytes, time_of, with_deadline};
-ghost use Rattle.guest_calls.specs.Kernel.{can_run, lives};
-ghost use Rattle.guest_calls.specs.declared.answer.Answer.TheVariants.{Back, Block};
+ghost use Rattle.guest_kernel.specs.Waits.{with_deadline};
+ghost use Rattle.guest_calls.specs.Clock.{from_now, is_clock, sleep_end, time_at, time_bytes, time_of};
+ghost use Rattle.guest_kernel.specs.Kernel.{can_run};
+ghost use Rattle.guest_kernel.specs.declared.answer.Answer.TheVariants.{Back, Block};
 ghost use Rattle.guest_calls.specs.Clock as specs;
 ghost use Rattle.guest_calls.specs.Outcome.{asked, Does};
 
-use crate::Answer;
 use crate::caller::Caller;
-use crate::copies::{fill, note_read};
-use crate::errors::{EFAULT, EINVAL};
-use crate::state::State;
 use crate::vectors::word_at;
+use guest_kernel::{Answer, EFAULT, EINVAL, State, fill, note_read};
 use guest_memory::{GuestMemory, Reservations};
 use guest_words::{Addr, Tid};
 use trace_model::Events;
@@ -55,7 +53,7 @@ fn time_bytes(time: u64) -> [u8; TIME_SIZE]
 
 /// The time at an address, each byte of which can be read, in nanoseconds. None where one of its numbers is negative, or the
 /// nanoseconds are a second or more.
-#[tactic(auto, using(crate::proofs::Reach::reads_within, crate::proofs::Reach::readable_end))]
+#[tactic(auto, using(guest_kernel::proofs::Reach::reads_within, guest_kernel::proofs::Reach::readable_end))]
 pub(crate) fn time_at(memory: &GuestMemory, at: Addr) -> Option<u64>
     requires reach { can_read (memory_of memory.now) at 16 ≡ true }
     ensures { result ≡ time_at (memory_of memory.now) at }
@@ -81,101 +79,87 @@ fn time_of(seconds: u64, nanoseconds: u32) -> Option<u64>
     )
 }
 
-impl State {
-    /// clock_gettime(2)
-    pub(crate) fn clock_gettime(
-        &self,
-        memory: &mut GuestMemory,
-        held: &mut Reservations,
-        events: &mut Events,
-        caller: &Caller,
-    ) -> Answer
-        requires room { 1 ≤ events.old.room }
-        ensures does { Does (specs.clock_gettime
-            (asked caller.now self.now memory.old held.old)) result
-            self.now memory.new held.new events.old events.new }
-        ensures room { events.old.room ≤ events.new.room + 1 }
-    {
-        if !is_clock(caller.argument(0)) {
-            return Answer::Back { value: EINVAL };
-        }
-        let at = caller.argument(1);
-        if !memory.can_write(at, TIME_SIZE as u64) {
-            return Answer::Back { value: EFAULT };
-        }
-        fill(memory, held, events, at, &time_bytes(self.time));
-        Answer::Back { value: 0 }
+/// clock_gettime(2)
+pub(crate) fn clock_gettime(
+    state: &State,
+    memory: &mut GuestMemory,
+    held: &mut Reservations,
+    events: &mut Events,
+    caller: &Caller,
+) -> Answer
+    requires room { 1 ≤ events.old.room }
+    ensures does { Does (specs.clock_gettime
+        (asked caller.now state.now memory.old held.old)) result
+        state.now memory.new held.new events.old events.new }
+{
+    if !is_clock(caller.argument(0)) {
+        return Answer::Back { value: EINVAL };
     }
+    let at = caller.argument(1);
+    if !memory.can_write(at, TIME_SIZE as u64) {
+        return Answer::Back { value: EFAULT };
+    }
+    fill(memory, held, events, at, &time_bytes(state.time()));
+    Answer::Back { value: 0 }
+}
 
-    /// So long after now.
-    pub(crate) fn from_now(&self, time: u64) -> u64
-        ensures { result ≡ from_now self.now.time time }
-    {
-        self.time.saturating_add(time).min(LATEST)
-    }
+/// So long after now.
+pub(crate) fn from_now(state: &State, time: u64) -> u64
+    ensures { result ≡ from_now state.now.time time }
+{
+    state.time().saturating_add(time).min(LATEST)
+}
 
-    // When a sleep of so long is over, or until then.
-    fn sleep_end(&self, flags: u32, time: u64) -> u64
-        ensures { result ≡ sleep_end flags self.now.time time }
-    {
-        if flags & TIMER_ABSTIME != 0 {
-            time
-        } else {
-            self.from_now(time)
-        }
+// When a sleep of so long is over, or until then.
+fn sleep_end(state: &State, flags: u32, time: u64) -> u64
+    ensures { result ≡ sleep_end flags state.now.time time }
+{
+    if flags & TIMER_ABSTIME != 0 {
+        time
+    } else {
+        from_now(state, time)
     }
+}
 
-    /// The thread, which has no deadline, wakes at the time, with the answer.
-    pub(crate) fn set_deadline(&mut self, tid: Tid, at: u64, answer: u32)
-        requires lives { lives self.old tid ≡ true }
-        requires none { has self.old.deadlines tid ≡ false }
-        ensures { self.new ≡ with_deadline tid at answer self.old }
-    {
-        let _ = self.deadlines.has(tid);
-        self.deadlines.set(tid, at, answer);
+// The thread sleeps until then, where that is ahead.
+fn sleep_until(state: &mut State, tid: Tid, end: u64) -> Answer
+    requires can_run { can_run state.old tid ≡ true }
+    ensures answer { result ≡ (if nat_le end state.old.time then Back 0 else Block) }
+    ensures after { state.new ≡ (if nat_le end state.old.time then state.old
+        else with_deadline tid end 0 state.old) }
+{
+    if end <= state.time() {
+        return Answer::Back { value: 0 };
     }
+    state.set_deadline(tid, end, 0);
+    Answer::Block
+}
 
-    // The thread sleeps until then, where that is ahead.
-    fn sleep_until(&mut self, tid: Tid, end: u64) -> Answer
-        requires can_run { can_run self.old tid ≡ true }
-        ensures answer { result ≡ (if nat_le end self.old.time then Back 0 else Block) }
-        ensures after { self.new ≡ (if nat_le end self.old.time then self.old
-            else with_deadline tid end 0 self.old) }
-    {
-        if end <= self.time {
-            return Answer::Back { value: 0 };
-        }
-        self.set_deadline(tid, end, 0);
-        Answer::Block
+/// clock_nanosleep(2)
+pub(crate) fn clock_nanosleep(
+    state: &mut State,
+    memory: &GuestMemory,
+    events: &mut Events,
+    caller: &Caller,
+) -> Answer
+    requires can_run { can_run state.old caller.now.tid ≡ true }
+    requires room { 1 ≤ events.old.room }
+    ensures does { (held : Reservations) → Does
+        (specs.clock_nanosleep
+        (asked caller.now state.old memory.now held)) result
+        state.new memory.now held events.old events.new }
+{
+    if !is_clock(caller.argument(0)) {
+        return Answer::Back { value: EINVAL };
     }
-
-    /// clock_nanosleep(2)
-    pub(crate) fn clock_nanosleep(
-        &mut self,
-        memory: &GuestMemory,
-        events: &mut Events,
-        caller: &Caller,
-    ) -> Answer
-        requires can_run { can_run self.old caller.now.tid ≡ true }
-        requires room { 1 ≤ events.old.room }
-        ensures does { (held : Reservations) → Does
-            (specs.clock_nanosleep
-            (asked caller.now self.old memory.now held)) result
-            self.new memory.now held events.old events.new }
-        ensures room { events.old.room ≤ events.new.room + 1 }
-    {
-        if !is_clock(caller.argument(0)) {
-            return Answer::Back { value: EINVAL };
-        }
-        let at = caller.argument(2);
-        if !memory.can_read(at, TIME_SIZE as u64) {
-            return Answer::Back { value: EFAULT };
-        }
-        let Some(time) = time_at(memory, at) else {
-            return Answer::Back { value: EINVAL };
-        };
-        note_read(memory, events, caller.tid, at, TIME_SIZE as u32);
-        let end = self.sleep_end(caller.argument(1), time);
-        self.sleep_until(caller.tid, end)
+    let at = caller.argument(2);
+    if !memory.can_read(at, TIME_SIZE as u64) {
+        return Answer::Back { value: EFAULT };
     }
+    let Some(time) = time_at(memory, at) else {
+        return Answer::Back { value: EINVAL };
+    };
+    note_read(memory, events, caller.tid, at, TIME_SIZE as u32);
+    let end = sleep_end(state, caller.argument(1), time);
+    sleep_until(state, caller.tid, end)
 }

@@ -1,21 +1,17 @@
 //! A new thread: clone(2).
-ghost use Rattle.std.specs.Prelude.{◌≡◌, ◌≤◌, ◌+◌, true, false, IfSome, IfNone};
+ghost use Rattle.std.specs.Prelude.{◌≡◌, ◌≤◌, ◌+◌, true};
 ghost use Rattle.guest_memory.specs.Guest.{memory_of};
-ghost use Rattle.guest_calls.specs.Clone.{are_flags_taken, child_clear_tid, child_registers, is_denied, is_full, with_thread};
+ghost use Rattle.guest_calls.specs.Clone.{are_flags_taken, child_clear_tid, child_registers, is_denied};
 ghost use Rattle.guest_calls.specs.Clone as specs;
+ghost use Rattle.guest_kernel.specs.Copies.{KeepsRoom};
 ghost use Rattle.guest_calls.specs.Outcome.{asked, guest_of, Does};
 ghost use Rattle.guest_calls.specs.Results.{filled_where, has};
 ghost use Rattle.rv_exec.specs.Accesses.{can_write};
 
-use crate::Answer;
 use crate::caller::Caller;
-use crate::copies::fill_word;
-use crate::errors::{EAGAIN, EFAULT, ENOSYS};
-use crate::state::State;
-use crate::thread::Thread;
+use guest_kernel::{Answer, EAGAIN, EFAULT, ENOSYS, State, fill_word};
 use guest_memory::{GuestMemory, Reservations};
-use guest_words::limits::THREADS;
-use guest_words::{Addr, Tid};
+use guest_words::Addr;
 use rv_exec::Cpu;
 use trace_model::Events;
 
@@ -98,74 +94,49 @@ fn fill_word_if(
     requires room { 1 ≤ events.old.room }
     ensures filled { guest_of memory.new held.new events.new
         ≡ filled_where asked at value (guest_of memory.old held.old events.old) }
-    ensures room { events.old.room ≤ events.new.room + 1 }
+    ensures room { KeepsRoom events.old events.new }
 {
     if asked {
         fill_word(memory, held, events, at, value);
     }
 }
 
-impl State {
-    // The number of the next thread; None where as many threads live as can, or the numbers are spent.
-    fn next_tid(&self) -> Option<Tid>
-        ensures none { IfNone result (is_full self.now ≡ true) }
-        ensures some { IfSome result (λ tid. tid ≡ self.now.last_tid + 1) }
-        ensures room { IfSome result (λ _. is_full self.now ≡ false) }
-    {
-        if self.threads.len() >= THREADS {
-            return None;
-        }
-        Tid::new(self.last_tid.number() + 1)
+/// clone(2)
+pub(crate) fn clone_thread(
+    state: &mut State,
+    memory: &mut GuestMemory,
+    held: &mut Reservations,
+    events: &mut Events,
+    caller: &Caller,
+) -> Answer
+    requires room { 2 ≤ events.old.room }
+    ensures does { Does (specs.clone
+        (asked caller.now state.old memory.old held.old)) result
+        state.new memory.new held.new events.old events.new }
+{
+    let (flags, parent, child) = (caller.argument(0), caller.argument(2), caller.argument(4));
+    if !are_flags_taken(flags) {
+        return Answer::Back { value: ENOSYS };
     }
-
-    // One more thread lives.
-    fn add_thread(&mut self, tid: Tid, clear_tid: Addr)
-        requires next { tid ≡ self.old.last_tid + 1 }
-        requires room { is_full self.old ≡ false }
-        ensures { self.new ≡ with_thread tid clear_tid self.old }
-    {
-        self.threads.push(Thread { tid, clear_tid }).unwrap();
-        self.last_tid = tid;
+    let Some(tid) = state.next_tid() else {
+        return Answer::Back { value: EAGAIN };
+    };
+    let (to_parent, to_child) = (
+        has(flags, CLONE_PARENT_SETTID),
+        has(flags, CLONE_CHILD_SETTID),
+    );
+    if is_denied(memory, to_parent, parent) {
+        return Answer::Back { value: EFAULT };
     }
-
-    /// clone(2)
-    pub(crate) fn clone_thread(
-        &mut self,
-        memory: &mut GuestMemory,
-        held: &mut Reservations,
-        events: &mut Events,
-        caller: &Caller,
-    ) -> Answer
-        requires room { 2 ≤ events.old.room }
-        ensures does { Does (specs.clone
-            (asked caller.now self.old memory.old held.old)) result
-            self.new memory.new held.new events.old events.new }
-        ensures room { events.old.room ≤ events.new.room + 2 }
-    {
-        let (flags, parent, child) = (caller.argument(0), caller.argument(2), caller.argument(4));
-        if !are_flags_taken(flags) {
-            return Answer::Back { value: ENOSYS };
-        }
-        let Some(tid) = self.next_tid() else {
-            return Answer::Back { value: EAGAIN };
-        };
-        let (to_parent, to_child) = (
-            has(flags, CLONE_PARENT_SETTID),
-            has(flags, CLONE_CHILD_SETTID),
-        );
-        if is_denied(memory, to_parent, parent) {
-            return Answer::Back { value: EFAULT };
-        }
-        if is_denied(memory, to_child, child) {
-            return Answer::Back { value: EFAULT };
-        }
-        fill_word_if(to_parent, memory, held, events, parent, tid.number());
-        fill_word_if(to_child, memory, held, events, child, tid.number());
-        self.add_thread(tid, child_clear_tid(flags, child));
-        held.forget(tid);
-        Answer::Born {
-            tid,
-            child: child_cpu(&caller.cpu, flags, caller.argument(1), caller.argument(3)),
-        }
+    if is_denied(memory, to_child, child) {
+        return Answer::Back { value: EFAULT };
+    }
+    fill_word_if(to_parent, memory, held, events, parent, tid.number());
+    fill_word_if(to_child, memory, held, events, child, tid.number());
+    state.add_thread(tid, child_clear_tid(flags, child));
+    held.forget(tid);
+    Answer::Born {
+        tid,
+        child: child_cpu(&caller.cpu, flags, caller.argument(1), caller.argument(3)),
     }
 }

@@ -1,182 +1,120 @@
 //! The calls on one file: openat(2), close(2), _llseek(2) and read(2).
-ghost use Rattle.std.specs.Prelude.{◌≡◌, ◌<◌, ◌≤◌, ◌+◌, ◌*◌, ◌^◌, drop, take, pos, ◌+ℤ◌, unsigned_abs, length, true, false, IfSome, IfNone};
+ghost use Rattle.std.specs.Prelude.{◌≡◌, ◌<◌, ◌≤◌, ◌+◌, ◌*◌, ◌^◌, take, pos, ◌+ℤ◌, unsigned_abs, length, true, false, IfSome, IfNone};
 ghost use Rattle.std.specs.List.{position};
 ghost use Rattle.std.specs.Int.{w64, cast_signed};
-ghost use Rattle.guest_calls.specs.Files.{is_closed, bytes_left, is_out_of_range, origin};
+ghost use Rattle.guest_calls.specs.Files.{is_out_of_range, origin};
 ghost use Rattle.guest_calls.specs.Files as specs;
-ghost use Rattle.guest_calls.specs.Invariant.{IsSoundDescriptor, position_of};
-ghost use Rattle.guest_calls.specs.Kernel.{descriptor, with_descriptor};
+ghost use Rattle.guest_kernel.specs.Invariant.{IsSoundDescriptor};
 ghost use Rattle.guest_calls.specs.Outcome.{asked, Does, DoesQuietly};
 
-use crate::Answer;
 use crate::caller::Caller;
-use crate::copies::fill;
-use crate::descriptor::Descriptor;
-use crate::errors::{EBADF, EFAULT, EINVAL, ESPIPE};
-use crate::state::State;
+use guest_kernel::{Answer, Descriptor, EBADF, EFAULT, EINVAL, ESPIPE, State, fill};
 use guest_memory::{GuestMemory, Reservations};
 use trace_model::Events;
 
-impl State {
-    /// What a number stands for.
-    pub(crate) fn descriptor(&self, fd: u32) -> Descriptor
-        ensures value { result ≡ descriptor self.now fd }
-        ensures in_range { is_closed result ≡ false → fd < 32 }
-        ensures within { IsSoundDescriptor result }
-    {
-        let _ = &self.last_tid;
-        match self.descriptors.get(fd as usize) {
-            Some(d) => *d,
-            None => Descriptor::Closed,
-        }
+/// close(2)
+pub(crate) fn close(state: &mut State, caller: &Caller) -> Answer
+    ensures { DoesQuietly specs.close caller.now state.old result state.new }
+{
+    let fd = caller.argument(0);
+    if state.descriptor(fd).is_closed() {
+        return Answer::Back { value: EBADF };
     }
+    state.set_descriptor(fd, Descriptor::Closed);
+    Answer::Back { value: 0 }
+}
 
-    /// Makes a number stand for something else.
-    pub(crate) fn set_descriptor(&mut self, fd: u32, d: Descriptor)
-        requires in_range { fd < 32 }
-        requires within { IsSoundDescriptor d }
-        ensures { self.new ≡ with_descriptor self.old fd d }
-    {
-        self.descriptors[fd as usize] = d;
+/// read(2)
+pub(crate) fn read(
+    state: &mut State,
+    memory: &mut GuestMemory,
+    held: &mut Reservations,
+    events: &mut Events,
+    caller: &Caller,
+) -> Answer
+    requires room { 1 ≤ events.old.room }
+    ensures does { Does (specs.read
+        (asked caller.now state.old memory.old held.old)) result
+        state.new memory.new held.new events.old events.new }
+{
+    let (fd, at) = (caller.argument(0), caller.argument(1));
+    let file = state.descriptor(fd);
+    if !file.is_source() {
+        return Answer::Back { value: EBADF };
     }
+    let bytes = first_bytes(state.bytes_left(file), caller.argument(2));
+    let count = bytes.len();
+    if !memory.can_write(at, count as u64) {
+        return Answer::Back { value: EFAULT };
+    }
+    fill(memory, held, events, at, bytes);
+    state.advance(file, fd, count);
+    Answer::Back {
+        value: count as u32,
+    }
+}
 
-    /// The bytes from the position on.
-    pub(crate) fn bytes_left(&self, d: Descriptor) -> &[u8]
-        requires { IsSoundDescriptor d }
-        ensures value { result.now ≡ bytes_left self.now d }
-        ensures within { position_of self.now d + length result.now < 2 ^ 63 }
-    {
-        match d {
-            Descriptor::StandardInput => bytes_from(&self.stdin, self.stdin_position),
-            Descriptor::InputFile { input, position } => {
-                bytes_from(self.inputs.bytes_at(input), position)
-            }
-            _ => &[],
-        }
+// What an offset is counted from, by `whence`: the start, the position or the end.
+fn origin(state: &State, file: Descriptor, whence: u32) -> u64
+    requires { IsSoundDescriptor file }
+    ensures value { result ≡ origin state.now file whence }
+    ensures within { result < 2 ^ 63 }
+{
+    match (file, whence) {
+        (Descriptor::InputFile { position, .. }, 1) => position,
+        (Descriptor::InputFile { input, .. }, 2) => state.input_bytes(input).len() as u64,
+        _ => 0,
     }
+}
 
-    /// Moves the position of a descriptor by `count` bytes.
-    pub(crate) fn advance(&mut self, d: Descriptor, fd: u32, count: usize)
-        requires in_range { fd < 32 }
-        requires within { position_of self.old d + count < 2 ^ 63 }
-        ensures { self.new ≡ specs.advanced d fd count self.old }
-    {
-        match d {
-            Descriptor::StandardInput => self.stdin_position += count as u64,
-            Descriptor::InputFile { input, position } => {
-                let position = position + count as u64;
-                self.set_descriptor(fd, Descriptor::InputFile { input, position });
-            }
-            _ => {}
-        }
-    }
+// The new position in a file; None where it is out of range.
+fn target(state: &State, file: Descriptor, offset: i64, whence: u32) -> Option<u64>
+    requires within { IsSoundDescriptor file }
+    ensures some { IfSome result (λ position. position
+        ≡ unsigned_abs (pos (origin state.now file whence) +ℤ offset)) }
+    ensures in_range { IfSome result (λ _. is_out_of_range
+        (pos (origin state.now file whence) +ℤ offset) ≡ false) }
+    ensures within { IfSome result (λ position. position < 2 ^ 63) }
+    ensures none { IfNone result (is_out_of_range (pos (origin state.now file whence) +ℤ offset)
+        ≡ true) }
+{
+    checked_seek(origin(state, file, whence), offset)
+}
 
-    /// close(2)
-    pub(crate) fn close(&mut self, caller: &Caller) -> Answer
-        ensures { DoesQuietly specs.close caller.now self.old result self.new }
-    {
-        let fd = caller.argument(0);
-        if self.descriptor(fd).is_closed() {
-            return Answer::Back { value: EBADF };
-        }
-        self.set_descriptor(fd, Descriptor::Closed);
-        Answer::Back { value: 0 }
+/// _llseek(2)
+pub(crate) fn llseek(
+    state: &mut State,
+    memory: &mut GuestMemory,
+    held: &mut Reservations,
+    events: &mut Events,
+    caller: &Caller,
+) -> Answer
+    requires room { 1 ≤ events.old.room }
+    ensures does { Does (specs.llseek
+        (asked caller.now state.old memory.old held.old)) result
+        state.new memory.new held.new events.old events.new }
+{
+    let (fd, result_at, whence) = (caller.argument(0), caller.argument(3), caller.argument(4));
+    let file = state.descriptor(fd);
+    if file.is_closed() {
+        return Answer::Back { value: EBADF };
     }
-
-    /// read(2)
-    pub(crate) fn read(
-        &mut self,
-        memory: &mut GuestMemory,
-        held: &mut Reservations,
-        events: &mut Events,
-        caller: &Caller,
-    ) -> Answer
-        requires room { 1 ≤ events.old.room }
-        ensures does { Does (specs.read
-            (asked caller.now self.old memory.old held.old)) result
-            self.new memory.new held.new events.old events.new }
-        ensures room { events.old.room ≤ events.new.room + 1 }
-    {
-        let (fd, at) = (caller.argument(0), caller.argument(1));
-        let file = self.descriptor(fd);
-        if !file.is_source() {
-            return Answer::Back { value: EBADF };
-        }
-        let bytes = first_bytes(self.bytes_left(file), caller.argument(2));
-        let count = bytes.len();
-        if !memory.can_write(at, count as u64) {
-            return Answer::Back { value: EFAULT };
-        }
-        fill(memory, held, events, at, bytes);
-        self.advance(file, fd, count);
-        Answer::Back {
-            value: count as u32,
-        }
+    if !file.is_input_file() {
+        return Answer::Back { value: ESPIPE };
     }
-
-    // What an offset is counted from, by `whence`: the start, the position or the end.
-    fn origin(&self, file: Descriptor, whence: u32) -> u64
-        requires { IsSoundDescriptor file }
-        ensures value { result ≡ origin self.now file whence }
-        ensures within { result < 2 ^ 63 }
-    {
-        match (file, whence) {
-            (Descriptor::InputFile { position, .. }, 1) => position,
-            (Descriptor::InputFile { input, .. }, 2) => self.inputs.bytes_at(input).len() as u64,
-            _ => 0,
-        }
+    if whence > 2 {
+        return Answer::Back { value: EINVAL };
     }
-
-    // The new position in a file; None where it is out of range.
-    fn target(&self, file: Descriptor, offset: i64, whence: u32) -> Option<u64>
-        requires within { IsSoundDescriptor file }
-        ensures some { IfSome result (λ position. position
-            ≡ unsigned_abs (pos (origin self.now file whence) +ℤ offset)) }
-        ensures in_range { IfSome result (λ _. is_out_of_range
-            (pos (origin self.now file whence) +ℤ offset) ≡ false) }
-        ensures within { IfSome result (λ position. position < 2 ^ 63) }
-        ensures none { IfNone result (is_out_of_range (pos (origin self.now file whence) +ℤ offset)
-            ≡ true) }
-    {
-        checked_seek(self.origin(file, whence), offset)
+    let offset = offset_of(caller.argument(1), caller.argument(2));
+    let Some(position) = target(state, file, offset, whence) else {
+        return Answer::Back { value: EINVAL };
+    };
+    if !memory.can_write(result_at, 8) {
+        return Answer::Back { value: EFAULT };
     }
-
-    /// _llseek(2)
-    pub(crate) fn llseek(
-        &mut self,
-        memory: &mut GuestMemory,
-        held: &mut Reservations,
-        events: &mut Events,
-        caller: &Caller,
-    ) -> Answer
-        requires room { 1 ≤ events.old.room }
-        ensures does { Does (specs.llseek
-            (asked caller.now self.old memory.old held.old)) result
-            self.new memory.new held.new events.old events.new }
-        ensures room { events.old.room ≤ events.new.room + 1 }
-    {
-        let (fd, result_at, whence) = (caller.argument(0), caller.argument(3), caller.argument(4));
-        let file = self.descriptor(fd);
-        if file.is_closed() {
-            return Answer::Back { value: EBADF };
-        }
-        if !file.is_input_file() {
-            return Answer::Back { value: ESPIPE };
-        }
-        if whence > 2 {
-            return Answer::Back { value: EINVAL };
-        }
-        let offset = offset_of(caller.argument(1), caller.argument(2));
-        let Some(position) = self.target(file, offset, whence) else {
-            return Answer::Back { value: EINVAL };
-        };
-        if !memory.can_write(result_at, 8) {
-            return Answer::Back { value: EFAULT };
-        }
-        self.set_descriptor(fd, file.with_position(position));
-        fill(memory, held, events, result_at, &position.to_le_bytes());
-        Answer::Back { value: 0 }
-    }
+    state.set_descriptor(fd, file.with_position(position));
+    fill(memory, held, events, result_at, &position.to_le_bytes());
+    Answer::Back { value: 0 }
 }
 
 // The signed number of two words.
@@ -196,19 +134,6 @@ fn checked_seek(origin: u64, offset: i64) -> Option<u64>
 {
     let target = origin.cast_signed().checked_add(offset)?;
     u64::try_from(target).ok()
-}
-
-// The bytes from the position on, of which there is none past the end.
-fn bytes_from(bytes: &[u8], position: u64) -> &[u8]
-    requires { position < 2 ^ 63 }
-    ensures value { result.now ≡ drop position bytes.now }
-    ensures within { position + length result.now < 2 ^ 63 }
-{
-    if position < bytes.len() as u64 {
-        &bytes[position as usize..]
-    } else {
-        &[]
-    }
 }
 
 /// The first `most` bytes, or all if there are fewer.

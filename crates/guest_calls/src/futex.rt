@@ -1,33 +1,30 @@
 //! Waiting at a word and waking: futex(2).
-ghost use Rattle.std.specs.Prelude.{◌≡◌, ◌≢◌, ◌≤◌, ◌==◌, ◌++◌, ◌+◌, ◌&&◌, [], length, not, slice_index, true, false, is_none, is_some, IfNone, if◌then◌else◌};
-ghost use Rattle.futex_table.specs.Waiting.{all_bits, shifted, woken};
+ghost use Rattle.std.specs.Prelude.{◌≡◌, ◌≢◌, ◌≤◌, ◌==◌, ◌++◌, ◌+◌, ◌&&◌, [], not, slice_index, true, false, is_none, is_some, IfNone, if◌then◌else◌};
+ghost use Rattle.futex_table.specs.Waiting.{woken};
 ghost use Rattle.virtual_clock.specs.Once.{has};
 ghost use Rattle.guest_memory.specs.declared.reservations.Reservations.{Reservations};
 ghost use Rattle.guest_memory.specs.Guest.{memory_of};
 ghost use Rattle.guest_memory.specs.Memory.{number_at};
-ghost use Rattle.guest_memory.specs.declared.memory.GuestMemory.{GuestMemory};
-ghost use Rattle.trace_model.specs.EventList.{EventList};
-ghost use Rattle.guest_calls.specs.declared.answer.Answer.TheVariants.{Back, Block};
+ghost use Rattle.guest_kernel.specs.declared.answer.Answer.TheVariants.{Back, Block};
 ghost use Rattle.guest_calls.specs.declared.operation.Operation.TheVariants.{Requeue, CmpRequeue};
 ghost use Rattle.rv_exec.specs.Accesses.{can_read};
-ghost use Rattle.guest_calls.specs.Futex.{count_woken, futex_at, futex_tests, futex_value, has_bitset, is_over, is_wait, limit_end, moved_at, performed, reads_word, requeued, wait_end, waited, wakes, with_end, with_waiter};
+ghost use Rattle.guest_kernel.specs.Waits.{with_waiter};
+ghost use Rattle.guest_calls.specs.Futex.{futex_tests, has_bitset, is_over, is_wait, limit_end, performed, reads_word, wait_end, waited, wakes_with, with_end};
 ghost use Rattle.guest_calls.specs.Clock.{time_at};
-ghost use Rattle.guest_calls.specs.Errors.{etimedout};
+ghost use Rattle.guest_kernel.specs.Errors.{etimedout};
 ghost use Rattle.guest_calls.specs.Futex as specs;
-ghost use Rattle.guest_calls.specs.Kernel.{KernelState, can_run, lives};
-ghost use Rattle.guest_calls.specs.Outcome.{asked, Does};
-ghost use Rattle.guest_calls.specs.Results.{first_answer, read_event, returns, ◌▷◌};
+ghost use Rattle.guest_kernel.specs.Kernel.{KernelState, can_run, lives};
+ghost use Rattle.guest_kernel.specs.Copies.{Adds};
+ghost use Rattle.guest_calls.specs.Outcome.{asked, Does, DoesQuietly};
+ghost use Rattle.guest_kernel.specs.Copies.{read_event};
+ghost use Rattle.guest_calls.specs.Results.{first_answer};
 
-use crate::Answer;
 use crate::caller::Caller;
-use crate::clock::{TIME_SIZE, time_at};
-use crate::copies::note_read;
-use crate::errors::{EAGAIN, EFAULT, EINVAL, ENOSYS, ETIMEDOUT};
+use crate::clock::{TIME_SIZE, from_now, time_at};
 use crate::operation::Operation;
-use crate::state::State;
 use crate::vectors::word_at;
+use guest_kernel::{Answer, EAGAIN, EFAULT, EINVAL, ENOSYS, ETIMEDOUT, State, note_read};
 use guest_memory::GuestMemory;
-use guest_words::limits::THREADS;
 use guest_words::{Addr, Tid};
 use trace_model::Events;
 
@@ -109,9 +106,8 @@ fn compare(memory: &GuestMemory, events: &mut Events, caller: &Caller, value: u3
     requires room { 1 ≤ events.old.room }
     ensures same { result ≡ (number_at (memory_of memory.now)
         (slice_index caller.now.cpu.regs 10) 4 == value) }
-    ensures events { events.new.list ≡ events.old.list
-        ++ read_event caller.now.tid (slice_index caller.now.cpu.regs 10) 4 }
-    ensures room { events.old.room ≤ events.new.room + 1 }
+    ensures events { Adds (read_event caller.now.tid (slice_index caller.now.cpu.regs 10) 4)
+        events.old events.new }
 {
     let at = caller.argument(0);
     note_read(memory, events, caller.tid, at, 4);
@@ -123,10 +119,9 @@ fn note_limit(memory: &GuestMemory, events: &mut Events, caller: &Caller, end: O
     requires reach { is_some end ≡ true → can_read (memory_of memory.now)
         (slice_index caller.now.cpu.regs 13) 16 ≡ true }
     requires room { 1 ≤ events.old.room }
-    ensures events { events.new.list ≡ events.old.list
-        ++ (if is_some end then read_event caller.now.tid (slice_index caller.now.cpu.regs 13) 16
-        else []) }
-    ensures room { events.old.room ≤ events.new.room + 1 }
+    ensures events { Adds
+        (if is_some end then read_event caller.now.tid (slice_index caller.now.cpu.regs 13) 16
+        else []) events.old events.new }
 {
     if end.is_some() {
         let limit = caller.argument(3);
@@ -134,227 +129,183 @@ fn note_limit(memory: &GuestMemory, events: &mut Events, caller: &Caller, end: O
     }
 }
 
-impl State {
-    // When a wait with a limit is over.
-    fn limit_end(&self, operation: Operation, time: u64) -> u64
-        ensures { result ≡ limit_end operation self.now.time time }
-    {
-        match operation {
-            Operation::WaitBitset => time,
-            _ => self.from_now(time),
+// When a wait with a limit is over.
+fn limit_end(state: &State, operation: Operation, time: u64) -> u64
+    ensures { result ≡ limit_end operation state.now.time time }
+{
+    match operation {
+        Operation::WaitBitset => time,
+        _ => from_now(state, time),
+    }
+}
+
+// When a wait is over, where it has a limit.
+fn wait_end(
+    state: &State,
+    memory: &GuestMemory,
+    caller: &Caller,
+    operation: Operation,
+) -> Option<u64>
+    requires reach { slice_index caller.now.cpu.regs 13 ≢ 0
+        → can_read (memory_of memory.now) (slice_index caller.now.cpu.regs 13) 16 ≡ true }
+    ensures value { (held : Reservations) → result
+        ≡ wait_end operation (asked caller.now state.now memory.now held) }
+    ensures reach { is_some result ≡ true → can_read (memory_of memory.now)
+        (slice_index caller.now.cpu.regs 13) 16 ≡ true }
+{
+    let limit = caller.argument(3);
+    if limit == 0 {
+        return None;
+    }
+    let time = time_at(memory, limit).unwrap_or(0);
+    Some(limit_end(state, operation, time))
+}
+
+// Whether the time has come.
+fn is_over(state: &State, end: Option<u64>) -> bool
+    ensures { result ≡ is_over end state.now.time }
+{
+    match end {
+        Some(end) => end <= state.time(),
+        None => false,
+    }
+}
+
+// The thread, which has no deadline, has the end of its wait as one, where there is one.
+fn set_end(state: &mut State, tid: Tid, end: Option<u64>)
+    requires lives { lives state.old tid ≡ true }
+    requires none { has state.old.deadlines tid ≡ false }
+    ensures { state.new ≡ with_end tid end state.old }
+{
+    if let Some(end) = end {
+        state.set_deadline(tid, end, ETIMEDOUT);
+    }
+}
+
+// The thread begins to wait until the end, where that is ahead.
+fn wait_until(state: &mut State, at: Addr, tid: Tid, bits: u32, end: Option<u64>) -> Answer
+    requires can_run { can_run state.old tid ≡ true }
+    requires bits { bits ≢ 0 }
+    ensures answer { result ≡ (if is_over end state.old.time then Back etimedout else Block) }
+    ensures after { state.new ≡ (if is_over end state.old.time then state.old
+        else with_end tid end (with_waiter at tid bits state.old)) }
+{
+    if is_over(state, end) {
+        return Answer::Back { value: ETIMEDOUT };
+    }
+    state.begin_to_wait(at, tid, bits);
+    set_end(state, tid, end);
+    Answer::Block
+}
+
+// FUTEX_WAIT and FUTEX_WAIT_BITSET: the thread waits where the word is the value and its end is ahead.
+fn futex_wait(
+    state: &mut State,
+    memory: &GuestMemory,
+    events: &mut Events,
+    caller: &Caller,
+    operation: Operation,
+    bits: u32,
+) -> Answer
+    requires can_run { can_run state.old caller.now.tid ≡ true }
+    requires reach { can_read (memory_of memory.now) (slice_index caller.now.cpu.regs 10) 4
+        ≡ true }
+    requires limit { slice_index caller.now.cpu.regs 13 ≢ 0
+        → can_read (memory_of memory.now) (slice_index caller.now.cpu.regs 13) 16 ≡ true }
+    requires bits { bits ≢ 0 }
+    requires room { 2 ≤ events.old.room }
+    ensures does { (held : Reservations)
+        → let c = asked caller.now state.old memory.now held in Does
+        (waited c bits (wait_end operation c)) result
+        state.new memory.now held events.old events.new }
+{
+    let end = wait_end(state, memory, caller, operation);
+    note_limit(memory, events, caller, end);
+    if !compare(memory, events, caller, caller.argument(2)) {
+        return Answer::Back { value: EAGAIN };
+    }
+    wait_until(state, caller.argument(0), caller.tid, bits, end)
+}
+
+// FUTEX_WAKE and FUTEX_WAKE_BITSET
+fn futex_wake(state: &mut State, caller: &Caller, bits: u32) -> Answer
+    ensures { DoesQuietly (wakes_with bits) caller.now state.old result state.new }
+{
+    let count = state.wake(caller.argument(0), caller.argument(2), bits);
+    Answer::Back { value: count }
+}
+
+// FUTEX_REQUEUE
+fn futex_requeue(state: &mut State, caller: &Caller) -> Answer
+    ensures { DoesQuietly (performed Requeue) caller.now state.old result state.new }
+{
+    let (at, most, shift, to) = (
+        caller.argument(0),
+        caller.argument(2),
+        caller.argument(3),
+        caller.argument(4),
+    );
+    let (woken, _) = state.requeue(at, most, shift, to);
+    Answer::Back { value: woken }
+}
+
+// FUTEX_CMP_REQUEUE
+fn futex_cmp_requeue(
+    state: &mut State,
+    memory: &GuestMemory,
+    events: &mut Events,
+    caller: &Caller,
+) -> Answer
+    requires reach { can_read (memory_of memory.now) (slice_index caller.now.cpu.regs 10) 4
+        ≡ true }
+    requires room { 1 ≤ events.old.room }
+    ensures does { (held : Reservations)
+        → let c = asked caller.now state.old memory.now held in Does
+        (performed CmpRequeue c) result state.new memory.now held events.old events.new }
+{
+    if !compare(memory, events, caller, caller.argument(5)) {
+        return Answer::Back { value: EAGAIN };
+    }
+    let (at, most, shift, to) = (
+        caller.argument(0),
+        caller.argument(2),
+        caller.argument(3),
+        caller.argument(4),
+    );
+    let (woken, moved) = state.requeue(at, most, shift, to);
+    Answer::Back {
+        value: woken + moved,
+    }
+}
+
+/// futex(2)
+pub(crate) fn futex(
+    state: &mut State,
+    memory: &GuestMemory,
+    events: &mut Events,
+    caller: &Caller,
+) -> Answer
+    requires can_run { can_run state.old caller.now.tid ≡ true }
+    requires room { 2 ≤ events.old.room }
+    ensures does { (held : Reservations) → Does
+        (specs.futex (asked caller.now state.old memory.now held)) result
+        state.new memory.now held events.old events.new }
+{
+    let Some(operation) = Operation::numbered(caller.argument(1) & NUMBER_BITS) else {
+        return Answer::Back { value: ENOSYS };
+    };
+    if let Some(errno) = refusal(memory, caller, operation) {
+        return Answer::Back { value: errno };
+    }
+    match operation {
+        Operation::Wait => { futex_wait(state, memory, events, caller, Operation::Wait, ALL_BITS) }
+        Operation::WaitBitset => {
+            let bits = caller.argument(5);
+            futex_wait(state, memory, events, caller, Operation::WaitBitset, bits)
         }
-    }
-
-    // When a wait is over, where it has a limit.
-    fn wait_end(&self, memory: &GuestMemory, caller: &Caller, operation: Operation) -> Option<u64>
-        requires reach { slice_index caller.now.cpu.regs 13 ≢ 0
-            → can_read (memory_of memory.now) (slice_index caller.now.cpu.regs 13) 16 ≡ true }
-        ensures value { (held : Reservations) → result
-            ≡ wait_end operation (asked caller.now self.now memory.now held) }
-        ensures reach { is_some result ≡ true → can_read (memory_of memory.now)
-            (slice_index caller.now.cpu.regs 13) 16 ≡ true }
-    {
-        let limit = caller.argument(3);
-        if limit == 0 {
-            return None;
-        }
-        let time = time_at(memory, limit).unwrap_or(0);
-        Some(self.limit_end(operation, time))
-    }
-
-    // Whether the time has come.
-    fn is_over(&self, end: Option<u64>) -> bool
-        ensures { result ≡ is_over end self.now.time }
-    {
-        match end {
-            Some(end) => end <= self.time,
-            None => false,
-        }
-    }
-
-    // The thread, which has no deadline, has the end of its wait as one, where there is one.
-    fn set_end(&mut self, tid: Tid, end: Option<u64>)
-        requires lives { lives self.old tid ≡ true }
-        requires none { has self.old.deadlines tid ≡ false }
-        ensures { self.new ≡ with_end tid end self.old }
-    {
-        if let Some(end) = end {
-            self.set_deadline(tid, end, ETIMEDOUT);
-        }
-    }
-
-    // The thread begins to wait until the end, where that is ahead.
-    fn wait_until(&mut self, at: Addr, tid: Tid, bits: u32, end: Option<u64>) -> Answer
-        requires can_run { can_run self.old tid ≡ true }
-        requires bits { bits ≢ 0 }
-        ensures answer { result ≡ (if is_over end self.old.time then Back etimedout else Block) }
-        ensures after { self.new ≡ (if is_over end self.old.time then self.old
-            else with_end tid end (with_waiter at tid bits self.old)) }
-    {
-        if self.is_over(end) {
-            return Answer::Back { value: ETIMEDOUT };
-        }
-        self.begin_to_wait(at, tid, bits);
-        self.set_end(tid, end);
-        Answer::Block
-    }
-
-    // The thread begins to wait.
-    fn begin_to_wait(&mut self, at: Addr, tid: Tid, bits: u32)
-        requires can_run { can_run self.old tid ≡ true }
-        requires bits { bits ≢ 0 }
-        ensures after { self.new ≡ with_waiter at tid bits self.old }
-        ensures lives { lives self.new tid ≡ true }
-        ensures none { has self.new.deadlines tid ≡ false }
-    {
-        let waiting = self.waiting.len();
-        prove!(waiting < self.threads.len());
-        self.waiting.wait(at, tid, bits);
-    }
-
-    // Moves the first that wait at the address to another, and answers how many. They keep their deadlines.
-    fn move_waiters(&mut self, at: Addr, most: u32, to: Addr) -> u32
-        ensures moved { result ≡ length (woken self.old.waiting at most all_bits) }
-        ensures few { result ≤ THREADS }
-        ensures after { self.new ≡ moved_at at most to self.old }
-    {
-        let _ = self.waiting.len();
-        let (_, moved) = self.waiting.requeue(at, 0, most, to);
-        moved
-    }
-
-    // Wakes the first that wait at the address, and moves the next to another. Answers how many of each.
-    fn requeue(&mut self, at: Addr, most: u32, shift: u32, to: Addr) -> (u32, u32)
-        ensures woken { result.0 ≡ length (woken self.old.waiting at most all_bits) }
-        ensures moved { result.1 ≡ length (shifted self.old.waiting at most shift) }
-        ensures few { (result.0 ≤ THREADS) × (result.1 ≤ THREADS) }
-        ensures after { self.new ≡ requeued at most shift to self.old }
-    {
-        let _ = self.waiting.len();
-        let count = self.wake(at, most, ALL_BITS);
-        let moved = self.move_waiters(at, shift, to);
-        (count, moved)
-    }
-
-    // FUTEX_WAIT and FUTEX_WAIT_BITSET: the thread waits where the word is the value and its end is ahead.
-    fn futex_wait(
-        &mut self,
-        memory: &GuestMemory,
-        events: &mut Events,
-        caller: &Caller,
-        operation: Operation,
-        bits: u32,
-    ) -> Answer
-        requires can_run { can_run self.old caller.now.tid ≡ true }
-        requires reach { can_read (memory_of memory.now) (slice_index caller.now.cpu.regs 10) 4
-            ≡ true }
-        requires limit { slice_index caller.now.cpu.regs 13 ≢ 0
-            → can_read (memory_of memory.now) (slice_index caller.now.cpu.regs 13) 16 ≡ true }
-        requires bits { bits ≢ 0 }
-        requires room { 2 ≤ events.old.room }
-        ensures does { (held : Reservations)
-            → let c = asked caller.now self.old memory.now held in Does
-            (waited c bits (wait_end operation c)) result
-            self.new memory.now held events.old events.new }
-        ensures room { events.old.room ≤ events.new.room + 2 }
-    {
-        let end = self.wait_end(memory, caller, operation);
-        note_limit(memory, events, caller, end);
-        if !compare(memory, events, caller, caller.argument(2)) {
-            return Answer::Back { value: EAGAIN };
-        }
-        self.wait_until(caller.argument(0), caller.tid, bits, end)
-    }
-
-    // FUTEX_WAKE and FUTEX_WAKE_BITSET
-    fn futex_wake(&mut self, caller: &Caller, bits: u32) -> Answer
-        ensures { (memory : GuestMemory) (held : Reservations) (events : EventList)
-            → let c = asked caller.now self.old memory held in Does
-            (returns c (count_woken c bits) ▷ wakes (futex_at c)
-            (futex_value c) bits) result self.new memory held events events }
-    {
-        let count = self.wake(caller.argument(0), caller.argument(2), bits);
-        Answer::Back { value: count }
-    }
-
-    // FUTEX_REQUEUE
-    fn futex_requeue(&mut self, caller: &Caller) -> Answer
-        ensures { (memory : GuestMemory) (held : Reservations) (events : EventList)
-            → let c = asked caller.now self.old memory held in Does
-            (performed Requeue c) result self.new memory held events events }
-    {
-        let (at, most, shift, to) = (
-            caller.argument(0),
-            caller.argument(2),
-            caller.argument(3),
-            caller.argument(4),
-        );
-        let (woken, _) = self.requeue(at, most, shift, to);
-        Answer::Back { value: woken }
-    }
-
-    // FUTEX_CMP_REQUEUE
-    fn futex_cmp_requeue(
-        &mut self,
-        memory: &GuestMemory,
-        events: &mut Events,
-        caller: &Caller,
-    ) -> Answer
-        requires reach { can_read (memory_of memory.now) (slice_index caller.now.cpu.regs 10) 4
-            ≡ true }
-        requires room { 1 ≤ events.old.room }
-        ensures does { (held : Reservations)
-            → let c = asked caller.now self.old memory.now held in Does
-            (performed CmpRequeue c) result self.new memory.now held events.old events.new }
-        ensures room { events.old.room ≤ events.new.room + 1 }
-    {
-        if !compare(memory, events, caller, caller.argument(5)) {
-            return Answer::Back { value: EAGAIN };
-        }
-        let (at, most, shift, to) = (
-            caller.argument(0),
-            caller.argument(2),
-            caller.argument(3),
-            caller.argument(4),
-        );
-        let (woken, moved) = self.requeue(at, most, shift, to);
-        Answer::Back {
-            value: woken + moved,
-        }
-    }
-
-    /// futex(2)
-    pub(crate) fn futex(
-        &mut self,
-        memory: &GuestMemory,
-        events: &mut Events,
-        caller: &Caller,
-    ) -> Answer
-        requires can_run { can_run self.old caller.now.tid ≡ true }
-        requires room { 2 ≤ events.old.room }
-        ensures does { (held : Reservations) → Does
-            (specs.futex (asked caller.now self.old memory.now held)) result
-            self.new memory.now held events.old events.new }
-        ensures room { events.old.room ≤ events.new.room + 2 }
-    {
-        let Some(operation) = Operation::numbered(caller.argument(1) & NUMBER_BITS) else {
-            return Answer::Back { value: ENOSYS };
-        };
-        if let Some(errno) = refusal(memory, caller, operation) {
-            return Answer::Back { value: errno };
-        }
-        match operation {
-            Operation::Wait => {
-                self.futex_wait(memory, events, caller, Operation::Wait, ALL_BITS)
-            }
-            Operation::WaitBitset => {
-                let bits = caller.argument(5);
-                self.futex_wait(memory, events, caller, Operation::WaitBitset, bits)
-            }
-            Operation::Wake => self.futex_wake(caller, ALL_BITS),
-            Operation::WakeBitset => self.futex_wake(caller, caller.argument(5)),
-            Operation::Requeue => self.futex_requeue(caller),
-            Operation::CmpRequeue => self.futex_cmp_requeue(memory, events, caller),
-        }
+        Operation::Wake => futex_wake(state, caller, ALL_BITS),
+        Operation::WakeBitset => futex_wake(state, caller, caller.argument(5)),
+        Operation::Requeue => futex_requeue(state, caller),
+        Operation::CmpRequeue => futex_cmp_requeue(state, memory, events, caller),
     }
 }

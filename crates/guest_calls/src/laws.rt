@@ -1,5 +1,5 @@
-//! Laws of the calls: each is the contract of a function that does nothing.
-ghost use Rattle.guest_calls.specs.Laws.{EverySyscallIsLawful, WakesExactly};
+//! A law of the calls: the contract of a function that does nothing.
+ghost use Rattle.guest_calls.specs.Laws.{EverySyscallIsLawful};
 
 /// Each call keeps what a call has to keep, whatever it does: its events are few, light, and copies for its thread; where no
 /// page from the break up to its limit is mapped, none is afterwards; which threads live, and the number of a new one, go by
@@ -7,9 +7,4 @@ ghost use Rattle.guest_calls.specs.Laws.{EverySyscallIsLawful, WakesExactly};
 /// out.
 pub fn every_syscall_is_lawful()
     ensures lawful { EverySyscallIsLawful }
-{}
-
-/// No thread is woken exactly where no deadline is due, and a thread can run or no deadline is left.
-pub fn wakes_exactly()
-    ensures exactly { WakesExactly }
 {}

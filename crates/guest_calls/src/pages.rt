@@ -4,15 +4,12 @@ ghost use Rattle.guest_memory.specs.declared.reservations.Reservations.{Reservat
 ghost use Rattle.guest_memory.specs.Guest.{memory_of};
 ghost use Rattle.guest_memory.specs.Memory.{AreFree, ArePagesMapped, mapped_pages, with_pages};
 ghost use Rattle.trace_model.specs.EventList.{EventList};
-ghost use Rattle.guest_calls.specs.Kernel.{KernelState};
-ghost use Rattle.guest_calls.specs.Outcome.{asked, Does};
+ghost use Rattle.guest_calls.specs.Outcome.{asked, Does, DoesToMemory};
 ghost use Rattle.guest_calls.specs.Pages.{pages, rights_of, first_fit, are_mapped, IsBreakFree};
 ghost use Rattle.guest_calls.specs.Pages as specs;
 
-use crate::Answer;
 use crate::caller::Caller;
-use crate::errors::{EINVAL, ENOMEM, ENOSYS};
-use crate::state::State;
+use guest_kernel::{Answer, EINVAL, ENOMEM, ENOSYS, State};
 use guest_memory::GuestMemory;
 use guest_words::Rights;
 use guest_words::limits::PAGES;
@@ -76,9 +73,7 @@ fn map(memory: &mut GuestMemory, page: u32, count: u32, rights: Rights) -> Resul
 
 /// munmap(2)
 pub(crate) fn munmap(memory: &mut GuestMemory, caller: &Caller) -> Answer
-    ensures { (state : KernelState) (held : Reservations) (events : EventList)
-        → Does (specs.munmap
-        (asked caller.now state memory.old held)) result state memory.new held events events }
+    ensures { DoesToMemory specs.munmap caller.now memory.old result memory.new }
 {
     let (at, count) = (caller.argument(0), pages(caller.argument(1)));
     if at % PAGE_SIZE != 0 {
@@ -105,9 +100,7 @@ fn are_mapped(memory: &GuestMemory, page: u32, count: u32) -> bool
 
 /// mprotect(2)
 pub(crate) fn mprotect(memory: &mut GuestMemory, caller: &Caller) -> Answer
-    ensures { (state : KernelState) (held : Reservations) (events : EventList)
-        → Does (specs.mprotect
-        (asked caller.now state memory.old held)) result state memory.new held events events }
+    ensures { DoesToMemory specs.mprotect caller.now memory.old result memory.new }
 {
     let (at, bytes) = (caller.argument(0), caller.argument(1));
     if at % PAGE_SIZE != 0 {
@@ -148,10 +141,8 @@ fn is_private(flags: u32) -> bool
 
 /// mmap2(2)
 pub(crate) fn mmap2(memory: &mut GuestMemory, caller: &Caller) -> Result<Answer, AllocError>
-    ensures does { (state : KernelState) (held : Reservations) (events : EventList)
-        → IfOk result (λ answer. Does
-        (specs.mmap2 (asked caller.now state memory.old held)) answer
-        state memory.new held events events) }
+    ensures does { IfOk result (λ answer. DoesToMemory specs.mmap2 caller.now
+        memory.old answer memory.new) }
     ensures refused { OnErr result (memory_of memory.new ≡ memory_of memory.old) }
     ensures high { (page : ℕ) → page < 0x40000
         → (memory_of memory.new).rights page ≡ (memory_of memory.old).rights page }
@@ -182,37 +173,35 @@ pub(crate) fn mmap2(memory: &mut GuestMemory, caller: &Caller) -> Result<Answer,
     })
 }
 
-impl State {
-    /// brk(2)
-    pub(crate) fn brk(
-        &mut self,
-        memory: &mut GuestMemory,
-        caller: &Caller,
-    ) -> Result<Answer, AllocError>
-        requires break_free { IsBreakFree (memory_of memory.old) self.old.program_break }
-        ensures does { (held : Reservations) (events : EventList)
-            → IfOk result (λ answer. Does
-            (specs.brk (asked caller.now self.old memory.old held)) answer
-            self.new memory.new held events events) }
-        ensures memory_refused { OnErr result (memory_of memory.new ≡ memory_of memory.old) }
-        ensures state_refused { OnErr result (self.new ≡ self.old) }
-        ensures break_free { IsBreakFree (memory_of memory.new) self.new.program_break }
-    {
-        let (at, old) = (caller.argument(0), self.program_break);
-        if at < self.first_break {
-            return Ok(Answer::Back { value: old });
-        }
-        if at > BREAK_LIMIT {
-            return Ok(Answer::Back { value: old });
-        }
-        let (old_end, end) = (pages(old), pages(at));
-        let growth = end.saturating_sub(old_end);
-        if memory.mapped() + growth > PAGES {
-            return Ok(Answer::Back { value: old });
-        }
-        map(memory, old_end, growth, rights_of(PROT_READ | PROT_WRITE))?;
-        memory.unmap(end, old_end.saturating_sub(end));
-        self.program_break = at;
-        Ok(Answer::Back { value: at })
+/// brk(2)
+pub(crate) fn brk(
+    state: &mut State,
+    memory: &mut GuestMemory,
+    caller: &Caller,
+) -> Result<Answer, AllocError>
+    requires break_free { IsBreakFree (memory_of memory.old) state.old.program_break }
+    ensures does { (held : Reservations) (events : EventList)
+        → IfOk result (λ answer. Does
+        (specs.brk (asked caller.now state.old memory.old held)) answer
+        state.new memory.new held events events) }
+    ensures memory_refused { OnErr result (memory_of memory.new ≡ memory_of memory.old) }
+    ensures state_refused { OnErr result (state.new ≡ state.old) }
+    ensures break_free { IsBreakFree (memory_of memory.new) state.new.program_break }
+{
+    let (at, old) = (caller.argument(0), state.program_break());
+    if at < state.first_break() {
+        return Ok(Answer::Back { value: old });
     }
+    if at > BREAK_LIMIT {
+        return Ok(Answer::Back { value: old });
+    }
+    let (old_end, end) = (pages(old), pages(at));
+    let growth = end.saturating_sub(old_end);
+    if memory.mapped() + growth > PAGES {
+        return Ok(Answer::Back { value: old });
+    }
+    map(memory, old_end, growth, rights_of(PROT_READ | PROT_WRITE))?;
+    memory.unmap(end, old_end.saturating_sub(end));
+    state.set_program_break(at);
+    Ok(Answer::Back { value: at })
 }

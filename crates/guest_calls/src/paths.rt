@@ -5,17 +5,15 @@ ghost use Rattle.guest_memory.specs.declared.reservations.Reservations.{Reservat
 ghost use Rattle.guest_memory.specs.Guest.{memory_of};
 ghost use Rattle.guest_memory.specs.Memory.{bytes_at};
 ghost use Rattle.rv_exec.specs.Accesses.{can_read};
-ghost use Rattle.guest_calls.specs.Inputs.{is_named};
-ghost use Rattle.guest_calls.specs.Files.{ends_path, path_end, least_free};
+ghost use Rattle.guest_kernel.specs.Inputs.{is_named};
+ghost use Rattle.guest_calls.specs.Files.{ends_path, path_end};
 ghost use Rattle.guest_calls.specs.Files as specs;
 ghost use Rattle.guest_calls.specs.Outcome.{asked, Does};
 
-use crate::Answer;
 use crate::caller::Caller;
-use crate::copies::{copy_to, note_read};
-use crate::descriptor::Descriptor;
-use crate::errors::{EACCES, EFAULT, EMFILE, ENAMETOOLONG, ENOENT};
-use crate::state::State;
+use guest_kernel::{
+    Answer, Descriptor, EACCES, EFAULT, EMFILE, ENAMETOOLONG, ENOENT, State, copy_to, note_read,
+};
 use guest_memory::{GuestMemory, Size};
 use guest_words::Addr;
 use trace_model::Events;
@@ -62,61 +60,50 @@ fn path_end(memory: &GuestMemory, path: Addr) -> Option<u64>
     None
 }
 
-impl State {
-    // The index of the input that bytes of the guest's memory name.
-    fn input_named(&self, memory: &GuestMemory, path: Addr, size: usize) -> Option<usize>
-        requires few { size ≤ 4096 }
-        requires reach { can_read (memory_of memory.now) path size ≡ true }
-        ensures { result ≡ position (is_named
-            (bytes_at (memory_of memory.now) path size)) self.now.inputs }
-    {
-        let mut buffer = [0u8; PATH_LIMIT];
-        copy_to(memory, path, &mut buffer, size);
-        self.inputs.index_of(&buffer[..size])
-    }
+// The index of the input that bytes of the guest's memory name.
+fn input_named(state: &State, memory: &GuestMemory, path: Addr, size: usize) -> Option<usize>
+    requires few { size ≤ 4096 }
+    requires reach { can_read (memory_of memory.now) path size ≡ true }
+    ensures { result ≡ position (is_named
+        (bytes_at (memory_of memory.now) path size)) state.now.inputs }
+{
+    let mut buffer = [0u8; PATH_LIMIT];
+    copy_to(memory, path, &mut buffer, size);
+    state.input_index(&buffer[..size])
+}
 
-    // The least number that is free.
-    fn least_free(&self) -> Option<usize>
-        ensures value { result ≡ least_free self.now }
-        ensures in_range { IfSome result (λ fd. fd < 32) }
-    {
-        self.descriptors.iter().position(|d| d.is_closed())
+/// openat(2)
+pub(crate) fn openat(
+    state: &mut State,
+    memory: &GuestMemory,
+    events: &mut Events,
+    caller: &Caller,
+) -> Answer
+    requires room { 1 ≤ events.old.room }
+    ensures does { (held : Reservations) → Does
+        (specs.openat (asked caller.now state.old memory.now held)) result
+        state.new memory.now held events.old events.new }
+{
+    let path = caller.argument(1);
+    let Some(stop) = path_end(memory, path) else {
+        return Answer::Back {
+            value: ENAMETOOLONG,
+        };
+    };
+    if !is_readable(memory, stop) {
+        return Answer::Back { value: EFAULT };
     }
-
-    /// openat(2)
-    pub(crate) fn openat(
-        &mut self,
-        memory: &GuestMemory,
-        events: &mut Events,
-        caller: &Caller,
-    ) -> Answer
-        requires room { 1 ≤ events.old.room }
-        ensures does { (held : Reservations) → Does
-            (specs.openat (asked caller.now self.old memory.now held)) result
-            self.new memory.now held events.old events.new }
-        ensures room { events.old.room ≤ events.new.room + 1 }
-    {
-        let path = caller.argument(1);
-        let Some(stop) = path_end(memory, path) else {
-            return Answer::Back {
-                value: ENAMETOOLONG,
-            };
-        };
-        if !is_readable(memory, stop) {
-            return Answer::Back { value: EFAULT };
-        }
-        let size = stop - u64::from(path);
-        let Some(input) = self.input_named(memory, path, size as usize) else {
-            return Answer::Back { value: ENOENT };
-        };
-        if caller.argument(2) & WRITING_FLAGS != 0 {
-            return Answer::Back { value: EACCES };
-        }
-        let Some(fd) = self.least_free() else {
-            return Answer::Back { value: EMFILE };
-        };
-        note_read(memory, events, caller.tid, path, size as u32 + 1);
-        self.set_descriptor(fd as u32, Descriptor::InputFile { input, position: 0 });
-        Answer::Back { value: fd as u32 }
+    let size = stop - u64::from(path);
+    let Some(input) = input_named(state, memory, path, size as usize) else {
+        return Answer::Back { value: ENOENT };
+    };
+    if caller.argument(2) & WRITING_FLAGS != 0 {
+        return Answer::Back { value: EACCES };
     }
+    let Some(fd) = state.least_free() else {
+        return Answer::Back { value: EMFILE };
+    };
+    note_read(memory, events, caller.tid, path, size as u32 + 1);
+    state.set_descriptor(fd as u32, Descriptor::InputFile { input, position: 0 });
+    Answer::Back { value: fd as u32 }
 }

@@ -1,20 +1,19 @@
 //! The calls on files in parts: readv(2) and writev(2).
-ghost use Rattle.std.specs.Prelude.{◌≡◌, ◌≤◌, ◌<◌, ◌+◌, ◌*◌, ◌^◌, ◌++◌, take, length, vec_len, true, None, IfOk, IfErr, OnErr};
+ghost use Rattle.std.specs.Prelude.{◌≡◌, ◌≤◌, ◌<◌, ◌+◌, ◌*◌, ◌^◌, ◌++◌, length, vec_len, true, None, IfOk, IfErr, OnErr};
 ghost use Rattle.guest_memory.specs.Guest.{memory_of};
 ghost use Rattle.guest_memory.specs.Memory.{number_at};
 ghost use Rattle.rv_exec.specs.Accesses.{can_read, can_write};
+ghost use Rattle.guest_kernel.specs.Copies.{Adds, KeepsRoom};
 ghost use Rattle.guest_calls.specs.Outcome.{asked, guest_of, Does, IsUntouched};
 ghost use Rattle.guest_calls.specs.Results.{first_answer};
 ghost use Rattle.guest_calls.specs.Private.IoVecRefusal.{IsRefusal};
-ghost use Rattle.guest_calls.specs.Vectors.{part_at, parts_at, table_tests, total, carried, all_in_reach, filled_parts, read_events, bytes_of};
+ghost use Rattle.guest_kernel.specs.Parts.{total, all_in_reach};
+ghost use Rattle.guest_calls.specs.Vectors.{part_at, parts_at, table_tests, carried, filled_parts, read_events};
 ghost use Rattle.guest_calls.specs.Vectors as specs;
 
-use crate::Answer;
 use crate::caller::Caller;
-use crate::copies::{copy_to, fill, note_read};
-use crate::errors::{EBADF, EFAULT, EINVAL};
 use crate::files::first_bytes;
-use crate::state::State;
+use guest_kernel::{Answer, EBADF, EFAULT, EINVAL, IoVec, State, fill, note_read};
 use guest_memory::{GuestMemory, Reservations, Size};
 use guest_words::limits::SYSCALL_EVENTS;
 use guest_words::{Addr, Tid};
@@ -27,13 +26,6 @@ const PART_LIMIT: u32 = 1024;
 // The most bytes that the parts of one call have.
 const SUM_LIMIT: u64 = 0x7FFF_FFFF;
 
-/// A part of the bytes that one call carries.
-#[derive(Clone, Copy, Debug, PartialEq, Eq)]
-pub struct IoVec {
-    pub at: Addr,
-    pub size: u32,
-}
-
 /// The word at an address, each byte of which can be read.
 pub(crate) fn word_at(memory: &GuestMemory, at: Addr) -> u32
     requires { can_read (memory_of memory.now) at 4 ≡ true }
@@ -43,7 +35,7 @@ pub(crate) fn word_at(memory: &GuestMemory, at: Addr) -> u32
 }
 
 // The part at an address: an address and a length.
-#[tactic(auto, using(crate::proofs::Reach::reads_within))]
+#[tactic(auto, using(guest_kernel::proofs::Reach::reads_within))]
 fn part_at(memory: &GuestMemory, at: Addr) -> IoVec
     requires reach { can_read (memory_of memory.now) at 8 ≡ true }
     requires end { at + 8 ≤ 2 ^ 32 }
@@ -56,7 +48,7 @@ fn part_at(memory: &GuestMemory, at: Addr) -> IoVec
 }
 
 /// `count` parts, from an address on.
-#[tactic(auto, using(crate::proofs::PartLists::parts_snoc, crate::proofs::Reach::readable_end))]
+#[tactic(auto, using(crate::proofs::PartLists::parts_snoc, guest_kernel::proofs::Reach::readable_end))]
 pub(crate) fn parts_at(
     alloc: Global,
     memory: &GuestMemory,
@@ -188,7 +180,7 @@ fn fill_parts(
     requires room { length parts.now ≤ events.old.room }
     ensures filled { guest_of memory.new held.new events.new
         ≡ filled_parts parts.now bytes.now (guest_of memory.old held.old events.old) }
-    ensures room { events.old.room ≤ events.new.room + length parts.now }
+    ensures room { KeepsRoom events.old events.new }
 {
     let mut rest = bytes;
     for p in parts {
@@ -199,70 +191,53 @@ fn fill_parts(
 }
 
 /// The kernel has read the parts for the thread.
+#[tactic(auto, using(guest_kernel::proofs::Room::room_read))]
 pub(crate) fn note_parts(memory: &GuestMemory, events: &mut Events, tid: Tid, parts: &[IoVec])
     requires reach { all_in_reach (can_read (memory_of memory.now)) parts.now ≡ true }
     requires room { length parts.now ≤ events.old.room }
-    ensures events { events.new.list ≡ events.old.list ++ read_events tid parts.now }
-    ensures room { events.old.room ≤ events.new.room + length parts.now }
+    ensures events { Adds (read_events tid parts.now) events.old events.new }
 {
     for p in parts {
         note_read(memory, events, tid, p.at, p.size);
     }
 }
 
-/// Copies the parts' bytes to the front of others, and says how many there are.
-pub(crate) fn copy_parts(memory: &GuestMemory, parts: &[IoVec], front: &mut [u8]) -> usize
-    requires reach { all_in_reach (can_read (memory_of memory.now)) parts.now ≡ true }
-    requires room { total parts.now ≤ length front.old }
-    ensures count { result ≡ total parts.now }
-    ensures bytes { take result front.new ≡ bytes_of (memory_of memory.now) parts.now }
+/// readv(2)
+#[tactic(auto, using(guest_kernel::proofs::Room::room_read))]
+pub(crate) fn readv(
+    state: &mut State,
+    memory: &mut GuestMemory,
+    held: &mut Reservations,
+    events: &mut Events,
+    caller: &Caller,
+) -> Result<Answer, AllocError>
+    requires room { SYSCALL_EVENTS ≤ events.old.room }
+    ensures does { IfOk result (λ answer. Does
+        (specs.readv (asked caller.now state.old memory.old held.old)) answer
+        state.new memory.new held.new events.old events.new) }
+    ensures refused { OnErr result (IsUntouched state.old state.new
+        memory.old memory.new held.old held.new events.old events.new) }
 {
-    let mut count = 0;
-    for p in parts {
-        copy_to(memory, p.at, &mut front[count..], p.size as usize);
-        count += p.size as usize;
+    let (fd, at, count) = (caller.argument(0), caller.argument(1), caller.argument(2));
+    let file = state.descriptor(fd);
+    if !file.is_source() {
+        return Ok(Answer::Back { value: EBADF });
     }
-    count
-}
-
-impl State {
-    /// readv(2)
-    pub(crate) fn readv(
-        &mut self,
-        memory: &mut GuestMemory,
-        held: &mut Reservations,
-        events: &mut Events,
-        caller: &Caller,
-    ) -> Result<Answer, AllocError>
-        requires room { SYSCALL_EVENTS ≤ events.old.room }
-        ensures does { IfOk result (λ answer. Does
-            (specs.readv (asked caller.now self.old memory.old held.old)) answer
-            self.new memory.new held.new events.old events.new) }
-        ensures refused { OnErr result (IsUntouched self.old self.new
-            memory.old memory.new held.old held.new events.old events.new) }
-        ensures room { events.old.room ≤ events.new.room + SYSCALL_EVENTS }
-    {
-        let (fd, at, count) = (caller.argument(0), caller.argument(1), caller.argument(2));
-        let file = self.descriptor(fd);
-        if !file.is_source() {
-            return Ok(Answer::Back { value: EBADF });
-        }
-        let parts = match read_table(self.alloc, memory, at, count) {
-            Ok(parts) => parts,
-            Err(TableError::Refused { errno }) => return Ok(Answer::Back { value: errno }),
-            Err(TableError::Memory) => return Err(AllocError),
-        };
-        let bytes = first_bytes(self.bytes_left(file), total(&parts) as u32);
-        let carried = bytes.len();
-        let into = truncated(parts, carried);
-        if !can_write_parts(memory, &into) {
-            return Ok(Answer::Back { value: EFAULT });
-        }
-        note_read(memory, events, caller.tid, at, 8 * count);
-        fill_parts(memory, held, events, &into, bytes);
-        self.advance(file, fd, carried);
-        Ok(Answer::Back {
-            value: carried as u32,
-        })
+    let parts = match read_table(state.alloc(), memory, at, count) {
+        Ok(parts) => parts,
+        Err(TableError::Refused { errno }) => return Ok(Answer::Back { value: errno }),
+        Err(TableError::Memory) => return Err(AllocError),
+    };
+    let bytes = first_bytes(state.bytes_left(file), total(&parts) as u32);
+    let carried = bytes.len();
+    let into = truncated(parts, carried);
+    if !can_write_parts(memory, &into) {
+        return Ok(Answer::Back { value: EFAULT });
     }
+    note_read(memory, events, caller.tid, at, 8 * count);
+    fill_parts(memory, held, events, &into, bytes);
+    state.advance(file, fd, carried);
+    Ok(Answer::Back {
+        value: carried as u32,
+    })
 }

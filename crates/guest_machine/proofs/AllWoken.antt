@@ -15,13 +15,13 @@ use Rattle.virtual_clock.specs.Order.{due_now, due_of, first_of}
 use Rattle.virtual_clock.specs.Steps.{after_forget}
 use Rattle.virtual_clock.proofs.FirstOnes.{found_first, none_due}
 use Rattle.virtual_clock.proofs.Threads.{IsOnce-filter}
-use Rattle.guest_calls.specs.declared.thread.Thread.{Thread}
-use Rattle.guest_calls.specs.Invariant.{IsState}
-use Rattle.guest_calls.specs.Kernel.{KernelState, is_blocked, is_thread, unblocked}
-use Rattle.guest_calls.specs.Waking.{moved_on, next_due, no_sooner, some_can_run, woken_by, woken_by_time}
-use Rattle.guest_calls.proofs.Blocked.{unblocked_state}
-use Rattle.guest_calls.proofs.ClockWakings.{awake, due-first, due_lives, has-at, moved_able, moved_deadlines, moved_none, none_due_of_none, one_less}
-use Rattle.guest_calls.proofs.Times.{at_time_is_state}
+use Rattle.guest_kernel.specs.declared.thread.Thread.{Thread}
+use Rattle.guest_kernel.specs.Invariant.{IsState}
+use Rattle.guest_kernel.specs.Kernel.{KernelState, is_blocked, is_thread, unblocked}
+use Rattle.guest_kernel.specs.Waking.{moved_on, next_due, no_sooner, some_can_run, woken_by, woken_by_time}
+use Rattle.guest_kernel.proofs.Blocked.{unblocked_state}
+use Rattle.guest_kernel.proofs.ClockWakings.{awake, due-first, due_lives, has-at, moved_able, moved_deadlines, moved_none, none_due_of_none, one_less}
+use Rattle.guest_kernel.proofs.Times.{at_time_is_state}
 use Rattle.guest_machine.specs.Laws.{EveryWakingAnswers, EveryWakingTakesTheDue, due_answer, with_due}
 use Rattle.guest_words.specs.ByThread.{value_of}
 use Rattle.guest_words.proofs.ThreadTables.{value_of-with}

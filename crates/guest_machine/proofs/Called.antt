@@ -8,14 +8,14 @@ use Rattle.trace_model.specs.declared.event_kinds.Event.TheVariants.{Step}
 use Rattle.guest_memory.specs.Guest.{memory_of}
 use Rattle.guest_memory.specs.ReservedBy.{reserved_by}
 use Rattle.rv_exec.specs.Registers.{Registers}
-use Rattle.guest_calls.specs.declared.answer.Answer.{Answer}
-use Rattle.guest_calls.specs.declared.answer.Answer.TheVariants.{Back, Yield, Block, ThreadEnd, ProcessEnd, Born}
+use Rattle.guest_kernel.specs.declared.answer.Answer.{Answer}
+use Rattle.guest_kernel.specs.declared.answer.Answer.TheVariants.{Back, Yield, Block, ThreadEnd, ProcessEnd, Born}
 use Rattle.guest_memory.specs.Memory.{Memory}
 use Rattle.guest_memory.specs.Reserved.{Reserved}
-use Rattle.guest_calls.specs.Kernel.{KernelState}
-use Rattle.guest_calls.specs.Invariant.{IsState, RisesTo}
+use Rattle.guest_kernel.specs.Kernel.{KernelState}
+use Rattle.guest_kernel.specs.Invariant.{IsState, RisesTo}
 use Rattle.guest_calls.specs.Lawful.{BeginsBehind, GivesNumber, tids_after}
-use Rattle.guest_calls.specs.declared.thread.Thread.{Thread}
+use Rattle.guest_kernel.specs.declared.thread.Thread.{Thread}
 use Rattle.guest_words.specs.ByThread.{numbers}
 use Rattle.std.proofs.lemmas.List.Elements.{All-cons, All-nil, All-same}
 use Rattle.guest_calls.specs.Pages.{IsBreakFree}
@@ -24,7 +24,7 @@ use Rattle.guest_calls.proofs.AllCalls.{every_syscall_is_lawful}
 use Rattle.guest_calls.specs.Table.{syscall}
 use Rattle.guest_machine.specs.declared.stepped.Stepped.{Stepped}
 use Rattle.guest_machine.specs.Kept.{Parts, Steps, machine_of}
-use Rattle.guest_calls.proofs.Times.{later_is_state}
+use Rattle.guest_kernel.proofs.Times.{later_is_state}
 use Rattle.guest_machine.specs.Machine.{Hart, MachineState, later, registers_of, with_registers, without_hart}
 use Rattle.guest_machine.specs.Sound.{IsSoundMachine, OfEachPc}
 use Rattle.guest_machine.specs.Step.{after_syscall, syscall_of, harts_after, life_events, resumed, stepped_by}
@@ -119,12 +119,12 @@ four : {hs gs : List Hart} {k l : KernelState} {m n : Memory} {h g : Reserved} �
 four harts kernel memory held = λ i. record { harts = harts i; kernel = kernel i; memory = memory i; held = held i }
 
 -- what the code of a call gives is what a call does
-pub Steps-called : (p p2 : Parts) (tid : ℕ) (r : SyscallResult) (answer : Answer) (outcome : Stepped) (old pushed called new : List Event) → answer ≡ r.answer → p2.kernel.state ≡ r.kernel → p2.kernel.out ≡ r.out → memory_of p2.memory ≡ r.guest.memory → reserved_by p2.held ≡ r.guest.held → p2.harts ≡ harts_after answer p.harts tid (registers_of p.harts tid) → p2.called ≡ true → outcome ≡ stepped_by answer → pushed ≡ old ++ Step tid ∷ [] → called ≡ pushed ++ r.guest.events → new ≡ called ++ life_events answer p.harts tid → Steps (after_syscall (later (machine_of p)) tid r) outcome p2 old new
+pub Steps-called : (p p2 : Parts) (tid : ℕ) (r : SyscallResult) (answer : Answer) (outcome : Stepped) (old pushed called new : List Event) → answer ≡ r.answer → p2.kernel.state ≡ r.kernel → p2.kernel.outgoing ≡ r.out → memory_of p2.memory ≡ r.guest.memory → reserved_by p2.held ≡ r.guest.held → p2.harts ≡ harts_after answer p.harts tid (registers_of p.harts tid) → p2.called ≡ true → outcome ≡ stepped_by answer → pushed ≡ old ++ Step tid ∷ [] → called ≡ pushed ++ r.guest.events → new ≡ called ++ life_events answer p.harts tid → Steps (after_syscall (later (machine_of p)) tid r) outcome p2 old new
 unfolding machine_of
 Steps-called p p2 tid r answer outcome old pushed called new answered state out memory held harts loud stepped one two three = record {
   went = stepped ∙ ap stepped_by answered;
   machine = four (harts ∙ ap (λ a. harts_after a p.harts tid (registers_of p.harts tid)) answered) state memory held;
-  out = ap (λ b. cond b p2.kernel.out None) loud ∙ out;
+  out = ap (λ b. cond b p2.kernel.outgoing None) loud ∙ out;
   events = three ∙ ap₂ (λ front (back : List Event). front ++ back) (two ∙ ap (λ s. s ++ r.guest.events) one ∙ append_assoc old (Step tid ∷ []) r.guest.events) (ap (λ a. life_events a p.harts tid) answered)
       ∙ append_assoc old (Step tid ∷ r.guest.events) (life_events r.answer p.harts tid);
 }

@@ -23,7 +23,7 @@ use Rattle.trace_model.specs.WellFormed.{IsWellFormed}
 use Rattle.trace_model.proofs.Cut.{cut-fits, past_after-append}
 use Rattle.trace_model.proofs.Feeding.{fits_on}
 use Rattle.call_tracker.specs.Links.{kind_of}
-use Rattle.guest_calls.specs.Kernel.{later_by}
+use Rattle.guest_kernel.specs.Kernel.{later_by}
 use Rattle.guest_machine.specs.Private.Carrying.{Carries, GoesWith, IsStateOf, StepsTo, carried, went_to}
 use Rattle.guest_machine.specs.Machine.{Hart, MachineState, can_run, later, registers_of, with_registers}
 use Rattle.guest_machine.specs.Running.{MayTakeSteps, ObservesSteps, after_steps, events_of_steps}

@@ -1,15 +1,15 @@
 -- The clock wakes threads, one after another.
 use Rattle.std.proofs.Common.{◌≡◌, ℕ, zero, suc, ◌<◌, ◌≤◌, ◌-◌, true, false, List, length, map, Option, Some, None, refl, ap, ap₂, sym, subst, ◌∙◌, arith}
 use Rattle.virtual_clock.specs.declared.deadline.Deadline.{Deadline}
-use Rattle.guest_calls.specs.Invariant.{IsState}
-use Rattle.guest_calls.specs.Kernel.{KernelState, is_thread, lives}
+use Rattle.guest_kernel.specs.Invariant.{IsState}
+use Rattle.guest_kernel.specs.Kernel.{KernelState, is_thread, lives}
 use Rattle.guest_calls.specs.Pages.{IsBreakFree}
 use Rattle.std.specs.List.{list_any}
 use Rattle.std.specs.Option.{option_map}
 use Rattle.std.specs.Prelude.{is_some}
 use Rattle.guest_words.specs.ByThread.{value_of}
-use Rattle.guest_calls.specs.Waking.{next_due, woken_by_time}
-use Rattle.guest_calls.proofs.ClockWakings.{awake, keeps_lives, none_due_of_none, one_less, rests}
+use Rattle.guest_kernel.specs.Waking.{next_due, woken_by_time}
+use Rattle.guest_kernel.proofs.ClockWakings.{awake, keeps_lives, none_due_of_none, one_less, rests}
 use Rattle.guest_machine.specs.Laws.{EveryWakingEnds, EveryWakingKeepsThreads, KeepsThreads}
 use Rattle.guest_machine.specs.Machine.{Hart, MachineState, registers_of, with_registers}
 use Rattle.guest_machine.specs.Sound.{AreAligned, IsSoundMachine}

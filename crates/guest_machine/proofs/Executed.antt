@@ -13,8 +13,8 @@ use Rattle.rv_exec.specs.declared.outcome.Outcome.{Outcome}
 use Rattle.rv_exec.specs.declared.outcome.Outcome.TheVariants.{Went, Syscall, Fault}
 use Rattle.rv_exec.specs.Laws.{KeepsUnlessWent}
 use Rattle.rv_exec.proofs.CallerLemmas.{effect_aligned, effect_calls, effect_kept, effect_others, effect_rights}
-use Rattle.guest_calls.specs.Kernel.{lives}
-use Rattle.guest_calls.proofs.Times.{later_is_state}
+use Rattle.guest_kernel.specs.Kernel.{lives}
+use Rattle.guest_kernel.proofs.Times.{later_is_state}
 use Rattle.guest_machine.specs.Machine.{Hart, MachineState, can_run, later, with_registers}
 use Rattle.guest_calls.specs.Lawful.{HoldersLive}
 use Rattle.guest_machine.specs.Sound.{IsSoundMachine}
@@ -62,11 +62,11 @@ sound-state m tid i answer c e sound can = record {
 -- the code of a step gives what the step is
 pub Steps-went : (p p2 : Parts) (tid : ℕ) (i : Instr) (accessed : Access) (c : ExecState) (old new : List Event) → (Went accessed, c) ≡ effect tid i (exec_state_of (machine_of p) tid) → machine_of p2 ≡ with_exec_state (later (machine_of p)) tid c → p2.called ≡ false → new ≡ old ++ (went (later (machine_of p)) tid i accessed c).events → Steps (executed (machine_of p) tid (Ok i)) stepped.Went p2 old new
 Steps-went p p2 tid i accessed c old new e machine quiet events =
-    subst (λ (r : StepResult). Steps r stepped.Went p2 old new) (sym (executed-went (machine_of p) tid i accessed c e)) (record { went = refl; machine = machine; out = ap (λ called. cond called p2.kernel.out None) quiet; events = events })
+    subst (λ (r : StepResult). Steps r stepped.Went p2 old new) (sym (executed-went (machine_of p) tid i accessed c e)) (record { went = refl; machine = machine; out = ap (λ called. cond called p2.kernel.outgoing None) quiet; events = events })
 
 pub Steps-faulted : (p p2 : Parts) (tid : ℕ) (kind : FaultKind) (at : ℕ) (r : StepResult) (old : List Event) → r ≡ faulted (machine_of p) tid kind → at ≡ pc_of (machine_of p) tid → machine_of p2 ≡ machine_of p → p2.called ≡ false → Steps r (stepped.Faulted kind at) p2 old old
 Steps-faulted p p2 tid kind at r old is place machine quiet =
-    subst (λ (s : StepResult). Steps s (stepped.Faulted kind at) p2 old old) (sym is) (record { went = ap (stepped.Faulted kind) place; machine = machine; out = ap (λ called. cond called p2.kernel.out None) quiet; events = sym (append-nil old) })
+    subst (λ (s : StepResult). Steps s (stepped.Faulted kind at) p2 old old) (sym is) (record { went = ap (stepped.Faulted kind) place; machine = machine; out = ap (λ called. cond called p2.kernel.outgoing None) quiet; events = sym (append-nil old) })
 
 -- registers, memory and reservations as they were leave the machine as it was
 pub unchanged : (m : MachineState) (tid : ℕ) (c : ExecState) (harts : List Hart) → is_some (value_of m.harts tid) ≡ true → harts ≡ with_registers m.harts tid c.registers → c ≡ exec_state_of m tid → record m { harts = harts; memory = c.memory; held = c.held } ≡ m

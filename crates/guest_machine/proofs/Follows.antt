@@ -8,7 +8,7 @@ use Rattle.std.proofs.Math.Bool.{and-false, or-false, or-true}
 use Rattle.std.proofs.lemmas.List.{reverse-append}
 use Rattle.std.proofs.lemmas.List.Folds.{list_any-append}
 use Rattle.guest_words.specs.declared.endings.FaultKind.{FaultKind}
-use Rattle.guest_calls.proofs.Blocked.{can_run-lives}
+use Rattle.guest_kernel.proofs.Blocked.{can_run-lives}
 use Rattle.rv_isa.specs.declared.instruction.Instr.{Instr}
 use Rattle.rv_exec.specs.Effects.{ExecState, effect}
 use Rattle.rv_exec.specs.Laws.{AccessesMemory, IsInMemory}
@@ -23,11 +23,11 @@ use Rattle.call_tracker.specs.declared.jumps.JumpKind.TheVariants.{Nothing, Push
 use Rattle.trace_model.specs.declared.event_kinds.Event.{Event}
 use Rattle.trace_model.specs.declared.event_kinds.Event.TheVariants.{Step, Read, Write, Fill, Call, Ret, Start, End}
 use Rattle.trace_model.specs.WellFormed.{AreWords, IsRunning, greatest_start, is_live}
-use Rattle.guest_calls.specs.declared.answer.Answer.{Answer}
-use Rattle.guest_calls.specs.declared.answer.Answer.TheVariants.{Back, Yield, Block, ThreadEnd, ProcessEnd, Born}
-use Rattle.guest_calls.specs.declared.thread.Thread.{Thread}
-use Rattle.guest_calls.specs.Kernel.{KernelState, lives}
-use Rattle.guest_calls.specs.Invariant.{RisesTo}
+use Rattle.guest_kernel.specs.declared.answer.Answer.{Answer}
+use Rattle.guest_kernel.specs.declared.answer.Answer.TheVariants.{Back, Yield, Block, ThreadEnd, ProcessEnd, Born}
+use Rattle.guest_kernel.specs.declared.thread.Thread.{Thread}
+use Rattle.guest_kernel.specs.Kernel.{KernelState, lives}
+use Rattle.guest_kernel.specs.Invariant.{RisesTo}
 use Rattle.guest_calls.specs.Lawful.{AreCopies, GivesNumber, tids_after}
 use Rattle.guest_calls.specs.Table.{syscall}
 use Rattle.guest_calls.proofs.AllCalls.{every_syscall_is_lawful}

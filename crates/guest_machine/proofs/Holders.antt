@@ -8,8 +8,8 @@ use Rattle.std.proofs.lemmas.Bool.{eqb-true}
 use Rattle.guest_words.specs.declared.limits.TheConstants.{THREADS}
 use Rattle.guest_memory.specs.Reserved.{HoldAtMost, without_thread}
 use Rattle.guest_memory.proofs.CallerLemmas.{some_of_rest}
-use Rattle.guest_calls.specs.Kernel.{lives}
-use Rattle.guest_calls.proofs.Blocked as calls
+use Rattle.guest_kernel.specs.Kernel.{lives}
+use Rattle.guest_kernel.proofs.Blocked as calls
 use Rattle.guest_machine.specs.Machine.{Hart, MachineState, can_run, without_hart}
 use Rattle.guest_words.specs.ByThread.{value_of}
 use Rattle.guest_machine.specs.Sound.{IsSoundMachine}

@@ -9,13 +9,13 @@ use Rattle.rv_exec.specs.Effects.{ExecState, effect}
 use Rattle.rv_exec.specs.Registers.{Registers}
 use Rattle.rv_exec.specs.declared.outcome.Outcome.{Outcome}
 use Rattle.rv_exec.specs.declared.outcome.Outcome.TheVariants as outcome
-use Rattle.guest_calls.specs.declared.answer.Answer.{Answer}
-use Rattle.guest_calls.specs.declared.answer.Answer.TheVariants.{Back, Yield, Block, ThreadEnd, ProcessEnd, Born}
-use Rattle.guest_calls.specs.declared.thread.Thread.{Thread}
-use Rattle.guest_calls.specs.Kernel.{KernelState}
+use Rattle.guest_kernel.specs.declared.answer.Answer.{Answer}
+use Rattle.guest_kernel.specs.declared.answer.Answer.TheVariants.{Back, Yield, Block, ThreadEnd, ProcessEnd, Born}
+use Rattle.guest_kernel.specs.declared.thread.Thread.{Thread}
+use Rattle.guest_kernel.specs.Kernel.{KernelState}
 use Rattle.guest_calls.specs.Lawful.{GivesNumber}
 use Rattle.guest_calls.specs.Table.{syscall}
-use Rattle.guest_calls.proofs.Births.{number_left, room_left}
+use Rattle.guest_kernel.proofs.Births.{number_left, room_left}
 use Rattle.guest_calls.proofs.AllCalls.{every_syscall_is_lawful}
 use Rattle.guest_machine.specs.Laws.{EveryStepStaysWithinLimits, IsWithinLimits}
 use Rattle.guest_machine.specs.Machine.{Hart, MachineState, later, registers_of, with_registers}

@@ -24,11 +24,11 @@ use Rattle.call_tracker.specs.declared.jumps.JumpKind.TheVariants.{Nothing, Push
 use Rattle.trace_model.specs.declared.event_kinds.Event.{Event}
 use Rattle.trace_model.specs.declared.event_kinds.Event.TheVariants as events
 use Rattle.virtual_clock.specs.declared.deadline.Deadline.{Deadline}
-use Rattle.guest_calls.specs.declared.answer.Answer.{Answer}
-use Rattle.guest_calls.specs.declared.answer.Answer.TheVariants.{ThreadEnd, ProcessEnd, Born}
+use Rattle.guest_kernel.specs.declared.answer.Answer.{Answer}
+use Rattle.guest_kernel.specs.declared.answer.Answer.TheVariants.{ThreadEnd, ProcessEnd, Born}
 use Rattle.guest_calls.specs.Lawful.{AreCopies}
 use Rattle.guest_calls.specs.Table.{syscall}
-use Rattle.guest_calls.specs.Waking.{next_due}
+use Rattle.guest_kernel.specs.Waking.{next_due}
 use Rattle.guest_calls.proofs.AllCalls.{every_syscall_is_lawful}
 use Rattle.guest_machine.specs.Laws.{EveryStepIsInRange, EveryWakingIsInRange, HaveAddresses, IsAddress, IsStepInRange, IsToldInRange, TellsAddresses}
 use Rattle.guest_machine.specs.Machine.{Hart, MachineState, later, registers_of}

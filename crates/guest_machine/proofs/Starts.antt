@@ -6,9 +6,9 @@ use Rattle.elf_image.specs.Image.{Executable}
 use Rattle.guest_memory.specs.Guest.{memory_of}
 use Rattle.guest_memory.specs.ReservedBy.{reserved_by}
 use Rattle.guest_memory.specs.Reserved.{nothing_reserved}
-use Rattle.guest_calls.specs.Inputs.{Input}
-use Rattle.guest_calls.specs.Invariant.{IsState}
-use Rattle.guest_calls.specs.Kernel.{started}
+use Rattle.guest_kernel.specs.Inputs.{Input}
+use Rattle.guest_kernel.specs.Invariant.{IsState}
+use Rattle.guest_kernel.specs.Kernel.{started}
 use Rattle.guest_calls.specs.Pages.{IsBreakFree}
 use Rattle.guest_machine.specs.Machine.{Hart}
 use Rattle.guest_machine.specs.Kept.{Parts, machine_of}

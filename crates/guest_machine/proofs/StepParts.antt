@@ -21,8 +21,8 @@ use Rattle.trace_model.specs.declared.event_kinds.Event.TheVariants.{Step, Read,
 use Rattle.trace_model.specs.Parts.{count_read}
 use Rattle.trace_model.specs.Profile.{steps}
 use Rattle.trace_model.proofs.Parts.{part_weight}
-use Rattle.guest_calls.specs.declared.answer.Answer.{Answer}
-use Rattle.guest_calls.specs.declared.answer.Answer.TheVariants.{Back, ProcessEnd}
+use Rattle.guest_kernel.specs.declared.answer.Answer.{Answer}
+use Rattle.guest_kernel.specs.declared.answer.Answer.TheVariants.{Back, ProcessEnd}
 use Rattle.guest_calls.specs.Lawful.{AreCopies}
 use Rattle.guest_calls.specs.Table.{syscall}
 use Rattle.guest_calls.proofs.AllCalls.{every_syscall_is_lawful}

@@ -5,7 +5,8 @@ use Rattle.guest_memory.specs.declared.reservations.Reservations.{Reservations}
 use Rattle.guest_memory.specs.Guest.{memory_of}
 use Rattle.guest_memory.specs.ReservedBy.{reserved_by}
 use Rattle.trace_model.specs.declared.event_kinds.Event.{Event}
-use Rattle.guest_calls.specs.Kernel.{KeptKernel}
+use Rattle.guest_kernel.specs.declared.channel.Channel.{Channel}
+use Rattle.guest_kernel.specs.declared.kernel.Kernel.{Kernel}
 use Rattle.guest_machine.specs.declared.stepped.Stepped.{Stepped}
 use Rattle.guest_machine.specs.Machine.{Hart, MachineState}
 use Rattle.guest_machine.specs.Step.{StepResult}
@@ -13,7 +14,7 @@ use Rattle.guest_machine.specs.Step.{StepResult}
 -- The parts of a machine, as the program keeps them.
 pub record Parts : Type 0 where
   pub harts : List Hart
-  pub kernel : KeptKernel
+  pub kernel : Kernel
   pub memory : GuestMemory
   pub held : Reservations
   -- where thread 1 began
@@ -31,8 +32,8 @@ machine_of p = record {
 }
 
 -- the bytes that the last step put out, with their channel
-abbrev pub out_of : Parts → Option (ℕ × List ℕ)
-out_of p = if p.called then p.kernel.out else None
+abbrev pub out_of : Parts → Option (Channel × List ℕ)
+out_of p = if p.called then p.kernel.outgoing else None
 
 -- the outcome, the machine, what goes out and the events that were added are those of the result
 pub record Steps (r : StepResult) (outcome : Stepped) (new : Parts) (before after : List Event) : Type 0 where

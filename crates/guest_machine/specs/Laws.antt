@@ -6,9 +6,9 @@ use Rattle.trace_model.specs.declared.event_kinds.Event.TheVariants.{Step, Call,
 use Rattle.trace_model.specs.Parts.{IsShort}
 use Rattle.trace_model.specs.Profile.{steps}
 use Rattle.trace_model.specs.WellFormed.{MayFollow, greatest_start, is_live, weight}
-use Rattle.guest_calls.specs.Invariant.{IsState, RisesTo}
-use Rattle.guest_calls.specs.Kernel.{lives}
-use Rattle.guest_calls.specs.Waking.{IsAwake, moved_on}
+use Rattle.guest_kernel.specs.Invariant.{IsState, RisesTo}
+use Rattle.guest_kernel.specs.Kernel.{lives}
+use Rattle.guest_kernel.specs.Waking.{IsAwake, moved_on}
 use Rattle.virtual_clock.specs.Once.{IsOnce}
 use Rattle.virtual_clock.specs.declared.deadline.Deadline.{Deadline}
 use Rattle.rv_exec.specs.Registers.{Registers}

@@ -5,8 +5,8 @@ use Rattle.guest_words.specs.ByThread.{value_of, with_value, without_thread}
 use Rattle.guest_memory.specs.Memory.{Memory}
 use Rattle.guest_memory.specs.Reserved.{Reserved}
 use Rattle.rv_exec.specs.Registers.{Registers}
-use Rattle.guest_calls.specs.Kernel as kernel
-use Rattle.guest_calls.specs.Kernel.{KernelState}
+use Rattle.guest_kernel.specs.Kernel as kernel
+use Rattle.guest_kernel.specs.Kernel.{KernelState}
 
 -- a live thread: its number and its registers
 abbrev pub Hart : Type 0

@@ -1,6 +1,6 @@
 -- What holds of a machine between steps.
 use Rattle.std.specs.Prelude.{◌≡◌, ℕ, ◌%◌, List, [], ◌∷◌, map}
-use Rattle.guest_calls.specs.Invariant.{IsState}
+use Rattle.guest_kernel.specs.Invariant.{IsState}
 use Rattle.guest_calls.specs.Lawful.{HoldersLive}
 use Rattle.guest_calls.specs.Pages.{IsBreakFree}
 use Rattle.guest_machine.specs.Machine.{Hart, MachineState}

@@ -8,8 +8,8 @@ use Rattle.guest_words.specs.declared.rights.Rights.{Rights}
 use Rattle.guest_memory.specs.Memory.{Memory, with_bytes, with_pages}
 use Rattle.guest_memory.specs.Reserved.{nothing_reserved}
 use Rattle.elf_image.specs.Image.{Executable, Segment, touches}
-use Rattle.guest_calls.specs.Inputs.{Input}
-use Rattle.guest_calls.specs.Kernel.{started}
+use Rattle.guest_kernel.specs.Inputs.{Input}
+use Rattle.guest_kernel.specs.Kernel.{started}
 use Rattle.guest_machine.specs.Machine.{MachineState}
 
 -- ---- the segments

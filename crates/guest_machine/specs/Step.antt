@@ -20,8 +20,9 @@ use Rattle.call_tracker.specs.declared.jumps.JumpKind.{JumpKind}
 use Rattle.call_tracker.specs.declared.jumps.JumpKind.TheVariants.{Nothing, Push, Pop, PopPush}
 use Rattle.guest_calls.specs.Results as calls
 use Rattle.guest_calls.specs.Results.{SyscallResult}
-use Rattle.guest_calls.specs.declared.answer.Answer.{Answer}
-use Rattle.guest_calls.specs.declared.answer.Answer.TheVariants.{Back, Yield, Block, ThreadEnd, ProcessEnd, Born}
+use Rattle.guest_kernel.specs.declared.answer.Answer.{Answer}
+use Rattle.guest_kernel.specs.declared.answer.Answer.TheVariants.{Back, Yield, Block, ThreadEnd, ProcessEnd, Born}
+use Rattle.guest_kernel.specs.declared.channel.Channel.{Channel}
 use Rattle.guest_calls.specs.Table.{syscall}
 use Rattle.guest_machine.specs.declared.stepped.Stepped.{Stepped}
 use Rattle.guest_machine.specs.declared.stepped.Stepped.TheVariants.{Went, Yielded, Blocked, Ended, Finished, Faulted}
@@ -32,8 +33,8 @@ pub record StepResult : Type 0 where
   pub machine : MachineState
   -- its events, in order
   pub events : List Event
-  -- bytes that go out, with their channel 1 or 2
-  pub out : Option (ℕ × List ℕ)
+  -- bytes that go out, with their channel
+  pub out : Option (Channel × List ℕ)
   pub outcome : Stepped
 
 -- ---- an instruction
@@ -118,6 +119,10 @@ after_syscall m tid r = record {
   outcome = stepped_by r.answer;
 }
 
+-- the step of a system call, before which the time goes on
+abbrev pub syscall_step : MachineState → ℕ → StepResult
+syscall_step m tid = after_syscall (later m) tid (syscall (syscall_of (later m) tid))
+
 -- ---- the step
 -- the instruction at an address, or why it can't run
 abbrev pub decoded_or_illegal : Option Instr → Result Instr FaultKind
@@ -135,7 +140,7 @@ instruction_at m at = instruction_in (loaded m permission.Execute at 4)
 abbrev pub after_effect : MachineState → ℕ → Instr → Outcome × ExecState → StepResult
 after_effect m tid i (outcome.Went accessed, c) = went (later m) tid i accessed c
 after_effect m tid i (outcome.Fault kind, c) = faulted m tid kind
-after_effect m tid i (outcome.Syscall, c) = after_syscall (later m) tid (syscall (syscall_of (later m) tid))
+after_effect m tid i (outcome.Syscall, c) = syscall_step m tid
 
 abbrev pub executed : MachineState → ℕ → Result Instr FaultKind → StepResult
 executed m tid (Ok i) = after_effect m tid i (effect tid i (exec_state_of m tid))

@@ -11,8 +11,8 @@ use Rattle.guest_machine.specs.declared.stepped.Stepped.{Stepped}
 use Rattle.guest_machine.specs.declared.stepped.Stepped.TheVariants.{Went}
 use Rattle.guest_machine.specs.declared.stepped.Advanced.{Advanced}
 use Rattle.guest_machine.specs.declared.stepped.Advanced.TheVariants.{Ran, Accessed, Jumped, Other}
-use Rattle.guest_machine.specs.Kept.{Parts, out_of}
-use Rattle.guest_machine.specs.Step.{access_events, jump_events}
+use Rattle.guest_machine.specs.Kept.{Parts, Steps, out_of}
+use Rattle.guest_machine.specs.Step.{StepResult, access_events, jump_events}
 
 -- the events that are told
 abbrev pub told : ℕ → Advanced → List Event
@@ -37,6 +37,10 @@ steps_of tid (suc n) = steps_of tid n ++ Step tid ∷ []
 abbrev pub stepped_of : Advanced → Stepped
 stepped_of (Other outcome) = outcome
 stepped_of instruction = Went
+
+-- The step is of the result, whose events are those that were added and then those that are told.
+abbrev pub StepsTold : StepResult → ℕ → Advanced → Parts → List Event → List Event → Type 0
+StepsTold r tid advanced new before after = Steps r (stepped_of advanced) new before (after ++ told tid advanced)
 
 -- Nothing goes out by an instruction that went, and no event is added.
 abbrev pub IsQuiet : Advanced → Parts → EventList → EventList → Type 0

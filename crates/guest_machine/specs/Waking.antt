@@ -2,7 +2,7 @@
 use Rattle.std.specs.Prelude.{ℕ, zero, suc, List, length, slice_set, Option, Some, None}
 use Rattle.virtual_clock.specs.declared.deadline.Deadline.{Deadline}
 use Rattle.rv_exec.specs.Registers.{Registers}
-use Rattle.guest_calls.specs.Waking.{next_due, woken_by_time}
+use Rattle.guest_kernel.specs.Waking.{next_due, woken_by_time}
 use Rattle.guest_machine.specs.Machine.{Hart, MachineState, registers_of, with_registers}
 
 -- the number is in a0, and the pc stays

@@ -8,7 +8,7 @@ ghost use Rattle.guest_machine.specs.Step.{harts_after, life_events, stepped_by}
 use crate::Stepped;
 use crate::hart::resume;
 use crate::step_events::add_ends;
-use guest_calls::Answer;
+use guest_kernel::Answer;
 use guest_words::limits::THREADS;
 use guest_words::{ByThread, Tid};
 use rv_exec::Cpu;

@@ -2,14 +2,13 @@
 ghost use Rattle.std.specs.Prelude.{◌≡◌, ◌≢◌, ◌≤◌, ◌+◌, ◌%◌, ◌++◌, ◌∷◌, [], ℕ, List, None, true, false, Ok, OnOk, OnErr, IfOk, IfErr, IfSome, IfNone, IsOk, is_some, length};
 ghost use Rattle.guest_words.specs.ByThread.{value_of};
 ghost use Rattle.guest_memory.specs.Guest.{memory_of};
-ghost use Rattle.guest_calls.specs.Table.{syscall};
 ghost use Rattle.guest_machine.specs.Kept.{IsAsBefore, Parts, Steps, machine_of, out_of};
-ghost use Rattle.guest_machine.specs.Machine.{can_run, later};
+ghost use Rattle.guest_machine.specs.Machine.{can_run};
 ghost use Rattle.guest_machine.specs.Parts.{parts_of};
 ghost use Rattle.guest_machine.specs.Running.{MakesSteps, MayTakeSteps};
 ghost use Rattle.guest_machine.specs.Sound.{IsSoundMachine};
-ghost use Rattle.guest_machine.specs.Told.{IsInstruction, IsQuiet, stepped_of, told};
-ghost use Rattle.guest_machine.specs.Step.{after_syscall, syscall_of, executed, faulted, instruction_at, next_instruction, pc_of, step};
+ghost use Rattle.guest_machine.specs.Told.{IsInstruction, IsQuiet, StepsTold};
+ghost use Rattle.guest_machine.specs.Step.{executed, faulted, instruction_at, next_instruction, pc_of, step, syscall_step};
 ghost use Rattle.trace_model.specs.EventList.{EventList};
 ghost use Rattle.trace_model.specs.declared.event_kinds.Event.{Event};
 
@@ -19,7 +18,8 @@ use crate::known::run_on;
 use crate::step_events::{add_jump, add_step};
 use crate::telling::told;
 use crate::{Advanced, KnownSteps, Stepped};
-use guest_calls::Kernel;
+use guest_calls::syscall;
+use guest_kernel::Kernel;
 use guest_memory::{GuestMemory, Reservations};
 use guest_words::limits::{SYSCALL_EVENTS, THREADS};
 use guest_words::{Addr, ByThread, FaultKind, Tid};
@@ -84,8 +84,8 @@ impl Guest {
         requires can_run { can_run (machine_of (parts_of self.old)) tid ≡ true }
         requires no_call { instruction.now ≢ Ecall }
         ensures step { IfOk result (λ advanced. (before : List Event)
-            → Steps (executed (machine_of (parts_of self.old)) tid (Ok instruction.now))
-            (stepped_of advanced) (parts_of self.new) before (before ++ told tid advanced)) }
+            → StepsTold (executed (machine_of (parts_of self.old)) tid (Ok instruction.now))
+            tid advanced (parts_of self.new) before before) }
         ensures fault { IfErr result (λ kind. executed (machine_of (parts_of self.old)) tid
             (Ok instruction.now) ≡ faulted (machine_of (parts_of self.old)) tid kind) }
         ensures kept { OnErr result (machine_of (parts_of self.new)
@@ -155,8 +155,7 @@ impl Guest {
         requires can_run { can_run (machine_of (parts_of self.old)) tid ≡ true }
         requires spare { THREADS ≤ length self.old.harts.list + self.old.harts.room }
         ensures step { IfOk result (λ stepped. Steps
-            (after_syscall (later (machine_of (parts_of self.old))) tid
-            (syscall (syscall_of (later (machine_of (parts_of self.old))) tid))) stepped
+            (syscall_step (machine_of (parts_of self.old)) tid) stepped
             (parts_of self.new) events.old.list events.new.list) }
         ensures refused { OnErr result (IsAsBefore (parts_of self.old)
             (parts_of self.new) events.old.list events.new.list) }
@@ -168,10 +167,14 @@ impl Guest {
         events.reserve(EVENTS_OF_A_CALL_STEP)?;
         events.push(Event::Step { tid });
         let cpu = *cpu_of(&self.harts, tid);
-        match self
-            .kernel
-            .syscall(&mut self.memory, &mut self.held, tid, &cpu, events)
-        {
+        match syscall(
+            &mut self.kernel,
+            &mut self.memory,
+            &mut self.held,
+            tid,
+            &cpu,
+            events,
+        ) {
             Ok(answer) => {
                 self.called = true;
                 Ok(apply_answer(&mut self.harts, tid, answer, events))
@@ -189,9 +192,9 @@ impl Guest {
         requires sound { IsSoundMachine (machine_of (parts_of self.old)) }
         requires can_run { can_run (machine_of (parts_of self.old)) tid ≡ true }
         requires spare { THREADS ≤ length self.old.harts.list + self.old.harts.room }
-        ensures step { IfOk result (λ advanced. Steps (step (machine_of (parts_of self.old)) tid)
-            (stepped_of advanced) (parts_of self.new) events.old.list
-            (events.new.list ++ told tid advanced)) }
+        ensures step { IfOk result (λ advanced. StepsTold
+            (step (machine_of (parts_of self.old)) tid) tid advanced
+            (parts_of self.new) events.old.list events.new.list) }
         ensures refused { OnErr result (IsAsBefore (parts_of self.old)
             (parts_of self.new) events.old.list events.new.list) }
         ensures no_allocation { next_instruction (machine_of (parts_of self.old)) tid ≢ Ok Ecall

@@ -1,10 +1,9 @@
 //! The registers of the live threads.
 ghost use Rattle.std.specs.Prelude.{◌≡◌, ◌-◌, true, is_some};
-ghost use Rattle.guest_memory.specs.Guest.{memory_of};
 ghost use Rattle.guest_memory.specs.ReservedBy.{reserved_by};
 ghost use Rattle.guest_memory.specs.Reserved.{HoldAtMost, without_thread};
 ghost use Rattle.guest_words.specs.ByThread.{value_of};
-ghost use Rattle.rv_exec.specs.Effects.{effect};
+ghost use Rattle.rv_exec.specs.Effects.{effect, exec_state_of};
 ghost use Rattle.guest_machine.specs.Machine.{registers_of, with_registers};
 ghost use Rattle.guest_machine.specs.Step.{resumed};
 ghost use Rattle.guest_machine.specs.Waking.{with_answer};
@@ -37,16 +36,9 @@ pub(crate) fn execute_for(
     requires held { HoldAtMost (without_thread (reserved_by held.old) tid) (THREADS - 1) }
     ensures effect { (
       result.0,
-      record {
-        registers = registers_of harts.new.list tid;
-        memory = memory_of memory.new;
-        held = reserved_by held.new;
-      },
-    ) ≡ effect tid i (record {
-      registers = registers_of harts.old.list tid;
-      memory = memory_of memory.old;
-      held = reserved_by held.old;
-    }) }
+      exec_state_of (registers_of harts.new.list tid) memory.new held.new,
+    ) ≡ effect tid i
+        (exec_state_of (registers_of harts.old.list tid) memory.old held.old) }
     ensures pc { result.1 ≡ (registers_of harts.new.list tid).pc }
     ensures harts { harts.new.list ≡ with_registers harts.old.list tid
         (registers_of harts.new.list tid) }

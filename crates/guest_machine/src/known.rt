@@ -5,9 +5,8 @@ ghost use Rattle.guest_memory.specs.Guest.{memory_of};
 ghost use Rattle.rv_exec.specs.Effects.{exec_state_of};
 ghost use Rattle.trace_model.specs.declared.observer.Observed.TheVariants.{Taken};
 ghost use Rattle.trace_model.specs.Observing.{MayTakeAll, ObservesAll};
-ghost use Rattle.guest_machine.specs.Private.Carrying.{Carries, IsStateOf, IsStepOf, MayCarry};
+ghost use Rattle.guest_machine.specs.Private.Carrying.{Carries, IsStateOf, IsStepOf, MayCarry, ObservesFrom};
 ghost use Rattle.guest_machine.specs.Machine.{MachineState};
-ghost use Rattle.guest_machine.specs.Running.{ObservesSteps};
 ghost use Rattle.guest_machine.specs.Told.{IsInstruction, steps_of};
 
 use crate::Advanced;
@@ -144,10 +143,8 @@ pub(crate) fn run_on<W: Observer>(
         (exec_state_of cpu.old memory.old held.old) tid most }
     ensures carried { (m : MachineState) → IsStateOf (exec_state_of cpu.old memory.old held.old) tid m
         → Carries m tid (exec_state_of cpu.new memory.new held.new) result.0 }
-    ensures observed { IfOk result.1 (λ observed. (m : MachineState)
-        → IsStateOf (exec_state_of cpu.old memory.old held.old) tid m
-        → ObservesSteps W.stands (W.fits observer.old) m tid observer.old observer.new
-        result.0 observed) }
+    ensures observed { IfOk result.1 (ObservesFrom W.stands (W.fits observer.old)
+        (exec_state_of cpu.old memory.old held.old) tid observer.old observer.new result.0) }
     ensures most { result.0 ≤ most }
     ensures same { W.fits observer.new ≡ W.fits observer.old }
 {

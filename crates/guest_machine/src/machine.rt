@@ -6,7 +6,7 @@ use crate::setup::first_guest;
 use crate::stack::strings_length;
 use crate::{Advanced, KnownSteps, SetupError, Stepped};
 use elf_image::Image;
-use guest_calls::Inputs;
+use guest_kernel::{Channel, Inputs};
 use guest_words::limits::{PAGES, STACK_PAGES};
 use guest_words::{Addr, ReadyList, Tid};
 use std::alloc::{AllocError, Global};
@@ -47,7 +47,7 @@ impl Machine {
     ghost use Rattle.guest_machine.specs.Kept.{machine_of, out_of, IsAsBefore, Steps};
     ghost use Rattle.guest_machine.specs.Machine.{can_run, ready};
     ghost use Rattle.guest_machine.specs.Running.{MakesSteps, MayTakeSteps};
-    ghost use Rattle.guest_machine.specs.Told.{IsQuiet, stepped_of, told};
+    ghost use Rattle.guest_machine.specs.Told.{IsQuiet, StepsTold};
     ghost use Rattle.std.specs.Prelude.{◌++◌};
     ghost use Rattle.guest_machine.specs.Step.{next_instruction, step};
     ghost use Rattle.guest_machine.specs.Waking.{woken};
@@ -78,11 +78,10 @@ impl Machine {
         Ok(Machine { guest })
     }
 
-    /// The channel, 1 or 2, and the bytes that the last step wrote, where it was a write of at least one byte.
+    /// The channel and the bytes that the last step wrote, where it was a write of at least one byte.
     #[inline(always)]
-    pub fn outgoing(&self) -> Option<(u32, &[u8])>
+    pub fn outgoing(&self) -> Option<(Channel, &[u8])>
         ensures out { option_map (λ out. (out.0, out.1.now)) result ≡ out_of self.now }
-        ensures channel { IfSome result (λ out. (1 ≤ out.0) × (out.0 ≤ 2)) }
     {
         if self.guest.called {
             self.guest.kernel.outgoing()
@@ -116,8 +115,8 @@ impl Machine {
     /// any other step are added. An instruction other than ECALL does not allocate.
     pub fn advance(&mut self, tid: Tid, events: &mut Events) -> Result<Advanced, AllocError>
         requires { can_run (machine_of self.old) tid ≡ true }
-        ensures step { IfOk result (λ advanced. Steps (step (machine_of self.old) tid)
-            (stepped_of advanced) self.new events.old.list (events.new.list ++ told tid advanced)) }
+        ensures step { IfOk result (λ advanced. StepsTold (step (machine_of self.old) tid)
+            tid advanced self.new events.old.list events.new.list) }
         ensures refused { OnErr result (IsAsBefore self.old self.new
             events.old.list events.new.list) }
         ensures no_allocation { next_instruction (machine_of self.old) tid ≢ Ok Ecall → IsOk result }

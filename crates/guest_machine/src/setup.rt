@@ -11,7 +11,7 @@ use crate::image_pages::greatest_end;
 use crate::stack::{RANDOM_ADDRESS, STRINGS_LIMIT};
 use crate::start_memory::start_memory;
 use elf_image::Image;
-use guest_calls::{Inputs, Kernel};
+use guest_kernel::{Inputs, Kernel};
 use guest_memory::Reservations;
 use guest_words::limits::{PAGES, STACK_PAGES, THREADS};
 use guest_words::{Addr, ByThread, Tid};

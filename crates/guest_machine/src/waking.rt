@@ -1,7 +1,7 @@
 //! The clock wakes threads.
 ghost use Rattle.std.specs.Prelude.{◌≡◌, ◌≤◌, ◌+◌, length, is_some};
 ghost use Rattle.guest_words.specs.declared.limits.TheConstants.{THREADS};
-ghost use Rattle.guest_calls.specs.Waking.{next_due};
+ghost use Rattle.guest_kernel.specs.Waking.{next_due};
 ghost use Rattle.guest_machine.specs.Kept.{machine_of, out_of};
 ghost use Rattle.guest_machine.specs.Parts.{parts_of};
 ghost use Rattle.guest_machine.specs.Sound.{IsSoundMachine};

@@ -6,8 +6,8 @@ use Rattle.rv_isa.specs.declared.instruction.Instr.{Instr}
 use Rattle.rv_exec.specs.Effects.{ExecState, effect}
 use Rattle.rv_exec.specs.declared.outcome.Outcome.{Outcome}
 use Rattle.rv_exec.specs.declared.outcome.Outcome.TheVariants as outcome
-use Rattle.guest_calls.specs.declared.answer.Answer.{Answer}
-use Rattle.guest_calls.specs.declared.answer.Answer.TheVariants.{Back, Born}
+use Rattle.guest_kernel.specs.declared.answer.Answer.{Answer}
+use Rattle.guest_kernel.specs.declared.answer.Answer.TheVariants.{Back, Born}
 use Rattle.guest_calls.specs.Lawful.{goes_on}
 use Rattle.guest_calls.specs.Table.{syscall}
 use Rattle.guest_calls.proofs.AllCalls.{every_syscall_is_lawful}

@@ -15,7 +15,7 @@ use Rattle.guest_machine.specs.Machine.{MachineState, can_run}
 use Rattle.guest_machine.specs.Step.{step}
 use Rattle.guest_run.specs.declared.turn_status.TurnStatus.{TurnStatus}
 use Rattle.guest_run.specs.declared.turn_status.TurnStatus.TheVariants.{GoesOn, TurnOver, Ends}
-use Rattle.guest_run.specs.declared.run_error.Channel.{Channel}
+use Rattle.guest_kernel.specs.declared.channel.Channel.{Channel}
 use Rattle.guest_run.specs.declared.run_error.RunError.{RunError}
 use Rattle.guest_run.specs.declared.run_error.RunError.TheVariants.{CannotPut, Memory}
 use Rattle.guest_run.specs.declared.turns.Choice.TheVariants as choice

@@ -5,8 +5,8 @@ use Rattle.std.specs.List.{list_any}
 use Rattle.std.specs.Option.{option_or}
 use Rattle.std.proofs.lemmas.Bool.{eq-eqb, or_left, or_right, cases_lt, or_cases}
 use Rattle.std.proofs.lemmas.Bool.Decides.{nat_tests}
-use Rattle.guest_calls.specs.declared.thread.Thread.{Thread}
-use Rattle.guest_calls.specs.Kernel.{KernelState, can_run, is_blocked, is_thread, ready}
+use Rattle.guest_kernel.specs.declared.thread.Thread.{Thread}
+use Rattle.guest_kernel.specs.Kernel.{KernelState, can_run, is_blocked, is_thread, ready}
 use Rattle.thread_sched.specs.declared.entry.Entry.{Entry}
 use Rattle.thread_sched.specs.declared.turns.Turn.TheVariants.{Run, Mismatch}
 use Rattle.thread_sched.specs.TurnRule.{SchedulerState, able, above, least, lesser, next_thread, scheduled, turn_if, turn_of}

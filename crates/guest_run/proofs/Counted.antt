@@ -6,7 +6,7 @@ use Rattle.guest_words.specs.declared.endings.Finish.TheVariants.{Exit, Fault, D
 use Rattle.trace_model.specs.declared.event_kinds.Event.{Event}
 use Rattle.trace_model.specs.Cut.{cut, past_after}
 use Rattle.trace_model.specs.Profile.{steps}
-use Rattle.guest_calls.specs.Kernel.{ready}
+use Rattle.guest_kernel.specs.Kernel.{ready}
 use Rattle.thread_sched.specs.TurnRule.{SchedulerState, turn_of}
 use Rattle.thread_sched.specs.declared.turns.Turn.{Turn}
 use Rattle.thread_sched.specs.declared.turns.Turn.TheVariants as turn

@@ -13,10 +13,10 @@ use Rattle.thread_sched.specs.TurnRule.{turn_of}
 use Rattle.thread_sched.specs.declared.turns.Turn.{Turn}
 use Rattle.thread_sched.specs.declared.turns.Turn.TheVariants as turn
 use Rattle.elf_image.specs.Image.{Executable}
-use Rattle.guest_calls.specs.Inputs.{Input}
-use Rattle.guest_calls.specs.Kernel.{is_thread, ready}
-use Rattle.guest_calls.specs.declared.thread.Thread.{Thread}
-use Rattle.guest_calls.specs.Invariant.{RisesTo}
+use Rattle.guest_kernel.specs.Inputs.{Input}
+use Rattle.guest_kernel.specs.Kernel.{is_thread, ready}
+use Rattle.guest_kernel.specs.declared.thread.Thread.{Thread}
+use Rattle.guest_kernel.specs.Invariant.{RisesTo}
 use Rattle.guest_machine.specs.declared.stepped.Stepped.{Stepped}
 use Rattle.guest_machine.specs.declared.stepped.Stepped.TheVariants.{Went}
 use Rattle.guest_machine.specs.Laws.{IsWithinLimits, KeepsThreads, MachineStandsFor}

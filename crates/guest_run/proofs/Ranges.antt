@@ -16,7 +16,7 @@ use Rattle.thread_sched.specs.TurnRule.{turn_of}
 use Rattle.thread_sched.specs.declared.turns.Turn.{Turn}
 use Rattle.thread_sched.specs.declared.turns.Turn.TheVariants as turn
 use Rattle.elf_image.specs.Image.{Executable}
-use Rattle.guest_calls.specs.Inputs.{Input}
+use Rattle.guest_kernel.specs.Inputs.{Input}
 use Rattle.guest_machine.specs.declared.stepped.Stepped.{Stepped}
 use Rattle.guest_machine.specs.declared.stepped.Stepped.TheVariants.{Finished, Faulted}
 use Rattle.guest_machine.specs.Laws.{HaveAddresses, IsAddress, IsToldInRange, TellsAddresses}

@@ -7,7 +7,7 @@ use Rattle.trace_model.specs.WellFormed.{IsLight}
 use Rattle.trace_model.proofs.Parts.{short_light}
 use Rattle.thread_sched.specs.TurnRule.{SchedulerState}
 use Rattle.elf_image.specs.Image.{Executable}
-use Rattle.guest_calls.specs.Inputs.{Input}
+use Rattle.guest_kernel.specs.Inputs.{Input}
 use Rattle.guest_machine.specs.Start.{start}
 use Rattle.guest_run.specs.Machine.{guest}
 use Rattle.guest_run.specs.Run.{events_of, run}

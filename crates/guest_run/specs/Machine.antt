@@ -2,7 +2,8 @@
 use Rattle.std.specs.Prelude.{ℕ, Bool, List, Option}
 use Rattle.guest_words.specs.declared.endings.Finish.TheVariants.{Exit, Fault}
 use Rattle.trace_model.specs.declared.event_kinds.Event.{Event}
-use Rattle.guest_calls.specs.Kernel.{ready}
+use Rattle.guest_kernel.specs.declared.channel.Channel.{Channel}
+use Rattle.guest_kernel.specs.Kernel.{ready}
 use Rattle.guest_machine.specs.declared.stepped.Stepped.{Stepped}
 use Rattle.guest_machine.specs.declared.stepped.Stepped.TheVariants.{Went, Yielded, Blocked, Ended, Finished, Faulted}
 use Rattle.guest_machine.specs.Machine.{MachineState}
@@ -24,7 +25,7 @@ turn_status_of tid (Faulted kind at) = Ends (Fault kind tid at)
 pub record Progress (State : Type 0) : Type 0 where
   pub state : State
   pub events : List Event
-  pub out : Option (ℕ × List ℕ)
+  pub out : Option (Channel × List ℕ)
   pub turn_status : TurnStatus
 
 -- A machine: the step of a thread, the live threads with whether each can run, and what is woken before the next turn is

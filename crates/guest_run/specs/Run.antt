@@ -1,8 +1,10 @@
 -- A run, turn by turn: its moves, and how it ended.
-use Rattle.std.specs.Prelude.{ℕ, zero, suc, pred, ◌==◌, Bool, true, false, if◌then◌else◌, List, [], ◌∷◌, ◌++◌, Option, Some, None}
+use Rattle.std.specs.Prelude.{ℕ, zero, suc, pred, Bool, true, false, if◌then◌else◌, List, [], ◌∷◌, ◌++◌, Option, Some, None}
 use Rattle.guest_words.specs.declared.endings.Finish.{Finish}
 use Rattle.guest_words.specs.declared.endings.Finish.TheVariants.{Budget, Deadlock, Schedule}
 use Rattle.trace_model.specs.declared.event_kinds.Event.{Event}
+use Rattle.guest_kernel.specs.declared.channel.Channel.{Channel}
+use Rattle.guest_kernel.specs.declared.channel.Channel.TheVariants as channel
 use Rattle.thread_sched.specs.declared.entry.Entry.{Entry}
 use Rattle.thread_sched.specs.declared.turns.Turn.{Turn}
 use Rattle.thread_sched.specs.declared.turns.Turn.TheVariants as turn
@@ -16,7 +18,7 @@ pub record Move : Type 0 where
   pub opens : Bool
   pub tid : ℕ
   pub events : List Event
-  pub out : Option (ℕ × List ℕ)
+  pub out : Option (Channel × List ℕ)
 
 pub record WrittenRun : Type 0 where
   pub moves : List Move
@@ -96,14 +98,15 @@ events_of [] = []
 events_of (move ∷ moves) = move.events ++ events_of moves
 
 -- what goes out on a channel
-abbrev pub sent : ℕ → Option (ℕ × List ℕ) → List ℕ
-sent channel None = []
-sent channel (Some out) = if out.0 == channel then out.1 else []
+abbrev pub sent : Channel → Option (Channel × List ℕ) → List ℕ
+sent channel.Out (Some (channel.Out, bytes)) = bytes
+sent channel.Err (Some (channel.Err, bytes)) = bytes
+sent _ _ = []
 
 -- the bytes that moves put on a channel, in order
-abbrev pub bytes_on : ℕ → List Move → List ℕ
-bytes_on channel [] = []
-bytes_on channel (move ∷ moves) = sent channel move.out ++ bytes_on channel moves
+abbrev pub bytes_on : Channel → List Move → List ℕ
+bytes_on on [] = []
+bytes_on on (move ∷ moves) = sent on move.out ++ bytes_on on moves
 
 -- how many moves come before the next turn begins
 abbrev pub current : List Move → ℕ

@@ -2,11 +2,11 @@
 use Rattle.std.specs.Prelude.{◌≡◌, ℕ, List, ◌∷◌, ◌++◌, Result, Ok, Err}
 use Rattle.trace_model.specs.declared.event_kinds.Event.{Event}
 use Rattle.elf_image.specs.Image.{Executable}
-use Rattle.guest_calls.specs.Inputs.{Input}
+use Rattle.guest_kernel.specs.Inputs.{Input}
 use Rattle.guest_machine.specs.Kept.{Parts, machine_of}
 use Rattle.guest_machine.specs.Start.{start}
 use Rattle.guest_run.specs.declared.run.Ended.{Ended}
-use Rattle.guest_run.specs.declared.run_error.Channel.{Channel}
+use Rattle.guest_kernel.specs.declared.channel.Channel.{Channel}
 use Rattle.guest_run.specs.declared.run_error.RunError.{RunError}
 use Rattle.guest_run.specs.declared.run_error.RunError.TheVariants.{CannotPut, Memory}
 use Rattle.guest_run.specs.Output.{FailsOn, Sinks, with_output}

@@ -13,7 +13,7 @@ use Rattle.thread_sched.specs.ScheduleText.{IsEntry}
 use Rattle.thread_sched.specs.declared.entry.Entry.{Entry}
 use Rattle.thread_sched.specs.TurnRule.{SchedulerState}
 use Rattle.elf_image.specs.Image.{Executable}
-use Rattle.guest_calls.specs.Inputs.{Input}
+use Rattle.guest_kernel.specs.Inputs.{Input}
 use Rattle.guest_machine.specs.Laws.{IsAddress}
 use Rattle.guest_machine.specs.Start.{start}
 use Rattle.guest_run.specs.Laws.{scheduler}

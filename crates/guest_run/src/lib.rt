@@ -12,10 +12,11 @@ mod stepper;
 mod turn_status;
 mod turns;
 
+pub use guest_kernel::Channel;
 pub use laws::{
     recordings_are_schedules, runs_replay, runs_stay_within, runs_tell_in_range,
     traces_are_well_formed,
 };
 pub use run::{Ended, run_guest};
-pub use run_error::{Channel, RunError};
+pub use run_error::RunError;
 pub use turn_status::TurnStatus;

@@ -1,14 +1,8 @@
 //! Why a run is given up.
 
+use guest_kernel::Channel;
 use std::alloc::AllocError;
 use thiserror::Error;
-
-/// What a guest writes to: its standard output, or its standard error.
-#[derive(Clone, Copy, Debug, PartialEq, Eq)]
-pub enum Channel {
-    Out,
-    Err,
-}
 
 /// Why a run is given up before its end.
 #[derive(Clone, Copy, Debug, PartialEq, Eq, Error)]

@@ -3,13 +3,13 @@ ghost use Rattle.std.specs.Prelude.{◌≡◌, ◌∷◌, [], true, IfOk, if◌t
 ghost use Rattle.guest_words.specs.declared.endings.Finish.TheVariants.{Deep};
 ghost use Rattle.trace_model.specs.Observing.{MayTakeAll, ObservesAll, is_taken};
 ghost use Rattle.trace_model.specs.declared.event_kinds.Event.TheVariants.{Step};
-ghost use Rattle.guest_machine.specs.Kept.{Steps, machine_of, out_of};
+ghost use Rattle.guest_machine.specs.Kept.{machine_of, out_of};
 ghost use Rattle.guest_machine.specs.Machine.{can_run};
-ghost use Rattle.guest_machine.specs.Step.{StepResult, access_events, jump_events};
+ghost use Rattle.guest_machine.specs.Step.{access_events, jump_events};
 ghost use Rattle.guest_run.specs.declared.turn_status.TurnStatus.TheVariants.{Ends};
-ghost use Rattle.guest_run.specs.Machine.{guest, progress_of};
+ghost use Rattle.guest_run.specs.Machine.{guest};
 ghost use Rattle.guest_run.specs.Output.{sinks};
-ghost use Rattle.guest_run.specs.Private.Steps.{PutEndsOn, PutsSent, StepEnds};
+ghost use Rattle.guest_run.specs.Private.Steps.{PutEndsOn, PutsSent, StepEnds, StepEndsAs};
 
 use crate::turn_status::turn_status_of;
 use crate::{Channel, RunError, TurnStatus};
@@ -53,8 +53,8 @@ fn put_outgoing<O: Sink, E: Sink>(
         (sinks (O.state out.new) (E.state err.new)) result }
 {
     match machine.outgoing() {
-        Some((1, bytes)) => put(bytes, Channel::Out, out),
-        Some((_, bytes)) => put(bytes, Channel::Err, err),
+        Some((Channel::Out, bytes)) => put(bytes, Channel::Out, out),
+        Some((Channel::Err, bytes)) => put(bytes, Channel::Err, err),
         None => Ok(()),
     }
 }
@@ -111,8 +111,8 @@ impl Stepper {
         err: &mut E,
     ) -> Result<TurnStatus, RunError>
         requires { MayTakeAll W.stands (W.fits observer.old) observer.old self.old.events.list }
-        ensures ends { (r : StepResult) → Steps r stepped self.old.machine [] self.old.events.list
-            → StepEnds W.stands (W.fits observer.old) (progress_of tid r)
+        ensures ends { StepEndsAs W.stands (W.fits observer.old) tid stepped
+            self.old.machine self.old.events.list
             observer.old (sinks (O.state out.old) (E.state err.old))
             (machine_of self.new.machine) observer.new
             (sinks (O.state out.new) (E.state err.new)) result }

@@ -3,7 +3,8 @@ ghost use Rattle.guest_memory.specs.Guest.{memory_of};
 ghost use Rattle.guest_calls.specs.Pages.{IsBreakFree};
 
 use anyhow::{Context, Result, bail};
-use guest_calls::{Answer, Inputs, Kernel};
+use guest_calls::syscall;
+use guest_kernel::{Answer, Channel, Inputs, Kernel};
 use guest_memory::{GuestMemory, Reservations};
 use guest_words::{Rights, Tid};
 use rv_exec::Cpu;
@@ -95,7 +96,7 @@ impl Guest {
             bail!("it can't run");
         }
         let (memory, held, events) = (&mut self.memory, &mut self.held, &mut self.events);
-        Ok(self.kernel.syscall(memory, held, tid, &cpu, events)?)
+        Ok(syscall(&mut self.kernel, memory, held, tid, &cpu, events)?)
     }
 
     // Which thread the clock wakes, with which answer.
@@ -144,7 +145,15 @@ fn call_of(row: &str) -> Result<(Tid, u32, [u32; 6])> {
     Ok((tid, number.parse()?, arguments))
 }
 
-/// What the kernel answers, and what goes out: the channel, how many bytes there are, and the first of them.
+// The descriptor that a channel has from the start.
+fn number_of(channel: Channel) -> u32 {
+    match channel {
+        Channel::Out => 1,
+        Channel::Err => 2,
+    }
+}
+
+/// What the kernel answers, and what goes out: the channel's number, how many bytes there are, and the first of them.
 pub fn answer(alloc: Global, guest: &mut Guest, row: &str) -> Result<String> {
     let (tid, number, arguments) = call_of(row)?;
     let answer = guest.call(tid, number, arguments)?;
@@ -152,8 +161,9 @@ pub fn answer(alloc: Global, guest: &mut Guest, row: &str) -> Result<String> {
     match guest.kernel.outgoing() {
         None => Ok(text),
         Some((channel, bytes)) => {
-            let (count, first) = (bytes.len(), &bytes[..bytes.len().min(4)]);
-            Ok(format!(in alloc; "{text}, on {channel} {count} bytes {first:?}")?)
+            let (number, count) = (number_of(channel), bytes.len());
+            let first = &bytes[..count.min(4)];
+            Ok(format!(in alloc; "{text}, on {number} {count} bytes {first:?}")?)
         }
     }
 }

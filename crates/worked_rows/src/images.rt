@@ -2,7 +2,7 @@
 use anyhow::{Context, Result};
 use demo_guest::demo_image;
 use elf_image::{Image, read_image};
-use guest_calls::Inputs;
+use guest_kernel::Inputs;
 use guest_machine::Machine;
 use guest_words::limits::DEMO_ROUTINES;
 use std::alloc::Global;

@@ -9,7 +9,7 @@ use Rattle.elf_image.specs.declared.error.ElfError.{ElfError}
 use Rattle.elf_image.specs.declared.error.ElfError.TheVariants as elf
 use Rattle.guest_machine.specs.declared.setup.SetupError.{SetupError}
 use Rattle.guest_machine.specs.declared.setup.SetupError.TheVariants as setup
-use Rattle.guest_run.specs.declared.run_error.Channel.TheVariants as channel
+use Rattle.guest_kernel.specs.declared.channel.Channel.TheVariants as channel
 use Rattle.guest_run.specs.declared.run_error.RunError.{RunError}
 use Rattle.guest_run.specs.declared.run_error.RunError.TheVariants as run
 use Rattle.host_io.specs.declared.files.StoreError.{StoreError}

@@ -5,7 +5,7 @@ use Rattle.guest_machine.specs.Setup.{setup_refusal}
 use Rattle.guest_machine.specs.Start.{start}
 use Rattle.guest_machine.specs.declared.setup.SetupError.{SetupError}
 use Rattle.guest_run.specs.declared.run.Ended.{Ended}
-use Rattle.guest_run.specs.declared.run_error.Channel.TheVariants as channel
+use Rattle.guest_kernel.specs.declared.channel.Channel.TheVariants as channel
 use Rattle.guest_run.specs.Output.{Sinks, with_output}
 use Rattle.guest_run.specs.Run.{recording}
 use Rattle.guest_run.specs.ObservedRun.{ObservedRun}
@@ -194,4 +194,4 @@ JobRuns job prepared before after ending = (loaded : Loaded) → ArePrepared job
 
 -- the outcome of a demo with this summary
 abbrev pub summed : List ℕ → Outcome
-summed out = record { verdict = Summarized; writes = (1, out) ∷ []; stores = []; stats = [] }
+summed out = record { verdict = Summarized; writes = (channel.Out, out) ∷ []; stores = []; stats = [] }

@@ -3,11 +3,12 @@ use Rattle.std.specs.Prelude.{◌≡◌, ℕ, ◌+◌, Bool, true, List, ◌∷�
 use Rattle.rv_exec.specs.Effects.{ExecState}
 use Rattle.trace_model.specs.declared.event_kinds.Event.{Event}
 use Rattle.trace_model.specs.declared.event_kinds.Event.TheVariants.{Step}
-use Rattle.guest_calls.specs.Kernel.{later_by}
+use Rattle.trace_model.specs.declared.observer.Observed.{Observed}
+use Rattle.guest_kernel.specs.Kernel.{later_by}
 use Rattle.guest_machine.specs.declared.stepped.Advanced.{Advanced}
 use Rattle.guest_machine.specs.declared.stepped.Stepped.TheVariants.{Went}
 use Rattle.guest_machine.specs.Machine.{MachineState, can_run, later}
-use Rattle.guest_machine.specs.Running.{AllGoOn, MayTakeSteps, after_steps, events_of_steps}
+use Rattle.guest_machine.specs.Running.{AllGoOn, MayTakeSteps, ObservesSteps, after_steps, events_of_steps}
 use Rattle.guest_machine.specs.Sound.{IsSoundMachine}
 use Rattle.guest_machine.specs.Told.{done_by}
 use Rattle.guest_machine.specs.Step.{StepResult, exec_state_of, step, with_exec_state}
@@ -40,6 +41,11 @@ pub record Carries (m : MachineState) (tid : ℕ) (c : ExecState) (count : ℕ) 
   pub all : AllGoOn m tid count
   pub machine : carried m tid c count ≡ after_steps m tid count
   pub of : IsStateOf c tid (after_steps m tid count)
+
+-- On whatever machine the thread works on the state, that many steps of it were observed.
+abbrev pub ObservesFrom : {O : Type 0} → (O → List Event → Type 0) → (List Event → Bool) → ExecState → ℕ → O → O → ℕ → Observed → Type 0
+ObservesFrom Stands fits c tid old new count observed =
+    (m : MachineState) → IsStateOf c tid m → ObservesSteps Stands fits m tid old new count observed
 
 -- After `n` steps `more` further ones left this state, with these events.
 pub record GoesWith (m : MachineState) (tid n : ℕ) (c : ExecState) (more : ℕ) (events : List Event) : Type 0 where

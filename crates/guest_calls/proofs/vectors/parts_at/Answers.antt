@@ -1,6 +1,6 @@
 use Rattle.std.proofs.Common.{◌*◌, arith}
 use Rattle.guest_memory.specs.Guest.{memory_of}
-use Rattle.guest_calls.proofs.Reach.{reads_within}
+use Rattle.guest_kernel.proofs.Reach.{reads_within}
 use Rattle.guest_calls.proofs.vectors.parts_at.Goals as goal
 
 pub part_at-requires-clause-reach : goal.part_at-requires-clause-reach

@@ -1,5 +1,5 @@
 use Rattle.std.proofs.Common.{◌≡◌, ◌≤◌, ◌*◌, ◌^◌, take}
-use Rattle.guest_calls.specs.Vectors.{total}
+use Rattle.guest_kernel.specs.Parts.{total}
 use Rattle.guest_calls.proofs.vectors.total.Given as goal
 
 abbrev pub invariant-loop-p : goal.invariant-loop-p

@@ -1,7 +1,8 @@
 use Rattle.std.proofs.Common.{◌≤◌, List, ap, sym, subst, ◌∙◌}
 use Rattle.std.proofs.lemmas.List.{with_items_is}
-use Rattle.guest_calls.specs.declared.vectors.IoVec.{IoVec}
-use Rattle.guest_calls.specs.Vectors.{carried, total}
+use Rattle.guest_kernel.specs.declared.parts.IoVec.{IoVec}
+use Rattle.guest_kernel.specs.Parts.{total}
+use Rattle.guest_calls.specs.Vectors.{carried}
 use Rattle.guest_calls.proofs.PartLists.{total_carried}
 use Rattle.guest_calls.proofs.vectors.truncated.Goals as goal
 

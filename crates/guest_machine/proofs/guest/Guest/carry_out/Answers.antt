@@ -7,7 +7,8 @@ use Rattle.guest_machine.specs.Kept.{Steps, machine_of}
 use Rattle.guest_machine.specs.Told.{told}
 use Rattle.guest_machine.specs.Step.{executed}
 use Rattle.guest_machine.specs.declared.stepped.Stepped.{Stepped}
-use Rattle.guest_calls.specs.Kernel.{KernelState, KeptKernel}
+use Rattle.guest_kernel.specs.Kernel.{KernelState}
+use Rattle.guest_kernel.specs.declared.kernel.Kernel.{Kernel}
 use Rattle.guest_machine.specs.Machine.{later, registers_of}
 use Rattle.guest_machine.specs.Parts.{parts_of}
 use Rattle.guest_machine.specs.Sound.{IsSoundMachine}
@@ -40,7 +41,7 @@ unfolding machine_of
 returns-in-Went-clause-step c = λ before.
     let after : ExecState = record { registers = registers_of c.execute_for-outcome.new.harts.list c.args.tid; memory = memory_of c.execute_for-outcome.new.memory; held = reserved_by c.execute_for-outcome.new.held } in
     let m = machine_of (parts_of c.args.self.now) in
-    let machine = ap₂ (λ harts (kernel : KernelState). record m { harts = harts; kernel = kernel; memory = after.memory; held = after.held }) c.execute_for-outcome.ensures.harts (ap (λ (k : KeptKernel). k.state) c.advance.ensures) in
+    let machine = ap₂ (λ harts (kernel : KernelState). record m { harts = harts; kernel = kernel; memory = after.memory; held = after.held }) c.execute_for-outcome.ensures.harts (ap (λ (k : Kernel). k.state) c.advance.ensures) in
     subst (λ (outcome : Stepped). Steps (executed m c.args.tid (Ok c.args.instruction.now)) outcome (parts_of (record { harts = c.execute_for-outcome.new.harts; kernel = c.advance.new.self; memory = c.execute_for-outcome.new.memory; held = c.execute_for-outcome.new.held; entry = c.args.self.now.entry; called = false })) before (before ++ told c.args.tid c.told.result)) (sym c.told.ensures.stepped)
     (Steps-went (parts_of c.args.self.now) _ c.args.tid c.args.instruction.now c.in-Went.access after before _ (ap (λ o. (o, after)) (sym c.in-Went.is) ∙ c.execute_for-outcome.ensures.effect) machine refl
     (told-went (later m) c.args.tid c.args.instruction.now c.in-Went.access after before _ _ _ (c.told.ensures.events c.args.tid) c.execute_for-outcome.ensures.pc c.requires.pc))
@@ -51,7 +52,7 @@ returns-in-Went-clause-sound c =
     let m = machine_of (parts_of c.args.self.now) in
     let after : ExecState = record { registers = registers_of c.execute_for-outcome.new.harts.list c.args.tid; memory = memory_of c.execute_for-outcome.new.memory; held = reserved_by c.execute_for-outcome.new.held } in
     let sound = sound-state m c.args.tid c.args.instruction.now _ after (ap (λ o. (o, after)) (sym c.in-Went.is) ∙ c.execute_for-outcome.ensures.effect) c.requires.sound c.requires.can_run in
-    let machine = ap₂ (λ harts (kernel : KernelState). record m { harts = harts; kernel = kernel; memory = after.memory; held = after.held }) c.execute_for-outcome.ensures.harts (ap (λ (k : KeptKernel). k.state) c.advance.ensures) in
+    let machine = ap₂ (λ harts (kernel : KernelState). record m { harts = harts; kernel = kernel; memory = after.memory; held = after.held }) c.execute_for-outcome.ensures.harts (ap (λ (k : Kernel). k.state) c.advance.ensures) in
     subst IsSoundMachine (sym machine) sound
 
 pub returns-in-Fault-clause-fault : goal.returns-in-Fault-clause-fault

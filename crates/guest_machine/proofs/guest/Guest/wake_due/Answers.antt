@@ -1,5 +1,5 @@
 use Rattle.std.proofs.Common.{◌≡◌, length, true, false, is_some, ap, sym, ◌∙◌, arith}
-use Rattle.guest_calls.specs.Waking.{next_due}
+use Rattle.guest_kernel.specs.Waking.{next_due}
 use Rattle.guest_machine.specs.Kept.{machine_of}
 use Rattle.guest_machine.specs.Machine.{MachineState}
 use Rattle.guest_machine.specs.Parts.{parts_of}

@@ -1,5 +1,0 @@
-use Rattle.guest_calls.proofs.Wakings.{IsWaking}
-use Rattle.guest_calls.proofs.state.State.wake.Given as goal
-
-abbrev pub invariant-loop-count : goal.invariant-loop-count
-invariant-loop-count l = IsWaking l.initial.self l.self l.at l.bits l.most l.count

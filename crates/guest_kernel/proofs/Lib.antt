@@ -1,0 +1,13 @@
+pub mod Births
+pub mod Blocked
+pub mod ClockWakings
+pub mod Found
+pub mod Leaving
+pub mod Queues
+pub mod Reach
+pub mod Rising
+pub mod Room
+pub mod Sleeps
+pub mod Started
+pub mod Times
+pub mod Wakings
