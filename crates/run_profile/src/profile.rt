@@ -103,6 +103,7 @@ impl<S: Lanes> Profile<S> {
     {
         let mut profile = self;
         profile.settle()?;
+        profile.points.index_routines()?;
         Ok(Totals {
             pending: profile.profiler.pending(),
             renumbered: profile.profiler.renumbered(),
