@@ -1,18 +1,19 @@
 //! Items in blocks by their index among all. A list says at which index each block begins, of the first blocks up to one: a new
 //! item shortens it to the block that takes the item, and `extend` makes it the list of all blocks.
-ghost use Rattle.std.specs.Prelude.{◌≡◌, ◌<◌, ◌≤◌, ℕ, length, map, slice_index};
+ghost use Rattle.std.specs.Prelude.{◌≡◌, ◌+◌, ◌<◌, ◌≤◌, length, map, slice_index, OnOk};
 ghost use Rattle.cost_points.specs.Joined.{joined};
 ghost use Rattle.cost_points.specs.Private.Indexes.{AreStarts, IsIndexOf};
 
 use crate::blocks::Place;
 use std::alloc::AllocError;
 
-// The last block that is known to begin at the index or before it.
+// A block that is known to begin at the index or before it, where the one behind it, if it is known, begins after.
 fn known_block(starts: &[usize], i: usize) -> usize
     requires some { 1 ≤ length starts.now }
     requires first { slice_index starts.now 0 ≡ 0 }
     ensures inside { result < length starts.now }
     ensures begins { slice_index starts.now result ≤ i }
+    ensures ends { result + 1 < length starts.now → i < slice_index starts.now (result + 1) }
 {
     let mut low = 0;
     let mut high = starts.len();
@@ -50,7 +51,8 @@ pub(crate) fn extend<T>(
 ) -> Result<(), AllocError>
     requires starts { AreStarts (map (λ b. b.items) blocks.now) starts.old.items }
     requires count { count ≡ length (joined (map (λ b. b.items) blocks.now)) }
-    ensures { AreStarts (map (λ b. b.items) blocks.now) starts.new.items }
+    ensures starts { AreStarts (map (λ b. b.items) blocks.now) starts.new.items }
+    ensures all { OnOk result (length starts.new.items ≡ length blocks.now) }
 {
     let known = starts.len();
     for block in known - 1..blocks.len() - 1 {

@@ -1,10 +1,9 @@
 //! Routines by rising entry.
 ghost use Rattle.std.specs.Prelude.{◌≡◌, ◌<◌, ◌^◌, [], ◌∷◌, ℕ, Some, length, map, slice_get, IfOk, IsOk, OnErr, OnOk};
 ghost use Rattle.std.specs.List.{All};
-ghost use Rattle.cost_points.specs.Joined.{joined};
 ghost use Rattle.cost_points.specs.Merging.{with_point};
 ghost use Rattle.cost_points.specs.Points.{Routine, point_of};
-ghost use Rattle.cost_points.specs.Private.Indexes.{AreIndexed};
+ghost use Rattle.cost_points.specs.Private.Kept.{IsKept, in_blocks, listed};
 ghost use Rattle.cost_points.specs.Private.Places.{IsGapOf, with_item};
 ghost use Rattle.cost_points.specs.Search.{HasRoom, IsAt};
 ghost use Rattle.cost_points.specs.Valid.{IsProfile};
@@ -39,8 +38,8 @@ pub struct Routines {
 impl Routines {
     /// No routine.
     pub fn new(alloc: Global) -> Result<Routines, AllocError>
-        ensures none { IfOk result (λ r. joined (map (λ b. b.items) r.blocks.items) ≡ []) }
-        ensures indexed { IfOk result (λ r. AreIndexed (map (λ b. b.items) r.blocks.items) r.count r.starts.items) }
+        ensures none { IfOk result (λ r. listed r ≡ []) }
+        ensures indexed { IfOk result IsKept }
     {
         let mut blocks = Vec::new(alloc);
         blocks.push(Vec::new(alloc))?;
@@ -56,14 +55,13 @@ impl Routines {
 
     // A new routine at its place.
     fn insert(&mut self, place: Place, routine: RoutinePoints) -> Result<(), AllocError>
-        requires indexed { AreIndexed (map (λ b. b.items) self.old.blocks.items) self.old.count self.old.starts.items }
+        requires indexed { IsKept self.old }
         requires few { self.old.count < 2 ^ 63 }
-        requires gap { IsGapOf (λ r. r.entry) (map (λ b. b.items) self.old.blocks.items) routine.entry place.block place.at }
-        ensures ok { OnOk result (joined (map (λ b. b.items) self.new.blocks.items)
-            ≡ with_item (map (λ b. b.items) self.old.blocks.items) place.block place.at routine) }
-        ensures err { OnErr result (joined (map (λ b. b.items) self.new.blocks.items)
-            ≡ joined (map (λ b. b.items) self.old.blocks.items)) }
-        ensures indexed { AreIndexed (map (λ b. b.items) self.new.blocks.items) self.new.count self.new.starts.items }
+        requires gap { IsGapOf (λ r. r.entry) (in_blocks self.old) routine.entry place.block place.at }
+        ensures ok { OnOk result (listed self.new
+            ≡ with_item (in_blocks self.old) place.block place.at routine) }
+        ensures err { OnErr result (listed self.new ≡ listed self.old) }
+        ensures indexed { IsKept self.new }
     {
         self.starts.truncate(place.block + 1);
         self.last = blocks::insert(&mut self.blocks, place, routine)?;
@@ -74,17 +72,16 @@ impl Routines {
     /// One more activation.
     #[inline(always)]
     pub fn add_one(&mut self, alloc: Global, ended: &Done) -> Result<(), AllocError>
-        requires indexed { AreIndexed (map (λ b. b.items) self.old.blocks.items) self.old.count self.old.starts.items }
+        requires indexed { IsKept self.old }
         requires few { self.old.count < 2 ^ 63 }
-        requires profile { IsProfile (joined (map (λ b. b.items) self.old.blocks.items)) }
-        requires room { All (λ r. All HasRoom r.points) (joined (map (λ b. b.items) self.old.blocks.items)) }
-        ensures ok { OnOk result (joined (map (λ b. b.items) self.new.blocks.items)
+        requires profile { IsProfile (listed self.old) }
+        requires room { All (λ r. All HasRoom r.points) (listed self.old) }
+        ensures ok { OnOk result (listed self.new
             ≡ with_point ended.now.entry (point_of ended.now.size (ended.now ∷ []))
-            (joined (map (λ b. b.items) self.old.blocks.items))) }
-        ensures err { OnErr result (joined (map (λ b. b.items) self.new.blocks.items)
-            ≡ joined (map (λ b. b.items) self.old.blocks.items)) }
-        ensures indexed { AreIndexed (map (λ b. b.items) self.new.blocks.items) self.new.count self.new.starts.items }
-        ensures no_allocation { (at place : ℕ) (r : Routine) → slice_get (joined (map (λ b. b.items) self.old.blocks.items)) at ≡ Some r
+            (listed self.old)) }
+        ensures err { OnErr result (listed self.new ≡ listed self.old) }
+        ensures indexed { IsKept self.new }
+        ensures no_allocation { (at place : ℕ) (r : Routine) → slice_get (listed self.old) at ≡ Some r
             → r.entry ≡ ended.now.entry → IsAt (map (λ p. p.size) r.points) ended.now.size place
             → IsOk result }
     {
@@ -102,15 +99,14 @@ impl Routines {
     #[cold]
     #[inline(never)]
     fn add_routine(&mut self, alloc: Global, place: Place, ended: &Done) -> Result<(), AllocError>
-        requires indexed { AreIndexed (map (λ b. b.items) self.old.blocks.items) self.old.count self.old.starts.items }
+        requires indexed { IsKept self.old }
         requires few { self.old.count < 2 ^ 63 }
-        requires gap { IsGapOf (λ r. r.entry) (map (λ b. b.items) self.old.blocks.items) ended.now.entry place.block place.at }
-        ensures ok { OnOk result (joined (map (λ b. b.items) self.new.blocks.items)
+        requires gap { IsGapOf (λ r. r.entry) (in_blocks self.old) ended.now.entry place.block place.at }
+        ensures ok { OnOk result (listed self.new
             ≡ with_point ended.now.entry (point_of ended.now.size (ended.now ∷ []))
-            (joined (map (λ b. b.items) self.old.blocks.items))) }
-        ensures err { OnErr result (joined (map (λ b. b.items) self.new.blocks.items)
-            ≡ joined (map (λ b. b.items) self.old.blocks.items)) }
-        ensures indexed { AreIndexed (map (λ b. b.items) self.new.blocks.items) self.new.count self.new.starts.items }
+            (listed self.old)) }
+        ensures err { OnErr result (listed self.new ≡ listed self.old) }
+        ensures indexed { IsKept self.new }
     {
         let first = RoutinePoints::of_one(alloc, ended.entry, Point::of_one(*ended))?;
         self.insert(place, first)
@@ -118,17 +114,16 @@ impl Routines {
 
     /// One more point.
     pub fn add(&mut self, alloc: Global, entry: Addr, point: Point) -> Result<(), AllocError>
-        requires indexed { AreIndexed (map (λ b. b.items) self.old.blocks.items) self.old.count self.old.starts.items }
+        requires indexed { IsKept self.old }
         requires few { self.old.count < 2 ^ 63 }
-        requires profile { IsProfile (joined (map (λ b. b.items) self.old.blocks.items)) }
-        requires room { All (λ r. All HasRoom r.points) (joined (map (λ b. b.items) self.old.blocks.items)) }
+        requires profile { IsProfile (listed self.old) }
+        requires room { All (λ r. All HasRoom r.points) (listed self.old) }
         requires fits { HasRoom point }
-        ensures ok { OnOk result (joined (map (λ b. b.items) self.new.blocks.items)
-            ≡ with_point entry point (joined (map (λ b. b.items) self.old.blocks.items))) }
-        ensures err { OnErr result (joined (map (λ b. b.items) self.new.blocks.items)
-            ≡ joined (map (λ b. b.items) self.old.blocks.items)) }
-        ensures indexed { AreIndexed (map (λ b. b.items) self.new.blocks.items) self.new.count self.new.starts.items }
-        ensures no_allocation { (at place : ℕ) (r : Routine) → slice_get (joined (map (λ b. b.items) self.old.blocks.items)) at ≡ Some r
+        ensures ok { OnOk result (listed self.new
+            ≡ with_point entry point (listed self.old)) }
+        ensures err { OnErr result (listed self.new ≡ listed self.old) }
+        ensures indexed { IsKept self.new }
+        ensures no_allocation { (at place : ℕ) (r : Routine) → slice_get (listed self.old) at ≡ Some r
             → r.entry ≡ entry → IsAt (map (λ p. p.size) r.points) point.size place → IsOk result }
     {
         match blocks::find(&self.blocks, &mut self.last, u64::from(entry)) {
@@ -146,19 +141,19 @@ impl Routines {
 
     /// Makes looking up routines by their index quick, until a new one comes. A refusal changes no routine.
     pub fn index(&mut self) -> Result<(), AllocError>
-        requires { AreIndexed (map (λ b. b.items) self.old.blocks.items) self.old.count self.old.starts.items }
-        ensures same { joined (map (λ b. b.items) self.new.blocks.items)
-            ≡ joined (map (λ b. b.items) self.old.blocks.items) }
-        ensures indexed { AreIndexed (map (λ b. b.items) self.new.blocks.items) self.new.count self.new.starts.items }
+        requires { IsKept self.old }
+        ensures same { listed self.new ≡ listed self.old }
+        ensures indexed { IsKept self.new }
+        ensures all { OnOk result (length self.new.starts.items ≡ length self.new.blocks.items) }
     {
         indexes::extend(&self.blocks, self.count, &mut self.starts)
     }
 
     /// The entry and the points of the routine of an index.
     pub fn routine(&self, alloc: Global, i: usize) -> Result<(Addr, Vec<Point>), AllocError>
-        requires indexed { AreIndexed (map (λ b. b.items) self.now.blocks.items) self.now.count self.now.starts.items }
-        requires inside { i < length (joined (map (λ b. b.items) self.now.blocks.items)) }
-        ensures { IfOk result (λ r. slice_get (joined (map (λ b. b.items) self.now.blocks.items)) i
+        requires indexed { IsKept self.now }
+        requires inside { i < length (listed self.now) }
+        ensures { IfOk result (λ r. slice_get (listed self.now) i
             ≡ Some (record { entry = r.0; points = r.1.items })) }
     {
         let place = indexes::place_of(&self.blocks, &self.starts, i);
