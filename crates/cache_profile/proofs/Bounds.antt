@@ -9,6 +9,7 @@ use Rattle.trace_model.specs.declared.event_kinds.Event.TheVariants.{Step, Read,
 use Rattle.trace_model.specs.Events.{thread_of}
 use Rattle.trace_model.specs.Profile.{steps}
 use Rattle.trace_model.specs.WellFormed.{IsLight, IsWellFormed, MayFollow, weight, weight_of}
+use Rattle.guest_words.specs.declared.limits.TheConstants.{TRACE_WEIGHT}
 use Rattle.cost_points.specs.Keys.{rising, insert_rising}
 use Rattle.cost_points.proofs.Bounds.{All-grouped}
 use Rattle.cost_points.proofs.Grouped.{having}
@@ -93,5 +94,5 @@ steps-le [] = omega arith
 steps-le (Step tid ∷ past) = omega (arith, steps-le past)
 steps-le (_ ∷ past) = omega (arith, steps-le past)
 
-pub one_more_step : (e : Event) (past : List Event) → IsWellFormed (e ∷ past) → steps past + 1 < 2 ^ 64
-one_more_step e past formed = omega (arith, steps-le past, formed.1)
+pub few_steps : (past : List Event) (w count : ℕ) → w ≡ weight past → w + count < TRACE_WEIGHT → steps past + count < 2 ^ 64
+few_steps past w count is light = omega (arith, steps-le past, is, light)

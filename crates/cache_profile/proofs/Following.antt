@@ -1,5 +1,5 @@
 -- The profile follows the events.
-use Rattle.std.proofs.Common.{◌≡◌, ℕ, ◌+◌, ◌-◌, ◌≤◌, inl, inr, Bool, cond, List, [], ◌∷◌, ◌++◌, length, map, reverse, refl, sym, ap, ◌∙◌, subst, arith}
+use Rattle.std.proofs.Common.{◌≡◌, ℕ, zero, suc, true, ◌+◌, ◌-◌, ◌<◌, ◌≤◌, inl, inr, Bool, cond, List, [], ◌∷◌, ◌++◌, length, map, reverse, refl, sym, ap, ◌∙◌, subst, arith}
 use Rattle.std.specs.Prelude.{◌⊎◌, slice_get, Option, Some, None}
 use Rattle.std.specs.Option.{option_map, option_map_or}
 use Rattle.std.specs.List.{count_by}
@@ -10,11 +10,12 @@ use Rattle.std.proofs.lemmas.List.Sums.{sum_by-cons}
 use Rattle.trace_model.specs.declared.event_kinds.Event.{Event}
 use Rattle.trace_model.specs.declared.event_kinds.Event.TheVariants.{Call, End, Fill, Read, Ret, Start, Step, Write}
 use Rattle.trace_model.specs.Events.{thread_of}
-use Rattle.trace_model.specs.Observing.{MayTake}
+use Rattle.trace_model.specs.Observing.{MayStepBy, MayTake, with_steps}
 use Rattle.trace_model.specs.Profile.{steps}
-use Rattle.trace_model.specs.WellFormed.{IsWellFormed}
-use Rattle.trace_order.specs.Progress.{IsProgressOf}
-use Rattle.trace_order.proofs.Progressing.{allowed_by}
+use Rattle.trace_model.specs.WellFormed.{IsWellFormed, is_live}
+use Rattle.trace_order.specs.Progress.{IsProgressOf, ProgressState}
+use Rattle.guest_words.specs.declared.limits.TheConstants.{TRACE_WEIGHT}
+use Rattle.trace_order.proofs.Progressing.{allowed_by, heavier}
 use Rattle.trace_model.specs.Depth.{pending}
 use Rattle.trace_model.specs.declared.activations.Activation.{Activation}
 use Rattle.trace_model.specs.Activations.{open_calls}
@@ -129,23 +130,63 @@ module _ (shape : Dimensions) (past : List Event) (tid first count : ℕ) (old n
   after_access e (inr is) progress =
       subst (λ (f : Event). MissesStandFor shape new (f ∷ past)) (sym is) (after_write (subst (λ (f : Event). IsProgressOf new.progress (f ∷ past)) is progress))
 
--- ---- an event that accesses nothing
-pub after_step : (shape : Dimensions) (past : List Event) (tid : ℕ) (old new : KeptMisses) → MissesStandFor shape old past → new.cache ≡ old.cache → new.calls ≡ old.calls → new.routines ≡ old.routines → new.steps ≡ old.steps + 1 →
-    IsProgressOf new.progress (Step tid ∷ past) → MissesStandFor shape new (Step tid ∷ past)
-after_step shape past tid old new stands cache calls_same routines more progress = record {
-  shape_is = ap (λ (h : Held). h.shape) cache ∙ stands.shape_is;
-  cache = subst (λ (h : Held). lines.CacheStandsFor h (line_accesses shape past)) (sym cache) stands.cache;
-  calls = subst (λ (s : Stacks). calls.StacksStandFor s (Step tid ∷ past)) (sym calls_same) (record {
-    threads_live = stands.calls.threads_live;
-    threads_began = stands.calls.threads_began;
-    calls_are = stands.calls.calls_are;
-    pending_is = stands.calls.pending_is ∙ unmoved (pending past);
-  });
-  routines = routines ∙ stands.routines ∙ ap by_routine (sym (append-nil (all_accesses shape past)));
-  steps_are = omega (arith, more, stands.steps_are);
-  progress_is = progress;
+-- ---- steps in a row, which access nothing
+live_same : (t n : ℕ) (past : List Event) (u : ℕ) → is_live (with_steps t n past) u ≡ is_live past u
+live_same t zero past u = refl
+live_same t (suc n) past u = live_same t n past u
+
+-- They may come, as what is kept shows.
+formed_on : (shape : Dimensions) (kept : KeptMisses) (t n : ℕ) (past : List Event) → lives kept t ≡ true → kept.progress.weight + n < TRACE_WEIGHT → MissesStandFor shape kept past → IsWellFormed (with_steps t n past)
+formed_on shape kept t zero past alive light s = s.progress_is.formed
+formed_on shape kept t (suc n) past alive light s = (
+  live_same t n past t ∙ sym (s.calls.threads_live t) ∙ alive,
+  omega (arith, heavier t (suc n) past, s.progress_is.weight, light),
+  formed_on shape kept t n past alive (omega (arith, light)) s,
+)
+
+pub may_steps : (shape : Dimensions) (kept : KeptMisses) (t n : ℕ) → 1 ≤ n → MayStepBy (MissesStandFor shape) (λ past. true) kept t n → (lives kept t ≡ true) × (kept.progress.weight + n < TRACE_WEIGHT)
+may_steps shape kept t zero some may = absurd (omega (arith, some))
+may_steps shape kept t (suc n) some may = (
+  may.now.calls.threads_live t ∙ sym (live_same t n may.past t) ∙ may.formed.0,
+  omega (arith, heavier t (suc n) may.past, may.now.progress_is.weight, may.formed.1),
+)
+
+steps_more : (t n : ℕ) (past : List Event) → steps (with_steps t n past) ≡ steps past + n
+steps_more t zero past = omega arith
+steps_more t (suc n) past = omega (arith, steps_more t n past)
+
+same_lines : (shape : Dimensions) (t n : ℕ) (past : List Event) → line_accesses shape past ≡ line_accesses shape (with_steps t n past)
+same_lines shape t zero past = refl
+same_lines shape t (suc n) past = same_lines shape t n past
+
+same_accesses : (shape : Dimensions) (t n : ℕ) (past : List Event) → all_accesses shape past ≡ all_accesses shape (with_steps t n past)
+same_accesses shape t zero past = refl
+same_accesses shape t (suc n) past = same_accesses shape t n past ∙ sym (append-nil (all_accesses shape (with_steps t n past)))
+
+calls_stay : (s : Stacks) (t n : ℕ) (past : List Event) → calls.StacksStandFor s past → calls.StacksStandFor s (with_steps t n past)
+calls_stay s t zero past stands = stands
+calls_stay s t (suc n) past stands =
+    let before = calls_stay s t n past stands in
+    record {
+      threads_live = before.threads_live;
+      threads_began = before.threads_began;
+      calls_are = before.calls_are;
+      pending_is = before.pending_is ∙ unmoved (pending (with_steps t n past));
+    }
+
+pub after_steps : (shape : Dimensions) (past : List Event) (t n : ℕ) (old : KeptMisses) (steps : ℕ) (progress : ProgressState) → lives old t ≡ true → old.progress.weight + n < TRACE_WEIGHT → steps ≡ old.steps + n →
+    (IsProgressOf old.progress past → IsWellFormed (with_steps t n past) → IsProgressOf progress (with_steps t n past)) → MissesStandFor shape old past →
+    MissesStandFor shape (record old { steps = steps; progress = progress }) (with_steps t n past)
+after_steps shape past t n old steps progress alive light more goes stands = record {
+  shape_is = stands.shape_is;
+  cache = subst (lines.CacheStandsFor old.cache) (same_lines shape t n past) stands.cache;
+  calls = calls_stay old.calls t n past stands.calls;
+  routines = stands.routines ∙ ap by_routine (same_accesses shape t n past);
+  steps_are = omega (arith, more, stands.steps_are, steps_more t n past);
+  progress_is = goes stands.progress_is (formed_on shape old t n past alive light stands);
 }
 
+-- ---- any other event
 no_lines : (shape : Dimensions) (e : Event) → IsOther e → lines_accessed shape e ≡ []
 no_lines shape (Read tid first count) other = absurd other
 no_lines shape (Write tid first count) other = absurd other

@@ -1,9 +1,10 @@
 //! The misses of a run that goes on.
-ghost use Rattle.std.specs.Prelude.{◌≡◌, ◌↔◌, ◌⊎◌, ◌<◌, [], ◌∷◌, List, true, length, slice_get, IfOk, IsOk, IsTrue, OnErr, OnOk};
+ghost use Rattle.std.specs.Prelude.{◌≡◌, ◌↔◌, ◌⊎◌, ◌+◌, ◌<◌, ◌≤◌, [], ◌∷◌, List, true, length, slice_get, IfOk, IsOk, IsTrue, OnErr, OnOk};
+ghost use Rattle.guest_words.specs.declared.limits.TheConstants.{TRACE_WEIGHT};
 ghost use Rattle.trace_model.specs.declared.event_kinds.Event.{Event};
-ghost use Rattle.trace_model.specs.declared.event_kinds.Event.TheVariants.{Read, Step, Write};
+ghost use Rattle.trace_model.specs.declared.event_kinds.Event.TheVariants.{Read, Write};
 ghost use Rattle.trace_model.specs.Depth.{count_begun};
-ghost use Rattle.trace_model.specs.Observing.{Observes, StandsAsBefore};
+ghost use Rattle.trace_model.specs.Observing.{MayStepBy, Observes, StandsAsBefore, StepsBy, with_steps};
 ghost use Rattle.trace_model.specs.WellFormed.{IsWellFormed};
 ghost use Rattle.trace_order.specs.Progress.{is_of_one};
 ghost use Rattle.call_tracker.specs.CallStacks.{StacksStandFor as CallsOf};
@@ -158,14 +159,16 @@ impl<K: Shaped> CacheProfile<K> {
         Ok(())
     }
 
-    // A step of a thread.
-    fn step(&mut self, tid: Tid)
-        requires { MayCome self.old (Step tid) }
+    // Steps of a thread in a row.
+    fn take_steps(&mut self, tid: Tid, count: u64)
+        requires some { 1 ≤ count }
+        requires lives { lives self.old tid ≡ true }
+        requires light { self.old.progress.weight + count < TRACE_WEIGHT }
         ensures { (past : List Event) → MissesStandFor K.shape self.old past
-            → MissesStandFor K.shape self.new (Step tid ∷ past) }
+            → MissesStandFor K.shape self.new (with_steps tid count past) }
     {
-        self.steps += 1;
-        self.progress.pass(&Event::Step { tid });
+        self.steps += count;
+        self.progress.pass_steps(tid, count);
     }
 
     // Any other event.
@@ -205,9 +208,19 @@ impl<K: Shaped> Observer for CacheProfile<K> {
         match e {
             Event::Read { tid, first, count } => self.access(&e, tid, first, count)?,
             Event::Write { tid, first, count } => self.access(&e, tid, first, count)?,
-            Event::Step { tid } => self.step(tid),
+            Event::Step { tid } => self.take_steps(tid, 1),
             _ => self.pass(&e)?,
         }
         Ok(Observed::Taken)
+    }
+    // The cost does not grow with the count.
+    fn observe_steps(&mut self, tid: Tid, count: u64) -> Result<(), AllocError>
+        requires may { MayStepBy (MissesStandFor K.shape) (λ past. true) self.old tid count }
+        requires some { 1 ≤ count }
+        ensures stepped { OnOk result (StepsBy (MissesStandFor K.shape) (λ past. true) tid count self.old self.new) }
+        ensures no_allocation { IsOk result }
+    {
+        self.take_steps(tid, count);
+        Ok(())
     }
 }

@@ -215,6 +215,7 @@ impl Branches {
             let points = self.points[i].list(alloc)?;
             add_points(&mut table, entry, &points)?;
         }
+        table.index_routines()?;
         Ok(table)
     }
 

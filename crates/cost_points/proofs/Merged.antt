@@ -16,7 +16,7 @@ use Rattle.cost_points.specs.Merging.{ArePointOf, merged, point_added, split_bot
 use Rattle.cost_points.specs.Points.{Routine, greatest_of, least_of, point_of, points, routine_of, split_of}
 use Rattle.cost_points.specs.Search.{HasRoom, HasSplitRoom, IsAt}
 use Rattle.cost_points.specs.Valid.{IsPoint, IsProfile, IsRoutine, IsSplit}
-use Rattle.cost_points.proofs.Put.{grouped_put, keys_put, put-all, put-both, some-put}
+use Rattle.cost_points.proofs.Put.{grouped_put, keys_put, length-put, put-all, put-both, some-put}
 use Rattle.cost_points.proofs.Bounds.{IsPoint-of}
 use Rattle.cost_points.proofs.Rising.{IsRising-insert}
 
@@ -196,6 +196,10 @@ module _ (p : Point) (m n : ℕ) (more : n ≡ m + p.calls) (small : p.size < 2 
       (All-cons (IsCounted n) p [] itself (All-nil (IsCounted n)))
       (λ r each. All-weaker (IsCounted m) (IsCounted n) others-counted r.points each)
       (λ r same each. points-counted r.points each) routines all
+
+pub few-with : (p : Point) (entry m n : ℕ) (routines : List Routine) → 1 ≤ p.calls → n ≡ m + p.calls → length routines ≤ m → length (with_point entry p routines) ≤ n
+few-with p entry m n routines some more few =
+    omega (arith, some, more, few, length-put (λ (r : Routine). r.entry) entry (point_added p) (record { entry = entry; points = p ∷ [] }) routines)
 
 -- ---- there is room
 split-room : (n : ℕ) (s : Option Split) → n < 2 ^ 127 → IfSome s (IsSplit n) → IfSome s HasSplitRoom

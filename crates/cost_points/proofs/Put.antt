@@ -49,6 +49,15 @@ module _ {B : Type 0} (key : B → ℕ) (k : ℕ) (change : B → B) (new : B) w
     | inr (inr h) ↦ omega (arith, ap length (put_above x xs h))
   ]
 
+  -- there is one more at most
+  pub length-put : (xs : List B) → length (put key k change new xs) ≤ suc (length xs)
+  length-put [] = omega arith
+  length-put (x ∷ xs) = elim (order k (key x)) [
+    | inl h ↦ omega (arith, ap length (put_below x xs h))
+    | inr (inl h) ↦ omega (arith, ap length (put_same x xs h))
+    | inr (inr h) ↦ omega (arith, ap length (put_above x xs h), length-put xs)
+  ]
+
   -- the value that has the key is changed
   pub put_at : (xs : List B) (i : ℕ) (old : B) → IsRising (map key xs) → IsAt (map key xs) k i → old ≡ get_or xs i old → set xs i (change old) ≡ put key k change new xs
   put_at [] i old up place read = absurd (let h = place.in_range in omega arith)

@@ -21,7 +21,8 @@ pub record IsCounted (members : ℕ) (p : Point) : Type 0 where
   pub size : p.size < 2 ^ 64
   pub most : p.most < 2 ^ 64
 
--- The routines are in order, and no point is of more activations than were added.
+-- The routines are in order and at most as many as the activations, and no point is of more activations than were added.
 pub record IsContents (t : TableContents) : Type 0 where
   pub profile : IsProfile t.routines
+  pub few : length t.routines ≤ t.members
   pub counted : All (λ r. All (IsCounted t.members) r.points) t.routines

@@ -1,5 +1,5 @@
 -- Items in blocks that stand one behind another.
-use Rattle.std.specs.Prelude.{ℕ, ◌≤◌, List, [], ◌∷◌, ◌++◌, drop, length}
+use Rattle.std.specs.Prelude.{◌≤◌, List, [], ◌∷◌, ◌++◌, drop, length}
 use Rattle.std.specs.List.{All}
 
 -- the items of all blocks

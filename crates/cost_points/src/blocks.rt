@@ -1,7 +1,7 @@
 //! Items by rising key, in blocks: one more moves the rest of a block, and no other item.
 ghost use Rattle.std.specs.Prelude.{◌≡◌, ◌<◌, ◌≤◌, [], ℕ, get_or, length, map, IfOk, MatchResult, OnErr, OnOk};
 ghost use Rattle.cost_points.specs.Joined.{IsFilled, joined};
-ghost use Rattle.cost_points.specs.Private.Places.{IsBetween, IsBlockOf, IsGapOf, IsPlaceOf, cut, with_item};
+ghost use Rattle.cost_points.specs.Private.Places.{IsBetween, IsBlockOf, IsGapOf, IsPlaceOf, before, cut, with_item};
 ghost use Rattle.cost_points.specs.Keys.{IsRising};
 ghost use Rattle.cost_points.specs.Search.{FindsKey};
 
@@ -127,6 +127,10 @@ fn shorten<T: Drop>(blocks: &mut Vec<Vec<T>>, place: Place) -> Result<Place, All
         ≡ with_item (map (λ v. v.items) blocks.old.items) place.block place.at x) }
     ensures items { joined (map (λ v. v.items) blocks.new.items) ≡ joined (map (λ v. v.items) blocks.old.items) }
     ensures filled { IsFilled (map (λ v. v.items) blocks.new.items) }
+    ensures before { (b : ℕ) → b ≤ place.block → before b (map (λ v. v.items) blocks.new.items)
+        ≡ before b (map (λ v. v.items) blocks.old.items) }
+    ensures not_before { IfOk result (λ p. place.block ≤ p.block) }
+    ensures inside { place.block < length blocks.new.items }
 {
     if blocks[place.block].len() < MOST {
         return Ok(place);
@@ -155,6 +159,9 @@ pub(crate) fn insert<T: Drop>(
     ensures err { OnErr result (joined (map (λ v. v.items) blocks.new.items)
         ≡ joined (map (λ v. v.items) blocks.old.items)) }
     ensures filled { IsFilled (map (λ v. v.items) blocks.new.items) }
+    ensures before { (b : ℕ) → b ≤ place.block → before b (map (λ v. v.items) blocks.new.items)
+        ≡ before b (map (λ v. v.items) blocks.old.items) }
+    ensures inside { place.block < length blocks.new.items }
 {
     let place = shorten(blocks, place)?;
     let block = &mut blocks[place.block];

@@ -5,8 +5,10 @@
 #![tactic(auto)]
 
 mod blocks;
+mod indexes;
 mod point;
 mod routine;
+mod routines;
 mod sorted;
 mod table;
 

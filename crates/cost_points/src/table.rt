@@ -11,135 +11,38 @@ ghost use Rattle.cost_points.specs.Contents.{contents_of};
 ghost use Rattle.cost_points.specs.Valid.{IsPoint, IsProfile};
 
 use crate::Point;
-use crate::routine::RoutinePoints;
+use crate::routines::Routines;
 use guest_words::Addr;
 use std::alloc::{AllocError, Global};
 use std::marker::Model;
 use trace_model::Done;
 
 /// The points of the activations that were added. Contracts see how many these are, and their routines. Looking up a
-/// routine and a size is logarithmic. A new size moves the rest of a block; a new routine moves those above it.
+/// routine and a size is logarithmic. A new size and a new routine move the rest of a block.
 #[derive(Drop)]
 pub struct Table {
     alloc: Global,
     members: u64,
-    routines: Vec<RoutinePoints>,
-    // The place of the routine that was found last.
-    last: usize,
+    routines: Routines,
 }
 
 impl Model for Table {
+    ghost use Rattle.std.specs.Prelude.{map};
+    ghost use Rattle.cost_points.specs.Joined.{joined};
     ghost use Rattle.cost_points.specs.Contents.{TableContents, IsContents};
+    ghost use Rattle.cost_points.specs.Private.Indexes.{AreIndexed};
 
     ghost Value = { TableContents };
 
-    ghost view = { λ t. record { members = t.members; routines = t.routines.items } };
+    ghost view = { λ t. record {
+      members = t.members;
+      routines = joined (map (λ b. b.items) t.routines.blocks.items);
+    } };
 
     ghost invariant = { λ t. IsContents (record {
       members = t.members;
-      routines = t.routines.items;
-    }) };
-}
-
-// Where the routine of the entry is, or where it would go.
-fn search(routines: &[RoutinePoints], entry: Addr) -> Result<usize, usize>
-    requires { IsRising (map (λ r. r.entry) routines.now) }
-    ensures { FindsKey (map (λ r. r.entry) routines.now) entry result }
-{
-    routines.binary_search_by_key(&entry, |routine| routine.entry)
-}
-
-// The same, with a look at the place where a routine was found last. It becomes the place where this one is found.
-#[inline(always)]
-fn find(routines: &[RoutinePoints], last: &mut usize, entry: Addr) -> Result<usize, usize>
-    requires { IsRising (map (λ r. r.entry) routines.now) }
-    ensures { FindsKey (map (λ r. r.entry) routines.now) entry result }
-{
-    if *last < routines.len() {
-        let routine = &routines[*last];
-        if routine.entry == entry {
-            return Ok(*last);
-        }
-    }
-    let found = search(routines, entry);
-    if let Ok(at) = found {
-        *last = at;
-    }
-    found
-}
-
-// One more activation among the routines, the last of which was found at a place.
-#[inline(always)]
-fn add_one(
-    alloc: Global,
-    routines: &mut Vec<RoutinePoints>,
-    last: &mut usize,
-    ended: &Done,
-) -> Result<(), AllocError>
-    requires profile { IsProfile routines.old.items }
-    requires room { All (λ r. All HasRoom r.points) routines.old.items }
-    ensures ok { OnOk result (routines.new.items
-        ≡ with_point ended.now.entry
-        (point_of ended.now.size (ended.now ∷ [])) routines.old.items) }
-    ensures err { OnErr result (routines.new.items ≡ routines.old.items) }
-    ensures no_allocation { (at place : ℕ) (r : Routine) → slice_get routines.old.items at ≡ Some r
-        → r.entry ≡ ended.now.entry → IsAt (map (λ p. p.size) r.points) ended.now.size place
-        → IsOk result }
-{
-    match find(routines, last, ended.entry) {
-        Ok(at) => {
-            let routine = &mut routines[at];
-            routine.add_one(ended)
-        }
-        Err(at) => add_routine(alloc, routines, at, ended),
-    }
-}
-
-// The first activation of its routine: a new one at its place.
-#[cold]
-#[inline(never)]
-fn add_routine(
-    alloc: Global,
-    routines: &mut Vec<RoutinePoints>,
-    at: usize,
-    ended: &Done,
-) -> Result<(), AllocError>
-    requires { IsInsertionPoint (map (λ r. r.entry) routines.old.items) ended.now.entry at }
-    ensures ok { OnOk result (routines.new.items
-        ≡ with_point ended.now.entry
-        (point_of ended.now.size (ended.now ∷ [])) routines.old.items) }
-    ensures err { OnErr result (routines.new.items ≡ routines.old.items) }
-{
-    let first = RoutinePoints::of_one(alloc, ended.entry, Point::of_one(*ended))?;
-    routines.insert(at, first)?;
-    Ok(())
-}
-
-// One more point among the routines.
-fn add_to(
-    alloc: Global,
-    routines: &mut Vec<RoutinePoints>,
-    entry: Addr,
-    point: Point,
-) -> Result<(), AllocError>
-    requires profile { IsProfile routines.old.items }
-    requires room { All (λ r. All HasRoom r.points) routines.old.items }
-    requires fits { HasRoom point }
-    ensures ok { OnOk result (routines.new.items ≡ with_point entry point routines.old.items) }
-    ensures err { OnErr result (routines.new.items ≡ routines.old.items) }
-    ensures no_allocation { (at place : ℕ) (r : Routine) → slice_get routines.old.items at ≡ Some r
-        → r.entry ≡ entry → IsAt (map (λ p. p.size) r.points) point.size place → IsOk result }
-{
-    match search(routines, entry) {
-        Ok(at) => {
-            let routine = &mut routines[at];
-            routine.add(point)
-        }
-        Err(at) => {
-            let routine = RoutinePoints::of_one(alloc, entry, point)?;
-            Ok(routines.insert(at, routine)?)
-        }
-    }
+      routines = joined (map (λ b. b.items) t.routines.blocks.items);
+    }) × AreIndexed (map (λ b. b.items) t.routines.blocks.items) t.routines.count t.routines.starts.items };
 }
 
 impl Table {
@@ -150,8 +53,7 @@ impl Table {
         Ok(Table {
             alloc,
             members: 0,
-            routines: Vec::new(alloc),
-            last: 0,
+            routines: Routines::new(alloc)?,
         })
     }
 
@@ -184,7 +86,7 @@ impl Table {
             → IsOk result }
     {
         let (_size, _cost) = (ended.size, ended.cost); // so that they are known to be of 64 bits
-        add_one(self.alloc, &mut self.routines, &mut self.last, ended)?;
+        self.routines.add_one(self.alloc, ended)?;
         self.members += 1;
         Ok(())
     }
@@ -204,7 +106,7 @@ impl Table {
             → r.entry ≡ entry → IsAt (map (λ q. q.size) r.points) p.now.size place → IsOk result }
     {
         let point = *p;
-        add_to(self.alloc, &mut self.routines, entry, point)?;
+        self.routines.add(self.alloc, entry, point)?;
         self.members += point.calls;
         Ok(())
     }
@@ -221,7 +123,15 @@ impl Table {
         ensures count { result ≡ length self.now.routines }
         ensures profile { IsProfile self.now.routines }
     {
-        self.routines.len()
+        self.routines.count
+    }
+
+    /// Makes looking up routines by their index quick: logarithmic in their number, until a new one comes. Without it, a look-up
+    /// goes past the blocks of routines one by one.
+    pub fn index_routines(&mut self) -> Result<(), AllocError>
+        ensures { self.new ≡ self.old }
+    {
+        self.routines.index()
     }
 
     /// The entry and the points of a routine, the routines by rising entry and the points by rising size.
@@ -230,8 +140,6 @@ impl Table {
         ensures { IfOk result (λ r. slice_get self.now.routines i
             ≡ Some (record { entry = r.0; points = r.1.items })) }
     {
-        let routine = &self.routines[i];
-        let points = routine.points(alloc)?;
-        Ok((routine.entry, points))
+        self.routines.routine(alloc, i)
     }
 }

@@ -1,8 +1,10 @@
-use Rattle.std.proofs.Common.{◌≡◌, ◌≤◌, ap, arith, length, map, rules, set, subst, sym, ◌∙◌}
+use Rattle.std.proofs.Common.{ℕ, List, ◌≡◌, ◌≤◌, ap, arith, length, map, rules, set, subst, sym, ◌∙◌}
 use Rattle.std.proofs.lemmas.List.{map-set}
 use Rattle.std.proofs.lemmas.List.Edits.{length-insert}
 use Rattle.cost_points.specs.Joined.{IsFilled, joined}
 use Rattle.cost_points.proofs.InBlocks.{filled_set, item_added, read_block, set_same}
+use Rattle.cost_points.specs.Private.Places.{before}
+use Rattle.cost_points.proofs.Indexed.{before_set}
 use Rattle.cost_points.proofs.blocks.insert.Goals as goal
 
 pub returns-in_err-insert-clause-err : goal.returns-in_err-insert-clause-err
@@ -33,3 +35,14 @@ returns-clause-filled g c =
       length-insert c.index_mut-block.result.now.items c.in_ok-place.place.at c.args.item
           (subst (λ ys. c.in_ok-place.place.at ≤ length ys) (sym (read_block (λ v. v.items) c.shorten.new.blocks.items c.in_ok-place.place.block c.index_mut-block.result.now c.in_ok-place.ensures.block c.index_mut-block.ensures.value)) c.in_ok-place.ensures.at),
     )))
+
+kept : {V A : Type 0} (f : V → List A) (vs was : List V) (b p k : ℕ) (v : V) → p ≤ b → k ≤ p → before k (map f vs) ≡ before k (map f was) → before k (map f (set vs b v)) ≡ before k (map f was)
+kept f vs was b p k v later low same = ap (before k) (map-set f vs b v) ∙ before_set (map f vs) b k (f v) (omega (arith, later, low)) ∙ same
+
+pub returns-in_err-insert-clause-before : goal.returns-in_err-insert-clause-before
+returns-in_err-insert-clause-before g c k low =
+    kept (λ v. v.items) c.shorten.new.blocks.items c.args.blocks.now.items c.in_ok-place.place.block c.args.place.block k c.insert.new.self c.in_ok-place.ensures.not_before low (c.shorten.ensures.before k low)
+
+pub returns-clause-before : goal.returns-clause-before
+returns-clause-before g c k low =
+    kept (λ v. v.items) c.shorten.new.blocks.items c.args.blocks.now.items c.in_ok-place.place.block c.args.place.block k c.insert.new.self c.in_ok-place.ensures.not_before low (c.shorten.ensures.before k low)

@@ -1,8 +1,9 @@
 use Rattle.std.proofs.Common.{ℕ, ◌≡◌, ◌+◌, ◌-◌, ◌<◌, ◌≤◌, [], suc, List, ap, arith, get_or, length, map, rules, subst, sym, ◌∙◌}
 use Rattle.std.proofs.lemmas.List.{length-drop, length-map, length-take-le}
 use Rattle.cost_points.specs.Joined.{IsFilled, joined}
-use Rattle.cost_points.specs.Private.Places.{with_item}
+use Rattle.cost_points.specs.Private.Places.{before, with_item}
 use Rattle.cost_points.proofs.InBlocks.{filled_cut, joined_cut, length-cut, lower_half, read_block, upper_half, with_item_high, with_item_low}
+use Rattle.cost_points.proofs.Indexed.{before_cut}
 use Rattle.cost_points.proofs.blocks.shorten.Goals as goal
 
 within : {V A : Type 0} (f : V → List A) (vs : List V) (b : ℕ) → b < length vs → b < length (map f vs)
@@ -84,3 +85,25 @@ returns-clause-filled g c =
     let inside = within (λ v. v.items) c.args.blocks.now.items c.args.place.block c.requires.inside in
     let long = long_enough (λ v. v.items) c.args.blocks.now.items c.args.place.block 128 c.index.result.now c.requires.inside c.index.ensures (search rules) in
     subst IsFilled (sym c.in_ok-cut_block.ensures.ok) (filled_cut 64 (map (λ v. v.items) c.args.blocks.now.items) c.args.place.block inside (omega arith) (omega (arith, long)) c.requires.filled)
+
+pub returns-then-place-le-HALF-clause-before : goal.returns-then-place-le-HALF-clause-before
+returns-then-place-le-HALF-clause-before g c k low =
+    let inside = within (λ v. v.items) c.args.blocks.now.items c.args.place.block c.requires.inside in
+    ap (before k) c.in_ok-cut_block.ensures.ok ∙ before_cut 64 (map (λ v. v.items) c.args.blocks.now.items) c.args.place.block k inside low
+
+pub returns-clause-before : goal.returns-clause-before
+returns-clause-before g c k low =
+    let inside = within (λ v. v.items) c.args.blocks.now.items c.args.place.block c.requires.inside in
+    ap (before k) c.in_ok-cut_block.ensures.ok ∙ before_cut 64 (map (λ v. v.items) c.args.blocks.now.items) c.args.place.block k inside low
+
+pub returns-then-place-le-HALF-clause-inside : goal.returns-then-place-le-HALF-clause-inside
+returns-then-place-le-HALF-clause-inside g c =
+    let bs = map (λ v. v.items) c.args.blocks.now.items in
+    let inside = within (λ v. v.items) c.args.blocks.now.items c.args.place.block c.requires.inside in
+    omega (arith, c.requires.inside, ap length c.in_ok-cut_block.ensures.ok, length-cut 64 bs c.args.place.block inside, length-map c.args.blocks.now.items (λ v. v.items), length-map c.cut_block.new.blocks.items (λ v. v.items))
+
+pub returns-clause-inside : goal.returns-clause-inside
+returns-clause-inside g c =
+    let bs = map (λ v. v.items) c.args.blocks.now.items in
+    let inside = within (λ v. v.items) c.args.blocks.now.items c.args.place.block c.requires.inside in
+    omega (arith, c.requires.inside, ap length c.in_ok-cut_block.ensures.ok, length-cut 64 bs c.args.place.block inside, length-map c.args.blocks.now.items (λ v. v.items), length-map c.cut_block.new.blocks.items (λ v. v.items))

@@ -1,8 +1,7 @@
-use Rattle.std.proofs.Common.{List, ◌∷◌, map, refl, ap, sym, ◌∙◌, subst}
+use Rattle.std.proofs.Common.{List, map, refl, sym, ◌∙◌, subst}
 use Rattle.std.specs.List.{All}
 use Rattle.std.proofs.Math.Logic.{∥∥₁_elim}
 use Rattle.std.proofs.Props.{props}
-use Rattle.trace_model.specs.declared.event_kinds.Event.{Event}
 use Rattle.trace_model.specs.declared.event_kinds.Event.TheVariants.{Read}
 use Rattle.cost_points.specs.Keys.{IsRising}
 use Rattle.cache_profile.specs.declared.routines.RoutineMisses.{RoutineMisses}

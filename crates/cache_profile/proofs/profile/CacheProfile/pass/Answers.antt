@@ -1,4 +1,4 @@
-use Rattle.std.proofs.Common.{◌∷◌, refl, sym, subst}
+use Rattle.std.proofs.Common.{refl, sym, subst}
 use Rattle.cache_profile.specs.Profile.{KeptMisses, MayCome, MissesStandFor}
 use Rattle.cache_profile.proofs.Following.{after_other, formed_next, may_calls, of_some}
 use Rattle.cache_profile.proofs.profile.CacheProfile.pass.Goals as goal

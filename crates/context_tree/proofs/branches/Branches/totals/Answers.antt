@@ -67,4 +67,4 @@ pub returns : goal.returns
 returns c = λ past stands.
     let s = subst (λ (k : KeptBranches). BranchesStandFor k past) (sym c.self.view_is) stands in
     let all : length (contexts past) ≤ c.loop-i.i = omega (arith, c.loop-i-test.false, c.len-i-end.ensures.value, s.contexts_are.long) in
-    table_all _ past c.loop-i.i c.loop-i.table s all (c.loop-i.invariant past stands)
+    c.index_routines.ensures ∙ table_all _ past c.loop-i.i c.loop-i.table s all (c.loop-i.invariant past stands)

@@ -1,10 +1,11 @@
-use Rattle.std.proofs.Common.{◌≡◌, ◌+◌, ◌<◌, ◌^◌, [], ◌∷◌, true, is_some, ap, refl, sym, ◌∙◌, subst, rules}
+use Rattle.std.proofs.Common.{◌≡◌, ◌+◌, ◌<◌, ◌^◌, [], ◌∷◌, true, is_some, List, length, map, ◌≤◌, ap, refl, sym, ◌∙◌, subst, rules}
 use Rattle.std.specs.List.{All}
 use Rattle.cost_points.specs.Contents.{IsCounted, TableContents}
+use Rattle.cost_points.specs.Joined.{joined}
 use Rattle.cost_points.specs.Merging.{with_point}
 use Rattle.cost_points.specs.Points.{Routine, point_of}
 use Rattle.cost_points.specs.Valid.{IsPoint, IsProfile}
-use Rattle.cost_points.proofs.Merged.{IsProfile-with, are_one, contents-more, counted-with, one_is_point}
+use Rattle.cost_points.proofs.Merged.{IsProfile-with, are_one, contents-more, counted-with, few-with, one_is_point, rooms-of}
 use Rattle.cost_points.proofs.table.Table.add_ended.Goals as goal
 
 pub invariant_of-self-2 : goal.invariant_of-self-2
@@ -16,12 +17,21 @@ invariant_of-self-2 c =
     let cheap : c.args.ended.now.cost < 2 ^ 64 = search rules in
     let told : is_some p.split ≡ true = refl in
     let of_p : IsPoint p = one_is_point c.args.ended.now c.requires.parts in
-    record {
-      profile = subst IsProfile (sym ok) (IsProfile-with p told of_p c.args.ended.now.entry c.self.inside.routines.items c.self.invariant.profile);
-      counted = subst (All (λ (r : Routine). All (IsCounted (c.self.inside.members + 1)) r.points)) (sym ok)
-          (counted-with p m (m + 1) refl small cheap
-          c.args.ended.now.entry c.self.inside.routines.items c.self.invariant.counted);
-    }
+    let routines = joined (map (λ b. b.items) c.self.inside.routines.blocks.items) in (
+      record {
+        profile = subst IsProfile (sym ok) (IsProfile-with p told of_p c.args.ended.now.entry routines c.self.invariant.0.profile);
+        few = subst (λ (rs : List Routine). length rs ≤ c.self.inside.members + 1) (sym ok)
+            (few-with p c.args.ended.now.entry m (m + 1) routines of_p.some refl c.self.invariant.0.few);
+        counted = subst (All (λ (r : Routine). All (IsCounted (c.self.inside.members + 1)) r.points)) (sym ok)
+            (counted-with p m (m + 1) refl small cheap c.args.ended.now.entry routines c.self.invariant.0.counted);
+      },
+      c.add_one.ensures.indexed,
+    )
+
+pub add_one-requires-clause-room : goal.add_one-requires-clause-room
+add_one-requires-clause-room c =
+    rooms-of c.self.inside.members (joined (map (λ b. b.items) c.self.inside.routines.blocks.items))
+    (subst (λ (t : TableContents). t.members < 2 ^ 63) (sym c.self.view_is) c.requires.few) c.self.invariant.0.profile c.self.invariant.0.counted
 
 pub returns-clause-ok : goal.returns-clause-ok
 returns-clause-ok c = λ added is.

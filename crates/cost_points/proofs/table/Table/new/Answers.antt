@@ -1,4 +1,4 @@
-use Rattle.std.proofs.Common.{[], ◌∙◌, refl, subst, sym}
+use Rattle.std.proofs.Common.{[], ◌∙◌, ap, arith, length, refl, subst, sym}
 use Rattle.std.specs.List.{All}
 use Rattle.std.proofs.lemmas.List.Elements.{All-nil}
 use Rattle.trace_model.specs.Profile.{HasParts}
@@ -10,10 +10,14 @@ use Rattle.cost_points.proofs.Tables.{points_none, contents_same}
 use Rattle.cost_points.proofs.table.Table.new.Goals as goal
 
 pub invariant_of-result : goal.invariant_of-result
-invariant_of-result c = record {
-  profile = subst IsProfile (sym (c.new.ensures.items ∙ points_none)) (IsProfile-points [] (All-nil HasParts));
-  counted = subst (All (λ (r : Routine). All (IsCounted 0) r.points)) (sym c.new.ensures.items) (All-nil (λ (r : Routine). All (IsCounted 0) r.points));
-}
+invariant_of-result c = (
+  record {
+    profile = subst IsProfile (sym (c.in_ok-new.ensures.none ∙ points_none)) (IsProfile-points [] (All-nil HasParts));
+    few = omega (arith, ap length c.in_ok-new.ensures.none);
+    counted = subst (All (λ (r : Routine). All (IsCounted 0) r.points)) (sym c.in_ok-new.ensures.none) (All-nil (λ (r : Routine). All (IsCounted 0) r.points));
+  },
+  c.in_ok-new.ensures.indexed,
+)
 
 pub returns : goal.returns
-returns c = contents_same _ _ _ _ refl (c.new.ensures.items ∙ points_none)
+returns c = contents_same _ _ _ _ refl (c.in_ok-new.ensures.none ∙ points_none)

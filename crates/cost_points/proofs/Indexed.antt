@@ -1,0 +1,192 @@
+-- Where blocks begin among all items, and the item of an index.
+use Rattle.std.proofs.Common.{◌≡◌, ℕ, zero, suc, ◌+◌, ◌<◌, ◌≤◌, inl, inr, List, [], ◌∷◌, ◌++◌, length, get_or, set, take, map, min, refl, sym, ap, ◌∙◌, subst, arith, length-append}
+use Rattle.std.specs.Prelude.{slice_get, Some}
+use Rattle.std.specs.List.{insert}
+use Rattle.std.proofs.lemmas.Bool.{cases_lt}
+use Rattle.std.proofs.lemmas.List.{get_or_append_left, get_or-append-add, get_or-map, get_or-take, length-map, length-set, length-take, map-set, set-get_or}
+use Rattle.std.proofs.lemmas.List.Edits.{length-insert}
+use Rattle.cost_points.specs.Joined.{IsFilled, joined}
+use Rattle.cost_points.specs.Private.Indexes.{AreIndexed, AreStarts, IsIndexOf}
+use Rattle.cost_points.specs.Private.Places.{IsGapOf, IsPlaceOf, before, behind, cut, with_item}
+use Rattle.cost_points.specs.Keys.{IsRising}
+use Rattle.cost_points.specs.Search.{IsAt}
+use Rattle.cost_points.proofs.InBlocks.{filled_changed, joined_at, read_block, set_same}
+use Rattle.cost_points.proofs.Searched.{the_item}
+
+module _ {A : Type 0} where
+  before_suc : (bs : List (List A)) (b : ℕ) → b < length bs → length (before (suc b) bs) ≡ length (before b bs) + length (get_or bs b [])
+  before_suc [] b inside = absurd (omega arith)
+  before_suc (x ∷ bs) zero inside = omega (arith, length-append x [])
+  before_suc (x ∷ bs) (suc b) inside =
+      omega (arith, before_suc bs b (omega arith), length-append x (before (suc b) bs), length-append x (before b bs))
+
+  pub before_next : (bs : List (List A)) (b : ℕ) → b < length bs → length (before (b + 1) bs) ≡ length (before b bs) + length (get_or bs b [])
+  before_next bs b inside = let next : b + 1 ≡ suc b = omega arith in ap (λ n. length (before n bs)) next ∙ before_suc bs b inside
+
+  pub before_le : (bs : List (List A)) (b : ℕ) → length (before b bs) ≤ length (joined bs)
+  before_le [] zero = omega arith
+  before_le [] (suc b) = omega arith
+  before_le (x ∷ bs) zero = omega arith
+  before_le (x ∷ bs) (suc b) = omega (arith, before_le bs b, length-append x (before b bs), length-append x (joined bs))
+
+  before_all : (bs : List (List A)) (b : ℕ) → length bs ≤ b → length (before b bs) ≡ length (joined bs)
+  before_all [] zero all = refl
+  before_all [] (suc b) all = refl
+  before_all (x ∷ bs) zero all = absurd (omega arith)
+  before_all (x ∷ bs) (suc b) all = omega (arith, before_all bs b (omega arith), length-append x (before b bs), length-append x (joined bs))
+
+  -- an index behind the items of a block is one of a later block
+  pub goes_on : (bs : List (List A)) (b at i : ℕ) → b < length bs → length (before b bs) + at ≡ i → i < length (joined bs) → length (get_or bs b []) ≤ at → b + 1 < length bs
+  goes_on bs b at i inside is below past = elim (cases_lt (b + 1) (length bs)) [
+    | inl more ↦ more
+    | inr last ↦ absurd (omega (arith, before_all bs (b + 1) last, before_next bs b inside, is, below, past))
+  ]
+
+  -- one more block is known
+  pub starts_more : (bs : List (List A)) (starts : List ℕ) (b start : ℕ) → AreStarts bs starts → length starts ≡ b + 1 → b + 1 < length bs →
+      start ≡ get_or starts b 0 + length (get_or bs b []) → AreStarts bs (starts ++ start ∷ [])
+  starts_more bs starts b start are known more is = record {
+    some = omega (arith, are.some, length-append starts (start ∷ []));
+    inside = omega (arith, known, more, length-append starts (start ∷ []));
+    each = λ k inside. elim (cases_lt k (length starts)) [
+      | inl old ↦ get_or_append_left starts (start ∷ []) 0 k old ∙ are.each k old
+      | inr new ↦
+          let here : k ≡ length starts + 0 = omega (arith, new, inside, length-append starts (start ∷ [])) in
+          let next : k ≡ b + 1 = omega (arith, here, known) in
+          ap (λ n. get_or (starts ++ start ∷ []) n 0) here ∙ get_or-append-add starts (start ∷ []) 0 0 ∙ is
+          ∙ ap (λ n. n + length (get_or bs b [])) (are.each b (omega (arith, known))) ∙ sym (before_next bs b (omega (arith, more)))
+          ∙ ap (λ n. length (before n bs)) (sym next)
+    ];
+  }
+
+  -- an item at its place
+  pub item_at : (bs : List (List A)) (i b at : ℕ) (a : A) → IsIndexOf bs i b at → a ≡ get_or (get_or bs b []) at a → i < length (joined bs) × (a ≡ get_or (joined bs) i a)
+  item_at bs i b at a place read =
+      let items = get_or bs b [] in
+      let long : length (before b bs ++ (items ++ behind b bs)) ≡ length (before b bs) + (length items + length (behind b bs)) =
+      length-append (before b bs) (items ++ behind b bs) ∙ ap (λ n. length (before b bs) + n) (length-append items (behind b bs)) in (
+        omega (arith, ap length (joined_at bs b place.block), long, place.index, place.inside),
+        read ∙ sym (get_or_append_left items (behind b bs) a at place.inside) ∙ sym (get_or-append-add (before b bs) (items ++ behind b bs) at a)
+            ∙ ap (λ n. get_or (before b bs ++ (items ++ behind b bs)) n a) place.index ∙ ap (λ ys. get_or ys i a) (sym (joined_at bs b place.block)),
+      )
+
+  -- ---- what a change of one block leaves
+  pub before_cut : (n : ℕ) (bs : List (List A)) (b k : ℕ) → b < length bs → k ≤ b → before k (cut n b bs) ≡ before k bs
+  before_cut n [] b k inside low = absurd (omega arith)
+  before_cut n (x ∷ bs) zero zero inside low = refl
+  before_cut n (x ∷ bs) zero (suc k) inside low = absurd (omega (arith, low))
+  before_cut n (x ∷ bs) (suc b) zero inside low = refl
+  before_cut n (x ∷ bs) (suc b) (suc k) inside low = ap (λ ys. x ++ ys) (before_cut n bs b k (omega arith) (omega (arith, low)))
+
+  pub before_set : (bs : List (List A)) (b k : ℕ) (ys : List A) → k ≤ b → before k (set bs b ys) ≡ before k bs
+  before_set [] b k ys low = refl
+  before_set (x ∷ bs) zero zero ys low = refl
+  before_set (x ∷ bs) zero (suc k) ys low = absurd (omega (arith, low))
+  before_set (x ∷ bs) (suc b) zero ys low = refl
+  before_set (x ∷ bs) (suc b) (suc k) ys low = ap (λ zs. x ++ zs) (before_set bs b k ys (omega (arith, low)))
+
+  -- a block of as many items in the place of another
+  before_same : (bs : List (List A)) (b k : ℕ) (ys : List A) → length ys ≡ length (get_or bs b []) → length (before k (set bs b ys)) ≡ length (before k bs)
+  before_same [] b k ys same = refl
+  before_same (x ∷ bs) zero zero ys same = refl
+  before_same (x ∷ bs) zero (suc k) ys same = omega (arith, same, length-append ys (before k bs), length-append x (before k bs))
+  before_same (x ∷ bs) (suc b) zero ys same = refl
+  before_same (x ∷ bs) (suc b) (suc k) ys same =
+      omega (arith, before_same bs b k ys same, length-append x (before k (set bs b ys)), length-append x (before k bs))
+
+  joined_same : (bs : List (List A)) (b : ℕ) (ys : List A) → length ys ≡ length (get_or bs b []) → length (joined (set bs b ys)) ≡ length (joined bs)
+  joined_same [] b ys same = refl
+  joined_same (x ∷ bs) zero ys same = omega (arith, same, length-append ys (joined bs), length-append x (joined bs))
+  joined_same (x ∷ bs) (suc b) ys same = omega (arith, joined_same bs b ys same, length-append x (joined (set bs b ys)), length-append x (joined bs))
+
+  pub indexed_same : (bs : List (List A)) (count : ℕ) (starts : List ℕ) (b : ℕ) (ys : List A) → AreIndexed bs count starts → length ys ≡ length (get_or bs b []) →
+      IsFilled (set bs b ys) → AreIndexed (set bs b ys) count starts
+  indexed_same bs count starts b ys are same filled = record {
+    filled = filled;
+    all = are.all ∙ sym (joined_same bs b ys same);
+    starts_are = record {
+      some = are.starts_are.some;
+      inside = omega (arith, are.starts_are.inside, length-set bs b ys);
+      each = λ k inside. are.starts_are.each k inside ∙ sym (before_same bs b k ys same);
+    };
+  }
+
+  -- an item more keeps where the blocks begin, up to the one that takes it
+  starts_kept : (bs cs : List (List A)) (starts : List ℕ) (b : ℕ) → AreStarts bs starts → b < length cs → ((k : ℕ) → k ≤ b → before k cs ≡ before k bs) → AreStarts cs (take (b + 1) starts)
+  starts_kept bs cs starts b are inside same =
+      let long : length (take (b + 1) starts) ≡ min (b + 1) (length starts) = length-take (b + 1) starts in
+      record {
+        some = omega (arith, long, are.some);
+        inside = omega (arith, long, inside);
+        each = λ k within.
+            get_or-take (b + 1) starts k 0 (omega (arith, within, long)) ∙ are.each k (omega (arith, within, long))
+            ∙ ap length (sym (same k (omega (arith, within, long))));
+      }
+
+  pub indexed_more : (bs cs : List (List A)) (count : ℕ) (starts : List ℕ) (b at : ℕ) (a : A) → AreIndexed bs count starts → b < length bs → at ≤ length (get_or bs b []) →
+      IsFilled cs → b < length cs → ((k : ℕ) → k ≤ b → before k cs ≡ before k bs) → joined cs ≡ with_item bs b at a → AreIndexed cs (count + 1) (take (b + 1) starts)
+  indexed_more bs cs count starts b at a are within place filled inside same made =
+      let items = get_or bs b [] in
+      let was : length (joined bs) ≡ length (before b bs) + (length items + length (behind b bs)) =
+      ap length (joined_at bs b within) ∙ length-append (before b bs) (items ++ behind b bs) ∙ ap (λ n. length (before b bs) + n) (length-append items (behind b bs)) in
+      let now : length (joined cs) ≡ length (before b bs) + (length (insert items at a) + length (behind b bs)) =
+      ap length made ∙ length-append (before b bs) (insert items at a ++ behind b bs) ∙ ap (λ n. length (before b bs) + n) (length-append (insert items at a) (behind b bs)) in
+      record {
+        filled = filled;
+        all = omega (arith, was, now, length-insert items at a place, are.all);
+        starts_are = starts_kept bs cs starts b are.starts_are inside same;
+      }
+
+  pub indexed_kept : (bs cs : List (List A)) (count : ℕ) (starts : List ℕ) (b : ℕ) → AreIndexed bs count starts → IsFilled cs → b < length cs →
+      ((k : ℕ) → k ≤ b → before k cs ≡ before k bs) → joined cs ≡ joined bs → AreIndexed cs count (take (b + 1) starts)
+  indexed_kept bs cs count starts b are filled inside same as_before = record {
+    filled = filled;
+    all = are.all ∙ ap length (sym as_before);
+    starts_are = starts_kept bs cs starts b are.starts_are inside same;
+  }
+
+-- ---- by keys
+-- the item that was found among all
+pub found_at : {B : Type 0} (key : B → ℕ) (bs : List (List B)) (x b at : ℕ) (a : B) → IsPlaceOf key bs x b at → a ≡ get_or (get_or bs b []) at a →
+    IsAt (map key (joined bs)) x (length (before b bs) + at) × (a ≡ get_or (joined bs) (length (before b bs) + at) a)
+found_at key bs x b at a place read =
+    let items = get_or bs b [] in
+    let within : at < length (get_or bs b []) = omega (arith, place.here.in_range, length-map items key) in
+    let all = item_at bs (length (before b bs) + at) b at a (record { block = place.block.inside; inside = within; index = refl }) read in
+    let is : key a ≡ x = ap key read ∙ sym (get_or-map key items at a 0 within) ∙ place.here.here in (
+      record {
+        in_range = omega (arith, all.0, length-map (joined bs) key);
+        here = get_or-map key (joined bs) (length (before b bs) + at) a 0 all.0 ∙ ap key (sym all.1) ∙ is;
+      },
+      all.1,
+    )
+
+-- it is the one that has the key
+pub found_is : {V B : Type 0} (f : V → List B) (key : B → ℕ) (vs : List V) (x b at i : ℕ) (w : V) (found r : B) → IsRising (map key (joined (map f vs))) →
+    IsPlaceOf key (map f vs) x b at → w ≡ get_or vs b w → found ≡ get_or (f w) at found → slice_get (joined (map f vs)) i ≡ Some r → key r ≡ x → found ≡ r
+found_is f key vs x b at i w found r up place read is there same =
+    let own = read_block f vs b w (omega (arith, place.block.inside, length-map vs f)) read in
+    let all = found_at key (map f vs) x b at found place (is ∙ ap (λ ys. get_or ys at found) own) in
+    the_item key (joined (map f vs)) x i (length (before b (map f vs)) + at) r found up there same all.0 all.1
+
+-- an item that stays
+pub item_kept : {V B : Type 0} (f : V → List B) (vs : List V) (b at : ℕ) (w v : V) (old new : B) → b < length vs → w ≡ get_or vs b w → old ≡ get_or (f w) at old →
+    f v ≡ set (f w) at new → new ≡ old → joined (map f (set vs b v)) ≡ joined (map f vs)
+item_kept f vs b at w v old new inside read is made same =
+    ap joined (set_same f vs b w v inside read (made ∙ ap (set (f w) at) (same ∙ is) ∙ set-get_or (f w) at old))
+
+-- blocks of which one item changes
+pub indexed_changed : {V B : Type 0} (f : V → List B) (key : B → ℕ) (vs : List V) (count : ℕ) (starts : List ℕ) (x b at : ℕ) (w v : V) (new : B) →
+    AreIndexed (map f vs) count starts → IsPlaceOf key (map f vs) x b at → w ≡ get_or vs b w → f v ≡ set (f w) at new → AreIndexed (map f (set vs b v)) count starts
+indexed_changed f key vs count starts x b at w v new are place read made =
+    let own = read_block f vs b w (omega (arith, place.block.inside, length-map vs f)) read in
+    subst (λ bs. AreIndexed bs count starts) (sym (map-set f vs b v))
+    (indexed_same (map f vs) count starts b (f v) are (ap length made ∙ length-set (f w) at new ∙ ap length own)
+    (subst IsFilled (map-set f vs b v) (filled_changed f key vs x b at w v new are.filled place read made)))
+
+-- a place and a gap, in the same blocks by another name
+pub placed : {V B : Type 0} (f : V → List B) (key : B → ℕ) (vs ws : List V) (x y b at : ℕ) → vs ≡ ws → x ≡ y → IsPlaceOf key (map f vs) x b at → IsPlaceOf key (map f ws) y b at
+placed f key vs ws x y b at same named place = subst (λ us. IsPlaceOf key (map f us) y b at) same (subst (λ z. IsPlaceOf key (map f vs) z b at) named place)
+
+pub gapped : {V B : Type 0} (f : V → List B) (key : B → ℕ) (vs ws : List V) (x y b at : ℕ) → vs ≡ ws → x ≡ y → IsGapOf key (map f vs) x b at → IsGapOf key (map f ws) y b at
+gapped f key vs ws x y b at same named gap = subst (λ us. IsGapOf key (map f us) y b at) same (subst (λ z. IsGapOf key (map f vs) z b at) named gap)
