@@ -114,8 +114,6 @@ pub(crate) fn profile_image<O: Sink, E: Sink>(
         counts,
         ended,
     } = run;
-    Ok(ProfiledRun {
-        totals: kept.into_totals(counts),
-        ended,
-    })
+    let totals = kept.into_totals(counts)?;
+    Ok(ProfiledRun { totals, ended })
 }

@@ -62,14 +62,13 @@ impl Points {
     }
 
     /// The totals of a run with these counts.
-    pub fn into_totals(self, counts: Counts) -> Totals
-        ensures { (most : ℕ) (past : List Event) → HoldsPoints self past [] → AreCountsOf most counts past
-            → AreTotalsOf most result past }
+    pub fn into_totals(self, counts: Counts) -> Result<Totals, AllocError>
+        ensures { IfOk result (λ totals. (most : ℕ) (past : List Event) → HoldsPoints self past []
+            → AreCountsOf most counts past → AreTotalsOf most totals past) }
     {
-        Totals {
-            points: self.table,
-            counts,
-        }
+        let mut points = self.table;
+        points.index_routines()?;
+        Ok(Totals { points, counts })
     }
 }
 

@@ -104,8 +104,9 @@ impl<S: Lanes> TraceProfile<S> {
         } = self;
         let TraceEnd { names, finish } = reader.finish()?;
         let (points, counts) = profile.into_kept()?;
+        let totals = points.into_totals(counts)?;
         Ok(Replayed {
-            totals: points.into_totals(counts),
+            totals,
             whole,
             names,
             finish,

@@ -29,7 +29,7 @@ returns-clause-replays g c = λ bytes has.
       trace = c.in_ok-names.ensures.ok bytes was.past was.read;
       totals =
           let past = cut (is_within g.S.Stamp.MAX) was.past in
-          c.into_totals.ensures g.S.Stamp.MAX past (c.in_ok-points.ensures.kept past was.profile) (c.in_ok-points.ensures.counts past was.profile);
+          c.in_ok-totals.ensures g.S.Stamp.MAX past (c.in_ok-points.ensures.kept past was.profile) (c.in_ok-points.ensures.counts past was.profile);
       whole = was.whole;
     }
 
@@ -41,6 +41,11 @@ returns-in_err-names-clause-refused g c = λ e is.
 
 pub returns-in_err-points-clause-refused : goal.returns-in_err-points-clause-refused
 returns-in_err-points-clause-refused g c = λ e is.
+    let no = c.in_ok-names.ensures.stays e (ap (λ (k : Going). k.reader.refusal) c.self.view_is ∙ is) in
+    absurd (cc)
+
+pub returns-in_err-totals-clause-refused : goal.returns-in_err-totals-clause-refused
+returns-in_err-totals-clause-refused g c = λ e is.
     let no = c.in_ok-names.ensures.stays e (ap (λ (k : Going). k.reader.refusal) c.self.view_is ∙ is) in
     absurd (cc)
 
