@@ -10,7 +10,7 @@ use Rattle.context_tree.specs.Order.{in_order}
 use Rattle.profile_report.specs.ReportText.{report_text}
 use Rattle.aprof_top.specs.ContextReports.{can_be_numbered, contexts_report}
 use Rattle.aprof_top.specs.Laws.{ContextsBeginWithTheReport}
-use Rattle.aprof_top.specs.Loads.{loaded_of}
+use Rattle.aprof_top.specs.Loads.{guest_loads, loaded_of}
 use Rattle.aprof_top.specs.Outcome.{Outcome, job_of, recording_stores, stage}
 use Rattle.aprof_top.specs.Report.{report_of}
 use Rattle.aprof_top.specs.Run.{run_of}
@@ -19,8 +19,8 @@ use Rattle.aprof_top.proofs.StoredRuns.{came_to, either_outcome, run_is, stored_
 pub contexts_begin : ContextsBeginWithTheReport
 contexts_begin guest path options files bytes contexts ran is_contexts stored is_ran =
     let job = job_of guest path (Contexts options.bits) in
-    let came = came_to job files contexts (λ none. absurd (cc (sym stored ∙ none))) (stage guest files) refl is_contexts in
-    let loaded = loaded_of guest files in
+    let came = came_to job files contexts (λ none. absurd (cc (sym stored ∙ none))) (stage (guest_loads guest) files) refl is_contexts in
+    let loaded = loaded_of (guest_loads guest) files in
     let image = image_of loaded.image in
     let run : ObservedRun = run_of options.bits guest loaded came.turns in
     let text = stored_text run (can_be_numbered run.past) path bytes (contexts_report image run) (ap (λ (o : Outcome). o.stores) (sym came.answered) ∙ stored) in

@@ -48,7 +48,7 @@ module _ (guest : GuestOptions) (path : List ℕ) (analysis : Analysis) (prepare
   abbrev outcome : Outcome
   outcome = run_outcome seen left
 
-  left_is : (loaded : Loaded) → ArePrepared guest loaded prepared → outcome ≡ job.leaves loaded prepared.files.schedule
+  left_is : (loaded : Loaded) → ArePrepared loaded prepared → outcome ≡ job.leaves loaded prepared.files.schedule
   left_is loaded are =
       ap₂ (analysed path analysis) are.image
       (seen_by (follows_to analysis) guest loaded prepared.files.schedule prepared.image prepared.files.inputs prepared.files.stdin.items are.image are.inputs_are are.stdin)

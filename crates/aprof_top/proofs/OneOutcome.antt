@@ -1,18 +1,16 @@
 -- A command has one outcome.
-use Rattle.std.proofs.Common.{◌≡◌, ℕ, Bool, true, false, List, [], ◌∷◌, length, Option, Some, None, inl, inr, sym, ap, ap₂, ◌∙◌}
-use Rattle.std.specs.Prelude.{nat_lt}
+use Rattle.std.proofs.Common.{◌≡◌, ℕ, List, [], Option, Some, None, inl, inr, sym, ap, ap₂, ◌∙◌}
 use Rattle.trace_file.specs.Laws.{BytesAreRefusedInOneWay, TextIsOfOneTrace, TracesAreNotRefused}
 use Rattle.thread_sched.proofs.Read.{never_both, one_bad_line, read_once}
-use Rattle.command_line.specs.Options.{ReplayOptions}
+use Rattle.command_line.specs.Options.{Asked, ReplayOptions}
 use Rattle.command_line.specs.Options.Asked.{Guest, Replay, Demo}
 use Rattle.demo_guest.specs.Image.{OneDemoFile}
 use Rattle.elf_image.specs.Reading.{image_of}
 use Rattle.elf_image.specs.declared.error.ElfError.{ElfError}
-use Rattle.aprof_top.specs.Loads.{Loaded, loaded_of}
-use Rattle.aprof_top.specs.Outcome.{ByImage, ByLength, Follows, IsOfNoTrace, IsOfTrace, IsReplay, IsScheduled, Job, Outcome, Stage, demo_files, demo_options, demo_outcome, job_of, refusal, replay_outcome, scheduled_outcome, stage}
+use Rattle.aprof_top.specs.Loads.{Loaded, loaded_of, loads_of}
+use Rattle.aprof_top.specs.Outcome.{ByImage, Follows, IsAnswer, IsOfNoTrace, IsOfTrace, IsReplay, IsScheduled, Job, Outcome, Stage, demo_files, demo_options, demo_outcome, job_of, refusal, replay_outcome, scheduled_outcome, stage}
 use Rattle.aprof_top.specs.Outcome.Stage.{PastLimit, Loading, Complete}
 use Rattle.aprof_top.specs.Laws.{OneOutcome}
-use Rattle.aprof_top.specs.Limits.{trace_limit}
 use Rattle.aprof_top.specs.declared.ending.Verdict.TheVariants.{BadTrace}
 use Rattle.aprof_top.specs.Run.{run_of}
 use Rattle.stamps.specs.declared.width.StampBits.TheVariants.{B32}
@@ -33,10 +31,10 @@ image_once : (job : Job) (loaded : Loaded) (a b : Outcome) (refusal : Option Elf
 image_once job loaded a b (Some e) r s = r ∙ sym s
 image_once job loaded a b None r s = scheduled_once job loaded a b r s
 
-follows_once : (job : Job) (files : List (List ℕ)) (a b : Outcome) (s : Stage) → Follows job files a s → Follows job files b s → a ≡ b
-follows_once job files a b PastLimit p q = p ∙ sym q
-follows_once job files a b Loading p q = absurd p
-follows_once job files a b Complete p q = image_once job (loaded_of job.guest files) a b _ p q
+follows_once : (Is : Outcome → Type 0) → ((a b : Outcome) → Is a → Is b → a ≡ b) → (a b : Outcome) (s : Stage) → Follows Is a s → Follows Is b s → a ≡ b
+follows_once Is once a b PastLimit p q = p ∙ sym q
+follows_once Is once a b Loading p q = absurd p
+follows_once Is once a b Complete p q = once a b p q
 
 -- ---- a stored trace
 -- What is known of the text of traces.
@@ -62,22 +60,22 @@ module _ (known : TracesAreKnown) (options : ReplayOptions) (bytes : List ℕ) (
   never_both' : {x y : Outcome} → IsOfTrace options bytes x → IsOfNoTrace bytes y → ⊥
   never_both' p q = q.no_memory (known.apart bytes p.past q.past p.names p.finish q.why p.trace q.refused)
 
-  by_length : (long : Bool) → ByLength options bytes a long → ByLength options bytes b long → a ≡ b
-  by_length true p q = p ∙ sym q
-  by_length false (inl p) (inl q) = traces_once p q
-  by_length false (inl p) (inr q) = absurd (never_both' p q)
-  by_length false (inr p) (inl q) = absurd (never_both' q p)
-  by_length false (inr p) (inr q) = refusals_once p q
+  pub replay_once : IsReplay options bytes a → IsReplay options bytes b → a ≡ b
+  replay_once (inl p) (inl q) = traces_once p q
+  replay_once (inl p) (inr q) = absurd (never_both' p q)
+  replay_once (inr p) (inl q) = absurd (never_both' q p)
+  replay_once (inr p) (inr q) = refusals_once p q
 
-pub replay_once : TracesAreKnown → (options : ReplayOptions) (files : List (List ℕ)) (a b : Outcome) → IsReplay options files a → IsReplay options files b → a ≡ b
-replay_once known options [] a b p q = absurd p
-replay_once known options (bytes ∷ files) a b p q = by_length known options bytes a b (nat_lt trace_limit (length bytes)) p q
-
-pub one_outcome : OneDemoFile → TracesAreKnown → OneOutcome
-one_outcome one_file known None files a b p q = p ∙ sym q
-one_outcome one_file known (Some (Guest guest path analysis)) files a b p q = follows_once (job_of guest path analysis) files a b (stage guest files) p q
-one_outcome one_file known (Some (Replay options)) files a b p q = replay_once known options files a b p q
-one_outcome one_file known (Some (Demo number)) files a b p q =
+answer_once : OneDemoFile → TracesAreKnown → (asked : Asked) (loaded : Loaded) (a b : Outcome) → IsAnswer asked loaded a → IsAnswer asked loaded b → a ≡ b
+answer_once one_file known (Guest guest path analysis) loaded a b p q = image_once (job_of guest path analysis) loaded a b _ p q
+answer_once one_file known (Replay options) loaded a b p q = replay_once known options loaded.trace a b p q
+answer_once one_file known (Demo number) loaded a b p q =
     p.answered
     ∙ ap (λ file. demo_outcome number (image_of file) (run_of B32 demo_options (demo_files file) [])) (one_file number p.file q.file p.is_demo q.is_demo)
     ∙ sym q.answered
+
+pub one_outcome : OneDemoFile → TracesAreKnown → OneOutcome
+one_outcome one_file known None files a b p q = p ∙ sym q
+one_outcome one_file known (Some asked) files a b p q =
+    let loaded = loaded_of (loads_of asked) files in
+    follows_once (IsAnswer asked loaded) (answer_once one_file known asked loaded) a b (stage (loads_of asked) files) p q

@@ -6,7 +6,7 @@ use Rattle.std.proofs.lemmas.Bool.Decides.{nat_tests}
 use Rattle.guest_words.specs.declared.endings.Finish.{Finish}
 use Rattle.guest_words.specs.declared.endings.Finish.TheVariants.{Deep}
 use Rattle.guest_words.specs.declared.limits.TheConstants.{RUN_STEPS}
-use Rattle.command_line.specs.Options.{GuestOptions, arguments, inputs}
+use Rattle.command_line.specs.Options.{GuestOptions, arguments}
 use Rattle.command_line.specs.Options.Analysis.{Trace}
 use Rattle.elf_image.specs.Image.{Executable}
 use Rattle.elf_image.specs.Reading.{image_of}
@@ -29,10 +29,12 @@ use Rattle.trace_model.specs.WellFormed.{IsWellFormed}
 use Rattle.run_trace.specs.Entries.{entries_begun}
 use Rattle.aprof_top.specs.Laws.{TracesReplay, replayed_from}
 use Rattle.aprof_top.specs.Limits.{trace_limit}
-use Rattle.aprof_top.specs.Loads.{Loaded, loaded_of, with_inputs}
-use Rattle.aprof_top.specs.Outcome.{ByLength, Outcome, job_of, recording_stores, replay_outcome, replay_text, stage, stats_of, told_apart, told_finish}
+use Rattle.aprof_top.specs.Loads.{Loaded, guest_loads, load, loaded_of}
+use Rattle.aprof_top.specs.Outcome.{Follows, IsReplay, Outcome, job_of, recording_stores, replay_outcome, replay_text, stage, stats_of, told_apart, told_finish}
+use Rattle.aprof_top.specs.Outcome.Stage.{Complete}
 use Rattle.aprof_top.specs.Report.{report_of}
 use Rattle.aprof_top.specs.Run.{first_state, observed_from, run_of}
+use Rattle.aprof_top.specs.declared.source.Source.TheVariants as source
 use Rattle.aprof_top.specs.Traces.{is_storable, names_begun, trace_of}
 use Rattle.aprof_top.proofs.OneOutcome.{TracesAreKnown, replay_once}
 use Rattle.aprof_top.proofs.Runs.{formed_observed}
@@ -123,18 +125,22 @@ short_enough text is = grind (arith, nat_tests, is)
 
 formed_wide : (options : GuestOptions) (loaded : Loaded) (turns : List Entry) → options.budget ≤ RUN_STEPS → IsWellFormed (run_of B32 options loaded turns).past
 unfolding first_state
-formed_wide options loaded turns few = formed_observed (is_within (greatest B32)) options turns (image_of loaded.image) (with_inputs [] (inputs options) loaded.inputs) loaded.stdin few
+formed_wide options loaded turns few = formed_observed (is_within (greatest B32)) options turns (image_of loaded.image) loaded.inputs loaded.stdin few
 
 wide_in_range : (options : GuestOptions) (loaded : Loaded) (turns : List Entry) → IsAddress (image_of loaded.image).entry → TellsInRange (1 + options.budget) (run_of B32 options loaded turns)
 unfolding first_state observed_from
 wide_in_range options loaded turns entry =
-    every_run_in_range (image_of loaded.image) (arguments options) (with_inputs [] (inputs options) loaded.inputs) loaded.stdin (is_within (greatest B32)) options.quantum turns options.budget entry
+    every_run_in_range (image_of loaded.image) (arguments options) loaded.inputs loaded.stdin (is_within (greatest B32)) options.quantum turns options.budget entry
+
+-- a trace that is short enough is the only file
+alone : (path bytes : List ℕ) → nat_lt trace_limit (length bytes) ≡ false → stage (load source.Trace path ∷ []) (bytes ∷ []) ≡ Complete
+alone path bytes short = rw short refl
 
 pub traces_replay : TracesAreKnown → TracesReplay
 traces_replay known guest report options files path bytes traced ran replayed few is_traced stored is_ran is_replayed =
     let job = job_of guest path Trace in
-    let came = came_to job files traced (λ none. absurd (cc (sym stored ∙ none))) (stage guest files) refl is_traced in
-    let loaded = loaded_of guest files in
+    let came = came_to job files traced (λ none. absurd (cc (sym stored ∙ none))) (stage (guest_loads guest) files) refl is_traced in
+    let loaded = loaded_of (guest_loads guest) files in
     let image = image_of loaded.image in
     let wide : ObservedRun = run_of B32 guest loaded came.turns in
     let narrow : ObservedRun = run_of options.bits guest loaded came.turns in
@@ -149,9 +155,9 @@ traces_replay known guest report options files path bytes traced ran replayed fe
       text = text.0;
     } in
     let whole : Outcome = replay_outcome asked (names_begun image wide.past) wide.finish wide.past in
-    let of_trace : ByLength asked bytes whole false = inl (record { past = wide.past; names = names_begun image wide.past; finish = wide.finish; trace = is_trace; answered = refl }) in
+    let of_trace : IsReplay asked bytes whole = inl (record { past = wide.past; names = names_begun image wide.past; finish = wide.finish; trace = is_trace; answered = refl }) in
     let short : nat_lt trace_limit (length bytes) ≡ false = ap (λ (t : List ℕ). nat_lt trace_limit (length t)) text.0 ∙ short_enough (trace_of image wide) text.1 in
-    let replayed_is : replayed ≡ whole = replay_once known asked (bytes ∷ []) replayed whole is_replayed (subst (ByLength asked bytes whole) (sym short) of_trace) in
+    let replayed_is : replayed ≡ whole = replay_once known asked bytes replayed whole (subst (λ s. Follows (IsReplay asked bytes) replayed s) (alone path bytes short) is_replayed) of_trace in
     let ran_is = run_is guest report options job.leaves files traced came ran is_ran in
     let earlier = recording_stores options.recording (recording narrow.moves) in
     record {

@@ -5,7 +5,7 @@ use Rattle.std.specs.List.{AllByRecursion}
 use Rattle.guest_words.specs.declared.limits.TheConstants.{RUN_STEPS}
 use Rattle.trace_model.specs.declared.event_kinds.Event.{Event}
 use Rattle.trace_model.specs.WellFormed.{IsLight, IsWellFormed}
-use Rattle.command_line.specs.Options.{GuestOptions, arguments, inputs}
+use Rattle.command_line.specs.Options.{GuestOptions, arguments}
 use Rattle.elf_image.specs.Image.{Executable}
 use Rattle.elf_image.specs.Reading.{image_of}
 use Rattle.elf_image.specs.Tests.{first_refusal}
@@ -31,7 +31,7 @@ use Rattle.aprof_top.specs.declared.ending.Verdict.TheVariants.{BadImage, BadSch
 use Rattle.aprof_top.specs.Private.Preparing.{Refuses}
 use Rattle.aprof_top.specs.Private.Jobs.{FilesRun, IsSetupRefused, RunIsStored, RunStops, desk, ending_by}
 use Rattle.aprof_top.specs.Delivery.{FailsWithin, PutsOutput}
-use Rattle.aprof_top.specs.Loads.{Loaded, with_inputs}
+use Rattle.aprof_top.specs.Loads.{Loaded}
 use Rattle.aprof_top.specs.Outcome.{ByImage, IsRun, IsScheduled, Job, Outcome, begun_outcome, refusal, writes_of}
 use Rattle.aprof_top.specs.Outside.{Outside, outside}
 use Rattle.aprof_top.specs.Run.{first_state, observed_from}
@@ -74,7 +74,7 @@ none_refused None m same = refl
 none_refused (Some why) m same = absurd (grind (arith, same))
 
 -- what is observed of the run of the machine that began so
-pub seen_by : (fits : List Event → Bool) (options : GuestOptions) (loaded : Loaded) (turns : List Entry) (image : Executable) (files : List Input) (stdin : List ℕ) → image ≡ image_of loaded.image → files ≡ with_inputs [] (inputs options) loaded.inputs → stdin ≡ loaded.stdin → observed_from fits options turns image.entry (start image (arguments options) files stdin) ≡ observed_from fits options turns (image_of loaded.image).entry (first_state options loaded)
+pub seen_by : (fits : List Event → Bool) (options : GuestOptions) (loaded : Loaded) (turns : List Entry) (image : Executable) (files : List Input) (stdin : List ℕ) → image ≡ image_of loaded.image → files ≡ loaded.inputs → stdin ≡ loaded.stdin → observed_from fits options turns image.entry (start image (arguments options) files stdin) ≡ observed_from fits options turns (image_of loaded.image).entry (first_state options loaded)
 unfolding first_state
 seen_by fits options loaded turns image files stdin is files_are stdin_is =
     ap (λ i. observed_from fits options turns i.entry (start i (arguments options) files stdin)) is
@@ -84,7 +84,7 @@ seen_by fits options loaded turns image files stdin is files_are stdin_is =
 handed_refusal : (job : Job) (loaded : Loaded) (v : Verdict) (o : Outside) → IsRun job loaded (refusal v) → FilesRun job loaded o o (ending.Decided v)
 handed_refusal job loaded v o is_run = record {
   outcome = refusal v;
-  is_run = is_run;
+  is = is_run;
   delivered = (refl, record { out = appended-nothing o.out; err = appended-nothing o.err ∙ appended-nothing (appended o.err []); stored = inl refl });
 }
 
@@ -94,11 +94,16 @@ pub stops_whole : (setup : Option SetupError) (moves : List Move) (before after 
 stops_whole setup moves before after none output = inr (none, record { earlier = moves; later = []; are = append-nil moves; output = output })
 
 -- files that are refused are run by nothing
-pub FilesRun-refused : (job : Job) (loaded : Loaded) (o : Outside) (e : declared.Ending) → Refuses loaded e → FilesRun job loaded o o e
+FilesRun-refused : (job : Job) (loaded : Loaded) (o : Outside) (e : declared.Ending) → Refuses loaded e → FilesRun job loaded o o e
 FilesRun-refused job loaded o (ending.Decided (BadImage e)) refused =
     handed_refusal job loaded (BadImage e) o (subst (λ why. ByImage job loaded (refusal (BadImage e)) why) (sym refused) refl)
 FilesRun-refused job loaded o (ending.Decided (BadSchedule line)) (accepted, bad) = handed_refusal job loaded (BadSchedule line) o (IsRun-bad_line job loaded accepted line bad)
 FilesRun-refused job loaded o _ refused = absurd refused
+
+-- nor is a guest that could not be prepared
+pub FilesRun-unprepared : (job : Job) (loaded : Loaded) (o : Outside) (e : declared.Ending) → Refuses loaded e ⊎ (e ≡ ending.OutOfMemory) → FilesRun job loaded o o e
+FilesRun-unprepared job loaded o e (inl refused) = FilesRun-refused job loaded o e refused
+FilesRun-unprepared job loaded o e (inr out_of_memory) = subst (FilesRun job loaded o o) (sym out_of_memory) (inl refl)
 
 -- ---- the guest is run
 module _ (job : Job) (loaded : Loaded) (accepted : first_refusal loaded.image ≡ None) (turns : List Entry) (entries : AllByRecursion IsEntry turns)
@@ -115,21 +120,20 @@ module _ (job : Job) (loaded : Loaded) (accepted : first_refusal loaded.image �
       subst (λ (s : Sinks). FilesRun job loaded (outside files before.out before.err) (outside files s.out s.err) (ending.Decided v)) (sym same)
       (handed_refusal job loaded v (outside files before.out before.err)
       (subst (λ w. IsRun job loaded (refusal w)) (sym large) (IsRun-unbegun job loaded accepted turns entries text image is refused)))
-  FilesRun-given_up (ending.CannotRead source) fails = absurd fails
   FilesRun-given_up ending.CannotWrite (begins, stops) = record {
     outcome = outcome;
-    is_run = is_outcome begins;
+    is = is_outcome begins;
     delivered = (of_run, inr (fails_on_out outcome seen.moves writes_are files before after stops));
   }
   FilesRun-given_up ending.CannotPut (begins, stops) = record {
     outcome = outcome;
-    is_run = is_outcome begins;
+    is = is_outcome begins;
     delivered = (of_run, inl (fails_on_err outcome seen.moves writes_are files before after stops));
   }
   FilesRun-given_up ending.OutOfMemory (inl same) = inl (ap (λ (s : Sinks). outside files s.out s.err) same)
   FilesRun-given_up ending.OutOfMemory (inr (begins, gives)) = inr (record {
     outcome = outcome;
-    is_run = is_outcome begins;
+    is = is_outcome begins;
     delivered = stops_short outcome seen.moves writes_are files before after gives;
   })
 
@@ -142,7 +146,7 @@ module _ (job : Job) (loaded : Loaded) (accepted : first_refusal loaded.image �
         FilesRun job loaded (outside files before.out before.err) (outside new after.out err) (ending_by result)
     FilesRun-stored (Ok v) (same, done) = record {
       outcome = outcome;
-      is_run = is_outcome begins;
+      is = is_outcome begins;
       delivered = (
         same,
         record {
@@ -154,12 +158,12 @@ module _ (job : Job) (loaded : Loaded) (accepted : first_refusal loaded.image �
     }
     FilesRun-stored (Err ending.CannotWrite) fails = record {
       outcome = outcome;
-      is_run = is_outcome begins;
+      is = is_outcome begins;
       delivered = (of_run, inl (record { output = record { out = put.out; err = fails.err ∙ put.err }; stored = fails.stored }));
     }
     FilesRun-stored (Err ending.CannotPut) fails = record {
       outcome = outcome;
-      is_run = is_outcome begins;
+      is = is_outcome begins;
       delivered = (
         of_run,
         inr (record {
@@ -173,7 +177,7 @@ module _ (job : Job) (loaded : Loaded) (accepted : first_refusal loaded.image �
         let put_err = fails.err ∙ put.err in
         inr (record {
           outcome = outcome;
-          is_run = is_outcome begins;
+          is = is_outcome begins;
           delivered = record {
             earlier = outcome.writes;
             later = [];
@@ -186,7 +190,6 @@ module _ (job : Job) (loaded : Loaded) (accepted : first_refusal loaded.image �
           };
         })
     FilesRun-stored (Err (ending.Decided v)) fails = absurd fails
-    FilesRun-stored (Err (ending.CannotRead source)) fails = absurd fails
 
 -- what is observed is light
 pub light_observed : (fits : List Event → Bool) (options : GuestOptions) (turns : List Entry) (image : Executable) (files : List Input) (stdin : List ℕ) → options.budget ≤ RUN_STEPS →

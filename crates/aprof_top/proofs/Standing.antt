@@ -29,8 +29,8 @@ use Rattle.aprof_top.specs.Ends.End.{Decided, CannotRead, CannotWrite, CannotPut
 use Rattle.aprof_top.specs.Found.{Decision}
 use Rattle.aprof_top.specs.LastText.{IsMade, IsPut, LastText}
 use Rattle.aprof_top.specs.declared.ending.Verdict.{Verdict}
-use Rattle.aprof_top.specs.Loads.{Loaded, loaded_of}
-use Rattle.aprof_top.specs.Outcome.{ByImage, Follows, IsOutcome, Outcome, Stage, begun_outcome, err_of, put_on, recording_stores, scheduled_outcome, stage}
+use Rattle.aprof_top.specs.Loads.{Loaded, guest_loads, loaded_of}
+use Rattle.aprof_top.specs.Outcome.{ByImage, Follows, IsOutcome, IsRun, Outcome, Stage, begun_outcome, err_of, put_on, recording_stores, scheduled_outcome, stage}
 use Rattle.aprof_top.specs.Outcome.Stage.{PastLimit, Loading, Complete}
 use Rattle.aprof_top.specs.Outside.{Outside, outside, with_stores}
 use Rattle.aprof_top.specs.Schedules.{Reading}
@@ -63,14 +63,14 @@ by_image : (guest : GuestOptions) (report : List ℕ) (options : RunOptions) (lo
 by_image guest report options loaded outcome (Some e) is ran = absurd (subst (λ (o : Outcome). IsOfRun o.verdict) is ran)
 by_image guest report options loaded outcome None is ran = by_schedule guest report options loaded is.reading outcome is.answered ran
 
-by_stage : (guest : GuestOptions) (report : List ℕ) (options : RunOptions) (files : List (List ℕ)) (outcome : Outcome) (s : Stage) → Follows (run_job guest report options) files outcome s → IsOfRun outcome.verdict → StoresRun guest report options outcome.stores
+by_stage : (guest : GuestOptions) (report : List ℕ) (options : RunOptions) (files : List (List ℕ)) (outcome : Outcome) (s : Stage) → Follows (IsRun (run_job guest report options) (loaded_of (guest_loads guest) files)) outcome s → IsOfRun outcome.verdict → StoresRun guest report options outcome.stores
 by_stage guest report options files outcome PastLimit is ran = absurd (subst (λ (o : Outcome). IsOfRun o.verdict) is ran)
 by_stage guest report options files outcome Loading is ran = absurd is
-by_stage guest report options files outcome Complete is ran = by_image guest report options (loaded_of guest files) outcome (first_refusal (loaded_of guest files).image) is ran
+by_stage guest report options files outcome Complete is ran = by_image guest report options (loaded_of (guest_loads guest) files) outcome (first_refusal (loaded_of (guest_loads guest) files).image) is ran
 
 stores_run : (guest : GuestOptions) (report : List ℕ) (options : RunOptions) (files : List (List ℕ)) (asked : Option Asked) (outcome : Outcome) → asked ≡ Some (Guest guest report (Run options)) → IsOutcome asked files outcome → IsOfRun outcome.verdict → StoresRun guest report options outcome.stores
 stores_run guest report options files asked outcome is written ran =
-    by_stage guest report options files outcome (stage guest files) (subst (λ a. IsOutcome a files outcome) is written) ran
+    by_stage guest report options files outcome (stage (guest_loads guest) files) (subst (λ a. IsOutcome a files outcome) is written) ran
 
 -- ---- files at other paths
 unequal : (a b : List ℕ) → (a ≡ b → ⊥) → bytes_eq a b ≡ false

@@ -11,7 +11,7 @@ use Rattle.guest_machine.specs.Setup.{setup_refusal}
 use Rattle.guest_run.specs.ObservedRun.{ObservedRun}
 use Rattle.thread_sched.specs.declared.entry.Entry.{Entry}
 use Rattle.aprof_top.specs.declared.ending.Verdict.TheVariants.{BadImage, BadSchedule, TooLarge}
-use Rattle.aprof_top.specs.Loads.{Loaded, loaded_of}
+use Rattle.aprof_top.specs.Loads.{Loaded, guest_loads, loaded_of}
 use Rattle.aprof_top.specs.Outcome.{ByImage, Follows, IsRun, Job, Outcome, Stage, begun_outcome, analysed, job_of, one_file, refusal, run_outcome, scheduled_outcome, stage}
 use Rattle.aprof_top.specs.Outcome.Stage.{Complete, Loading, PastLimit}
 use Rattle.aprof_top.specs.Run.{run_of}
@@ -21,21 +21,21 @@ use Rattle.aprof_top.proofs.OneOutcome.{reads_once}
 
 -- A job that stored something ran its guest, under turns that were read.
 pub record CameTo (job : Job) (files : List (List ℕ)) (outcome : Outcome) : Type 0 where
-  pub complete : stage job.guest files ≡ Complete
-  pub accepted : first_refusal (loaded_of job.guest files).image ≡ None
+  pub complete : stage (guest_loads job.guest) files ≡ Complete
+  pub accepted : first_refusal (loaded_of (guest_loads job.guest) files).image ≡ None
   pub turns : List Entry
-  pub read : Reads (loaded_of job.guest files).schedule (Turns turns)
-  pub begins : setup_refusal (image_of (loaded_of job.guest files).image) (arguments job.guest) ≡ None
-  pub answered : outcome ≡ job.leaves (loaded_of job.guest files) turns
+  pub read : Reads (loaded_of (guest_loads job.guest) files).schedule (Turns turns)
+  pub begins : setup_refusal (image_of (loaded_of (guest_loads job.guest) files).image) (arguments job.guest) ≡ None
+  pub answered : outcome ≡ job.leaves (loaded_of (guest_loads job.guest) files) turns
 
 module _ (job : Job) (files : List (List ℕ)) (outcome : Outcome) (some : outcome.stores ≡ [] → ⊥) where
   abbrev loaded : Loaded
-  loaded = loaded_of job.guest files
+  loaded = loaded_of (guest_loads job.guest) files
 
   none_stored : {A : Type 0} → (o : Outcome) → outcome ≡ o → o.stores ≡ [] → A
   none_stored o is none = absurd (some (ap (λ (o : Outcome). o.stores) is ∙ none))
 
-  module _ (complete : stage job.guest files ≡ Complete) (accepted : first_refusal loaded.image ≡ None) where
+  module _ (complete : stage (guest_loads job.guest) files ≡ Complete) (accepted : first_refusal loaded.image ≡ None) where
     by_setup : (turns : List Entry) → Reads loaded.schedule (Turns turns) → (o : Option SetupError) → setup_refusal (image_of loaded.image) (arguments job.guest) ≡ o → outcome ≡ begun_outcome job loaded turns o → CameTo job files outcome
     by_setup turns read None begins is = record { complete = complete; accepted = accepted; turns = turns; read = read; begins = begins; answered = is }
     by_setup turns read (Some why) begins is = none_stored (refusal TooLarge) is refl
@@ -44,11 +44,11 @@ module _ (job : Job) (files : List (List ℕ)) (outcome : Outcome) (some : outco
     by_reading (Turns turns) read is = by_setup turns read (setup_refusal (image_of loaded.image) (arguments job.guest)) refl is
     by_reading (BadLine line) read is = none_stored (refusal (BadSchedule line)) is refl
 
-  by_image : stage job.guest files ≡ Complete → (o : Option ElfError) → first_refusal loaded.image ≡ o → ByImage job loaded outcome o → CameTo job files outcome
+  by_image : stage (guest_loads job.guest) files ≡ Complete → (o : Option ElfError) → first_refusal loaded.image ≡ o → ByImage job loaded outcome o → CameTo job files outcome
   by_image complete None accepted is = by_reading complete accepted is.reading is.read is.answered
   by_image complete (Some e) refused is = none_stored (refusal (BadImage e)) is refl
 
-  pub came_to : (s : Stage) → stage job.guest files ≡ s → Follows job files outcome s → CameTo job files outcome
+  pub came_to : (s : Stage) → stage (guest_loads job.guest) files ≡ s → Follows (IsRun job loaded) outcome s → CameTo job files outcome
   came_to PastLimit is follows = none_stored (refusal TooLarge) follows refl
   came_to Loading is follows = absurd follows
   came_to Complete is follows = by_image is (first_refusal loaded.image) refl follows
@@ -60,12 +60,12 @@ run_job guest report options = job_of guest report (Run options)
 -- the run itself, of the same guest and files
 module _ (guest : GuestOptions) (report : List ℕ) (options : RunOptions) (leaves : Loaded → List Entry → Outcome) (files : List (List ℕ)) (outcome : Outcome) (came : CameTo (record { guest = guest; leaves = leaves }) files outcome) (ran : Outcome) where
   abbrev with_files : Loaded
-  with_files = loaded_of guest files
+  with_files = loaded_of (guest_loads guest) files
 
-  pub run_is : Follows (run_job guest report options) files ran (stage guest files)
+  pub run_is : Follows (IsRun (run_job guest report options) with_files) ran (stage (guest_loads guest) files)
       → ran ≡ analysed report (Run options) (image_of with_files.image) (run_of options.bits guest with_files came.turns)
   run_is follows =
-      let is_run : IsRun (run_job guest report options) with_files ran = subst (λ s. Follows (run_job guest report options) files ran s) came.complete follows in
+      let is_run : IsRun (run_job guest report options) with_files ran = subst (λ s. Follows (IsRun (run_job guest report options) with_files) ran s) came.complete follows in
       let scheduled = subst (λ o. ByImage (run_job guest report options) with_files ran o) came.accepted is_run in
       scheduled.answered
       ∙ ap (scheduled_outcome (run_job guest report options) with_files) (reads_once with_files.schedule scheduled.reading (Turns came.turns) scheduled.read came.read)

@@ -1,11 +1,14 @@
 -- A second run under the recording of a first.
-use Rattle.std.proofs.Common.{◌≡◌, ℕ, zero, suc, ◌+◌, ◌≤◌, Bool, true, false, ◌||◌, cond, List, [], ◌∷◌, ◌++◌, Option, Some, None, refl, sym, ap, ◌∙◌, subst, inl, arith, length, length-append, take, drop, slice_get}
-use Rattle.std.specs.Prelude.{nat_lt, sum_by}
+use Rattle.std.proofs.Common.{◌≡◌, ℕ, ◌+◌, ◌≤◌, Bool, true, false, ◌||◌, cond, List, [], ◌∷◌, ◌++◌, Option, Some, None, refl, sym, ap, ap₂, ◌∙◌, subst, inl, append-nil, arith, length, length-append, map, take, drop, slice_get}
+use Rattle.std.specs.Prelude.{filter, fold, if◌then◌else◌, nat_lt, sum_by, zip}
 use Rattle.std.specs.List.{AllByRecursion, list_any}
 use Rattle.std.specs.Option.{option_to_list}
 use Rattle.std.proofs.lemmas.Bool.Decides.{nat_tests}
+use Rattle.std.proofs.lemmas.List.Elements.{filter-append}
+use Rattle.std.proofs.lemmas.List.Folds.{list_any-append}
+use Rattle.std.proofs.lemmas.List.Sums.{fold-append, sum_by-append}
 use Rattle.guest_words.specs.declared.limits.TheConstants.{RUN_STEPS}
-use Rattle.command_line.specs.Options.{GuestOptions, RunOptions, arguments, inputs}
+use Rattle.command_line.specs.Options.{GuestOptions, RunOptions, arguments}
 use Rattle.command_line.specs.Options.Analysis.{Run}
 use Rattle.elf_image.specs.declared.error.ElfError.{ElfError}
 use Rattle.elf_image.specs.Reading.{image_of}
@@ -22,11 +25,13 @@ use Rattle.guest_run.specs.Traces.{EveryRunRecordsEntries}
 use Rattle.guest_words.specs.declared.endings.Finish.{Finish}
 use Rattle.thread_sched.specs.declared.entry.Entry.{Entry}
 use Rattle.thread_sched.specs.ScheduleText.{IsEntry, schedule_text}
+use Rattle.aprof_top.specs.declared.source.Source.{Source}
+use Rattle.aprof_top.specs.declared.source.Source.TheVariants.{Image, Input, Stdin, Schedule, Trace}
 use Rattle.aprof_top.specs.declared.ending.Verdict.{Verdict}
 use Rattle.aprof_top.specs.declared.ending.Verdict.TheVariants.{BadImage, BadSchedule, Ran, TooLarge}
 use Rattle.aprof_top.specs.Laws.{TwoRunsAgree, under_schedule, with_schedule}
 use Rattle.aprof_top.specs.Limits.{file_limit, inputs_limit}
-use Rattle.aprof_top.specs.Loads.{Loaded, with_inputs, first_file, file_at, loaded_of, loaded_paths, passes_limit, shared_count, shared_length}
+use Rattle.aprof_top.specs.Loads.{Load, Loaded, file_for, guest_loads, inputs_of, is, limit_of, load, loaded_for, loaded_of, loads_but_schedule, passes_limit, shared_bytes}
 use Rattle.aprof_top.specs.Outcome.{ByImage, Follows, IsRun, Outcome, Stage, analysed, begun_outcome, recording_stores, refusal, scheduled_outcome, stage}
 use Rattle.aprof_top.specs.Outcome.Stage.{Complete, Loading, PastLimit}
 use Rattle.aprof_top.specs.Report.{report_of}
@@ -44,45 +49,23 @@ neither : (a b : Bool) → (a || b) ≡ false → (a ≡ false) × (b ≡ false)
 neither true b e = absurd (cc)
 neither false b e = (refl, e)
 
--- ---- a front of some files, and then a text
-module _ (text : List ℕ) where
-  any_front : (p : List ℕ → Bool) (n : ℕ) (files : List (List ℕ)) → p text ≡ false → list_any p files ≡ false → list_any p (take n files ++ text ∷ []) ≡ false
-  any_front p zero files one none = rw one refl
-  any_front p (suc n) [] one none = rw one refl
-  any_front p (suc n) (f ∷ files) one none =
-      let parts = neither (p f) (list_any p files) none in
-      rw parts.0 (any_front p n files one parts.1)
+-- ---- files in the place of others
+-- the files of the first loads, and those of the others
+zip_split : {A B : Type 0} (xs ys : List A) (files : List B) → length xs ≤ length files → zip (xs ++ ys) files ≡ zip xs files ++ zip ys (drop (length xs) files)
+zip_split [] ys files enough = refl
+zip_split (x ∷ xs) ys [] enough = absurd (omega (arith, enough))
+zip_split (x ∷ xs) ys (f ∷ files) enough = ap (λ rest. (x, f) ∷ rest) (zip_split xs ys files (omega (arith, enough)))
 
-  front_length : (n : ℕ) (files : List (List ℕ)) → n ≤ length files → length (take n files ++ text ∷ []) ≡ n + 1
-  front_length zero files enough = refl
-  front_length (suc n) [] enough = absurd (omega (arith, enough))
-  front_length (suc n) (f ∷ files) enough = let e = front_length n files (omega (arith, enough)) in omega (arith, e)
+-- other files follow those of the first loads
+zip_front : {A B : Type 0} (xs ys : List A) (files others : List B) → length xs ≤ length files → zip (xs ++ ys) (take (length xs) files ++ others) ≡ zip xs files ++ zip ys others
+zip_front [] ys files others enough = refl
+zip_front (x ∷ xs) ys [] others enough = absurd (omega (arith, enough))
+zip_front (x ∷ xs) ys (f ∷ files) others enough = ap (λ rest. (x, f) ∷ rest) (zip_front xs ys files others (omega (arith, enough)))
 
-  take_front : (m n : ℕ) (files : List (List ℕ)) → m ≤ n → n ≤ length files → take m (take n files ++ text ∷ []) ≡ take m files
-  take_front zero n files less enough = refl
-  take_front (suc m) zero files less enough = absurd (omega (arith, less))
-  take_front (suc m) (suc n) [] less enough = absurd (omega (arith, enough))
-  take_front (suc m) (suc n) (f ∷ files) less enough = ap (λ rest. f ∷ rest) (take_front m n files (omega (arith, less)) (omega (arith, enough)))
-
-  drop_front : (m n k : ℕ) (files : List (List ℕ)) → n ≡ m + k → n ≤ length files → drop m (take n files ++ text ∷ []) ≡ take k (drop m files) ++ text ∷ []
-  drop_front zero n k files is enough = ap (λ j. take j files ++ text ∷ []) (omega (arith, is))
-  drop_front (suc m) zero k files is enough = absurd (omega (arith, is))
-  drop_front (suc m) (suc n) k [] is enough = absurd (omega (arith, enough))
-  drop_front (suc m) (suc n) k (f ∷ files) is enough = drop_front m n k files (omega (arith, is)) (omega (arith, enough))
-
-  -- what stands behind all of it
-  behind_front : (k : ℕ) (files : List (List ℕ)) → k ≤ length files → first_file (drop k (take k files ++ text ∷ [])) ≡ text
-  behind_front k files enough = ap first_file (drop_front k k 0 files (omega arith) enough)
-
-  same_stdin : (stdin : Option (List ℕ)) (files : List (List ℕ)) → length (option_to_list stdin) ≤ length files → file_at stdin (take (length (option_to_list stdin)) files ++ text ∷ []) ≡ file_at stdin files
-  same_stdin None files enough = refl
-  same_stdin (Some path) [] enough = absurd (omega (arith, enough))
-  same_stdin (Some path) (f ∷ files) enough = refl
-
-left_behind : (m n : ℕ) (files : List (List ℕ)) → m + n ≤ length files → n ≤ length (drop m files)
-left_behind zero n files enough = omega (arith, enough)
-left_behind (suc m) n [] enough = absurd (omega (arith, enough))
-left_behind (suc m) n (f ∷ files) enough = left_behind m n files (omega (arith, enough))
+front_length : {A B : Type 0} (xs : List A) (files : List B) (text : B) → length xs ≤ length files → length (take (length xs) files ++ text ∷ []) ≡ length xs + 1
+front_length [] files text enough = refl
+front_length (x ∷ xs) [] text enough = absurd (omega (arith, enough))
+front_length (x ∷ xs) (f ∷ files) text enough = let e = front_length xs files text (omega (arith, enough)) in omega (arith, e)
 
 -- ---- all files of the first run were loaded
 complete_parts : (past more : Bool) → cond past PastLimit (cond more Loading Complete) ≡ Complete → (past ≡ false) × (more ≡ false)
@@ -90,62 +73,117 @@ complete_parts true more e = absurd (cc)
 complete_parts false true e = absurd (cc)
 complete_parts false false e = (refl, refl)
 
-module _ (options : GuestOptions) (path text : List ℕ) where
-  abbrev n : ℕ
-  n = length (inputs options)
+-- a load with what it gave
+abbrev File : Type 0
+File = Load × List ℕ
 
-  abbrev k : ℕ
-  k = length (option_to_list options.stdin)
+abbrev is_long : File → Bool
+is_long file = nat_lt (limit_of file.0.source) (length file.1)
 
-  many_paths : shared_count options + 1 ≤ length (loaded_paths options)
-  many_paths = paths (inputs options) (option_to_list options.stdin) (option_to_list options.schedule)
+-- the files of a schedule are for nothing else
+others_none : (source : Source) → is source Schedule ≡ false → (schedule : Option (List ℕ)) (files : List (List ℕ)) → filter (λ (file : File). is source file.0.source) (zip (map (load Schedule) (option_to_list schedule)) files) ≡ []
+others_none source other None files = refl
+others_none source other (Some path) [] = refl
+others_none source other (Some path) (f ∷ files) = ap (λ b. if b then (load Schedule path, f) ∷ [] else []) other
+
+module _ (options : GuestOptions) (path text : List ℕ) (short : length text ≤ file_limit) (files : List (List ℕ)) (enough : length (loads_but_schedule options) ≤ length files) where
+  abbrev front : List Load
+  front = loads_but_schedule options
+
+  abbrev second : GuestOptions
+  second = under_schedule options path
+
+  abbrev others : List (List ℕ)
+  others = drop (length front) files
+
+  abbrev files_again : List (List ℕ)
+  files_again = with_schedule options files text
+
+  -- the schedule stands last in both runs
+  first_is : zip (guest_loads options) files ≡ zip front files ++ zip (map (load Schedule) (option_to_list options.schedule)) others
+  first_is = zip_split front (map (load Schedule) (option_to_list options.schedule)) files enough
+
+  again_is : zip (guest_loads second) files_again ≡ zip front files ++ (load Schedule path, text) ∷ []
+  again_is = zip_front front (load Schedule path ∷ []) files (text ∷ []) enough
+
+  -- what is loaded for something else is the same
+  module _ (source : Source) (other : is source Schedule ≡ false) where
+    abbrev test : File → Bool
+    test file = is source file.0.source
+
+    first_for : loaded_for source (guest_loads options) files ≡ filter test (zip front files)
+    first_for =
+        ap (filter test) first_is
+        ∙ filter-append test (zip front files) (zip (map (load Schedule) (option_to_list options.schedule)) others)
+        ∙ ap (λ rest. filter test (zip front files) ++ rest) (others_none source other options.schedule others)
+        ∙ append-nil (filter test (zip front files))
+
+    again_for : loaded_for source (guest_loads second) files_again ≡ filter test (zip front files)
+    again_for =
+        ap (filter test) again_is
+        ∙ filter-append test (zip front files) ((load Schedule path, text) ∷ [])
+        ∙ ap (λ b. filter test (zip front files) ++ (if b then (load Schedule path, text) ∷ [] else [])) other
+        ∙ append-nil (filter test (zip front files))
+
+    same_for : loaded_for source (guest_loads second) files_again ≡ loaded_for source (guest_loads options) files
+    same_for = again_for ∙ sym first_for
+
+    same_file : file_for source (guest_loads second) files_again ≡ file_for source (guest_loads options) files
+    same_file = ap (fold (λ before (file : File). file.1) []) same_for
+
+  schedule_is : file_for Schedule (guest_loads second) files_again ≡ text
+  schedule_is =
+      ap (λ found. fold (λ before (file : File). file.1) [] (filter (λ (file : File). is Schedule file.0.source) found)) again_is
+      ∙ ap (fold (λ before (file : File). file.1) []) (filter-append (λ (file : File). is Schedule file.0.source) (zip front files) ((load Schedule path, text) ∷ []))
+      ∙ fold-append (λ before (file : File). file.1) [] (filter (λ (file : File). is Schedule file.0.source) (zip front files)) ((load Schedule path, text) ∷ [])
+
+  same_loaded : loaded_of (guest_loads second) files_again ≡ record (loaded_of (guest_loads options) files) { schedule = text }
+  same_loaded = λ i. record {
+    image = same_file Image refl i;
+    inputs = ap inputs_of (same_for Input refl) i;
+    stdin = same_file Stdin refl i;
+    schedule = schedule_is i;
+    trace = same_file Trace refl i;
+  }
+
+  -- and no limit is passed
+  still_few : passes_limit (guest_loads options) files ≡ false → passes_limit (guest_loads second) files_again ≡ false
+  still_few few =
+      let schedules = zip (map (load Schedule) (option_to_list options.schedule)) others in
+      let parts = neither (list_any is_long (zip front files ++ schedules)) (nat_lt inputs_limit (sum_by shared_bytes (zip front files ++ schedules))) (ap (λ (found : List File). list_any is_long found || nat_lt inputs_limit (sum_by shared_bytes found)) (sym first_is) ∙ few) in
+      let none_long = neither (list_any is_long (zip front files)) (list_any is_long schedules) (sym (list_any-append is_long (zip front files) schedules) ∙ parts.0) in
+      ap (λ (found : List File). list_any is_long found || nat_lt inputs_limit (sum_by shared_bytes found)) again_is
+      ∙ ap₂ ◌||◌
+      (list_any-append is_long (zip front files) ((load Schedule path, text) ∷ []) ∙ ap₂ ◌||◌ none_long.0 (ap (λ b. b || false) (small (length text) file_limit short)))
+      (ap (nat_lt inputs_limit) (sum_by-append shared_bytes (zip front files) ((load Schedule path, text) ∷ []))
+      ∙ fewer (sum_by shared_bytes (zip front files)) (sum_by shared_bytes schedules) (ap (nat_lt inputs_limit) (sym (sum_by-append shared_bytes (zip front files) schedules)) ∙ parts.1))
     where
-      paths : (xs ys zs : List (List ℕ)) → length xs + length ys + 1 ≤ length (options.image ∷ (xs ++ (ys ++ zs)))
-      paths xs ys zs = omega (arith, length-append xs (ys ++ zs), length-append ys zs)
+      small : (a b : ℕ) → a ≤ b → nat_lt b a ≡ false
+      small a b le = grind (arith, nat_tests, le)
 
-  paths_again : length (loaded_paths (under_schedule options path)) ≡ shared_count options + 2
-  paths_again = paths (inputs options) (option_to_list options.stdin)
-    where
-      paths : (xs ys : List (List ℕ)) → length (options.image ∷ (xs ++ (ys ++ path ∷ []))) ≡ length xs + length ys + 2
-      paths xs ys = omega (arith, length-append xs (ys ++ path ∷ []), length-append ys (path ∷ []))
+      fewer : (a b : ℕ) → nat_lt inputs_limit (a + b) ≡ false → nat_lt inputs_limit (a + 0) ≡ false
+      fewer a b e = grind (arith, nat_tests, e)
 
-  enough : (a b : ℕ) → nat_lt a b ≡ false → b ≤ a
-  enough a b e = grind (arith, nat_tests, e)
+-- with the recording in the place of the schedule they are complete too, and the others are the same
+pub second_files : (options : GuestOptions) (path text : List ℕ) (files : List (List ℕ)) → length text ≤ file_limit → stage (guest_loads options) files ≡ Complete
+    → (stage (guest_loads (under_schedule options path)) (with_schedule options files text) ≡ Complete)
+    × (loaded_of (guest_loads (under_schedule options path)) (with_schedule options files text) ≡ record (loaded_of (guest_loads options) files) { schedule = text })
+second_files options path text files short complete = (
+  complete_stage (guest_loads (under_schedule options path)) (with_schedule options files text) (still_few options path text short files enough parts.0) all,
+  same_loaded options path text short files enough,
+)
+  where
+    parts : (passes_limit (guest_loads options) files ≡ false) × (nat_lt (length files) (length (guest_loads options)) ≡ false)
+    parts = complete_parts (passes_limit (guest_loads options) files) (nat_lt (length files) (length (guest_loads options))) complete
 
-  small : (a b : ℕ) → a ≤ b → nat_lt b a ≡ false
-  small a b le = grind (arith, nat_tests, le)
+    no_more : (a b c : ℕ) → nat_lt a (b + c) ≡ false → b ≤ a
+    no_more a b c e = grind (arith, nat_tests, e)
 
-  abbrev AreComplete : List (List ℕ) → List (List ℕ) → Type 0
-  AreComplete files again = (stage (under_schedule options path) again ≡ Complete) × (loaded_of (under_schedule options path) again ≡ record (loaded_of options files) { schedule = text })
+    enough : length (loads_but_schedule options) ≤ length files
+    enough = no_more (length files) (length (loads_but_schedule options)) (length (map (load Schedule) (option_to_list options.schedule))) (ap (nat_lt (length files)) (sym (length-append (loads_but_schedule options) (map (load Schedule) (option_to_list options.schedule)))) ∙ parts.1)
 
-  -- with the recording in the place of the schedule they are complete too, and the others are the same
-  second_by : (files : List (List ℕ)) → length text ≤ file_limit → passes_limit (shared_count options) files ≡ false → length (loaded_paths options) ≤ length files → AreComplete files (with_schedule options files text)
-  second_by [] short few all = absurd (omega (arith, all, many_paths))
-  second_by (f ∷ fs) short few all =
-      let c = shared_count options in
-      let fit : c ≤ length fs = omega (arith, all, many_paths) in
-      let limits = neither (list_any (λ file. nat_lt file_limit (length file)) (f ∷ fs)) (nat_lt inputs_limit (shared_length c (f ∷ fs))) few in
-      let long = neither (nat_lt file_limit (length f)) (list_any (λ file. nat_lt file_limit (length file)) fs) limits.0 in
-      let front : List (List ℕ) = take c fs ++ text ∷ [] in
-      let rest : drop n front ≡ take k (drop n fs) ++ text ∷ [] = drop_front text n c k fs refl fit in
-      let left : k ≤ length (drop n fs) = left_behind n k fs fit in
-      let passes : passes_limit c (f ∷ front) ≡ false =
-      rw (long.0, any_front text (λ file. nat_lt file_limit (length file)) c fs (small (length text) file_limit short) long.1)
-      (ap (λ xs. nat_lt inputs_limit (sum_by length xs)) (take_front text c c fs (omega arith) fit) ∙ limits.1) in
-      let many : length (f ∷ front) ≡ length (loaded_paths (under_schedule options path)) = omega (arith, paths_again, front_length text c fs fit) in (
-        complete_stage (under_schedule options path) (f ∷ front) passes many,
-        λ i. record {
-          image = f;
-          inputs = take_front text n c fs (omega arith) fit i;
-          stdin = (ap (file_at options.stdin) rest ∙ same_stdin text options.stdin (drop n fs) left) i;
-          schedule = (ap (λ xs. first_file (drop k xs)) rest ∙ behind_front text k (drop n fs) left) i;
-        },
-      )
-
-  pub second_files : (files : List (List ℕ)) → length text ≤ file_limit → stage options files ≡ Complete → AreComplete files (with_schedule options files text)
-  second_files files short complete =
-      let parts = complete_parts (passes_limit (shared_count options) files) (nat_lt (length files) (length (loaded_paths options))) complete in
-      second_by files short parts.0 (enough (length files) (length (loaded_paths options)) parts.1)
+    all : length (with_schedule options files text) ≡ length (guest_loads (under_schedule options path))
+    all = front_length (loads_but_schedule options) files text enough ∙ sym (length-append (loads_but_schedule options) (load Schedule path ∷ []))
 
 -- ---- the first run
 -- the guest ran, under these turns
@@ -171,10 +209,10 @@ module _ (guest : GuestOptions) (report : List ℕ) (options : RunOptions) (load
   by_image None accepted is = by_reading accepted is.reading is.answered
   by_image (Some e) refused is = no_refusal (BadImage e) (λ e. cc) is
 
-complete_run : (guest : GuestOptions) (report : List ℕ) (options : RunOptions) (files : List (List ℕ)) (outcome : Outcome) (finish : Finish) → outcome.verdict ≡ Ran finish → (s : Stage) → stage guest files ≡ s → Follows (run_job guest report options) files outcome s → (stage guest files ≡ Complete) × Ran' guest report options (loaded_of guest files) outcome
-complete_run guest report options files outcome finish ran PastLimit is follows = no_refusal guest report options (loaded_of guest files) outcome finish ran TooLarge (λ e. cc) follows
+complete_run : (guest : GuestOptions) (report : List ℕ) (options : RunOptions) (files : List (List ℕ)) (outcome : Outcome) (finish : Finish) → outcome.verdict ≡ Ran finish → (s : Stage) → stage (guest_loads guest) files ≡ s → Follows (IsRun (run_job guest report options) (loaded_of (guest_loads guest) files)) outcome s → (stage (guest_loads guest) files ≡ Complete) × Ran' guest report options (loaded_of (guest_loads guest) files) outcome
+complete_run guest report options files outcome finish ran PastLimit is follows = no_refusal guest report options (loaded_of (guest_loads guest) files) outcome finish ran TooLarge (λ e. cc) follows
 complete_run guest report options files outcome finish ran Loading is follows = absurd follows
-complete_run guest report options files outcome finish ran Complete is follows = (is, by_image guest report options (loaded_of guest files) outcome finish ran (first_refusal (loaded_of guest files).image) refl follows)
+complete_run guest report options files outcome finish ran Complete is follows = (is, by_image guest report options (loaded_of (guest_loads guest) files) outcome finish ran (first_refusal (loaded_of (guest_loads guest) files).image) refl follows)
 
 -- ---- the second run
 -- the recording that was stored
@@ -203,7 +241,7 @@ module _ (replays : ReplaysObserved) (entries : EveryRunRecordsEntries) (guest :
 
   are_entries : guest.budget ≤ RUN_STEPS → AllByRecursion IsEntry (recording seen.moves)
   unfolding observed_from first_state
-  are_entries few = (entries (image_of loaded.image) (arguments guest) (with_inputs [] (inputs guest) loaded.inputs) loaded.stdin (is_within (greatest options.bits)) (scheduler guest.quantum turns) guest.budget few).observed_part
+  are_entries few = (entries (image_of loaded.image) (arguments guest) loaded.inputs loaded.stdin (is_within (greatest options.bits)) (scheduler guest.quantum turns) guest.budget few).observed_part
 
   module _ (few : guest.budget ≤ RUN_STEPS) (no_mismatch : IsNoMismatch seen.finish) (is_text : text ≡ schedule_text (recording seen.moves)) (accepted : first_refusal loaded.image ≡ None) (begins : setup_refusal (image_of loaded.image) (arguments guest) ≡ None) (second : Outcome) where
     under_turns : second ≡ scheduled_outcome (run_job (under_schedule guest path) report options) again (Turns (recording seen.moves)) → second ≡ analysed report (Run options) (image_of loaded.image) seen
@@ -219,8 +257,8 @@ module _ (replays : ReplaysObserved) (entries : EveryRunRecordsEntries) (guest :
 
 pub two_runs_agree : ReplaysObserved → EveryRunRecordsEntries → TwoRunsAgree
 two_runs_agree replays entries guest report options files first second path text few is leaves short second_is =
-    let loaded = loaded_of guest files in
-    let ran = complete_run guest report options files first leaves.finish leaves.ran (stage guest files) refl is in
+    let loaded = loaded_of (guest_loads guest) files in
+    let ran = complete_run guest report options files first leaves.finish leaves.ran (stage (guest_loads guest) files) refl is in
     let run = ran.1 in
     let image = image_of loaded.image in
     let seen : ObservedRun = run_of options.bits guest loaded run.turns in
@@ -229,7 +267,7 @@ two_runs_agree replays entries guest report options files first second path text
     let finish : seen.finish ≡ leaves.finish = same_finish seen.finish leaves.finish (ap (λ (o : Outcome). o.verdict) (sym run.answered) ∙ leaves.ran) in
     let complete = second_files guest path text files short ran.0 in
     let is_run : IsRun (run_job (under_schedule guest path) report options) (record loaded { schedule = text }) second =
-    subst (λ l. IsRun (run_job (under_schedule guest path) report options) l second) complete.1 (subst (λ s. Follows (run_job (under_schedule guest path) report options) (with_schedule guest files text) second s) complete.0 second_is) in
+    subst (λ l. IsRun (run_job (under_schedule guest path) report options) l second) complete.1 (subst (λ s. Follows (IsRun (run_job (under_schedule guest path) report options) (loaded_of (guest_loads (under_schedule guest path)) (with_schedule guest files text))) second s) complete.0 second_is) in
     second_run replays entries guest report options loaded run.turns path text few (subst IsNoMismatch (sym finish) leaves.no_mismatch) is_text run.accepted run.begins second is_run
     ∙ sym run.answered
   where

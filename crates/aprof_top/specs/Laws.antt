@@ -1,5 +1,5 @@
 -- Laws on the outcomes of commands.
-use Rattle.std.specs.Prelude.{◌≡◌, ◌≤◌, ℕ, suc, List, [], ◌∷◌, ◌++◌, length, take, slice_get, Option, Some}
+use Rattle.std.specs.Prelude.{◌≡◌, ◌≤◌, ℕ, List, [], ◌∷◌, ◌++◌, length, take, slice_get, Option, Some}
 use Rattle.command_line.specs.Options.{Asked, GuestOptions, ReplayOptions, RunOptions}
 use Rattle.command_line.specs.Options.Analysis.{Run, Trace, Contexts}
 use Rattle.command_line.specs.Options.Asked.{Guest, Replay}
@@ -8,12 +8,12 @@ use Rattle.guest_run.specs.ObservedRun.{ObservedRun}
 use Rattle.guest_run.specs.Run.{recording}
 use Rattle.guest_words.specs.declared.limits.TheConstants.{RUN_STEPS}
 use Rattle.guest_words.specs.declared.endings.Finish.{Finish}
-use Rattle.aprof_top.specs.declared.ending.Verdict.TheVariants.{Ran, Replayed}
+use Rattle.aprof_top.specs.declared.ending.Verdict.TheVariants.{Ran, Done}
 use Rattle.aprof_top.specs.Limits.{file_limit}
 use Rattle.stamps.specs.declared.width.StampBits.{StampBits}
 use Rattle.thread_sched.specs.declared.entry.Entry.{Entry}
 use Rattle.trace_model.specs.Profile.{steps}
-use Rattle.aprof_top.specs.Loads.{Loaded, shared_count}
+use Rattle.aprof_top.specs.Loads.{Loaded, loads_but_schedule}
 use Rattle.aprof_top.specs.Outcome.{IsOutcome, Outcome}
 use Rattle.aprof_top.specs.Run.{run_of, whole_run_of}
 
@@ -27,7 +27,7 @@ under_schedule options path = record options { schedule = Some path }
 
 -- the files of a command without its schedule, and then this one
 abbrev pub with_schedule : GuestOptions → List (List ℕ) → List ℕ → List (List ℕ)
-with_schedule options files text = take (suc (shared_count options)) files ++ text ∷ []
+with_schedule options files text = take (length (loads_but_schedule options)) files ++ text ∷ []
 
 -- The guest ran, no entry of a schedule stopped it, and this is the recording that was stored.
 pub record LeavesRecording (options : RunOptions) (outcome : Outcome) (text : List ℕ) : Type 0 where
@@ -54,7 +54,7 @@ replayed_from report options path = record { trace = path; report = report; bits
 
 -- The trace was replayed, and what that stores is the report that the run stores last; both count the same renumberings.
 pub record SharesReport (run replay : Outcome) : Type 0 where
-  pub replayed : replay.verdict ≡ Replayed
+  pub replayed : replay.verdict ≡ Done
   pub earlier : List (List ℕ × List ℕ)
   pub reports : run.stores ≡ earlier ++ replay.stores
   pub stats : replay.stats ≡ run.stats

@@ -31,12 +31,11 @@ use Rattle.stamps.specs.Widths.{greatest}
 use Rattle.thread_sched.specs.declared.entry.Entry.{Entry}
 use Rattle.thread_sched.specs.ScheduleText as recordings
 use Rattle.aprof_top.specs.declared.ending.Verdict.{Verdict}
-use Rattle.aprof_top.specs.declared.ending.Verdict.TheVariants.{BadCommand, BadImage, BadSchedule, BadTrace, TooLarge, Ran, Replayed, ResultTooLarge, Summarized}
+use Rattle.aprof_top.specs.declared.ending.Verdict.TheVariants.{BadCommand, BadImage, BadSchedule, BadTrace, TooLarge, Ran, ResultTooLarge, Done}
 use Rattle.cache_profile.specs.ReportText.{cache_text}
 use Rattle.aprof_top.specs.CacheMisses.{misses_of}
 use Rattle.aprof_top.specs.ContextReports.{can_be_numbered, contexts_report}
-use Rattle.aprof_top.specs.Limits.{trace_limit}
-use Rattle.aprof_top.specs.Loads.{Loaded, loaded_of, loaded_paths, passes_limit, shared_count}
+use Rattle.aprof_top.specs.Loads.{Load, Loaded, loaded_of, loads_of, passes_limit}
 use Rattle.aprof_top.specs.Report.{report_of}
 use Rattle.aprof_top.specs.Run.{observed_of, run_of}
 use Rattle.demo_guest.specs.Image.{IsDemoFile}
@@ -189,26 +188,6 @@ ByImage job loaded outcome None = IsScheduled job loaded outcome
 abbrev pub IsRun : Job → Loaded → Outcome → Type 0
 IsRun job loaded outcome = ByImage job loaded outcome (first_refusal loaded.image)
 
--- ---- the loads
--- Where the loads of a command stand: a limit is passed, or more files are to be loaded, or all are there.
-pub data Stage : Type 0 where
-  PastLimit : Stage
-  Loading : Stage
-  Complete : Stage
-
--- by the bytes of the files that were loaded, from the first on
-abbrev pub stage : GuestOptions → List (List ℕ) → Stage
-stage options files =
-    if passes_limit (shared_count options) files then PastLimit
-    else if nat_lt (length files) (length (loaded_paths options)) then Loading
-    else Complete
-
--- the outcome of a job, by where its loads stand
-abbrev pub Follows : Job → List (List ℕ) → Outcome → Stage → Type 0
-Follows job files outcome PastLimit = outcome ≡ refusal TooLarge
-Follows job files outcome Loading = ⊥
-Follows job files outcome Complete = IsRun job (loaded_of job.guest files) outcome
-
 -- ---- the report of a stored trace
 -- the trace as long as stamps of the width tell its open activations apart
 abbrev pub told_apart : StampBits → List Event → List Event
@@ -225,7 +204,7 @@ replay_text bits names finish past = report_text (report_of names (told_finish b
 -- what a trace leaves: its report, with the names that it gives
 abbrev pub replay_outcome : ReplayOptions → Names → Finish → List Event → Outcome
 replay_outcome options names finish past = record {
-  verdict = Replayed;
+  verdict = Done;
   writes = [];
   stores = (options.report, replay_text options.bits names finish past) ∷ [];
   stats = stats_of options.stats (renumberings (greatest options.bits) (told_apart options.bits past));
@@ -247,15 +226,9 @@ pub record IsOfNoTrace (bytes : List ℕ) (outcome : Outcome) : Type 0 where
   pub no_memory : why ≢ Memory
   pub answered : outcome ≡ refusal (BadTrace why)
 
--- by whether the trace is too long
-abbrev pub ByLength : ReplayOptions → List ℕ → Outcome → Bool → Type 0
-ByLength options bytes outcome true = outcome ≡ refusal TooLarge
-ByLength options bytes outcome false = IsOfTrace options bytes outcome ⊎ IsOfNoTrace bytes outcome
-
 -- the outcome of the file that was loaded
-abbrev pub IsReplay : ReplayOptions → List (List ℕ) → Outcome → Type 0
-IsReplay options [] outcome = ⊥
-IsReplay options (bytes ∷ files) outcome = ByLength options bytes outcome (nat_lt trace_limit (length bytes))
+abbrev pub IsReplay : ReplayOptions → List ℕ → Outcome → Type 0
+IsReplay options bytes outcome = IsOfTrace options bytes outcome ⊎ IsOfNoTrace bytes outcome
 
 -- ---- the demo
 -- what the demo is run with: its one argument is its name, and all else is as without options
@@ -271,12 +244,12 @@ demo_options = record {
 
 -- its executable, and no other file
 abbrev pub demo_files : List ℕ → Loaded
-demo_files file = record { image = file; inputs = []; stdin = []; schedule = [] }
+demo_files file = record { image = file; inputs = []; stdin = []; schedule = []; trace = [] }
 
 -- its summary is put, and nothing is stored
 abbrev pub demo_outcome : ℕ → Executable → ObservedRun → Outcome
 demo_outcome number image run = record {
-  verdict = Summarized;
+  verdict = Done;
   writes = (channel.Out, summary_text number (report_of image.names run.finish run.past)) ∷ [];
   stores = [];
   stats = [];
@@ -289,16 +262,37 @@ pub record IsDemo (number : ℕ) (outcome : Outcome) : Type 0 where
   pub answered : outcome ≡ demo_outcome number (image_of file) (run_of B32 demo_options (demo_files file) [])
 
 -- ---- the whole
+-- the outcome of a command over its files
+abbrev pub IsAnswer : Asked → Loaded → Outcome → Type 0
+IsAnswer (Guest guest path analysis) loaded outcome = IsRun (job_of guest path analysis) loaded outcome
+IsAnswer (Replay options) loaded outcome = IsReplay options loaded.trace outcome
+IsAnswer (Demo number) loaded outcome = IsDemo number outcome
+
+-- Where the loads of a command stand: a limit is passed, or more files are to be loaded, or all are there.
+pub data Stage : Type 0 where
+  PastLimit : Stage
+  Loading : Stage
+  Complete : Stage
+
+-- by the bytes of the files that were loaded, from the first on
+abbrev pub stage : List Load → List (List ℕ) → Stage
+stage loads files =
+    if passes_limit loads files then PastLimit
+    else if nat_lt (length files) (length loads) then Loading
+    else Complete
+
+-- the outcome, by where the loads stand, and by what it is once all files are there
+abbrev pub Follows : (Outcome → Type 0) → Outcome → Stage → Type 0
+Follows Is outcome PastLimit = outcome ≡ refusal TooLarge
+Follows Is outcome Loading = ⊥
+Follows Is outcome Complete = Is outcome
+
 -- The outcome of what the words ask for, or of their refusal, over the bytes of the files that were loaded.
 abbrev pub IsOutcome : Option Asked → List (List ℕ) → Outcome → Type 0
 IsOutcome None files outcome = outcome ≡ refusal BadCommand
-IsOutcome (Some (Guest guest path analysis)) files outcome = Follows (job_of guest path analysis) files outcome (stage guest files)
-IsOutcome (Some (Replay options)) files outcome = IsReplay options files outcome
-IsOutcome (Some (Demo number)) files outcome = IsDemo number outcome
+IsOutcome (Some asked) files outcome = Follows (IsAnswer asked (loaded_of (loads_of asked) files)) outcome (stage (loads_of asked) files)
 
 -- these files decide nothing yet
 abbrev pub IsUndecided : Option Asked → List (List ℕ) → Type 0
 IsUndecided None files = ⊥
-IsUndecided (Some (Guest guest path analysis)) files = stage guest files ≡ Loading
-IsUndecided (Some (Replay options)) files = files ≡ []
-IsUndecided (Some (Demo number)) files = ⊥
+IsUndecided (Some asked) files = stage (loads_of asked) files ≡ Loading

@@ -4,5 +4,3 @@ pub mod Jobs
 pub mod LastTexts
 pub mod Loading
 pub mod Preparing
-pub mod Replaying
-pub mod Sources

@@ -1,6 +1,6 @@
 -- The observed run of an executable.
-use Rattle.std.specs.Prelude.{ℕ, Bool, true, List, []}
-use Rattle.command_line.specs.Options.{GuestOptions, arguments, inputs}
+use Rattle.std.specs.Prelude.{ℕ, Bool, true, List}
+use Rattle.command_line.specs.Options.{GuestOptions, arguments}
 use Rattle.elf_image.specs.Reading.{image_of}
 use Rattle.guest_machine.specs.Machine.{MachineState}
 use Rattle.guest_machine.specs.Start.{start}
@@ -13,12 +13,12 @@ use Rattle.trace_model.specs.Depth.{is_within}
 use Rattle.stamps.specs.declared.width.StampBits.{StampBits}
 use Rattle.stamps.specs.Widths.{greatest}
 use Rattle.thread_sched.specs.declared.entry.Entry.{Entry}
-use Rattle.aprof_top.specs.Loads.{Loaded, with_inputs}
+use Rattle.aprof_top.specs.Loads.{Loaded}
 
 -- the machine as it begins: the image, the arguments, the input files by their names, and standard input
 unfoldable pub first_state : GuestOptions → Loaded → MachineState
 first_state options loaded =
-    start (image_of loaded.image) (arguments options) (with_inputs [] (inputs options) loaded.inputs) loaded.stdin
+    start (image_of loaded.image) (arguments options) loaded.inputs loaded.stdin
 
 -- what is observed of the run of a machine that begins at this address, under a schedule with these turns
 unfoldable pub observed_from : (List Event → Bool) → GuestOptions → List Entry → ℕ → MachineState → ObservedRun

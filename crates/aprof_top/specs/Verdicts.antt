@@ -3,7 +3,7 @@ use Rattle.std.specs.Prelude.{ℕ, List, []}
 use Rattle.guest_words.specs.declared.endings.Finish.{Finish}
 use Rattle.guest_words.specs.declared.endings.Finish.TheVariants.{Exit, Fault, Budget, Deadlock, Deep, Schedule}
 use Rattle.aprof_top.specs.declared.ending.Verdict.{Verdict}
-use Rattle.aprof_top.specs.declared.ending.Verdict.TheVariants.{BadCommand, BadImage, BadSchedule, BadTrace, TooLarge, Ran, Replayed, ResultTooLarge, Summarized}
+use Rattle.aprof_top.specs.declared.ending.Verdict.TheVariants.{BadCommand, BadImage, BadSchedule, BadTrace, TooLarge, Ran, ResultTooLarge, Done}
 use Rattle.aprof_top.specs.Texts.{bad_command_text, bad_trace_text, finish_text, image_text, schedule_text, too_large_text}
 
 -- the status of a run that ended so
@@ -23,8 +23,7 @@ verdict_status (BadTrace why) = 13
 verdict_status TooLarge = 11
 verdict_status (Ran finish) = finish_status finish
 verdict_status ResultTooLarge = 11
-verdict_status Replayed = 0
-verdict_status Summarized = 0
+verdict_status Done = 0
 
 abbrev pub verdict_text : Verdict → List ℕ
 verdict_text BadCommand = bad_command_text
@@ -34,13 +33,11 @@ verdict_text (BadTrace why) = bad_trace_text why
 verdict_text TooLarge = too_large_text
 verdict_text (Ran finish) = finish_text finish
 verdict_text ResultTooLarge = too_large_text
-verdict_text Replayed = []
-verdict_text Summarized = []
+verdict_text Done = []
 
--- a run came to it, or a trace was read
+-- a run came to it, or all that was asked was done
 abbrev pub IsOfRun : Verdict → Type 0
 IsOfRun (Ran finish) = Unit {0}
 IsOfRun ResultTooLarge = Unit {0}
-IsOfRun Replayed = Unit {0}
-IsOfRun Summarized = Unit {0}
+IsOfRun Done = Unit {0}
 IsOfRun _ = ⊥

@@ -1,7 +1,6 @@
 //! How a command ends: its status and its last text.
 ghost use Rattle.std.specs.Prelude.{◌≡◌, ◌<◌, length, IfOk, OnOk, OnErr};
-ghost use Rattle.aprof_top.specs.Private.Ending.{end_of, wanted_in};
-ghost use Rattle.aprof_top.specs.Private.Sources as sources;
+ghost use Rattle.aprof_top.specs.Private.Ending.{end_of};
 ghost use Rattle.aprof_top.specs.Ends.{end_status, end_text};
 ghost use Rattle.aprof_top.specs.Private.Jobs.{ending_by};
 ghost use Rattle.aprof_top.specs.Private.LastTexts.{bytes_of};
@@ -9,8 +8,8 @@ ghost use Rattle.aprof_top.specs.LastText.{IsMade, IsPut, LastText};
 ghost use Rattle.aprof_top.specs.Verdicts.{finish_status, verdict_status};
 
 use crate::delivery::put_all;
-use crate::source::{Source, Wanted};
-use crate::texts::{Text, unread_text, verdict_text};
+use crate::source::Load;
+use crate::texts::{Text, cannot_read_text, verdict_text};
 use command_line::CommandError;
 use elf_image::ElfError;
 use guest_machine::SetupError;
@@ -32,20 +31,26 @@ pub(crate) enum Verdict {
     Ran(Finish),
     // The guest ran, and what is made of its run is too long to be stored.
     ResultTooLarge,
-    // The report of a stored trace was made.
-    Replayed,
-    Summarized,
+    // What was asked was done, and no run of a guest is told of.
+    Done,
 }
 
-/// How a command ended.
+/// How a command ended whose files were loaded.
 #[derive(Clone, Copy)]
 pub(crate) enum Ending {
     Decided(Verdict),
-    CannotRead(Source),
     CannotWrite,
     // A put on `err` failed, so nothing more is put there.
     CannotPut,
     OutOfMemory,
+}
+
+/// How a command ended.
+#[derive(Clone, Copy)]
+pub(crate) enum CommandEnding<'a> {
+    // This load failed.
+    CannotRead(Load<'a>),
+    Ended(Ending),
 }
 
 impl From<AllocError> for Ending {
@@ -56,6 +61,18 @@ impl From<AllocError> for Ending {
 
     fn from(_error: AllocError) -> Ending {
         Ending::OutOfMemory
+    }
+}
+
+impl From<AllocError> for CommandEnding<'_> {
+    ghost use Rattle.std.specs.Prelude.{◌≡◌};
+    ghost use Rattle.aprof_top.specs.declared.ending.CommandEnding.TheVariants.{Ended};
+    ghost use Rattle.aprof_top.specs.declared.ending.Ending.TheVariants.{OutOfMemory};
+
+    ghost from_gives = { λ _ e. e ≡ Ended OutOfMemory };
+
+    fn from(_error: AllocError) -> Self {
+        CommandEnding::Ended(Ending::OutOfMemory)
     }
 }
 
@@ -221,34 +238,33 @@ fn verdict_status(verdict: Verdict) -> u8
         Verdict::BadTrace(_) => 13,
         Verdict::TooLarge | Verdict::ResultTooLarge => 11,
         Verdict::Ran(finish) => finish_status(finish),
-        Verdict::Replayed | Verdict::Summarized => 0,
+        Verdict::Done => 0,
     }
 }
 
-// The status of an ending.
-fn status(ending: &Ending) -> u8
-    ensures { (wanted : sources.Wanted) → result ≡ end_status (end_of wanted ending.now) }
+// The status of a command that ended so.
+fn status(ending: &CommandEnding<'_>) -> u8
+    ensures { result ≡ end_status (end_of ending.now) }
 {
     match ending {
-        Ending::Decided(verdict) => verdict_status(*verdict),
-        Ending::CannotRead(_) => 2,
-        Ending::CannotWrite | Ending::CannotPut => 4,
-        Ending::OutOfMemory => 10,
+        CommandEnding::CannotRead(_) => 2,
+        CommandEnding::Ended(Ending::Decided(verdict)) => verdict_status(*verdict),
+        CommandEnding::Ended(Ending::CannotWrite | Ending::CannotPut) => 4,
+        CommandEnding::Ended(Ending::OutOfMemory) => 10,
     }
 }
 
-// The last text of an ending, of a command that loads this.
-fn text_of(alloc: Global, wanted: Wanted<'_, '_>, ending: &Ending) -> Result<Text, AllocError>
-    ensures text { IfOk result (λ text. bytes_of text
-        ≡ end_text (end_of (wanted_in wanted.entry) ending.now)) }
-    ensures made { OnErr result (IsMade (end_of (wanted_in wanted.entry) ending.now)) }
+// The last text of a command that ended so.
+fn text_of(alloc: Global, ending: &CommandEnding<'_>) -> Result<Text, AllocError>
+    ensures text { IfOk result (λ text. bytes_of text ≡ end_text (end_of ending.now)) }
+    ensures made { OnErr result (IsMade (end_of ending.now)) }
 {
     match ending {
-        Ending::Decided(verdict) => verdict_text(alloc, *verdict),
-        Ending::CannotRead(source) => unread_text(alloc, wanted, *source),
-        Ending::CannotWrite => Ok(Text::Fixed(b"aprof: cannot write\n")),
-        Ending::CannotPut => Ok(Text::Fixed(b"")),
-        Ending::OutOfMemory => Ok(Text::Fixed(b"aprof: out of memory\n")),
+        CommandEnding::CannotRead(load) => cannot_read_text(alloc, load.path),
+        CommandEnding::Ended(Ending::Decided(verdict)) => verdict_text(alloc, *verdict),
+        CommandEnding::Ended(Ending::CannotWrite) => Ok(Text::Fixed(b"aprof: cannot write\n")),
+        CommandEnding::Ended(Ending::CannotPut) => Ok(Text::Fixed(b"")),
+        CommandEnding::Ended(Ending::OutOfMemory) => Ok(Text::Fixed(b"aprof: out of memory\n")),
     }
 }
 
@@ -265,18 +281,11 @@ fn put_text<E: Sink>(text: &[u8], err: &mut E) -> Result<(), AllocError>
     }
 }
 
-/// Puts the last text of an ending, of a command that loads this, and answers the status. No text follows one that is
-/// refused.
-pub(crate) fn tell<E: Sink>(
-    alloc: Global,
-    wanted: Wanted<'_, '_>,
-    ending: &Ending,
-    err: &mut E,
-) -> u8
-    ensures { LastText (end_of (wanted_in wanted.entry) ending.now) result (E.state err.old)
-        (E.state err.new) }
+/// Puts the last text of a command that ended so, and answers the status. No text follows one that is refused.
+pub(crate) fn tell<E: Sink>(alloc: Global, ending: &CommandEnding<'_>, err: &mut E) -> u8
+    ensures { LastText (end_of ending.now) result (E.state err.old) (E.state err.new) }
 {
-    match text_of(alloc, wanted, ending) {
+    match text_of(alloc, ending) {
         Ok(text) => match put_text(text.as_slice(), err) {
             Ok(()) => status(ending),
             Err(_) => 10,

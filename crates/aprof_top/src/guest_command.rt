@@ -1,13 +1,14 @@
 //! The commands that run a guest: its output, and what each makes of its run.
-ghost use Rattle.command_line.specs.Read.{AreInRange, analysis_in, guest_asked_in, guest_in};
-ghost use Rattle.aprof_top.specs.Private.Ending.{AskedEnds};
-ghost use Rattle.aprof_top.specs.Private.Jobs.{JobRuns, ending_by};
+ghost use Rattle.command_line.specs.Read.{AreInRange, analysis_in, guest_in};
+ghost use Rattle.aprof_top.specs.Private.Jobs.{FilesRun, JobRuns, ending_by};
+ghost use Rattle.aprof_top.specs.Private.Loading.{loaded_in};
 ghost use Rattle.aprof_top.specs.Outcome.{job_of};
 ghost use Rattle.aprof_top.specs.Outside.{outside};
 
 use crate::cache_job::cache_job;
 use crate::contexts_job::contexts_job;
 use crate::ending::{Ending, Verdict};
+use crate::loaded::Loaded;
 use crate::preparation::{Prepared, prepare};
 use crate::run_job::run_job;
 use crate::trace_job::trace_job;
@@ -42,19 +43,21 @@ fn run_prepared<F: Files, O: Sink, E: Sink>(
     }
 }
 
-/// Prepares the guest of a command, runs it, and stores what the command makes of its run.
+/// Prepares the guest of a command of these files, runs it, and stores what the command makes of its run.
 pub(crate) fn guest_command<F: Files, O: Sink, E: Sink>(
     alloc: Global,
     command: &GuestCommand<'_>,
+    loaded: Loaded,
     files: &mut F,
     out: &mut O,
     err: &mut E,
 ) -> Result<Verdict, Ending>
     requires { AreInRange (guest_in command.now.guest) }
-    ensures { AskedEnds (guest_asked_in command.now)
+    ensures { FilesRun (job_of (guest_in command.now.guest) command.now.output.now
+        (analysis_in command.now.analysis)) (loaded_in loaded)
         (outside (F.state files.old) (O.state out.old) (E.state err.old))
         (outside (F.state files.new) (O.state out.new) (E.state err.new)) (ending_by result) }
 {
-    let prepared = prepare(alloc, &command.guest, files)?;
+    let prepared = prepare(alloc, loaded)?;
     run_prepared(alloc, command, prepared, files, out, err)
 }

@@ -1,43 +1,26 @@
 //! The command `replay`: the report of a stored trace.
 ghost use Rattle.std.specs.Prelude.{◌≡◌, ℕ, List, [], ◌∷◌, map, if◌then◌else◌, IfOk};
-ghost use Rattle.command_line.specs.Options.Asked.{Replay};
 ghost use Rattle.command_line.specs.Read.{replay_in};
 ghost use Rattle.guest_words.specs.declared.endings.Finish.TheVariants.{Deep};
 ghost use Rattle.host_io.specs.Sink.{SinkState};
 ghost use Rattle.stamps.specs.Widths.{greatest};
 ghost use Rattle.trace_replay.specs.Replays.{IsReplayOf, Replays};
-ghost use Rattle.aprof_top.specs.Private.Ending.{AskedEnds};
-ghost use Rattle.aprof_top.specs.Private.Jobs.{RunIsStored, desk, ending_by, store_of};
-ghost use Rattle.aprof_top.specs.Outcome.{replay_outcome, replay_text};
+ghost use Rattle.aprof_top.specs.Private.Jobs.{HandsOut, RunIsStored, desk, ending_by, store_of};
+ghost use Rattle.aprof_top.specs.Outcome.{IsReplay, replay_outcome, replay_text};
 ghost use Rattle.aprof_top.specs.Outside.{outside};
-ghost use Rattle.aprof_top.specs.Private.Replaying.{TraceLoads};
 
 use crate::delivery::{Store, put_stats, store_all};
 use crate::ending::{Ending, Verdict};
 use crate::report::report_of;
-use crate::source::Source;
 use crate::trace_names::TraceNames;
 use command_line::ReplayCommand;
 use guest_words::Finish;
-use guest_words::limits::TRACE_BYTES;
-use host_io::{Files, LoadError, Sink};
+use host_io::{Files, Sink};
 use profile_report::write_report;
 use stamps::StampBits;
 use std::alloc::{AllocError, Global};
 use trace_file::TraceError;
 use trace_replay::{Replayed, replay};
-
-// Loads the trace at a path.
-fn load_trace<F: Files>(alloc: Global, path: &str, files: &mut F) -> Result<Vec<u8>, Ending>
-    ensures { TraceLoads path.now (F.state files.old) (F.state files.new) result }
-{
-    match files.load(alloc, path, TRACE_BYTES as usize) {
-        Ok(bytes) => Ok(bytes),
-        Err(LoadError::Failed) => Err(Ending::CannotRead(Source::Trace)),
-        Err(LoadError::TooLarge) => Err(Ending::Decided(Verdict::TooLarge)),
-        Err(LoadError::Memory) => Err(Ending::OutOfMemory),
-    }
-}
 
 // Profiles a trace by stamps of the width.
 fn replay_by_width(alloc: Global, bits: StampBits, bytes: &[u8]) -> Result<Replayed, TraceError>
@@ -95,21 +78,21 @@ fn deliver_replay<F: Files, E: Sink>(
     let stores = replay_stores(alloc, command.report, command.bits, replayed)?;
     store_all(stores.as_slice(), files)?;
     put_stats(alloc, command.stats, renumbered, err)?;
-    Ok(Verdict::Replayed)
+    Ok(Verdict::Done)
 }
 
-/// Loads a stored trace, stores the report of it, and puts its statistics.
+/// Stores the report of a trace, and puts its statistics.
 pub(crate) fn replay_command<F: Files, E: Sink>(
     alloc: Global,
     command: &ReplayCommand<'_>,
+    trace: &[u8],
     files: &mut F,
     err: &mut E,
 ) -> Result<Verdict, Ending>
-    ensures { (out : SinkState) → AskedEnds (Replay (replay_in command.now))
+    ensures { (out : SinkState) → HandsOut (IsReplay (replay_in command.now) trace.now)
         (outside (F.state files.old) out (E.state err.old))
         (outside (F.state files.new) out (E.state err.new)) (ending_by result) }
 {
-    let bytes = load_trace(alloc, command.trace, files)?;
-    let replayed = replay_by_width(alloc, command.bits, bytes.as_slice())?;
+    let replayed = replay_by_width(alloc, command.bits, trace)?;
     deliver_replay(alloc, command, replayed, files, err)
 }

@@ -1,16 +1,13 @@
 //! The texts that the program puts.
 ghost use Rattle.std.specs.Prelude.{◌≡◌, IfOk, OnErr};
-ghost use Rattle.aprof_top.specs.Private.Ending.{wanted_in};
 ghost use Rattle.aprof_top.specs.Ends.End.{Decided};
 ghost use Rattle.aprof_top.specs.LastText.{IsMade};
 ghost use Rattle.aprof_top.specs.Private.LastTexts.{bytes_of};
-ghost use Rattle.aprof_top.specs.Private.Sources.{wanted_path};
 ghost use Rattle.aprof_top.specs.Texts.{bad_trace_text, cannot_read_text, fault_text, finish_text, image_text, renumberings_text, schedule_text};
 ghost use Rattle.aprof_top.specs.Verdicts.{verdict_text};
 ghost use Rattle.aprof_top.specs.declared.ending.Verdict.TheVariants.{Ran};
 
 use crate::ending::Verdict;
-use crate::source::{Source, Wanted, wanted_path};
 use elf_image::ElfError;
 use guest_words::{Addr, FaultKind, Finish, Tid};
 use profile_report::hex_address;
@@ -35,22 +32,11 @@ impl Text {
     }
 }
 
-fn cannot_read_text(alloc: Global, path: &str) -> Result<Text, AllocError>
+/// The text after the load of this path failed.
+pub(crate) fn cannot_read_text(alloc: Global, path: &str) -> Result<Text, AllocError>
     ensures { IfOk result (λ text. bytes_of text ≡ cannot_read_text path.now) }
 {
     Ok(Text::Made(format!(in alloc; "aprof: cannot read {path}\n")?.into_bytes()))
-}
-
-/// The text after a failed load.
-pub(crate) fn unread_text(
-    alloc: Global,
-    wanted: Wanted<'_, '_>,
-    source: Source,
-) -> Result<Text, AllocError>
-    ensures { IfOk result (λ text. bytes_of text
-        ≡ cannot_read_text (wanted_path (wanted_in wanted.entry) source)) }
-{
-    cannot_read_text(alloc, wanted_path(alloc, wanted, source)?)
 }
 
 fn image_text(alloc: Global, error: ElfError) -> Result<Text, AllocError>
@@ -117,6 +103,6 @@ pub(crate) fn verdict_text(alloc: Global, verdict: Verdict) -> Result<Text, Allo
         Verdict::BadTrace(error) => bad_trace_text(alloc, error),
         Verdict::TooLarge | Verdict::ResultTooLarge => Ok(Text::Fixed(b"aprof: too large\n")),
         Verdict::Ran(finish) => finish_text(alloc, finish),
-        Verdict::Replayed | Verdict::Summarized => Ok(Text::Fixed(b"")),
+        Verdict::Done => Ok(Text::Fixed(b"")),
     }
 }

@@ -1,22 +1,26 @@
 //! The top call.
-ghost use Rattle.std.specs.Prelude.{◌≡◌, ◌≤◌, map, string_bytes};
+ghost use Rattle.std.specs.Prelude.{◌≤◌, map, string_bytes};
 ghost use Rattle.aprof_top.specs.Answers.{EndsBy, IsAnswered};
 ghost use Rattle.aprof_top.specs.Ends.{End};
 ghost use Rattle.aprof_top.specs.Standing.{Stands};
-ghost use Rattle.aprof_top.specs.Private.Ending.{AskedEnds, wanted_in, wanted_of};
-ghost use Rattle.aprof_top.specs.Private.Jobs.{ending_by};
+ghost use Rattle.aprof_top.specs.Private.Ending.{AskedEnds, end_of};
+ghost use Rattle.aprof_top.specs.Private.Jobs.{HandsOut, ending_by};
+ghost use Rattle.aprof_top.specs.Private.Loading.{LoadsSo, loaded_in};
+ghost use Rattle.aprof_top.specs.Loads.{loads_of};
+ghost use Rattle.aprof_top.specs.Outcome.{IsAnswer, IsDemo};
 ghost use Rattle.aprof_top.specs.Outside.{outside};
 ghost use Rattle.host_io.specs.Files.{FilesState};
 ghost use Rattle.host_io.specs.Sink.{SinkState};
-ghost use Rattle.command_line.specs.Options.Asked.{Demo};
 ghost use Rattle.command_line.specs.Read.{IsCommandInRange, asked_in};
 
 use crate::delivery::put_all;
 use crate::demo::run_demo;
-use crate::ending::{Ending, Verdict, ending_by, tell};
+use crate::ending::{CommandEnding, Ending, Verdict, ending_by, tell};
 use crate::guest_command::guest_command;
+use crate::loaded::Loaded;
+use crate::loads::load_files;
 use crate::replay_job::replay_command;
-use crate::source::Wanted;
+use crate::source::loads_of;
 use command_line::{Command, read_command};
 use guest_words::limits::DEMO_ROUTINES;
 use host_io::{Files, Sink};
@@ -26,41 +30,68 @@ use std::alloc::Global;
 fn show_demo<O: Sink>(alloc: Global, number: u32, out: &mut O) -> Result<Verdict, Ending>
     requires { (1 ≤ number) × (number ≤ DEMO_ROUTINES) }
     ensures { (files : FilesState) (err : SinkState)
-        → AskedEnds (Demo number) (outside files (O.state out.old) err) (outside files (O.state out.new) err) (ending_by result) }
+        → HandsOut (IsDemo number) (outside files (O.state out.old) err) (outside files (O.state out.new) err) (ending_by result) }
 {
     let summary = run_demo(alloc, number)?;
     put_all(summary.as_slice(), out)?;
-    Ok(Verdict::Summarized)
+    Ok(Verdict::Done)
 }
 
-// Does what a command asks for.
+// Loads the files of a command.
+fn load<'a, F: Files>(
+    alloc: Global,
+    command: &Command<'a>,
+    files: &mut F,
+) -> Result<Loaded, CommandEnding<'a>>
+    ensures { LoadsSo (loads_of (asked_in command.now)) (F.state files.old) (F.state files.new)
+        result }
+{
+    let loads = loads_of(alloc, command)?;
+    load_files(alloc, loads.as_slice(), files)
+}
+
+// Does what a command asks for, with its files.
 fn do_command<F: Files, O: Sink, E: Sink>(
     alloc: Global,
     command: &Command<'_>,
+    loaded: Loaded,
     files: &mut F,
     out: &mut O,
     err: &mut E,
 ) -> Result<Verdict, Ending>
     requires { IsCommandInRange command.now }
-    ensures { AskedEnds (asked_in command.now)
+    ensures { HandsOut (IsAnswer (asked_in command.now) (loaded_in loaded))
         (outside (F.state files.old) (O.state out.old) (E.state err.old))
         (outside (F.state files.new) (O.state out.new) (E.state err.new)) (ending_by result) }
 {
     match command {
-        Command::Guest(command) => guest_command(alloc, command, files, out, err),
-        Command::Replay(command) => replay_command(alloc, command, files, err),
+        Command::Guest(command) => guest_command(alloc, command, loaded, files, out, err),
+        Command::Replay(command) => {
+            replay_command(alloc, command, loaded.trace.as_slice(), files, err)
+        }
         Command::Demo(number) => show_demo(alloc, *number, out),
     }
 }
 
-// What a command loads.
-fn wanted_of<'c, 'a>(command: &'c Command<'a>) -> Wanted<'c, 'a>
-    ensures { wanted_in result ≡ wanted_of (asked_in command.now) }
+// Loads the files of a command, and does what it asks for with them.
+fn load_and_do<'a, F: Files, O: Sink, E: Sink>(
+    alloc: Global,
+    command: &Command<'a>,
+    files: &mut F,
+    out: &mut O,
+    err: &mut E,
+) -> CommandEnding<'a>
+    requires { IsCommandInRange command.now }
+    ensures { AskedEnds (asked_in command.now)
+        (outside (F.state files.old) (O.state out.old) (E.state err.old))
+        (outside (F.state files.new) (O.state out.new) (E.state err.new)) (end_of result) }
 {
-    match command {
-        Command::Guest(command) => Wanted::Guest(&command.guest),
-        Command::Replay(command) => Wanted::Trace(command.trace),
-        Command::Demo(_) => Wanted::Nothing,
+    match load(alloc, command, files) {
+        Ok(loaded) => {
+            let done = do_command(alloc, command, loaded, files, out, err);
+            CommandEnding::Ended(ending_by(done))
+        }
+        Err(ending) => ending,
     }
 }
 
@@ -78,10 +109,10 @@ fn answer<F: Files, O: Sink, E: Sink>(
 {
     match read_command(alloc, words) {
         Ok(command) => {
-            let ending = ending_by(do_command(alloc, &command, files, out, err));
-            tell(alloc, wanted_of(&command), &ending, err)
+            let ending = load_and_do(alloc, &command, files, out, err);
+            tell(alloc, &ending, err)
         }
-        Err(error) => tell(alloc, Wanted::Nothing, &Ending::from(error), err),
+        Err(error) => tell(alloc, &CommandEnding::Ended(Ending::from(error)), err),
     }
 }
 

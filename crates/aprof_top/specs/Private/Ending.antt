@@ -1,8 +1,6 @@
 -- How the parts of the program end: the ends of a call, as the program has them.
-use Rattle.std.specs.Prelude.{◌≡◌, ◌⊎◌, ℕ, List, Some}
+use Rattle.std.specs.Prelude.{ℕ, List, Some}
 use Rattle.command_line.specs.Options.{Asked, AsksFor}
-use Rattle.command_line.specs.Options.Asked.{Guest, Replay, Demo}
-use Rattle.command_line.specs.Read.{guest_in}
 use Rattle.command_line.specs.declared.commands.CommandError.{CommandError}
 use Rattle.command_line.specs.declared.commands.CommandError.TheVariants as command
 use Rattle.elf_image.specs.declared.error.ElfError.{ElfError}
@@ -20,17 +18,13 @@ use Rattle.thread_sched.specs.declared.schedule.ScheduleError.{ScheduleError}
 use Rattle.thread_sched.specs.declared.schedule.ScheduleError.TheVariants as schedule
 use Rattle.trace_file.specs.declared.errors.TraceError.{TraceError}
 use Rattle.trace_file.specs.declared.errors.TraceError.TheVariants as trace
-use Rattle.aprof_top.specs.Delivery.{DoesAll, FailsAtStats, FailsAtStore, FailsOnErr, FailsOnOut, StopsShort}
 use Rattle.aprof_top.specs.Ends as ends
 use Rattle.aprof_top.specs.Ends.{End, Reaches}
-use Rattle.aprof_top.specs.Outcome.{Outcome}
 use Rattle.aprof_top.specs.Outside.{Outside}
-use Rattle.aprof_top.specs.Private.Sources.{Wanted, wanted_path}
-use Rattle.aprof_top.specs.Private.Sources.Wanted.{Nothing, OfGuest, OfTrace}
-use Rattle.aprof_top.specs.declared.source.Wanted as declared
-use Rattle.aprof_top.specs.declared.source.Wanted.TheVariants as wanted
+use Rattle.aprof_top.specs.declared.ending.CommandEnding.{CommandEnding}
+use Rattle.aprof_top.specs.declared.ending.CommandEnding.TheVariants.{CannotRead, Ended}
 use Rattle.aprof_top.specs.declared.ending.Ending.{Ending}
-use Rattle.aprof_top.specs.declared.ending.Ending.TheVariants.{Decided, CannotRead, CannotWrite, CannotPut, OutOfMemory}
+use Rattle.aprof_top.specs.declared.ending.Ending.TheVariants.{Decided, CannotWrite, CannotPut, OutOfMemory}
 use Rattle.aprof_top.specs.declared.ending.Verdict.TheVariants.{BadCommand, BadImage, BadSchedule, BadTrace, TooLarge}
 
 -- ---- by the failures of parts
@@ -77,35 +71,18 @@ of_store store.Failed = CannotWrite
 of_store store.Memory = OutOfMemory
 
 -- ---- the end
--- what a command loads, as the program has it
-abbrev pub wanted_in : declared.Wanted → Wanted
-wanted_in wanted.Nothing = Nothing
-wanted_in (wanted.Guest guest) = OfGuest (guest_in guest.now)
-wanted_in (wanted.Trace path) = OfTrace path.now
+-- the end that an ending is, once all files are loaded
+abbrev pub ended : Ending → End
+ended (Decided verdict) = ends.End.Decided verdict
+ended CannotWrite = ends.End.CannotWrite
+ended CannotPut = ends.End.CannotPut
+ended OutOfMemory = ends.End.OutOfMemory
 
--- what is loaded for what is asked
-abbrev pub wanted_of : Asked → Wanted
-wanted_of (Guest guest path analysis) = OfGuest guest
-wanted_of (Replay options) = OfTrace options.trace
-wanted_of (Demo number) = Nothing
-
--- the end that an ending is, of a command that loads this
-abbrev pub end_of : Wanted → Ending → End
-end_of what (Decided verdict) = ends.End.Decided verdict
-end_of what (CannotRead source) = ends.End.CannotRead (wanted_path what source)
-end_of what CannotWrite = ends.End.CannotWrite
-end_of what CannotPut = ends.End.CannotPut
-end_of what OutOfMemory = ends.End.OutOfMemory
+-- the end of a command
+abbrev pub end_of : CommandEnding → End
+end_of (CannotRead load) = ends.End.CannotRead load.path.now
+end_of (Ended ending) = ended ending
 
 -- so a command ends on all words that ask for it
-abbrev pub AskedEnds : Asked → Outside → Outside → Ending → Type 0
-AskedEnds asked before after ending =
-    (words : List (List ℕ)) → AsksFor words (Some asked) → Reaches words (end_of (wanted_of asked) ending) before after
-
--- how an outcome is handed out
-abbrev pub Delivers : Outcome → Outside → Outside → Ending → Type 0
-Delivers outcome before after (Decided verdict) = (outcome.verdict ≡ verdict) × DoesAll outcome before after
-Delivers outcome before after (CannotRead source) = ⊥
-Delivers outcome before after CannotWrite = FailsAtStore outcome before after ⊎ FailsOnOut outcome before after
-Delivers outcome before after CannotPut = FailsOnErr outcome before after ⊎ FailsAtStats outcome before after
-Delivers outcome before after OutOfMemory = StopsShort outcome before after
+abbrev pub AskedEnds : Asked → Outside → Outside → End → Type 0
+AskedEnds asked before after end = (words : List (List ℕ)) → AsksFor words (Some asked) → Reaches words end before after

@@ -16,9 +16,9 @@ use Rattle.host_io.specs.declared.files.StoreError.{StoreError}
 use Rattle.host_io.specs.declared.files.StoreError.TheVariants.{Failed, Memory}
 use Rattle.trace_model.specs.declared.event_kinds.Event.{Event}
 use Rattle.aprof_top.specs.declared.ending.Ending.{Ending}
-use Rattle.aprof_top.specs.declared.ending.Ending.TheVariants.{Decided, CannotRead, CannotWrite, CannotPut, OutOfMemory}
+use Rattle.aprof_top.specs.declared.ending.Ending.TheVariants.{Decided, CannotWrite, CannotPut, OutOfMemory}
 use Rattle.aprof_top.specs.declared.ending.Verdict.{Verdict}
-use Rattle.aprof_top.specs.declared.ending.Verdict.TheVariants.{Summarized, TooLarge}
+use Rattle.aprof_top.specs.declared.ending.Verdict.TheVariants.{Done, TooLarge}
 use Rattle.run_profile.specs.Contexts.{AreContextTotalsOf, IsPastNumbers}
 use Rattle.run_profile.specs.Profile.{AreCountsOf, AreTotalsOf}
 use Rattle.run_profile.specs.declared.totals.ContextTotals.{ContextTotals}
@@ -59,7 +59,6 @@ IsSetupRefused (Some why) = Unit {0}
 -- How the run of an executable stops before its end: its guest can't begin, a put failed, or memory ran out.
 abbrev pub RunStops : Option SetupError → ObservedRun → Sinks → Sinks → Ending → Type 0
 RunStops setup run before after (Decided verdict) = (verdict ≡ TooLarge) × IsSetupRefused setup × (after ≡ before)
-RunStops setup run before after (CannotRead source) = ⊥
 RunStops setup run before after CannotWrite = (setup ≡ None) × StopsAtPut channel.Out run.moves before after
 RunStops setup run before after CannotPut = (setup ≡ None) × StopsAtPut channel.Err run.moves before after
 RunStops setup run before after OutOfMemory = (after ≡ before) ⊎ ((setup ≡ None) × IsGivenUp run.moves before after)
@@ -167,31 +166,33 @@ RunIsStored outcome old new (Err CannotPut) = AreStored outcome old new (FailsWi
 RunIsStored outcome old new (Err OutOfMemory) = StopsAtStores old new (λ before after. (count : ℕ) × (after ≡ with_stores (take count outcome.stores) before))
 RunIsStored outcome old new _ = ⊥
 
--- The outcome of a run of these files is handed out so.
-pub record IsHandedOut (job : Job) (loaded : Loaded) (Delivered : Outcome → Type 0) : Type 0 where
+-- One of these outcomes is handed out so.
+pub record IsHandedOut (Is : Outcome → Type 0) (Delivered : Outcome → Type 0) : Type 0 where
   pub outcome : Outcome
-  pub is_run : IsRun job loaded outcome
+  pub is : Is outcome
   pub delivered : Delivered outcome
 
 -- it is that of a run that came to an end, or was given up
 abbrev pub IsOfRunAnd : (Outcome → Type 0) → Outcome → Type 0
 IsOfRunAnd Fails outcome = IsOfRun outcome.verdict × Fails outcome
 
--- How the run of a command's files ends.
+-- how a command ends whose files were loaded, and whose outcome is one of these
+abbrev pub HandsOut : (Outcome → Type 0) → Outside → Outside → Ending → Type 0
+HandsOut Is before after (Decided verdict) = IsHandedOut Is (λ outcome. (outcome.verdict ≡ verdict) × DoesAll outcome before after)
+HandsOut Is before after CannotWrite =
+    IsHandedOut Is (IsOfRunAnd (λ outcome. FailsAtStore outcome before after ⊎ FailsOnOut outcome before after))
+HandsOut Is before after CannotPut =
+    IsHandedOut Is (IsOfRunAnd (λ outcome. FailsOnErr outcome before after ⊎ FailsAtStats outcome before after))
+HandsOut Is before after OutOfMemory = (after ≡ before) ⊎ IsHandedOut Is (λ outcome. StopsShort outcome before after)
+
+-- how the run of a command's files ends
 abbrev pub FilesRun : Job → Loaded → Outside → Outside → Ending → Type 0
-FilesRun job loaded before after (Decided verdict) =
-    IsHandedOut job loaded (λ outcome. (outcome.verdict ≡ verdict) × DoesAll outcome before after)
-FilesRun job loaded before after (CannotRead source) = ⊥
-FilesRun job loaded before after CannotWrite =
-    IsHandedOut job loaded (IsOfRunAnd (λ outcome. FailsAtStore outcome before after ⊎ FailsOnOut outcome before after))
-FilesRun job loaded before after CannotPut =
-    IsHandedOut job loaded (IsOfRunAnd (λ outcome. FailsOnErr outcome before after ⊎ FailsAtStats outcome before after))
-FilesRun job loaded before after OutOfMemory = (after ≡ before) ⊎ IsHandedOut job loaded (λ outcome. StopsShort outcome before after)
+FilesRun job loaded = HandsOut (IsRun job loaded)
 
 -- how a command ends whose guest was prepared: so it does with all files that the guest was prepared of
 abbrev pub JobRuns : Job → Prepared → Outside → Outside → Ending → Type 0
-JobRuns job prepared before after ending = (loaded : Loaded) → ArePrepared job.guest loaded prepared → FilesRun job loaded before after ending
+JobRuns job prepared before after ending = (loaded : Loaded) → ArePrepared loaded prepared → FilesRun job loaded before after ending
 
 -- the outcome of a demo with this summary
 abbrev pub summed : List ℕ → Outcome
-summed out = record { verdict = Summarized; writes = (channel.Out, out) ∷ []; stores = []; stats = [] }
+summed out = record { verdict = Done; writes = (channel.Out, out) ∷ []; stores = []; stats = [] }

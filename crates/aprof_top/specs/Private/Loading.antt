@@ -1,79 +1,102 @@
 -- What the loads of a command find and leave.
-use Rattle.std.specs.Prelude.{◌≡◌, ◌⊎◌, ℕ, ◌≤◌, false, true, List, [], map, length, slice_get, Some, Vec, Result, Ok, Err}
+use Rattle.std.specs.Prelude.{◌≡◌, ◌⊎◌, ℕ, ◌≤◌, false, true, List, [], length, map, zip, slice_get, Some, Vec, Result, Ok, Err}
 use Rattle.std.specs.List.{AllByRecursion}
 use Rattle.std.specs.declared.alloc.Global.{Global}
-use Rattle.command_line.specs.Options.{GuestOptions, inputs}
+use Rattle.guest_kernel.specs.Inputs.{with_input}
 use Rattle.host_io.specs.Faults.{Rose}
-use Rattle.host_io.specs.Files.{FilesState, FailsAt}
-use Rattle.aprof_top.specs.Limits.{file_limit, inputs_limit}
-use Rattle.aprof_top.specs.Loads.{Loaded, loaded_of, loaded_paths, passes_limit, shared_count, shared_length, with_inputs}
+use Rattle.host_io.specs.Files.{ExceedsLimit, FailsAt, FilesState, GivesFile}
+use Rattle.aprof_top.specs.Loads.{Load, Loaded, limit_of, loaded_of, passes_limit, paths_in}
 use Rattle.aprof_top.specs.Outside.{AreHeld, MetTooLong}
-use Rattle.aprof_top.specs.Private.Sources.{path_of}
-use Rattle.aprof_top.specs.declared.ending.Ending.{Ending}
-use Rattle.aprof_top.specs.declared.loaded.Loaded as declared
-use Rattle.aprof_top.specs.declared.ending.Ending.TheVariants as ending
+use Rattle.aprof_top.specs.declared.ending.CommandEnding.{CommandEnding}
+use Rattle.aprof_top.specs.declared.ending.CommandEnding.TheVariants.{CannotRead, Ended}
+use Rattle.aprof_top.specs.declared.ending.Ending.TheVariants.{Decided, OutOfMemory}
 use Rattle.aprof_top.specs.declared.ending.Verdict.TheVariants.{TooLarge}
+use Rattle.aprof_top.specs.declared.loaded.Loaded as kept
+use Rattle.aprof_top.specs.declared.source.Load as declared
+use Rattle.aprof_top.specs.declared.source.Source.{Source}
+use Rattle.aprof_top.specs.declared.source.Source.TheVariants.{Image, Input, Stdin, Schedule, Trace}
 
--- the bytes of files in memory
-abbrev pub contents_of : List (Vec ℕ Global) → List (List ℕ)
-contents_of files = map (λ file. file.items) files
+-- ---- as the program has them
+-- a load
+abbrev pub load_in : declared.Load → Load
+load_in load = record { source = load.source; path = load.path.now }
 
--- These are the first files at the paths, and no limit is passed.
-pub record AreLoaded (shared : ℕ) (paths files : List (List ℕ)) (old new : FilesState) : Type 0 where
-  pub held : AreHeld old.contents paths files
-  pub each : AllByRecursion (λ file. length file ≤ file_limit) files
-  pub few : passes_limit shared files ≡ false
-  pub same : new ≡ old
+-- the files of a command
+abbrev pub loaded_in : kept.Loaded → Loaded
+loaded_in files = record { image = files.image.items; inputs = files.inputs; stdin = files.stdin.items; schedule = files.schedule.items; trace = files.trace.items }
 
--- So far these files were loaded, and no limit is passed; the files that share one are so long together.
-pub record IsLoading (shared sum : ℕ) (paths files : List (List ℕ)) (old now : FilesState) : Type 0 where
-  pub held : AreHeld old.contents paths files
-  pub each : AllByRecursion (λ file. length file ≤ file_limit) files
-  pub sum_is : sum ≡ shared_length shared files
-  pub small : sum ≤ inputs_limit
-  pub same : now ≡ old
+-- before the first load
+abbrev pub no_files : Loaded
+no_files = record { image = []; inputs = []; stdin = []; schedule = []; trace = [] }
 
--- The load of the next path failed.
-pub record FailsToLoad (shared : ℕ) (paths : List (List ℕ)) (path : List ℕ) (old new : FilesState) : Type 0 where
+-- with one more file, put to its use
+abbrev pub used_for : Source → List ℕ → List ℕ → Loaded → Loaded
+used_for Image path bytes files = record files { image = bytes }
+used_for Input path bytes files = record files { inputs = with_input files.inputs path bytes }
+used_for Stdin path bytes files = record files { stdin = bytes }
+used_for Schedule path bytes files = record files { schedule = bytes }
+used_for Trace path bytes files = record files { trace = bytes }
+
+abbrev pub with_file : Load → List ℕ → Loaded → Loaded
+with_file load bytes files = used_for load.source load.path bytes files
+
+-- ---- one load
+-- why it ends the command
+abbrev pub FileEnds : Load → FilesState → FilesState → CommandEnding → Type 0
+FileEnds load old new (CannotRead failed) = (load_in failed ≡ load) × FailsAt load.path old new × (new.contents ≡ old.contents)
+FileEnds load old new (Ended (Decided verdict)) =
+    (verdict ≡ TooLarge) × ExceedsLimit load.path (limit_of load.source) old new × (new.contents ≡ old.contents)
+FileEnds load old new (Ended OutOfMemory) = new ≡ old
+FileEnds load old new _ = ⊥
+
+-- how it ends
+abbrev pub FileLoads : Load → FilesState → FilesState → Result (Vec ℕ Global) CommandEnding → Type 0
+FileLoads load old new (Ok bytes) = GivesFile load.path (limit_of load.source) bytes.items old new
+FileLoads load old new (Err e) = FileEnds load old new e
+
+-- ---- all loads of a command
+-- none of these files is longer than its limit
+abbrev pub AreWithin : List Load → List (List ℕ) → Type 0
+AreWithin loads files = AllByRecursion (λ file. length file.1 ≤ limit_of file.0.source) (zip loads files)
+
+-- These are the files of the first loads, and they pass no limit.
+pub record AreFirst (loads : List Load) (files : List (List ℕ)) (old : FilesState) : Type 0 where
+  pub held : AreHeld old.contents (paths_in loads) files
+  pub each : AreWithin loads files
+  pub few : passes_limit loads files ≡ false
+
+-- The next load failed, of the file at this path.
+pub record FailsToLoad (loads : List Load) (path : List ℕ) (old new : FilesState) : Type 0 where
   pub files : List (List ℕ)
-  pub held : AreHeld old.contents paths files
-  pub each : AllByRecursion (λ file. length file ≤ file_limit) files
-  pub few : passes_limit shared files ≡ false
-  pub next : slice_get paths (length files) ≡ Some path
+  pub first : AreFirst loads files old
+  pub next : slice_get (paths_in loads) (length files) ≡ Some path
   pub failed : FailsAt path old new
   pub contents : new.contents ≡ old.contents
 
 -- A limit is passed.
-pub record PassesLimit (shared : ℕ) (paths : List (List ℕ)) (old new : FilesState) : Type 0 where
+pub record PassesLimit (loads : List Load) (old new : FilesState) : Type 0 where
   pub files : List (List ℕ)
-  pub held : AreHeld old.contents paths files
-  pub limit : AllByRecursion (λ file. length file ≤ file_limit) files ⊎ Rose old.oversized new.oversized
-  pub many : passes_limit shared files ≡ true
+  pub held : AreHeld old.contents (paths_in loads) files
+  pub limit : AreWithin loads files ⊎ Rose old.oversized new.oversized
+  pub many : passes_limit loads files ≡ true
   pub unchanged : (new ≡ old) ⊎ MetTooLong old new
 
 -- why the loads of a command end it
-abbrev pub LoadsEnd : GuestOptions → FilesState → FilesState → Ending → Type 0
-LoadsEnd options old new (ending.CannotRead source) = FailsToLoad (shared_count options) (loaded_paths options) (path_of options source) old new
-LoadsEnd options old new (ending.Decided verdict) = (verdict ≡ TooLarge) × PassesLimit (shared_count options) (loaded_paths options) old new
-LoadsEnd options old new ending.OutOfMemory = new ≡ old
-LoadsEnd options old new ending.CannotWrite = ⊥
-LoadsEnd options old new ending.CannotPut = ⊥
+abbrev pub LoadsEnd : List Load → FilesState → FilesState → CommandEnding → Type 0
+LoadsEnd loads old new (CannotRead load) = FailsToLoad loads load.path.now old new
+LoadsEnd loads old new (Ended (Decided verdict)) = (verdict ≡ TooLarge) × PassesLimit loads old new
+LoadsEnd loads old new (Ended OutOfMemory) = new ≡ old
+LoadsEnd loads old new _ = ⊥
 
--- The program has these files of the command.
-pub record Keeps (options : GuestOptions) (loaded : Loaded) (kept : declared.Loaded) : Type 0 where
-  pub image : kept.image.items ≡ loaded.image
-  pub inputs_are : kept.inputs ≡ with_inputs [] (inputs options) loaded.inputs
-  pub stdin : kept.stdin.items ≡ loaded.stdin
-  pub schedule : kept.schedule.items ≡ loaded.schedule
-
--- All files of a command were loaded, and no limit is passed.
-pub record LoadsAll (options : GuestOptions) (old new : FilesState) (kept : declared.Loaded) : Type 0 where
+-- All files of a command were loaded, and they pass no limit.
+pub record LoadsAll (loads : List Load) (old new : FilesState) (loaded : Loaded) : Type 0 where
   pub files : List (List ℕ)
-  pub are : AreLoaded (shared_count options) (loaded_paths options) files old new
-  pub all : length files ≡ length (loaded_paths options)
-  pub keeps : Keeps options (loaded_of options files) kept
+  pub first : AreFirst loads files old
+  pub all : length files ≡ length loads
+  pub loaded_is : loaded ≡ loaded_of loads files
+  pub same : new ≡ old
 
 -- how the loads of a command end
-abbrev pub CommandLoads : GuestOptions → FilesState → FilesState → Result declared.Loaded Ending → Type 0
-CommandLoads options old new (Ok kept) = LoadsAll options old new kept
-CommandLoads options old new (Err e) = LoadsEnd options old new e
+abbrev pub LoadsSo : List Load → FilesState → FilesState → Result kept.Loaded CommandEnding → Type 0
+LoadsSo loads old new (Ok files) = LoadsAll loads old new (loaded_in files)
+LoadsSo loads old new (Err e) = LoadsEnd loads old new e

@@ -3,7 +3,7 @@ use Rattle.std.proofs.lemmas.Result.{err_from_is_err_and}
 use Rattle.command_line.specs.Read.{replay_in}
 use Rattle.aprof_top.specs.Private.Jobs.{StatsEnd, store_of}
 use Rattle.aprof_top.specs.Outcome.{replay_outcome, stats_of}
-use Rattle.aprof_top.specs.declared.ending.Verdict.TheVariants.{Replayed}
+use Rattle.aprof_top.specs.declared.ending.Verdict.TheVariants.{Done}
 use Rattle.host_io.specs.Sink.{appended}
 use Rattle.aprof_top.proofs.Replays.{stats_done, stats_unfinished, stores_unfinished}
 use Rattle.aprof_top.proofs.replay_job.deliver_replay.Goals as goal
@@ -33,5 +33,5 @@ returns g c = λ bytes is.
     let err = g.E.Sink.state c.args.err.now in
     let new = g.E.Sink.state c.put_stats.new.err in
     stats_done outcome (map store_of c.as_slice.result.now) (ap (map store_of) c.as_slice.ensures.value ∙ c.in_ok-stores.ensures bytes is)
-    (g.F.Files.state c.args.files.now) (g.F.Files.state c.store_all.new.files) err new c.in_ok-store_all.ensures Replayed refl
+    (g.F.Files.state c.args.files.now) (g.F.Files.state c.store_all.new.files) err new c.in_ok-store_all.ensures Done refl
     (c.in_ok-put_stats.ensures ∙ ap (λ count. appended err (stats_of options.stats count)) is.totals.counts.renumbered_are)

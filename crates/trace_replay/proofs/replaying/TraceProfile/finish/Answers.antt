@@ -1,4 +1,4 @@
-use Rattle.std.proofs.Common.{◌∙◌, ap, subst, sym}
+use Rattle.std.proofs.Common.{◌∙◌, [], ap, inl, refl, subst, sym}
 use Rattle.std.proofs.lemmas.Result.{err_from_is_err_and}
 use Rattle.trace_model.specs.Cut.{cut}
 use Rattle.trace_model.specs.Depth.{is_within}
@@ -43,6 +43,11 @@ pub returns-in_err-points-clause-refused : goal.returns-in_err-points-clause-ref
 returns-in_err-points-clause-refused g c = λ e is.
     let no = c.in_ok-names.ensures.stays e (ap (λ (k : Going). k.reader.refusal) c.self.view_is ∙ is) in
     absurd (cc)
+
+pub returns-in_err-totals-clause-replays : goal.returns-in_err-totals-clause-replays
+returns-in_err-totals-clause-replays g c = λ bytes has.
+    let p = err_from_is_err_and c.from_residual-in_err-totals.result c.from_residual-in_err-totals.ensures.1 in
+    rw (p.1, p.2) ([], inl refl)
 
 pub returns-in_err-totals-clause-refused : goal.returns-in_err-totals-clause-refused
 returns-in_err-totals-clause-refused g c = λ e is.
