@@ -65,6 +65,7 @@ pub record Loaded : Type 0 where
   pub schedule : List ℕ
   pub trace : List ℕ
 
+-- the same purpose
 abbrev pub is : Source → Source → Bool
 is Image Image = true
 is Input Input = true
@@ -77,7 +78,7 @@ is _ _ = false
 abbrev pub loaded_for : Source → List Load → List (List ℕ) → List (Load × List ℕ)
 loaded_for source loads files = filter (λ file. is source file.0.source) (zip loads files)
 
--- the bytes of the one file that was loaded for it, if there is one
+-- the bytes of the file that was loaded for it; a command has one such load at most, but for inputs
 abbrev pub file_for : Source → List Load → List (List ℕ) → List ℕ
 file_for source loads files = fold (λ before file. file.1) [] (loaded_for source loads files)
 

@@ -1,5 +1,5 @@
 -- What the written product answers to a command, over the files that it loads.
-use Rattle.std.specs.Prelude.{◌≡◌, ◌≢◌, ◌⊎◌, ℕ, Bool, true, false, codes, nat_lt, List, [], ◌∷◌, ◌++◌, length, Option, Some, None, if◌then◌else◌}
+use Rattle.std.specs.Prelude.{◌≡◌, ◌≢◌, ◌⊎◌, ℕ, Bool, true, codes, nat_lt, List, [], ◌∷◌, ◌++◌, length, Option, Some, None, if◌then◌else◌}
 use Rattle.command_line.specs.Options.{Analysis, Asked, GuestOptions, ReplayOptions, RunOptions, arguments}
 use Rattle.command_line.specs.Options.Analysis.{Run, Trace, Cache, Contexts}
 use Rattle.command_line.specs.Options.Asked.{Guest, Replay, Demo}
