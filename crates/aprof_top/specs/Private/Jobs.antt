@@ -23,7 +23,6 @@ use Rattle.run_profile.specs.Contexts.{AreContextTotalsOf, IsPastNumbers}
 use Rattle.run_profile.specs.Profile.{AreCountsOf, AreTotalsOf}
 use Rattle.run_profile.specs.declared.totals.ContextTotals.{ContextTotals}
 use Rattle.run_profile.specs.declared.totals.Counts.{Counts}
-use Rattle.trace_model.specs.declared.slow_profile.Done.{Done}
 use Rattle.aprof_top.specs.declared.delivery.Store.{Store}
 use Rattle.aprof_top.specs.declared.profiled_run.ProfiledRun.{ProfiledRun}
 use Rattle.aprof_top.specs.declared.contexts_job.ContextsRun.{ContextsRun}
@@ -87,7 +86,7 @@ pub record KeptGuest (K : Type 0) : Type 0 where
   pub ended : Ended
 
 -- The keeper holds the past of a run, and these are its counts, by stamps up to the greatest, its recording and its end.
-pub record IsKept {K : Type 0} (Holds : K → List Event → List Done → Type 0) (most : ℕ) (kept : KeptGuest K) (run : ObservedRun) : Type 0 where
+pub record IsKept {K D : Type 0} (Holds : K → List Event → List D → Type 0) (most : ℕ) (kept : KeptGuest K) (run : ObservedRun) : Type 0 where
   pub holds : Holds kept.kept run.past []
   pub counts : AreCountsOf most kept.counts run.past
   pub recorded : kept.ended.recording ≡ recording run.moves
