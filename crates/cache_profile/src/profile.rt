@@ -213,6 +213,7 @@ impl<K: Shaped> Observer for CacheProfile<K> {
         }
         Ok(Observed::Taken)
     }
+
     // The cost does not grow with the count.
     fn observe_steps(&mut self, tid: Tid, count: u64) -> Result<(), AllocError>
         requires may { MayStepBy (MissesStandFor K.shape) (λ past. true) self.old tid count }

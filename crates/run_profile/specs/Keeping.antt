@@ -1,5 +1,5 @@
--- What a keeper of ended activations owes. A past is the list of the events so far, the newest first; a keeper `Holds` a past, and of
--- the activations that ended at the event behind it some.
+-- What a keeper of ended activations owes. A past is the list of the events so far, the newest first; a keeper `Holds` a past, and
+-- the first few of the activations that ended at the event after it.
 use Rattle.std.specs.Prelude.{◌≡◌, ℕ, Bool, true, false, List, [], ◌∷◌}
 use Rattle.trace_model.specs.declared.event_kinds.Event.{Event}
 use Rattle.trace_model.specs.declared.slow_profile.Done.{Done}
@@ -7,7 +7,7 @@ use Rattle.trace_model.specs.Observing.{with_steps}
 use Rattle.trace_model.specs.Profile.{ended}
 use Rattle.trace_model.specs.WellFormed.{IsWellFormed}
 
--- It holds some past after which the event may come and ends these activations, and of those that it `had`, some.
+-- It holds some past after which the event may come and ends these activations, and the first few of those that it `had`.
 pub record MayKeep {K : Type 0} (Holds : K → List Event → List Done → Type 0) (k : K) (had : List Done) (e : Event) (ends : List Done) : Type 0 where
   pub past : List Event
   pub now : Holds k past had

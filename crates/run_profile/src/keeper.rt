@@ -10,24 +10,24 @@ use guest_words::Tid;
 use std::alloc::AllocError;
 use trace_model::{Done, Event};
 
-/// What keeps the activations of a run that ended. It takes each event after the profiler did, with the activations that ended at
-/// it, the innermost first: at once where that needs no memory, and else before the next event, so that an event that was taken
-/// is not refused for lack of memory here.
+/// What keeps the activations of a run that ended. It takes each event after the profiler, with the activations that ended at the
+/// event, the innermost first: at once if that needs no memory, and otherwise before the next event. So an event that the
+/// profiler took is not refused because the keeper runs out of memory.
 pub trait Keeper: Drop {
-    /// It keeps this past, and of these activations, which ended at the event behind it, the first some.
+    /// It holds this past, and the first few of these activations, which ended at the event after it.
     ghost holds: { Self → List Event → List Done → Type 0 };
 
-    /// A past of which it keeps nothing.
+    /// A past that is too much for it: it keeps nothing of that.
     ghost is_too_much: { List Event → Type 0 };
 
-    /// Takes the event, if that needs no memory. Otherwise it says `false`, and is still to take it.
+    /// Takes the event and answers `true` if that needs no memory. Otherwise the event is left for `take`.
     fn pass(&mut self, e: &Event, ends: &[Done]) -> bool
         requires { MayKeep holds self.old [] e.now ends.now }
         ensures passes { (past : List Event) → holds self.old past [] → ends.now ≡ ended e.now past
             → Passes holds self.new e.now past ends.now result }
         ensures nothing { result ≡ true → ends.now ≡ [] };
 
-    /// Takes the event. After an `Err` it may keep the first some of the activations, and takes the rest when it is called again.
+    /// Takes the event. After an `Err` it may hold the first few of the activations; called again, it takes the rest.
     fn take(&mut self, e: Event, ends: &[Done]) -> Result<(), AllocError>
         requires { MayKeep holds self.old ends.now e ends.now }
         ensures taken { (past : List Event) → holds self.old past ends.now → ends.now ≡ ended e past
