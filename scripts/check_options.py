@@ -43,9 +43,10 @@ def of_help() -> Options:
 
 
 def of_readme(text: str) -> Options:
-    """The block of command lines: each begins with `aprof COMMAND`, and goes on in lines that are indented more."""
-    found = re.findall(r"^    aprof ([a-z]+)((?: .*)?(?:\n {6,}.*)*)", text, re.MULTILINE)
-    return {name: of_usage(rest) for name, rest in found}
+    """The block of command lines: each begins with `aprof COMMAND`. What all commands that run a guest share is the line `GUEST:`."""
+    shared = re.search(r"^    GUEST: (.*)$", text, re.MULTILINE)
+    found = re.findall(r"^    aprof ([a-z]+)((?: .*)?)$", text, re.MULTILINE)
+    return {name: of_usage(rest.replace("GUEST", shared[1] if shared else "")) for name, rest in found}
 
 
 def of_synopsis(text: str) -> Options:
