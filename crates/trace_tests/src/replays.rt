@@ -12,7 +12,8 @@ fn a_trace_is_replayed(rt: HostRuntime) -> Result<(), Fail> {
     let replayed = replay::<u8>(rt.alloc(), &TRACE).ok().ok_or("refused")?;
     assert!(rt; replayed.whole && replayed.names.is_empty());
     assert_eq!(rt; replayed.finish, Finish::Exit { status: 0 });
-    assert_eq!(rt; (replayed.totals.steps, replayed.totals.pending), (3, 0));
+    let counts = replayed.totals.counts;
+    assert_eq!(rt; (counts.steps, counts.pending), (3, 0));
     assert!(rt; replay::<u8>(rt.alloc(), &TRACE[..48]).is_err());
     Ok(())
 }
