@@ -81,6 +81,23 @@ impl<S: Lanes, K: Keeper> Profile<S, K> {
             → K.is_too_much past → IsOk result }
         ensures nothing { self.old.next ≡ None → IsOk result }
     {
+        if self.next.is_none() {
+            return Ok(());
+        }
+        self.settle_next()
+    }
+
+    // The same. It stands apart, so that the code of an event that leaves nothing to the keeper is short.
+    #[inline(never)]
+    fn settle_next(&mut self) -> Result<(), AllocError>
+        requires { IsOfFormed S.MAX K.holds self.old }
+        ensures stands { (past : List Event) → IsProfileOf S.MAX K.holds self.old past
+            → IsProfileOf S.MAX K.holds self.new past }
+        ensures settled { OnOk result (self.new.next ≡ None) }
+        ensures no_allocation { (past : List Event) → IsProfileOf S.MAX K.holds self.old past
+            → K.is_too_much past → IsOk result }
+        ensures nothing { self.old.next ≡ None → IsOk result }
+    {
         if let Some(e) = self.next {
             self.kept.take(e, &self.ended)?;
             self.ended.clear();
