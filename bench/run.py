@@ -7,8 +7,8 @@ bench/run.py --long [PROGRAM] times runs of some 100 million steps, with the mos
 
 bench/run.py --host [PROGRAM] counts the host's instructions for one of the guest's in place of time: by callgrind, as the
 difference of two lengths of run, so that neither the start of the program nor the machine's load changes the figure. Where
-clang is installed, the last row is of the C source that bench/peers.py compares. With --contexts all this is of the command
-`contexts` in place of `run`."""
+clang is installed, the last row is of the C source that bench/peers.py compares. With --contexts or --cache all this is of the
+command `contexts`, or `cache` with 64 sets of 8 lines of 64 bytes, in place of `run`."""
 import os
 import re
 import shutil
@@ -21,8 +21,9 @@ import peers
 from guests import ECALL, EXIT, RETURN, STACK, add, addi, branch, image, jal, lw, number, sw
 
 HERE = os.path.dirname(os.path.abspath(__file__))
-WORDS = [word for word in sys.argv[1:] if word not in ("--host", "--long", "--contexts")]
-COMMAND = "contexts" if "--contexts" in sys.argv else "run"
+WORDS = [word for word in sys.argv[1:] if not word.startswith("--")]
+CACHE = ["cache", "--sets", "64", "--ways", "8", "--line", "64"]
+COMMAND = ["contexts"] if "--contexts" in sys.argv else CACHE if "--cache" in sys.argv else ["run"]
 PROGRAM = WORDS[0] if WORDS else os.path.join(HERE, "../crates/aprof/out/aprof")
 
 
@@ -124,7 +125,7 @@ def words(guest, folder, options=()):
     if not os.path.exists(stdin):
         with open(stdin, "wb") as file:
             file.write(bytes(16 * 65536))
-    return [PROGRAM, COMMAND, *options, "--stdin", stdin, "-o", report, path]
+    return [PROGRAM, *COMMAND, *options, "--stdin", stdin, "-o", report, path]
 
 
 def steps_of(folder):
