@@ -3,14 +3,17 @@ from __future__ import annotations
 
 import random
 import tempfile
+import unittest
 from collections.abc import Iterable, Sequence
 from dataclasses import dataclass, field
 from pathlib import Path
 
+from aprof_show import page
 from aprof_show.model import CacheReport, Point, Report
 from aprof_show.reading import read_file
 
 ROOT = Path(__file__).resolve().parents[2]
+NEEDS_CHARTS = unittest.skipUnless(page.LIBRARY.exists(), "left out, as this package is missing: libjs-chart.js")
 
 
 @dataclass

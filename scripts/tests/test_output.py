@@ -6,7 +6,7 @@ import tempfile
 import unittest
 from pathlib import Path
 
-from tests.samples import ADDRESSES, ROOT, Call, Run
+from tests.samples import ADDRESSES, NEEDS_CHARTS, ROOT, Call, Run
 from tests.test_command import WORDS, show
 
 
@@ -20,13 +20,18 @@ class Output(unittest.TestCase):
             (f"show {WORDS} > /dev/full", f"show: standard output: {full}"),
             ("show --help > /dev/full", f"show: standard output: {full}"),
             (f"show --csv {WORDS} > /dev/full", f"show: standard output: {full}"),
-            (f"show --page /dev/full {WORDS}", f"show: /dev/full: {full}"),
         ]
         for command, said in cases:
             with self.subTest(command):
                 done = subprocess.run(f"./{command}", shell=True, capture_output=True, text=True, cwd=ROOT)
                 self.assertEqual((done.returncode, done.stderr), (2, said))
 
+    @NEEDS_CHARTS
+    def test_a_page_that_cannot_be_written(self) -> None:
+        done = subprocess.run(["./show", "--page", "/dev/full", WORDS], capture_output=True, text=True, cwd=ROOT)
+        self.assertEqual((done.returncode, done.stderr), (2, "show: /dev/full: no space left on device\n"))
+
+    @NEEDS_CHARTS
     def test_half_a_page_is_removed(self) -> None:
         with tempfile.TemporaryDirectory() as folder:
             page, link = Path(folder, "page.html"), Path(folder, "link.html")

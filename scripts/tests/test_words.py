@@ -11,7 +11,7 @@ from pathlib import Path
 
 from aprof_show.command import main
 from aprof_show.marks import MEANINGS
-from tests.samples import ADDRESSES, ROOT, Call, Run
+from tests.samples import ADDRESSES, NEEDS_CHARTS, ROOT, Call, Run
 from tests.test_causes import SIZES, through_a_list
 from tests.test_command import BUBBLE, CACHE, CONTEXTS, WORDS, show
 
@@ -65,6 +65,7 @@ class Refusals(unittest.TestCase):
                 self.assertIn(f"show: {what}", show(*words, status=2))
         self.assertFalse((ROOT / "p.html").exists())
 
+    @NEEDS_CHARTS
     def test_a_page_is_not_written_over_a_report(self) -> None:
         with tempfile.TemporaryDirectory() as folder:
             report, other, page = (Path(folder, name) for name in ("report", "other", "page.html"))
