@@ -86,6 +86,7 @@ impl Keeper for Points {
         ends.is_empty()
     }
 
+    #[inline(always)]
     fn take(&mut self, e: Event, ends: &[Done]) -> Result<(), AllocError> {
         let _ = e;
         add_ended(&mut self.table, ends, &mut self.added)?;

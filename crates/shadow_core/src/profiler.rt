@@ -237,7 +237,7 @@ impl<S: Lanes> Profiler<S> {
     }
 
     // A write by the thread that runs.
-    #[inline(never)]
+    #[inline(always)]
     fn write(&mut self, tid: Tid, first: Word, count: u32) -> Result<(), AllocError>
         requires { MayTake (StandsFor S.MAX) self.old (Write tid first count) }
         ensures table { OnOk result (table_of_state self.new
@@ -445,7 +445,7 @@ impl<S: Lanes> Profiler<S> {
     }
 
     // A read by the thread that runs.
-    #[inline(never)]
+    #[inline(always)]
     fn read(&mut self, tid: Tid, first: Word, count: u32) -> Result<(), AllocError>
         requires { MayTake (StandsFor S.MAX) self.old (Read tid first count) }
         ensures table { OnOk result (table_of_state self.new
