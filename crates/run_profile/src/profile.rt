@@ -1,5 +1,5 @@
 //! The profile of a run that goes on.
-ghost use Rattle.std.specs.Prelude.{◌≡◌, ◌≤◌, ◌∷◌, [], List, None, false, Ok, IfOk, IsOk, OnErr, OnOk};
+ghost use Rattle.std.specs.Prelude.{◌≡◌, ◌≤◌, ◌∷◌, [], List, None, true, false, Ok, IfOk, IsOk, OnErr, OnOk};
 ghost use Rattle.trace_model.specs.declared.event_kinds.Event.{Event};
 ghost use Rattle.trace_model.specs.declared.observer.Observed.{Observed};
 ghost use Rattle.trace_model.specs.Depth.{is_within};
@@ -106,6 +106,29 @@ impl<S: Lanes, K: Keeper> Profile<S, K> {
         Ok(())
     }
 
+    // The same before an event, and true; but false, with nothing handed on, where this event is too deep. Where the keeper
+    // has taken all, the event is not tested here, since `apply` tests it.
+    #[inline(always)]
+    fn make_ready(&mut self, e: &Event) -> Result<bool, AllocError>
+        requires { MayTake (IsProfileOf S.MAX K.holds) self.old e.now }
+        ensures stands { (past : List Event) → IsProfileOf S.MAX K.holds self.old past
+            → IsProfileOf S.MAX K.holds self.new past }
+        ensures settled { IfOk result (λ ready. ready ≡ true → self.new.next ≡ None) }
+        ensures refused { IfOk result (λ ready. ready ≡ false → (past : List Event)
+            → IsProfileOf S.MAX K.holds self.old past → is_within S.MAX (e.now ∷ past) ≡ false) }
+        ensures too_deep { (past : List Event) → IsProfileOf S.MAX K.holds self.old past
+            → is_within S.MAX (e.now ∷ past) ≡ false → IsOk result }
+    {
+        if self.next.is_none() {
+            return Ok(true);
+        }
+        if self.profiler.is_too_deep(e) {
+            return Ok(false);
+        }
+        self.settle_next()?;
+        Ok(true)
+    }
+
     /// What was kept of the run, and what was counted.
     pub fn into_kept(self) -> Result<(K, Counts), AllocError>
         requires { IsOfFormed S.MAX K.holds self }
@@ -157,10 +180,9 @@ impl<S: Lanes, K: Keeper> Observer for Profile<S, K> {
         ensures last { (past : List Event) → IsProfileOf S.MAX K.holds self.old past
             → IfOk result (λ observed. observed ≡ Observed.Taken → self.new.ended ≡ ended e past) }
     {
-        if self.profiler.is_too_deep(&e) {
+        if !self.make_ready(&e)? {
             return Ok(Observed::Refused);
         }
-        self.settle()?;
         match self.profiler.apply(e, &mut self.ended) {
             Ok(()) => {
                 self.steps += steps_of(&e);
