@@ -49,6 +49,7 @@ pub fn write(
         (word_count at (byte_count size))) }
     ensures memory_kept { IfNone result (memory_of memory.new ≡ memory_of memory.old) }
     ensures held_kept { IfNone result (reserved_by held.new ≡ reserved_by held.old) }
+    ensures end { IfSome result (λ _. at + byte_count size ≤ 2 ^ 32) }
 {
     memory.store(at, size, n).ok()?;
     let (first, count) = words(at, size);

@@ -1,9 +1,11 @@
 //! One instruction of a thread.
-ghost use Rattle.std.specs.Prelude.{◌≡◌, ◌-◌};
+ghost use Rattle.std.specs.Prelude.{◌≡◌, ◌-◌, IfSome, IfNone, is_none};
+ghost use Rattle.guest_memory.specs.Guest.{memory_of};
 ghost use Rattle.guest_memory.specs.Reserved.{HoldAtMost, without_thread};
 ghost use Rattle.guest_memory.specs.ReservedBy.{reserved_by};
 ghost use Rattle.rv_exec.specs.Effects.{branched, effect, exec_state_of, value};
 ghost use Rattle.rv_exec.specs.Operations.{is_taken, add_offset};
+ghost use Rattle.rv_exec.specs.Reading.{CarriesOut, may_write};
 
 use crate::atomics::{Operands, atomic};
 use crate::loads_and_stores::{load, store};
@@ -28,15 +30,6 @@ pub fn execute(
         ≡ effect tid i (exec_state_of cpu.old memory.old held.old) }
 {
     match i {
-        Instr::Load {
-            kind,
-            rd,
-            base,
-            offset,
-        } => {
-            let at = add_offset(cpu.value(base), offset);
-            load(cpu, memory, kind, rd, at)
-        }
         Instr::Store {
             kind,
             value,
@@ -56,22 +49,50 @@ pub fn execute(
             let (at, n) = (cpu.value(base), cpu.value(value));
             atomic(cpu, memory, held, tid, op, Operands { rd, at, n })
         }
-        Instr::Lui { rd, imm } => cpu.compute(rd, imm << 12),
-        Instr::Auipc { rd, imm } => cpu.compute(rd, cpu.pc.wrapping_add(imm << 12)),
-        Instr::Jal { rd, offset } => cpu.jump_and_link(rd, add_offset(cpu.pc, offset)),
+        _ => {
+            let Some(outcome) = execute_reading(cpu, memory, i) else {
+                unreachable!();
+            };
+            outcome
+        }
+    }
+}
+
+/// Carries out an instruction that does not write to memory. None, and nothing changes, where it may write.
+#[inline(always)]
+pub fn execute_reading(cpu: &mut Cpu, memory: &GuestMemory, i: Instr) -> Option<Outcome>
+    ensures effect { IfSome result (λ outcome. CarriesOut i (memory_of memory.now) cpu.old
+        outcome cpu.new) }
+    ensures none { IfNone result (cpu.new ≡ cpu.old) }
+    ensures writes { is_none result ≡ may_write i }
+{
+    match i {
+        Instr::Store { .. } | Instr::Atomic { .. } => None,
+        Instr::Load {
+            kind,
+            rd,
+            base,
+            offset,
+        } => {
+            let at = add_offset(cpu.value(base), offset);
+            Some(load(cpu, memory, kind, rd, at))
+        }
+        Instr::Lui { rd, imm } => Some(cpu.compute(rd, imm << 12)),
+        Instr::Auipc { rd, imm } => Some(cpu.compute(rd, cpu.pc.wrapping_add(imm << 12))),
+        Instr::Jal { rd, offset } => Some(cpu.jump_and_link(rd, add_offset(cpu.pc, offset))),
         Instr::Jalr { rd, base, offset } => {
             let target = add_offset(cpu.value(base), offset);
-            cpu.jump_and_link(rd, target / 2 * 2)
+            Some(cpu.jump_and_link(rd, target / 2 * 2))
         }
         Instr::Branch {
             test,
             left,
             right,
             offset,
-        } => branch(cpu, test, left, right, offset),
+        } => Some(branch(cpu, test, left, right, offset)),
         Instr::Immediate { op, rd, left, imm } => {
             let n = immediate_result(op, cpu.value(left), imm);
-            cpu.compute(rd, n)
+            Some(cpu.compute(rd, n))
         }
         Instr::Register {
             op,
@@ -80,13 +101,13 @@ pub fn execute(
             right,
         } => {
             let n = register_result(op, cpu.value(left), cpu.value(right));
-            cpu.compute(rd, n)
+            Some(cpu.compute(rd, n))
         }
-        Instr::Fence | Instr::FenceI => cpu.pass(),
-        Instr::Ecall => Outcome::Syscall,
-        Instr::Ebreak => Outcome::Fault {
+        Instr::Fence | Instr::FenceI => Some(cpu.pass()),
+        Instr::Ecall => Some(Outcome::Syscall),
+        Instr::Ebreak => Some(Outcome::Fault {
             kind: FaultKind::Break,
-        },
+        }),
     }
 }
 

@@ -14,6 +14,6 @@ mod operations;
 mod outcome;
 
 pub use cpu::Cpu;
-pub use instruction::execute;
+pub use instruction::{execute, execute_reading};
 pub use laws::every_instruction;
 pub use outcome::{Access, Outcome};

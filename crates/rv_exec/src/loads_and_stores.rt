@@ -1,9 +1,14 @@
 //! Loads and stores.
-ghost use Rattle.std.specs.Prelude.{◌≡◌, ◌<◌, ◌≤◌, ◌*◌, ◌^◌};
+ghost use Rattle.std.specs.Prelude.{◌≡◌, ◌<◌, ◌≤◌, ◌+◌, ◌*◌, ◌/◌, ◌^◌, IfOk, IfErr, Ok, Err, Some, if◌then◌else◌};
 ghost use Rattle.rv_isa.specs.Fields.{twos_complement};
 ghost use Rattle.guest_memory.specs.Guest.{memory_of};
-ghost use Rattle.rv_exec.specs.Accesses.{load_size, extended, store_size};
-ghost use Rattle.rv_exec.specs.Effects.{exec_state_of, loads, stores};
+ghost use Rattle.guest_memory.specs.Memory.{byte_count, number_at, with_bytes};
+ghost use Rattle.guest_memory.specs.Reserved.{after_write};
+ghost use Rattle.guest_memory.specs.ReservedBy.{reserved_by};
+ghost use Rattle.guest_words.specs.Words.{word_count};
+ghost use Rattle.guest_words.specs.declared.endings.FaultKind.TheVariants as fault;
+ghost use Rattle.rv_exec.specs.Accesses.{can_read, can_write, load_size, extended, low_bytes, store_size};
+ghost use Rattle.rv_exec.specs.Effects.{exec_state_of, loads, put, stores};
 ghost use Rattle.rv_exec.specs.Operations.{low_32_bits};
 
 use crate::bytes::{read, words, write};
@@ -61,10 +66,37 @@ fn store_size(kind: StoreKind) -> Size
     }
 }
 
-/// A load. It stands apart from the other instructions, whose code is then short enough to be inlined in the run's loop.
-#[inline(never)]
+/// A load. Its code is short, so that it is inlined in the run's loop: `load_number` stands apart and answers in a register.
+#[inline(always)]
 pub fn load(cpu: &mut Cpu, memory: &GuestMemory, kind: LoadKind, rd: Reg, at: Addr) -> Outcome
     ensures { (result, cpu.new) ≡ loads kind rd at (memory_of memory.now) cpu.old }
+{
+    match load_number(cpu, memory, kind, rd, at) {
+        Ok(()) => {
+            let (first, count) = words(at, load_size(kind));
+            Outcome::Went {
+                access: Access::Read { first, count },
+            }
+        }
+        Err(kind) => Outcome::Fault { kind },
+    }
+}
+
+// What a load does to the registers. It stands apart from the other instructions.
+#[inline(never)]
+fn load_number(
+    cpu: &mut Cpu,
+    memory: &GuestMemory,
+    kind: LoadKind,
+    rd: Reg,
+    at: Addr,
+) -> Result<(), FaultKind>
+    ensures readable { result ≡ (if can_read (memory_of memory.now) at (byte_count (load_size kind))
+        then Ok tt else Err fault.Load) }
+    ensures loaded { IfOk result (λ _. cpu.new ≡ put rd
+        (extended kind (number_at (memory_of memory.now) at (byte_count (load_size kind)))) cpu.old) }
+    ensures kept { IfErr result (λ _. cpu.new ≡ cpu.old) }
+    ensures end { IfOk result (λ _. at + byte_count (load_size kind) ≤ 2 ^ 32) }
 {
     match kind {
         LoadKind::Lb => load_as(cpu, memory, LoadKind::Lb, rd, at),
@@ -75,26 +107,31 @@ pub fn load(cpu: &mut Cpu, memory: &GuestMemory, kind: LoadKind, rd: Reg, at: Ad
     }
 }
 
-// A load, whose code is made for the kind that a call names.
+// The same, whose code is made for the kind that a call names.
 #[inline(always)]
-fn load_as(cpu: &mut Cpu, memory: &GuestMemory, kind: LoadKind, rd: Reg, at: Addr) -> Outcome
-    ensures { (result, cpu.new) ≡ loads kind rd at (memory_of memory.now) cpu.old }
+fn load_as(
+    cpu: &mut Cpu,
+    memory: &GuestMemory,
+    kind: LoadKind,
+    rd: Reg,
+    at: Addr,
+) -> Result<(), FaultKind>
+    ensures readable { result ≡ (if can_read (memory_of memory.now) at (byte_count (load_size kind))
+        then Ok tt else Err fault.Load) }
+    ensures loaded { IfOk result (λ _. cpu.new ≡ put rd
+        (extended kind (number_at (memory_of memory.now) at (byte_count (load_size kind)))) cpu.old) }
+    ensures kept { IfErr result (λ _. cpu.new ≡ cpu.old) }
+    ensures end { IfOk result (λ _. at + byte_count (load_size kind) ≤ 2 ^ 32) }
 {
-    let size = load_size(kind);
-    let Some(n) = read(memory, at, size) else {
-        return Outcome::Fault {
-            kind: FaultKind::Load,
-        };
+    let Some(n) = read(memory, at, load_size(kind)) else {
+        return Err(FaultKind::Load);
     };
     cpu.put(rd, extended(kind, n));
-    let (first, count) = words(at, size);
-    Outcome::Went {
-        access: Access::Read { first, count },
-    }
+    Ok(())
 }
 
-/// A store of a register's lowest bytes, which stands apart as a load does.
-#[inline(never)]
+/// A store of a register's lowest bytes, which is inlined as a load is.
+#[inline(always)]
 pub fn store(
     cpu: &mut Cpu,
     memory: &mut GuestMemory,
@@ -107,13 +144,41 @@ pub fn store(
     ensures { (result, exec_state_of cpu.new memory.new held.new)
         ≡ stores tid kind at n (exec_state_of cpu.old memory.old held.old) }
 {
-    let Some((first, count)) = write(memory, held, tid, at, store_size(kind), n) else {
-        return Outcome::Fault {
-            kind: FaultKind::Store,
-        };
-    };
-    cpu.advance();
-    Outcome::Went {
-        access: Access::Write { first, count },
+    match store_number(memory, held, tid, kind, at, n) {
+        Ok(()) => {
+            cpu.advance();
+            let (first, count) = words(at, store_size(kind));
+            Outcome::Went {
+                access: Access::Write { first, count },
+            }
+        }
+        Err(kind) => Outcome::Fault { kind },
+    }
+}
+
+// What a store does to memory and reservations. It stands apart, as `load_number` does.
+#[inline(never)]
+fn store_number(
+    memory: &mut GuestMemory,
+    held: &mut Reservations,
+    tid: Tid,
+    kind: StoreKind,
+    at: Addr,
+    n: u32,
+) -> Result<(), FaultKind>
+    ensures writable { result ≡ (if can_write (memory_of memory.old) at (byte_count (store_size kind))
+        then Ok tt else Err fault.Store) }
+    ensures memory { IfOk result (λ _. memory_of memory.new
+        ≡ with_bytes (memory_of memory.old) at (low_bytes (store_size kind) n)) }
+    ensures held { IfOk result (λ _. reserved_by held.new
+        ≡ after_write (reserved_by held.old) (Some tid) (at / 4)
+        (word_count at (byte_count (store_size kind)))) }
+    ensures memory_kept { IfErr result (λ _. memory_of memory.new ≡ memory_of memory.old) }
+    ensures held_kept { IfErr result (λ _. reserved_by held.new ≡ reserved_by held.old) }
+    ensures end { IfOk result (λ _. at + byte_count (store_size kind) ≤ 2 ^ 32) }
+{
+    match write(memory, held, tid, at, store_size(kind), n) {
+        Some(_) => Ok(()),
+        None => Err(FaultKind::Store),
     }
 }
