@@ -1,5 +1,5 @@
 -- Reservations as a list of distinct threads: what a thread has after some are dropped or one is added.
-use Rattle.std.proofs.Common.{◌≡◌, ℕ, Bool, true, false, not, ◌&&◌, ◌==◌, cond, List, [], ◌∷◌, ◌++◌, filter, Option, Some, None, refl, ap, sym, ◌∙◌, inl, inr}
+use Rattle.std.proofs.Common.{◌≡◌, ℕ, Bool, true, false, not, ◌&&◌, ◌==◌, cond, ◌≤◌, zero, suc, take, arith, List, [], ◌∷◌, ◌++◌, filter, Option, Some, None, refl, ap, sym, ◌∙◌, inl, inr}
 use Rattle.std.specs.Prelude.{is_none}
 use Rattle.std.specs.Option.{option_map_or}
 use Rattle.std.proofs.lemmas.Bool.{cases_eq, cases_Bool, and_parts, and_from, eq-eqb, ne_eqb}
@@ -119,6 +119,11 @@ none_both false = refl
 turned : (b : Bool) (w : ℕ) → cond (not b) (Some w) None ≡ cond b None (Some w)
 turned true w = refl
 turned false w = refl
+
+-- what holds of no holders holds where there are none
+pub none_held : (P : List (ℕ × ℕ) → Type 0) (count : ℕ) (holders : List (ℕ × ℕ)) → count ≤ 0 → P [] → P (take count holders)
+none_held P zero holders none holds = holds
+none_held P (suc count) holders none holds = absurd (omega (arith, none))
 
 -- the losses of a thread
 pass_other : (q tid : ℕ) (o : Option ℕ) → pass (λ w. not (q == tid)) o ≡ cond (q == tid) None o

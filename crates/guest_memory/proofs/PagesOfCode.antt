@@ -1,12 +1,14 @@
 -- Code by page, and its index.
-use Rattle.std.proofs.Common.{◌≡◌, ◌≢◌, ℕ, zero, suc, ◌+◌, ◌*◌, ◌<◌, ◌≤◌, ◌/◌, ◌%◌, List, [], ◌∷◌, ◌++◌, length, get_or, set, replicate, ap, sym, refl, ◌∙◌, arith, inl, inr, ◌⊎◌, Option, Some, None, Ok, IfSome}
+use Rattle.std.proofs.Common.{Bor, subst, nat_lt, ◌≡◌, ◌≢◌, ℕ, zero, suc, ◌+◌, ◌*◌, ◌<◌, ◌≤◌, ◌/◌, ◌%◌, List, [], ◌∷◌, ◌++◌, length, get_or, set, replicate, ap, sym, refl, ◌∙◌, arith, inl, inr, ◌⊎◌, Option, Some, None, Ok, IfSome}
+use Rattle.std.specs.Option.{is_some, option_map, unwrap_or}
 use Rattle.std.proofs.lemmas.Bool.{cases_eq, cases_lt}
+use Rattle.std.proofs.lemmas.Bool.Decides.{nat_tests}
 use Rattle.std.proofs.lemmas.List.{get_or-set_other, get_or-set_same, get_or_past, get_or-replicate, length-replicate, get_or_append_left, get_or_push}
 use Rattle.guest_memory.specs.declared.refusal.Permission.TheVariants as permission
 use Rattle.guest_memory.specs.Memory.{Memory, loaded, with_bytes}
-use Rattle.guest_memory.specs.Code.{instruction_of}
+use Rattle.guest_memory.specs.Code.{IsCodeOf, IsInstructionAt, instruction_of}
 use Rattle.guest_memory.specs.Private.CodePages.{AreForgotten, IsIndex, known_in, no_code, page_at}
-use Rattle.guest_memory.proofs.KeptCode.{Holds, fetched, holds_after, loads_stay}
+use Rattle.guest_memory.proofs.KeptCode.{Holds, fetched, holds_after, is_instruction, loads_stay}
 use Rattle.rv_isa.specs.Table.{decoded}
 use Rattle.rv_isa.specs.declared.instruction.Instr.{Instr}
 
@@ -16,7 +18,7 @@ Pages = List (ℕ × List (Option Instr))
 abbrev pub Page : Type 0
 Page = ℕ × List (Option Instr)
 
-pub if_some : (P : Instr → Type 0) (o : Option Instr) → ((i : Instr) → o ≡ Some i → P i) → IfSome o P
+if_some : (P : Instr → Type 0) (o : Option Instr) → ((i : Instr) → o ≡ Some i → P i) → IfSome o P
 if_some P None each = tt
 if_some P (Some i) each = each i refl
 
@@ -43,6 +45,22 @@ none_or_known places pages index zero word i inside number is = absurd (let no :
 none_or_known places pages index (suc k) word i inside number is =
     let place : get_or places (word / 1024) 0 ≡ suc k = ap (λ n. get_or places n 0) (sym number) ∙ index.indexed (suc k) (omega arith) inside in
     ap (λ n. get_or (page_at pages n).1 (word % 1024) None) place ∙ is
+
+-- what the page at a place knows is what the memory holds
+code_at : (places : List ℕ) (pages : Pages) (m : Memory) → IsIndex places pages → Holds (known_in places pages) m →
+    (place : ℕ) → place < length pages → IsCodeOf m (page_at pages place)
+code_at places pages m index holds place inside at even number =
+    let page : (page_at pages place).0 ≡ at / 4 / 1024 = omega (arith, number) in
+    let whole : 4 * (at / 4) ≡ at = omega (arith, even) in
+    if_some (IsInstructionAt m at) (get_or (page_at pages place).1 (at / 4 % 1024) None) (λ i is.
+    is_instruction m at i (ap (fetched m) (sym whole) ∙ holds (at / 4) i (none_or_known places pages index place (at / 4) i inside page is)))
+
+-- so does the page that is read at a place
+pub code_found : (places : List ℕ) (pages : Pages) (m : Memory) → IsIndex places pages → Holds (known_in places pages) m → (place : ℕ) (o : Option (Bor Page)) →
+    is_some o ≡ nat_lt place (length pages) → unwrap_or (option_map (λ page. page.now) o) no_code ≡ page_at pages place → IfSome o (λ page. IsCodeOf m page.now)
+code_found places pages m index holds place None some is = tt
+code_found places pages m index holds place (Some page) some is =
+    subst (IsCodeOf m) (sym is) (code_at places pages m index holds place (grind (arith, nat_tests, some)))
 
 -- ---- the code of one page changes
 known_here : (places : List ℕ) (pages : Pages) (place : ℕ) (p : Page) (word : ℕ) → place < length pages → get_or places (word / 1024) 0 ≡ place →

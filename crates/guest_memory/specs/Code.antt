@@ -1,5 +1,5 @@
 -- The instructions that are known.
-use Rattle.std.specs.Prelude.{◌≡◌, ℕ, ◌*◌, ◌/◌, false, Option, Some, None, Result, Ok, Err}
+use Rattle.std.specs.Prelude.{◌≡◌, ℕ, ◌*◌, ◌/◌, ◌%◌, false, List, Option, Some, None, Result, Ok, Err, get_or, IfSome}
 use Rattle.guest_memory.specs.Memory.{Memory, is_among, loaded}
 use Rattle.guest_memory.specs.Private.CodePages.{known_in}
 use Rattle.guest_memory.specs.declared.refusal.MemError.{MemError}
@@ -13,6 +13,12 @@ pub record IsInstructionAt (m : Memory) (at : ℕ) (i : Instr) : Type 0 where
   pub word : ℕ
   pub loads : loaded m permission.Execute at 4 ≡ Ok word
   pub stands : decoded word ≡ Some i
+
+-- Each instruction that is known of a page, by its number and its words, is that of its word, which can be fetched.
+abbrev pub IsCodeOf : Memory → ℕ × List (Option Instr) → Type 0
+IsCodeOf m page =
+    (at : ℕ) → at % 4 ≡ 0 → at / 4096 ≡ page.0
+    → IfSome (get_or page.1 (at / 4 % 1024) None) (IsInstructionAt m at)
 
 -- the instruction of a word, where it can be fetched
 abbrev pub instruction_of : Result ℕ MemError → Option Instr

@@ -26,7 +26,7 @@ pub struct CodeCache {
 }
 
 impl CodeCache {
-    ghost use Rattle.guest_memory.specs.Code.{AgreeBut, HoldsCode, IsInstructionAt};
+    ghost use Rattle.guest_memory.specs.Code.{AgreeBut, HoldsCode, IsCodeOf, IsInstructionAt};
 
     /// No instruction is known.
     pub fn new(alloc: Global) -> Result<CodeCache, AllocError>
@@ -58,17 +58,21 @@ impl CodeCache {
         self.place(u64::from(at >> 12))
     }
 
+    /// The code of a page that is at this place, if one is.
+    #[inline(always)]
+    pub fn page_at(&self, place: usize) -> Option<&CodePage>
+        ensures { (m : Memory) → HoldsCode self.now m → IfSome result (λ page. IsCodeOf m page.now) }
+    {
+        self.pages.get(place)
+    }
+
     /// The instruction at an address, where it is known and the code of its page is at this place.
     #[inline(always)]
     pub fn find(&self, place: usize, at: Addr) -> Option<Instr>
         requires { at % 4 ≡ 0 }
         ensures { (m : Memory) → HoldsCode self.now m → IfSome result (IsInstructionAt m at) }
     {
-        let page = self.pages.get(place)?;
-        if page.number() != at >> 12 {
-            return None;
-        }
-        page.instruction((at >> 2) as usize % PAGE_WORDS)
+        self.page_at(place)?.find(at)
     }
 
     // Makes the index reach to a page.

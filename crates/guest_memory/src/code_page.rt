@@ -1,8 +1,11 @@
 //! The code of one page of the guest, decoded.
-ghost use Rattle.std.specs.Prelude.{◌≡◌, ◌<◌, ◌≤◌, ℕ, List, Option, None, Some, get_or, length, replicate, slice_set, IfOk};
+ghost use Rattle.std.specs.Prelude.{◌≡◌, ◌<◌, ◌≤◌, ◌%◌, ℕ, List, Option, None, Some, length, replicate, slice_set, IfOk, IfSome};
+ghost use Rattle.guest_memory.specs.Code.{IsCodeOf, IsInstructionAt};
+ghost use Rattle.guest_memory.specs.Memory.{Memory};
 ghost use Rattle.guest_memory.specs.Private.CodePages.{AreForgotten};
 ghost use Rattle.rv_isa.specs.declared.instruction.Instr.{Instr};
 
+use guest_words::Addr;
 use rv_isa::Instr;
 use std::alloc::{AllocError, Global};
 use std::marker::Model;
@@ -30,7 +33,7 @@ impl Model for CodePage {
 
 impl CodePage {
     /// No instruction of the page is known.
-    pub fn new(alloc: Global, number: u32) -> Result<CodePage, AllocError>
+    pub(crate) fn new(alloc: Global, number: u32) -> Result<CodePage, AllocError>
         ensures { IfOk result (λ p. p ≡ (number, replicate 1024 None)) }
     {
         let mut instructions = Vec::new(alloc);
@@ -42,23 +45,26 @@ impl CodePage {
     }
 
     /// The page's number.
-    pub fn number(&self) -> u32
+    pub(crate) fn number(&self) -> u32
         ensures { result ≡ self.now.0 }
     {
         self.number
     }
 
-    /// The instruction of a word, where it is known.
+    /// The instruction at an address, where it lies in the page and is known.
     #[inline(always)]
-    pub fn instruction(&self, word: usize) -> Option<Instr>
-        requires { word < 1024 }
-        ensures { result ≡ get_or self.now.1 word None }
+    pub fn find(&self, at: Addr) -> Option<Instr>
+        requires { at % 4 ≡ 0 }
+        ensures { (m : Memory) → IsCodeOf m self.now → IfSome result (IsInstructionAt m at) }
     {
-        self.instructions[word]
+        if self.number != at >> 12 {
+            return None;
+        }
+        self.instructions[(at >> 2) as usize % PAGE_WORDS]
     }
 
     /// Caches the instruction of a word.
-    pub fn learn(&mut self, word: usize, instruction: Instr)
+    pub(crate) fn learn(&mut self, word: usize, instruction: Instr)
         requires { word < 1024 }
         ensures page { self.new ≡ (self.old.0, slice_set self.old.1 word (Some instruction)) }
         ensures whole { length self.old.1 ≡ 1024 }
@@ -69,7 +75,7 @@ impl CodePage {
     /// Forgets the words from the first up to the end.
     #[cold]
     #[inline(never)]
-    pub fn forget(&mut self, first: usize, end: usize)
+    pub(crate) fn forget(&mut self, first: usize, end: usize)
         requires order { first ≤ end }
         requires inside { end ≤ 1024 }
         ensures number { self.new.0 ≡ self.old.0 }

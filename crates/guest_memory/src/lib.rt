@@ -15,6 +15,7 @@ mod refusal;
 mod reservations;
 mod size;
 
+pub use code_page::CodePage;
 pub use memory::GuestMemory;
 pub use refusal::MemError;
 pub use reservations::Reservations;

@@ -6,12 +6,13 @@ ghost use Rattle.std.specs.Int.{to_le_bytes, w32};
 ghost use Rattle.std.specs.Option.{is_none};
 ghost use Rattle.guest_memory.specs.Memory.{IsFreeRange, AreFree, AreMapped, ArePagesMapped, MapEnds, no_memory, with_pages, with_rights, byte_count, bytes_at, first_refusal, loaded, mapped_pages, unless_refused, with_bytes};
 ghost use Rattle.guest_memory.specs.State.{memory_in};
-ghost use Rattle.guest_memory.specs.Code.{HoldsCode, IsInstructionAt};
+ghost use Rattle.guest_memory.specs.Code.{HoldsCode, IsCodeOf, IsInstructionAt};
 ghost use Rattle.guest_memory.specs.declared.refusal.Permission.TheVariants as permission;
 ghost use Rattle.guest_words.specs.declared.limits.TheConstants.{PAGES};
 
 use crate::Size;
 use crate::code_cache::CodeCache;
+use crate::code_page::CodePage;
 use crate::directory::{Directory, PAGE_SIZE};
 use crate::page_ranges::zero_pages;
 use crate::refusal::{MemError, Permission};
@@ -171,10 +172,19 @@ impl GuestMemory {
             .loaded(Permission::Execute, u64::from(at), Size::Four)
     }
 
-    /// Where the code of an address's page is kept, for `known_instruction`. It may be somewhere else after the memory changed.
+    /// Where the code of an address's page is kept, for `code_page` and `known_instruction`. It may be somewhere else after
+    /// the memory changed.
     #[inline(always)]
     pub fn code_place(&self, at: Addr) -> usize {
         self.code.place_of(at)
+    }
+
+    /// The decoded code of a page, which is kept at this place (`code_place`).
+    #[inline(always)]
+    pub fn code_page(&self, place: usize) -> Option<&CodePage>
+        ensures { IfSome result (λ page. IsCodeOf (memory_of self.now) page.now) }
+    {
+        self.code.page_at(place)
     }
 
     /// The instruction at an address, where it is known, its word can be fetched, and the code of its page is at this place.

@@ -56,14 +56,19 @@ impl Reservations {
     pub fn written(&mut self, by: Option<Tid>, first: Word, count: u32)
         ensures { reserved_by self.new ≡ after_write (reserved_by self.old) by first count }
     {
-        self.invalidate(Invalidation::OnWords(by, first, count));
+        // most writes find no reservation
+        if self.count > 0 {
+            self.invalidate(Invalidation::OnWords(by, first, count));
+        }
     }
 
     /// Drops the thread's reservation, if it has one.
     pub fn forget(&mut self, tid: Tid)
         ensures { reserved_by self.new ≡ without_thread (reserved_by self.old) tid }
     {
-        self.invalidate(Invalidation::OfThread(tid));
+        if self.count > 0 {
+            self.invalidate(Invalidation::OfThread(tid));
+        }
     }
 
     // Drops the reservations that are invalidated.
@@ -73,9 +78,7 @@ impl Reservations {
             ≡ filter (λ h. not (is_invalidated invalidation h))
             (take self.old.count self.old.holders) }
     {
-        if self.count > 0 {
-            self.count = retain_valid(&mut self.holders[..self.count], &invalidation);
-        }
+        self.count = retain_valid(&mut self.holders[..self.count], &invalidation);
     }
 }
 
