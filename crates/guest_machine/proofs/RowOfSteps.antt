@@ -1,5 +1,5 @@
 -- Steps of a thread in a row, one more at a time.
-use Rattle.std.proofs.Common.{◌≡◌, ℕ, ◌+◌, ◌<◌, ◌≤◌, Bool, List, [], ◌∷◌, ◌++◌, Result, Ok, Err, IfOk, refl, sym, ap, subst, ◌∙◌, arith, append-nil}
+use Rattle.std.proofs.Common.{◌≡◌, ℕ, ◌+◌, ◌<◌, Bool, List, ◌++◌, Option, None, Some, Result, Ok, Err, IfOk, IfSome, IfNone, refl, sym, subst, arith, append-nil}
 use Rattle.std.specs.declared.alloc.AllocError.{AllocError}
 use Rattle.rv_exec.specs.Effects.{ExecState}
 use Rattle.trace_model.specs.declared.event_kinds.Event.{Event}
@@ -11,9 +11,9 @@ use Rattle.guest_machine.specs.declared.stepped.Advanced.{Advanced}
 use Rattle.guest_machine.specs.declared.stepped.Advanced.TheVariants.{Ran}
 use Rattle.guest_machine.specs.Machine.{MachineState}
 use Rattle.guest_machine.specs.Private.Carrying.{GoesWith, IsStateOf, IsStepOf}
-use Rattle.guest_machine.specs.Private.Rows.{HasEnded, HasMade, HasRun, Runs, handed}
+use Rattle.guest_machine.specs.Private.Rows.{HasMade, HasRun, IsNext, Runs, handed}
 use Rattle.guest_machine.specs.Running.{after_steps}
-use Rattle.guest_machine.specs.Told.{done_by, steps_of}
+use Rattle.guest_machine.specs.Told.{IsInstruction, done_by, steps_of}
 use Rattle.guest_machine.proofs.Carried.{goes_none, goes_plainly, goes_then, may_take_then, observes_last, observes_more}
 
 module _ {O : Type 0} (Stands : O → List Event → Type 0) (fits : List Event → Bool) (fit : StepsFit fits) (tid : ℕ) (first : ExecState) (old : O) (most : ℕ)
@@ -106,3 +106,9 @@ handed_whole row new is low = subst (λ (r : StepRow). r.told + r.left ≡ row.t
 
 pub handed_grows : (row new : StepRow) → new ≡ handed row → row.told + row.plain < new.told + new.plain
 handed_grows row new is = subst (λ (r : StepRow). row.told + row.plain < r.told + r.plain) (sym is) (omega arith)
+
+-- what carrying out the next instruction says of it
+pub is_next : (here new : ExecState) (tid : ℕ) (next : Option Advanced) → IfSome next (IsStepOf here new tid) → IfNone next (new ≡ here) → IfSome next IsInstruction
+    → IsNext here new tid next
+is_next here new tid None step kept is = kept
+is_next here new tid (Some advanced) step kept is = (step, is)

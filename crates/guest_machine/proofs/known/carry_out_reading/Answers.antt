@@ -11,7 +11,6 @@ use Rattle.call_tracker.specs.Links.{kind_of}
 use Rattle.guest_machine.specs.Step.{access_events, instruction_at, jump_events}
 use Rattle.guest_machine.specs.Told.{done_by}
 use Rattle.guest_machine.specs.Private.Carrying.{IsReadingOf}
-use Rattle.guest_machine.specs.declared.known.Reading.{Reading}
 use Rattle.guest_machine.proofs.Carried.{known_is, state_kept, steps_to}
 use Rattle.guest_machine.proofs.Told.{is_alone, told_done}
 use Rattle.guest_machine.proofs.known.carry_out_reading.Goals as goal

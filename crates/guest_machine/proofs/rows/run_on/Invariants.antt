@@ -1,4 +1,4 @@
-use Rattle.std.proofs.Common.{◌≡◌, ◌+◌, ◌-◌, ◌≤◌}
+use Rattle.std.proofs.Common.{◌≡◌, ◌-◌}
 use Rattle.rv_exec.specs.Effects.{exec_state_of}
 use Rattle.guest_machine.specs.Private.Rows.{HasRun}
 use Rattle.guest_machine.proofs.rows.run_on.Given as goal

@@ -1,20 +1,14 @@
-use Rattle.std.proofs.Common.{◌≡◌, ◌+◌, ◌%◌, ◌<◌, ◌≤◌, ◌++◌, Option, Some, None, Result, Ok, Err, IfOk, IfSome, IfNone, OnErr, refl, sym, ap, subst, ◌∙◌, arith}
+use Rattle.std.proofs.Common.{◌≡◌, ◌+◌, ◌%◌, ◌++◌, Ok, Err, IfOk, sym, ap, subst, ◌∙◌, arith}
 use Rattle.rv_exec.specs.Effects.{ExecState, exec_state_of}
 use Rattle.rv_exec.specs.Registers.{Registers}
 use Rattle.trace_model.specs.declared.observer.Observed.{Observed}
 use Rattle.trace_model.specs.declared.observer.Observed.TheVariants.{Refused, Taken}
 use Rattle.trace_model.specs.Observing.{MayTakeAll, ObservesAll}
-use Rattle.guest_machine.specs.declared.known.Reading.{Reading}
-use Rattle.guest_machine.specs.declared.rows.Paused.{Paused}
-use Rattle.guest_machine.specs.declared.rows.StepRow.{StepRow}
-use Rattle.guest_machine.specs.declared.stepped.Advanced.{Advanced}
-use Rattle.guest_machine.specs.Machine.{MachineState}
-use Rattle.guest_machine.specs.Private.Carrying.{Carries, IsReadingOf, IsStateOf, IsStepOf}
-use Rattle.guest_machine.specs.Private.Rows.{Counts, HasRun, IsNext, IsPaused, MayRun, RunsOn, Runs, answer_of, further_of}
-use Rattle.guest_machine.specs.Running.{after_steps}
+use Rattle.guest_machine.specs.Private.Carrying.{IsReadingOf, IsStepOf}
+use Rattle.guest_machine.specs.Private.Rows.{HasRun}
 use Rattle.guest_machine.specs.Told.{IsInstruction, done_by, steps_of}
-use Rattle.guest_machine.proofs.Carried.{carries_none, goes_none, state_aligned}
-use Rattle.guest_machine.proofs.RowOfSteps.{handed_grows, handed_whole, may_hand, made_so_far, runs_plainly, runs_to, state_here}
+use Rattle.guest_machine.proofs.Carried.{state_aligned}
+use Rattle.guest_machine.proofs.RowOfSteps.{handed_grows, handed_whole, may_hand, runs_plainly, runs_to, state_here}
 use Rattle.guest_machine.proofs.rows.run_page.Goals as goal
 
 pub find-requires : goal.find-requires
