@@ -15,3 +15,4 @@ pub mod AllWoken
 pub mod Ranges
 pub mod Handed
 pub mod Carried
+pub mod RowOfSteps

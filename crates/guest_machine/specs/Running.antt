@@ -5,7 +5,7 @@ use Rattle.trace_model.specs.declared.observer.Observed.{Observed}
 use Rattle.trace_model.specs.declared.observer.Observed.TheVariants.{Taken, Refused}
 use Rattle.trace_model.specs.Cut.{cut, past_after}
 use Rattle.trace_model.specs.WellFormed.{IsWellFormed}
-use Rattle.guest_machine.specs.declared.known.KnownSteps.{KnownSteps}
+use Rattle.guest_machine.specs.declared.rows.KnownSteps.{KnownSteps}
 use Rattle.guest_machine.specs.declared.stepped.Stepped.TheVariants.{Went}
 use Rattle.guest_machine.specs.Kept.{Parts, machine_of, out_of}
 use Rattle.guest_machine.specs.Machine.{MachineState}

@@ -14,7 +14,7 @@ ghost use Rattle.trace_model.specs.declared.event_kinds.Event.{Event};
 
 use crate::answers::apply_answer;
 use crate::hart::{cpu_of, execute_for};
-use crate::known::run_on;
+use crate::rows::run_on;
 use crate::step_events::{add_jump, add_step};
 use crate::telling::told;
 use crate::{Advanced, KnownSteps, Stepped};

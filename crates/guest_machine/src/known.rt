@@ -1,29 +1,19 @@
-//! Steps of one thread in a row, while their instructions are known.
-ghost use Rattle.std.specs.Prelude.{◌≡◌, ◌≤◌, ◌%◌, IfOk, IfSome, IfNone, OnErr, OnOk};
+//! The instruction that comes next, where it is known, and what it does.
+ghost use Rattle.std.specs.Prelude.{◌≡◌, ◌%◌, IfOk, IfSome, IfNone, OnErr};
 ghost use Rattle.guest_memory.specs.Code.{IsInstructionAt};
 ghost use Rattle.guest_memory.specs.Guest.{memory_of};
 ghost use Rattle.rv_exec.specs.Effects.{exec_state_of};
-ghost use Rattle.trace_model.specs.declared.observer.Observed.TheVariants.{Taken};
-ghost use Rattle.trace_model.specs.Observing.{MayTakeAll, ObservesAll};
-ghost use Rattle.guest_machine.specs.Private.Carrying.{Carries, IsStateOf, IsStepOf, MayCarry, ObservesFrom};
+ghost use Rattle.guest_machine.specs.Private.Carrying.{IsReadingOf, IsStateOf, IsStepOf};
 ghost use Rattle.guest_machine.specs.Machine.{MachineState};
-ghost use Rattle.guest_machine.specs.Told.{IsInstruction, steps_of};
+ghost use Rattle.guest_machine.specs.Told.{IsInstruction};
 
 use crate::Advanced;
-use crate::telling::{observe_told, told};
+use crate::telling::told;
 use guest_memory::{GuestMemory, Reservations};
 use guest_words::{Addr, Tid};
-use rv_exec::{Cpu, Outcome, execute};
+use rv_exec::{Cpu, Outcome, execute, execute_reading};
 use rv_isa::Instr;
 use std::alloc::AllocError;
-use trace_model::{Observed, Observer};
-
-/// Steps of a thread that were made in a row: how many, and whether the observer took the events of the last.
-#[derive(Clone, Copy, Debug, PartialEq, Eq)]
-pub struct KnownSteps {
-    pub count: u64,
-    pub observed: Observed,
-}
 
 // The instruction at an address, where there is one whose word can be fetched. The place is where the code of its page is looked
 // for first, and then where it is.
@@ -80,7 +70,7 @@ fn learned_instruction(
 
 // Carries out the instruction that comes next, where it is no ECALL and does not fault; else nothing changes.
 #[inline(always)]
-fn carry_out(
+pub(crate) fn carry_out(
     cpu: &mut Cpu,
     memory: &mut GuestMemory,
     held: &mut Reservations,
@@ -103,9 +93,44 @@ fn carry_out(
     }
 }
 
-// Carries out the instruction that comes next, which is looked for first at a place of code.
+// What became of an instruction if it can't write.
+pub(crate) enum Reading {
+    Went { advanced: Advanced },
+    // It may write.
+    Writes,
+    // It can't go on.
+    Stops,
+}
+
+// Carries out the instruction that comes next, if it can't write and can go on; else nothing changes.
 #[inline(always)]
-fn carry_out_next(
+pub(crate) fn carry_out_reading(
+    cpu: &mut Cpu,
+    memory: &GuestMemory,
+    held: &Reservations,
+    tid: Tid,
+    instruction: &Instr,
+) -> Reading
+    requires { IsInstructionAt (memory_of memory.now) cpu.old.pc instruction.now }
+    ensures { IsReadingOf (exec_state_of cpu.old memory.now held.now)
+        (exec_state_of cpu.new memory.now held.now) tid result }
+{
+    let _ = held;
+    let _ = tid;
+    let pc = cpu.pc;
+    match execute_reading(cpu, memory, *instruction) {
+        Some(Outcome::Went { access }) => Reading::Went {
+            advanced: told(instruction, access, cpu.pc, pc.wrapping_add(4)),
+        },
+        Some(Outcome::Fault { .. }) => Reading::Stops,
+        Some(Outcome::Syscall) => Reading::Stops,
+        None => Reading::Writes,
+    }
+}
+
+// Carries out the instruction that comes next, which is looked for first at a place of code.
+#[inline(never)]
+pub(crate) fn carry_out_next(
     cpu: &mut Cpu,
     memory: &mut GuestMemory,
     held: &mut Reservations,
@@ -126,67 +151,4 @@ fn carry_out_next(
         Some(instruction) => Ok(carry_out(cpu, memory, held, tid, instruction)),
         None => Ok(None),
     }
-}
-
-/// Makes at most `most` steps of a thread, whose registers these are, while their instructions are known or can be learned and
-/// the observer takes their events. It says how many were made, and what became of the events of the last. The time is left to
-/// the caller.
-pub(crate) fn run_on<W: Observer>(
-    cpu: &mut Cpu,
-    memory: &mut GuestMemory,
-    held: &mut Reservations,
-    tid: Tid,
-    most: u64,
-    observer: &mut W,
-) -> (u64, Result<Observed, AllocError>)
-    requires { MayCarry W.stands (W.fits observer.old) observer.old
-        (exec_state_of cpu.old memory.old held.old) tid most }
-    ensures carried { (m : MachineState) → IsStateOf (exec_state_of cpu.old memory.old held.old) tid m
-        → Carries m tid (exec_state_of cpu.new memory.new held.new) result.0 }
-    ensures observed { IfOk result.1 (ObservesFrom W.stands (W.fits observer.old)
-        (exec_state_of cpu.old memory.old held.old) tid observer.old observer.new result.0) }
-    ensures most { result.0 ≤ most }
-    ensures same { W.fits observer.new ≡ W.fits observer.old }
-{
-    let mut place = 0;
-    let mut count = 0; // steps that the observer has
-    let mut plain = 0; // steps behind them that did nothing beside
-    'steps: while count + plain < most {
-        let advanced = match carry_out_next(cpu, memory, held, tid, &mut place) {
-            Ok(Some(advanced)) => advanced,
-            Ok(None) => return (count + plain, observe_plain(tid, plain, observer)),
-            Err(e) => return (count + plain, Err(e)),
-        };
-        match advanced {
-            Advanced::Ran => plain += 1,
-            acted => {
-                count += plain + 1;
-                match observe_told(tid, plain + 1, acted, observer) {
-                    Ok(Observed::Taken) => plain = 0,
-                    Ok(Observed::Refused) => return (count, Ok(Observed::Refused)),
-                    Err(e) => return (count, Err(e)),
-                }
-            }
-        }
-    }
-    (count + plain, observe_plain(tid, plain, observer))
-}
-
-// Hands out `steps` steps of a thread, which may be none.
-#[inline(never)]
-fn observe_plain<W: Observer>(
-    tid: Tid,
-    steps: u64,
-    observer: &mut W,
-) -> Result<Observed, AllocError>
-    requires { 1 ≤ steps → MayTakeAll W.stands (W.fits observer.old) observer.old (steps_of tid steps) }
-    ensures taken { IfOk result (λ observed. observed ≡ Taken) }
-    ensures observed { OnOk result (ObservesAll W.stands (W.fits observer.old)
-        (steps_of tid steps) observer.old observer.new Taken) }
-    ensures same { W.fits observer.new ≡ W.fits observer.old }
-{
-    if steps > 0 {
-        observer.observe_steps(tid, steps)?;
-    }
-    Ok(Observed::Taken)
 }

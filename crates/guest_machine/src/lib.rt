@@ -13,6 +13,7 @@ mod image_pages;
 mod known;
 mod laws;
 mod machine;
+mod rows;
 mod setup;
 mod stack;
 mod start_memory;
@@ -21,11 +22,11 @@ mod stepped;
 mod telling;
 mod waking;
 
-pub use known::KnownSteps;
 pub use laws::{
     every_step_is_in_range, every_step_is_short, every_step_is_traced, every_waking_ends,
 };
 pub use machine::Machine;
+pub use rows::KnownSteps;
 pub use setup::SetupError;
 pub use stepped::{Advanced, Stepped};
 pub use telling::observe_told;

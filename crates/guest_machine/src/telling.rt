@@ -1,6 +1,6 @@
 //! What is told of an instruction that went, and how an observer is told.
 ghost use Rattle.std.specs.Prelude.{◌≡◌, ◌≤◌, ◌++◌, ◌∷◌, [], ℕ, List, None, IfOk};
-ghost use Rattle.trace_model.specs.declared.event_kinds.Event.TheVariants.{Step};
+ghost use Rattle.trace_model.specs.declared.event_kinds.Event.TheVariants.{Call, Read, Ret, Step, Write};
 ghost use Rattle.trace_model.specs.EventList.{EventList};
 ghost use Rattle.trace_model.specs.Observing.{MayTakeAll, ObservesAll};
 ghost use Rattle.call_tracker.specs.Links.{kind_of};
@@ -11,7 +11,7 @@ ghost use Rattle.guest_machine.specs.Told.{IsAlone, IsInstruction, IsQuiet, done
 
 use crate::Advanced;
 use call_tracker::{JumpKind, kind};
-use guest_words::{Addr, Tid};
+use guest_words::{Addr, Tid, Word};
 use rv_exec::Access;
 use rv_isa::Instr;
 use std::alloc::AllocError;
@@ -125,9 +125,8 @@ fn hand_jump<W: Observer>(
     }
 }
 
-// Hands out `steps` steps of a thread, and the accesses of the last. It stands apart, as the next does, since the code of the
-// loop over known instructions is then short enough to be inlined.
-#[inline(never)]
+// Hands out `steps` steps of a thread, and the accesses of the last.
+#[inline(always)]
 fn observe_access<W: Observer>(
     tid: Tid,
     steps: u64,
@@ -146,7 +145,7 @@ fn observe_access<W: Observer>(
 }
 
 // Hands out `steps` steps of a thread, and the calls and the returns of the last.
-#[inline(never)]
+#[inline(always)]
 fn observe_jump<W: Observer>(
     tid: Tid,
     steps: u64,
@@ -164,6 +163,167 @@ fn observe_jump<W: Observer>(
 {
     observer.observe_steps(tid, steps)?;
     hand_jump(tid, jump, target, back, observer)
+}
+
+// Hands out `steps` steps of a thread, and the words that the last read. Each kind of event has a function of its own, which
+// stands apart: the code of the loop over known instructions is then short enough to be inlined.
+#[inline(never)]
+fn observe_read<W: Observer>(
+    tid: Tid,
+    steps: u64,
+    first: Word,
+    count: u32,
+    observer: &mut W,
+) -> Result<Observed, AllocError>
+    requires some { 1 ≤ steps }
+    requires next { MayTakeAll W.stands (W.fits observer.old) observer.old
+        (steps_of tid steps ++ Read tid first count ∷ []) }
+    ensures observed { IfOk result (ObservesAll W.stands (W.fits observer.old)
+        (steps_of tid steps ++ Read tid first count ∷ []) observer.old observer.new) }
+    ensures same { W.fits observer.new ≡ W.fits observer.old }
+{
+    observe_access(tid, steps, Access::Read { first, count }, observer)
+}
+
+// Hands out `steps` steps of a thread, and the words that the last wrote.
+#[inline(never)]
+fn observe_write<W: Observer>(
+    tid: Tid,
+    steps: u64,
+    first: Word,
+    count: u32,
+    observer: &mut W,
+) -> Result<Observed, AllocError>
+    requires some { 1 ≤ steps }
+    requires next { MayTakeAll W.stands (W.fits observer.old) observer.old
+        (steps_of tid steps ++ Write tid first count ∷ []) }
+    ensures observed { IfOk result (ObservesAll W.stands (W.fits observer.old)
+        (steps_of tid steps ++ Write tid first count ∷ []) observer.old observer.new) }
+    ensures same { W.fits observer.new ≡ W.fits observer.old }
+{
+    observe_access(tid, steps, Access::Write { first, count }, observer)
+}
+
+// Hands out `steps` steps of a thread, and the word that the last read and then wrote.
+#[inline(never)]
+fn observe_both<W: Observer>(
+    tid: Tid,
+    steps: u64,
+    word: Word,
+    observer: &mut W,
+) -> Result<Observed, AllocError>
+    requires some { 1 ≤ steps }
+    requires next { MayTakeAll W.stands (W.fits observer.old) observer.old
+        (steps_of tid steps ++ Read tid word 1 ∷ Write tid word 1 ∷ []) }
+    ensures observed { IfOk result (ObservesAll W.stands (W.fits observer.old)
+        (steps_of tid steps ++ Read tid word 1 ∷ Write tid word 1 ∷ []) observer.old observer.new) }
+    ensures same { W.fits observer.new ≡ W.fits observer.old }
+{
+    observe_access(tid, steps, Access::Both { word }, observer)
+}
+
+// Hands out `steps` steps of a thread, and the call of the last.
+#[inline(never)]
+fn observe_call<W: Observer>(
+    tid: Tid,
+    steps: u64,
+    entry: Addr,
+    back: Addr,
+    observer: &mut W,
+) -> Result<Observed, AllocError>
+    requires some { 1 ≤ steps }
+    requires next { MayTakeAll W.stands (W.fits observer.old) observer.old
+        (steps_of tid steps ++ Call tid entry back ∷ []) }
+    ensures observed { IfOk result (ObservesAll W.stands (W.fits observer.old)
+        (steps_of tid steps ++ Call tid entry back ∷ []) observer.old observer.new) }
+    ensures same { W.fits observer.new ≡ W.fits observer.old }
+{
+    observe_jump(tid, steps, JumpKind::Push, entry, back, observer)
+}
+
+// Hands out `steps` steps of a thread, and the return of the last.
+#[inline(never)]
+fn observe_return<W: Observer>(
+    tid: Tid,
+    steps: u64,
+    target: Addr,
+    observer: &mut W,
+) -> Result<Observed, AllocError>
+    requires some { 1 ≤ steps }
+    requires next { MayTakeAll W.stands (W.fits observer.old) observer.old
+        (steps_of tid steps ++ Ret tid target ∷ []) }
+    ensures observed { IfOk result (ObservesAll W.stands (W.fits observer.old)
+        (steps_of tid steps ++ Ret tid target ∷ []) observer.old observer.new) }
+    ensures same { W.fits observer.new ≡ W.fits observer.old }
+{
+    observe_jump(tid, steps, JumpKind::Pop, target, 0, observer)
+}
+
+// Hands out `steps` steps of a thread, and the return of the last, which is a call too.
+#[inline(never)]
+fn observe_swap<W: Observer>(
+    tid: Tid,
+    steps: u64,
+    target: Addr,
+    back: Addr,
+    observer: &mut W,
+) -> Result<Observed, AllocError>
+    requires some { 1 ≤ steps }
+    requires next { MayTakeAll W.stands (W.fits observer.old) observer.old
+        (steps_of tid steps ++ Ret tid target ∷ Call tid target back ∷ []) }
+    ensures observed { IfOk result (ObservesAll W.stands (W.fits observer.old)
+        (steps_of tid steps ++ Ret tid target ∷ Call tid target back ∷ []) observer.old observer.new) }
+    ensures same { W.fits observer.new ≡ W.fits observer.old }
+{
+    observe_jump(tid, steps, JumpKind::PopPush, target, back, observer)
+}
+
+// Hands out `steps` steps of a thread, and the accesses of the last, each kind by its own function.
+#[inline(always)]
+fn tell_access<W: Observer>(
+    tid: Tid,
+    steps: u64,
+    access: Access,
+    observer: &mut W,
+) -> Result<Observed, AllocError>
+    requires some { 1 ≤ steps }
+    requires next { MayTakeAll W.stands (W.fits observer.old) observer.old
+        (steps_of tid steps ++ access_events tid access) }
+    ensures observed { IfOk result (ObservesAll W.stands (W.fits observer.old)
+        (steps_of tid steps ++ access_events tid access) observer.old observer.new) }
+    ensures same { W.fits observer.new ≡ W.fits observer.old }
+{
+    match access {
+        Access::Nothing => observe_access(tid, steps, Access::Nothing, observer),
+        Access::Read { first, count } => observe_read(tid, steps, first, count, observer),
+        Access::Write { first, count } => observe_write(tid, steps, first, count, observer),
+        Access::Both { word } => observe_both(tid, steps, word, observer),
+    }
+}
+
+// Hands out `steps` steps of a thread, and the calls and the returns of the last, each kind by its own function.
+#[inline(always)]
+fn tell_jump<W: Observer>(
+    tid: Tid,
+    steps: u64,
+    jump: JumpKind,
+    target: Addr,
+    back: Addr,
+    observer: &mut W,
+) -> Result<Observed, AllocError>
+    requires some { 1 ≤ steps }
+    requires next { MayTakeAll W.stands (W.fits observer.old) observer.old
+        (steps_of tid steps ++ jump_events jump tid target back) }
+    ensures observed { IfOk result (ObservesAll W.stands (W.fits observer.old)
+        (steps_of tid steps ++ jump_events jump tid target back) observer.old observer.new) }
+    ensures same { W.fits observer.new ≡ W.fits observer.old }
+{
+    match jump {
+        JumpKind::Nothing => observe_access(tid, steps, Access::Nothing, observer),
+        JumpKind::Push => observe_call(tid, steps, target, back, observer),
+        JumpKind::Pop => observe_return(tid, steps, target, observer),
+        JumpKind::PopPush => observe_swap(tid, steps, target, back, observer),
+    }
 }
 
 /// Hands out `steps` steps of a thread that ran instructions, and then what the last of them did besides.
@@ -184,9 +344,9 @@ pub fn observe_told<W: Observer>(
 {
     match advanced {
         Advanced::Ran => observe_access(tid, steps, Access::Nothing, observer),
-        Advanced::Accessed { access } => observe_access(tid, steps, access, observer),
+        Advanced::Accessed { access } => tell_access(tid, steps, access, observer),
         Advanced::Jumped { jump, target, back } => {
-            observe_jump(tid, steps, jump, target, back, observer)
+            tell_jump(tid, steps, jump, target, back, observer)
         }
         Advanced::Other { .. } => unreachable!(),
     }

@@ -5,12 +5,14 @@ use Rattle.trace_model.specs.declared.event_kinds.Event.{Event}
 use Rattle.trace_model.specs.declared.event_kinds.Event.TheVariants.{Step}
 use Rattle.trace_model.specs.declared.observer.Observed.{Observed}
 use Rattle.guest_kernel.specs.Kernel.{later_by}
+use Rattle.guest_machine.specs.declared.known.Reading.{Reading}
+use Rattle.guest_machine.specs.declared.known.Reading.TheVariants as reading
 use Rattle.guest_machine.specs.declared.stepped.Advanced.{Advanced}
 use Rattle.guest_machine.specs.declared.stepped.Stepped.TheVariants.{Went}
 use Rattle.guest_machine.specs.Machine.{MachineState, can_run, later}
 use Rattle.guest_machine.specs.Running.{AllGoOn, MayTakeSteps, ObservesSteps, after_steps, events_of_steps}
 use Rattle.guest_machine.specs.Sound.{IsSoundMachine}
-use Rattle.guest_machine.specs.Told.{done_by}
+use Rattle.guest_machine.specs.Told.{IsInstruction, done_by}
 use Rattle.guest_machine.specs.Step.{StepResult, exec_state_of, step, with_exec_state}
 
 -- It is what a thread of a sound machine, which can run, works on.
@@ -35,6 +37,11 @@ pub record StepsTo (m : MachineState) (tid : ℕ) (c : ExecState) (events : List
 -- On whatever machine the thread works on the old state, its step is an instruction that went, did this and left the new one.
 abbrev pub IsStepOf : ExecState → ExecState → ℕ → Advanced → Type 0
 IsStepOf old new tid advanced = (m : MachineState) → IsStateOf old tid m → StepsTo m tid new (Step tid ∷ done_by tid advanced)
+
+-- What it means that an instruction that can't write went; where it may write or can't go on, nothing changed.
+abbrev pub IsReadingOf : ExecState → ExecState → ℕ → Reading → Type 0
+IsReadingOf old new tid (reading.Went advanced) = IsStepOf old new tid advanced × IsInstruction advanced
+IsReadingOf old new tid other = new ≡ old
 
 -- `count` steps left this state, after each of which the thread goes on.
 pub record Carries (m : MachineState) (tid : ℕ) (c : ExecState) (count : ℕ) : Type 0 where

@@ -3,7 +3,7 @@ use Rattle.trace_model.specs.declared.observer.Observed.TheVariants.{Taken}
 use Rattle.trace_model.specs.Observing.{MayTakeAll, ObservesAll}
 use Rattle.guest_machine.specs.Told.{steps_of}
 use Rattle.guest_machine.proofs.Handed.{may_step, observes_nothing, observes_on}
-use Rattle.guest_machine.proofs.known.observe_plain.Goals as goal
+use Rattle.guest_machine.proofs.rows.observe_plain.Goals as goal
 
 pub observe_steps-requires-clause-may : goal.observe_steps-requires-clause-may
 observe_steps-requires-clause-may g c =

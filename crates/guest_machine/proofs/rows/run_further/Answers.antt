@@ -1,0 +1,167 @@
+use Rattle.std.proofs.Common.{◌≡◌, ◌≤◌, Ok, IfOk, OnErr, sym, ap, subst, ◌∙◌, arith}
+use Rattle.guest_memory.specs.Guest.{memory_of}
+use Rattle.rv_exec.specs.Effects.{exec_state_of}
+use Rattle.guest_machine.specs.declared.rows.Paused.{Paused}
+use Rattle.guest_machine.specs.Private.Rows.{Counts, HasMade, IsPaused, MayCount, RunsOn, answer_of, further_of}
+use Rattle.guest_machine.proofs.RowOfSteps.{is_next, made_so_far, state_here}
+use Rattle.guest_machine.proofs.rows.run_further.Goals as goal
+
+pub carry_out-next-requires-clause-state : goal.carry_out-next-requires-clause-state
+carry_out-next-requires-clause-state g c =
+    let old = c.args.observer.now in
+    let tid = c.args.tid in
+    let begun = exec_state_of c.args.cpu.now c.args.memory.now c.args.held.now in
+    let here = exec_state_of c.run_page_at.new.cpu c.args.memory.now c.args.held.now in
+    let page = c.in-Ok-Before.is ∙ ap (λ (p : Paused). Ok p) c.in-Ok-Before.field-0-is in
+    let goes = subst (λ r. RunsOn g.W.Observer.stands (g.W.Observer.fits old) tid c.args.row.now begun old c.run_page_at.new.row here c.run_page_at.new.observer (answer_of r)) page c.run_page_at.ensures.runs in
+    let r = c.requires.run in
+    let run = goes r.first r.old r.most r.run in
+    (_, state_here g.W.Observer.stands (g.W.Observer.fits old) (g.W.Observer.steps_fit old) tid r.first r.old r.most c.run_page_at.new.row here c.run_page_at.new.observer run)
+
+pub count_next-requires-clause-step : goal.count_next-requires-clause-step
+count_next-requires-clause-step g c =
+    let old = c.args.observer.now in
+    let tid = c.args.tid in
+    let begun = exec_state_of c.args.cpu.now c.args.memory.now c.args.held.now in
+    let here = exec_state_of c.run_page_at.new.cpu c.args.memory.now c.args.held.now in
+    let page = c.in-Ok-Before.is ∙ ap (λ (p : Paused). Ok p) c.in-Ok-Before.field-0-is in
+    let goes = subst (λ r. RunsOn g.W.Observer.stands (g.W.Observer.fits old) tid c.args.row.now begun old c.run_page_at.new.row here c.run_page_at.new.observer (answer_of r)) page c.run_page_at.ensures.runs in
+    let r = c.requires.run in
+    let there = exec_state_of c.carry_out-next.new.cpu c.carry_out-next.new.memory c.carry_out-next.new.held in
+    subst (λ fits. MayCount g.W.Observer.stands fits tid c.run_page_at.new.row c.carry_out-next.result c.run_page_at.new.observer) (sym c.run_page_at.ensures.same)
+    (record {
+      here = here;
+      there = there;
+      run = record { first = r.first; old = r.old; most = r.most; run = goes r.first r.old r.most r.run };
+      step = is_next here there tid c.carry_out-next.result c.carry_out-next.ensures.step c.carry_out-next.ensures.kept c.carry_out-next.ensures.instruction;
+    })
+
+pub count_next-requires-clause-fits : goal.count_next-requires-clause-fits
+count_next-requires-clause-fits g c =
+    let old = c.args.observer.now in
+    let tid = c.args.tid in
+    let begun = exec_state_of c.args.cpu.now c.args.memory.now c.args.held.now in
+    let here = exec_state_of c.run_page_at.new.cpu c.args.memory.now c.args.held.now in
+    let page = c.in-Ok-Before.is ∙ ap (λ (p : Paused). Ok p) c.in-Ok-Before.field-0-is in
+    let goes = subst (λ r. RunsOn g.W.Observer.stands (g.W.Observer.fits old) tid c.args.row.now begun old c.run_page_at.new.row here c.run_page_at.new.observer (answer_of r)) page c.run_page_at.ensures.runs in
+    let r = c.requires.run in
+    let run = goes r.first r.old r.most r.run in
+    omega (arith, run.room, r.run.room, c.requires.fits)
+
+pub carry_out_next-requires : goal.carry_out_next-requires
+carry_out_next-requires g c =
+    let old = c.args.observer.now in
+    let tid = c.args.tid in
+    let begun = exec_state_of c.args.cpu.now c.args.memory.now c.args.held.now in
+    let here = exec_state_of c.run_page_at.new.cpu c.args.memory.now c.args.held.now in
+    let page = c.in-Ok-Elsewhere.is ∙ ap (λ (p : Paused). Ok p) c.in-Ok-Elsewhere.field-0-is in
+    let goes = subst (λ r. RunsOn g.W.Observer.stands (g.W.Observer.fits old) tid c.args.row.now begun old c.run_page_at.new.row here c.run_page_at.new.observer (answer_of r)) page c.run_page_at.ensures.runs in
+    let r = c.requires.run in
+    let run = goes r.first r.old r.most r.run in
+    (_, state_here g.W.Observer.stands (g.W.Observer.fits old) (g.W.Observer.steps_fit old) tid r.first r.old r.most c.run_page_at.new.row here c.run_page_at.new.observer run)
+
+pub count_next-requires-in-Ok-clause-step : goal.count_next-requires-in-Ok-clause-step
+count_next-requires-in-Ok-clause-step g c =
+    let old = c.args.observer.now in
+    let tid = c.args.tid in
+    let begun = exec_state_of c.args.cpu.now c.args.memory.now c.args.held.now in
+    let here = exec_state_of c.run_page_at.new.cpu c.args.memory.now c.args.held.now in
+    let page = c.in-Ok-Elsewhere.is ∙ ap (λ (p : Paused). Ok p) c.in-Ok-Elsewhere.field-0-is in
+    let goes = subst (λ r. RunsOn g.W.Observer.stands (g.W.Observer.fits old) tid c.args.row.now begun old c.run_page_at.new.row here c.run_page_at.new.observer (answer_of r)) page c.run_page_at.ensures.runs in
+    let r = c.requires.run in
+    let there = exec_state_of c.carry_out_next.new.cpu c.carry_out_next.new.memory c.carry_out_next.new.held in
+    subst (λ fits. MayCount g.W.Observer.stands fits tid c.run_page_at.new.row c.in-Ok.next c.run_page_at.new.observer) (sym c.run_page_at.ensures.same)
+    (record {
+      here = here;
+      there = there;
+      run = record { first = r.first; old = r.old; most = r.most; run = goes r.first r.old r.most r.run };
+      step = is_next here there tid c.in-Ok.next c.in-Ok.ensures.step c.in-Ok.ensures.kept c.in-Ok.ensures.instruction;
+    })
+
+pub count_next-requires-in-Ok-clause-fits : goal.count_next-requires-in-Ok-clause-fits
+count_next-requires-in-Ok-clause-fits g c =
+    let old = c.args.observer.now in
+    let tid = c.args.tid in
+    let begun = exec_state_of c.args.cpu.now c.args.memory.now c.args.held.now in
+    let here = exec_state_of c.run_page_at.new.cpu c.args.memory.now c.args.held.now in
+    let page = c.in-Ok-Elsewhere.is ∙ ap (λ (p : Paused). Ok p) c.in-Ok-Elsewhere.field-0-is in
+    let goes = subst (λ r. RunsOn g.W.Observer.stands (g.W.Observer.fits old) tid c.args.row.now begun old c.run_page_at.new.row here c.run_page_at.new.observer (answer_of r)) page c.run_page_at.ensures.runs in
+    let r = c.requires.run in
+    let run = goes r.first r.old r.most r.run in
+    omega (arith, run.room, r.run.room, c.requires.fits)
+
+pub returns-in-Ok-Done-clause-runs : goal.returns-in-Ok-Done-clause-runs
+returns-in-Ok-Done-clause-runs g c =
+    let old = c.args.observer.now in
+    let tid = c.args.tid in
+    let begun = exec_state_of c.args.cpu.now c.args.memory.now c.args.held.now in
+    let here = exec_state_of c.run_page_at.new.cpu c.args.memory.now c.args.held.now in
+    let page = c.in-Ok-Done.is ∙ ap (λ (p : Paused). Ok p) c.in-Ok-Done.field-0-is in
+    let goes = subst (λ r. RunsOn g.W.Observer.stands (g.W.Observer.fits old) tid c.args.row.now begun old c.run_page_at.new.row here c.run_page_at.new.observer (answer_of r)) page c.run_page_at.ensures.runs in
+    let r = c.requires.run in
+    goes
+
+pub returns-in-Ok-Done-clause-grows : goal.returns-in-Ok-Done-clause-grows
+returns-in-Ok-Done-clause-grows g c = λ went.
+    let old = c.args.observer.now in
+    let tid = c.args.tid in
+    let begun = exec_state_of c.args.cpu.now c.args.memory.now c.args.held.now in
+    let here = exec_state_of c.run_page_at.new.cpu c.args.memory.now c.args.held.now in
+    let page = c.in-Ok-Done.is ∙ ap (λ (p : Paused). Ok p) c.in-Ok-Done.field-0-is in
+    let goes = subst (λ r. RunsOn g.W.Observer.stands (g.W.Observer.fits old) tid c.args.row.now begun old c.run_page_at.new.row here c.run_page_at.new.observer (answer_of r)) page c.run_page_at.ensures.runs in
+    let r = c.requires.run in
+    let run = goes r.first r.old r.most r.run in
+    let all : c.run_page_at.new.row.left ≤ c.run_page_at.new.row.plain =
+    subst (λ r. IfOk r (IsPaused (memory_of c.args.memory.now) c.run_page_at.new.cpu.pc c.run_page_at.new.row)) page c.run_page_at.ensures.next in
+    omega (arith, run.room, r.run.room, c.requires.within, all)
+
+pub returns-in-Ok-Refused-clause-runs : goal.returns-in-Ok-Refused-clause-runs
+returns-in-Ok-Refused-clause-runs g c =
+    let old = c.args.observer.now in
+    let tid = c.args.tid in
+    let begun = exec_state_of c.args.cpu.now c.args.memory.now c.args.held.now in
+    let here = exec_state_of c.run_page_at.new.cpu c.args.memory.now c.args.held.now in
+    let page = c.in-Ok-Refused.is ∙ ap (λ (p : Paused). Ok p) c.in-Ok-Refused.field-0-is in
+    let goes = subst (λ r. RunsOn g.W.Observer.stands (g.W.Observer.fits old) tid c.args.row.now begun old c.run_page_at.new.row here c.run_page_at.new.observer (answer_of r)) page c.run_page_at.ensures.runs in
+    let r = c.requires.run in
+    goes
+
+pub returns-in-Ok-Before-clause-runs : goal.returns-in-Ok-Before-clause-runs
+returns-in-Ok-Before-clause-runs g c = λ first began most run.
+    let old = c.args.observer.now in
+    let tid = c.args.tid in
+    let begun = exec_state_of c.args.cpu.now c.args.memory.now c.args.held.now in
+    let here = exec_state_of c.run_page_at.new.cpu c.args.memory.now c.args.held.now in
+    let page = c.in-Ok-Before.is ∙ ap (λ (p : Paused). Ok p) c.in-Ok-Before.field-0-is in
+    let goes = subst (λ r. RunsOn g.W.Observer.stands (g.W.Observer.fits old) tid c.args.row.now begun old c.run_page_at.new.row here c.run_page_at.new.observer (answer_of r)) page c.run_page_at.ensures.runs in
+    let r = c.requires.run in
+    let there = exec_state_of c.carry_out-next.new.cpu c.carry_out-next.new.memory c.carry_out-next.new.held in
+    let counts = subst (λ fits. Counts g.W.Observer.stands fits tid c.run_page_at.new.row c.carry_out-next.result c.run_page_at.new.observer c.count_next.new.row c.count_next.new.observer (further_of c.count_next.result)) c.run_page_at.ensures.same c.count_next.ensures.counts in
+    counts here there (is_next here there tid c.carry_out-next.result c.carry_out-next.ensures.step c.carry_out-next.ensures.kept c.carry_out-next.ensures.instruction) first began most (goes first began most run)
+
+pub returns-in-Ok-clause-runs : goal.returns-in-Ok-clause-runs
+returns-in-Ok-clause-runs g c = λ first began most run.
+    let old = c.args.observer.now in
+    let tid = c.args.tid in
+    let begun = exec_state_of c.args.cpu.now c.args.memory.now c.args.held.now in
+    let here = exec_state_of c.run_page_at.new.cpu c.args.memory.now c.args.held.now in
+    let page = c.in-Ok-Elsewhere.is ∙ ap (λ (p : Paused). Ok p) c.in-Ok-Elsewhere.field-0-is in
+    let goes = subst (λ r. RunsOn g.W.Observer.stands (g.W.Observer.fits old) tid c.args.row.now begun old c.run_page_at.new.row here c.run_page_at.new.observer (answer_of r)) page c.run_page_at.ensures.runs in
+    let r = c.requires.run in
+    let there = exec_state_of c.carry_out_next.new.cpu c.carry_out_next.new.memory c.carry_out_next.new.held in
+    let counts = subst (λ fits. Counts g.W.Observer.stands fits tid c.run_page_at.new.row c.in-Ok.next c.run_page_at.new.observer c.count_next-in-Ok.new.row c.count_next-in-Ok.new.observer (further_of c.count_next-in-Ok.result)) c.run_page_at.ensures.same c.count_next-in-Ok.ensures.counts in
+    counts here there (is_next here there tid c.in-Ok.next c.in-Ok.ensures.step c.in-Ok.ensures.kept c.in-Ok.ensures.instruction) first began most (goes first began most run)
+
+pub returns-in-Err-carry_out_next-clause-runs : goal.returns-in-Err-carry_out_next-clause-runs
+returns-in-Err-carry_out_next-clause-runs g c = λ first began most run.
+    let old = c.args.observer.now in
+    let tid = c.args.tid in
+    let begun = exec_state_of c.args.cpu.now c.args.memory.now c.args.held.now in
+    let here = exec_state_of c.run_page_at.new.cpu c.args.memory.now c.args.held.now in
+    let page = c.in-Ok-Elsewhere.is ∙ ap (λ (p : Paused). Ok p) c.in-Ok-Elsewhere.field-0-is in
+    let goes = subst (λ r. RunsOn g.W.Observer.stands (g.W.Observer.fits old) tid c.args.row.now begun old c.run_page_at.new.row here c.run_page_at.new.observer (answer_of r)) page c.run_page_at.ensures.runs in
+    let r = c.requires.run in
+    let there = exec_state_of c.carry_out_next.new.cpu c.carry_out_next.new.memory c.carry_out_next.new.held in
+    let kept : there ≡ here = subst (λ r. OnErr r (there ≡ here)) c.in-Err-carry_out_next.is c.carry_out_next.ensures.refused in
+    subst (HasMade tid first most c.run_page_at.new.row) (sym kept)
+    (made_so_far g.W.Observer.stands (g.W.Observer.fits old) (g.W.Observer.steps_fit old) tid first began most c.run_page_at.new.row here c.run_page_at.new.observer (goes first began most run))

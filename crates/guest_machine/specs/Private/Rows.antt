@@ -1,0 +1,100 @@
+-- Steps of a thread in a row, as they are made: some that the observer has, and plain ones behind them.
+use Rattle.std.specs.Prelude.{◌≡◌, ℕ, ◌+◌, ◌-◌, ◌<◌, ◌≤◌, Bool, List, Option, None, Some, Result, Ok, Err}
+use Rattle.std.specs.declared.alloc.AllocError.{AllocError}
+use Rattle.rv_exec.specs.Effects.{ExecState}
+use Rattle.guest_memory.specs.Code.{IsInstructionAt}
+use Rattle.guest_memory.specs.Memory.{Memory}
+use Rattle.trace_model.specs.declared.event_kinds.Event.{Event}
+use Rattle.trace_model.specs.declared.observer.Observed.{Observed}
+use Rattle.trace_model.specs.declared.observer.Observed.TheVariants as observed
+use Rattle.trace_model.specs.Observing.{MayTakeAll}
+use Rattle.guest_machine.specs.declared.rows.StepRow.{StepRow}
+use Rattle.guest_machine.specs.declared.rows.Paused.{Paused}
+use Rattle.guest_machine.specs.declared.rows.Paused.TheVariants as paused
+use Rattle.guest_machine.specs.declared.rows.Further.{Further}
+use Rattle.guest_machine.specs.declared.rows.Further.TheVariants as further
+use Rattle.guest_machine.specs.declared.stepped.Advanced.{Advanced}
+use Rattle.guest_machine.specs.Machine.{MachineState}
+use Rattle.guest_machine.specs.Private.Carrying.{Carries, GoesWith, IsStateOf, IsStepOf, MayCarry}
+use Rattle.guest_machine.specs.Running.{ObservesSteps}
+use Rattle.guest_machine.specs.Told.{IsInstruction, steps_of}
+
+-- the row after a step that was handed out, with the plain ones before it
+abbrev pub handed : StepRow → StepRow
+handed row = record { told = row.told + (row.plain + 1); plain = 0; left = row.left - (row.plain + 1) }
+
+-- A row of steps, of at most `most`, led from the first state to this one, and the observer from the old one to this one.
+pub record HasRun {O : Type 0} (Stands : O → List Event → Type 0) (fits : List Event → Bool) (tid : ℕ) (first : ExecState) (old : O) (most : ℕ)
+    (row : StepRow) (here : ExecState) (now : O) : Type 0 where
+  pub may : MayCarry Stands fits old first tid most
+  pub carried : (m : MachineState) → IsStateOf first tid m → GoesWith m tid row.told here row.plain (steps_of tid row.plain)
+  pub observed : (m : MachineState) → IsStateOf first tid m → ObservesSteps Stands fits m tid old now row.told observed.Taken
+  pub pending : 1 ≤ row.plain → MayTakeAll Stands fits now (steps_of tid row.plain)
+  pub room : row.told + row.left ≡ most
+  pub within : row.plain ≤ row.left
+
+-- The row's steps led from the first state to this one.
+pub record HasMade (tid : ℕ) (first : ExecState) (most : ℕ) (row : StepRow) (here : ExecState) : Type 0 where
+  pub carried : (m : MachineState) → IsStateOf first tid m → Carries m tid here (row.told + row.plain)
+  pub few : row.told + row.plain ≤ most
+
+-- The observer refused an event of the last step.
+pub record HasEnded {O : Type 0} (Stands : O → List Event → Type 0) (fits : List Event → Bool) (tid : ℕ) (first : ExecState) (old : O) (most : ℕ)
+    (row : StepRow) (here : ExecState) (now : O) : Type 0 where
+  pub made : HasMade tid first most row here
+  pub none : row.plain ≡ 0
+  pub observed : (m : MachineState) → IsStateOf first tid m → ObservesSteps Stands fits m tid old now row.told observed.Refused
+
+-- what has become of the row, by the observer's answer
+abbrev pub Runs : {O : Type 0} → (O → List Event → Type 0) → (List Event → Bool) → ℕ → ExecState → O → ℕ → StepRow → ExecState → O → Result Observed AllocError → Type 0
+Runs Stands fits tid first old most row here now (Ok observed.Taken) = HasRun Stands fits tid first old most row here now
+Runs Stands fits tid first old most row here now (Ok observed.Refused) = HasEnded Stands fits tid first old most row here now
+Runs Stands fits tid first old most row here now (Err e) = HasMade tid first most row here
+
+-- Some row of steps led here.
+pub record MayRun {O : Type 0} (Stands : O → List Event → Type 0) (fits : List Event → Bool) (tid : ℕ) (row : StepRow) (here : ExecState) (now : O) : Type 0 where
+  pub first : ExecState
+  pub old : O
+  pub most : ℕ
+  pub run : HasRun Stands fits tid first old most row here now
+
+-- Whatever row of steps led here went on, and led there.
+abbrev pub RunsOn : {O : Type 0} → (O → List Event → Type 0) → (List Event → Bool) → ℕ → StepRow → ExecState → O → StepRow → ExecState → O → Result Observed AllocError → Type 0
+RunsOn {O} Stands fits tid row here now row' there later answer =
+    (first : ExecState) (old : O) (most : ℕ) → HasRun Stands fits tid first old most row here now → Runs Stands fits tid first old most row' there later answer
+
+-- ---- why a part of the row ends
+abbrev pub answer_of : Result Paused AllocError → Result Observed AllocError
+answer_of (Ok paused.Refused) = Ok observed.Refused
+answer_of (Ok other) = Ok observed.Taken
+answer_of (Err e) = Err e
+
+-- what is known of the next instruction
+abbrev pub IsPaused : Memory → ℕ → StepRow → Paused → Type 0
+IsPaused m pc row paused.Done = row.left ≤ row.plain
+IsPaused m pc row paused.Refused = Unit {0}
+IsPaused m pc row (paused.Before instruction) = (row.plain < row.left) × IsInstructionAt m pc instruction
+IsPaused m pc row paused.Elsewhere = row.plain < row.left
+
+abbrev pub further_of : Result Further AllocError → Result Observed AllocError
+further_of (Ok further.Refused) = Ok observed.Refused
+further_of (Ok other) = Ok observed.Taken
+further_of (Err e) = Err e
+
+-- ---- the next step
+-- what became of the next instruction: it went, or changed nothing
+abbrev pub IsNext : ExecState → ExecState → ℕ → Option Advanced → Type 0
+IsNext here there tid None = there ≡ here
+IsNext here there tid (Some advanced) = IsStepOf here there tid advanced × IsInstruction advanced
+
+-- Some row of steps led to a state where this is the next.
+pub record MayCount {O : Type 0} (Stands : O → List Event → Type 0) (fits : List Event → Bool) (tid : ℕ) (row : StepRow) (next : Option Advanced) (now : O) : Type 0 where
+  pub here : ExecState
+  pub there : ExecState
+  pub run : MayRun Stands fits tid row here now
+  pub step : IsNext here there tid next
+
+-- Whatever row of steps led to a state where this is the next, it went on with it.
+abbrev pub Counts : {O : Type 0} → (O → List Event → Type 0) → (List Event → Bool) → ℕ → StepRow → Option Advanced → O → StepRow → O → Result Observed AllocError → Type 0
+Counts {O} Stands fits tid row next now row' later answer =
+    (here there : ExecState) → IsNext here there tid next → RunsOn Stands fits tid row here now row' there later answer

@@ -1,0 +1,288 @@
+//! Steps of one thread in a row, while their instructions are known.
+ghost use Rattle.std.specs.Prelude.{◌≡◌, ◌≤◌, ◌<◌, ◌+◌, ◌^◌, ◌++◌, IfOk, OnOk};
+ghost use Rattle.guest_memory.specs.Code.{IsCodeOf};
+ghost use Rattle.guest_memory.specs.Guest.{memory_of};
+ghost use Rattle.rv_exec.specs.Effects.{exec_state_of};
+ghost use Rattle.trace_model.specs.declared.observer.Observed.TheVariants.{Taken};
+ghost use Rattle.trace_model.specs.Observing.{MayTakeAll, ObservesAll};
+ghost use Rattle.guest_machine.specs.Private.Carrying.{Carries, IsStateOf, MayCarry, ObservesFrom};
+ghost use Rattle.guest_machine.specs.Private.Rows.{Counts, IsPaused, MayCount, MayRun, RunsOn, answer_of, further_of, handed};
+ghost use Rattle.guest_machine.specs.Machine.{MachineState};
+ghost use Rattle.guest_machine.specs.Told.{IsInstruction, done_by, steps_of};
+
+use crate::Advanced;
+use crate::known::{Reading, carry_out, carry_out_next, carry_out_reading};
+use crate::telling::observe_told;
+use guest_memory::{CodePage, GuestMemory, Reservations};
+use guest_words::Tid;
+use rv_exec::Cpu;
+use rv_isa::Instr;
+use std::alloc::AllocError;
+use trace_model::{Observed, Observer};
+
+/// Steps of a thread that were made in a row: how many, and whether the observer took the events of the last.
+#[derive(Clone, Copy, Debug, PartialEq, Eq)]
+pub struct KnownSteps {
+    pub count: u64,
+    pub observed: Observed,
+}
+
+// Steps of a thread in a row: those that the observer has, those behind them that did nothing beside, and how many may be made
+// behind those that the observer has.
+#[derive(Clone, Copy)]
+struct StepRow {
+    told: u64,
+    plain: u64,
+    left: u64,
+}
+
+// Hands out a step that did something beside, with the plain ones before it.
+#[inline(always)]
+fn hand_step<W: Observer>(
+    row: &mut StepRow,
+    tid: Tid,
+    advanced: Advanced,
+    observer: &mut W,
+) -> Result<Observed, AllocError>
+    requires instruction { IsInstruction advanced }
+    requires within { row.old.plain < row.old.left }
+    requires fits { row.old.told + row.old.left < 2 ^ 64 }
+    requires next { MayTakeAll W.stands (W.fits observer.old) observer.old
+        (steps_of tid (row.old.plain + 1) ++ done_by tid advanced) }
+    ensures row { row.new ≡ handed row.old }
+    ensures observed { IfOk result (ObservesAll W.stands (W.fits observer.old)
+        (steps_of tid (row.old.plain + 1) ++ done_by tid advanced) observer.old observer.new) }
+    ensures same { W.fits observer.new ≡ W.fits observer.old }
+{
+    let steps = row.plain + 1;
+    *row = StepRow {
+        told: row.told + steps,
+        plain: 0,
+        left: row.left - steps,
+    };
+    observe_told(tid, steps, advanced, observer)
+}
+
+// Why the steps within a page of code end.
+enum Paused {
+    // All were made.
+    Done,
+    // The observer refused an event of the last.
+    Refused,
+    // The next instruction may write.
+    Before { instruction: Instr },
+    // The next instruction is not known to be in the page, or can't go on.
+    Elsewhere,
+}
+
+// Makes the steps of a row that lie in a page of code, as long as they can't write.
+#[inline(always)]
+fn run_page<W: Observer>(
+    cpu: &mut Cpu,
+    memory: &GuestMemory,
+    held: &Reservations,
+    tid: Tid,
+    page: &CodePage,
+    row: &mut StepRow,
+    observer: &mut W,
+) -> Result<Paused, AllocError>
+    requires page { IsCodeOf (memory_of memory.now) page.now }
+    requires run { MayRun W.stands (W.fits observer.old) tid row.old
+        (exec_state_of cpu.old memory.now held.now) observer.old }
+    requires fits { row.old.told + row.old.left < 2 ^ 64 }
+    ensures runs { RunsOn W.stands (W.fits observer.old) tid
+        row.old (exec_state_of cpu.old memory.now held.now) observer.old
+        row.new (exec_state_of cpu.new memory.now held.now) observer.new (answer_of result) }
+    ensures next { IfOk result (IsPaused (memory_of memory.now) cpu.new.pc row.new) }
+    ensures grows { row.old.told + row.old.plain ≤ row.new.told + row.new.plain }
+    ensures same { W.fits observer.new ≡ W.fits observer.old }
+{
+    'steps: while row.plain < row.left {
+        let Some(instruction) = page.find(cpu.pc) else {
+            return Ok(Paused::Elsewhere);
+        };
+        let advanced = match carry_out_reading(cpu, memory, held, tid, &instruction) {
+            Reading::Went { advanced } => advanced,
+            Reading::Writes => return Ok(Paused::Before { instruction }),
+            Reading::Stops => return Ok(Paused::Elsewhere),
+        };
+        match advanced {
+            Advanced::Ran => row.plain += 1,
+            acted => match hand_step(row, tid, acted, observer) {
+                Ok(Observed::Taken) => {}
+                Ok(Observed::Refused) => return Ok(Paused::Refused),
+                Err(e) => return Err(e),
+            },
+        }
+    }
+    Ok(Paused::Done)
+}
+
+// Whether a row of steps goes on.
+enum Further {
+    Went,
+    // The observer refused an event of the last step.
+    Refused,
+    // The next instruction is not known, or can't go on.
+    Stopped,
+}
+
+// Makes the steps of a row that lie in the page of code at the place, as long as they can't write.
+#[inline(always)]
+fn run_page_at<W: Observer>(
+    cpu: &mut Cpu,
+    memory: &GuestMemory,
+    held: &Reservations,
+    tid: Tid,
+    place: usize,
+    row: &mut StepRow,
+    observer: &mut W,
+) -> Result<Paused, AllocError>
+    requires run { MayRun W.stands (W.fits observer.old) tid row.old
+        (exec_state_of cpu.old memory.now held.now) observer.old }
+    requires within { row.old.plain < row.old.left }
+    requires fits { row.old.told + row.old.left < 2 ^ 64 }
+    ensures runs { RunsOn W.stands (W.fits observer.old) tid
+        row.old (exec_state_of cpu.old memory.now held.now) observer.old
+        row.new (exec_state_of cpu.new memory.now held.now) observer.new (answer_of result) }
+    ensures next { IfOk result (IsPaused (memory_of memory.now) cpu.new.pc row.new) }
+    ensures grows { row.old.told + row.old.plain ≤ row.new.told + row.new.plain }
+    ensures same { W.fits observer.new ≡ W.fits observer.old }
+{
+    match memory.code_page(place) {
+        Some(page) => run_page(cpu, memory, held, tid, page, row, observer),
+        None => Ok(Paused::Elsewhere),
+    }
+}
+
+// Counts a step of a row, if one was made.
+#[inline(always)]
+fn count_next<W: Observer>(
+    row: &mut StepRow,
+    tid: Tid,
+    next: Option<Advanced>,
+    observer: &mut W,
+) -> Result<Further, AllocError>
+    requires step { MayCount W.stands (W.fits observer.old) tid row.old next observer.old }
+    requires within { row.old.plain < row.old.left }
+    requires fits { row.old.told + row.old.left < 2 ^ 64 }
+    ensures counts { Counts W.stands (W.fits observer.old) tid row.old next observer.old
+        row.new observer.new (further_of result) }
+    ensures grows { IfOk result (λ further. further ≡ Further.Went
+        → row.old.told + row.old.plain < row.new.told + row.new.plain) }
+    ensures same { W.fits observer.new ≡ W.fits observer.old }
+{
+    match next {
+        None => Ok(Further::Stopped),
+        Some(Advanced::Ran) => {
+            row.plain += 1;
+            Ok(Further::Went)
+        }
+        Some(acted) => match hand_step(row, tid, acted, observer) {
+            Ok(Observed::Taken) => Ok(Further::Went),
+            Ok(Observed::Refused) => Ok(Further::Refused),
+            Err(e) => Err(e),
+        },
+    }
+}
+
+// Makes the next steps of a row: those within the page of code at the place, and one more.
+#[inline(always)]
+fn run_further<W: Observer>(
+    cpu: &mut Cpu,
+    memory: &mut GuestMemory,
+    held: &mut Reservations,
+    tid: Tid,
+    place: &mut usize,
+    row: &mut StepRow,
+    observer: &mut W,
+) -> Result<Further, AllocError>
+    requires run { MayRun W.stands (W.fits observer.old) tid row.old
+        (exec_state_of cpu.old memory.old held.old) observer.old }
+    requires within { row.old.plain < row.old.left }
+    requires fits { row.old.told + row.old.left < 2 ^ 64 }
+    ensures runs { RunsOn W.stands (W.fits observer.old) tid
+        row.old (exec_state_of cpu.old memory.old held.old) observer.old
+        row.new (exec_state_of cpu.new memory.new held.new) observer.new (further_of result) }
+    ensures grows { IfOk result (λ further. further ≡ Further.Went
+        → row.old.told + row.old.plain < row.new.told + row.new.plain) }
+    ensures same { W.fits observer.new ≡ W.fits observer.old }
+{
+    match run_page_at(cpu, memory, held, tid, *place, row, observer) {
+        Ok(Paused::Done) => Ok(Further::Went),
+        Ok(Paused::Refused) => Ok(Further::Refused),
+        Ok(Paused::Before { instruction }) => {
+            let next = carry_out(cpu, memory, held, tid, instruction);
+            count_next(row, tid, next, observer)
+        }
+        Ok(Paused::Elsewhere) => match carry_out_next(cpu, memory, held, tid, place) {
+            Ok(next) => count_next(row, tid, next, observer),
+            Err(e) => Err(e),
+        },
+        Err(e) => Err(e),
+    }
+}
+
+/// Makes at most `most` steps of a thread, whose registers these are, while their instructions are known or can be learned and
+/// the observer takes their events. It says how many were made, and what became of the events of the last. The time is left to
+/// the caller.
+pub(crate) fn run_on<W: Observer>(
+    cpu: &mut Cpu,
+    memory: &mut GuestMemory,
+    held: &mut Reservations,
+    tid: Tid,
+    most: u64,
+    observer: &mut W,
+) -> (u64, Result<Observed, AllocError>)
+    requires { MayCarry W.stands (W.fits observer.old) observer.old
+        (exec_state_of cpu.old memory.old held.old) tid most }
+    ensures carried { (m : MachineState) → IsStateOf (exec_state_of cpu.old memory.old held.old) tid m
+        → Carries m tid (exec_state_of cpu.new memory.new held.new) result.0 }
+    ensures observed { IfOk result.1 (ObservesFrom W.stands (W.fits observer.old)
+        (exec_state_of cpu.old memory.old held.old) tid observer.old observer.new result.0) }
+    ensures most { result.0 ≤ most }
+    ensures same { W.fits observer.new ≡ W.fits observer.old }
+{
+    let mut place = 0;
+    let mut row = StepRow {
+        told: 0,
+        plain: 0,
+        left: most,
+    };
+    'steps: while row.plain < row.left {
+        match run_further(cpu, memory, held, tid, &mut place, &mut row, observer) {
+            Ok(Further::Went) => {}
+            Ok(Further::Stopped) => {
+                return (
+                    row.told + row.plain,
+                    observe_plain(tid, row.plain, observer),
+                );
+            }
+            Ok(Further::Refused) => return (row.told, Ok(Observed::Refused)),
+            Err(e) => return (row.told + row.plain, Err(e)),
+        }
+    }
+    (
+        row.told + row.plain,
+        observe_plain(tid, row.plain, observer),
+    )
+}
+
+// Hands out `steps` steps of a thread, which may be none.
+#[inline(never)]
+fn observe_plain<W: Observer>(
+    tid: Tid,
+    steps: u64,
+    observer: &mut W,
+) -> Result<Observed, AllocError>
+    requires { 1 ≤ steps → MayTakeAll W.stands (W.fits observer.old) observer.old (steps_of tid steps) }
+    ensures taken { IfOk result (λ observed. observed ≡ Taken) }
+    ensures observed { OnOk result (ObservesAll W.stands (W.fits observer.old)
+        (steps_of tid steps) observer.old observer.new Taken) }
+    ensures same { W.fits observer.new ≡ W.fits observer.old }
+{
+    if steps > 0 {
+        observer.observe_steps(tid, steps)?;
+    }
+    Ok(Observed::Taken)
+}
